@@ -1,0 +1,17 @@
+pub mod Value
+pub mod Commands
+pub mod Items
+pub mod ValueField
+pub mod Syntax
+pub mod Faults
+pub mod Canon
+pub mod Field
+pub mod FieldView
+pub mod Grammar
+pub mod FirstView
+pub mod Fault
+pub mod Reading
+pub mod Standing
+pub mod Lexing
+pub mod Answers
+pub mod Laws
