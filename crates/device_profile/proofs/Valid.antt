@@ -1,0 +1,128 @@
+-- What a valid printer has.
+use Rattle.std.proofs.Common.{◌≡◌, ℕ, ◌==◌, ◌&&◌, Bool, List, [], ◌∷◌, length, get_or, IsTrue, IsSome, Contains, Any, find, IfSome, Some, inl, inr, nat_lt, nat_le, rules, refl, sym}
+use Rattle.std.specs.List.{list_all, list_any}
+use Rattle.std.proofs.lemmas.Bool.{and_parts, or_cases, both_ways, false≢true, ltb-true, cond_both, eqb-true}
+use Rattle.std.proofs.lemmas.List.Elements.{All-contains}
+use Rattle.std.proofs.lemmas.List.Folds.{Any-from_list_any}
+use Rattle.std.proofs.lemmas.List.Sums.{AllPass-from_list_all}
+use Rattle.device_profile.specs.declared.geometry.Geometry.{Geometry}
+use Rattle.device_profile.specs.declared.panel.Panel.{Panel}
+use Rattle.device_profile.specs.Printer.{Printer, is_choice, is_valid, has_row, has_every_pair, has_size, has_orientation, row_at, fits_page, IsAllowed, HasPages}
+
+-- an element of a list whose elements all pass
+passes-at : {X : Type 0} (p : X → Bool) (xs : List X) (x : X) → IsTrue (list_all p xs) → Contains xs x → IsTrue (p x)
+passes-at p xs x all is_in = All-contains (λ y. IsTrue (p y)) xs x (AllPass-from_list_all p xs all) is_in
+
+-- a search finds something where some element passes
+IsSome-find : {X : Type 0} (p : X → Bool) (xs : List X) → IsTrue (list_any p xs) → IsSome (find p xs)
+IsSome-find p [] any = absurd (false≢true any)
+IsSome-find p (x ∷ xs) any =
+    cond_both (p x) (Some x) (find p xs) (λ found. IsSome found) (λ yes. refl)
+    (λ no. IsSome-find p xs (elim (or_cases (p x) (list_any p xs) any) [ inl now ↦ absurd (both_ways (p x) no now) | inr later ↦ later ]))
+
+-- what a search finds is as all elements are
+IfSome-find : {X : Type 0} (p q : X → Bool) (xs : List X) → IsTrue (list_all q xs) → IfSome (find p xs) (λ x. IsTrue (q x))
+IfSome-find p q [] all = search rules
+IfSome-find p q (x ∷ xs) all =
+    let parts : IsTrue (q x) × IsTrue (list_all q xs) = and_parts (q x) (list_all q xs) all in
+    cond_both (p x) (Some x) (find p xs) (λ found. IfSome found (λ y. IsTrue (q y))) (λ yes. parts.0) (λ no. IfSome-find p q xs parts.1)
+
+-- where each size goes with each orientation, a size and an orientation of some row have a row
+row_of_pair : (rows : List Geometry) (size orientation : ℕ) → IsTrue (has_every_pair rows) → IsTrue (has_size rows size) → IsTrue (has_orientation rows orientation) → IsSome (row_at rows size orientation)
+unfolding row_at has_size has_orientation
+row_of_pair rows size orientation pairs sized turned =
+    let a : Any (λ row. IsTrue (row.size == size)) rows = Any-from_list_any (λ row. row.size == size) rows sized in
+    let b : Any (λ row. IsTrue (row.orientation == orientation)) rows = Any-from_list_any (λ row. row.orientation == orientation) rows turned in
+    let with_a : IsTrue (list_all (λ row. has_row rows a.1.size row.orientation) rows) =
+    passes-at (λ (row : Geometry). list_all (λ (other : Geometry). has_row rows row.size other.orientation) rows) rows a.1 pairs (a.0, a.2, a.3) in
+    let with_b : IsTrue (has_row rows a.1.size b.1.orientation) =
+    passes-at (λ (row : Geometry). has_row rows a.1.size row.orientation) rows b.1 with_a (b.0, b.2, b.3) in
+    let is_size : a.1.size ≡ size = eqb-true _ _ a.4 in
+    let is_orientation : b.1.orientation ≡ orientation = eqb-true _ _ b.4 in
+    IsSome-find (λ (row : Geometry). (row.size == size) && (row.orientation == orientation)) rows (rw (← is_size, ← is_orientation) with_b)
+
+-- what a valid printer's test says
+pub record Valid (printer : Printer) : Type 0 where
+  pub size : IsTrue (is_choice printer.sizes)
+  pub orientation : IsTrue (is_choice printer.orientations)
+  pub vmi : IsTrue (is_choice printer.vmis)
+  pub font : IsTrue (is_choice printer.fonts)
+  pub copies : IsTrue (is_choice printer.copies)
+  pub sides : IsTrue (is_choice printer.sides)
+  pub tray : IsTrue (is_choice printer.trays)
+  pub sized : IsTrue (list_all (λ size. has_size printer.geometries size) printer.sizes)
+  pub turned : IsTrue (list_all (λ orientation. has_orientation printer.geometries orientation) printer.orientations)
+  pub pairs : IsTrue (has_every_pair printer.geometries)
+  pub fits : IsTrue (list_all fits_page printer.geometries)
+
+pub valid_parts : (printer : Printer) → IsTrue (is_valid printer) → Valid printer
+valid_parts printer valid =
+    let pages = and_parts _ _ valid in
+    let memory = and_parts _ _ pages.0 in
+    let depth = and_parts _ _ memory.0 in
+    let sides = and_parts _ _ depth.0 in
+    let choices = and_parts _ _ sides.0 in
+    let trays = and_parts _ _ choices.1 in
+    let turned = and_parts _ _ trays.0 in
+    let c6 = and_parts _ _ choices.0 in
+    let c5 = and_parts _ _ c6.0 in
+    let c4 = and_parts _ _ c5.0 in
+    let c3 = and_parts _ _ c4.0 in
+    let c2 = and_parts _ _ c3.0 in
+    let c1 = and_parts _ _ c2.0 in
+    let fits = and_parts _ _ pages.1 in
+    let pairs = and_parts _ _ fits.0 in
+    record {
+      size = c1.0;
+      orientation = c1.1;
+      vmi = c2.1;
+      font = c3.1;
+      copies = c4.1;
+      sides = c5.1;
+      tray = c6.1;
+      sized = turned.0;
+      turned = turned.1;
+      pairs = pairs.1;
+      fits = fits.1;
+    }
+
+first-Contains : (values : List ℕ) (value : ℕ) → IsTrue (is_choice values) → value ≡ get_or values 0 value → Contains values value
+first-Contains values value choice is_first =
+    let choices = and_parts (nat_lt 0 (length values)) (nat_le (length values) 16) choice in
+    (0, ltb-true 0 (length values) choices.0, sym is_first)
+
+-- the panel of the first values is one that the printer may have
+pub IsAllowed-firsts : (printer : Printer) (panel : Panel) → IsTrue (is_valid printer)
+    → panel.size ≡ get_or printer.sizes 0 panel.size
+    → panel.orientation ≡ get_or printer.orientations 0 panel.orientation
+    → panel.vmi ≡ get_or printer.vmis 0 panel.vmi
+    → panel.font ≡ get_or printer.fonts 0 panel.font
+    → panel.copies ≡ get_or printer.copies 0 panel.copies
+    → panel.sides ≡ get_or printer.sides 0 panel.sides
+    → panel.tray ≡ get_or printer.trays 0 panel.tray
+    → IsAllowed printer panel
+IsAllowed-firsts printer panel valid size orientation vmi font copies sides tray =
+    let parts : Valid printer = valid_parts printer valid in
+    record {
+      size = first-Contains printer.sizes panel.size parts.size size;
+      orientation = first-Contains printer.orientations panel.orientation parts.orientation orientation;
+      vmi = first-Contains printer.vmis panel.vmi parts.vmi vmi;
+      font = first-Contains printer.fonts panel.font parts.font font;
+      copies = first-Contains printer.copies panel.copies parts.copies copies;
+      sides = first-Contains printer.sides panel.sides parts.sides sides;
+      tray = first-Contains printer.trays panel.tray parts.tray tray;
+    }
+
+-- each panel that a valid printer may have has a page
+pub HasPages-valid : (printer : Printer) → IsTrue (is_valid printer) → HasPages printer
+HasPages-valid printer valid panel allowed =
+    let parts : Valid printer = valid_parts printer valid in
+    row_of_pair printer.geometries panel.size panel.orientation parts.pairs
+    (passes-at (λ size. has_size printer.geometries size) printer.sizes panel.size parts.sized allowed.size)
+    (passes-at (λ orientation. has_orientation printer.geometries orientation) printer.orientations panel.orientation parts.turned allowed.orientation)
+
+-- the row that is looked up lies in its page
+pub IfSome-row_at : (printer : Printer) (size orientation : ℕ) → IsTrue (is_valid printer) → IfSome (row_at printer.geometries size orientation) (λ row. IsTrue (fits_page row))
+unfolding row_at
+IfSome-row_at printer size orientation valid =
+    IfSome-find (λ (row : Geometry). (row.size == size) && (row.orientation == orientation)) fits_page printer.geometries ((valid_parts printer valid).fits)

@@ -1,0 +1,24 @@
+-- A profile's fields, as a printer.
+use Rattle.std.specs.Prelude.{IsTrue}
+use Rattle.device_profile.specs.Printer.{Printer, is_valid}
+use Rattle.device_profile.specs.declared.profile.Profile.TheInside.{Inside}
+
+abbrev pub printer_of : {A : Type 0} → Inside A → Printer
+printer_of p = record {
+  sizes = p.sizes.items;
+  orientations = p.orientations.items;
+  vmis = p.vmis.items;
+  fonts = p.fonts.items;
+  copies = p.copies.items;
+  sides = p.sides.items;
+  trays = p.trays.items;
+  device_trays = p.device_trays.items;
+  has_duplex = p.has_duplex;
+  depth = p.depth;
+  memory = p.memory;
+  geometries = p.geometries.items;
+}
+
+-- the printer is valid
+abbrev pub IsProfile : {A : Type 0} → Inside A → Type 0
+IsProfile p = IsTrue (is_valid (printer_of p))

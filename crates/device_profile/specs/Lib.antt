@@ -1,0 +1,4 @@
+pub mod Printer
+pub mod Rows
+pub mod Fields
+pub mod Samples

@@ -1,0 +1,158 @@
+-- What contracts know of a printer.
+use Rattle.std.specs.Prelude.{ℕ, ◌==◌, ◌&&◌, ◌||◌, nat_lt, nat_le, Bool, IsSome, List, length, slice_index, Option, find, unwrap_or, Contains, pos, ◌+ℤ◌, int_lt, int_le}
+use Rattle.std.specs.List.{list_all, list_any}
+use Rattle.device_profile.specs.declared.field.Field.{Field}
+use Rattle.device_profile.specs.declared.field.Field.TheVariants.{Size, Orientation, Vmi, Font, Copies, Sides, Tray}
+use Rattle.device_profile.specs.declared.geometry.Geometry.{Geometry}
+use Rattle.device_profile.specs.declared.panel.Panel.{Panel}
+
+-- the values that the panel may have in each field, what the device has, and its pages
+pub record Printer : Type 0 where
+  pub sizes : List ℕ
+  pub orientations : List ℕ
+  pub vmis : List ℕ
+  pub fonts : List ℕ
+  pub copies : List ℕ
+  pub sides : List ℕ
+  pub trays : List ℕ
+  pub device_trays : List ℕ
+  pub has_duplex : Bool
+  pub depth : ℕ
+  pub memory : ℕ
+  pub geometries : List Geometry
+
+-- the values that the panel may have in a field
+abbrev pub values_of : Printer → Field → List ℕ
+values_of printer Size = printer.sizes
+values_of printer Orientation = printer.orientations
+values_of printer Vmi = printer.vmis
+values_of printer Font = printer.fonts
+values_of printer Copies = printer.copies
+values_of printer Sides = printer.sides
+values_of printer Tray = printer.trays
+
+-- a panel that the printer may have
+pub record IsAllowed (printer : Printer) (panel : Panel) : Type 0 where
+  pub size : Contains printer.sizes panel.size
+  pub orientation : Contains printer.orientations panel.orientation
+  pub vmi : Contains printer.vmis panel.vmi
+  pub font : Contains printer.fonts panel.font
+  pub copies : Contains printer.copies panel.copies
+  pub sides : Contains printer.sides panel.sides
+  pub tray : Contains printer.trays panel.tray
+
+-- the first value of each list
+abbrev pub first_panel : Printer → Panel
+first_panel printer = record {
+  size = slice_index printer.sizes 0;
+  orientation = slice_index printer.orientations 0;
+  vmi = slice_index printer.vmis 0;
+  font = slice_index printer.fonts 0;
+  copies = slice_index printer.copies 0;
+  sides = slice_index printer.sides 0;
+  tray = slice_index printer.trays 0;
+}
+
+-- the row of a size and an orientation
+unfoldable pub row_at : List Geometry → ℕ → ℕ → Option Geometry
+row_at rows size orientation = find (λ row. (row.size == size) && (row.orientation == orientation)) rows
+
+-- whether some row has this size
+unfoldable pub has_size : List Geometry → ℕ → Bool
+has_size rows size = list_any (λ row. row.size == size) rows
+
+-- whether some row has this orientation
+unfoldable pub has_orientation : List Geometry → ℕ → Bool
+has_orientation rows orientation = list_any (λ row. row.orientation == orientation) rows
+
+-- a page of no size
+abbrev pub no_page : Geometry
+no_page = record {
+  size = 0;
+  orientation = 0;
+  page_width = pos 0;
+  page_height = pos 0;
+  logical_left = pos 0;
+  logical_top = pos 0;
+  logical_width = pos 0;
+  logical_height = pos 0;
+  printable_left = pos 0;
+  printable_top = pos 0;
+  printable_right = pos 0;
+  printable_bottom = pos 0;
+}
+
+-- the row of a size and an orientation, or a page of no size: on it no mark lies, and no panel that a
+-- valid printer may have leads to it
+unfoldable pub geometry_at : List Geometry → ℕ → ℕ → Geometry
+geometry_at rows size orientation = unwrap_or (row_at rows size orientation) no_page
+
+-- each panel that the printer may have has a page
+abbrev pub HasPages : Printer → Type 0
+HasPages printer = (panel : Panel) → IsAllowed printer panel → IsSome (row_at printer.geometries panel.size panel.orientation)
+
+-- 1 to 16 values
+abbrev pub is_choice : List ℕ → Bool
+is_choice values = nat_lt 0 (length values) && nat_le (length values) 16
+
+-- each field of the panel has 1 to 16 values
+abbrev pub has_choices : Printer → Bool
+has_choices printer =
+    is_choice printer.sizes && is_choice printer.orientations && is_choice printer.vmis && is_choice printer.fonts
+    && is_choice printer.copies && is_choice printer.sides && is_choice printer.trays
+
+-- whether the device has this tray
+abbrev pub has_tray : Printer → ℕ → Bool
+has_tray printer tray = list_any (λ held. held == tray) printer.device_trays
+
+-- each size and each orientation of the panel is one of some page, and each of the panel's trays is one
+-- of the device
+abbrev pub has_what_it_offers : Printer → Bool
+has_what_it_offers printer =
+    list_all (λ size. has_size printer.geometries size) printer.sizes
+    && list_all (λ orientation. has_orientation printer.geometries orientation) printer.orientations
+    && list_all (λ tray. has_tray printer tray) printer.trays
+
+-- one side, or both where the device has duplex
+abbrev pub are_sides : Bool → ℕ → Bool
+are_sides has_duplex sides = (sides == 0) || (has_duplex && ((sides == 1) || (sides == 2)))
+
+-- whether some row has this size and this orientation
+abbrev pub has_row : List Geometry → ℕ → ℕ → Bool
+has_row rows size orientation = list_any (λ row. (row.size == size) && (row.orientation == orientation)) rows
+
+-- each size of a page goes with each orientation of a page
+abbrev pub has_every_pair : List Geometry → Bool
+has_every_pair rows = list_all (λ sized. list_all (λ turned. has_row rows sized.size turned.orientation) rows) rows
+
+-- the logical page lies in the page and is an inch high or more
+abbrev pub fits_logical_page : Geometry → Bool
+fits_logical_page row =
+    int_le (pos 0) row.logical_left && int_le (pos 0) row.logical_top && int_le (pos 0) row.logical_width
+    && int_le (row.logical_left +ℤ row.logical_width) row.page_width
+    && int_le (row.logical_top +ℤ row.logical_height) row.page_height
+    && int_le (pos 36_576_000_000) row.logical_height
+
+-- the printable area lies in the page and is not empty
+abbrev pub fits_printable_area : Geometry → Bool
+fits_printable_area row =
+    int_le (pos 0) row.printable_left && int_lt row.printable_left row.printable_right
+    && int_le row.printable_right row.page_width
+    && int_le (pos 0) row.printable_top && int_lt row.printable_top row.printable_bottom
+    && int_le row.printable_bottom row.page_height
+
+-- both areas of a page lie in it
+abbrev pub fits_page : Geometry → Bool
+fits_page row = fits_logical_page row && fits_printable_area row
+
+-- at most 64 rows, each size with each orientation, and each with its areas in the page
+abbrev pub are_pages : List Geometry → Bool
+are_pages rows = nat_le (length rows) 64 && has_every_pair rows && list_all fits_page rows
+
+-- a printer that hangs together
+abbrev pub is_valid : Printer → Bool
+is_valid printer =
+    has_choices printer && has_what_it_offers printer
+    && list_all (are_sides printer.has_duplex) printer.sides
+    && nat_le printer.depth 8 && nat_le printer.memory 1_048_576
+    && are_pages printer.geometries

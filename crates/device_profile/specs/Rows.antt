@@ -1,0 +1,25 @@
+-- The rows in which pages are described.
+use Rattle.std.specs.Prelude.{ℕ, ◌*◌, List, slice_index, pos, ℤ}
+use Rattle.device_profile.specs.declared.geometry.Geometry.{Geometry}
+
+-- a length of so many 7200ths of an inch
+abbrev pub of_7200ths : ℕ → ℤ
+of_7200ths n = pos (n * 5_080_000)
+
+-- size and orientation; then, in 7200ths of an inch, the page's width and height, the logical page's left, top,
+-- width and height, and the printable area's left, top, right and bottom
+abbrev pub row_of : List ℕ → Geometry
+row_of numbers = record {
+  size = slice_index numbers 0;
+  orientation = slice_index numbers 1;
+  page_width = of_7200ths (slice_index numbers 2);
+  page_height = of_7200ths (slice_index numbers 3);
+  logical_left = of_7200ths (slice_index numbers 4);
+  logical_top = of_7200ths (slice_index numbers 5);
+  logical_width = of_7200ths (slice_index numbers 6);
+  logical_height = of_7200ths (slice_index numbers 7);
+  printable_left = of_7200ths (slice_index numbers 8);
+  printable_top = of_7200ths (slice_index numbers 9);
+  printable_right = of_7200ths (slice_index numbers 10);
+  printable_bottom = of_7200ths (slice_index numbers 11);
+}

@@ -1,0 +1,152 @@
+//! A printer's profile, and what is looked up in it.
+ghost use Rattle.std.specs.Prelude.{◌≡◌};
+ghost use Rattle.device_profile.specs.Printer.{row_at};
+
+use crate::field::Field;
+use crate::geometry::Geometry;
+use crate::panel::Panel;
+use std::alloc::{Allocator, Global};
+use std::marker::Model;
+
+/// What is known of a printer: the values that its panel may have, its trays and pages, and its limits.
+///
+/// Clauses see a profile as a `Printer`, which is valid.
+#[derive(Drop)]
+pub struct Profile<A: Allocator = Global> {
+    pub(crate) sizes: Vec<u32, A>,
+    pub(crate) orientations: Vec<u32, A>,
+    pub(crate) vmis: Vec<u32, A>,
+    pub(crate) fonts: Vec<u32, A>,
+    pub(crate) copies: Vec<u32, A>,
+    pub(crate) sides: Vec<u32, A>,
+    pub(crate) trays: Vec<u32, A>,
+    pub(crate) device_trays: Vec<u32, A>,
+    pub(crate) has_duplex: bool,
+    pub(crate) depth: u32,
+    pub(crate) memory: u32,
+    pub(crate) geometries: Vec<Geometry, A>,
+}
+
+impl<A: Allocator> Model for Profile<A> {
+    ghost use Rattle.device_profile.specs.Printer.{Printer};
+
+    ghost Value = { Printer };
+
+    ghost use Rattle.device_profile.specs.Fields.{printer_of, IsProfile};
+
+    ghost view = { printer_of };
+
+    ghost invariant = { IsProfile };
+}
+
+impl<A: Allocator> Profile<A> {
+    ghost use Rattle.std.specs.Prelude.{◌≡◌, IsTrue, IfSome};
+    ghost use Rattle.device_profile.specs.Printer.{values_of, row_at, geometry_at, has_size, has_orientation, first_panel, has_tray, IsAllowed, HasPages, fits_page};
+
+    /// The page of a size and an orientation.
+    pub fn geometry(&self, size: u32, orientation: u32) -> Option<Geometry>
+        ensures row { result ≡ row_at self.now.geometries size orientation }
+        ensures fits { IfSome result (λ page. IsTrue (fits_page page)) }
+        // Each panel that the printer may have leads to a page.
+        ensures allowed { HasPages self.now }
+    {
+        row_at_pair(self.geometries.as_slice(), size, orientation)
+    }
+
+    /// The page of a size and an orientation, or a page of no size.
+    #[tactic(auto, unfolding(crate::specs::Printer::geometry_at))]
+    pub fn page_geometry(&self, size: u32, orientation: u32) -> Geometry
+        ensures { result ≡ geometry_at self.now.geometries size orientation }
+    {
+        match self.geometry(size, orientation) {
+            Some(row) => row,
+            None => Geometry::NO_PAGE,
+        }
+    }
+
+    /// Whether some page has this size.
+    #[tactic(auto, unfolding(crate::specs::Printer::has_size))]
+    pub fn has_size(&self, size: u32) -> bool
+        ensures { result ≡ has_size self.now.geometries size }
+    {
+        self.geometries.iter().any(|row| row.size == size)
+    }
+
+    /// Whether some page has this orientation.
+    #[tactic(auto, unfolding(crate::specs::Printer::has_orientation))]
+    pub fn has_orientation(&self, orientation: u32) -> bool
+        ensures { result ≡ has_orientation self.now.geometries orientation }
+    {
+        self.geometries
+            .iter()
+            .any(|row| row.orientation == orientation)
+    }
+
+    /// The values that the panel may have in a field, in the profile's order.
+    pub fn allowed(&self, field: Field) -> &[u32]
+        ensures { result.now ≡ values_of self.now field }
+    {
+        match field {
+            Field::Size => self.sizes.as_slice(),
+            Field::Orientation => self.orientations.as_slice(),
+            Field::Vmi => self.vmis.as_slice(),
+            Field::Font => self.fonts.as_slice(),
+            Field::Copies => self.copies.as_slice(),
+            Field::Sides => self.sides.as_slice(),
+            Field::Tray => self.trays.as_slice(),
+        }
+    }
+
+    /// The panel with the first value in each field.
+    pub fn first_panel(&self) -> Panel
+        ensures value { result ≡ first_panel self.now }
+        ensures allowed { IsAllowed self.now result }
+    {
+        Panel {
+            size: self.sizes[0],
+            orientation: self.orientations[0],
+            vmi: self.vmis[0],
+            font: self.fonts[0],
+            copies: self.copies[0],
+            sides: self.sides[0],
+            tray: self.trays[0],
+        }
+    }
+
+    /// How many levels of macros may run, one within the other.
+    pub fn depth(&self) -> u32
+        ensures { result ≡ self.now.depth }
+    {
+        self.depth
+    }
+
+    /// How many bytes the macros may have together.
+    pub fn memory(&self) -> u32
+        ensures { result ≡ self.now.memory }
+    {
+        self.memory
+    }
+
+    /// Whether the device prints on both sides.
+    pub fn has_duplex(&self) -> bool
+        ensures { result ≡ self.now.has_duplex }
+    {
+        self.has_duplex
+    }
+
+    /// Whether the device has this tray.
+    pub fn has_tray(&self, tray: u32) -> bool
+        ensures { result ≡ has_tray self.now tray }
+    {
+        self.device_trays.contains(&tray)
+    }
+}
+
+#[tactic(auto, unfolding(crate::specs::Printer::row_at))]
+fn row_at_pair(rows: &[Geometry], size: u32, orientation: u32) -> Option<Geometry>
+    ensures { result ≡ row_at rows.now size orientation }
+{
+    rows.iter()
+        .copied()
+        .find(|row| row.size == size && row.orientation == orientation)
+}
