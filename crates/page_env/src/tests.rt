@@ -1,0 +1,169 @@
+ghost use Rattle.std.specs.Prelude.{◌≤◌, ◌*◌};
+
+use crate::cell::Cell;
+use crate::defaults::{first_page, user_defaults, user_defaults_of};
+use crate::finding::Finding;
+use crate::layout::{PageChange, change_page};
+use crate::mark::{Mark, PageEnd};
+use crate::page::Page;
+use crate::table::{Carried, carry_out, page_end};
+use device_profile::sample::sample_a;
+use device_profile::{Field, Panel, Profile};
+use pcl_items::{Command, Number, Sign};
+use std::alloc::Allocator;
+use std::process::Abort;
+use std::test::Fail;
+use tick_length::Length;
+
+/// A whole number after a sign.
+fn signed(sign: Sign, number: u32) -> Number
+    requires { number ≤ 65535 }
+{
+    Number {
+        sign,
+        ten_thousandths: number * 10_000,
+    }
+}
+
+/// A whole number without a sign.
+fn whole(number: u32) -> Number
+    requires { number ≤ 65535 }
+{
+    signed(Sign::Absent, number)
+}
+
+/// The start of a job on letter paper in portrait, with 6 lines to the inch.
+fn letter_page() -> Page {
+    let panel = Panel {
+        size: 2,
+        orientation: 0,
+        vmi: 80_000,
+        font: 1,
+        copies: 1,
+        sides: 0,
+        tray: 1,
+    };
+    first_page(user_defaults_of(&panel))
+}
+
+/// The ticks of the cursor's x, and of its y where that is not home.
+fn cursor_ticks(page: &Page) -> (i64, Option<i64>) {
+    (page.cursor.x.ticks(), page.cursor.y.map(Length::ticks))
+}
+
+/// The finding for which a command is refused.
+fn finding_of<A: Allocator>(
+    profile: &Profile<A>,
+    page: &Page,
+    command: Command,
+    n: Number,
+) -> Option<Finding> {
+    match carry_out(profile, page, command, n) {
+        Ok(_) => None,
+        Err(finding) => Some(finding),
+    }
+}
+
+/// The page to which a command leads that makes no mark.
+fn page_after<A: Allocator>(
+    rt: &impl Abort,
+    profile: &Profile<A>,
+    page: Page,
+    command: Command,
+    n: Number,
+) -> Page {
+    match carry_out(profile, &page, command, n) {
+        Ok(Carried::Stepped(next, None)) => next,
+        other => {
+            assert!(rt; false, "{command:?} came to {other:?}");
+            page
+        }
+    }
+}
+
+#[test]
+fn moves_go_from_their_zero(rt: HostRuntime) -> Result<(), Fail> {
+    let profile = sample_a(rt.alloc())?;
+    let start = letter_page();
+    assert_eq!(rt; cursor_ticks(&start), (0, None));
+    // 300 units are an inch, and the top margin is half an inch.
+    let right = page_after(&rt, &profile, start, Command::HorizontalDots, whole(300));
+    assert_eq!(rt; cursor_ticks(&right), (36_576_000_000, None));
+    let down = page_after(&rt, &profile, right, Command::VerticalDots, whole(300));
+    assert_eq!(rt; cursor_ticks(&down), (36_576_000_000, Some(54_864_000_000)));
+    // The first line of 6 to the inch is an eighth of an inch below the top margin.
+    let plus_zero = signed(Sign::Plus, 0);
+    let home = page_after(&rt, &profile, start, Command::VerticalDots, plus_zero);
+    assert_eq!(rt; cursor_ticks(&home), (0, Some(22_860_000_000)));
+    // The logical page is 8 inches wide.
+    let edge = page_after(&rt, &profile, start, Command::HorizontalDots, whole(2400));
+    assert_eq!(rt; cursor_ticks(&edge), (292_608_000_000, None));
+    let past = finding_of(&profile, &start, Command::HorizontalDots, whole(2401));
+    assert!(rt; matches!(past, Some(Finding::OffPage)));
+    Ok(())
+}
+
+#[test]
+fn rectangle_has_its_box(rt: HostRuntime) -> Result<(), Fail> {
+    let profile = sample_a(rt.alloc())?;
+    let mut page = letter_page();
+    for (command, number) in [
+        (Command::HorizontalDots, 300),
+        (Command::VerticalDots, 300),
+        (Command::RectangleWidth, 100),
+        (Command::RectangleHeight, 50),
+    ] {
+        page = page_after(&rt, &profile, page, command, whole(number));
+    }
+    // The logical page begins a quarter of an inch from the left edge of the paper, and at its top.
+    match carry_out(&profile, &page, Command::FillRectangle, whole(0))? {
+        Carried::Stepped(filled, Some(Mark::Rect(bounds))) => {
+            assert_eq!(rt; bounds.left.ticks(), 45_720_000_000);
+            assert_eq!(rt; bounds.top.ticks(), 54_864_000_000);
+            assert_eq!(rt; bounds.right.ticks(), 57_912_000_000);
+            assert_eq!(rt; bounds.bottom.ticks(), 60_960_000_000);
+            assert!(rt; filled.marked);
+        }
+        other => assert!(rt; false, "the rectangle came to {other:?}"),
+    }
+    Ok(())
+}
+
+#[test]
+fn values_are_judged(rt: HostRuntime) -> Result<(), Fail> {
+    let profile = sample_a(rt.alloc())?;
+    let page = letter_page();
+    let not_on_device = finding_of(&profile, &page, Command::PageSize, whole(66));
+    assert!(rt; matches!(not_on_device, Some(Finding::NotOnDevice)));
+    let no_size = finding_of(&profile, &page, Command::PageSize, whole(0));
+    assert!(rt; matches!(no_size, Some(Finding::BadValue)));
+    let minus_zero = signed(Sign::Minus, 0);
+    page_after(&rt, &profile, page, Command::RectangleWidth, minus_zero);
+    let minus_one = signed(Sign::Minus, 1);
+    let negative = finding_of(&profile, &page, Command::RectangleWidth, minus_one);
+    assert!(rt; matches!(negative, Some(Finding::BadValue)));
+    Ok(())
+}
+
+#[test]
+fn fields_of_one_value_are_known(rt: HostRuntime) -> Result<(), Fail> {
+    let profile = sample_a(rt.alloc())?;
+    let defaults = user_defaults(&profile);
+    assert!(rt; matches!(defaults.fields.size, Cell::FromPanel));
+    assert!(rt; matches!(defaults.fields.vmi, Cell::Known(80_000)));
+    let start = first_page(defaults);
+    let unset = finding_of(&profile, &start, Command::HorizontalDots, whole(300));
+    assert!(rt; matches!(unset, Some(Finding::Unset(Field::Size))));
+    let sized = change_page(&defaults, &start, PageChange::Size(whole(26)));
+    assert_eq!(rt; page_end(&sized), Err(Field::Orientation));
+    let turned = change_page(&defaults, &sized, PageChange::Orientation(whole(1)));
+    let end = PageEnd {
+        size: 26,
+        orientation: 1,
+        sides: 0,
+        tray: 1,
+        copies: 1,
+    };
+    assert_eq!(rt; page_end(&turned), Ok(end));
+    Ok(())
+}
