@@ -1,0 +1,8 @@
+pub mod Event
+pub mod Run
+pub mod Job
+pub mod Pages
+pub mod Follows
+pub mod MachineState
+pub mod Machine
+pub mod Laws
