@@ -1,0 +1,35 @@
+-- How the command `check` ends.
+use Rattle.std.specs.Prelude.{ℕ, List, Option, IfSome}
+use Rattle.std.specs.Io.KnownBytes.{Appends, Keeps}
+use Rattle.device_profile.specs.Printer.{Printer}
+use Rattle.preflight.specs.declared.error.Error.{Error}
+use Rattle.preflight.specs.declared.error.Error.TheVariants.{Memory, Read, Write, Turns, NoProfile}
+use Rattle.preflight.specs.declared.verdict.Reason.{Reason}
+use Rattle.preflight.specs.declared.verdict.Verdict.{Verdict}
+use Rattle.preflight.specs.declared.verdict.Verdict.TheVariants.{Pass as PassOf, Fail as FailOf}
+use Rattle.preflight.specs.Outlet.{AppendsPrefix}
+use Rattle.preflight.specs.Verdict.{IsExact, KeepsPromise}
+use Rattle.pclcheck.specs.declared.status.Status.{Status}
+use Rattle.pclcheck.specs.declared.status.Status.TheVariants.{Pass, Fail, Help, Words, Profile, Stopped}
+use Rattle.pclcheck.specs.Lines.{verdict_line}
+
+-- on the bytes that the source had, where these are known, the verdict is exact and keeps its promise
+abbrev pub IsRight : Option (List ℕ) → List Printer → Verdict → Type 0
+IsRight remaining fleet verdict = IfSome remaining (λ job. IsExact fleet job verdict × KeepsPromise fleet job verdict)
+
+-- where a write failed, a front of the line of a verdict with this fact stands there, and otherwise nothing new
+abbrev pub LeavesAtStop : Error → (Verdict → Type 0) → Option (List ℕ) → Option (List ℕ) → Type 0
+LeavesAtStop Memory P old new = Keeps old new
+LeavesAtStop Read P old new = Keeps old new
+LeavesAtStop Write P old new = (verdict : Verdict) × P verdict × AppendsPrefix old new (verdict_line verdict)
+LeavesAtStop Turns P old new = Keeps old new
+LeavesAtStop NoProfile P old new = ⊥
+
+-- what a check that ends by this status leaves on standard output: the line of a verdict with this fact, where it has one
+abbrev pub Leaves : Status → (Verdict → Type 0) → Option (List ℕ) → Option (List ℕ) → Type 0
+Leaves Pass P old new = (pages : ℕ) × (marks : ℕ) × P (PassOf pages marks) × Appends old new (verdict_line (PassOf pages marks))
+Leaves Fail P old new = (place : ℕ) × (profile : ℕ) × (finding : Reason) × P (FailOf place profile finding) × Appends old new (verdict_line (FailOf place profile finding))
+Leaves Help P old new = ⊥
+Leaves Words P old new = ⊥
+Leaves Profile P old new = Keeps old new
+Leaves (Stopped error) P old new = LeavesAtStop error P old new

@@ -1,0 +1,4 @@
+pub mod Check
+pub mod Lines
+pub mod Status
+pub mod Words

@@ -1,0 +1,61 @@
+//! A job that is read from a file.
+ghost use Rattle.std.specs.Prelude.{◌≡◌, None, false};
+ghost use Rattle.std.specs.Io.{ReadsAtMost};
+
+use preflight::Source;
+use std::io::Read;
+use std::rt::Files;
+use std::{fs, io};
+
+/// A file that is opened at its first read, so that what is wrong with the other words is told
+/// before it is touched.
+#[derive(Drop)]
+pub struct JobFile<'a, R: Files> {
+    files: &'a R,
+    path: &'a str,
+    opened: Option<R::File>,
+    has_failed: bool,
+}
+
+impl<'a, R: Files> JobFile<'a, R> {
+    pub fn new(files: &'a R, path: &'a str) -> JobFile<'a, R>
+        ensures { result.has_failed ≡ false }
+    {
+        JobFile {
+            files,
+            path,
+            opened: None,
+            has_failed: false,
+        }
+    }
+
+    fn read_opened(&mut self, buf: &mut [u8]) -> io::Result<usize>
+        ensures { ReadsAtMost result buf.new }
+    {
+        match &mut self.opened {
+            Some(file) => file.read(buf),
+            None => {
+                let mut file = fs::open(self.files, self.path)?;
+                let result = file.read(buf);
+                self.opened = Some(file);
+                result
+            }
+        }
+    }
+}
+
+impl<R: Files> Source for JobFile<'_, R> {
+    ghost remaining = { λ _. None };
+
+    ghost failed = { λ job. job.has_failed };
+
+    fn read(&mut self, buf: &mut [u8]) -> io::Result<usize> {
+        let result = self.read_opened(buf);
+        self.has_failed = result.is_err();
+        result
+    }
+
+    fn has_failed(&self) -> bool {
+        self.has_failed
+    }
+}

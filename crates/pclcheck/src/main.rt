@@ -1,0 +1,70 @@
+//! A preflight checker for print jobs.
+#![tactic(auto)]
+
+ghost use Rattle.std.specs.Prelude.{IsFalse};
+
+mod commands;
+mod job_file;
+mod lines;
+mod status;
+#[cfg(test)]
+mod tests;
+mod words;
+
+use crate::job_file::JobFile;
+use crate::status::{Status, tell};
+use crate::words::Request;
+use preflight::{Error, Outlet, Watched, write_text};
+use std::process::ExitCode;
+use std::rt::{Env, Files};
+use std::{env, io};
+
+fn main(rt: HostRuntime) -> ExitCode {
+    let mut stdout = Watched::new(rt.stdout());
+    let mut stderr = Watched::new(rt.stderr());
+    let status = match gather_words(&rt) {
+        Ok(words) => run(&rt, words.as_slice(), &mut stdout, &mut stderr),
+        Err(kind) => refuse_words(kind, &mut stderr),
+    };
+    ExitCode::from(status.code())
+}
+
+/// The words that the program was started with.
+fn gather_words<R: Env + AllocGlobal>(rt: &R) -> Result<Vec<String>, io::ErrorKind> {
+    let words = env::args(rt).map_err(|error| error.kind())?;
+    words
+        .collect(rt.alloc())
+        .map_err(|_| io::ErrorKind::OutOfMemory)
+}
+
+/// Tells why no words were had: a word is no text, or want of memory.
+fn refuse_words<E: Outlet>(kind: io::ErrorKind, stderr: &mut E) -> Status
+    requires { IsFalse (E.failed stderr.old) }
+{
+    if kind == io::ErrorKind::OutOfMemory {
+        return tell(Status::Stopped(Error::Memory), stderr);
+    }
+    match write_text(stderr, b"error: a word is not UTF-8 text\n") {
+        Ok(()) => Status::Words,
+        Err(error) => Status::Stopped(error),
+    }
+}
+
+/// Carries out what the words ask for.
+fn run<R: Files + AllocGlobal, O: Outlet, E: Outlet>(
+    rt: &R,
+    words: &[String],
+    stdout: &mut O,
+    stderr: &mut E,
+) -> Status
+    requires stdout { IsFalse (O.failed stdout.old) }
+    requires stderr { IsFalse (E.failed stderr.old) }
+{
+    match words::read_words(rt.alloc(), words, stdout, stderr) {
+        Ok(Request::Check { job, profile }) => {
+            let mut job = JobFile::new(rt, job);
+            commands::check(rt.alloc(), &mut job, profile, stdout, stderr)
+        }
+        Err(status) => status,
+    }
+}

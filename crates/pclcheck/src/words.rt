@@ -1,0 +1,106 @@
+//! The words that the program is started with.
+ghost use Rattle.std.specs.Prelude.{◌≡◌, IsFalse, OnOk, IfErr};
+ghost use Rattle.pclcheck.specs.Words.{IsEndOfWords};
+
+use crate::status::{Status, tell};
+use clap::error::ErrorKind;
+use clap::{Arg, ArgAction, Command};
+use preflight::{Error, Outlet, write_text};
+use std::alloc::{AllocError, Global};
+
+/// What the words ask for.
+#[derive(Drop)]
+pub enum Request<'a> {
+    /// A check of the job at a path, for the printer that a word names.
+    Check { job: &'a str, profile: &'a str },
+}
+
+const STATUSES: &str = "Statuses:
+  0  the job passes, or help was asked for
+  1  the job fails
+  2  bad words, or a profile that is refused
+  3  a read or a write failed, memory ran out, or the job has too many turns";
+
+/// The command line of the program.
+fn command<'a>(alloc: Global) -> Result<Command<'a>, AllocError> {
+    let job = Arg::new(alloc, "JOB")
+        .required(true)
+        .action(ArgAction::Set)
+        .help("The path of the print job");
+    let profile = Arg::new(alloc, "PROFILE")
+        .required(true)
+        .action(ArgAction::Set)
+        .help("The printer: @A, the built-in sample A");
+    let check = Command::new(alloc, "check")
+        .about("Checks a job for a printer, and writes one line: PASS or FAIL")
+        .after_help(STATUSES)
+        .arg(job)?
+        .arg(profile)?;
+    Command::new(alloc, "pclcheck")
+        .about("A preflight checker for PCL 5 print jobs")
+        .after_help(STATUSES)
+        .subcommand_required(true)
+        .subcommand(check)
+}
+
+/// What the words ask for; the first is the program's own name. Where they ask for help, that is
+/// written on standard output, and where they are wrong, the reason on standard error.
+pub fn read_words<'a, O: Outlet, E: Outlet>(
+    alloc: Global,
+    words: &'a [String],
+    stdout: &mut O,
+    stderr: &mut E,
+) -> Result<Request<'a>, Status>
+    requires stdout { IsFalse (O.failed stdout.old) }
+    requires stderr { IsFalse (E.failed stderr.old) }
+    ensures ok { OnOk result ((stdout.new ≡ stdout.old) × (stderr.new ≡ stderr.old)) }
+    ensures err { IfErr result IsEndOfWords }
+    ensures help { result ≡ Err Status.Help → stderr.new ≡ stderr.old }
+    ensures words { result ≡ Err Status.Words → stdout.new ≡ stdout.old }
+{
+    let Ok(command) = command(alloc) else {
+        return Err(tell(Status::Stopped(Error::Memory), stderr));
+    };
+    let matches = match command.try_get_matches_from(words) {
+        Ok(matches) => matches,
+        Err(error) => return Err(refuse(alloc, &error, stdout, stderr)),
+    };
+    let Some(found) = matches.subcommand_matches("check") else {
+        return Err(Status::Words);
+    };
+    let (Some(job), Some(profile)) = (found.get_str("JOB"), found.get_str("PROFILE")) else {
+        return Err(Status::Words);
+    };
+    Ok(Request::Check { job, profile })
+}
+
+/// Writes why the words were refused, or the help that they asked for.
+fn refuse<O: Outlet, E: Outlet>(
+    alloc: Global,
+    error: &clap::Error,
+    stdout: &mut O,
+    stderr: &mut E,
+) -> Status
+    requires stdout { IsFalse (O.failed stdout.old) }
+    requires stderr { IsFalse (E.failed stderr.old) }
+    ensures end { IsEndOfWords result }
+    ensures help { result ≡ Status.Help → stderr.new ≡ stderr.old }
+    ensures words { result ≡ Status.Words → stdout.new ≡ stdout.old }
+{
+    if error.kind() == ErrorKind::OutOfMemory {
+        return tell(Status::Stopped(Error::Memory), stderr);
+    }
+    let Ok(text) = format!(in alloc; "{error}") else {
+        return tell(Status::Stopped(Error::Memory), stderr);
+    };
+    if error.use_stderr() {
+        return match write_text(stderr, text.as_bytes()) {
+            Ok(()) => Status::Words,
+            Err(_) => Status::Stopped(Error::Write),
+        };
+    }
+    match write_text(stdout, text.as_bytes()) {
+        Ok(()) => Status::Help,
+        Err(_) => tell(Status::Stopped(Error::Write), stderr),
+    }
+}
