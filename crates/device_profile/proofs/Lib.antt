@@ -1,2 +1,15 @@
+mod RowExamples
+mod WordExamples
+pub mod AmountLemmas
+pub mod CodeRanges
+pub mod Examples
+pub mod Finished
+pub mod Keys
+pub mod Parts
+pub mod Reading
+pub mod RowNumbers
 pub mod Samples
+pub mod ScanLemmas
+pub mod Sound
 pub mod Valid
+pub mod ValueLemmas

@@ -1,13 +1,18 @@
 -- What a valid printer has.
-use Rattle.std.proofs.Common.{◌≡◌, ℕ, ◌==◌, ◌&&◌, Bool, List, [], ◌∷◌, length, get_or, IsTrue, IsSome, Contains, Any, find, IfSome, Some, inl, inr, nat_lt, nat_le, rules, refl, sym}
+use Rattle.std.proofs.Common.{◌≡◌, ℕ, ◌==◌, ◌<◌, ◌&&◌, Bool, List, [], ◌∷◌, length, get_or, IsTrue, IsSome, Contains, Any, find, IfSome, Some, inl, inr, nat_le, rules, arith, refl, sym, ap, ◌∙◌}
 use Rattle.std.specs.List.{list_all, list_any}
-use Rattle.std.proofs.lemmas.Bool.{and_parts, or_cases, both_ways, false≢true, ltb-true, cond_both, eqb-true}
+use Rattle.std.proofs.lemmas.Bool.{and_parts, or_cases, both_ways, false≢true, leb-true, cond_both, eqb-true}
+use Rattle.std.proofs.lemmas.List.{get_or_read}
 use Rattle.std.proofs.lemmas.List.Elements.{All-contains}
 use Rattle.std.proofs.lemmas.List.Folds.{Any-from_list_any}
 use Rattle.std.proofs.lemmas.List.Sums.{AllPass-from_list_all}
 use Rattle.device_profile.specs.declared.geometry.Geometry.{Geometry}
 use Rattle.device_profile.specs.declared.panel.Panel.{Panel}
-use Rattle.device_profile.specs.Printer.{Printer, is_choice, is_valid, has_row, has_every_pair, has_size, has_orientation, row_at, fits_page, IsAllowed, HasPages}
+use Rattle.device_profile.specs.declared.field.Field.{Field}
+use Rattle.device_profile.specs.declared.field.Field.TheVariants.{Size, Orientation, Vmi, Font, Copies, Sides, Tray}
+use Rattle.device_profile.specs.Faces.{Face, face_at, has_face}
+use Rattle.device_profile.specs.Values.{is_between, is_value, are_values}
+use Rattle.device_profile.specs.Printer.{Printer, is_valid, has_row, has_every_pair, has_size, has_orientation, has_tray, row_at, fits_page, first_panel, IsAllowed, HasPages, HasFaces, HasTrays}
 
 -- an element of a list whose elements all pass
 passes-at : {X : Type 0} (p : X → Bool) (xs : List X) (x : X) → IsTrue (list_all p xs) → Contains xs x → IsTrue (p x)
@@ -43,28 +48,33 @@ row_of_pair rows size orientation pairs sized turned =
 
 -- what a valid printer's test says
 pub record Valid (printer : Printer) : Type 0 where
-  pub size : IsTrue (is_choice printer.sizes)
-  pub orientation : IsTrue (is_choice printer.orientations)
-  pub vmi : IsTrue (is_choice printer.vmis)
-  pub font : IsTrue (is_choice printer.fonts)
-  pub copies : IsTrue (is_choice printer.copies)
-  pub sides : IsTrue (is_choice printer.sides)
-  pub tray : IsTrue (is_choice printer.trays)
+  pub size : IsTrue (are_values Size printer.sizes)
+  pub orientation : IsTrue (are_values Orientation printer.orientations)
+  pub vmi : IsTrue (are_values Vmi printer.vmis)
+  pub font : IsTrue (are_values Font printer.fonts)
+  pub copies : IsTrue (are_values Copies printer.copies)
+  pub sides : IsTrue (are_values Sides printer.sides)
+  pub tray : IsTrue (are_values Tray printer.trays)
   pub sized : IsTrue (list_all (λ size. has_size printer.geometries size) printer.sizes)
   pub turned : IsTrue (list_all (λ orientation. has_orientation printer.geometries orientation) printer.orientations)
+  pub faced : IsTrue (list_all (λ font. has_face printer.faces font) printer.fonts)
+  pub held : IsTrue (list_all (λ tray. has_tray printer tray) printer.trays)
   pub pairs : IsTrue (has_every_pair printer.geometries)
   pub fits : IsTrue (list_all fits_page printer.geometries)
 
 pub valid_parts : (printer : Printer) → IsTrue (is_valid printer) → Valid printer
 valid_parts printer valid =
-    let pages = and_parts _ _ valid in
+    let faces = and_parts _ _ valid in
+    let pages = and_parts _ _ faces.0 in
     let memory = and_parts _ _ pages.0 in
     let depth = and_parts _ _ memory.0 in
     let sides = and_parts _ _ depth.0 in
     let choices = and_parts _ _ sides.0 in
-    let trays = and_parts _ _ choices.1 in
-    let turned = and_parts _ _ trays.0 in
-    let c6 = and_parts _ _ choices.0 in
+    let offers = and_parts _ _ choices.1 in
+    let fonts = and_parts _ _ offers.0 in
+    let turned = and_parts _ _ fonts.0 in
+    let c7 = and_parts _ _ choices.0 in
+    let c6 = and_parts _ _ c7.0 in
     let c5 = and_parts _ _ c6.0 in
     let c4 = and_parts _ _ c5.0 in
     let c3 = and_parts _ _ c4.0 in
@@ -82,14 +92,27 @@ valid_parts printer valid =
       tray = c6.1;
       sized = turned.0;
       turned = turned.1;
+      faced = fonts.1;
+      held = offers.1;
       pairs = pairs.1;
       fits = fits.1;
     }
 
-first-Contains : (values : List ℕ) (value : ℕ) → IsTrue (is_choice values) → value ≡ get_or values 0 value → Contains values value
-first-Contains values value choice is_first =
-    let choices = and_parts (nat_lt 0 (length values)) (nat_le (length values) 16) choice in
-    (0, ltb-true 0 (length values) choices.0, sym is_first)
+some_values : (field : Field) (values : List ℕ) → IsTrue (are_values field values) → 0 < length values
+some_values field values are =
+    let counted = and_parts (is_between 1 16 (length values)) (list_all (is_value field) values) are in
+    let bounds = and_parts (nat_le 1 (length values)) (nat_le (length values) 16) counted.0 in
+    omega (arith, leb-true 1 (length values) bounds.0)
+
+-- a valid printer's panel has a tray
+pub some_trays : (printer : Printer) → IsTrue (is_valid printer) → 0 < length printer.trays
+some_trays printer valid = some_values Tray printer.trays ((valid_parts printer valid).tray)
+
+first-Contains : (field : Field) (values : List ℕ) (value : ℕ) → IsTrue (are_values field values) → value ≡ get_or values 0 value → Contains values value
+first-Contains field values value are is_first = (0, some_values field values are, sym is_first)
+
+first-is : (field : Field) (values : List ℕ) (value : ℕ) → IsTrue (are_values field values) → value ≡ get_or values 0 value → value ≡ get_or values 0 0
+first-is field values value are is_first = get_or_read values 0 value (some_values field values are) is_first 0
 
 -- the panel of the first values is one that the printer may have
 pub IsAllowed-firsts : (printer : Printer) (panel : Panel) → IsTrue (is_valid printer)
@@ -104,14 +127,49 @@ pub IsAllowed-firsts : (printer : Printer) (panel : Panel) → IsTrue (is_valid 
 IsAllowed-firsts printer panel valid size orientation vmi font copies sides tray =
     let parts : Valid printer = valid_parts printer valid in
     record {
-      size = first-Contains printer.sizes panel.size parts.size size;
-      orientation = first-Contains printer.orientations panel.orientation parts.orientation orientation;
-      vmi = first-Contains printer.vmis panel.vmi parts.vmi vmi;
-      font = first-Contains printer.fonts panel.font parts.font font;
-      copies = first-Contains printer.copies panel.copies parts.copies copies;
-      sides = first-Contains printer.sides panel.sides parts.sides sides;
-      tray = first-Contains printer.trays panel.tray parts.tray tray;
+      size = first-Contains Size printer.sizes panel.size parts.size size;
+      orientation = first-Contains Orientation printer.orientations panel.orientation parts.orientation orientation;
+      vmi = first-Contains Vmi printer.vmis panel.vmi parts.vmi vmi;
+      font = first-Contains Font printer.fonts panel.font parts.font font;
+      copies = first-Contains Copies printer.copies panel.copies parts.copies copies;
+      sides = first-Contains Sides printer.sides panel.sides parts.sides sides;
+      tray = first-Contains Tray printer.trays panel.tray parts.tray tray;
     }
+
+abbrev panel_of : (size orientation vmi font copies sides tray : ℕ) → Panel
+panel_of size orientation vmi font copies sides tray =
+    record { size = size; orientation = orientation; vmi = vmi; font = font; copies = copies; sides = sides; tray = tray }
+
+panels-same : (a b : Panel) → a.size ≡ b.size → a.orientation ≡ b.orientation → a.vmi ≡ b.vmi → a.font ≡ b.font → a.copies ≡ b.copies → a.sides ≡ b.sides → a.tray ≡ b.tray → a ≡ b
+panels-same a b size orientation vmi font copies sides tray =
+    ap (λ n. panel_of n a.orientation a.vmi a.font a.copies a.sides a.tray) size
+    ∙ (ap (λ n. panel_of b.size n a.vmi a.font a.copies a.sides a.tray) orientation
+    ∙ (ap (λ n. panel_of b.size b.orientation n a.font a.copies a.sides a.tray) vmi
+    ∙ (ap (λ n. panel_of b.size b.orientation b.vmi n a.copies a.sides a.tray) font
+    ∙ (ap (λ n. panel_of b.size b.orientation b.vmi b.font n a.sides a.tray) copies
+    ∙ (ap (λ n. panel_of b.size b.orientation b.vmi b.font b.copies n a.tray) sides
+    ∙ ap (λ n. panel_of b.size b.orientation b.vmi b.font b.copies b.sides n) tray)))))
+
+-- the panel of the first values is the first panel
+pub first_panel-firsts : (printer : Printer) (panel : Panel) → IsTrue (is_valid printer)
+    → panel.size ≡ get_or printer.sizes 0 panel.size
+    → panel.orientation ≡ get_or printer.orientations 0 panel.orientation
+    → panel.vmi ≡ get_or printer.vmis 0 panel.vmi
+    → panel.font ≡ get_or printer.fonts 0 panel.font
+    → panel.copies ≡ get_or printer.copies 0 panel.copies
+    → panel.sides ≡ get_or printer.sides 0 panel.sides
+    → panel.tray ≡ get_or printer.trays 0 panel.tray
+    → panel ≡ first_panel printer
+first_panel-firsts printer panel valid size orientation vmi font copies sides tray =
+    let parts : Valid printer = valid_parts printer valid in
+    panels-same panel (first_panel printer)
+    (first-is Size printer.sizes panel.size parts.size size)
+    (first-is Orientation printer.orientations panel.orientation parts.orientation orientation)
+    (first-is Vmi printer.vmis panel.vmi parts.vmi vmi)
+    (first-is Font printer.fonts panel.font parts.font font)
+    (first-is Copies printer.copies panel.copies parts.copies copies)
+    (first-is Sides printer.sides panel.sides parts.sides sides)
+    (first-is Tray printer.trays panel.tray parts.tray tray)
 
 -- each panel that a valid printer may have has a page
 pub HasPages-valid : (printer : Printer) → IsTrue (is_valid printer) → HasPages printer
@@ -120,6 +178,18 @@ HasPages-valid printer valid panel allowed =
     row_of_pair printer.geometries panel.size panel.orientation parts.pairs
     (passes-at (λ size. has_size printer.geometries size) printer.sizes panel.size parts.sized allowed.size)
     (passes-at (λ orientation. has_orientation printer.geometries orientation) printer.orientations panel.orientation parts.turned allowed.orientation)
+
+-- each panel that a valid printer may have has a face
+pub HasFaces-valid : (printer : Printer) → IsTrue (is_valid printer) → HasFaces printer
+unfolding face_at has_face
+HasFaces-valid printer valid panel allowed =
+    IsSome-find (λ (face : Face). face.id == panel.font) printer.faces
+    (passes-at (λ font. has_face printer.faces font) printer.fonts panel.font ((valid_parts printer valid).faced) allowed.font)
+
+-- each panel that a valid printer may have has a tray
+pub HasTrays-valid : (printer : Printer) → IsTrue (is_valid printer) → HasTrays printer
+HasTrays-valid printer valid panel allowed =
+    passes-at (λ tray. has_tray printer tray) printer.trays panel.tray ((valid_parts printer valid).held) allowed.tray
 
 -- the row that is looked up lies in its page
 pub IfSome-row_at : (printer : Printer) (size orientation : ℕ) → IsTrue (is_valid printer) → IfSome (row_at printer.geometries size orientation) (λ row. IsTrue (fits_page row))

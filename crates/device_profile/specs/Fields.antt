@@ -17,6 +17,7 @@ printer_of p = record {
   depth = p.depth;
   memory = p.memory;
   geometries = p.geometries.items;
+  faces = p.faces.items;
 }
 
 -- the printer is valid

@@ -2,3 +2,15 @@ pub mod Printer
 pub mod Rows
 pub mod Fields
 pub mod Samples
+pub mod Words
+pub mod Values
+pub mod Faces
+pub mod LineFault
+pub mod GeometryLine
+pub mod FaceFields
+pub mod FaceLine
+pub mod Draft
+pub mod Text
+pub mod SampleTexts
+pub mod DraftFields
+pub mod Given

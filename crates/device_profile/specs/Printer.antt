@@ -1,10 +1,12 @@
 -- What contracts know of a printer.
-use Rattle.std.specs.Prelude.{ℕ, ◌==◌, ◌&&◌, ◌||◌, nat_lt, nat_le, Bool, IsSome, List, length, slice_index, Option, find, unwrap_or, Contains, pos, ◌+ℤ◌, int_lt, int_le}
+use Rattle.std.specs.Prelude.{ℕ, ◌==◌, ◌&&◌, ◌||◌, nat_le, Bool, IsTrue, IsSome, List, length, slice_index, Option, find, unwrap_or, Contains, pos, ◌+ℤ◌, int_lt, int_le}
 use Rattle.std.specs.List.{list_all, list_any}
 use Rattle.device_profile.specs.declared.field.Field.{Field}
 use Rattle.device_profile.specs.declared.field.Field.TheVariants.{Size, Orientation, Vmi, Font, Copies, Sides, Tray}
 use Rattle.device_profile.specs.declared.geometry.Geometry.{Geometry}
 use Rattle.device_profile.specs.declared.panel.Panel.{Panel}
+use Rattle.device_profile.specs.Faces.{Face, face_at, has_face}
+use Rattle.device_profile.specs.Values.{are_values}
 
 -- the values that the panel may have in each field, what the device has, and its pages
 pub record Printer : Type 0 where
@@ -20,6 +22,7 @@ pub record Printer : Type 0 where
   pub depth : ℕ
   pub memory : ℕ
   pub geometries : List Geometry
+  pub faces : List Face
 
 -- the values that the panel may have in a field
 abbrev pub values_of : Printer → Field → List ℕ
@@ -91,26 +94,32 @@ geometry_at rows size orientation = unwrap_or (row_at rows size orientation) no_
 abbrev pub HasPages : Printer → Type 0
 HasPages printer = (panel : Panel) → IsAllowed printer panel → IsSome (row_at printer.geometries panel.size panel.orientation)
 
--- 1 to 16 values
-abbrev pub is_choice : List ℕ → Bool
-is_choice values = nat_lt 0 (length values) && nat_le (length values) 16
+-- each panel that the printer may have has a face
+abbrev pub HasFaces : Printer → Type 0
+HasFaces printer = (panel : Panel) → IsAllowed printer panel → IsSome (face_at printer.faces panel.font)
 
--- each field of the panel has 1 to 16 values
+-- each field of the panel has 1 to 16 of its values, and the device 1 to 16 trays
 abbrev pub has_choices : Printer → Bool
 has_choices printer =
-    is_choice printer.sizes && is_choice printer.orientations && is_choice printer.vmis && is_choice printer.fonts
-    && is_choice printer.copies && is_choice printer.sides && is_choice printer.trays
+    are_values Size printer.sizes && are_values Orientation printer.orientations && are_values Vmi printer.vmis
+    && are_values Font printer.fonts && are_values Copies printer.copies && are_values Sides printer.sides
+    && are_values Tray printer.trays && are_values Tray printer.device_trays
 
 -- whether the device has this tray
 abbrev pub has_tray : Printer → ℕ → Bool
 has_tray printer tray = list_any (λ held. held == tray) printer.device_trays
 
--- each size and each orientation of the panel is one of some page, and each of the panel's trays is one
--- of the device
+-- each panel that the printer may have has a tray
+abbrev pub HasTrays : Printer → Type 0
+HasTrays printer = (panel : Panel) → IsAllowed printer panel → IsTrue (has_tray printer panel.tray)
+
+-- each size and each orientation of the panel is one of some page, each of the panel's fonts is a face, and each of its
+-- trays is one of the device
 abbrev pub has_what_it_offers : Printer → Bool
 has_what_it_offers printer =
     list_all (λ size. has_size printer.geometries size) printer.sizes
     && list_all (λ orientation. has_orientation printer.geometries orientation) printer.orientations
+    && list_all (λ font. has_face printer.faces font) printer.fonts
     && list_all (λ tray. has_tray printer tray) printer.trays
 
 -- one side, or both where the device has duplex
@@ -155,4 +164,4 @@ is_valid printer =
     has_choices printer && has_what_it_offers printer
     && list_all (are_sides printer.has_duplex) printer.sides
     && nat_le printer.depth 8 && nat_le printer.memory 1_048_576
-    && are_pages printer.geometries
+    && are_pages printer.geometries && nat_le (length printer.faces) 64

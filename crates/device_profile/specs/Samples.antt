@@ -1,7 +1,10 @@
 -- A printer for examples and tests.
-use Rattle.std.specs.Prelude.{true, List, [], ◌∷◌}
+use Rattle.std.specs.Prelude.{ℕ, pos, true, List, [], ◌∷◌}
+use Rattle.device_profile.specs.Faces.{Face}
 use Rattle.device_profile.specs.Printer.{Printer}
-use Rattle.device_profile.specs.Rows.{row_of}
+use Rattle.device_profile.specs.Rows.{of_7200ths, row_of}
+use Rattle.device_profile.specs.declared.font.CodeRange.{CodeRange}
+use Rattle.device_profile.specs.declared.font.FontRequest.{FontRequest}
 use Rattle.device_profile.specs.declared.geometry.Geometry.{Geometry}
 
 -- letter and A4, in portrait and in landscape
@@ -13,7 +16,30 @@ pages_a =
     ∷ row_of (26 ∷ 1 ∷ 84168 ∷ 59520 ∷ 1416 ∷ 0 ∷ 81336 ∷ 59520 ∷ 1200 ∷ 1200 ∷ 82968 ∷ 58320 ∷ [])
     ∷ []
 
--- a printer with these pages, duplex and two trays
+-- printable ASCII
+abbrev pub ascii_codes : List CodeRange
+ascii_codes = record { first = 33; last = 126 } ∷ []
+
+-- a request for the symbol set 10U and the typeface 3, upright and of medium weight, of this pitch and height
+abbrev pub request_3 : ℕ → ℕ → FontRequest
+request_3 pitch height = record {
+  symbol_set = record { number = 100_000; letter = 85 };
+  spacing = 0;
+  pitch = pitch;
+  height = height;
+  style = 0;
+  weight = pos 0;
+  typeface = 30_000;
+}
+
+-- 10 characters an inch, 12 points high; and 12 characters an inch, 10 points high
+abbrev pub faces_a : List Face
+faces_a =
+    record { id = 1; request = request_3 100_000 120_000; advance = of_7200ths 720; ascent = of_7200ths 900; descent = of_7200ths 300; codes = ascii_codes }
+    ∷ record { id = 2; request = request_3 120_000 100_000; advance = of_7200ths 600; ascent = of_7200ths 750; descent = of_7200ths 250; codes = ascii_codes }
+    ∷ []
+
+-- a printer with these pages and faces, duplex and two trays
 abbrev pub printer_a : Printer
 printer_a = record {
   sizes = 2 ∷ 26 ∷ [];
@@ -28,4 +54,5 @@ printer_a = record {
   depth = 2;
   memory = 100;
   geometries = pages_a;
+  faces = faces_a;
 }

@@ -1,16 +1,36 @@
-//! What is known of a printer: the values that its panel may have, and its pages.
+//! What is known of a printer, as a profile's text tells it: the values that its panel may have, its pages and its faces.
 #![tactic(auto)]
 
-pub mod field;
-pub mod geometry;
-pub mod panel;
-pub mod profile;
-pub mod sample;
+mod code_ranges;
+mod draft;
+mod face_line;
+mod fault;
+mod field;
+mod font;
+mod geometry;
+mod geometry_line;
+mod key;
+mod panel;
+mod profile;
+mod read;
+mod rows;
+mod sample;
+mod scan;
+mod values;
+mod whole;
+mod words;
 
+pub use fault::{Cause, ProfileFault};
 pub use field::Field;
+pub use font::{CodeRange, FontRequest, FontRow, SymbolSet};
 pub use geometry::Geometry;
 pub use panel::Panel;
 pub use profile::Profile;
+pub use sample::{Sample, sample_a};
 
 #[cfg(test)]
+mod row_tests;
+#[cfg(test)]
 mod tests;
+#[cfg(test)]
+mod text_tests;

@@ -3,12 +3,14 @@ ghost use Rattle.std.specs.Prelude.{◌≡◌};
 ghost use Rattle.device_profile.specs.Printer.{row_at};
 
 use crate::field::Field;
+use crate::font::{FontRequest, FontRow, is_same_request};
 use crate::geometry::Geometry;
 use crate::panel::Panel;
+use crate::rows;
 use std::alloc::{Allocator, Global};
 use std::marker::Model;
 
-/// What is known of a printer: the values that its panel may have, its trays and pages, and its limits.
+/// What is known of a printer: the values that its panel may have, its trays, pages and faces, and its limits.
 ///
 /// Clauses see a profile as a `Printer`, which is valid.
 #[derive(Drop)]
@@ -25,6 +27,7 @@ pub struct Profile<A: Allocator = Global> {
     pub(crate) depth: u32,
     pub(crate) memory: u32,
     pub(crate) geometries: Vec<Geometry, A>,
+    pub(crate) faces: Vec<FontRow<A>, A>,
 }
 
 impl<A: Allocator> Model for Profile<A> {
@@ -41,7 +44,9 @@ impl<A: Allocator> Model for Profile<A> {
 
 impl<A: Allocator> Profile<A> {
     ghost use Rattle.std.specs.Prelude.{◌≡◌, IsTrue, IfSome};
-    ghost use Rattle.device_profile.specs.Printer.{values_of, row_at, geometry_at, has_size, has_orientation, first_panel, has_tray, IsAllowed, HasPages, fits_page};
+    ghost use Rattle.device_profile.specs.Printer.{values_of, row_at, geometry_at, has_size, has_orientation, first_panel, has_tray, IsAllowed, HasPages, HasFaces, HasTrays, fits_page};
+    ghost use Rattle.std.specs.Option.{option_copied};
+    ghost use Rattle.device_profile.specs.Faces.{face_at, face_for};
 
     /// The page of a size and an orientation.
     pub fn geometry(&self, size: u32, orientation: u32) -> Option<Geometry>
@@ -65,21 +70,37 @@ impl<A: Allocator> Profile<A> {
     }
 
     /// Whether some page has this size.
-    #[tactic(auto, unfolding(crate::specs::Printer::has_size))]
     pub fn has_size(&self, size: u32) -> bool
         ensures { result ≡ has_size self.now.geometries size }
     {
-        self.geometries.iter().any(|row| row.size == size)
+        rows::has_size(self.geometries.as_slice(), size)
     }
 
     /// Whether some page has this orientation.
-    #[tactic(auto, unfolding(crate::specs::Printer::has_orientation))]
     pub fn has_orientation(&self, orientation: u32) -> bool
         ensures { result ≡ has_orientation self.now.geometries orientation }
     {
-        self.geometries
+        rows::has_orientation(self.geometries.as_slice(), orientation)
+    }
+
+    /// The face of an id.
+    #[tactic(auto, unfolding(crate::specs::Faces::face_at))]
+    pub fn face(&self, id: u32) -> Option<&FontRow<A>>
+        ensures face { option_copied result ≡ face_at self.now.faces id }
+        // Each panel that the printer may have leads to a face.
+        ensures allowed { HasFaces self.now }
+    {
+        self.faces.iter().find(|face| face.id() == id)
+    }
+
+    /// The face that a request selects: the one of these seven parts.
+    #[tactic(auto, unfolding(crate::specs::Faces::face_for))]
+    pub fn font(&self, request: &FontRequest) -> Option<&FontRow<A>>
+        ensures { option_copied result ≡ face_for self.now.faces request.now }
+    {
+        self.faces
             .iter()
-            .any(|row| row.orientation == orientation)
+            .find(|face| is_same_request(&face.request(), request))
     }
 
     /// The values that the panel may have in a field, in the profile's order.
@@ -136,7 +157,9 @@ impl<A: Allocator> Profile<A> {
 
     /// Whether the device has this tray.
     pub fn has_tray(&self, tray: u32) -> bool
-        ensures { result ≡ has_tray self.now tray }
+        ensures tray { result ≡ has_tray self.now tray }
+        // Each panel that the printer may have has such a tray.
+        ensures allowed { HasTrays self.now }
     {
         self.device_trays.contains(&tray)
     }

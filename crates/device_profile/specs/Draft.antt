@@ -1,0 +1,127 @@
+-- What the lines of a profile's text have given so far.
+use Rattle.std.specs.Prelude.{ℕ, List, [], ◌∷◌, ◌++◌, Bool, true, false, not, ◌==◌, length, Option, None, Some, is_some, option_map, find, codes, if◌then◌else◌, Result, Ok, Err}
+use Rattle.std.specs.Option.{option_map_or}
+use Rattle.std.specs.Str.{bytes_eq}
+use Rattle.device_profile.specs.declared.field.Field.{Field}
+use Rattle.device_profile.specs.declared.field.Field.TheVariants.{Size, Orientation, Vmi, Font, Copies, Sides, Tray}
+use Rattle.device_profile.specs.declared.geometry.Geometry.{Geometry}
+use Rattle.device_profile.specs.declared.key.Key.{Key}
+use Rattle.device_profile.specs.declared.key.Key.TheVariants.{Name, Choice, Trays, Duplex, Depth, Memory, Page, Face as FaceRow}
+use Rattle.device_profile.specs.declared.fault.Cause.{Cause}
+use Rattle.device_profile.specs.declared.fault.Cause.TheVariants.{Unknown, Repeated, Range}
+use Rattle.device_profile.specs.Faces.{Face}
+use Rattle.device_profile.specs.Values.{values_on_line, number_on_line, is_name}
+use Rattle.device_profile.specs.GeometryLine.{geometry_on_line}
+use Rattle.device_profile.specs.FaceLine.{face_on_line}
+
+-- the keys and their words
+abbrev pub keys : List (List ℕ × Key)
+keys =
+    (codes "name", Name)
+    ∷ (codes "size", Choice Size)
+    ∷ (codes "orientation", Choice Orientation)
+    ∷ (codes "vmi", Choice Vmi)
+    ∷ (codes "font", Choice Font)
+    ∷ (codes "copies", Choice Copies)
+    ∷ (codes "sides", Choice Sides)
+    ∷ (codes "tray", Choice Tray)
+    ∷ (codes "trays", Trays)
+    ∷ (codes "duplex", Duplex)
+    ∷ (codes "depth", Depth)
+    ∷ (codes "memory", Memory)
+    ∷ (codes "geometry", Page)
+    ∷ (codes "face", FaceRow)
+    ∷ []
+
+-- the key that a word is
+unfoldable pub key_of : List ℕ → Option Key
+key_of word = option_map (λ row. row.1) (find (λ row. bytes_eq row.0 word) keys)
+
+-- What the lines gave so far. A list that is empty was not given.
+pub record Draft : Type 0 where
+  pub is_named : Bool
+  pub sizes : List ℕ
+  pub orientations : List ℕ
+  pub vmis : List ℕ
+  pub fonts : List ℕ
+  pub copies : List ℕ
+  pub sides : List ℕ
+  pub trays : List ℕ
+  pub device_trays : List ℕ
+  pub duplex : Option ℕ
+  pub depth : Option ℕ
+  pub memory : Option ℕ
+  pub geometries : List Geometry
+  pub faces : List Face
+
+-- nothing was given yet
+abbrev pub no_draft : Draft
+no_draft = record {
+  is_named = false;
+  sizes = [];
+  orientations = [];
+  vmis = [];
+  fonts = [];
+  copies = [];
+  sides = [];
+  trays = [];
+  device_trays = [];
+  duplex = None;
+  depth = None;
+  memory = None;
+  geometries = [];
+  faces = [];
+}
+
+-- the values that were given for a field
+abbrev pub choice_of : Draft → Field → List ℕ
+choice_of draft Size = draft.sizes
+choice_of draft Orientation = draft.orientations
+choice_of draft Vmi = draft.vmis
+choice_of draft Font = draft.fonts
+choice_of draft Copies = draft.copies
+choice_of draft Sides = draft.sides
+choice_of draft Tray = draft.trays
+
+-- these values are given for a field
+abbrev pub with_choice : Draft → Field → List ℕ → Draft
+with_choice draft Size values = record draft { sizes = values }
+with_choice draft Orientation values = record draft { orientations = values }
+with_choice draft Vmi values = record draft { vmis = values }
+with_choice draft Font values = record draft { fonts = values }
+with_choice draft Copies values = record draft { copies = values }
+with_choice draft Sides values = record draft { sides = values }
+with_choice draft Tray values = record draft { trays = values }
+
+-- what a value gives, or Range where there is none
+abbrev pub or_range : {X : Type 0} → (X → Draft) → Option X → Result Draft Cause
+or_range with_value value = option_map_or (λ x. Ok (with_value x)) value (Err Range)
+
+-- what a row or a list gives, or why the line is wrong
+abbrev pub or_cause : {X : Type 0} → (X → Draft) → Result X Cause → Result Draft Cause
+or_cause with_value (Ok x) = Ok (with_value x)
+or_cause with_value (Err cause) = Err cause
+
+-- a key that comes once gives this where it was not given, and is Repeated where it was
+abbrev pub once : Bool → Result Draft Cause → Result Draft Cause
+once was_given given = if was_given then Err Repeated else given
+
+-- what was given after a line of this key and these words behind it, or why the line is wrong
+abbrev pub draft_after_key : Draft → Key → List (List ℕ) → Result Draft Cause
+draft_after_key draft Name words = once draft.is_named (if is_name words then Ok (record draft { is_named = true }) else Err Range)
+draft_after_key draft (Choice field) words =
+    once (not (length (choice_of draft field) == 0)) (or_cause (with_choice draft field) (values_on_line field words))
+draft_after_key draft Trays words =
+    once (not (length draft.device_trays == 0)) (or_cause (λ trays. record draft { device_trays = trays }) (values_on_line Tray words))
+draft_after_key draft Duplex words = once (is_some draft.duplex) (or_range (λ n. record draft { duplex = Some n }) (number_on_line 1 words))
+draft_after_key draft Depth words = once (is_some draft.depth) (or_range (λ n. record draft { depth = Some n }) (number_on_line 8 words))
+draft_after_key draft Memory words =
+    once (is_some draft.memory) (or_range (λ n. record draft { memory = Some n }) (number_on_line 1_048_576 words))
+draft_after_key draft Page words =
+    or_cause (λ row. record draft { geometries = draft.geometries ++ row ∷ [] }) (geometry_on_line draft.geometries words)
+draft_after_key draft FaceRow words = or_cause (λ face. record draft { faces = draft.faces ++ face ∷ [] }) (face_on_line draft.faces words)
+
+-- what was given after a line of these words, or why the line is wrong
+abbrev pub draft_after : Draft → List (List ℕ) → Result Draft Cause
+draft_after draft [] = Ok draft
+draft_after draft (key ∷ words) = option_map_or (λ k. draft_after_key draft k words) (key_of key) (Err Unknown)

@@ -1,0 +1,21 @@
+-- A draft's fields, as definitions see them.
+use Rattle.device_profile.specs.Draft.{Draft}
+use Rattle.device_profile.specs.declared.draft.Draft.TheInside.{Inside}
+
+abbrev pub draft_of_fields : {A : Type 0} → Inside A → Draft
+draft_of_fields d = record {
+  is_named = d.is_named;
+  sizes = d.sizes.items;
+  orientations = d.orientations.items;
+  vmis = d.vmis.items;
+  fonts = d.fonts.items;
+  copies = d.copies.items;
+  sides = d.sides.items;
+  trays = d.trays.items;
+  device_trays = d.device_trays.items;
+  duplex = d.duplex;
+  depth = d.depth;
+  memory = d.memory;
+  geometries = d.geometries.items;
+  faces = d.faces.items;
+}

@@ -1,0 +1,13 @@
+-- A row's fields, as a face.
+use Rattle.device_profile.specs.Faces.{Face}
+use Rattle.device_profile.specs.declared.font.FontRow.TheInside.{Inside}
+
+abbrev pub face_of : {A : Type 0} → Inside A → Face
+face_of row = record {
+  id = row.id;
+  request = row.request;
+  advance = row.advance;
+  ascent = row.ascent;
+  descent = row.descent;
+  codes = row.codes.items;
+}

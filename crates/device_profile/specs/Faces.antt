@@ -1,0 +1,43 @@
+-- The rows in which resident faces are described.
+use Rattle.std.specs.Prelude.{ℕ, ℤ, List, Bool, ◌&&◌, ◌==◌, Option, find, nat_le}
+use Rattle.std.specs.Ordering.{int_eq}
+use Rattle.std.specs.List.{list_any}
+use Rattle.device_profile.specs.declared.font.CodeRange.{CodeRange}
+use Rattle.device_profile.specs.declared.font.FontRequest.{FontRequest}
+
+-- A resident face: its id, the request that it answers, how far a character moves the cursor and how far it reaches above and
+-- below the baseline, in ticks, and the codes that print.
+pub record Face : Type 0 where
+  pub id : ℕ
+  pub request : FontRequest
+  pub advance : ℤ
+  pub ascent : ℤ
+  pub descent : ℤ
+  pub codes : List CodeRange
+
+-- the two ask for the same in all seven parts
+abbrev pub is_same_request : FontRequest → FontRequest → Bool
+is_same_request a b =
+    (a.symbol_set.number == b.symbol_set.number) && (a.symbol_set.letter == b.symbol_set.letter)
+    && (a.spacing == b.spacing) && (a.pitch == b.pitch) && (a.height == b.height)
+    && (a.style == b.style) && int_eq a.weight b.weight && (a.typeface == b.typeface)
+
+-- the face that answers a request
+unfoldable pub face_for : List Face → FontRequest → Option Face
+face_for faces request = find (λ face. is_same_request face.request request) faces
+
+-- the face of an id
+unfoldable pub face_at : List Face → ℕ → Option Face
+face_at faces id = find (λ face. face.id == id) faces
+
+-- whether some face has this id
+unfoldable pub has_face : List Face → ℕ → Bool
+has_face faces id = list_any (λ face. face.id == id) faces
+
+-- whether some face answers this request
+unfoldable pub has_request : List Face → FontRequest → Bool
+has_request faces request = list_any (λ face. is_same_request face.request request) faces
+
+-- whether a code prints
+abbrev pub has_code : List CodeRange → ℕ → Bool
+has_code ranges code = list_any (λ range. nat_le range.first code && nat_le code range.last) ranges

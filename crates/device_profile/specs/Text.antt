@@ -1,0 +1,102 @@
+-- The printer that a profile's text describes, or the first thing wrong with the text.
+use Rattle.std.specs.Prelude.{◌≡◌, ℕ, ◌+◌, List, [], ◌∷◌, Bool, false, not, ◌&&◌, ◌==◌, nat_lt, length, get_or, is_some, unwrap_or, codes, if◌then◌else◌, Result, Ok, Err}
+use Rattle.std.specs.List.{list_all, list_any}
+use Rattle.std.specs.Str.{bytes_eq}
+use Rattle.std.specs.Str.Lines.{lines}
+use Rattle.device_profile.specs.declared.fault.Cause.TheVariants.{Version, Range, Missing, NoGeometry}
+use Rattle.device_profile.specs.declared.fault.ProfileFault.{ProfileFault}
+use Rattle.device_profile.specs.declared.fault.ProfileFault.TheVariants.{Fault, Memory}
+use Rattle.device_profile.specs.Printer.{Printer, has_size, has_orientation, has_every_pair, are_sides}
+use Rattle.device_profile.specs.Faces.{has_face}
+use Rattle.device_profile.specs.Words.{words_of}
+use Rattle.device_profile.specs.Draft.{Draft, no_draft, draft_after}
+
+-- the first line names the format and its version
+abbrev pub is_version : List (List ℕ) → Bool
+is_version [] = false
+is_version (format ∷ []) = false
+is_version (format ∷ version ∷ []) = bytes_eq format (codes "pclprofile") && bytes_eq version (codes "1")
+is_version (format ∷ version ∷ more ∷ words) = false
+
+-- the words of a line; a comment, whose first byte is `#`, has none
+abbrev pub words_of_line : List ℕ → List (List ℕ)
+words_of_line line = if get_or line 0 0 == 35 then [] else words_of line
+
+-- what was given after these lines, of which the first has this number, or the first faulty line
+abbrev pub draft_of_lines : Draft → ℕ → List (List ℕ) → Result Draft ProfileFault
+draft_of_lines draft number [] = Ok draft
+draft_of_lines draft number (line ∷ more) =
+    elim (draft_after draft (words_of_line line)) [ Ok next ↦ draft_of_lines next (number + 1) more | Err cause ↦ Err (Fault number cause) ]
+
+-- what all lines give
+abbrev pub draft_of : List (List ℕ) → Result Draft ProfileFault
+draft_of [] = Err (Fault 1 Version)
+draft_of (first ∷ more) = if is_version (words_of first) then draft_of_lines no_draft 2 more else Err (Fault 1 Version)
+
+-- whether the name and each list of values were given
+abbrev pub has_its_lists : Draft → Bool
+has_its_lists draft =
+    draft.is_named && nat_lt 0 (length draft.sizes) && nat_lt 0 (length draft.orientations) && nat_lt 0 (length draft.vmis)
+    && nat_lt 0 (length draft.fonts) && nat_lt 0 (length draft.copies) && nat_lt 0 (length draft.sides)
+    && nat_lt 0 (length draft.trays) && nat_lt 0 (length draft.device_trays)
+
+-- whether each key was given, and a page and a face
+abbrev pub is_complete : Draft → Bool
+is_complete draft =
+    has_its_lists draft && is_some draft.duplex && is_some draft.depth && is_some draft.memory
+    && nat_lt 0 (length draft.geometries) && nat_lt 0 (length draft.faces)
+
+-- whether each size and each orientation of the panel has a row, and each size of a row has one with each orientation of a row
+abbrev pub has_its_pages : Draft → Bool
+has_its_pages draft =
+    list_all (λ size. has_size draft.geometries size) draft.sizes
+    && list_all (λ orientation. has_orientation draft.geometries orientation) draft.orientations
+    && has_every_pair draft.geometries
+
+-- whether the device prints on both sides
+abbrev pub is_duplex : Draft → Bool
+is_duplex draft = unwrap_or draft.duplex 0 == 1
+
+-- whether the device has each face, each tray and the sides that the panel may have
+abbrev pub has_its_choices : Draft → Bool
+has_its_choices draft =
+    list_all (λ font. has_face draft.faces font) draft.fonts
+    && list_all (λ tray. list_any (λ held. held == tray) draft.device_trays) draft.trays
+    && list_all (are_sides (is_duplex draft)) draft.sides
+
+-- the printer of what was given
+abbrev pub printer_of_draft : Draft → Printer
+printer_of_draft draft = record {
+  sizes = draft.sizes;
+  orientations = draft.orientations;
+  vmis = draft.vmis;
+  fonts = draft.fonts;
+  copies = draft.copies;
+  sides = draft.sides;
+  trays = draft.trays;
+  device_trays = draft.device_trays;
+  has_duplex = is_duplex draft;
+  depth = unwrap_or draft.depth 0;
+  memory = unwrap_or draft.memory 0;
+  geometries = draft.geometries;
+  faces = draft.faces;
+}
+
+-- What was given, as a printer, or what is wrong with the whole.
+abbrev pub printer_of : Draft → Result Printer ProfileFault
+printer_of draft =
+    if not (is_complete draft) then Err (Fault 0 Missing)
+    else (if not (has_its_pages draft) then Err (Fault 0 NoGeometry)
+    else (if not (has_its_choices draft) then Err (Fault 0 Range) else Ok (printer_of_draft draft)))
+
+-- The printer that a text describes, or what is wrong first: a text of more than 65536 bytes, then the first faulty line, then
+-- what is wrong with the whole.
+unfoldable pub printer_of_text : List ℕ → Result Printer ProfileFault
+printer_of_text text =
+    if nat_lt 65_536 (length text) then Err (Fault 0 Range)
+    else elim (draft_of (lines text)) [ Ok draft ↦ printer_of draft | Err fault ↦ Err fault ]
+
+-- an error in reading a text: what is wrong with it, or that memory was wanted
+abbrev pub IsErrorOfText : List ℕ → ProfileFault → Type 0
+IsErrorOfText text (Fault line cause) = printer_of_text text ≡ Err (Fault line cause)
+IsErrorOfText text Memory = Unit {0}

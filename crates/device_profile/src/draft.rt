@@ -1,0 +1,233 @@
+//! What the lines of a profile's text have given so far.
+use crate::face_line::face_on_line;
+use crate::fault::{Cause, LineFault};
+use crate::field::Field;
+use crate::font::FontRow;
+use crate::geometry::Geometry;
+use crate::geometry_line::geometry_on_line;
+use crate::key::Key;
+use crate::scan::next_word;
+use crate::values::{is_name, number_on_line, values_on_line};
+use std::alloc::Allocator;
+use std::marker::Model;
+
+/// What the lines of a profile's text have given so far. A list that is empty was not given.
+#[derive(Drop)]
+pub(crate) struct Draft<A: Allocator> {
+    pub(crate) is_named: bool,
+    pub(crate) sizes: Vec<u32, A>,
+    pub(crate) orientations: Vec<u32, A>,
+    pub(crate) vmis: Vec<u32, A>,
+    pub(crate) fonts: Vec<u32, A>,
+    pub(crate) copies: Vec<u32, A>,
+    pub(crate) sides: Vec<u32, A>,
+    pub(crate) trays: Vec<u32, A>,
+    pub(crate) device_trays: Vec<u32, A>,
+    pub(crate) duplex: Option<u32>,
+    pub(crate) depth: Option<u32>,
+    pub(crate) memory: Option<u32>,
+    pub(crate) geometries: Vec<Geometry, A>,
+    pub(crate) faces: Vec<FontRow<A>, A>,
+}
+
+impl<A: Allocator> Model for Draft<A> {
+    ghost use Rattle.device_profile.specs.Draft.{Draft};
+
+    ghost Value = { Draft };
+
+    ghost use Rattle.device_profile.specs.DraftFields.{draft_of_fields};
+
+    ghost view = { draft_of_fields };
+}
+
+/// Macros may run at most so many levels deep.
+const MOST_DEPTH: u32 = 8;
+
+/// The macros of a printer have at most so many bytes together.
+const MOST_MEMORY: u32 = 1_048_576;
+
+impl<A: Allocator + Copy> Draft<A> {
+    ghost use Rattle.std.specs.Prelude.{◌≡◌};
+    ghost use Rattle.device_profile.specs.declared.key.Key.TheVariants as keys;
+    ghost use Rattle.device_profile.specs.Draft.{no_draft, choice_of, with_choice, draft_after_key, draft_after};
+    ghost use Rattle.device_profile.specs.Words.{words_of};
+    ghost use Rattle.device_profile.specs.Given.{Gives};
+
+    /// Nothing was given yet.
+    pub(crate) fn new(alloc: A) -> Self
+        ensures { result ≡ no_draft }
+    {
+        Draft {
+            is_named: false,
+            sizes: Vec::new(alloc),
+            orientations: Vec::new(alloc),
+            vmis: Vec::new(alloc),
+            fonts: Vec::new(alloc),
+            copies: Vec::new(alloc),
+            sides: Vec::new(alloc),
+            trays: Vec::new(alloc),
+            device_trays: Vec::new(alloc),
+            duplex: None,
+            depth: None,
+            memory: None,
+            geometries: Vec::new(alloc),
+            faces: Vec::new(alloc),
+        }
+    }
+
+    /// Takes one more line, given by its words.
+    pub(crate) fn take_line(&mut self, alloc: A, line: &[u8]) -> Result<(), LineFault>
+        ensures { Gives (draft_after self.old (words_of line.now)) result self.new }
+    {
+        let Some((word, words)) = next_word(line) else {
+            return Ok(());
+        };
+        match Key::of(word) {
+            Some(key) => self.take(alloc, key, words),
+            None => Err(LineFault::Wrong(Cause::Unknown)),
+        }
+    }
+
+    /// Takes a line of this key, given by the words behind it.
+    fn take(&mut self, alloc: A, key: Key, words: &[u8]) -> Result<(), LineFault>
+        ensures { Gives (draft_after_key self.old key (words_of words.now)) result self.new }
+    {
+        match key {
+            Key::Name => self.take_name(words),
+            Key::Choice(field) => self.take_choice(alloc, field, words),
+            Key::Trays => self.take_trays(alloc, words),
+            Key::Duplex => self.take_duplex(words),
+            Key::Depth => self.take_depth(words),
+            Key::Memory => self.take_memory(words),
+            Key::Page => self.take_page(words),
+            Key::Face => self.take_face(alloc, words),
+        }
+    }
+
+    /// Takes a name.
+    fn take_name(&mut self, words: &[u8]) -> Result<(), LineFault>
+        ensures { Gives (draft_after_key self.old keys.Name (words_of words.now)) result self.new }
+    {
+        if self.is_named {
+            return Err(LineFault::Wrong(Cause::Repeated));
+        }
+        if !is_name(words) {
+            return Err(LineFault::Wrong(Cause::Range));
+        }
+        self.is_named = true;
+        Ok(())
+    }
+
+    /// The values that were given for a field.
+    fn choice(&self, field: Field) -> &[u32]
+        ensures { result.now ≡ choice_of self.now field }
+    {
+        match field {
+            Field::Size => self.sizes.as_slice(),
+            Field::Orientation => self.orientations.as_slice(),
+            Field::Vmi => self.vmis.as_slice(),
+            Field::Font => self.fonts.as_slice(),
+            Field::Copies => self.copies.as_slice(),
+            Field::Sides => self.sides.as_slice(),
+            Field::Tray => self.trays.as_slice(),
+        }
+    }
+
+    /// Gives these values for a field.
+    fn set_choice(&mut self, field: Field, values: Vec<u32, A>)
+        ensures { self.new ≡ with_choice self.old field values.items }
+    {
+        match field {
+            Field::Size => self.sizes = values,
+            Field::Orientation => self.orientations = values,
+            Field::Vmi => self.vmis = values,
+            Field::Font => self.fonts = values,
+            Field::Copies => self.copies = values,
+            Field::Sides => self.sides = values,
+            Field::Tray => self.trays = values,
+        }
+    }
+
+    /// Takes the values that the panel may have in a field.
+    fn take_choice(&mut self, alloc: A, field: Field, words: &[u8]) -> Result<(), LineFault>
+        ensures { Gives (draft_after_key self.old (keys.Choice field) (words_of words.now)) result self.new }
+    {
+        if !self.choice(field).is_empty() {
+            return Err(LineFault::Wrong(Cause::Repeated));
+        }
+        let values = values_on_line(alloc, field, words)?;
+        self.set_choice(field, values);
+        Ok(())
+    }
+
+    /// Takes the trays of the device.
+    fn take_trays(&mut self, alloc: A, words: &[u8]) -> Result<(), LineFault>
+        ensures { Gives (draft_after_key self.old keys.Trays (words_of words.now)) result self.new }
+    {
+        if !self.device_trays.is_empty() {
+            return Err(LineFault::Wrong(Cause::Repeated));
+        }
+        self.device_trays = values_on_line(alloc, Field::Tray, words)?;
+        Ok(())
+    }
+
+    /// Takes whether the device prints on both sides.
+    fn take_duplex(&mut self, words: &[u8]) -> Result<(), LineFault>
+        ensures { Gives (draft_after_key self.old keys.Duplex (words_of words.now)) result self.new }
+    {
+        if self.duplex.is_some() {
+            return Err(LineFault::Wrong(Cause::Repeated));
+        }
+        let Some(n) = number_on_line(1, words) else {
+            return Err(LineFault::Wrong(Cause::Range));
+        };
+        self.duplex = Some(n);
+        Ok(())
+    }
+
+    /// Takes how many levels of macros may run.
+    fn take_depth(&mut self, words: &[u8]) -> Result<(), LineFault>
+        ensures { Gives (draft_after_key self.old keys.Depth (words_of words.now)) result self.new }
+    {
+        if self.depth.is_some() {
+            return Err(LineFault::Wrong(Cause::Repeated));
+        }
+        let Some(n) = number_on_line(MOST_DEPTH, words) else {
+            return Err(LineFault::Wrong(Cause::Range));
+        };
+        self.depth = Some(n);
+        Ok(())
+    }
+
+    /// Takes how many bytes the macros may have together.
+    fn take_memory(&mut self, words: &[u8]) -> Result<(), LineFault>
+        ensures { Gives (draft_after_key self.old keys.Memory (words_of words.now)) result self.new }
+    {
+        if self.memory.is_some() {
+            return Err(LineFault::Wrong(Cause::Repeated));
+        }
+        let Some(n) = number_on_line(MOST_MEMORY, words) else {
+            return Err(LineFault::Wrong(Cause::Range));
+        };
+        self.memory = Some(n);
+        Ok(())
+    }
+
+    /// Takes a page.
+    fn take_page(&mut self, words: &[u8]) -> Result<(), LineFault>
+        ensures { Gives (draft_after_key self.old keys.Page (words_of words.now)) result self.new }
+    {
+        let row = geometry_on_line(self.geometries.as_slice(), words)?;
+        self.geometries.push(row)?;
+        Ok(())
+    }
+
+    /// Takes a face.
+    fn take_face(&mut self, alloc: A, words: &[u8]) -> Result<(), LineFault>
+        ensures { Gives (draft_after_key self.old keys.Face (words_of words.now)) result self.new }
+    {
+        let face = face_on_line(alloc, self.faces.as_slice(), words)?;
+        self.faces.push(face)?;
+        Ok(())
+    }
+}

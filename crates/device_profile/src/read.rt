@@ -1,0 +1,98 @@
+//! Reading a profile's text.
+ghost use Rattle.std.specs.Prelude.{◌≡◌, ◌≤◌, Ok, MatchResult, length};
+ghost use Rattle.std.specs.Str.Lines.{lines};
+ghost use Rattle.device_profile.specs.Words.{words_of};
+ghost use Rattle.device_profile.specs.Text.{is_version, words_of_line, draft_of_lines, draft_of, printer_of_text, IsErrorOfText};
+ghost use Rattle.device_profile.specs.Draft.{no_draft, draft_after};
+ghost use Rattle.device_profile.specs.Given.{Gives, IsFaultOf, IsGiven};
+
+use crate::draft::Draft;
+use crate::fault::{Cause, LineFault, ProfileFault};
+use crate::profile::Profile;
+use crate::scan::{next_line, next_word};
+use std::alloc::Allocator;
+
+/// A text has at most so many bytes.
+const MOST_BYTES: usize = 65_536;
+
+impl<A: Allocator + Copy> Profile<A> {
+    /// The profile that a text describes.
+    ///
+    /// The first line holds the words `pclprofile 1`, each other line a key and its words; lines without a word and lines that
+    /// begin with `#` are skipped.
+    ///
+    /// An error is `Memory` where the allocator refused a request, or the first thing wrong: that the text has more than 65,536
+    /// bytes (`Range` with line 0); then the first faulty line, counted from 1; then, with line 0, `Missing`, `NoGeometry` or
+    /// `Range` of the whole.
+    #[tactic(auto, unfolding(crate::specs::Text::printer_of_text))]
+    pub fn read(alloc: A, text: &[u8]) -> Result<Profile<A>, ProfileFault>
+        ensures { MatchResult result (λ profile. printer_of_text text.now ≡ Ok profile) (IsErrorOfText text.now) }
+    {
+        if text.len() > MOST_BYTES {
+            return Err(ProfileFault::Fault {
+                line: 0,
+                cause: Cause::Range,
+            });
+        }
+        read_lines(alloc, text)?.finish()
+    }
+}
+
+/// What all lines of a text give, or the first faulty line.
+fn read_lines<A: Allocator + Copy>(alloc: A, text: &[u8]) -> Result<Draft<A>, ProfileFault>
+    requires { length text.now ≤ 65_536 }
+    ensures { MatchResult result (λ draft. draft_of (lines text.now) ≡ Ok draft) (IsFaultOf (draft_of (lines text.now))) }
+{
+    match next_line(text) {
+        Some((first, rest)) if is_version(first) => read_from(alloc, rest),
+        _ => Err(ProfileFault::Fault {
+            line: 1,
+            cause: Cause::Version,
+        }),
+    }
+}
+
+/// What the lines behind the first give, or the first faulty one.
+fn read_from<A: Allocator + Copy>(alloc: A, text: &[u8]) -> Result<Draft<A>, ProfileFault>
+    requires { length text.now ≤ 65_536 }
+    ensures { MatchResult result (λ draft. draft_of_lines no_draft 2 (lines text.now) ≡ Ok draft) (IsFaultOf (draft_of_lines no_draft 2 (lines text.now))) }
+{
+    let mut draft = Draft::new(alloc);
+    let mut line_number = 2;
+    let mut rest = text;
+    while let Some((line, after)) = next_line(rest) {
+        if let Err(fault) = take_line(alloc, &mut draft, line) {
+            return Err(fault.at(line_number));
+        }
+        line_number += 1;
+        rest = after;
+    }
+    Ok(draft)
+}
+
+/// Takes one more line, unless it is a comment, whose first byte is `#`.
+fn take_line<A: Allocator + Copy>(
+    alloc: A,
+    draft: &mut Draft<A>,
+    line: &[u8],
+) -> Result<(), LineFault>
+    ensures { Gives (draft_after draft.old (words_of_line line.now)) result draft.new }
+{
+    match line {
+        [b'#', ..] => Ok(()),
+        _ => draft.take_line(alloc, line),
+    }
+}
+
+/// Whether a line names the format and its version.
+fn is_version(line: &[u8]) -> bool
+    ensures { result ≡ is_version (words_of line.now) }
+{
+    let Some((format, words)) = next_word(line) else {
+        return false;
+    };
+    let Some((version, rest)) = next_word(words) else {
+        return false;
+    };
+    format == b"pclprofile".as_slice() && version == b"1".as_slice() && next_word(rest).is_none()
+}
