@@ -1,13 +1,15 @@
 ghost use Rattle.std.specs.Prelude.{◌≤◌, ◌*◌};
 
 use crate::machine::{Machine, Start, Stop};
+use crate::owned::{OwnedEvent, OwnedMark};
 use crate::sink::MarkSink;
-use device_profile::Field;
-use device_profile::sample::sample_a;
-use page_env::{Finding, Mark, PageEnd};
+use device_profile::{Field, sample_a};
+use page_env::{Bounds, Finding, Mark, PageEnd};
 use pcl_items::{Command, Item, Number, Place, Sign};
+use refusing::Refusing;
 use std::process::Abort;
 use std::test::Fail;
+use tick_length::Length;
 
 /// No room for a further event.
 #[derive(Clone, Copy, Debug, PartialEq, Eq)]
@@ -158,5 +160,66 @@ fn page_has_the_values_of_the_panel(rt: HostRuntime) -> Result<(), Fail> {
     assert!(rt; matches!(refused, Err(Stop::Refused(Full))));
     let stopped = machine.step(2, &Item::FormFeed, &mut sink);
     assert!(rt; matches!(stopped, Err(Stop::Stopped)));
+    Ok(())
+}
+
+/// A box of so many 7200ths of an inch to each side.
+fn bounds_of(left: u32, top: u32, right: u32, bottom: u32) -> Bounds {
+    Bounds {
+        left: Length::of_7200ths(left),
+        top: Length::of_7200ths(top),
+        right: Length::of_7200ths(right),
+        bottom: Length::of_7200ths(bottom),
+    }
+}
+
+#[test]
+fn copy_is_the_mark(rt: HostRuntime) -> Result<(), Fail> {
+    let bounds = bounds_of(1, 2, 3, 4);
+    let mark = Mark::Rect(bounds);
+    let copy = OwnedMark::copy_of(rt.alloc(), &mark)?;
+    assert!(rt; copy.is_same(&mark));
+    let others = [
+        bounds_of(0, 2, 3, 4),
+        bounds_of(1, 0, 3, 4),
+        bounds_of(1, 2, 0, 4),
+        bounds_of(1, 2, 3, 0),
+    ];
+    for other in others {
+        assert!(rt; !copy.is_same(&Mark::Rect(other)));
+        assert_ne!(rt; copy, OwnedMark::copy_of(rt.alloc(), &Mark::Rect(other))?);
+    }
+    assert_eq!(rt; copy, OwnedMark::copy_of(rt.alloc(), &mark)?);
+    Ok(())
+}
+
+#[test]
+fn rectangle_is_copied_without_memory(rt: HostRuntime) -> Result<(), Fail> {
+    let full = Refusing::new(rt.alloc(), 0);
+    let mark = Mark::Rect(bounds_of(1, 2, 3, 4));
+    let copy = OwnedMark::copy_of(&full, &mark)?;
+    assert!(rt; copy.is_same(&mark));
+    Ok(())
+}
+
+#[test]
+fn kept_event_is_told_from_others(rt: HostRuntime) -> Result<(), Fail> {
+    let mark = Mark::Rect(bounds_of(1, 2, 3, 4));
+    let page = PageEnd {
+        size: 2,
+        orientation: 0,
+        sides: 0,
+        tray: 1,
+        copies: 1,
+    };
+    let marked = OwnedEvent::Marked(OwnedMark::copy_of(rt.alloc(), &mark)?);
+    let ended = OwnedEvent::Ended(page);
+    assert!(rt; marked.is_marked(&mark));
+    assert!(rt; !marked.is_ended(&page));
+    assert!(rt; ended.is_ended(&page));
+    assert!(rt; !ended.is_marked(&mark));
+    assert!(rt; !ended.is_ended(&PageEnd { copies: 2, ..page }));
+    assert!(rt; !marked.is_marked(&Mark::Rect(bounds_of(1, 2, 3, 5))));
+    assert_ne!(rt; marked, ended);
     Ok(())
 }
