@@ -1,23 +1,24 @@
 -- A check under way: its start, one more piece, and what the bytes that were read say of the job.
-use Rattle.std.proofs.Common.{◌≡◌, ◌+◌, ◌*◌, ◌≤◌, ◌<◌, ℕ, Bool, true, false, List, [], ◌∷◌, ◌++◌, length, take, refl, ap, sym, ◌∙◌, subst, append_assoc, append-nil, Option, None, Some, IfSome, IsFalse, arith, length-append}
+use Rattle.std.proofs.Common.{◌≡◌, ◌+◌, ◌-◌, ◌*◌, ◌≤◌, ◌<◌, ℕ, Bool, true, false, List, [], ◌∷◌, ◌++◌, length, take, drop, get_or, refl, ap, sym, ◌∙◌, subst, append_assoc, append-nil, Option, None, Some, IfSome, IsFalse, arith, length-append}
 use Rattle.std.specs.Prelude.{max}
 use Rattle.std.proofs.Math.Nat.{zero-max}
+use Rattle.std.proofs.lemmas.List.{take_all}
 use Rattle.std.specs.Io.KnownBytes.{Consumes, IsAtEnd}
 use Rattle.std.proofs.KnownBytes.{Consumes-nil, Consumes-trans, Consumes-all}
 use Rattle.pcl_items.specs.Items.{Placed}
 use Rattle.pcl_items.specs.Standing.{Standing, WantsMore, at_start}
 use Rattle.pcl_items.specs.Lexing.{Reads, MayBe}
-use Rattle.device_profile.specs.declared.panel.Panel.{Panel}
-use Rattle.device_profile.specs.Printer.{Printer, IsAllowed, first_panel}
-use Rattle.page_env.specs.Settings.{Settings, State, settings_at, state_at, start_state}
-use Rattle.page_machine.specs.declared.machine.Start.TheVariants.{Unknown}
-use Rattle.page_machine.specs.Run.{Peaks, no_peaks, higher}
+use Rattle.device_profile.specs.Printer.{Printer, first_panel}
+use Rattle.page_env.specs.Settings.{Settings, settings_at, state_at}
+use Rattle.page_machine.specs.Run.{no_peaks}
 use Rattle.page_machine.specs.Job.{JobRan, after_events, items_run}
 use Rattle.page_machine.specs.MachineState.{MachineState}
-use Rattle.page_machine.specs.Machine.{IsNew}
 use Rattle.preflight.specs.declared.counts.Counts.{Counts}
 use Rattle.preflight.specs.Counts.{no_counts}
-use Rattle.preflight.specs.Checking.{Carried, IsUnderWay}
+use Rattle.preflight.specs.Turn.{turns_run}
+use Rattle.preflight.specs.Each.{Each}
+use Rattle.preflight.specs.Crew.{AreRunning, IsFresh}
+use Rattle.preflight.specs.Checking.{Along, Carried, IsUnderWay}
 
 after_events-none : (r : JobRan) → r ≡ after_events [] no_peaks r
 after_events-none r = λ i. record {
@@ -26,38 +27,57 @@ after_events-none r = λ i. record {
   outcome = r.outcome;
 }
 
+-- a machine that has carried out nothing
+along_none : (printer : Printer) (machine : MachineState) → IsFresh printer machine → Along [] [] printer machine
+along_none printer machine fresh = record {
+  printer_is = fresh.new.printer_is;
+  defaults = fresh.new.defaults;
+  first = fresh.first;
+  peaks = λ panel. no_peaks;
+  run = λ panel finally rest.
+      let d : Settings = settings_at panel machine.defaults in
+      ap (items_run printer d finally rest) (sym (fresh.new.page panel)) ∙ after_events-none (items_run printer d finally rest (state_at panel machine.page));
+  turn_by_turn = λ finally rest. ap (turns_run printer (settings_at (first_panel printer) machine.defaults) finally rest) (sym (fresh.new.page (first_panel printer)));
+}
+
+all_along : (fleet : List Printer) (machines : List MachineState) → Each IsFresh fleet machines → Each (Along [] []) fleet machines
+all_along [] [] h = tt
+all_along [] (m ∷ ms) h = absurd h
+all_along (p ∷ ps) [] h = absurd h
+all_along (p ∷ ps) (m ∷ ms) h = (along_none p m h.0, all_along ps ms h.1)
+
+all_running : (fleet : List Printer) (machines : List MachineState) → Each IsFresh fleet machines → AreRunning machines
+all_running [] [] h = tt
+all_running [] (m ∷ ms) h = absurd h
+all_running (p ∷ ps) [] h = absurd h
+all_running (p ∷ ps) (m ∷ ms) h = (h.0.new.running, all_running ps ms h.1)
+
 -- before the first byte
-pub carried_none : (printer : Printer) (lexer : Standing) (machine : MachineState) (counts : Counts) (panel : Panel) → Reads lexer [] [] → IsNew printer Unknown machine → counts ≡ no_counts → panel ≡ first_panel printer → IsAllowed printer panel → Carried printer [] lexer machine counts
-carried_none printer lexer machine counts panel reads new none is allowed = record {
+pub carried_none : (fleet : List Printer) (lexer : Standing) (machines : List MachineState) (counts : Counts) → 0 < length fleet → Reads lexer [] [] → Each IsFresh fleet machines → counts ≡ no_counts → Carried fleet [] lexer machines counts
+carried_none fleet lexer machines counts some reads fresh none = record {
+  some = some;
   items = [];
   reads = reads;
-  printer_is = new.printer_is;
-  defaults = new.defaults;
-  first = subst (λ p. IsAllowed printer p) is allowed;
-  events = [];
-  peaks = λ p. no_peaks;
+  turns = [];
+  agreed = tt;
   counts_are = none;
-  run = λ p finally rest.
-      let d : Settings = settings_at p machine.defaults in
-      ap (items_run printer d finally rest) (sym (new.page p)) ∙ after_events-none (items_run printer d finally rest (state_at p machine.page));
+  along = all_along fleet machines fresh;
 }
 
 -- one more piece is fed
-carried_fed : (printer : Printer) (bytes piece : List ℕ) (old new : Standing) (machine : MachineState) (counts : Counts) → ((bytes : List ℕ) (items : List Placed) → Reads old bytes items → Reads new (bytes ++ piece) items) → Carried printer bytes old machine counts → Carried printer (bytes ++ piece) new machine counts
-carried_fed printer bytes piece old new machine counts reads carried = record {
+carried_fed : (fleet : List Printer) (bytes piece : List ℕ) (old new : Standing) (machines : List MachineState) (counts : Counts) → ((bytes : List ℕ) (items : List Placed) → Reads old bytes items → Reads new (bytes ++ piece) items) → Carried fleet bytes old machines counts → Carried fleet (bytes ++ piece) new machines counts
+carried_fed fleet bytes piece old new machines counts reads carried = record {
+  some = carried.some;
   items = carried.items;
   reads = reads bytes carried.items carried.reads;
-  printer_is = carried.printer_is;
-  defaults = carried.defaults;
-  first = carried.first;
-  events = carried.events;
-  peaks = carried.peaks;
+  turns = carried.turns;
+  agreed = carried.agreed;
   counts_are = carried.counts_are;
-  run = carried.run;
+  along = carried.along;
 }
 
-pub under_way_none : (printer : Printer) (failed : Bool) (before : Option (List ℕ)) (lexer : Standing) (machine : MachineState) (counts : Counts) → IsFalse failed → lexer ≡ at_start → WantsMore lexer → IsNew printer Unknown machine → Carried printer [] lexer machine counts → IsUnderWay printer failed before before 0 0 lexer machine counts
-under_way_none printer failed before lexer machine counts working start wanted new carried = record {
+pub under_way_none : (fleet : List Printer) (failed : Bool) (before : Option (List ℕ)) (lexer : Standing) (machines : List MachineState) (counts : Counts) → IsFalse failed → lexer ≡ at_start → WantsMore lexer → Each IsFresh fleet machines → Carried fleet [] lexer machines counts → IsUnderWay fleet failed before before 0 0 lexer machines counts
+under_way_none fleet failed before lexer machines counts working start wanted fresh carried = record {
   bytes = [];
   working = working;
   consumed = Consumes-nil before;
@@ -67,7 +87,7 @@ under_way_none printer failed before lexer machine counts working start wanted n
   fed = ap (λ (s : Standing). s.place + length s.rest) start;
   open_input = ap (λ (s : Standing). s.ended) start;
   wants_more = wanted;
-  running = new.running;
+  running = all_running fleet machines fresh;
   carried = carried;
 }
 
@@ -94,19 +114,19 @@ at_least_read None after bytes n consumed h = tt
 at_least_read (Some job) None bytes n consumed h = absurd consumed
 at_least_read (Some job) (Some rest) bytes n consumed h = omega (arith, ap length consumed, length-append bytes rest)
 
-module _ (printer : Printer) (failed : Bool) (before mid after : Option (List ℕ)) (reads total : ℕ) (old fed : Standing) (machine : MachineState) (counts : Counts) (way : IsUnderWay printer failed before mid reads total old machine counts) (piece : List ℕ) (consumed : Consumes mid after piece) (fed_is : fed ≡ record old { rest = old.rest ++ piece }) (goes_on : (bytes : List ℕ) (items : List Placed) → Reads old bytes items → Reads fed (bytes ++ piece) items) where
+module _ (fleet : List Printer) (failed : Bool) (before mid after : Option (List ℕ)) (reads total : ℕ) (old fed : Standing) (machines : List MachineState) (counts : Counts) (way : IsUnderWay fleet failed before mid reads total old machines counts) (piece : List ℕ) (consumed : Consumes mid after piece) (fed_is : fed ≡ record old { rest = old.rest ++ piece }) (goes_on : (bytes : List ℕ) (items : List Placed) → Reads old bytes items → Reads fed (bytes ++ piece) items) where
   pub more_read : Consumes before after (way.bytes ++ piece)
   more_read = Consumes-trans before mid after way.bytes piece way.consumed consumed
 
-  pub more_carried : Carried printer (way.bytes ++ piece) fed machine counts
-  more_carried = carried_fed printer way.bytes piece old fed machine counts goes_on way.carried
+  pub more_carried : Carried fleet (way.bytes ++ piece) fed machines counts
+  more_carried = carried_fed fleet way.bytes piece old fed machines counts goes_on way.carried
 
   pub more_open : fed.ended ≡ false
   more_open = ap (λ (s : Standing). s.ended) fed_is ∙ way.open_input
 
   -- what the piece decides was carried out
-  pub under_way_more : (failed' : Bool) (new : Standing) (machine' : MachineState) (counts' : Counts) (count : ℕ) → IsFalse failed' → count ≡ length piece → 0 < count → count ≤ 4096 → new.ended ≡ fed.ended → new.place + length new.rest ≡ fed.place + length fed.rest → WantsMore new → machine'.stopped ≡ false → Carried printer (way.bytes ++ piece) new machine' counts' → IsUnderWay printer failed' before after (reads + 1) (total + count) new machine' counts'
-  under_way_more failed' new machine' counts' count working count_is some few same_ended same_place wanted running carried =
+  pub under_way_more : (failed' : Bool) (new : Standing) (machines' : List MachineState) (counts' : Counts) (count : ℕ) → IsFalse failed' → count ≡ length piece → 0 < count → count ≤ 4096 → new.ended ≡ fed.ended → new.place + length new.rest ≡ fed.place + length fed.rest → WantsMore new → AreRunning machines' → Carried fleet (way.bytes ++ piece) new machines' counts' → IsUnderWay fleet failed' before after (reads + 1) (total + count) new machines' counts'
+  under_way_more failed' new machines' counts' count working count_is some few same_ended same_place wanted running carried =
       let all : length (way.bytes ++ piece) ≡ length way.bytes + length piece = length-append way.bytes piece in
       let place : fed.place + length fed.rest ≡ old.place + length (old.rest ++ piece) = ap (λ (s : Standing). s.place + length s.rest) fed_is in
       record {
@@ -122,3 +142,20 @@ module _ (printer : Printer) (failed : Bool) (before mid after : Option (List �
         running = running;
         carried = carried;
       }
+
+-- of every job
+pub every_job : (before : Option (List ℕ)) (P : List ℕ → Type 0) → ((job : List ℕ) → P job) → IfSome before P
+every_job None P h = tt
+every_job (Some job) P h = h job
+
+-- a fleet is its first printer and the others
+pub first_and_others : (fleet : List Printer) (first : Printer) → 1 ≤ length fleet → first ≡ get_or fleet 0 first → fleet ≡ first ∷ take (length fleet - 1) (drop 1 fleet)
+first_and_others [] first some is = absurd (omega (arith, some))
+first_and_others (p ∷ ps) first some is =
+    let rest : take (length (p ∷ ps) - 1) ps ≡ ps = take_all (length (p ∷ ps) - 1) ps (omega arith) in
+    λ i. sym is i ∷ sym rest i
+
+-- no other printer
+pub no_others : (others : List Printer) → length others ≡ 0 → Each IsFresh others []
+no_others [] none = tt
+no_others (p ∷ ps) none = absurd (omega (arith, none))

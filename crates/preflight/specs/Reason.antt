@@ -9,7 +9,7 @@ use Rattle.device_profile.specs.declared.field.Field.TheVariants.{Size, Orientat
 use Rattle.page_env.specs.declared.finding.Finding.{Finding}
 use Rattle.page_env.specs.declared.finding.Finding.TheVariants.{BadValue, NotOnDevice, Unset, OffPage, NotPrintable, EmptyRectangle}
 use Rattle.preflight.specs.declared.verdict.Reason.{Reason}
-use Rattle.preflight.specs.declared.verdict.Reason.TheVariants.{Fault, Finding as FindingOfRun}
+use Rattle.preflight.specs.declared.verdict.Reason.TheVariants.{Fault, Finding as FindingOfRun, Differs}
 use Rattle.pcl_items.specs.Commands.{introducer_of, character_of}
 
 -- a digit to base 16, in small letters
@@ -51,3 +51,4 @@ finding_words EmptyRectangle = codes "30 EmptyRectangle"
 abbrev pub reason_words : Reason → List ℕ
 reason_words (Fault cause) = cause_words cause
 reason_words (FindingOfRun finding) = finding_words finding
+reason_words Differs = codes "33 Differs"

@@ -17,6 +17,7 @@ pub fn reason_words<A: Allocator>(alloc: A, reason: Reason) -> Result<Vec<u8, A>
     match reason {
         Reason::Fault(cause) => push_cause(&mut words, cause)?,
         Reason::Finding(finding) => push_finding(&mut words, finding)?,
+        Reason::Differs => words.extend_from_slice(b"33 Differs")?,
     }
     Ok(words)
 }
