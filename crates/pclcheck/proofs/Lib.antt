@@ -1,0 +1,6 @@
+mod Examples
+mod FleetLemmas
+mod FrontLemmas
+mod LeavesLemmas
+mod TextLemmas
+mod WriteLemmas

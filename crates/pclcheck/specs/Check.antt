@@ -11,11 +11,16 @@ use Rattle.preflight.specs.Outlet.{AppendsPrefix}
 use Rattle.preflight.specs.Verdict.{IsExact, KeepsPromise}
 use Rattle.pclcheck.specs.declared.status.Status.{Status}
 use Rattle.pclcheck.specs.declared.status.Status.TheVariants.{Pass, Fail, Help, Words, Profile, Stopped}
+use Rattle.pclcheck.specs.Fleet.{DescribeFleet}
 use Rattle.pclcheck.specs.Lines.{verdict_line}
 
 -- on the bytes that the source had, where these are known, the verdict is exact and keeps its promise
 abbrev pub IsRight : Option (List ℕ) → List Printer → Verdict → Type 0
 IsRight remaining fleet verdict = IfSome remaining (λ job. IsExact fleet job verdict × KeepsPromise fleet job verdict)
+
+-- the verdict is right for a fleet that the texts of its profiles describe
+abbrev pub IsRightFor : List (Option (List ℕ)) → Option (List ℕ) → Verdict → Type 0
+IsRightFor texts remaining verdict = (fleet : List Printer) × DescribeFleet texts fleet × IsRight remaining fleet verdict
 
 -- where a write failed, a front of the line of a verdict with this fact stands there, and otherwise nothing new
 abbrev pub LeavesAtStop : Error → (Verdict → Type 0) → Option (List ℕ) → Option (List ℕ) → Type 0
@@ -31,5 +36,5 @@ Leaves Pass P old new = (pages : ℕ) × (marks : ℕ) × P (PassOf pages marks)
 Leaves Fail P old new = (place : ℕ) × (profile : ℕ) × (finding : Reason) × P (FailOf place profile finding) × Appends old new (verdict_line (FailOf place profile finding))
 Leaves Help P old new = ⊥
 Leaves Words P old new = ⊥
-Leaves Profile P old new = Keeps old new
+Leaves (Profile number line cause) P old new = Keeps old new
 Leaves (Stopped error) P old new = LeavesAtStop error P old new

@@ -1,4 +1,6 @@
 pub mod Check
+pub mod Fleet
 pub mod Lines
 pub mod Status
+pub mod Texts
 pub mod Words

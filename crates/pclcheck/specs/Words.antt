@@ -1,8 +1,14 @@
--- How the reading of the words ends where they ask for no work.
-use Rattle.std.specs.Prelude.{⊤}
+-- What the words ask for, and how their reading ends where they ask for no work.
+use Rattle.std.specs.Prelude.{◌≢◌, [], ⊤}
 use Rattle.preflight.specs.declared.error.Error.TheVariants.{Memory, Write}
 use Rattle.pclcheck.specs.declared.status.Status.{Status}
 use Rattle.pclcheck.specs.declared.status.Status.TheVariants.{Help, Words, Stopped}
+use Rattle.pclcheck.specs.declared.words.Request.{Request}
+use Rattle.pclcheck.specs.declared.words.Request.TheVariants.{Check}
+
+-- one printer at least is named
+abbrev pub NamesSome : Request → Type 0
+NamesSome (Check job profiles) = profiles.items ≢ []
 
 -- help, bad words, no memory, or a text that could not be written
 abbrev pub IsEndOfWords : Status → Type 0

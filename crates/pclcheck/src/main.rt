@@ -4,14 +4,19 @@
 ghost use Rattle.std.specs.Prelude.{IsFalse};
 
 mod commands;
-mod job_file;
+mod file_source;
+mod file_texts;
+mod fleet;
+mod front;
 mod lines;
 mod status;
 #[cfg(test)]
 mod tests;
+mod texts;
 mod words;
 
-use crate::job_file::JobFile;
+use crate::file_source::FileSource;
+use crate::file_texts::FileTexts;
 use crate::status::{Status, tell};
 use crate::words::Request;
 use preflight::{Error, Outlet, Watched, write_text};
@@ -61,9 +66,11 @@ fn run<R: Files + AllocGlobal, O: Outlet, E: Outlet>(
     requires stderr { IsFalse (E.failed stderr.old) }
 {
     match words::read_words(rt.alloc(), words, stdout, stderr) {
-        Ok(Request::Check { job, profile }) => {
-            let mut job = JobFile::new(rt, job);
-            commands::check(rt.alloc(), &mut job, profile, stdout, stderr)
+        Ok(Request::Check { job, profiles }) => {
+            let mut job = FileSource::new(rt, job);
+            let mut texts = FileTexts::new(rt);
+            let profiles = profiles.as_slice();
+            commands::check(rt.alloc(), &mut job, &mut texts, profiles, stdout, stderr)
         }
         Err(status) => status,
     }

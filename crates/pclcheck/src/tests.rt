@@ -1,46 +1,16 @@
-ghost use Rattle.std.specs.Prelude.{◌≡◌, None, false};
+mod fakes;
+mod fleets;
+mod machine;
 
-use crate::commands::check;
 use crate::lines::line_of;
 use crate::status::{Status, tell};
 use crate::words::{Request, read_words};
-use device_profile::Field;
+use device_profile::{Cause as ProfileCause, Field};
 use page_env::Finding;
 use pcl_items::{Cause, Group, Name};
-use preflight::{Error, Outlet, Reason, Source, Verdict, Watched};
-use refusing::Refusing;
+use preflight::{Error, Outlet, Reason, Verdict, Watched};
 use std::alloc::{AllocError, Global};
-use std::io;
 use std::test::Fail;
-
-/// A job of which no byte can be read.
-#[derive(Drop)]
-struct Unreadable {
-    has_failed: bool,
-}
-
-impl Unreadable {
-    fn new() -> Unreadable
-        ensures { result.has_failed ≡ false }
-    {
-        Unreadable { has_failed: false }
-    }
-}
-
-impl Source for Unreadable {
-    ghost remaining = { λ _. None };
-
-    ghost failed = { λ source. source.has_failed };
-
-    fn read(&mut self, _buf: &mut [u8]) -> io::Result<usize> {
-        self.has_failed = true;
-        Err(io::Error::other("no reads"))
-    }
-
-    fn has_failed(&self) -> bool {
-        self.has_failed
-    }
-}
 
 fn fault(cause: Cause) -> Verdict {
     Verdict::Fail {
@@ -105,14 +75,56 @@ fn names_of_what_is_not_known(rt: HostRuntime) -> Result<(), Fail> {
     Ok(())
 }
 
+fn refused(number: u64, line: u64, cause: ProfileCause) -> Status {
+    Status::Profile {
+        number,
+        line,
+        cause,
+    }
+}
+
 #[test]
 fn statuses_and_their_lines(rt: HostRuntime) -> Result<(), Fail> {
-    let cases: [(Status, u8, &[u8]); 9] = [
+    let cases: [(Status, u8, &[u8]); 15] = [
         (Status::Pass, 0, b""),
         (Status::Help, 0, b""),
         (Status::Fail, 1, b""),
         (Status::Words, 2, b""),
-        (Status::Profile, 2, b"ERROR profile 1 0 Unknown\n"),
+        (
+            refused(1, 1, ProfileCause::Version),
+            2,
+            b"ERROR profile 1 1 Version\n",
+        ),
+        (
+            refused(2, 10, ProfileCause::Unknown),
+            2,
+            b"ERROR profile 2 10 Unknown\n",
+        ),
+        (
+            refused(3, 99, ProfileCause::Repeated),
+            2,
+            b"ERROR profile 3 99 Repeated\n",
+        ),
+        (
+            refused(10, 0, ProfileCause::Range),
+            2,
+            b"ERROR profile 10 0 Range\n",
+        ),
+        (
+            refused(1, 0, ProfileCause::Missing),
+            2,
+            b"ERROR profile 1 0 Missing\n",
+        ),
+        (
+            refused(1, 0, ProfileCause::NoGeometry),
+            2,
+            b"ERROR profile 1 0 NoGeometry\n",
+        ),
+        (
+            refused(18_446_744_073_709_551_615, 65_536, ProfileCause::Range),
+            2,
+            b"ERROR profile 18446744073709551615 65536 Range\n",
+        ),
         (Status::Stopped(Error::Memory), 3, b"ERROR memory\n"),
         (Status::Stopped(Error::Read), 3, b"ERROR read\n"),
         (Status::Stopped(Error::Write), 3, b"ERROR write\n"),
@@ -127,83 +139,16 @@ fn statuses_and_their_lines(rt: HostRuntime) -> Result<(), Fail> {
 }
 
 #[test]
-fn a_job_of_no_bytes_passes(rt: HostRuntime) -> Result<(), Fail> {
-    let job: &[u8] = b"";
-    let mut job = Watched::new(job);
-    let mut stdout = Watched::new(Vec::new(rt.alloc()));
-    let mut stderr = Watched::new(Vec::new(rt.alloc()));
-    let status = check(rt.alloc(), &mut job, "@A", &mut stdout, &mut stderr);
-    assert_eq!(rt; status, Status::Pass);
-    assert_eq!(rt;
-        stdout.get_ref().as_slice(),
-        b"PASS pages=0 marks=0\n".as_slice()
-    );
-    assert!(rt; stderr.get_ref().is_empty());
-    Ok(())
-}
-
-#[test]
-fn another_profile_is_refused_before_the_job_is_read(rt: HostRuntime) -> Result<(), Fail> {
-    for profile in ["", "@B", "@a", "A", "@A ", "a.profile"] {
-        let mut job = Unreadable::new();
-        let mut stdout = Watched::new(Vec::new(rt.alloc()));
-        let mut stderr = Watched::new(Vec::new(rt.alloc()));
-        let status = check(rt.alloc(), &mut job, profile, &mut stdout, &mut stderr);
-        assert_eq!(rt; status, Status::Profile);
-        assert!(rt; stdout.get_ref().is_empty());
-        assert!(rt; !job.has_failed());
-    }
-    Ok(())
-}
-
-#[test]
-fn a_failed_read_is_told(rt: HostRuntime) -> Result<(), Fail> {
-    let mut job = Unreadable::new();
-    let mut stdout = Watched::new(Vec::new(rt.alloc()));
-    let mut stderr = Watched::new(Vec::new(rt.alloc()));
-    let status = check(rt.alloc(), &mut job, "@A", &mut stdout, &mut stderr);
-    assert_eq!(rt; status, Status::Stopped(Error::Read));
-    assert!(rt; stdout.get_ref().is_empty());
-    assert_eq!(rt; stderr.get_ref().as_slice(), b"ERROR read\n".as_slice());
-    Ok(())
-}
-
-#[test]
-fn a_failed_write_is_told(rt: HostRuntime) -> Result<(), Fail> {
-    let line = b"PASS pages=0 marks=0\n";
+fn the_line_of_a_refusal_is_cut_where_standard_error_ends(rt: HostRuntime) -> Result<(), Fail> {
+    let line = b"ERROR profile 12 345 Repeated\n";
     for room in 0..line.len() {
-        let bytes: &[u8] = b"";
-        let mut job = Watched::new(bytes);
-        let mut taken = [0u8; 21];
-        let mut stdout = Watched::new(&mut taken[..room]);
-        let mut stderr = Watched::new(Vec::new(rt.alloc()));
-        let status = check(rt.alloc(), &mut job, "@A", &mut stdout, &mut stderr);
-        assert_eq!(rt; status, Status::Stopped(Error::Write));
-        assert!(rt; stdout.has_failed());
-        assert_eq!(rt; stderr.get_ref().as_slice(), b"ERROR write\n".as_slice());
+        let mut taken = [0u8; 30];
+        let mut stderr = Watched::new(&mut taken[..room]);
+        let status = refused(12, 345, ProfileCause::Repeated);
+        assert_eq!(rt; tell(status, &mut stderr).code(), 2);
+        assert!(rt; stderr.has_failed());
         assert_eq!(rt; &taken[..room], &line[..room]);
     }
-    Ok(())
-}
-
-#[test]
-fn each_request_for_memory_is_refused_in_turn(rt: HostRuntime) -> Result<(), Fail> {
-    for requests in 0..100 {
-        let heap = Refusing::new(rt.alloc(), requests);
-        let bytes: &[u8] = b"";
-        let mut job = Watched::new(bytes);
-        let mut stdout = Watched::new(Vec::new(rt.alloc()));
-        let mut stderr = Watched::new(Vec::new(rt.alloc()));
-        let status = check(&heap, &mut job, "@A", &mut stdout, &mut stderr);
-        if status == Status::Pass {
-            assert!(rt; requests > 0);
-            return Ok(());
-        }
-        assert_eq!(rt; status, Status::Stopped(Error::Memory));
-        assert!(rt; stdout.get_ref().is_empty());
-        assert_eq!(rt; stderr.get_ref().as_slice(), b"ERROR memory\n".as_slice());
-    }
-    assert!(rt; false, "more than 100 requests");
     Ok(())
 }
 
@@ -217,14 +162,13 @@ fn strings(alloc: Global, words: &[&str]) -> Result<Vec<String>, AllocError> {
 
 #[test]
 fn help_and_bad_words(rt: HostRuntime) -> Result<(), Fail> {
-    let cases: [(&[&str], Status); 8] = [
+    let cases: [(&[&str], Status); 7] = [
         (&["pclcheck", "--help"], Status::Help),
         (&["pclcheck", "check", "--help"], Status::Help),
         (&["pclcheck"], Status::Words),
         (&["pclcheck", "frob"], Status::Words),
         (&["pclcheck", "check"], Status::Words),
         (&["pclcheck", "check", "job.pcl"], Status::Words),
-        (&["pclcheck", "check", "job.pcl", "@A", "@A"], Status::Words),
         (
             &["pclcheck", "check", "--fast", "job.pcl", "@A"],
             Status::Words,
@@ -255,15 +199,18 @@ fn help_and_bad_words(rt: HostRuntime) -> Result<(), Fail> {
 
 #[test]
 fn good_words_ask_for_a_check(rt: HostRuntime) -> Result<(), Fail> {
-    let words = strings(rt.alloc(), &["pclcheck", "check", "job.pcl", "@A"])?;
-    let mut stdout = Watched::new(Vec::new(rt.alloc()));
-    let mut stderr = Watched::new(Vec::new(rt.alloc()));
-    match read_words(rt.alloc(), words.as_slice(), &mut stdout, &mut stderr) {
-        Ok(Request::Check { job, profile }) => {
-            assert_eq!(rt; job, "job.pcl");
-            assert_eq!(rt; profile, "@A");
+    let all = ["pclcheck", "check", "job.pcl", "@A", "b.profile", "@E"];
+    for count in 4..=all.len() {
+        let words = strings(rt.alloc(), &all[..count])?;
+        let mut stdout = Watched::new(Vec::new(rt.alloc()));
+        let mut stderr = Watched::new(Vec::new(rt.alloc()));
+        match read_words(rt.alloc(), words.as_slice(), &mut stdout, &mut stderr) {
+            Ok(Request::Check { job, profiles }) => {
+                assert_eq!(rt; job, "job.pcl");
+                assert_eq!(rt; profiles.as_slice(), &all[3..count]);
+            }
+            Err(_) => assert!(rt; false),
         }
-        Err(_) => assert!(rt; false),
     }
     Ok(())
 }

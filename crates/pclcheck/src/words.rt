@@ -1,6 +1,6 @@
 //! The words that the program is started with.
-ghost use Rattle.std.specs.Prelude.{◌≡◌, IsFalse, OnOk, IfErr};
-ghost use Rattle.pclcheck.specs.Words.{IsEndOfWords};
+ghost use Rattle.std.specs.Prelude.{◌≡◌, IsFalse, OnOk, IfOk, IfErr};
+ghost use Rattle.pclcheck.specs.Words.{IsEndOfWords, NamesSome};
 
 use crate::status::{Status, tell};
 use clap::error::ErrorKind;
@@ -11,8 +11,11 @@ use std::alloc::{AllocError, Global};
 /// What the words ask for.
 #[derive(Drop)]
 pub enum Request<'a> {
-    /// A check of the job at a path, for the printer that a word names.
-    Check { job: &'a str, profile: &'a str },
+    /// A check of the job at a path, for the printers that words name.
+    Check {
+        job: &'a str,
+        profiles: Vec<&'a str>,
+    },
 }
 
 const STATUSES: &str = "Statuses:
@@ -27,15 +30,18 @@ fn command<'a>(alloc: Global) -> Result<Command<'a>, AllocError> {
         .required(true)
         .action(ArgAction::Set)
         .help("The path of the print job");
-    let profile = Arg::new(alloc, "PROFILE")
+    let profiles = Arg::new(alloc, "PROFILE")
         .required(true)
-        .action(ArgAction::Set)
-        .help("The printer: @A, the built-in sample A");
+        .num_args(1..)
+        .action(ArgAction::Append)
+        .help(
+            "The printers: each is @A, @B, @C or @D for a built-in sample, or the path of a profile",
+        );
     let check = Command::new(alloc, "check")
-        .about("Checks a job for a printer, and writes one line: PASS or FAIL")
+        .about("Checks a job for a fleet of printers, and writes one line: PASS or FAIL")
         .after_help(STATUSES)
         .arg(job)?
-        .arg(profile)?;
+        .arg(profiles)?;
     Command::new(alloc, "pclcheck")
         .about("A preflight checker for PCL 5 print jobs")
         .after_help(STATUSES)
@@ -54,6 +60,7 @@ pub fn read_words<'a, O: Outlet, E: Outlet>(
     requires stdout { IsFalse (O.failed stdout.old) }
     requires stderr { IsFalse (E.failed stderr.old) }
     ensures ok { OnOk result ((stdout.new ≡ stdout.old) × (stderr.new ≡ stderr.old)) }
+    ensures some { IfOk result NamesSome }
     ensures err { IfErr result IsEndOfWords }
     ensures help { result ≡ Err Status.Help → stderr.new ≡ stderr.old }
     ensures words { result ≡ Err Status.Words → stdout.new ≡ stdout.old }
@@ -68,10 +75,17 @@ pub fn read_words<'a, O: Outlet, E: Outlet>(
     let Some(found) = matches.subcommand_matches("check") else {
         return Err(Status::Words);
     };
-    let (Some(job), Some(profile)) = (found.get_str("JOB"), found.get_str("PROFILE")) else {
+    let (Some(job), Some(words)) = (found.get_str("JOB"), found.get_strs("PROFILE")) else {
         return Err(Status::Words);
     };
-    Ok(Request::Check { job, profile })
+    if words.is_empty() {
+        return Err(Status::Words);
+    }
+    let mut profiles = Vec::new(alloc);
+    if profiles.extend_from_slice(words).is_err() {
+        return Err(tell(Status::Stopped(Error::Memory), stderr));
+    }
+    Ok(Request::Check { job, profiles })
 }
 
 /// Writes why the words were refused, or the help that they asked for.

@@ -1,4 +1,4 @@
-//! A job that is read from a file.
+//! A file as a source of bytes.
 ghost use Rattle.std.specs.Prelude.{◌≡◌, None, false};
 ghost use Rattle.std.specs.Io.{ReadsAtMost};
 
@@ -7,21 +7,21 @@ use std::io::Read;
 use std::rt::Files;
 use std::{fs, io};
 
-/// A file that is opened at its first read, so that what is wrong with the other words is told
+/// A file that is opened at its first read, so that what is wrong with the words before it is told
 /// before it is touched.
 #[derive(Drop)]
-pub struct JobFile<'a, R: Files> {
+pub struct FileSource<'a, R: Files> {
     files: &'a R,
     path: &'a str,
     opened: Option<R::File>,
     has_failed: bool,
 }
 
-impl<'a, R: Files> JobFile<'a, R> {
-    pub fn new(files: &'a R, path: &'a str) -> JobFile<'a, R>
+impl<'a, R: Files> FileSource<'a, R> {
+    pub fn new(files: &'a R, path: &'a str) -> FileSource<'a, R>
         ensures { result.has_failed ≡ false }
     {
-        JobFile {
+        FileSource {
             files,
             path,
             opened: None,
@@ -44,10 +44,10 @@ impl<'a, R: Files> JobFile<'a, R> {
     }
 }
 
-impl<R: Files> Source for JobFile<'_, R> {
+impl<R: Files> Source for FileSource<'_, R> {
     ghost remaining = { λ _. None };
 
-    ghost failed = { λ job. job.has_failed };
+    ghost failed = { λ file. file.has_failed };
 
     fn read(&mut self, buf: &mut [u8]) -> io::Result<usize> {
         let result = self.read_opened(buf);

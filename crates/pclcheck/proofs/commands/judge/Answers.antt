@@ -1,0 +1,15 @@
+use Rattle.std.proofs.Common.{sym, subst}
+use Rattle.pclcheck.specs.Fleet.{DescribeFleet}
+use Rattle.pclcheck.proofs.FleetLemmas.{DescribeFleet-some}
+use Rattle.pclcheck.proofs.LeavesLemmas.{LeavesAtStop-more}
+use Rattle.pclcheck.proofs.commands.judge.Goals as goal
+
+pub write_verdict-requires-clause-some : goal.write_verdict-requires-clause-some
+write_verdict-requires-clause-some g c =
+    DescribeFleet-some _ c.args.profiles.now c.as_slice.result.now (subst (DescribeFleet _) (sym c.as_slice.ensures.value) c.in-Ok.ensures.fleet) c.requires.some
+
+pub returns-clause-line : goal.returns-clause-line
+returns-clause-line g c =
+    LeavesAtStop-more c.in-Err-write_verdict.error _ _ _ _
+    (λ verdict right. (c.as_slice.result.now, subst (DescribeFleet _) (sym c.as_slice.ensures.value) c.in-Ok.ensures.fleet, right))
+    c.in-Err-write_verdict.ensures.err
