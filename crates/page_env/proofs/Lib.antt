@@ -1,1 +1,7 @@
 mod Lines
+mod Examples
+mod Manners
+mod Feeds
+mod Margins
+mod Moving
+mod Filling

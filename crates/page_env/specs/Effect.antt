@@ -63,6 +63,19 @@ effect_of settings line =
     (unset_or (first_unset settings line.reads)
     (fails_or (first_finding line.after) (Goes line.state line.marks)))
 
+-- a line that reads these fields and changes nothing
+abbrev pub reading : State → List Field → Line
+reading s reads = record { before = []; reads = reads; after = []; state = s; marks = [] }
+
+-- a line that checks this and changes nothing
+abbrev pub checking : State → List Check → Line
+checking s checks = record { before = checks; reads = []; after = []; state = s; marks = [] }
+
+-- How a command is carried out: as one step; or by a step that changes nothing, the closing of a marked page and then a change.
+pub data Manner : Type 0 where
+  Step : Line → Manner
+  Closes : Line → (State → State) → Manner
+
 -- Reading these fields of an environment gives, under each panel, the value of this function of the panel, or the first
 -- of them that is unset.
 abbrev pub Reads : {T : Type 0} → Env → List Field → (Panel → T) → Result T Field → Type 0

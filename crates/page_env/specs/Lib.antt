@@ -3,4 +3,11 @@ pub mod Numbers
 pub mod Places
 pub mod Mark
 pub mod Effect
+pub mod PageControl
+pub mod VerticalMargins
+pub mod HorizontalMargins
+pub mod Moves
+pub mod Rectangles
+pub mod Controls
 pub mod Table
+pub mod Answers

@@ -21,7 +21,19 @@ pub enum Finding {
     /// 17: a mark outside the printable area.
     #[error("a mark outside the printable area")]
     NotPrintable,
+    /// 18: a push on a cursor stack that holds 20.
+    #[error("a push on a full cursor stack")]
+    StackFull,
+    /// 19: a pop from an empty cursor stack.
+    #[error("a pop from an empty cursor stack")]
+    StackEmpty,
     /// 30: a rectangle of no width or no height.
     #[error("a rectangle of no width or no height")]
     EmptyRectangle,
+    /// 31: a length that is not a whole number of ticks.
+    #[error("a length that is not a whole number of ticks")]
+    Inexact,
+    /// 32: a margin that the printer ignores.
+    #[error("a margin that the printer ignores")]
+    MarginIgnored,
 }

@@ -1,11 +1,13 @@
 ghost use Rattle.std.specs.Prelude.{◌≤◌, ◌*◌};
 
 use crate::cell::Cell;
+use crate::change::{PageChange, change_page};
+use crate::controls::{Feed, line_feed};
 use crate::defaults::{first_page, user_defaults, user_defaults_of};
 use crate::finding::Finding;
-use crate::layout::{PageChange, change_page};
 use crate::mark::{Mark, PageEnd};
-use crate::page::Page;
+use crate::page::{Page, VerticalPlace};
+use crate::stack::CursorStack;
 use crate::table::{Carried, carry_out, page_end};
 use device_profile::{Field, Panel, Profile, sample_a};
 use pcl_items::{Command, Number, Sign};
@@ -47,7 +49,10 @@ fn letter_page() -> Page {
 
 /// The ticks of the cursor's x, and of its y where that is not home.
 fn cursor_ticks(page: &Page) -> (i64, Option<i64>) {
-    (page.cursor.x.ticks(), page.cursor.y.map(Length::ticks))
+    (
+        page.cursor.x.ticks(),
+        page.cursor.y.map(VerticalPlace::ticks),
+    )
 }
 
 /// The finding for which a command is refused.
@@ -57,7 +62,7 @@ fn finding_of<A: Allocator>(
     command: Command,
     n: Number,
 ) -> Option<Finding> {
-    match carry_out(profile, page, command, n) {
+    match carry_out(profile, page, &mut CursorStack::new(), command, n) {
         Ok(_) => None,
         Err(finding) => Some(finding),
     }
@@ -71,7 +76,7 @@ fn page_after<A: Allocator>(
     command: Command,
     n: Number,
 ) -> Page {
-    match carry_out(profile, &page, command, n) {
+    match carry_out(profile, &page, &mut CursorStack::new(), command, n) {
         Ok(Carried::Stepped(next, None)) => next,
         other => {
             assert!(rt; false, "{command:?} came to {other:?}");
@@ -115,7 +120,13 @@ fn rectangle_has_its_box(rt: HostRuntime) -> Result<(), Fail> {
         page = page_after(&rt, &profile, page, command, whole(number));
     }
     // The logical page begins a quarter of an inch from the left edge of the paper, and at its top.
-    match carry_out(&profile, &page, Command::FillRectangle, whole(0))? {
+    match carry_out(
+        &profile,
+        &page,
+        &mut CursorStack::new(),
+        Command::FillRectangle,
+        whole(0),
+    )? {
         Carried::Stepped(filled, Some(Mark::Rect(bounds))) => {
             assert_eq!(rt; bounds.left.ticks(), 45_720_000_000);
             assert_eq!(rt; bounds.top.ticks(), 54_864_000_000);
@@ -164,5 +175,183 @@ fn fields_of_one_value_are_known(rt: HostRuntime) -> Result<(), Fail> {
         copies: 1,
     };
     assert_eq!(rt; page_end(&turned), Ok(end));
+    Ok(())
+}
+
+/// A value of so many ten-thousandths.
+fn fraction(ten_thousandths: u32) -> Number
+    requires { ten_thousandths ≤ 655350000 }
+{
+    Number {
+        sign: Sign::Absent,
+        ten_thousandths,
+    }
+}
+
+/// Where the right margin lies, if it was set.
+fn right_margin_ticks(page: &Page) -> Option<i64> {
+    match page.env.right_margin {
+        Some(edge) => Some(edge.ticks()),
+        None => None,
+    }
+}
+
+/// Where the top margin lies.
+fn top_margin_ticks(page: &Page) -> i64 {
+    page.env.top_margin.ticks()
+}
+
+#[test]
+fn ignored_margins_are_found(rt: HostRuntime) -> Result<(), Fail> {
+    let profile = sample_a(rt.alloc())?;
+    let start = letter_page();
+    // The logical page has 80 columns of a tenth of an inch.
+    let past = finding_of(&profile, &start, Command::RightMargin, whole(90));
+    assert!(rt; matches!(past, Some(Finding::MarginIgnored)));
+    let narrow = finding_of(&profile, &start, Command::LeftMargin, whole(80));
+    assert!(rt; matches!(narrow, Some(Finding::MarginIgnored)));
+    Ok(())
+}
+
+#[test]
+fn right_margin_is_behind_its_column(rt: HostRuntime) -> Result<(), Fail> {
+    let profile = sample_a(rt.alloc())?;
+    let right = page_after(
+        &rt,
+        &profile,
+        letter_page(),
+        Command::RightMargin,
+        whole(79),
+    );
+    assert_eq!(rt; right_margin_ticks(&right), Some(292_608_000_000));
+    Ok(())
+}
+
+#[test]
+fn left_margin_takes_the_cursor_along(rt: HostRuntime) -> Result<(), Fail> {
+    let profile = sample_a(rt.alloc())?;
+    let left = page_after(&rt, &profile, letter_page(), Command::LeftMargin, whole(79));
+    assert_eq!(rt; cursor_ticks(&left), (288_950_400_000, None));
+    Ok(())
+}
+
+#[test]
+fn top_margin_is_in_lines(rt: HostRuntime) -> Result<(), Fail> {
+    let profile = sample_a(rt.alloc())?;
+    // 12 lines of a sixth of an inch are two inches.
+    let top = page_after(&rt, &profile, letter_page(), Command::TopMargin, whole(12));
+    assert_eq!(rt; top_margin_ticks(&top), 73_152_000_000);
+    Ok(())
+}
+
+#[test]
+fn no_skip_has_the_default_top_margin(rt: HostRuntime) -> Result<(), Fail> {
+    let profile = sample_a(rt.alloc())?;
+    let top = page_after(&rt, &profile, letter_page(), Command::TopMargin, whole(12));
+    let skip = page_after(&rt, &profile, top, Command::PerforationSkip, whole(0));
+    assert_eq!(rt; top_margin_ticks(&skip), 18_288_000_000);
+    Ok(())
+}
+
+#[test]
+fn units_and_columns_are_exact(rt: HostRuntime) -> Result<(), Fail> {
+    let profile = sample_a(rt.alloc())?;
+    let start = letter_page();
+    let fine = page_after(&rt, &profile, start, Command::UnitOfMeasure, whole(600));
+    let inch = page_after(&rt, &profile, fine, Command::HorizontalDots, whole(600));
+    assert_eq!(rt; cursor_ticks(&inch), (36_576_000_000, None));
+    let odd = finding_of(&profile, &start, Command::UnitOfMeasure, whole(301));
+    assert!(rt; matches!(odd, Some(Finding::BadValue)));
+    let points = page_after(
+        &rt,
+        &profile,
+        start,
+        Command::HorizontalDecipoints,
+        whole(720),
+    );
+    assert_eq!(rt; cursor_ticks(&points), (36_576_000_000, None));
+    let columns = page_after(&rt, &profile, start, Command::Column, whole(10));
+    assert_eq!(rt; cursor_ticks(&columns), (36_576_000_000, None));
+    let narrow = page_after(
+        &rt,
+        &profile,
+        start,
+        Command::HorizontalMotionIndex,
+        fraction(1),
+    );
+    let part = finding_of(&profile, &narrow, Command::Column, fraction(1));
+    assert!(rt; matches!(part, Some(Finding::Inexact)));
+    Ok(())
+}
+
+/// The page after so many line feeds, or the last answer before that made no step.
+fn fed<A: Allocator>(
+    profile: &Profile<A>,
+    page: Page,
+    lines: u32,
+) -> Result<Page, Result<Carried, Finding>> {
+    let mut page = page;
+    for _ in 0..lines {
+        match line_feed(profile, &page, Feed::Line) {
+            Ok(Carried::Stepped(next, None)) => page = next,
+            other => return Err(other),
+        }
+    }
+    Ok(page)
+}
+
+#[test]
+fn lines_are_fed_to_the_bottom(rt: HostRuntime) -> Result<(), Fail> {
+    let profile = sample_a(rt.alloc())?;
+    let start = letter_page();
+    // 60 lines lie above the bottom margin.
+    assert!(rt; matches!(fed(&profile, start, 59), Ok(_)));
+    let past = fed(&profile, start, 60);
+    assert!(rt; matches!(past, Err(Ok(Carried::Closing(PageChange::Home)))));
+    // Where the perforation is not skipped, lines go on to the foot of the page.
+    let on = page_after(&rt, &profile, start, Command::PerforationSkip, whole(0));
+    assert!(rt; matches!(fed(&profile, on, 62), Ok(_)));
+    assert!(rt; matches!(fed(&profile, on, 63), Err(Err(Finding::OffPage))));
+    Ok(())
+}
+
+/// The page after a push or a pop, or its finding.
+fn stacked<A: Allocator>(
+    profile: &Profile<A>,
+    page: &Page,
+    stack: &mut CursorStack,
+    value: u32,
+) -> Result<Page, Option<Finding>>
+    requires { value ≤ 65535 }
+{
+    match carry_out(profile, page, stack, Command::CursorStack, whole(value)) {
+        Ok(Carried::Stepped(next, None)) => Ok(next),
+        Ok(_) => Err(None),
+        Err(finding) => Err(Some(finding)),
+    }
+}
+
+#[test]
+fn stack_holds_twenty(rt: HostRuntime) -> Result<(), Fail> {
+    let profile = sample_a(rt.alloc())?;
+    let mut page = letter_page();
+    let mut stack = CursorStack::new();
+    let empty = stacked(&profile, &page, &mut stack, 1);
+    assert!(rt; matches!(empty, Err(Some(Finding::StackEmpty))));
+    for _ in 0..20 {
+        match stacked(&profile, &page, &mut stack, 0) {
+            Ok(next) => page = next,
+            Err(finding) => assert!(rt; false, "the push came to {finding:?}"),
+        }
+    }
+    // The home of the first push has become a number.
+    assert_eq!(rt; cursor_ticks(&page), (0, Some(22_860_000_000)));
+    let full = stacked(&profile, &page, &mut stack, 0);
+    assert!(rt; matches!(full, Err(Some(Finding::StackFull))));
+    page = page_after(&rt, &profile, page, Command::HorizontalDots, whole(300));
+    match stacked(&profile, &page, &mut stack, 1) {
+        Ok(back) => assert_eq!(rt; cursor_ticks(&back), (0, Some(22_860_000_000))),
+        Err(finding) => assert!(rt; false, "the pop came to {finding:?}"),
+    }
     Ok(())
 }
