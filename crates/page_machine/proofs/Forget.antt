@@ -1,8 +1,8 @@
 -- A run in which no unset field comes in is the run where nothing is watched.
-use Rattle.std.proofs.Common.{◌≡◌, ℕ, Bool, true, false, cond, List, [], ◌∷◌, refl, ap, ◌∙◌, Option, Some, None}
+use Rattle.std.proofs.Common.{◌≡◌, ◌==◌, ℕ, Bool, true, false, cond, List, [], ◌∷◌, refl, ap, ◌∙◌, Option, Some, None}
 use Rattle.pcl_items.specs.declared.command.Command.{Command}
-use Rattle.pcl_items.specs.declared.command.Command.TheVariants.{PageSize, Orientation as SetOrientation, HorizontalDots, VerticalDots, RectangleWidth, RectangleHeight, FillRectangle}
-use Rattle.pcl_items.specs.Items.{Entry, Reset, FormFeed, Parameterized, Placed}
+use Rattle.pcl_items.specs.declared.command.Command.TheVariants.{LeftMargin, RightMargin, Column, Row, HorizontalDecipoints, VerticalDecipoints, CursorStack, HorizontalMotionIndex, LineTermination, PageSize, Orientation as SetOrientation, Copies as SetCopies, Sides as SetSides, Source, VerticalMotionIndex, LineSpacing, TopMargin, TextLength, PerforationSkip, UnitOfMeasure, RectangleWidth, RectangleHeight, FillRectangle, HorizontalDots, VerticalDots}
+use Rattle.pcl_items.specs.Items.{Entry, CarriageReturn, LineFeed, FormFeed, Reset, ClearMargins, HalfLineFeed, Parameterized, Placed}
 use Rattle.pcl_items.specs.Reading.{Reading, Whole, Stopped}
 use Rattle.pcl_items.specs.Value.{Amount}
 use Rattle.device_profile.specs.declared.field.Field.{Field}
@@ -10,13 +10,23 @@ use Rattle.device_profile.specs.declared.field.Field.TheVariants.{Size, Orientat
 use Rattle.device_profile.specs.declared.panel.Panel.{Panel}
 use Rattle.device_profile.specs.Printer.{Printer}
 use Rattle.page_env.specs.declared.finding.Finding.{Finding}
-use Rattle.page_env.specs.Effect.{Check, first_finding, is_unset, first_unset, Line, Goes, fails_or}
+use Rattle.page_env.specs.Effect.{Check, first_finding, is_unset, first_unset, Line, Goes, fails_or, checking, reading, Manner, Step, Closes}
 use Rattle.page_env.specs.Effect as effect
 use Rattle.page_env.specs.Mark.{Shape}
-use Rattle.page_env.specs.Settings.{Flags, Settings, State, start_state, user_defaults}
-use Rattle.page_env.specs.Table.{Closes, manner_of, size_checks, set_size, orientation_checks, set_orientation, move_x, move_y, set_rectangle_width, set_rectangle_height, fill_rectangle}
+use Rattle.page_env.specs.Settings.{Flags, Settings, State, start_state, user_defaults, unwatched}
+use Rattle.page_env.specs.PageControl.{set_copies, sides_checks, set_sides, source_checks, set_source, size_checks, set_size, orientation_checks, set_orientation}
+use Rattle.page_env.specs.VerticalMargins.{set_vmi, set_line_spacing, set_perforation_skip, set_top_margin, set_text_length}
+use Rattle.page_env.specs.HorizontalMargins.{set_units, set_hmi, set_line_termination, set_left_margin, set_right_margin}
+use Rattle.page_env.specs.Moves.{move_x, move_y, move_x_decipoints, move_y_decipoints, move_columns, move_rows, push_cursor, pop_cursor, popped, use_stack}
+use Rattle.page_env.specs.Numbers.{whole_of}
+use Rattle.page_env.specs.Controls.{carriage_return, at_home, fed_to, feed_reads, is_past_bottom, feed_down}
+use Rattle.page_env.specs.declared.controls.Feed.{Feed}
+use Rattle.page_env.specs.declared.controls.Feed.TheVariants.{Line as WholeLine, HalfLine}
+use Rattle.page_env.specs.declared.page.Cursor.{Cursor}
+use Rattle.page_env.specs.Rectangles.{set_rectangle_width, set_rectangle_height, fill_rectangle}
+use Rattle.page_env.specs.Table.{manner_of}
 use Rattle.page_machine.specs.Event.{Event}
-use Rattle.page_machine.specs.Run.{Peaks, Ran, ran, after, onward, followed_by, finding_or, unset_or, run_of_effect, step_run, Ending, Done, Fault, closing_reads, ended, page_close, marked_close, command_run, reset_run, item_run}
+use Rattle.page_machine.specs.Run.{Peaks, Ran, ran, after, onward, followed_by, unset_or, run_of_effect, step_run, Ending, Done, Fault, closing_reads, ended, page_close, marked_close, manner_run, feed_run, reset_run, item_run}
 use Rattle.page_machine.specs.Job.{JobRan, at_end, after_events, placed, at_place, items_run, end_run, reading_run}
 use Rattle.page_machine.specs.Laws.{plain_settings, plain_state, plain_outcome, IsSetFinding, IsSet, RunsPlainly}
 
@@ -84,10 +94,6 @@ followed_plainly r r' next next' p q h =
     ap (λ x. followed_by x next') (p (onward_set r.events r.peaks r.ending next h))
     ∙ onward_plainly r.events r.peaks r.ending next next' q h
 
-finding_plainly : (o : Option Finding) (r r' : Ran) → Plainly r r' → Plainly (finding_or o r) (finding_or o r')
-finding_plainly (Some finding) r r' p h = refl
-finding_plainly None r r' p h = p h
-
 unset_plainly : (o : Option Field) (r r' : Ran) → Plainly r r' → Plainly (unset_or o r) r'
 unset_plainly (Some field) r r' p h = absurd h
 unset_plainly None r r' p h = p h
@@ -111,31 +117,99 @@ module _ (printer : Printer) (defaults : Settings) (close close' : State → Ran
   marked_plainly s =
       cond_plainly s.marked (close s) (close' (plain_state s)) (ran [] (Done s)) (ran [] (Done (plain_state s))) (closes s) (λ h. refl)
 
-  -- a command that closes a marked page
-  closing_plainly : (s : State) (checks : List Check) (act act' : State → State) → ((t : State) → act' (plain_state t) ≡ plain_state (act t)) → Plainly (command_run close s (Closes checks act)) (command_run close' (plain_state s) (Closes checks act'))
-  closing_plainly s checks act act' e =
-      finding_plainly (first_finding checks) (followed_by (marked_close close s) (λ t. ran [] (Done (act t)))) (followed_by (marked_close close' (plain_state s)) (λ t. ran [] (Done (act' t))))
-      (followed_plainly (marked_close close s) (marked_close close' (plain_state s)) (λ t. ran [] (Done (act t))) (λ t. ran [] (Done (act' t))) (marked_plainly s)
-      (λ t h. ap (λ u. ran [] (Done u)) (e t)))
+  -- a command or a feed that closes a marked page
+  closing_plainly : (s : State) (line line' : Line) (act act' : State → State) → Plainly (step_run s line) (step_run (plain_state s) line') → ((t : State) → act' (plain_state t) ≡ plain_state (act t)) → Plainly (manner_run close s (Closes line act)) (manner_run close' (plain_state s) (Closes line' act'))
+  closing_plainly s line line' act act' p e =
+      followed_plainly (step_run s line) (step_run (plain_state s) line') (λ t. followed_by (marked_close close t) (λ u. ran [] (Done (act u)))) (λ t. followed_by (marked_close close' t) (λ u. ran [] (Done (act' u)))) p
+      (λ t. followed_plainly (marked_close close t) (marked_close close' (plain_state t)) (λ u. ran [] (Done (act u))) (λ u. ran [] (Done (act' u))) (marked_plainly t)
+      (λ u h. ap (λ v. ran [] (Done v)) (e u)))
 
-  command_plainly : (command : Command) (n : Amount) (s : State) → Plainly (command_run close s (manner_of printer defaults s command n)) (command_run close' (plain_state s) (manner_of printer (plain_settings defaults) (plain_state s) command n))
-  command_plainly PageSize n s = closing_plainly s (size_checks printer n) (λ t. set_size t n) (λ t. set_size t n) (λ t. refl)
+  checks_plainly : (s : State) (checks : List Check) (act act' : State → State) → ((t : State) → act' (plain_state t) ≡ plain_state (act t)) → Plainly (manner_run close s (Closes (checking s checks) act)) (manner_run close' (plain_state s) (Closes (checking (plain_state s) checks) act'))
+  checks_plainly s checks act act' e =
+      closing_plainly s (checking s checks) (checking (plain_state s) checks) act act' (step_plainly s (checking s checks) (checking (plain_state s) checks) refl refl refl refl) e
+
+  -- one of two manners
+  either_plainly : (b : Bool) (s : State) (m n m' n' : Manner) → Plainly (manner_run close s m) (manner_run close' (plain_state s) m') → Plainly (manner_run close s n) (manner_run close' (plain_state s) n') → Plainly (manner_run close s (cond b m n)) (manner_run close' (plain_state s) (cond b m' n'))
+  either_plainly true s m n m' n' p q = p
+  either_plainly false s m n m' n' p q = q
+
+  feed_plainly : (feed : Feed) (s : State) → Plainly (feed_run printer close feed s) (feed_run printer close' feed (plain_state s))
+  feed_plainly feed s =
+      either_plainly (is_past_bottom printer s (fed_to s feed)) s (Closes (reading s feed_reads) at_home) (Step (feed_down printer s (fed_to s feed))) (Closes (reading (plain_state s) feed_reads) at_home) (Step (feed_down printer (plain_state s) (fed_to s feed)))
+      (closing_plainly s (reading s feed_reads) (reading (plain_state s) feed_reads) at_home at_home (step_plainly s (reading s feed_reads) (reading (plain_state s) feed_reads) refl refl refl refl) (λ t. refl))
+      (step_plainly s (feed_down printer s (fed_to s feed)) (feed_down printer (plain_state s) (fed_to s feed)) refl refl refl refl)
+
+  same_flag : (b : Bool) → cond b false false ≡ false
+  same_flag true = refl
+  same_flag false = refl
+
+  source-plain : (s : State) (n : Amount) → set_source (plain_state s) n ≡ plain_state (set_source s n)
+  source-plain s n =
+      let t : State = plain_state (set_source s n) in
+      ap (λ b. record t { settings = record t.settings { unset = record unwatched { tray = b } } }) (same_flag (whole_of n == 0))
+
+  popped-plain : (s : State) (stack : List Cursor) → popped (plain_state s) stack ≡ plain_state (popped s stack)
+  popped-plain s [] = refl
+  popped-plain s (cursor ∷ stack) = refl
+
+  -- one of two lines
+  lines_plainly : (b : Bool) (s : State) (l m l' m' : Line) → Plainly (step_run s l) (step_run (plain_state s) l') → Plainly (step_run s m) (step_run (plain_state s) m') → Plainly (step_run s (cond b l m)) (step_run (plain_state s) (cond b l' m'))
+  lines_plainly true s l m l' m' p q = p
+  lines_plainly false s l m l' m' p q = q
+
+  stack_plainly : (n : Amount) (s : State) → Plainly (step_run s (use_stack s n)) (step_run (plain_state s) (use_stack (plain_state s) n))
+  stack_plainly n s =
+      lines_plainly (whole_of n == 0) s (push_cursor s n) (pop_cursor s n) (push_cursor (plain_state s) n) (pop_cursor (plain_state s) n)
+      (step_plainly s (push_cursor s n) (push_cursor (plain_state s) n) refl refl refl refl)
+      (step_plainly s (pop_cursor s n) (pop_cursor (plain_state s) n) refl refl refl (popped-plain s s.stack))
+
+  command_plainly : (command : Command) (n : Amount) (s : State) → Plainly (manner_run close s (manner_of printer defaults s command n)) (manner_run close' (plain_state s) (manner_of printer (plain_settings defaults) (plain_state s) command n))
+  command_plainly SetCopies n s = step_plainly s (set_copies s n) (set_copies (plain_state s) n) refl refl refl refl
+  command_plainly SetSides n s = checks_plainly s (sides_checks printer n) (λ t. set_sides t n) (λ t. set_sides t n) (λ t. refl)
+  command_plainly Source n s = checks_plainly s (source_checks printer n) (λ t. set_source t n) (λ t. set_source t n) (λ t. source-plain t n)
+  command_plainly PageSize n s = checks_plainly s (size_checks printer n) (λ t. set_size t n) (λ t. set_size t n) (λ t. refl)
   command_plainly SetOrientation n s =
-      closing_plainly s (orientation_checks printer n) (λ t. set_orientation defaults t n) (λ t. set_orientation (plain_settings defaults) t n) (λ t. refl)
+      checks_plainly s (orientation_checks printer n) (λ t. set_orientation defaults t n) (λ t. set_orientation (plain_settings defaults) t n) (λ t. refl)
+  command_plainly VerticalMotionIndex n s = step_plainly s (set_vmi s n) (set_vmi (plain_state s) n) refl refl refl refl
+  command_plainly LineSpacing n s = step_plainly s (set_line_spacing s n) (set_line_spacing (plain_state s) n) refl refl refl refl
+  command_plainly TopMargin n s = step_plainly s (set_top_margin printer s n) (set_top_margin printer (plain_state s) n) refl refl refl refl
+  command_plainly TextLength n s = step_plainly s (set_text_length printer s n) (set_text_length printer (plain_state s) n) refl refl refl refl
+  command_plainly PerforationSkip n s = step_plainly s (set_perforation_skip s n) (set_perforation_skip (plain_state s) n) refl refl refl refl
+  command_plainly UnitOfMeasure n s = step_plainly s (set_units s n) (set_units (plain_state s) n) refl refl refl refl
+  command_plainly HorizontalMotionIndex n s = step_plainly s (set_hmi s n) (set_hmi (plain_state s) n) refl refl refl refl
+  command_plainly LineTermination n s = step_plainly s (set_line_termination s n) (set_line_termination (plain_state s) n) refl refl refl refl
+  command_plainly LeftMargin n s = step_plainly s (set_left_margin printer s n) (set_left_margin printer (plain_state s) n) refl refl refl refl
+  command_plainly RightMargin n s = step_plainly s (set_right_margin printer s n) (set_right_margin printer (plain_state s) n) refl refl refl refl
+  command_plainly Column n s = step_plainly s (move_columns printer s n) (move_columns printer (plain_state s) n) refl refl refl refl
+  command_plainly Row n s = step_plainly s (move_rows printer s n) (move_rows printer (plain_state s) n) refl refl refl refl
+  command_plainly HorizontalDecipoints n s = step_plainly s (move_x_decipoints printer s n) (move_x_decipoints printer (plain_state s) n) refl refl refl refl
+  command_plainly VerticalDecipoints n s = step_plainly s (move_y_decipoints printer s n) (move_y_decipoints printer (plain_state s) n) refl refl refl refl
   command_plainly HorizontalDots n s = step_plainly s (move_x printer s n) (move_x printer (plain_state s) n) refl refl refl refl
   command_plainly VerticalDots n s = step_plainly s (move_y printer s n) (move_y printer (plain_state s) n) refl refl refl refl
   command_plainly RectangleWidth n s = step_plainly s (set_rectangle_width s n) (set_rectangle_width (plain_state s) n) refl refl refl refl
   command_plainly RectangleHeight n s = step_plainly s (set_rectangle_height s n) (set_rectangle_height (plain_state s) n) refl refl refl refl
   command_plainly FillRectangle n s = step_plainly s (fill_rectangle printer s n) (fill_rectangle printer (plain_state s) n) refl refl refl refl
+  command_plainly CursorStack n s = stack_plainly n s
 
   reset_plainly : (s : State) → Plainly (reset_run defaults close s) (reset_run (plain_settings defaults) close' (plain_state s))
   reset_plainly s =
       followed_plainly (marked_close close s) (marked_close close' (plain_state s)) (λ t. ran [] (Done (start_state defaults))) (λ t. ran [] (Done (start_state (plain_settings defaults)))) (marked_plainly s)
       (λ t h. refl)
 
+  -- a return, or none, and then a part
+  before_plainly : (next next' : State → Ran) → ((t : State) → Plainly (next t) (next' (plain_state t))) → (b : Bool) (s : State) → Plainly (next (cond b (carriage_return s) s)) (next' (cond b (carriage_return (plain_state s)) (plain_state s)))
+  before_plainly next next' p true s = p (carriage_return s)
+  before_plainly next next' p false s = p s
+
   item_plainly : (item : Entry) (s : State) → Plainly (item_run printer defaults close item s) (item_run printer (plain_settings defaults) close' item (plain_state s))
+  item_plainly CarriageReturn s =
+      cond_plainly s.settings.line_termination.feeds_at_return (feed_run printer close WholeLine (carriage_return s)) (feed_run printer close' WholeLine (carriage_return (plain_state s))) (ran [] (Done (carriage_return s))) (ran [] (Done (carriage_return (plain_state s))))
+      (feed_plainly WholeLine (carriage_return s)) (λ h. refl)
+  item_plainly LineFeed s = before_plainly (λ t. feed_run printer close WholeLine t) (λ t. feed_run printer close' WholeLine t) (feed_plainly WholeLine) s.settings.line_termination.returns_at_feed s
+  item_plainly FormFeed s = before_plainly close close' closes s.settings.line_termination.returns_at_feed s
   item_plainly Reset s = reset_plainly s
-  item_plainly FormFeed s = closes s
+  item_plainly ClearMargins s = λ h. refl
+  item_plainly HalfLineFeed s = feed_plainly HalfLine s
   item_plainly (Parameterized command n) s = command_plainly command n s
 
 -- ---- jobs

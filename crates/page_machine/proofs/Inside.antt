@@ -1,9 +1,9 @@
 -- Each mark of a run lies inside its page, and a whole job closes its last page.
-use Rattle.std.proofs.Common.{◌≡◌, ℕ, Bool, true, false, cond, not, List, [], ◌∷◌, ◌++◌, refl, sym, ◌∙◌, subst, Option, Some, None}
+use Rattle.std.proofs.Common.{◌≡◌, ◌==◌, ℕ, Bool, true, false, cond, not, List, [], ◌∷◌, ◌++◌, refl, sym, ◌∙◌, subst, Option, Some, None}
 use Rattle.std.specs.List.{AllByRecursion}
 use Rattle.pcl_items.specs.declared.command.Command.{Command}
-use Rattle.pcl_items.specs.declared.command.Command.TheVariants.{PageSize, Orientation as SetOrientation, HorizontalDots, VerticalDots, RectangleWidth, RectangleHeight, FillRectangle}
-use Rattle.pcl_items.specs.Items.{Entry, Reset, FormFeed, Parameterized, Placed}
+use Rattle.pcl_items.specs.declared.command.Command.TheVariants.{LeftMargin, RightMargin, Column, Row, HorizontalDecipoints, VerticalDecipoints, CursorStack, HorizontalMotionIndex, LineTermination, PageSize, Orientation as SetOrientation, Copies as SetCopies, Sides as SetSides, Source, VerticalMotionIndex, LineSpacing, TopMargin, TextLength, PerforationSkip, UnitOfMeasure, RectangleWidth, RectangleHeight, FillRectangle, HorizontalDots, VerticalDots}
+use Rattle.pcl_items.specs.Items.{Entry, CarriageReturn, LineFeed, FormFeed, Reset, ClearMargins, HalfLineFeed, Parameterized, Placed}
 use Rattle.pcl_items.specs.Reading.{Reading, Whole, Stopped}
 use Rattle.pcl_items.specs.Value.{Amount}
 use Rattle.device_profile.specs.declared.field.Field.{Field}
@@ -12,16 +12,26 @@ use Rattle.device_profile.specs.declared.panel.Panel.{Panel}
 use Rattle.device_profile.specs.Printer.{Printer}
 use Rattle.page_env.specs.declared.finding.Finding.{Finding}
 use Rattle.page_env.specs.declared.finding.Finding.TheVariants.{NotPrintable}
-use Rattle.page_env.specs.Effect.{Check, first_finding, first_unset, Line, Goes, fails_or}
+use Rattle.page_env.specs.Effect.{Check, first_finding, first_unset, Line, Goes, fails_or, checking, reading, Manner, Step, Closes}
 use Rattle.page_env.specs.Effect as effect
 use Rattle.page_env.specs.declared.mark.Bounds.{Bounds}
 use Rattle.page_env.specs.Mark.{Shape, Rectangle, bounds_of, is_inside}
 use Rattle.page_env.specs.Places.{geometry_of, vertical_place}
 use Rattle.page_env.specs.Settings.{Flags, Settings, State, start_state, user_defaults}
-use Rattle.page_env.specs.Table.{Closes, manner_of, size_checks, set_size, orientation_checks, set_orientation, move_x, move_y, set_rectangle_width, set_rectangle_height, rectangle_at, fill_rectangle}
+use Rattle.page_env.specs.PageControl.{set_copies, sides_checks, set_sides, source_checks, set_source, size_checks, set_size, orientation_checks, set_orientation}
+use Rattle.page_env.specs.VerticalMargins.{set_vmi, set_line_spacing, set_perforation_skip, set_top_margin, set_text_length}
+use Rattle.page_env.specs.HorizontalMargins.{set_units, set_hmi, set_line_termination, set_left_margin, set_right_margin, clear_margins}
+use Rattle.page_env.specs.Moves.{move_x, move_y, move_x_decipoints, move_y_decipoints, move_columns, move_rows, push_cursor, pop_cursor, popped, use_stack}
+use Rattle.page_env.specs.Numbers.{whole_of}
+use Rattle.page_env.specs.Controls.{carriage_return, at_home, fed_to, feed_reads, is_past_bottom, feed_down}
+use Rattle.page_env.specs.declared.controls.Feed.{Feed}
+use Rattle.page_env.specs.declared.controls.Feed.TheVariants.{Line as WholeLine, HalfLine}
+use Rattle.page_env.specs.declared.page.Cursor.{Cursor}
+use Rattle.page_env.specs.Rectangles.{set_rectangle_width, set_rectangle_height, rectangle_at, fill_rectangle}
+use Rattle.page_env.specs.Table.{manner_of}
 use Rattle.page_machine.specs.Event.{Event, Marked, Ended}
 use Rattle.page_machine.specs.Pages.{pages_from, marks_left, IsPrintable}
-use Rattle.page_machine.specs.Run.{Peaks, Ran, ran, onward, followed_by, finding_or, unset_or, run_of_effect, step_run, Ending, Done, Fault, closing_reads, ended, page_close, marked_close, command_run, reset_run, item_run}
+use Rattle.page_machine.specs.Run.{Peaks, Ran, ran, onward, followed_by, unset_or, run_of_effect, step_run, Ending, Done, Fault, closing_reads, ended, page_close, marked_close, manner_run, feed_run, before_feed, reset_run, item_run}
 use Rattle.page_machine.specs.Job.{Outcome, Ends, StopsAt, JobRan, at_end, placed, items_run, end_run, reading_run}
 use Rattle.page_machine.specs.Laws.{PrintsInside, ClosesItsPages}
 
@@ -94,10 +104,6 @@ module _ (printer : Printer) where
   weaker P Q marks events (Done s) w h = (h.0, h.1, w s h.2)
   weaker P Q marks events (Fault finding) w h = h
 
-  finding_holds : (P : State → Type 0) (marks : List Shape) (o : Option Finding) (r : Ran) → Runs P marks r → Runs P marks (finding_or o r)
-  finding_holds P marks (Some finding) r h = tt
-  finding_holds P marks None r h = h
-
   unset_holds : (P : State → Type 0) (marks : List Shape) (o : Option Field) (r : Ran) → Runs P marks r → Runs P marks (unset_or o r)
   unset_holds P marks (Some field) r h = tt
   unset_holds P marks None r h = h
@@ -137,11 +143,6 @@ module _ (printer : Printer) where
         onward_holds IsUnmarked P marks (marked_close close s).events (marked_close close s).peaks (marked_close close s).ending (λ t. ran [] (Done (act t))) (marked_holds marks s p)
         (λ t ms q closed. (tt, subst (λ x. Pending x (act t)) (sym (q.unmarked closed)) (none_pending (act t)), k t closed))
 
-    closing_holds : (marks : List Shape) (s : State) (checks : List Check) (act : State → State) → Pending marks s → Runs Any marks (command_run close s (Closes checks act))
-    closing_holds marks s checks act p =
-        finding_holds Any marks (first_finding checks) (followed_by (marked_close close s) (λ t. ran [] (Done (act t))))
-        (closed_holds Any marks s act (λ t e. tt) p)
-
     quiet : (marks : List Shape) (s : State) (line : Line) → line.marks ≡ [] → line.state.marked ≡ s.marked → geometry_of printer line.state ≡ geometry_of printer s → Pending marks s → Runs Any marks (step_run s line)
     quiet marks s line none m g p =
         subst (λ ms. Runs Any marks (run_of_effect (fails_or (first_finding line.before) (effect.unset_or (first_unset s.settings line.reads) (fails_or (first_finding line.after) (Goes line.state ms)))))) (sym none)
@@ -158,22 +159,97 @@ module _ (printer : Printer) where
         mark_parts marks (first_finding line.before) (first_unset s.settings line.reads) (is_inside g box) line.state (Rectangle box)
         (λ i. record { unmarked = marked_has (marks ++ Rectangle box ∷ []); inside = AreInside-append g marks (Rectangle box) p.inside i })
 
-    command_holds : (command : Command) (n : Amount) (marks : List Shape) (s : State) → Pending marks s → Runs Any marks (command_run close s (manner_of printer defaults s command n))
-    command_holds PageSize n marks s p = closing_holds marks s (size_checks printer n) (λ t. set_size t n) p
-    command_holds SetOrientation n marks s p = closing_holds marks s (orientation_checks printer n) (λ t. set_orientation defaults t n) p
+    -- a command or a feed that closes a marked page
+    closing_holds : (marks : List Shape) (s : State) (line : Line) (act : State → State) → Runs Any marks (step_run s line) → Runs Any marks (manner_run close s (Closes line act))
+    closing_holds marks s line act h =
+        let next : State → Ran = λ t. followed_by (marked_close close t) (λ u. ran [] (Done (act u))) in
+        onward_holds Any Any marks (step_run s line).events (step_run s line).peaks (step_run s line).ending next h
+        (λ t ms p any. closed_holds Any ms t act (λ u e. tt) p)
+
+    checks_hold : (marks : List Shape) (s : State) (checks : List Check) (act : State → State) → Pending marks s → Runs Any marks (manner_run close s (Closes (checking s checks) act))
+    checks_hold marks s checks act p = closing_holds marks s (checking s checks) act (quiet marks s (checking s checks) refl refl refl p)
+
+    -- one of two manners
+    either_holds : (b : Bool) (marks : List Shape) (s : State) (m n : Manner) → Runs Any marks (manner_run close s m) → Runs Any marks (manner_run close s n) → Runs Any marks (manner_run close s (cond b m n))
+    either_holds true marks s m n h k = h
+    either_holds false marks s m n h k = k
+
+    feed_holds : (feed : Feed) (marks : List Shape) (s : State) → Pending marks s → Runs Any marks (feed_run printer close feed s)
+    feed_holds feed marks s p =
+        either_holds (is_past_bottom printer s (fed_to s feed)) marks s (Closes (reading s feed_reads) at_home) (Step (feed_down printer s (fed_to s feed)))
+        (closing_holds marks s (reading s feed_reads) at_home (quiet marks s (reading s feed_reads) refl refl refl p))
+        (quiet marks s (feed_down printer s (fed_to s feed)) refl refl refl p)
+
+    -- one of two lines
+    lines_hold : (b : Bool) (marks : List Shape) (s : State) (l m : Line) → Runs Any marks (step_run s l) → Runs Any marks (step_run s m) → Runs Any marks (step_run s (cond b l m))
+    lines_hold true marks s l m h k = h
+    lines_hold false marks s l m h k = k
+
+    popped-marked : (s : State) (stack : List Cursor) → (popped s stack).marked ≡ s.marked
+    popped-marked s [] = refl
+    popped-marked s (cursor ∷ stack) = refl
+
+    popped-geometry : (s : State) (stack : List Cursor) → geometry_of printer (popped s stack) ≡ geometry_of printer s
+    popped-geometry s [] = refl
+    popped-geometry s (cursor ∷ stack) = refl
+
+    stack_holds : (n : Amount) (marks : List Shape) (s : State) → Pending marks s → Runs Any marks (step_run s (use_stack s n))
+    stack_holds n marks s p =
+        lines_hold (whole_of n == 0) marks s (push_cursor s n) (pop_cursor s n) (quiet marks s (push_cursor s n) refl refl refl p)
+        (quiet marks s (pop_cursor s n) refl (popped-marked s s.stack) (popped-geometry s s.stack) p)
+
+    command_holds : (command : Command) (n : Amount) (marks : List Shape) (s : State) → Pending marks s → Runs Any marks (manner_run close s (manner_of printer defaults s command n))
+    command_holds SetSides n marks s p = checks_hold marks s (sides_checks printer n) (λ t. set_sides t n) p
+    command_holds Source n marks s p = checks_hold marks s (source_checks printer n) (λ t. set_source t n) p
+    command_holds PageSize n marks s p = checks_hold marks s (size_checks printer n) (λ t. set_size t n) p
+    command_holds SetOrientation n marks s p = checks_hold marks s (orientation_checks printer n) (λ t. set_orientation defaults t n) p
+    command_holds SetCopies n marks s p = quiet marks s (set_copies s n) refl refl refl p
+    command_holds VerticalMotionIndex n marks s p = quiet marks s (set_vmi s n) refl refl refl p
+    command_holds LineSpacing n marks s p = quiet marks s (set_line_spacing s n) refl refl refl p
+    command_holds TopMargin n marks s p = quiet marks s (set_top_margin printer s n) refl refl refl p
+    command_holds TextLength n marks s p = quiet marks s (set_text_length printer s n) refl refl refl p
+    command_holds PerforationSkip n marks s p = quiet marks s (set_perforation_skip s n) refl refl refl p
+    command_holds UnitOfMeasure n marks s p = quiet marks s (set_units s n) refl refl refl p
+    command_holds HorizontalMotionIndex n marks s p = quiet marks s (set_hmi s n) refl refl refl p
+    command_holds LineTermination n marks s p = quiet marks s (set_line_termination s n) refl refl refl p
+    command_holds LeftMargin n marks s p = quiet marks s (set_left_margin printer s n) refl refl refl p
+    command_holds RightMargin n marks s p = quiet marks s (set_right_margin printer s n) refl refl refl p
+    command_holds Column n marks s p = quiet marks s (move_columns printer s n) refl refl refl p
+    command_holds Row n marks s p = quiet marks s (move_rows printer s n) refl refl refl p
+    command_holds HorizontalDecipoints n marks s p = quiet marks s (move_x_decipoints printer s n) refl refl refl p
+    command_holds VerticalDecipoints n marks s p = quiet marks s (move_y_decipoints printer s n) refl refl refl p
     command_holds HorizontalDots n marks s p = quiet marks s (move_x printer s n) refl refl refl p
     command_holds VerticalDots n marks s p = quiet marks s (move_y printer s n) refl refl refl p
     command_holds RectangleWidth n marks s p = quiet marks s (set_rectangle_width s n) refl refl refl p
     command_holds RectangleHeight n marks s p = quiet marks s (set_rectangle_height s n) refl refl refl p
+    command_holds CursorStack n marks s p = stack_holds n marks s p
     command_holds FillRectangle n marks s p = fill_holds marks s n p
 
     reset_holds : (marks : List Shape) (s : State) → Pending marks s → Runs IsUnmarked marks (reset_run defaults close s)
     reset_holds marks s p = closed_holds IsUnmarked marks s (λ t. start_state defaults) (λ t e. refl) p
 
+    cond_holds : (b : Bool) (marks : List Shape) (r t : Ran) → Runs Any marks r → Runs Any marks t → Runs Any marks (cond b r t)
+    cond_holds true marks r t h k = h
+    cond_holds false marks r t h k = k
+
+    before_pending : (b : Bool) (marks : List Shape) (s : State) → Pending marks s → Pending marks (cond b (carriage_return s) s)
+    before_pending true marks s p = pending_kept marks s (carriage_return s) refl refl p
+    before_pending false marks s p = p
+
     item_holds : (item : Entry) (marks : List Shape) (s : State) → Pending marks s → Runs Any marks (item_run printer defaults close item s)
+    item_holds CarriageReturn marks s p =
+        cond_holds s.settings.line_termination.feeds_at_return marks (feed_run printer close WholeLine (carriage_return s)) (ran [] (Done (carriage_return s)))
+        (feed_holds WholeLine marks (carriage_return s) (pending_kept marks s (carriage_return s) refl refl p)) (tt, pending_kept marks s (carriage_return s) refl refl p, tt)
+    item_holds LineFeed marks s p =
+        feed_holds WholeLine marks (before_feed s) (before_pending s.settings.line_termination.returns_at_feed marks s p)
+    item_holds ClearMargins marks s p = (tt, pending_kept marks s (clear_margins s) refl refl p, tt)
+    item_holds HalfLineFeed marks s p = feed_holds HalfLine marks s p
     item_holds Reset marks s p =
         weaker IsUnmarked Any marks (reset_run defaults close s).events (reset_run defaults close s).ending (λ t e. tt) (reset_holds marks s p)
-    item_holds FormFeed marks s p = weaker IsUnmarked Any marks (close s).events (close s).ending (λ t e. tt) (closes marks s p)
+    item_holds FormFeed marks s p =
+        let t : State = before_feed s in
+        weaker IsUnmarked Any marks (close t).events (close t).ending (λ u e. tt)
+        (closes marks t (before_pending s.settings.line_termination.returns_at_feed marks s p))
     item_holds (Parameterized command n) marks s p = command_holds command n marks s p
 
   -- ---- jobs

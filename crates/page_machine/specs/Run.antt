@@ -1,14 +1,18 @@
 -- What an item does: its steps one after another, the closing of a page among them.
-use Rattle.std.specs.Prelude.{ℕ, max, false, cond, Option, Some, None, List, [], ◌∷◌, ◌++◌, map}
-use Rattle.pcl_items.specs.Items.{Entry, Reset, FormFeed, Parameterized}
+use Rattle.std.specs.Prelude.{ℕ, max, length, false, cond, Option, Some, None, List, [], ◌∷◌, ◌++◌, map}
+use Rattle.pcl_items.specs.Items.{Entry, CarriageReturn, LineFeed, FormFeed, Reset, ClearMargins, HalfLineFeed, Parameterized}
 use Rattle.device_profile.specs.declared.field.Field.{Field}
 use Rattle.device_profile.specs.declared.field.Field.TheVariants.{Size, Orientation, Copies, Sides, Tray}
 use Rattle.device_profile.specs.Printer.{Printer}
 use Rattle.page_env.specs.declared.finding.Finding.{Finding}
 use Rattle.page_env.specs.declared.finding.Finding.TheVariants.{Unset}
 use Rattle.page_env.specs.Settings.{Settings, State, start_state}
-use Rattle.page_env.specs.Effect.{Check, first_finding, first_unset, Line, Effect, Goes, Fails, effect_of}
-use Rattle.page_env.specs.Table.{Manner, Step, Closes, manner_of, page_end_of}
+use Rattle.page_env.specs.Effect.{first_unset, Line, Effect, Goes, Fails, effect_of, Manner, Step, Closes}
+use Rattle.page_env.specs.declared.controls.Feed.{Feed}
+use Rattle.page_env.specs.declared.controls.Feed.TheVariants.{Line as WholeLine, HalfLine}
+use Rattle.page_env.specs.HorizontalMargins.{clear_margins}
+use Rattle.page_env.specs.Controls.{carriage_return, line_feed}
+use Rattle.page_env.specs.Table.{manner_of, page_end_of}
 use Rattle.page_machine.specs.Event.{Event, Marked, Ended}
 
 -- over all states of a run the greatest macro level, the greatest length of a cursor stack, and the most macro memory
@@ -17,7 +21,7 @@ pub record Peaks : Type 0 where
   pub stack : ℕ
   pub memory : ℕ
 
--- no item of this profile begins a macro, pushes a cursor or stores an item yet
+-- nothing peaks
 abbrev pub no_peaks : Peaks
 no_peaks = record { level = 0; stack = 0; memory = 0 }
 
@@ -33,6 +37,10 @@ pub record Ran : Type 0 where
   pub events : List Event
   pub peaks : Peaks
   pub ending : Ending
+
+-- the peaks of a state: no item of this profile begins a macro or stores an item yet
+abbrev pub peaks_of : State → Peaks
+peaks_of s = record { level = 0; stack = length s.stack; memory = 0 }
 
 -- events and an ending where nothing peaks
 abbrev pub ran : List Event → Ending → Ran
@@ -50,20 +58,13 @@ onward events peaks (Fault finding) next = record { events = events; peaks = pea
 abbrev pub followed_by : Ran → (State → Ran) → Ran
 followed_by r next = onward r.events r.peaks r.ending next
 
-abbrev pub finding_or : Option Finding → Ran → Ran
-finding_or (Some finding) r = ran [] (Fault finding)
-finding_or None r = r
-
--- the first of these findings, or else this run
-abbrev pub checked : List Check → Ran → Ran
-checked checks r = finding_or (first_finding checks) r
-
 abbrev pub unset_or : Option Field → Ran → Ran
 unset_or (Some field) r = ran [] (Fault (Unset field))
 unset_or None r = r
 
+-- A step peaks in the state to which it leads: nothing but a step makes the cursor stack longer.
 abbrev pub run_of_effect : Effect → Ran
-run_of_effect (Goes s marks) = ran (map Marked marks) (Done s)
+run_of_effect (Goes s marks) = after [] (peaks_of s) (ran (map Marked marks) (Done s))
 run_of_effect (Fails finding) = ran [] (Fault finding)
 
 -- a step of one line of the table
@@ -89,10 +90,23 @@ marked_close close s = cond s.marked (close s) (ran [] (Done s))
 
 -- ---- items
 
--- a command, as the table has it: one step, or its own checks, the closing of a marked page, and the change
-abbrev pub command_run : (State → Ran) → State → Manner → Ran
-command_run close s (Step line) = step_run s line
-command_run close s (Closes checks act) = checked checks (followed_by (marked_close close s) (λ t. ran [] (Done (act t))))
+-- a command or a feed, as the table has it: one step, or its own step, the closing of a marked page, and the change
+abbrev pub manner_run : (State → Ran) → State → Manner → Ran
+manner_run close s (Step line) = step_run s line
+manner_run close s (Closes line act) =
+    followed_by (step_run s line) (λ t. followed_by (marked_close close t) (λ u. ran [] (Done (act u))))
+
+-- a line feed or half a line feed
+abbrev pub feed_run : Printer → (State → Ran) → Feed → State → Ran
+feed_run printer close feed s = manner_run close s (line_feed printer s feed)
+
+-- What line termination makes of the control codes. A return finds nothing, so what comes with it goes on from where it led.
+abbrev pub return_run : Printer → (State → Ran) → State → Ran
+return_run printer close s =
+    cond s.settings.line_termination.feeds_at_return (feed_run printer close WholeLine (carriage_return s)) (ran [] (Done (carriage_return s)))
+
+abbrev pub before_feed : State → State
+before_feed s = cond s.settings.line_termination.returns_at_feed (carriage_return s) s
 
 -- a reset closes a marked page and returns to user defaults; so does the end of the bytes
 abbrev pub reset_run : Settings → (State → Ran) → State → Ran
@@ -100,6 +114,10 @@ reset_run defaults close s = followed_by (marked_close close s) (λ t. ran [] (D
 
 -- one item, where `close` closes a page
 abbrev pub item_run : Printer → Settings → (State → Ran) → Entry → State → Ran
+item_run printer defaults close CarriageReturn s = return_run printer close s
+item_run printer defaults close LineFeed s = feed_run printer close WholeLine (before_feed s)
+item_run printer defaults close FormFeed s = close (before_feed s)
 item_run printer defaults close Reset s = reset_run defaults close s
-item_run printer defaults close FormFeed s = close s
-item_run printer defaults close (Parameterized command n) s = command_run close s (manner_of printer defaults s command n)
+item_run printer defaults close ClearMargins s = ran [] (Done (clear_margins s))
+item_run printer defaults close HalfLineFeed s = feed_run printer close HalfLine s
+item_run printer defaults close (Parameterized command n) s = manner_run close s (manner_of printer defaults s command n)

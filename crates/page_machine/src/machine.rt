@@ -1,6 +1,6 @@
 //! The machine: carries out a job, one item at a time.
 
-ghost use Rattle.std.specs.Prelude.{◌≡◌, false, true};
+ghost use Rattle.std.specs.Prelude.{◌≡◌, [], false, true};
 ghost use Rattle.pcl_items.specs.Items.{view as entry_of};
 ghost use Rattle.device_profile.specs.declared.panel.Panel.{Panel};
 ghost use Rattle.page_env.specs.Settings.{settings_at, state_at, start_state};
@@ -9,7 +9,7 @@ ghost use Rattle.page_machine.specs.Machine.{stop_of, IsStart, StartsFrom, IsNew
 use crate::carrying::{Halt, reset, run_item};
 use crate::sink::MarkSink;
 use device_profile::{Panel, Profile};
-use page_env::{Env, Finding, Page, first_page, user_defaults, user_defaults_of};
+use page_env::{CursorStack, Env, Finding, Page, first_page, user_defaults, user_defaults_of};
 use pcl_items::{Item, Place};
 use std::alloc::{Allocator, Global};
 use std::marker::Model;
@@ -44,6 +44,7 @@ pub struct Machine<'p, A: Allocator = Global> {
     /// What a reset returns to.
     defaults: Env,
     page: Page,
+    stack: CursorStack,
     stopped: bool,
 }
 
@@ -56,6 +57,7 @@ impl<'p, A: Allocator> Model for Machine<'p, A> {
       printer = machine.profile.now;
       defaults = machine.defaults;
       page = machine.page;
+      stack = machine.stack;
       stopped = machine.stopped;
     } };
 }
@@ -72,6 +74,7 @@ impl<'p, A: Allocator> Machine<'p, A> {
             profile,
             defaults,
             page,
+            stack: CursorStack::new(),
             stopped: false,
         }
     }
@@ -89,7 +92,8 @@ impl<'p, A: Allocator> Machine<'p, A> {
         if self.stopped {
             return Err(Stop::Stopped);
         }
-        match run_item(self.profile, &self.defaults, item, &mut self.page, sink) {
+        let (page, stack) = (&mut self.page, &mut self.stack);
+        match run_item(self.profile, &self.defaults, item, page, stack, sink) {
             Ok(()) => Ok(()),
             Err(halt) => {
                 self.stopped = true;
@@ -107,7 +111,7 @@ impl<'p, A: Allocator> Machine<'p, A> {
             return Err(Stop::Stopped);
         }
         self.stopped = true;
-        match reset(&self.defaults, &mut self.page, sink) {
+        match reset(&self.defaults, &mut self.page, &mut self.stack, sink) {
             Ok(()) => Ok(()),
             Err(halt) => Err(stop_at(place, halt)),
         }
@@ -127,7 +131,7 @@ fn defaults_of<A: Allocator>(profile: &Profile<A>, start: Start) -> Env
 
 /// The page from which a job starts.
 fn page_of(defaults: &Env) -> Page
-    ensures { (panel : Panel) → state_at panel result ≡ start_state (settings_at panel defaults.now) }
+    ensures { (panel : Panel) → state_at panel result [] ≡ start_state (settings_at panel defaults.now) }
 {
     first_page(*defaults)
 }
