@@ -1,6 +1,5 @@
 -- A check under way: its start, one more piece, and what the bytes that were read say of the job.
-use Rattle.std.proofs.Common.{◌≡◌, ◌+◌, ◌-◌, ◌*◌, ◌≤◌, ◌<◌, ℕ, Bool, true, false, List, [], ◌∷◌, ◌++◌, length, take, drop, get_or, refl, ap, sym, ◌∙◌, subst, append_assoc, append-nil, Option, None, Some, IfSome, IsFalse, arith, length-append}
-use Rattle.std.specs.Prelude.{max}
+use Rattle.std.proofs.Common.{◌≡◌, ◌+◌, ◌-◌, ◌≤◌, ◌<◌, ℕ, Bool, true, false, List, [], ◌∷◌, ◌++◌, length, take, drop, get_or, refl, ap, sym, ◌∙◌, subst, append-nil, Option, None, Some, IfSome, IsFalse, arith, length-append}
 use Rattle.std.proofs.Math.Nat.{zero-max}
 use Rattle.std.proofs.lemmas.List.{take_all}
 use Rattle.std.specs.Io.KnownBytes.{Consumes, IsAtEnd}
@@ -36,7 +35,7 @@ along_none printer machine fresh = record {
   peaks = λ panel. no_peaks;
   run = λ panel finally rest.
       let d : Settings = settings_at panel machine.defaults in
-      ap (items_run printer d finally rest) (sym (fresh.new.page panel)) ∙ after_events-none (items_run printer d finally rest (state_at panel machine.page));
+      ap (items_run printer d finally rest) (sym (fresh.new.page panel)) ∙ after_events-none (items_run printer d finally rest (state_at panel machine.page machine.stack));
   turn_by_turn = λ finally rest. ap (turns_run printer (settings_at (first_panel printer) machine.defaults) finally rest) (sym (fresh.new.page (first_panel printer)));
 }
 
