@@ -34,12 +34,28 @@ fn lines_of_verdicts(rt: HostRuntime) -> Result<(), Fail> {
         pages: 18_446_744_073_709_551_615,
         marks: 0,
     };
-    let cases: [(Verdict, &[u8]); 3] = [
+    let cases: [(Verdict, &[u8]); 7] = [
         (most, b"PASS pages=18446744073709551615 marks=0\n"),
         (fault(Cause::Syntax), b"FAIL at=7 profile=0 1 Syntax\n"),
         (
             finding(Finding::Unset(Field::Size)),
             b"FAIL at=24 profile=1 12 Unset(Size)\n",
+        ),
+        (
+            finding(Finding::StackFull),
+            b"FAIL at=24 profile=1 18 StackFull\n",
+        ),
+        (
+            finding(Finding::StackEmpty),
+            b"FAIL at=24 profile=1 19 StackEmpty\n",
+        ),
+        (
+            finding(Finding::Inexact),
+            b"FAIL at=24 profile=1 31 Inexact\n",
+        ),
+        (
+            finding(Finding::MarginIgnored),
+            b"FAIL at=24 profile=1 32 MarginIgnored\n",
         ),
     ];
     for (verdict, line) in cases {
