@@ -1,0 +1,142 @@
+#!/usr/bin/env python3
+"""Compares the tables of DEFINITIONS.md with the code.
+
+The table of commands has exactly the commands that the lexer knows, each once; the table of
+faults and findings has exactly the numbers and names that the program writes; and each finding
+that the table of commands names is one of these. What differs is printed, and the status is 1.
+"""
+
+import re
+import sys
+from collections import Counter
+from pathlib import Path
+
+ROOT = Path(__file__).resolve().parent.parent
+DOCUMENT = ROOT / "docs" / "DEFINITIONS.md"
+CODES = ROOT / "crates" / "pcl_items" / "src" / "code.rt"
+COMMANDS = ROOT / "crates" / "pcl_items" / "src" / "command.rt"
+WORDS = ROOT / "crates" / "preflight" / "src" / "words.rt"
+
+# The names of the control codes, by their bytes.
+CONTROL_NAMES = (
+    "NUL SOH STX ETX EOT ENQ ACK BEL BS HT LF VT FF CR SO SI "
+    "DLE DC1 DC2 DC3 DC4 NAK SYN ETB CAN EM SUB ESC FS GS RS US"
+).split()
+
+ESCAPES = {r"\n": 10, r"\r": 13, r"\t": 9, r"\0": 0, r"\\": 92}
+
+
+class Unreadable(Exception):
+    """A file does not have the form that this script reads."""
+
+
+def byte_of(literal):
+    """The byte of what stands between the quotes of a byte literal."""
+    if literal in ESCAPES:
+        return ESCAPES[literal]
+    if literal.startswith(r"\x"):
+        return int(literal[2:], 16)
+    return ord(literal)
+
+
+def block(path, head):
+    """The text of a file from a head at the beginning of a line to the brace that closes it."""
+    text = path.read_text(encoding="utf-8")
+    found = re.search(rf"^{re.escape(head)}.*?^}}", text, re.MULTILINE | re.DOTALL)
+    if found is None:
+        raise Unreadable(f"{path.relative_to(ROOT)} has no `{head}`")
+    return found.group(0)
+
+
+def arms(path, head, pattern):
+    """What a pattern finds in the arms of a function, each of which has to be found."""
+    body = block(path, head).partition("pub fn of(")
+    body = body[2] or body[0]
+    found = re.findall(pattern, body)
+    if not found or len(found) != body.count("Some("):
+        raise Unreadable(f"{path.relative_to(ROOT)}: the arms of `{head}` have another form than is read")
+    return found
+
+
+def commands_of_code():
+    """The commands that the lexer knows, as the first column of the table writes them."""
+    literal = r"b'(\\?[^']+)'"
+    single = rf"{literal} => Some\(Item::\w+\)"
+    commands = []
+    for code in map(byte_of, arms(CODES, "pub fn control_at", single)):
+        name = CONTROL_NAMES[code] if code < len(CONTROL_NAMES) else "?"
+        commands.append(f"`{name}` ({code})")
+    for character in map(byte_of, arms(CODES, "pub fn sequence_at", single)):
+        commands.append(f"`ESC {chr(character)}`")
+    groups = {
+        group: chr(byte_of(first)) + chr(byte_of(second))
+        for first, second, group in arms(COMMANDS, "impl Group", rf"\({literal}, {literal}\) => Some\(Group::(\w+)\)")
+    }
+    for group, letter in arms(COMMANDS, "impl Command", rf"\(Group::(\w+), {literal}\) => Some\(Command::\w+\)"):
+        commands.append(f"`ESC {groups.get(group, '?')}#{chr(byte_of(letter))}`")
+    return commands
+
+
+def findings_of_code():
+    """The numbers and names that the program writes, as `12 Unset`."""
+    found = re.findall(r'b"(\d+ [A-Z][A-Za-z]*)\(?"', WORDS.read_text(encoding="utf-8"))
+    if not found:
+        raise Unreadable(f"{WORDS.relative_to(ROOT)} has no findings in the form that is read")
+    return found
+
+
+def table_behind(heading):
+    """The rows of the table behind a heading of the document, without its head."""
+    text = DOCUMENT.read_text(encoding="utf-8")
+    _, mark, rest = text.partition(f"\n### {heading}\n")
+    if not mark:
+        raise Unreadable(f"{DOCUMENT.relative_to(ROOT)} has no heading `{heading}`")
+    section = re.split(r"^#", rest, maxsplit=1, flags=re.MULTILINE)[0]
+    lines = [line for line in section.splitlines() if line.startswith("|")]
+    rows = [[cell.strip() for cell in line.split("|")[1:-1]] for line in lines[2:]]
+    if not rows or any(len(row) != len(rows[0]) for row in rows):
+        raise Unreadable(f"{DOCUMENT.relative_to(ROOT)}: the table behind `{heading}` is not whole")
+    return rows
+
+
+def differences(what, of_code, of_document):
+    """What stands in one of two lists and not in the other, or twice in one."""
+    lines = []
+    lines += [f"{what} {one} is in the code and not in the table" for one in of_code if one not in of_document]
+    lines += [f"{what} {one} is in the table and not in the code" for one in of_document if one not in of_code]
+    for name, ones in (("code", of_code), ("table", of_document)):
+        lines += [f"{what} {one} is in the {name} {count} times" for one, count in Counter(ones).items() if count > 1]
+    return lines
+
+
+def unknown_findings(rows, known):
+    """The findings that rows name in their fifth column and that the program does not write."""
+    lines = []
+    for row in rows:
+        for finding in re.findall(r"\b\d+ [A-Z][A-Za-z]*", row[4]):
+            if finding not in known:
+                lines.append(f"the row of {row[0]} names {finding}, which the program does not write")
+    return lines
+
+
+def main():
+    try:
+        commands = table_behind("Commands")
+        findings = [row[0] for row in table_behind("Faults and findings")]
+        known = findings_of_code()
+        lines = differences("the command", commands_of_code(), [row[0] for row in commands])
+        lines += differences("the finding", known, findings)
+        lines += unknown_findings(commands, known)
+    except (OSError, Unreadable) as fault:
+        print(f"check_commands: {fault}")
+        return 1
+    for line in lines:
+        print(f"check_commands: {line}")
+    if lines:
+        return 1
+    print(f"check_commands: {len(commands)} commands and {len(findings)} findings are as in the code")
+    return 0
+
+
+if __name__ == "__main__":
+    sys.exit(main())
