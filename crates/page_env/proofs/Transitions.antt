@@ -6,7 +6,7 @@ use Rattle.page_env.specs.declared.finding.Finding.{Finding}
 use Rattle.page_env.specs.declared.page.Page.{Page}
 use Rattle.page_env.specs.Settings.{Settings, State, settings_at, state_at}
 use Rattle.page_env.specs.Effect.{Effect, effect_of, Transition}
-use Rattle.page_env.specs.Controls.{carriage_return, before_feed}
+use Rattle.page_env.specs.Motion.{carriage_return, before_feed}
 use Rattle.page_env.specs.Answers.{CarriesOut, Changes, Moves}
 
 -- what comes before an item may move the page, but changes no setting

@@ -1,0 +1,52 @@
+-- Each item of the table is carried out soundly.
+use Rattle.pcl_items.specs.declared.command.Command.{Command}
+use Rattle.pcl_items.specs.declared.command.Command.TheVariants.{LeftMargin, RightMargin, Column, Row, HorizontalDecipoints, VerticalDecipoints, CursorStack, HorizontalMotionIndex, LineTermination, PageSize, Orientation, Copies, Sides, Source, VerticalMotionIndex, LineSpacing, TopMargin, TextLength, PerforationSkip, UnitOfMeasure, RectangleWidth, RectangleHeight, FillRectangle, HorizontalUnits, VerticalUnits}
+use Rattle.pcl_items.specs.Items.{Entry, CarriageReturn, LineFeed, FormFeed, Reset, ClearMargins, HalfLineFeed, Parameterized}
+use Rattle.pcl_items.specs.Value.{Amount}
+use Rattle.device_profile.specs.Printer.{Printer}
+use Rattle.page_env.specs.Settings.{Settings, State}
+use Rattle.page_env.specs.Table.{command_transition}
+use Rattle.page_env.specs.Sound.{plain_settings, plain_state, IsSoundTransition, IsSoundItem}
+use Rattle.page_env.proofs.JobControlFacts.{copies_are_sound, sides_are_sound, units_are_sound, reset_is_sound}
+use Rattle.page_env.proofs.PageControlFacts.{source_is_sound, size_is_sound, orientation_is_sound}
+use Rattle.page_env.proofs.MarginFacts.{top_margin_is_sound, text_length_is_sound, perforation_skip_is_sound, left_margin_is_sound, right_margin_is_sound, clearing_is_sound}
+use Rattle.page_env.proofs.MotionFacts.{vmi_is_sound, line_spacing_is_sound, hmi_is_sound, line_termination_is_sound, return_is_sound, line_feed_is_sound, form_feed_is_sound, half_line_feed_is_sound}
+use Rattle.page_env.proofs.CursorFacts.{move_x_is_sound, move_y_is_sound, move_x_decipoints_is_sound, move_y_decipoints_is_sound, move_columns_is_sound, move_rows_is_sound, stack_is_sound}
+use Rattle.page_env.proofs.RectangleFacts.{width_is_sound, height_is_sound, fill_is_sound}
+
+module _ (printer : Printer) (defaults : Settings) where
+  command_is_sound : (command : Command) (n : Amount) (s : State) → IsSoundTransition printer defaults s (command_transition printer defaults s command n) (command_transition printer (plain_settings defaults) (plain_state s) command n)
+  command_is_sound Copies n s = copies_are_sound printer defaults s n
+  command_is_sound Sides n s = sides_are_sound printer defaults s n
+  command_is_sound UnitOfMeasure n s = units_are_sound printer defaults s n
+  command_is_sound Source n s = source_is_sound printer defaults s n
+  command_is_sound PageSize n s = size_is_sound printer defaults s n
+  command_is_sound Orientation n s = orientation_is_sound printer defaults s n
+  command_is_sound TopMargin n s = top_margin_is_sound printer s n
+  command_is_sound TextLength n s = text_length_is_sound printer s n
+  command_is_sound PerforationSkip n s = perforation_skip_is_sound printer s n
+  command_is_sound LeftMargin n s = left_margin_is_sound printer s n
+  command_is_sound RightMargin n s = right_margin_is_sound printer s n
+  command_is_sound VerticalMotionIndex n s = vmi_is_sound printer s n
+  command_is_sound LineSpacing n s = line_spacing_is_sound printer s n
+  command_is_sound HorizontalMotionIndex n s = hmi_is_sound printer s n
+  command_is_sound LineTermination n s = line_termination_is_sound printer s n
+  command_is_sound HorizontalUnits n s = move_x_is_sound printer s n
+  command_is_sound VerticalUnits n s = move_y_is_sound printer s n
+  command_is_sound HorizontalDecipoints n s = move_x_decipoints_is_sound printer s n
+  command_is_sound VerticalDecipoints n s = move_y_decipoints_is_sound printer s n
+  command_is_sound Column n s = move_columns_is_sound printer s n
+  command_is_sound Row n s = move_rows_is_sound printer s n
+  command_is_sound CursorStack n s = stack_is_sound printer s n
+  command_is_sound RectangleWidth n s = width_is_sound printer s n
+  command_is_sound RectangleHeight n s = height_is_sound printer s n
+  command_is_sound FillRectangle n s = fill_is_sound printer s n
+
+pub item_is_sound : (printer : Printer) (defaults : Settings) (item : Entry) → IsSoundItem printer defaults item
+item_is_sound printer defaults CarriageReturn = λ s. return_is_sound printer defaults s
+item_is_sound printer defaults LineFeed = λ s. line_feed_is_sound printer defaults s
+item_is_sound printer defaults FormFeed = λ s. form_feed_is_sound printer defaults s
+item_is_sound printer defaults Reset = λ s. reset_is_sound printer defaults s
+item_is_sound printer defaults ClearMargins = λ s. clearing_is_sound printer s
+item_is_sound printer defaults HalfLineFeed = λ s. half_line_feed_is_sound printer defaults s
+item_is_sound printer defaults (Parameterized command n) = λ s. command_is_sound printer defaults command n s

@@ -1,0 +1,63 @@
+-- The one order in which the findings of a step are reported, and in which it reads the fields of the panel.
+use Rattle.std.specs.Prelude.{ℕ, ◌==◌, nat_le, ◌&&◌, Bool, true, length, map, position, unwrap_or, List, [], ◌∷◌, ◌++◌}
+use Rattle.device_profile.specs.declared.field.Field.{Field}
+use Rattle.device_profile.specs.declared.field.Field.TheVariants.{Size, Orientation, Vmi, Font, Copies, Sides, Tray}
+use Rattle.page_env.specs.declared.finding.Finding.{Finding}
+use Rattle.page_env.specs.declared.finding.Finding.TheVariants.{BadValue, NotOnDevice, Unset, OffPage, NotPrintable, StackFull, StackEmpty, EmptyRectangle, Inexact, MarginIgnored}
+use Rattle.page_env.specs.Effect.{Check, Line}
+
+-- the numbers of all findings of a step, in the order in which they are reported
+abbrev pub report_order : List ℕ
+report_order =
+    24 ∷ 10 ∷ 11 ∷ 18 ∷ 19 ∷ 20 ∷ 21 ∷ 22 ∷ 23 ∷ 25 ∷ 26 ∷ 27 ∷ 28 ∷ 30
+    ∷ 12
+    ∷ 13 ∷ 14 ∷ 31 ∷ 34 ∷ 15 ∷ 16 ∷ 17 ∷ 29 ∷ 32 ∷ []
+
+abbrev pub number_of : Finding → ℕ
+number_of BadValue = 10
+number_of NotOnDevice = 11
+number_of (Unset field) = 12
+number_of OffPage = 15
+number_of NotPrintable = 17
+number_of StackFull = 18
+number_of StackEmpty = 19
+number_of EmptyRectangle = 30
+number_of Inexact = 31
+number_of MarginIgnored = 32
+
+-- the place of a number in that order
+abbrev pub rank_of : ℕ → ℕ
+rank_of number = unwrap_or (position (λ other. other == number) report_order) (length report_order)
+
+abbrev pub rank : Finding → ℕ
+rank finding = rank_of (number_of finding)
+
+-- the place of a field among the panel's
+abbrev pub field_rank : Field → ℕ
+field_rank Size = 0
+field_rank Orientation = 1
+field_rank Vmi = 2
+field_rank Font = 3
+field_rank Copies = 4
+field_rank Sides = 5
+field_rank Tray = 6
+
+-- each number is at least the one before it
+abbrev pub rises_from : ℕ → List ℕ → Bool
+rises_from n [] = true
+rises_from n (m ∷ ms) = nat_le n m && rises_from m ms
+
+abbrev pub rises : List ℕ → Bool
+rises [] = true
+rises (n ∷ ns) = rises_from n ns
+
+abbrev pub ranks : List Check → List ℕ
+ranks checks = map (λ c. rank c.finding) checks
+
+-- the checks before the reading, what is unset, and the checks after it stand in the order of their findings
+abbrev pub is_in_order : Line → Bool
+is_in_order line = rises (ranks line.before ++ rank_of 12 ∷ ranks line.after)
+
+-- the fields that are read stand in the order of the panel's
+abbrev pub reads_in_order : Line → Bool
+reads_in_order line = rises (map field_rank line.reads)

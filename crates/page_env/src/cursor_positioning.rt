@@ -1,0 +1,236 @@
+//! Cursor positioning and the cursor stack.
+#![tactic(auto, unfolding(crate::specs::Answers::CarriesOut))]
+
+ghost use Rattle.std.specs.Prelude.{cond, Some};
+ghost use Rattle.pcl_items.specs.Items.{amount};
+ghost use Rattle.page_env.specs.Settings.{state_at};
+ghost use Rattle.page_env.specs.Effect.{Reads};
+ghost use Rattle.page_env.specs.Numbers.{is_absent};
+ghost use Rattle.page_env.specs.Places.{vertical_place, geometry_of, page_reads};
+ghost use Rattle.page_env.specs.CursorPositioning.{push_cursor, pop_cursor, use_stack, move_across, move_from_top, relative_reads, move_x, move_y, move_x_decipoints, move_y_decipoints, move_columns, move_rows};
+ghost use Rattle.page_env.specs.Answers.{CarriesOut, Steps};
+
+use crate::change::Carried;
+use crate::finding::Finding;
+use crate::number::{is_whole_between, whole_of};
+use crate::page::{Page, VerticalPlace};
+use crate::places::{
+    first_line, geometry, geometry_and_column, geometry_and_vmi, target, target_down, ticks_in,
+    times, vertical, vertical_with,
+};
+use device_profile::{Field, Geometry, Profile};
+use pcl_items::{Number, Sign};
+use std::alloc::Allocator;
+use tick_length::Unit;
+
+/// Moves the cursor to the left or right by so many ticks.
+fn move_across<A: Allocator>(
+    profile: &Profile<A>,
+    page: &mut Page,
+    sign: Sign,
+    by: u64,
+) -> Result<Carried, Finding>
+    ensures { Steps (λ s. move_across profile.now s page_reads sign (Some by)) page.old page.new result }
+{
+    let geometry = geometry(profile, page)?;
+    let here = page.cursor.x.ticks();
+    match target(sign, 0, here, u128::from(by), geometry.logical_width) {
+        None => Err(Finding::OffPage),
+        Some(x) => {
+            page.cursor.x = x;
+            Ok(Carried::Stepped)
+        }
+    }
+}
+
+/// `*p#X`: moves the cursor to the left or right, in PCL units.
+pub(crate) fn move_x<A: Allocator>(
+    profile: &Profile<A>,
+    page: &mut Page,
+    n: Number,
+) -> Result<Carried, Finding>
+    ensures { Steps (λ s. move_x profile.now s (amount n)) page.old page.new result }
+{
+    let unit = Unit::PclUnit(page.env.job.units_per_inch);
+    move_across(profile, page, n.sign, ticks_in(unit, n.ten_thousandths))
+}
+
+/// `&a#H`: moves the cursor to the left or right, in decipoints.
+pub(crate) fn move_x_decipoints<A: Allocator>(
+    profile: &Profile<A>,
+    page: &mut Page,
+    n: Number,
+) -> Result<Carried, Finding>
+    ensures { Steps (λ s. move_x_decipoints profile.now s (amount n)) page.old page.new result }
+{
+    move_across(
+        profile,
+        page,
+        n.sign,
+        ticks_in(Unit::Decipoint, n.ten_thousandths),
+    )
+}
+
+/// `&a#C`: moves the cursor to the left or right, in columns.
+pub(crate) fn move_columns<A: Allocator>(
+    profile: &Profile<A>,
+    page: &mut Page,
+    n: Number,
+) -> Result<Carried, Finding>
+    ensures { Steps (λ s. move_columns profile.now s (amount n)) page.old page.new result }
+{
+    let (geometry, column) = geometry_and_column(profile, page)?;
+    let by = match times(column, n.ten_thousandths) {
+        None => return Err(Finding::Inexact),
+        Some(by) => by,
+    };
+    match target(n.sign, 0, page.cursor.x.ticks(), by, geometry.logical_width) {
+        None => Err(Finding::OffPage),
+        Some(x) => {
+            page.cursor.x = x;
+            Ok(Carried::Stepped)
+        }
+    }
+}
+
+/// The page in force, and the vertical place from which a move goes: the top margin where it has no sign, else the cursor.
+fn geometry_and_origin<A: Allocator>(
+    profile: &Profile<A>,
+    page: &Page,
+    sign: Sign,
+) -> Result<(Geometry, VerticalPlace), Field>
+    ensures { Reads page.now.env (relative_reads sign page.now.cursor.y)
+        (λ panel. (
+          geometry_of profile.now (state_at panel page.now),
+          cond (is_absent sign) page.now.env.job.top_margin (vertical_place (state_at panel page.now)),
+        )) result }
+{
+    let fields = &page.env.fields;
+    let size = fields.size.known(Field::Size)?;
+    let orientation = fields.orientation.known(Field::Orientation)?;
+    let geometry = profile.page_geometry(size, orientation);
+    match sign {
+        Sign::Absent => {
+            let top = VerticalPlace::from_ticks(page.env.job.top_margin.ticks());
+            Ok((geometry, top))
+        }
+        Sign::Plus | Sign::Minus => {
+            let here = vertical(page)?;
+            Ok((geometry, here))
+        }
+    }
+}
+
+/// Moves the cursor up or down by so many ticks.
+fn move_from_top<A: Allocator>(
+    profile: &Profile<A>,
+    page: &mut Page,
+    sign: Sign,
+    by: u64,
+) -> Result<Carried, Finding>
+    ensures { Steps (λ s. move_from_top profile.now s sign by) page.old page.new result }
+{
+    let (geometry, from) = geometry_and_origin(profile, page, sign)?;
+    match target_down(sign, from, from, u128::from(by), geometry.logical_height) {
+        None => Err(Finding::OffPage),
+        Some(y) => {
+            page.cursor.y = Some(y);
+            Ok(Carried::Stepped)
+        }
+    }
+}
+
+/// `*p#Y`: moves the cursor up or down, in PCL units.
+pub(crate) fn move_y<A: Allocator>(
+    profile: &Profile<A>,
+    page: &mut Page,
+    n: Number,
+) -> Result<Carried, Finding>
+    ensures { Steps (λ s. move_y profile.now s (amount n)) page.old page.new result }
+{
+    let unit = Unit::PclUnit(page.env.job.units_per_inch);
+    move_from_top(profile, page, n.sign, ticks_in(unit, n.ten_thousandths))
+}
+
+/// `&a#V`: moves the cursor up or down, in decipoints.
+pub(crate) fn move_y_decipoints<A: Allocator>(
+    profile: &Profile<A>,
+    page: &mut Page,
+    n: Number,
+) -> Result<Carried, Finding>
+    ensures { Steps (λ s. move_y_decipoints profile.now s (amount n)) page.old page.new result }
+{
+    move_from_top(
+        profile,
+        page,
+        n.sign,
+        ticks_in(Unit::Decipoint, n.ten_thousandths),
+    )
+}
+
+/// `&a#R`: moves the cursor up or down, in rows.
+pub(crate) fn move_rows<A: Allocator>(
+    profile: &Profile<A>,
+    page: &mut Page,
+    n: Number,
+) -> Result<Carried, Finding>
+    ensures { Steps (λ s. move_rows profile.now s (amount n)) page.old page.new result }
+{
+    let (geometry, vmi) = geometry_and_vmi(profile, page)?;
+    let by = match times(ticks_in(Unit::FortyEighthInch, vmi), n.ten_thousandths) {
+        None => return Err(Finding::Inexact),
+        Some(by) => by,
+    };
+    let first = first_line(page.env.job.top_margin, vmi);
+    let here = vertical_with(page, vmi);
+    match target_down(n.sign, first, here, by, geometry.logical_height) {
+        None => Err(Finding::OffPage),
+        Some(y) => {
+            page.cursor.y = Some(y);
+            Ok(Carried::Stepped)
+        }
+    }
+}
+
+/// `&f0S`: pushes the cursor.
+fn push_cursor(page: &mut Page, n: Number) -> Result<Carried, Finding>
+    ensures { Steps (λ s. push_cursor s (amount n)) page.old page.new result }
+{
+    if !is_whole_between(0, 1, n) {
+        return Err(Finding::BadValue);
+    }
+    if page.stack.is_full() {
+        return Err(Finding::StackFull);
+    }
+    let y = vertical(page)?;
+    page.cursor.y = Some(y);
+    page.stack.push(page.cursor);
+    Ok(Carried::Stepped)
+}
+
+/// `&f1S`: pops the cursor that was pushed last.
+fn pop_cursor(page: &mut Page, n: Number) -> Result<Carried, Finding>
+    ensures { Steps (λ s. pop_cursor s (amount n)) page.old page.new result }
+{
+    if !is_whole_between(0, 1, n) {
+        return Err(Finding::BadValue);
+    }
+    match page.stack.pop() {
+        None => Err(Finding::StackEmpty),
+        Some(cursor) => {
+            page.cursor = cursor;
+            Ok(Carried::Stepped)
+        }
+    }
+}
+
+/// `&f#S`: pushes or pops the cursor.
+pub(crate) fn use_stack(page: &mut Page, n: Number) -> Result<Carried, Finding>
+    ensures { Steps (λ s. use_stack s (amount n)) page.old page.new result }
+{
+    if whole_of(n) == 0 {
+        push_cursor(page, n)
+    } else {
+        pop_cursor(page, n)
+    }
+}
