@@ -10,7 +10,7 @@ use Rattle.pclcheck.specs.declared.words.Request.TheVariants.{Check}
 abbrev pub NamesSome : Request → Type 0
 NamesSome (Check job profiles) = profiles.items ≢ []
 
--- help, bad words, no memory, or a text that could not be written
+-- help or the version, bad words, no memory, or a text that could not be written
 abbrev pub IsEndOfWords : Status → Type 0
 IsEndOfWords Help = ⊤
 IsEndOfWords Words = ⊤

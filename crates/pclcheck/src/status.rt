@@ -18,7 +18,7 @@ pub enum Status {
     Pass,
     /// The job fails.
     Fail,
-    /// Help was asked for.
+    /// Help or the version was asked for.
     Help,
     /// The words ask for nothing that there is.
     Words,

@@ -202,13 +202,35 @@ fn help_and_bad_words(rt: HostRuntime) -> Result<(), Fail> {
         for row in [
             "0  the job passes",
             "1  the job fails",
-            "2  bad words",
+            "2  usage error",
             "3  a read",
+            "at=   ",
+            "profile=  ",
+            "@A  ",
+            "@B  ",
+            "@C  ",
+            "@D  ",
         ] {
             assert_eq!(rt; help.contains(row), status == Status::Help);
         }
         assert_eq!(rt; stdout.get_ref().is_empty(), status == Status::Words);
         assert_eq!(rt; stderr.get_ref().is_empty(), status == Status::Help);
+    }
+    Ok(())
+}
+
+#[test]
+fn the_version_is_written(rt: HostRuntime) -> Result<(), Fail> {
+    for flag in ["--version", "-V"] {
+        let words = strings(rt.alloc(), &["pclcheck", flag])?;
+        let mut stdout = Watched::new(Vec::new(rt.alloc()));
+        let mut stderr = Watched::new(Vec::new(rt.alloc()));
+        match read_words(rt.alloc(), words.as_slice(), &mut stdout, &mut stderr) {
+            Ok(Request::Check { .. }) => assert!(rt; false),
+            Err(answer) => assert_eq!(rt; answer, Status::Help),
+        }
+        assert_eq!(rt; stdout.get_ref().as_slice(), b"pclcheck 0.1.0\n".as_slice());
+        assert!(rt; stderr.get_ref().is_empty());
     }
     Ok(())
 }

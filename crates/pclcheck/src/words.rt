@@ -18,11 +18,27 @@ pub enum Request<'a> {
     },
 }
 
-const STATUSES: &str = "Statuses:
-  0  the job passes, or help was asked for
+const VERSION: &str = "0.1.0";
+
+const EXPLANATION: &str = "Output, one line:
+  PASS pages=N marks=N         the job prints alike on every printer, however its panel was set
+  FAIL at=N profile=N FINDING  the first thing that is wrong, by its number and its name
+
+  at=       the number of bytes before the command
+  profile=  the printer's number among the words, from 1;
+            0: the bytes themselves are wrong, whatever the printer
+
+Samples, small made-up printers for trying out:
+  @A  letter and A4, portrait and landscape, chosen at its panel
+  @B  letter, portrait
+  @C  as @B, but 6 or 8 lines an inch and one of two fonts, chosen at its panel
+  @D  as @B, but its first font is narrower
+
+Exit status:
+  0  the job passes, or help or the version was asked for
   1  the job fails
-  2  bad words, or a profile that is refused
-  3  a read or a write failed, memory ran out, or the job has too many turns";
+  2  usage error, or a profile that is refused
+  3  a read or a write failed, memory ran out, or no end after 2^40 reads";
 
 /// The command line of the program.
 fn command<'a>(alloc: Global) -> Result<Command<'a>, AllocError> {
@@ -35,22 +51,24 @@ fn command<'a>(alloc: Global) -> Result<Command<'a>, AllocError> {
         .num_args(1..)
         .action(ArgAction::Append)
         .help(
-            "The printers: each is @A, @B, @C or @D for a built-in sample, or the path of a profile",
+            "The printers: each is the path of a profile, or @A, @B, @C or @D for a built-in sample",
         );
     let check = Command::new(alloc, "check")
         .about("Checks a job for a fleet of printers, and writes one line: PASS or FAIL")
-        .after_help(STATUSES)
+        .after_help(EXPLANATION)
         .arg(job)?
         .arg(profiles)?;
     Command::new(alloc, "pclcheck")
+        .version(VERSION)
         .about("A preflight checker for PCL 5 print jobs")
-        .after_help(STATUSES)
+        .after_help(EXPLANATION)
         .subcommand_required(true)
         .subcommand(check)
 }
 
-/// What the words ask for; the first is the program's own name. Where they ask for help, that is
-/// written on standard output, and where they are wrong, the reason on standard error.
+/// What the words ask for; the first is the program's own name. Where they ask for help or for the
+/// version, that is written on standard output, and where they are wrong, the reason on standard
+/// error.
 pub fn read_words<'a, O: Outlet, E: Outlet>(
     alloc: Global,
     words: &'a [String],
@@ -88,7 +106,7 @@ pub fn read_words<'a, O: Outlet, E: Outlet>(
     Ok(Request::Check { job, profiles })
 }
 
-/// Writes why the words were refused, or the help that they asked for.
+/// Writes why the words were refused, or the help or the version that they asked for.
 fn refuse<O: Outlet, E: Outlet>(
     alloc: Global,
     error: &clap::Error,
