@@ -1,0 +1,352 @@
+#!/usr/bin/env python3
+"""Measures the built program on jobs that this script makes.
+
+    python3 bench/run.py                     every kind of job, as a table
+    python3 bench/run.py --only lines        one kind; the option may come often
+    python3 bench/run.py --size 32           jobs of 32 MiB
+    python3 bench/run.py --program PATH      another build of the program
+    python3 bench/run.py --profile           the functions that take most instructions
+
+The same jobs are made each time. Each has to pass for each fleet, which is sample @B once, twice
+and four times; the script stops where one does not.
+
+- MB/s: a million bytes a second, by the wall clock of the fastest of some runs.
+- Instructions a byte: what callgrind counts more on a longer job than on a shorter one, for each
+  byte more, so that the start of the program is not in it. A dash where valgrind is not installed.
+- A further printer: how many of these instructions come with each printer after the first.
+- Peak memory: what the system says of the program while it runs.
+"""
+
+import argparse
+import itertools
+import re
+import shutil
+import subprocess
+import sys
+import tempfile
+import time
+from dataclasses import dataclass
+from pathlib import Path
+
+ROOT = Path(__file__).resolve().parent.parent
+PROGRAM = ROOT / "crates" / "pclcheck" / "out" / "pclcheck"
+BUILD = "cd crates/pclcheck && rt run -- check ../../examples/ruled_form.pcl @A"
+
+PRINTER = "@B"
+FLEETS = (1, 2, 4)
+RUNS = 5
+MEBIBYTE = 1 << 20
+
+# The sizes of the two jobs whose instructions are compared.
+COUNTED_SIZES = (MEBIBYTE // 4, MEBIBYTE // 2)
+
+# So many functions of a profile are printed.
+PROFILE_ROWS = 20
+
+RESET = b"\x1bE"
+CR_LF = b"\r\n"
+HALF_LINE_FEED = b"\x1b="
+FORM_FEED = b"\f"
+PUSH = b"\x1b&f0S"
+POP = b"\x1b&f1S"
+
+
+class BenchError(Exception):
+    """Why there is no number to tell."""
+
+
+# The makers of jobs. Each yields the bytes of the page of a number, counted from 0; a job is a
+# reset, pages and a reset. A new kind is one function, named in KINDS.
+
+
+def rectangles(number):
+    """60 rectangles, each at a place of its own."""
+    for i in range(60):
+        yield to_units((37 * number + 29 * i) % 1800, (11 * number + 47 * i) % 2900)
+        yield rectangle(20 + 13 * i % 400, 1 + 7 * i % 60)
+    yield FORM_FEED
+
+
+def lines(number):
+    """A ruled list by lines and columns, whose last line ends the page."""
+    if number == 0:
+        yield b"\x1b&l2a0o6d4e56F\x1b&k0G\x1b&a5l74M"
+    yield b"\x1b&k12H" + PUSH
+    for column in (5, 15, 45, 60, 75):
+        yield to_cell(column, 0) + rectangle(2, 2752)
+    yield POP
+    for line in range(56):
+        yield from line_of_list(number, line)
+
+
+def line_of_list(number, line):
+    """A line of a list, ruled or empty, at times with cells, and a step to the next line."""
+    if line % 8 != 7:
+        yield rectangle(2100, 2)
+    if line % 4 == 2:
+        for column in (16, 46, 61):
+            yield b"\x1b&a%dC" % column + rectangle(30 + 7 * (number + line) % 200, 12)
+    yield b"\r\x1b&a+1R" if line % 8 == 5 else CR_LF
+
+
+def mix(number):
+    """A form that takes every command that there is."""
+    yield from settings_of_form(number)
+    for line in range(12):
+        yield rectangle(600 + 10 * line, 2)
+        yield HALF_LINE_FEED if line % 4 == 3 else CR_LF
+    for i in range(8):
+        yield PUSH + to_cell(10 + i, 20 + 2 * i) + rectangle(3, 90)
+        yield b"\x1b&a+3.5c-1R" + rectangle(40, 40) + POP
+    for i in range(8):
+        yield b"\x1b&a%dh%dV" % (400 + 100 * i, 3000 + 120 * i) + rectangle(90, 9)
+        yield to_units(100 * i, 1500 + 20 * i) + rectangle(50, 5)
+        yield b"\x1b*p+40x-7Y\x1b*c0P"
+    yield b"\x1b9\n" + FORM_FEED
+
+
+def settings_of_form(number):
+    """What a form sets before its first mark, which differs from page to page."""
+    if number % 16 == 0:
+        yield RESET
+    yield b"\x1b&l%dx%ds2a%dh0O" % (1 + number % 9, number % 3, 1 + number % 2)
+    yield b"\x1b&u%dD" % (300 + 300 * (number % 2))
+    yield b"\x1b&l0l1l%s4e50F" % (b"8c", b"6d", b"8d")[number % 3]
+    yield b"\x1b&k12h%dG\x1b&a5l74M" % (number % 4)
+
+
+def rectangle(width, height):
+    """A solid rectangle at the cursor, in PCL units."""
+    return b"\x1b*c%da%db0P" % (width, height)
+
+
+def to_units(x, y):
+    """A move of the cursor to a place in PCL units."""
+    return b"\x1b*p%dx%dY" % (x, y)
+
+
+def to_cell(column, row):
+    """A move of the cursor to a column and a row."""
+    return b"\x1b&a%dc%dR" % (column, row)
+
+
+KINDS = {maker.__name__: maker for maker in (rectangles, lines, mix)}
+
+
+@dataclass(frozen=True)
+class Job:
+    """A job in a file, and how many bytes it has."""
+
+    kind: str
+    path: Path
+    size: int
+
+
+def write_job(folder, kind, size):
+    """Writes a job of whole pages of a kind, of at least so many bytes."""
+    path = Path(folder) / f"{kind}_{size}.pcl"
+    with path.open("wb") as file:
+        written = file.write(RESET)
+        for number in itertools.count():
+            if written >= size:
+                break
+            written += file.write(b"".join(KINDS[kind](number)))
+        written += file.write(RESET)
+    return Job(kind, path, written)
+
+
+@dataclass(frozen=True)
+class Program:
+    """The program that is measured."""
+
+    path: Path
+
+    def words(self, job, printers):
+        """The words that check a job for a fleet of so many printers."""
+        return [str(self.path), "check", str(job.path)] + [PRINTER] * printers
+
+    def run(self, job, printers, under=()):
+        """Checks a job, under another program where its words are given."""
+        words = [*under, *self.words(job, printers)]
+        done = subprocess.run(words, stdout=subprocess.PIPE, stderr=subprocess.PIPE, check=False)
+        require_pass(job, printers, done.returncode, done.stdout)
+
+    def best_seconds(self, job, printers):
+        """The wall clock's time of the fastest of some runs."""
+        times = []
+        for _ in range(RUNS):
+            start = time.perf_counter()
+            self.run(job, printers)
+            times.append(time.perf_counter() - start)
+        return min(times)
+
+    def peak_memory(self, job, printers):
+        """The most memory that the program was seen to have, in KiB.
+
+        The system's account of a program that has ended also counts what Python had when it
+        started the program, so the program is watched while it runs.
+        """
+        peak = 0
+        words = self.words(job, printers)
+        with subprocess.Popen(words, stdout=subprocess.PIPE) as process:
+            while process.poll() is None:
+                peak = max(peak, high_water(process.pid))
+                time.sleep(0.001)
+            require_pass(job, printers, process.returncode, process.stdout.read())
+        return peak
+
+    def run_counted(self, job, printers):
+        """Checks a job under callgrind, and gives the file of what that counted."""
+        counts = job.path.with_suffix(".counts")
+        self.run(job, printers, ("valgrind", "--tool=callgrind", f"--callgrind-out-file={counts}"))
+        return counts
+
+    def instructions(self, job, printers):
+        """How many instructions the program takes for a job."""
+        text = self.run_counted(job, printers).read_text(encoding="utf-8", errors="replace")
+        found = re.search(r"^(?:summary|totals): (\d+)", text, re.MULTILINE)
+        if found is None:
+            raise BenchError("callgrind wrote no total")
+        return int(found.group(1))
+
+    def instructions_a_byte(self, jobs, printers):
+        """What the longer of two jobs takes more, for each byte that it has more."""
+        short, long = jobs
+        more = self.instructions(long, printers) - self.instructions(short, printers)
+        return more / (long.size - short.size)
+
+
+def require_pass(job, printers, status, output):
+    """Fails where a job does not pass."""
+    if status != 0 or not output.startswith(b"PASS "):
+        line = output.decode("utf-8", "replace").strip()
+        raise BenchError(
+            f"a job of kind {job.kind} does not pass for {printers} printers:"
+            f" status {status}, {line or 'no line'}"
+        )
+
+
+def high_water(pid):
+    """The most memory that a running process had so far, in KiB; 0 where it has ended."""
+    try:
+        status = Path(f"/proc/{pid}/status").read_text(encoding="utf-8", errors="replace")
+    except OSError:
+        return 0
+    found = re.search(r"^VmHWM:\s+(\d+) kB$", status, re.MULTILINE)
+    return int(found.group(1)) if found else 0
+
+
+def processor():
+    """The name of this machine's processor."""
+    try:
+        text = Path("/proc/cpuinfo").read_text(encoding="utf-8", errors="replace")
+    except OSError:
+        return "unknown"
+    found = re.search(r"^model name\s*:\s*(.+)$", text, re.MULTILINE)
+    return found.group(1) if found else "unknown"
+
+
+# The columns of the table, and how wide they are.
+COLUMNS = {
+    "Job": 10,
+    "Printers": 8,
+    "Bytes": 9,
+    "MB/s": 6,
+    "Instructions a byte": 19,
+    "A further printer": 17,
+    "Peak memory": 11,
+}
+
+
+def print_row(cells):
+    """Prints a row of the table."""
+    first, *others = (f"{cell:>{width}}" for cell, width in zip(cells, COLUMNS.values()))
+    print("|", " | ".join([f"{first.strip():<{COLUMNS['Job']}}", *others]), "|", flush=True)
+
+
+def print_table(program, folder, kinds, size):
+    """Prints what each kind of job costs for each fleet."""
+    print(f"Processor: {processor()}\n")
+    print_row(COLUMNS)
+    print_row(["---"] + ["--:"] * (len(COLUMNS) - 1))
+    for kind in kinds:
+        print_rows_of_kind(program, folder, kind, size)
+
+
+def print_rows_of_kind(program, folder, kind, size):
+    """Prints what a kind of job costs for each fleet."""
+    job = write_job(folder, kind, size)
+    counted = [write_job(folder, kind, count) for count in COUNTED_SIZES]
+    alone = None
+    for printers in FLEETS:
+        speed = job.size / 1e6 / program.best_seconds(job, printers)
+        memory = program.peak_memory(job, printers) / 1024
+        each, further = "-", "-"
+        if shutil.which("valgrind"):
+            cost = program.instructions_a_byte(counted, printers)
+            each = f"{cost:.1f}"
+            if alone is None:
+                alone = cost
+            else:
+                further = f"{(cost - alone) / (printers - 1):.1f}"
+        print_row([kind, printers, job.size, f"{speed:.1f}", each, further, f"{memory:.1f} MiB"])
+
+
+def print_profile(program, folder, kind):
+    """Prints the functions that take most instructions themselves, for one printer."""
+    if not shutil.which("valgrind"):
+        raise BenchError("a profile needs valgrind, which is not installed")
+    job = write_job(folder, kind, COUNTED_SIZES[-1])
+    counts = program.run_counted(job, 1)
+    words = ["callgrind_annotate", "--auto=no", "--threshold=100", str(counts)]
+    done = subprocess.run(words, stdout=subprocess.PIPE, check=True)
+    text = done.stdout.decode("utf-8", "replace")
+    rows = re.findall(r"^\s*([\d,]+) *\(\s*([\d.]+)%\)\s+(.+)$", text, re.MULTILINE)
+    print(f"{kind}: {job.size} bytes, one printer\n")
+    print("  share   a byte  function")
+    for total, share, function in rows[: PROFILE_ROWS + 1]:
+        a_byte = int(total.replace(",", "")) / job.size
+        print(f"{share:>5} % {a_byte:8.2f}  {short_name(function)}")
+    print()
+
+
+def short_name(function):
+    """A function's name in a profile without its file's folders, its types and its program."""
+    name = re.sub(r"\s*\[[^\]]*\]$", "", function)
+    name = re.sub(r"::<#[0-9a-f]+>", "", name).removeprefix("???:")
+    return re.sub(r"^\S*/([^/\s]+:)", r"\1", name)
+
+
+def arguments():
+    """What the words of this script ask for."""
+    parser = argparse.ArgumentParser(
+        description=__doc__, formatter_class=argparse.RawDescriptionHelpFormatter
+    )
+    parser.add_argument("--program", type=Path, default=PROGRAM, help="the built program")
+    parser.add_argument("--only", action="append", choices=KINDS, help="a kind of job")
+    parser.add_argument("--size", type=float, default=8, help="the size of a job in MiB")
+    parser.add_argument("--profile", action="store_true", help="the functions that cost most")
+    return parser.parse_args()
+
+
+def main():
+    words = arguments()
+    kinds = words.only or list(KINDS)
+    try:
+        if not words.program.is_file():
+            raise BenchError(f"there is no program at {words.program}; build it: {BUILD}")
+        program = Program(words.program.resolve())
+        with tempfile.TemporaryDirectory() as folder:
+            if words.profile:
+                for kind in kinds:
+                    print_profile(program, folder, kind)
+            else:
+                print_table(program, folder, kinds, int(words.size * MEBIBYTE))
+    except (BenchError, OSError, subprocess.CalledProcessError) as error:
+        print(f"bench: {error}", file=sys.stderr)
+        return 1
+    return 0
+
+
+if __name__ == "__main__":
+    sys.exit(main())
