@@ -33,6 +33,8 @@ PROGRAM = ROOT / "crates" / "pclcheck" / "out" / "pclcheck"
 BUILD = "cd crates/pclcheck && rt run -- check ../../examples/ruled_form.pcl @A"
 
 PRINTER = "@B"
+
+# How many printers the fleets have.
 FLEETS = (1, 2, 4)
 RUNS = 5
 MEBIBYTE = 1 << 20
@@ -221,7 +223,7 @@ def require_pass(job, printers, status, output):
     if status != 0 or not output.startswith(b"PASS "):
         line = output.decode("utf-8", "replace").strip()
         raise BenchError(
-            f"a job of kind {job.kind} does not pass for {printers} printers:"
+            f"a job of kind {job.kind} does not pass for a fleet of {printers}:"
             f" status {status}, {line or 'no line'}"
         )
 
@@ -246,22 +248,22 @@ def processor():
     return found.group(1) if found else "unknown"
 
 
-# The columns of the table, and how wide they are.
+# The columns of the table, and to which side and how wide they are written.
 COLUMNS = {
-    "Job": 10,
-    "Printers": 8,
-    "Bytes": 9,
-    "MB/s": 6,
-    "Instructions a byte": 19,
-    "A further printer": 17,
-    "Peak memory": 11,
+    "Job": "<10",
+    "Printers": ">8",
+    "Bytes": ">9",
+    "MB/s": ">6",
+    "Instructions a byte": ">19",
+    "A further printer": ">17",
+    "Peak memory": ">11",
 }
 
 
 def print_row(cells):
     """Prints a row of the table."""
-    first, *others = (f"{cell:>{width}}" for cell, width in zip(cells, COLUMNS.values()))
-    print("|", " | ".join([f"{first.strip():<{COLUMNS['Job']}}", *others]), "|", flush=True)
+    written = (f"{cell:{form}}" for cell, form in zip(cells, COLUMNS.values()))
+    print("|", " | ".join(written), "|", flush=True)
 
 
 def print_table(program, folder, kinds, size):
@@ -281,15 +283,20 @@ def print_rows_of_kind(program, folder, kind, size):
     for printers in FLEETS:
         speed = job.size / 1e6 / program.best_seconds(job, printers)
         memory = program.peak_memory(job, printers) / 1024
-        each, further = "-", "-"
+        cost, further = None, None
         if shutil.which("valgrind"):
             cost = program.instructions_a_byte(counted, printers)
-            each = f"{cost:.1f}"
-            if alone is None:
+            if printers == 1:
                 alone = cost
             else:
-                further = f"{(cost - alone) / (printers - 1):.1f}"
-        print_row([kind, printers, job.size, f"{speed:.1f}", each, further, f"{memory:.1f} MiB"])
+                further = (cost - alone) / (printers - 1)
+        numbers = [tenths(speed), tenths(cost), tenths(further), f"{tenths(memory)} MiB"]
+        print_row([kind, printers, job.size, *numbers])
+
+
+def tenths(number):
+    """A number with one decimal; a dash where there is none."""
+    return "-" if number is None else f"{number:.1f}"
 
 
 def print_profile(program, folder, kind):
