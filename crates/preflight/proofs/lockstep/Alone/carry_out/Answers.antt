@@ -1,6 +1,6 @@
 use Rattle.preflight.proofs.Counting.{counter_takes, TakesAll-counts}
 use Rattle.preflight.proofs.Carrying.{does_of}
-use Rattle.preflight.specs.Lockstep.{action_of}
+use Rattle.preflight.specs.Carriers.Lockstep.{action_of}
 use Rattle.preflight.proofs.lockstep.Alone.carry_out.Goals as goal
 
 pub returns-in-Ok : goal.returns-in-Ok
