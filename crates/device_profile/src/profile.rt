@@ -44,7 +44,7 @@ impl<A: Allocator> Model for Profile<A> {
 
 impl<A: Allocator> Profile<A> {
     ghost use Rattle.std.specs.Prelude.{◌≡◌, IsTrue, IfSome};
-    ghost use Rattle.device_profile.specs.Printer.{values_of, row_at, geometry_at, has_size, has_orientation, first_panel, has_tray, IsAllowed, HasPages, HasFaces, HasTrays, fits_page};
+    ghost use Rattle.device_profile.specs.Printer.{values_of, row_at, geometry_at, has_size, has_orientation, first_panel, has_tray, IsAllowed, HasPages, HasFaces, HasTrays, has_every_pair, fits_page};
     ghost use Rattle.std.specs.Option.{option_copied};
     ghost use Rattle.device_profile.specs.Faces.{face_at, face_for};
 
@@ -132,6 +132,13 @@ impl<A: Allocator> Profile<A> {
             sides: self.sides[0],
             tray: self.trays[0],
         }
+    }
+
+    /// Each panel that the printer may have has a page, and each size of a page goes with each orientation of a page.
+    pub fn pages_are_whole(&self)
+        ensures pages { HasPages self.now }
+        ensures pairs { IsTrue (has_every_pair self.now.geometries) }
+    {
     }
 
     /// How many levels of macros may run, one within the other.
