@@ -1,10 +1,12 @@
 mod RowExamples
 mod WordExamples
+pub mod Additions
 pub mod AmountLemmas
 pub mod CodeRanges
 pub mod Examples
 pub mod Finished
 pub mod Keys
+pub mod LineParts
 pub mod Parts
 pub mod Reading
 pub mod RowNumbers

@@ -1,5 +1,5 @@
 -- What a valid printer has.
-use Rattle.std.proofs.Common.{◌≡◌, ℕ, ◌==◌, ◌<◌, ◌&&◌, Bool, List, [], ◌∷◌, length, get_or, IsTrue, IsSome, Contains, Any, find, IfSome, Some, inl, inr, nat_le, rules, arith, refl, sym, ap, ◌∙◌}
+use Rattle.std.proofs.Common.{◌≡◌, ℕ, ◌==◌, ◌<◌, ◌&&◌, Bool, not, List, [], ◌∷◌, length, get_or, IsTrue, IsSome, Contains, Any, find, IfSome, Some, inl, inr, nat_le, rules, arith, refl, sym, ap, ◌∙◌}
 use Rattle.std.specs.List.{list_all, list_any}
 use Rattle.std.proofs.lemmas.Bool.{and_parts, or_cases, both_ways, false≢true, leb-true, cond_both, eqb-true}
 use Rattle.std.proofs.lemmas.List.{get_or_read}
@@ -10,9 +10,10 @@ use Rattle.device_profile.specs.declared.geometry.Geometry.{Geometry}
 use Rattle.device_profile.specs.declared.panel.Panel.{Panel}
 use Rattle.device_profile.specs.declared.field.Field.{Field}
 use Rattle.device_profile.specs.declared.field.Field.TheVariants.{Size, Orientation, Vmi, Font, Copies, Sides, Tray}
-use Rattle.device_profile.specs.Faces.{Face, face_at, has_face}
-use Rattle.device_profile.specs.Values.{is_between, is_value, are_values}
-use Rattle.device_profile.specs.Printer.{Printer, is_valid, has_row, has_every_pair, has_size, has_orientation, has_tray, row_at, fits_page, first_panel, IsAllowed, HasPages, HasFaces, HasTrays}
+use Rattle.device_profile.specs.Faces.{Face, face_at, face_for, has_face, has_metrics, is_same_request}
+use Rattle.device_profile.specs.declared.font.FontRequest.{FontRequest}
+use Rattle.device_profile.specs.Values.{is_between, is_value, are_values, are_choices, has_repeat}
+use Rattle.device_profile.specs.Printer.{Printer, is_valid, values_of, has_row, has_every_pair, has_size, has_orientation, has_tray, row_at, fits_page, first_panel, IsAllowed, HasPages, HasFaces, HasTrays}
 
 -- an element of a list whose elements all pass
 passes-at : {X : Type 0} (p : X → Bool) (xs : List X) (x : X) → IsTrue (list_all p xs) → Contains xs x → IsTrue (p x)
@@ -61,11 +62,16 @@ pub record Valid (printer : Printer) : Type 0 where
   pub held : IsTrue (list_all (λ tray. has_tray printer tray) printer.trays)
   pub pairs : IsTrue (has_every_pair printer.geometries)
   pub fits : IsTrue (list_all fits_page printer.geometries)
+  pub metrics : IsTrue (list_all has_metrics printer.faces)
+
+listed : (field : Field) (values : List ℕ) → IsTrue (are_choices field values) → IsTrue (are_values field values)
+listed field values are = (and_parts (are_values field values) (not (has_repeat values)) are).0
 
 pub valid_parts : (printer : Printer) → IsTrue (is_valid printer) → Valid printer
 valid_parts printer valid =
     let faces = and_parts _ _ valid in
     let pages = and_parts _ _ faces.0 in
+    let metrics = and_parts _ _ faces.1 in
     let memory = and_parts _ _ pages.0 in
     let depth = and_parts _ _ memory.0 in
     let sides = and_parts _ _ depth.0 in
@@ -83,19 +89,20 @@ valid_parts printer valid =
     let fits = and_parts _ _ pages.1 in
     let pairs = and_parts _ _ fits.0 in
     record {
-      size = c1.0;
-      orientation = c1.1;
-      vmi = c2.1;
-      font = c3.1;
-      copies = c4.1;
-      sides = c5.1;
-      tray = c6.1;
+      size = listed Size printer.sizes c1.0;
+      orientation = listed Orientation printer.orientations c1.1;
+      vmi = listed Vmi printer.vmis c2.1;
+      font = listed Font printer.fonts c3.1;
+      copies = listed Copies printer.copies c4.1;
+      sides = listed Sides printer.sides c5.1;
+      tray = listed Tray printer.trays c6.1;
       sized = turned.0;
       turned = turned.1;
       faced = fonts.1;
       held = offers.1;
       pairs = pairs.1;
       fits = fits.1;
+      metrics = metrics.1;
     }
 
 some_values : (field : Field) (values : List ℕ) → IsTrue (are_values field values) → 0 < length values
@@ -104,9 +111,15 @@ some_values field values are =
     let bounds = and_parts (nat_le 1 (length values)) (nat_le (length values) 16) counted.0 in
     omega (arith, leb-true 1 (length values) bounds.0)
 
--- a valid printer's panel has a tray
-pub some_trays : (printer : Printer) → IsTrue (is_valid printer) → 0 < length printer.trays
-some_trays printer valid = some_values Tray printer.trays ((valid_parts printer valid).tray)
+-- a valid printer's panel has some value in each field
+pub some_allowed : (printer : Printer) (field : Field) → IsTrue (is_valid printer) → 0 < length (values_of printer field)
+some_allowed printer Size valid = some_values Size printer.sizes ((valid_parts printer valid).size)
+some_allowed printer Orientation valid = some_values Orientation printer.orientations ((valid_parts printer valid).orientation)
+some_allowed printer Vmi valid = some_values Vmi printer.vmis ((valid_parts printer valid).vmi)
+some_allowed printer Font valid = some_values Font printer.fonts ((valid_parts printer valid).font)
+some_allowed printer Copies valid = some_values Copies printer.copies ((valid_parts printer valid).copies)
+some_allowed printer Sides valid = some_values Sides printer.sides ((valid_parts printer valid).sides)
+some_allowed printer Tray valid = some_values Tray printer.trays ((valid_parts printer valid).tray)
 
 first-Contains : (field : Field) (values : List ℕ) (value : ℕ) → IsTrue (are_values field values) → value ≡ get_or values 0 value → Contains values value
 first-Contains field values value are is_first = (0, some_values field values are, sym is_first)
@@ -196,3 +209,13 @@ pub IfSome-row_at : (printer : Printer) (size orientation : ℕ) → IsTrue (is_
 unfolding row_at
 IfSome-row_at printer size orientation valid =
     IfSome-find (λ (row : Geometry). (row.size == size) && (row.orientation == orientation)) fits_page printer.geometries ((valid_parts printer valid).fits)
+
+-- the face that is looked up has its metrics
+pub IfSome-face_at : (printer : Printer) (id : ℕ) → IsTrue (is_valid printer) → IfSome (face_at printer.faces id) (λ face. IsTrue (has_metrics face))
+unfolding face_at
+IfSome-face_at printer id valid = IfSome-find (λ (face : Face). face.id == id) has_metrics printer.faces ((valid_parts printer valid).metrics)
+
+pub IfSome-face_for : (printer : Printer) (request : FontRequest) → IsTrue (is_valid printer) → IfSome (face_for printer.faces request) (λ face. IsTrue (has_metrics face))
+unfolding face_for
+IfSome-face_for printer request valid =
+    IfSome-find (λ (face : Face). is_same_request face.request request) has_metrics printer.faces ((valid_parts printer valid).metrics)

@@ -1,9 +1,10 @@
 -- The rows in which resident faces are described.
-use Rattle.std.specs.Prelude.{ℕ, ℤ, List, Bool, ◌&&◌, ◌==◌, Option, find, nat_le}
+use Rattle.std.specs.Prelude.{ℕ, ℤ, pos, List, length, Bool, not, ◌&&◌, ◌==◌, Option, find, nat_le, int_lt, int_le}
 use Rattle.std.specs.Ordering.{int_eq}
-use Rattle.std.specs.List.{list_any}
+use Rattle.std.specs.List.{list_all, list_any}
 use Rattle.device_profile.specs.declared.font.CodeRange.{CodeRange}
 use Rattle.device_profile.specs.declared.font.FontRequest.{FontRequest}
+use Rattle.device_profile.specs.Rows.{has_alike}
 
 -- A resident face: its id, the request that it answers, how far a character moves the cursor and how far it reaches above and
 -- below the baseline, in ticks, and the codes that print.
@@ -37,6 +38,18 @@ has_face faces id = list_any (λ face. face.id == id) faces
 -- whether some face answers this request
 unfoldable pub has_request : List Face → FontRequest → Bool
 has_request faces request = list_any (λ face. is_same_request face.request request) faces
+
+-- a character moves the cursor ahead, and reaches from the baseline up and down
+abbrev pub has_metrics : Face → Bool
+has_metrics face = int_lt (pos 0) face.advance && int_le (pos 0) face.ascent && int_le (pos 0) face.descent
+
+-- at most 64 rows, no two of one id, no two that answer one request, and each with its metrics
+abbrev pub are_faces : List Face → Bool
+are_faces faces =
+    nat_le (length faces) 64
+    && not (has_alike (λ a b. a.id == b.id) faces)
+    && not (has_alike (λ a b. is_same_request a.request b.request) faces)
+    && list_all has_metrics faces
 
 -- whether a code prints
 abbrev pub has_code : List CodeRange → ℕ → Bool

@@ -1,12 +1,13 @@
 -- What contracts know of a printer.
-use Rattle.std.specs.Prelude.{ℕ, ◌==◌, ◌&&◌, ◌||◌, nat_le, Bool, IsTrue, IsSome, List, length, slice_index, Option, find, unwrap_or, Contains, pos, ◌+ℤ◌, int_lt, int_le}
+use Rattle.std.specs.Prelude.{ℕ, ◌==◌, ◌&&◌, ◌||◌, nat_le, Bool, not, IsTrue, IsSome, List, length, slice_index, Option, find, unwrap_or, Contains, pos, ◌+ℤ◌, int_lt, int_le}
 use Rattle.std.specs.List.{list_all, list_any}
 use Rattle.device_profile.specs.declared.field.Field.{Field}
 use Rattle.device_profile.specs.declared.field.Field.TheVariants.{Size, Orientation, Vmi, Font, Copies, Sides, Tray}
 use Rattle.device_profile.specs.declared.geometry.Geometry.{Geometry}
 use Rattle.device_profile.specs.declared.panel.Panel.{Panel}
-use Rattle.device_profile.specs.Faces.{Face, face_at, has_face}
-use Rattle.device_profile.specs.Values.{are_values}
+use Rattle.device_profile.specs.Faces.{Face, face_at, has_face, are_faces}
+use Rattle.device_profile.specs.Rows.{has_alike}
+use Rattle.device_profile.specs.Values.{are_choices}
 
 -- the values that the panel may have in each field, what the device has, and its pages
 pub record Printer : Type 0 where
@@ -98,12 +99,12 @@ HasPages printer = (panel : Panel) → IsAllowed printer panel → IsSome (row_a
 abbrev pub HasFaces : Printer → Type 0
 HasFaces printer = (panel : Panel) → IsAllowed printer panel → IsSome (face_at printer.faces panel.font)
 
--- each field of the panel has 1 to 16 of its values, and the device 1 to 16 trays
+-- each field of the panel has 1 to 16 of its values, and the device 1 to 16 trays, none twice
 abbrev pub has_choices : Printer → Bool
 has_choices printer =
-    are_values Size printer.sizes && are_values Orientation printer.orientations && are_values Vmi printer.vmis
-    && are_values Font printer.fonts && are_values Copies printer.copies && are_values Sides printer.sides
-    && are_values Tray printer.trays && are_values Tray printer.device_trays
+    are_choices Size printer.sizes && are_choices Orientation printer.orientations && are_choices Vmi printer.vmis
+    && are_choices Font printer.fonts && are_choices Copies printer.copies && are_choices Sides printer.sides
+    && are_choices Tray printer.trays && are_choices Tray printer.device_trays
 
 -- whether the device has this tray
 abbrev pub has_tray : Printer → ℕ → Bool
@@ -154,9 +155,14 @@ fits_printable_area row =
 abbrev pub fits_page : Geometry → Bool
 fits_page row = fits_logical_page row && fits_printable_area row
 
--- at most 64 rows, each size with each orientation, and each with its areas in the page
+-- the two are pages of the same size and orientation
+abbrev pub is_same_page : Geometry → Geometry → Bool
+is_same_page a b = (a.size == b.size) && (a.orientation == b.orientation)
+
+-- at most 64 rows, no two of one size and orientation, each size with each orientation, and each with its areas in the page
 abbrev pub are_pages : List Geometry → Bool
-are_pages rows = nat_le (length rows) 64 && has_every_pair rows && list_all fits_page rows
+are_pages rows =
+    nat_le (length rows) 64 && not (has_alike is_same_page rows) && has_every_pair rows && list_all fits_page rows
 
 -- a printer that hangs together
 abbrev pub is_valid : Printer → Bool
@@ -164,4 +170,4 @@ is_valid printer =
     has_choices printer && has_what_it_offers printer
     && list_all (are_sides printer.has_duplex) printer.sides
     && nat_le printer.depth 8 && nat_le printer.memory 1_048_576
-    && are_pages printer.geometries && nat_le (length printer.faces) 64
+    && are_pages printer.geometries && are_faces printer.faces

@@ -1,6 +1,12 @@
--- The rows in which pages are described.
-use Rattle.std.specs.Prelude.{ℕ, ◌*◌, List, slice_index, pos, ℤ}
+-- The rows of a profile, and what one of a page holds.
+use Rattle.std.specs.Prelude.{ℕ, ◌*◌, ◌||◌, Bool, false, List, [], ◌∷◌, slice_index, pos, ℤ}
+use Rattle.std.specs.List.{list_any}
 use Rattle.device_profile.specs.declared.geometry.Geometry.{Geometry}
+
+-- some row is like an earlier one
+abbrev pub has_alike : {Row : Type 0} → (Row → Row → Bool) → List Row → Bool
+has_alike is_like [] = false
+has_alike is_like (row ∷ rows) = list_any (is_like row) rows || has_alike is_like rows
 
 -- a length of so many 7200ths of an inch
 abbrev pub of_7200ths : ℕ → ℤ

@@ -1,5 +1,5 @@
 -- The values that a key of a profile's text may have.
-use Rattle.std.specs.Prelude.{ℕ, List, [], ◌∷◌, Bool, false, ◌&&◌, ◌||◌, ◌==◌, nat_le, length, Option, None, Some, if◌then◌else◌, Result, Ok, Err}
+use Rattle.std.specs.Prelude.{ℕ, List, [], ◌∷◌, Bool, false, not, ◌&&◌, ◌||◌, ◌==◌, nat_le, length, Option, None, Some, if◌then◌else◌, Result, Ok, Err}
 use Rattle.std.specs.List.{list_all, list_any, filter_map}
 use Rattle.std.specs.Option.{option_and_then}
 use Rattle.device_profile.specs.declared.field.Field.{Field}
@@ -40,6 +40,10 @@ has_repeat (n ∷ ns) = list_any (λ m. m == n) ns || has_repeat ns
 -- 1 to 16 values of a field
 abbrev pub are_values : Field → List ℕ → Bool
 are_values field values = is_between 1 16 (length values) && list_all (is_value field) values
+
+-- 1 to 16 values of a field, none of which stands twice
+abbrev pub are_choices : Field → List ℕ → Bool
+are_choices field values = are_values field values && not (has_repeat values)
 
 -- The values that the words behind a key list. A number that stands twice comes before all else that is wrong; words that are no
 -- numbers are not compared.

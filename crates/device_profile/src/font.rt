@@ -62,13 +62,15 @@ impl<A: Allocator> Model for FontRow<A> {
 
     ghost Value = { Face };
 
-    ghost use Rattle.device_profile.specs.FaceFields.{face_of};
+    ghost use Rattle.device_profile.specs.FaceFields.{face_of, IsFace};
 
     ghost view = { face_of };
+
+    ghost invariant = { IsFace };
 }
 
 impl<A: Allocator> FontRow<A> {
-    ghost use Rattle.std.specs.Prelude.{◌≡◌};
+    ghost use Rattle.std.specs.Prelude.{◌≡◌, pos, ◌<ℤ◌, ◌≤ℤ◌};
     ghost use Rattle.device_profile.specs.Faces.{has_code};
 
     /// The number by which the panel names the face.
@@ -87,21 +89,24 @@ impl<A: Allocator> FontRow<A> {
 
     /// How far a character moves the cursor.
     pub fn advance(&self) -> Length
-        ensures { result ≡ self.now.advance }
+        ensures value { result ≡ self.now.advance }
+        ensures positive { pos 0 <ℤ result }
     {
         self.advance
     }
 
     /// How far a character reaches above the baseline.
     pub fn ascent(&self) -> Length
-        ensures { result ≡ self.now.ascent }
+        ensures value { result ≡ self.now.ascent }
+        ensures not_negative { pos 0 ≤ℤ result }
     {
         self.ascent
     }
 
     /// How far a character reaches below the baseline.
     pub fn descent(&self) -> Length
-        ensures { result ≡ self.now.descent }
+        ensures value { result ≡ self.now.descent }
+        ensures not_negative { pos 0 ≤ℤ result }
     {
         self.descent
     }

@@ -46,7 +46,7 @@ impl<A: Allocator> Profile<A> {
     ghost use Rattle.std.specs.Prelude.{◌≡◌, IsTrue, IfSome};
     ghost use Rattle.device_profile.specs.Printer.{values_of, row_at, geometry_at, has_size, has_orientation, first_panel, has_tray, IsAllowed, HasPages, HasFaces, HasTrays, has_every_pair, fits_page};
     ghost use Rattle.std.specs.Option.{option_copied};
-    ghost use Rattle.device_profile.specs.Faces.{face_at, face_for};
+    ghost use Rattle.device_profile.specs.Faces.{face_at, face_for, has_metrics};
 
     /// The page of a size and an orientation.
     pub fn geometry(&self, size: u32, orientation: u32) -> Option<Geometry>
@@ -87,6 +87,7 @@ impl<A: Allocator> Profile<A> {
     #[tactic(auto, unfolding(crate::specs::Faces::face_at))]
     pub fn face(&self, id: u32) -> Option<&FontRow<A>>
         ensures face { option_copied result ≡ face_at self.now.faces id }
+        ensures metrics { IfSome (face_at self.now.faces id) (λ face. IsTrue (has_metrics face)) }
         // Each panel that the printer may have leads to a face.
         ensures allowed { HasFaces self.now }
     {
@@ -96,7 +97,8 @@ impl<A: Allocator> Profile<A> {
     /// The face that a request selects: the one of these seven parts.
     #[tactic(auto, unfolding(crate::specs::Faces::face_for))]
     pub fn font(&self, request: &FontRequest) -> Option<&FontRow<A>>
-        ensures { option_copied result ≡ face_for self.now.faces request.now }
+        ensures face { option_copied result ≡ face_for self.now.faces request.now }
+        ensures metrics { IfSome (face_for self.now.faces request.now) (λ face. IsTrue (has_metrics face)) }
     {
         self.faces
             .iter()

@@ -1,12 +1,31 @@
 use Rattle.std.proofs.Common.{◌≡◌, subst, arith}
 use Rattle.device_profile.specs.Fields.{printer_of}
 use Rattle.device_profile.specs.Printer.{Printer, IsAllowed, first_panel}
+use Rattle.device_profile.specs.declared.field.Field.TheVariants.{Size, Orientation, Vmi, Font, Copies, Sides, Tray}
 use Rattle.device_profile.specs.declared.panel.Panel.{Panel}
-use Rattle.device_profile.proofs.Valid.{IsAllowed-firsts, first_panel-firsts, some_trays}
+use Rattle.device_profile.proofs.Valid.{IsAllowed-firsts, first_panel-firsts, some_allowed}
 use Rattle.device_profile.proofs.profile.Profile.first_panel.Goals as goal
 
+pub index-requires : goal.index-requires
+index-requires g c = omega (arith, some_allowed (printer_of c.self.inside) Size c.self.invariant, c.self.inside.sizes.ok.0)
+
+pub index-requires-2 : goal.index-requires-2
+index-requires-2 g c = omega (arith, some_allowed (printer_of c.self.inside) Orientation c.self.invariant, c.self.inside.orientations.ok.0)
+
+pub index-requires-3 : goal.index-requires-3
+index-requires-3 g c = omega (arith, some_allowed (printer_of c.self.inside) Vmi c.self.invariant, c.self.inside.vmis.ok.0)
+
+pub index-requires-4 : goal.index-requires-4
+index-requires-4 g c = omega (arith, some_allowed (printer_of c.self.inside) Font c.self.invariant, c.self.inside.fonts.ok.0)
+
+pub index-requires-5 : goal.index-requires-5
+index-requires-5 g c = omega (arith, some_allowed (printer_of c.self.inside) Copies c.self.invariant, c.self.inside.copies.ok.0)
+
+pub index-requires-6 : goal.index-requires-6
+index-requires-6 g c = omega (arith, some_allowed (printer_of c.self.inside) Sides c.self.invariant, c.self.inside.sides.ok.0)
+
 pub index-requires-7 : goal.index-requires-7
-index-requires-7 g c = omega (arith, some_trays (printer_of c.self.inside) c.self.invariant, c.self.inside.trays.ok.0)
+index-requires-7 g c = omega (arith, some_allowed (printer_of c.self.inside) Tray c.self.invariant, c.self.inside.trays.ok.0)
 
 pub returns-clause-value : goal.returns-clause-value
 returns-clause-value g c =
