@@ -24,11 +24,11 @@ pub data Addition : Type 0 where
   new_page : Geometry → Addition
   new_face : Face → Addition
 
-abbrev or_none : (List ℕ → Addition) → Result (List ℕ) Cause → Option Addition
+abbrev pub or_none : (List ℕ → Addition) → Result (List ℕ) Cause → Option Addition
 or_none new (Ok values) = Some (new values)
 or_none new (Err cause) = None
 
-abbrev addition_of_key : Key → List (List ℕ) → Option Addition
+abbrev pub addition_of_key : Key → List (List ℕ) → Option Addition
 addition_of_key Name words = if is_name words then Some new_name else None
 addition_of_key (Choice Size) words = or_none new_sizes (values_on_line Size words)
 addition_of_key (Choice Orientation) words = or_none new_orientations (values_on_line Orientation words)
@@ -49,10 +49,10 @@ abbrev pub addition_of : List (List ℕ) → Option Addition
 addition_of [] = Some nothing
 addition_of (key ∷ words) = option_and_then (λ k. addition_of_key k words) (key_of key)
 
-abbrev takes_list : Field → List ℕ → List ℕ → Bool
+abbrev pub takes_list : Field → List ℕ → List ℕ → Bool
 takes_list field held values = (length held == 0) && are_choices field values
 
-abbrev takes_number : ℕ → Option ℕ → ℕ → Bool
+abbrev pub takes_number : ℕ → Option ℕ → ℕ → Bool
 takes_number most held n = not (is_some held) && nat_le n most
 
 -- whether a draft takes an addition

@@ -7,11 +7,14 @@ pub mod Examples
 pub mod Finished
 pub mod Keys
 pub mod LineParts
+pub mod Order
 pub mod Parts
 pub mod Reading
 pub mod RowNumbers
 pub mod Samples
 pub mod ScanLemmas
+pub mod Singles
 pub mod Sound
+pub mod TextLaws
 pub mod Valid
 pub mod ValueLemmas

@@ -12,7 +12,7 @@ use Rattle.device_profile.specs.Text.{draft_of, printer_of, printer_of_text, IsE
 abbrev printer_or_fault : Result Draft ProfileFault → Result Printer ProfileFault
 printer_or_fault given = elim given [ Ok draft ↦ printer_of draft | Err fault ↦ Err fault ]
 
-of_draft : (text : List ℕ) (draft : Draft) → length text ≤ 65_536 → draft_of (lines text) ≡ Ok draft → printer_of_text text ≡ printer_of draft
+pub of_draft : (text : List ℕ) (draft : Draft) → length text ≤ 65_536 → draft_of (lines text) ≡ Ok draft → printer_of_text text ≡ printer_of draft
 unfolding printer_of_text
 of_draft text draft few is =
     let short : nat_lt 65_536 (length text) ≡ false = grind (arith, nat_tests) in

@@ -130,7 +130,7 @@ Sound-added draft (new_face face) taken s =
     assumption (few, ids, requests, all)
 
 -- the lines behind a line, or the line's fault
-abbrev or_fault : Result Draft Cause → (Draft → Result Draft ProfileFault) → ℕ → Result Draft ProfileFault
+abbrev pub or_fault : Result Draft Cause → (Draft → Result Draft ProfileFault) → ℕ → Result Draft ProfileFault
 or_fault given more number = elim given [ Ok next ↦ more next | Err cause ↦ Err (Fault number cause) ]
 
 -- a line that is right goes before the lines behind it

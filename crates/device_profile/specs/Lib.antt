@@ -7,6 +7,7 @@ pub mod Values
 pub mod Faces
 pub mod LineFault
 pub mod GeometryLine
+pub mod Laws
 pub mod FaceFields
 pub mod FaceLine
 pub mod Draft

@@ -10,6 +10,7 @@ mod font;
 mod geometry;
 mod geometry_line;
 mod key;
+pub mod laws;
 mod panel;
 mod profile;
 mod read;

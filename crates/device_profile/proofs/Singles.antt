@@ -1,0 +1,311 @@
+-- Keys that come once stand on one line of an accepted text.
+use Rattle.std.proofs.Common.{◌≡◌, ℕ, suc, ◌+◌, ◌≤◌, ◌==◌, ◌&&◌, Bool, true, false, not, cond, List, [], ◌∷◌, length, get_or, filter, codes, All, IsTrue, MatchBool, Option, None, Some, is_some, find, Result, Ok, Err, nat_lt, nat_le, if◌then◌else◌, arith, refl, sym, subst, ap, ◌∙◌}
+use Rattle.std.specs.Option.{option_map, option_and_then}
+use Rattle.std.specs.Str.{bytes_eq}
+use Rattle.std.specs.List.{list_all}
+use Rattle.std.proofs.lemmas.Bool.{and_parts, cond_both, not-true, not_from_true, not_from_false, false≢true, leb-true, ne_eqb}
+use Rattle.std.proofs.lemmas.Bool.Decides.{nat_tests}
+use Rattle.std.proofs.lemmas.List.Elements.{All-from_recursion}
+use Rattle.std.proofs.lemmas.Slice.Eq.{bytes_eq-Decides}
+use Rattle.device_profile.specs.declared.field.Field.{Field}
+use Rattle.device_profile.specs.declared.field.Field.TheVariants.{Size, Orientation, Vmi, Font, Copies, Sides, Tray}
+use Rattle.device_profile.specs.declared.key.Key.{Key}
+use Rattle.device_profile.specs.declared.key.Key.TheVariants.{Name, Choice, Trays, Duplex, Depth, Memory, Page, Face as FaceRow}
+use Rattle.device_profile.specs.declared.fault.Cause.{Cause}
+use Rattle.device_profile.specs.declared.fault.ProfileFault.{ProfileFault}
+use Rattle.device_profile.specs.Values.{is_between, is_value, are_values, are_choices, has_repeat, values_on_line, number_on_line, is_name}
+use Rattle.device_profile.specs.GeometryLine.{row_of_words}
+use Rattle.device_profile.specs.FaceLine.{face_of_words}
+use Rattle.device_profile.specs.Draft.{Draft, no_draft, keys, key_of, draft_after}
+use Rattle.device_profile.specs.Words.{words_of}
+use Rattle.device_profile.specs.Text.{is_version, words_of_line, draft_of_lines, draft_of, is_complete}
+use Rattle.device_profile.specs.Laws.{has_key, single_keys}
+use Rattle.device_profile.proofs.LineParts.{of_value, of_mapped}
+use Rattle.device_profile.proofs.Additions.{Addition, nothing, new_name, new_sizes, new_orientations, new_vmis, new_fonts, new_copies, new_sides, new_trays, new_device_trays, new_duplex, new_depth, new_memory, new_page, new_face, or_none, addition_of_key, addition_of, takes_list, takes, added, adds}
+use Rattle.device_profile.proofs.Sound.{line_given, version_given}
+
+abbrev word_of : Key → List ℕ
+word_of Name = codes "name"
+word_of (Choice Size) = codes "size"
+word_of (Choice Orientation) = codes "orientation"
+word_of (Choice Vmi) = codes "vmi"
+word_of (Choice Font) = codes "font"
+word_of (Choice Copies) = codes "copies"
+word_of (Choice Sides) = codes "sides"
+word_of (Choice Tray) = codes "tray"
+word_of Trays = codes "trays"
+word_of Duplex = codes "duplex"
+word_of Depth = codes "depth"
+word_of Memory = codes "memory"
+word_of Page = codes "geometry"
+word_of FaceRow = codes "face"
+
+-- the key of an addition's line, by its word
+abbrev word_of_addition : Addition → List ℕ
+word_of_addition nothing = []
+word_of_addition new_name = codes "name"
+word_of_addition (new_sizes values) = codes "size"
+word_of_addition (new_orientations values) = codes "orientation"
+word_of_addition (new_vmis values) = codes "vmi"
+word_of_addition (new_fonts values) = codes "font"
+word_of_addition (new_copies values) = codes "copies"
+word_of_addition (new_sides values) = codes "sides"
+word_of_addition (new_trays values) = codes "tray"
+word_of_addition (new_device_trays values) = codes "trays"
+word_of_addition (new_duplex n) = codes "duplex"
+word_of_addition (new_depth n) = codes "depth"
+word_of_addition (new_memory n) = codes "memory"
+word_of_addition (new_page row) = codes "geometry"
+word_of_addition (new_face face) = codes "face"
+
+found_word : (rows : List (List ℕ × Key)) (word : List ℕ) (key : Key) → IsTrue (list_all (λ row. bytes_eq (word_of row.1) row.0) rows)
+    → option_map (λ row. row.1) (find (λ row. bytes_eq row.0 word) rows) ≡ Some key → word_of key ≡ word
+found_word [] word key named is = cc
+found_word (row ∷ rows) word key named is =
+    let parts = and_parts (bytes_eq (word_of row.1) row.0) (list_all (λ other. bytes_eq (word_of other.1) other.0) rows) named in
+    let own : word_of row.1 ≡ row.0 = (bytes_eq-Decides (word_of row.1) row.0).0 parts.0 in
+    cond_both (bytes_eq row.0 word) (Some row) (find (λ other. bytes_eq other.0 word) rows)
+    (λ found. option_map (λ other. other.1) found ≡ Some key → word_of key ≡ word)
+    (λ yes got.
+    let same : row.1 ≡ key = cc in
+    ap word_of (sym same) ∙ (own ∙ (bytes_eq-Decides row.0 word).0 yes))
+    (λ no got. found_word rows word key parts.1 got)
+    is
+
+-- a key is the word that it is read from
+word_of_key : (word : List ℕ) (key : Key) → key_of word ≡ Some key → word_of key ≡ word
+unfolding key_of
+word_of_key word key is = found_word keys word key refl is
+
+word_of_list : (word : List ℕ) (new : List ℕ → Addition) (given : Result (List ℕ) Cause) (addition : Addition) → ((values : List ℕ) → word_of_addition (new values) ≡ word)
+    → or_none new given ≡ Some addition → word_of_addition addition ≡ word
+word_of_list word new (Ok values) addition named told =
+    let is : new values ≡ addition = cc in
+    ap word_of_addition (sym is) ∙ named values
+word_of_list word new (Err cause) addition named told = cc
+
+word_of_mapped : {X : Type 0} (word : List ℕ) (new : X → Addition) (value : Option X) (addition : Addition) → ((x : X) → word_of_addition (new x) ≡ word)
+    → option_map new value ≡ Some addition → word_of_addition addition ≡ word
+word_of_mapped word new value addition named told =
+    let given = of_mapped new value addition told in
+    ap word_of_addition (sym given.2) ∙ named given.0
+
+word_of_name : (is_right : Bool) (addition : Addition) → (if is_right then Some new_name else None) ≡ Some addition → word_of_addition addition ≡ codes "name"
+word_of_name true addition told =
+    let is : new_name ≡ addition = cc in
+    ap word_of_addition (sym is)
+word_of_name false addition told = cc
+
+word_of_told : (key : Key) (words : List (List ℕ)) (addition : Addition) → addition_of_key key words ≡ Some addition → word_of_addition addition ≡ word_of key
+word_of_told Name words addition told = word_of_name (is_name words) addition told
+word_of_told (Choice Size) words addition told = word_of_list (codes "size") new_sizes (values_on_line Size words) addition (λ v. refl) told
+word_of_told (Choice Orientation) words addition told = word_of_list (codes "orientation") new_orientations (values_on_line Orientation words) addition (λ v. refl) told
+word_of_told (Choice Vmi) words addition told = word_of_list (codes "vmi") new_vmis (values_on_line Vmi words) addition (λ v. refl) told
+word_of_told (Choice Font) words addition told = word_of_list (codes "font") new_fonts (values_on_line Font words) addition (λ v. refl) told
+word_of_told (Choice Copies) words addition told = word_of_list (codes "copies") new_copies (values_on_line Copies words) addition (λ v. refl) told
+word_of_told (Choice Sides) words addition told = word_of_list (codes "sides") new_sides (values_on_line Sides words) addition (λ v. refl) told
+word_of_told (Choice Tray) words addition told = word_of_list (codes "tray") new_trays (values_on_line Tray words) addition (λ v. refl) told
+word_of_told Trays words addition told = word_of_list (codes "trays") new_device_trays (values_on_line Tray words) addition (λ v. refl) told
+word_of_told Duplex words addition told = word_of_mapped (codes "duplex") new_duplex (number_on_line 1 words) addition (λ n. refl) told
+word_of_told Depth words addition told = word_of_mapped (codes "depth") new_depth (number_on_line 8 words) addition (λ n. refl) told
+word_of_told Memory words addition told = word_of_mapped (codes "memory") new_memory (number_on_line 1_048_576 words) addition (λ n. refl) told
+word_of_told Page words addition told = word_of_mapped (codes "geometry") new_page (row_of_words words) addition (λ row. refl) told
+word_of_told FaceRow words addition told = word_of_mapped (codes "face") new_face (face_of_words words) addition (λ face. refl) told
+
+-- a line's first word is the key of what it adds
+first_word : (words : List (List ℕ)) (addition : Addition) → addition_of words ≡ Some addition → get_or words 0 [] ≡ word_of_addition addition
+first_word [] addition told =
+    let is : nothing ≡ addition = cc in
+    ap word_of_addition is
+first_word (word ∷ words) addition told =
+    let given = of_value (λ k. addition_of_key k words) (key_of word) addition told in
+    sym (word_of_key word given.0 given.1) ∙ sym (word_of_told given.0 words addition given.2)
+
+-- whether a key that comes once was given
+abbrev is_given : Key → Draft → Bool
+is_given Name draft = draft.is_named
+is_given (Choice Size) draft = not (length draft.sizes == 0)
+is_given (Choice Orientation) draft = not (length draft.orientations == 0)
+is_given (Choice Vmi) draft = not (length draft.vmis == 0)
+is_given (Choice Font) draft = not (length draft.fonts == 0)
+is_given (Choice Copies) draft = not (length draft.copies == 0)
+is_given (Choice Sides) draft = not (length draft.sides == 0)
+is_given (Choice Tray) draft = not (length draft.trays == 0)
+is_given Trays draft = not (length draft.device_trays == 0)
+is_given Duplex draft = is_some draft.duplex
+is_given Depth draft = is_some draft.depth
+is_given Memory draft = is_some draft.memory
+is_given Page draft = false
+is_given FaceRow draft = false
+
+abbrev is_single : Key → Bool
+is_single Name = true
+is_single (Choice field) = true
+is_single Trays = true
+is_single Duplex = true
+is_single Depth = true
+is_single Memory = true
+is_single Page = false
+is_single FaceRow = false
+
+-- where the line has the key it was not given before and is now, else nothing changes
+abbrev Counts : Bool → Bool → Bool → Type 0
+Counts has was now = MatchBool has ((was ≡ false) × (now ≡ true)) (now ≡ was)
+
+pub some_values : (field : Field) (values : List ℕ) → IsTrue (are_choices field values) → 1 ≤ length values
+some_values field values are =
+    let fit = and_parts (are_values field values) (not (has_repeat values)) are in
+    let counted = and_parts (is_between 1 16 (length values)) (list_all (is_value field) values) fit.0 in
+    leb-true 1 (length values) ((and_parts (nat_le 1 (length values)) (nat_le (length values) 16) counted.0).0)
+
+list_counts : (field : Field) (held values : List ℕ) → IsTrue (takes_list field held values) → (not (length held == 0) ≡ false) × (not (length values == 0) ≡ true)
+list_counts field held values taken =
+    let parts = and_parts (length held == 0) (are_choices field values) taken in
+    let some : 1 ≤ length values = some_values field values parts.1 in
+    (not_from_true (length held == 0) parts.0, not_from_false (length values == 0) (ne_eqb (length values) 0 (λ e. omega arith)))
+
+number_counts : (is_held fits : Bool) → IsTrue (not is_held && fits) → (is_held ≡ false) × (true ≡ true)
+number_counts is_held fits taken = (not-true is_held ((and_parts (not is_held) fits taken).0), refl)
+
+counts : (key : Key) (draft : Draft) (addition : Addition) → IsTrue (is_single key) → IsTrue (takes draft addition)
+    → Counts (bytes_eq (word_of key) (word_of_addition addition)) (is_given key draft) (is_given key (added draft addition))
+counts Page draft addition single taken = absurd (false≢true single)
+counts FaceRow draft addition single taken = absurd (false≢true single)
+counts Name draft new_name single taken = (not-true draft.is_named taken, refl)
+counts (Choice Size) draft (new_sizes values) single taken = list_counts Size draft.sizes values taken
+counts (Choice Orientation) draft (new_orientations values) single taken = list_counts Orientation draft.orientations values taken
+counts (Choice Vmi) draft (new_vmis values) single taken = list_counts Vmi draft.vmis values taken
+counts (Choice Font) draft (new_fonts values) single taken = list_counts Font draft.fonts values taken
+counts (Choice Copies) draft (new_copies values) single taken = list_counts Copies draft.copies values taken
+counts (Choice Sides) draft (new_sides values) single taken = list_counts Sides draft.sides values taken
+counts (Choice Tray) draft (new_trays values) single taken = list_counts Tray draft.trays values taken
+counts Trays draft (new_device_trays values) single taken = list_counts Tray draft.device_trays values taken
+counts Duplex draft (new_duplex n) single taken = number_counts (is_some draft.duplex) (nat_le n 1) taken
+counts Depth draft (new_depth n) single taken = number_counts (is_some draft.depth) (nat_le n 8) taken
+counts Memory draft (new_memory n) single taken = number_counts (is_some draft.memory) (nat_le n 1_048_576) taken
+counts key draft addition single taken = refl
+
+abbrev bit : Bool → ℕ
+bit true = 1
+bit false = 0
+
+-- the lines with a key
+abbrev with_key : Key → List (List ℕ) → List (List ℕ)
+with_key key lines = filter (has_key (word_of key)) lines
+
+one_line : (has was now : Bool) (line : List ℕ) (rest : List (List ℕ)) (total : ℕ) → Counts has was now → bit now + length rest ≡ total → bit was + length (cond has (line ∷ rest) rest) ≡ total
+one_line true was now line rest total counted is =
+    let before : bit was ≡ 0 = ap bit counted.0 in
+    let after : bit now ≡ 1 = ap bit counted.1 in
+    omega arith
+one_line false was now line rest total counted is =
+    let same : bit now ≡ bit was = ap bit counted in
+    omega arith
+
+count_lines : (key : Key) → IsTrue (is_single key) → (lines : List (List ℕ)) (draft : Draft) (number : ℕ) (last : Draft) → draft_of_lines draft number lines ≡ Ok last
+    → bit (is_given key draft) + length (with_key key lines) ≡ bit (is_given key last)
+count_lines key single [] draft number last is =
+    let same : draft ≡ last = cc in
+    let bits : bit (is_given key draft) ≡ bit (is_given key last) = ap (λ d. bit (is_given key d)) same in
+    omega arith
+count_lines key single (line ∷ lines) draft number last is =
+    let given = line_given (draft_after draft (words_of_line line)) (λ next. draft_of_lines next (number + 1) lines) number last is in
+    let step = adds draft (words_of_line line) given.0 given.1 in
+    let here : Counts (has_key (word_of key) line) (is_given key draft) (is_given key (added draft step.addition)) =
+    subst (λ (word : List ℕ). Counts (bytes_eq (word_of key) word) (is_given key draft) (is_given key (added draft step.addition))) (sym (first_word (words_of_line line) step.addition step.told))
+    (counts key draft step.addition single step.taken) in
+    let counted : Counts (has_key (word_of key) line) (is_given key draft) (is_given key given.0) =
+    subst (λ (d : Draft). Counts (has_key (word_of key) line) (is_given key draft) (is_given key d)) step.is here in
+    one_line (has_key (word_of key) line) (is_given key draft) (is_given key given.0) line (with_key key lines) (bit (is_given key last)) counted
+    (count_lines key single lines given.0 (number + 1) last given.2)
+
+no_key : (key : Key) → (bytes_eq (word_of key) [] ≡ false) × (bytes_eq (word_of key) (codes "pclprofile") ≡ false)
+no_key Name = (refl, refl)
+no_key (Choice Size) = (refl, refl)
+no_key (Choice Orientation) = (refl, refl)
+no_key (Choice Vmi) = (refl, refl)
+no_key (Choice Font) = (refl, refl)
+no_key (Choice Copies) = (refl, refl)
+no_key (Choice Sides) = (refl, refl)
+no_key (Choice Tray) = (refl, refl)
+no_key Trays = (refl, refl)
+no_key Duplex = (refl, refl)
+no_key Depth = (refl, refl)
+no_key Memory = (refl, refl)
+no_key Page = (refl, refl)
+no_key FaceRow = (refl, refl)
+
+format_of : (words : List (List ℕ)) → IsTrue (is_version words) → get_or words 0 [] ≡ codes "pclprofile"
+format_of [] version = absurd (false≢true version)
+format_of (format ∷ []) version = absurd (false≢true version)
+format_of (format ∷ number ∷ []) version =
+    (bytes_eq-Decides format (codes "pclprofile")).0 ((and_parts (bytes_eq format (codes "pclprofile")) (bytes_eq number (codes "1")) version).0)
+format_of (format ∷ number ∷ more ∷ words) version = absurd (false≢true version)
+
+-- the first line has no key
+first_line : (key : Key) (first : List ℕ) → IsTrue (is_version (words_of first)) → has_key (word_of key) first ≡ false
+first_line key first version =
+    cond_both (get_or first 0 0 == 35) [] (words_of first) (λ words. bytes_eq (word_of key) (get_or words 0 []) ≡ false)
+    (λ comment. (no_key key).0)
+    (λ line. ap (bytes_eq (word_of key)) (format_of (words_of first) version) ∙ (no_key key).1)
+
+none_given : (key : Key) → IsTrue (is_single key) → is_given key no_draft ≡ false
+none_given Name single = refl
+none_given (Choice Size) single = refl
+none_given (Choice Orientation) single = refl
+none_given (Choice Vmi) single = refl
+none_given (Choice Font) single = refl
+none_given (Choice Copies) single = refl
+none_given (Choice Sides) single = refl
+none_given (Choice Tray) single = refl
+none_given Trays single = refl
+none_given Duplex single = refl
+none_given Depth single = refl
+none_given Memory single = refl
+none_given Page single = refl
+none_given FaceRow single = refl
+
+-- a key that was given stands on one of all lines
+stands_once : (key : Key) → IsTrue (is_single key) → (all : List (List ℕ)) (draft : Draft) → draft_of all ≡ Ok draft → is_given key draft ≡ true → length (with_key key all) ≡ 1
+stands_once key single [] draft is given = cc
+stands_once key single (first ∷ later) draft is given =
+    let parts = version_given (is_version (words_of first)) (draft_of_lines no_draft 2 later) draft is in
+    let total : bit (is_given key no_draft) + length (with_key key later) ≡ bit (is_given key draft) = count_lines key single later no_draft 2 draft parts.1 in
+    let before : bit (is_given key no_draft) ≡ 0 = ap bit (none_given key single) in
+    let after : bit (is_given key draft) ≡ 1 = ap bit given in
+    let rest : length (with_key key later) ≡ 1 = omega arith in
+    ap (λ has. length (cond has (first ∷ with_key key later) (with_key key later))) (first_line key first parts.0) ∙ rest
+
+some_given : (values : List ℕ) → IsTrue (nat_lt 0 (length values)) → not (length values == 0) ≡ true
+some_given [] some = absurd (false≢true some)
+some_given (value ∷ values) some = not_from_false (suc (length values) == 0) (ne_eqb (suc (length values)) 0 (λ e. omega arith))
+
+-- where each key was given, each that comes once stands on one line
+pub all_once : (all : List (List ℕ)) (draft : Draft) → draft_of all ≡ Ok draft → IsTrue (is_complete draft) → All (λ key. length (filter (has_key key) all) ≡ 1) single_keys
+all_once all draft is complete =
+    let c13 = and_parts _ _ complete in
+    let c12 = and_parts _ _ c13.0 in
+    let c11 = and_parts _ _ c12.0 in
+    let c10 = and_parts _ _ c11.0 in
+    let c9 = and_parts _ _ c10.0 in
+    let c8 = and_parts _ _ c9.0 in
+    let c7 = and_parts _ _ c8.0 in
+    let c6 = and_parts _ _ c7.0 in
+    let c5 = and_parts _ _ c6.0 in
+    let c4 = and_parts _ _ c5.0 in
+    let c3 = and_parts _ _ c4.0 in
+    let c2 = and_parts _ _ c3.0 in
+    let c1 = and_parts _ _ c2.0 in
+    All-from_recursion (λ key. length (filter (has_key key) all) ≡ 1) single_keys
+    (stands_once Name refl all draft is c1.0,
+    (stands_once (Choice Size) refl all draft is (some_given draft.sizes c1.1),
+    (stands_once (Choice Orientation) refl all draft is (some_given draft.orientations c2.1),
+    (stands_once (Choice Vmi) refl all draft is (some_given draft.vmis c3.1),
+    (stands_once (Choice Font) refl all draft is (some_given draft.fonts c4.1),
+    (stands_once (Choice Copies) refl all draft is (some_given draft.copies c5.1),
+    (stands_once (Choice Sides) refl all draft is (some_given draft.sides c6.1),
+    (stands_once (Choice Tray) refl all draft is (some_given draft.trays c7.1),
+    (stands_once Trays refl all draft is (some_given draft.device_trays c8.1),
+    (stands_once Duplex refl all draft is c9.1,
+    (stands_once Depth refl all draft is c10.1,
+    (stands_once Memory refl all draft is c11.1, tt))))))))))))
