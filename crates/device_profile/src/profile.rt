@@ -124,6 +124,9 @@ impl<A: Allocator> Profile<A> {
     pub fn first_panel(&self) -> Panel
         ensures value { result ≡ first_panel self.now }
         ensures allowed { IsAllowed self.now result }
+        // Each panel that the printer may have has a page, and each size of a page goes with each orientation of a page.
+        ensures pages { HasPages self.now }
+        ensures pairs { IsTrue (has_every_pair self.now.geometries) }
     {
         Panel {
             size: self.sizes[0],
@@ -134,13 +137,6 @@ impl<A: Allocator> Profile<A> {
             sides: self.sides[0],
             tray: self.trays[0],
         }
-    }
-
-    /// Each panel that the printer may have has a page, and each size of a page goes with each orientation of a page.
-    pub fn pages_are_whole(&self)
-        ensures pages { HasPages self.now }
-        ensures pairs { IsTrue (has_every_pair self.now.geometries) }
-    {
     }
 
     /// How many levels of macros may run, one within the other.

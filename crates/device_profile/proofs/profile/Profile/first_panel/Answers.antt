@@ -1,9 +1,9 @@
-use Rattle.std.proofs.Common.{◌≡◌, subst, arith}
+use Rattle.std.proofs.Common.{◌≡◌, IsTrue, subst, arith}
 use Rattle.device_profile.specs.Fields.{printer_of}
-use Rattle.device_profile.specs.Printer.{Printer, IsAllowed, first_panel}
+use Rattle.device_profile.specs.Printer.{Printer, IsAllowed, HasPages, has_every_pair, first_panel}
 use Rattle.device_profile.specs.declared.field.Field.TheVariants.{Size, Orientation, Vmi, Font, Copies, Sides, Tray}
 use Rattle.device_profile.specs.declared.panel.Panel.{Panel}
-use Rattle.device_profile.proofs.Valid.{IsAllowed-firsts, first_panel-firsts, some_allowed}
+use Rattle.device_profile.proofs.Valid.{valid_parts, HasPages-valid, IsAllowed-firsts, first_panel-firsts, some_allowed}
 use Rattle.device_profile.proofs.profile.Profile.first_panel.Goals as goal
 
 pub index-requires : goal.index-requires
@@ -56,3 +56,10 @@ returns-clause-allowed g c =
     subst (λ (printer : Printer). IsAllowed printer panel) c.self.view_is
     (IsAllowed-firsts (printer_of c.self.inside) panel c.self.invariant
     c.index.ensures c.index-2.ensures c.index-3.ensures c.index-4.ensures c.index-5.ensures c.index-6.ensures c.index-7.ensures)
+
+pub returns-clause-pages : goal.returns-clause-pages
+returns-clause-pages g c = subst HasPages c.self.view_is (HasPages-valid (printer_of c.self.inside) c.self.invariant)
+
+pub returns-clause-pairs : goal.returns-clause-pairs
+returns-clause-pairs g c =
+    subst (λ (printer : Printer). IsTrue (has_every_pair printer.geometries)) c.self.view_is ((valid_parts (printer_of c.self.inside) c.self.invariant).pairs)
