@@ -7,7 +7,8 @@ use Rattle.std.proofs.lemmas.Bool.Decides.{nat_tests}
 use Rattle.std.proofs.lemmas.List.{append-nil}
 use Rattle.std.proofs.lemmas.List.Splits.{length-slice_split}
 use Rattle.device_profile.specs.declared.font.CodeRange.{CodeRange}
-use Rattle.device_profile.specs.FaceLine.{codes_of, range_of, range_of_parts, is_range_from, are_ranges_from}
+use Rattle.device_profile.specs.FaceLine.{codes_of, range_of, range_of_parts}
+use Rattle.device_profile.specs.Faces.{is_range_from, are_ranges_from}
 use Rattle.device_profile.proofs.RowNumbers.{length-filter_map-le}
 
 -- a range, where it begins at this code or behind it

@@ -2,24 +2,24 @@
 use Rattle.std.proofs.Common.{◌≡◌, ℕ, ℤ, pos, suc, ◌+◌, ◌*◌, ◌<◌, ◌≤◌, ◌==◌, ◌&&◌, ◌||◌, Bool, true, false, not, List, [], ◌∷◌, length, get_or, drop, IsTrue, Option, None, Some, Result, Ok, Err, nat_lt, nat_le, if◌then◌else◌, arith, refl, sym, subst, ap, ◌∙◌}
 use Rattle.std.specs.Prelude.{slice_index, int_lt, int_le}
 use Rattle.std.specs.Option.{option_map, option_map_or, option_and_then}
-use Rattle.std.specs.List.{list_all, filter_map, cons_option}
-use Rattle.std.proofs.lemmas.Bool.{and_parts, or_parts, or_from, not-true, false≢true, eqb-true, leb-true}
+use Rattle.std.specs.List.{list_all, filter_map, cons_option, slice_split}
+use Rattle.std.proofs.lemmas.Bool.{and_parts, and_from, or_parts, or_from, not-true, false≢true, eqb-true, leb-true}
 use Rattle.std.proofs.lemmas.Bool.Decides.{nat_tests}
 use Rattle.std.proofs.lemmas.Int.{ints}
 use Rattle.device_profile.specs.declared.field.Field.{Field}
-use Rattle.device_profile.specs.declared.field.Field.TheVariants.{Size, Orientation}
+use Rattle.device_profile.specs.declared.field.Field.TheVariants.{Font}
 use Rattle.device_profile.specs.declared.font.CodeRange.{CodeRange}
 use Rattle.device_profile.specs.declared.font.FontRequest.{FontRequest}
 use Rattle.device_profile.specs.declared.geometry.Geometry.{Geometry}
 use Rattle.device_profile.specs.declared.fault.Cause.{Cause}
 use Rattle.device_profile.specs.declared.fault.Cause.TheVariants.{Repeated, Range}
-use Rattle.device_profile.specs.Faces.{Face, has_face, has_request, has_metrics}
-use Rattle.device_profile.specs.Printer.{has_row, fits_page}
+use Rattle.device_profile.specs.Faces.{Face, has_face, has_request, has_metrics, is_face, are_ranges_from}
+use Rattle.device_profile.specs.Printer.{has_row, is_page}
 use Rattle.device_profile.specs.Rows.{of_7200ths, row_of}
 use Rattle.device_profile.specs.Words.{number_of}
 use Rattle.device_profile.specs.Values.{value_of, is_between, is_value, has_repeat, are_values, are_choices, values_on_line, number_on_line}
 use Rattle.device_profile.specs.GeometryLine.{is_row_number, repeats_pair, row_numbers_of, row_of_numbers, row_of_words, geometry_on_line}
-use Rattle.device_profile.specs.FaceLine.{between, length_between, request_of, codes_of, face_with_codes, repeats_id, repeats_request, repeats_face, face_of_words, face_on_line}
+use Rattle.device_profile.specs.FaceLine.{between, length_between, request_of, range_of, codes_of, face_with_codes, repeats_id, repeats_request, repeats_face, face_of_words, face_on_line}
 use Rattle.device_profile.proofs.RowNumbers.{length-filter_map-le}
 
 -- a test let a value pass
@@ -101,16 +101,15 @@ first_pair rows (size ∷ orientation ∷ words) numbers is =
     let few : length (filter_map number_of words) ≤ length words = length-filter_map-le number_of words in
     two_first rows (number_of size) (number_of orientation) (filter_map number_of words) numbers (omega arith) twelve_numbers kept.1
 
--- a row's line gives the pair once more where the row's pair is there, and the row fits its page
-pub row_facts : (rows : List Geometry) (words : List (List ℕ)) (row : Geometry) → row_of_words words ≡ Some row → (repeats_pair rows words ≡ has_row rows row.size row.orientation) × IsTrue (fits_page row)
+-- a row's line gives the pair once more where the row's pair is there, and the row is a page
+pub row_facts : (rows : List Geometry) (words : List (List ℕ)) (row : Geometry) → row_of_words words ≡ Some row → (repeats_pair rows words ≡ has_row rows row.size row.orientation) × IsTrue (is_page row)
 row_facts rows words row is =
     let given = of_value row_of_numbers (row_numbers_of words) row is in
     let numbers : List ℕ = given.0 in
-    let is_pair : Bool = is_value Size (slice_index numbers 0) && is_value Orientation (slice_index numbers 1) in
-    let kept = passed_some (is_pair && fits_page (row_of numbers)) (row_of numbers) row given.2 in
+    let kept = passed_some (is_page (row_of numbers)) (row_of numbers) row given.2 in
     (
       first_pair rows words numbers given.1 ∙ ap (λ (r : Geometry). has_row rows r.size r.orientation) kept.1,
-      subst (λ (r : Geometry). IsTrue (fits_page r)) kept.1 ((and_parts is_pair (fits_page (row_of numbers)) kept.0).1),
+      subst (λ (r : Geometry). IsTrue (is_page r)) kept.1 kept.0,
     )
 
 -- a row that is given has room
@@ -121,9 +120,9 @@ room test (Some y) x is =
     (kept.0, ap Some kept.1)
 
 abbrev pub room_for_row : List Geometry → Geometry → Bool
-room_for_row rows row = not (has_row rows row.size row.orientation) && nat_lt (length rows) 64 && fits_page row
+room_for_row rows row = not (has_row rows row.size row.orientation) && nat_lt (length rows) 64 && is_page row
 
--- a row on a line is new, has room and fits its page
+-- a row on a line is new, has room and is a page
 pub row_on_line : (rows : List Geometry) (words : List (List ℕ)) (row : Geometry) → geometry_on_line rows words ≡ Ok row → (row_of_words words ≡ Some row) × IsTrue (room_for_row rows row)
 unfolding geometry_on_line
 row_on_line rows words row is =
@@ -138,7 +137,7 @@ row_on_line rows words row is =
 pub line_of_row : (rows : List Geometry) (words : List (List ℕ)) (row : Geometry) → row_of_words words ≡ Some row → IsTrue (room_for_row rows row) → geometry_on_line rows words ≡ Ok row
 unfolding geometry_on_line
 line_of_row rows words row is taken =
-    let whole = and_parts (not (has_row rows row.size row.orientation) && nat_lt (length rows) 64) (fits_page row) taken in
+    let whole = and_parts (not (has_row rows row.size row.orientation) && nat_lt (length rows) 64) (is_page row) taken in
     let parts = and_parts (not (has_row rows row.size row.orientation)) (nat_lt (length rows) 64) whole.0 in
     let fresh : repeats_pair rows words ≡ false = (row_facts rows words row is).0 ∙ not-true _ parts.0 in
     rw (fresh, is, parts.1) refl
@@ -164,12 +163,14 @@ length_not_negative least most word length is =
     subst (λ (z : ℤ). IsTrue (int_le (pos 0) z)) given.2 (grind (arith, ints, nat_tests))
 
 -- what a line of eleven words says of its face
-record FaceFacts (words : List (List ℕ)) (face : Face) : Type 0 where
+record FaceFacts (words : List (List ℕ)) (ranges : List CodeRange) (face : Face) : Type 0 where
   id : number_of (get_or words 0 []) ≡ Some face.id
+  id_fits : IsTrue (is_value Font face.id)
   request : request_of (drop 1 words) ≡ Some face.request
   metrics : IsTrue (has_metrics face)
+  codes : face.codes ≡ ranges
 
-facts_of_parts : (words : List (List ℕ)) (codes : List CodeRange) (face : Face) → face_with_codes words codes ≡ Some face → FaceFacts words face
+facts_of_parts : (words : List (List ℕ)) (codes : List CodeRange) (face : Face) → face_with_codes words codes ≡ Some face → FaceFacts words codes face
 unfolding face_with_codes
 facts_of_parts words codes face is =
     let a = of_value _ (between 1 255 (number_of (get_or words 0 []))) face is in
@@ -181,27 +182,34 @@ facts_of_parts words codes face is =
     let ascent = length_not_negative 0 720_000 (get_or words 8 []) d.0 d.1 in
     let descent = length_not_negative 0 720_000 (get_or words 9 []) e.0 e.1 in
     let id = of_value (λ n. if is_between 1 255 n then Some n else None) (number_of (get_or words 0 [])) a.0 a.1 in
-    let same = (passed_some (is_between 1 255 id.0) id.0 a.0 id.2).1 in
-    subst (FaceFacts words) e.2 (record { id = id.1 ∙ ap Some same; request = b.1; metrics = rw (advance, ascent, descent) refl })
+    let kept = passed_some (is_between 1 255 id.0) id.0 a.0 id.2 in
+    let fits : IsTrue (is_value Font a.0) = subst (λ (n : ℕ). IsTrue (is_value Font n)) kept.1 kept.0 in
+    subst (FaceFacts words codes) e.2 (record { id = id.1 ∙ ap Some kept.1; id_fits = fits; request = b.1; metrics = rw (advance, ascent, descent) refl; codes = refl })
 
-facts_of_face : (words : List (List ℕ)) (face : Face) → face_of_words words ≡ Some face → FaceFacts words face
-unfolding face_of_words
-facts_of_face words face is =
-    let all = passed_through (length words == 11) (option_and_then (face_with_codes words) (codes_of (get_or words 10 []))) face is in
-    let given = of_value (face_with_codes words) (codes_of (get_or words 10 [])) face all in
-    facts_of_parts words given.0 face given.2
+in_order : (word : List ℕ) (codes : List CodeRange) → codes_of word ≡ Some codes → IsTrue (are_ranges_from 33 codes)
+unfolding codes_of
+in_order word codes is =
+    let parts : List (List ℕ) = slice_split (λ byte. byte == 44) word in
+    let ranges : List CodeRange = filter_map range_of parts in
+    let kept = passed_some ((length ranges == length parts) && are_ranges_from 33 ranges) ranges codes is in
+    subst (λ (r : List CodeRange). IsTrue (are_ranges_from 33 r)) kept.1 ((and_parts (length ranges == length parts) (are_ranges_from 33 ranges) kept.0).1)
 
--- a face's line gives an id or a request once more where the face's are there, and the face has its metrics
+-- a face's line gives an id or a request once more where the face's are there, and the face is one
 pub face_facts : (faces : List Face) (words : List (List ℕ)) (face : Face) → face_of_words words ≡ Some face
-    → (repeats_face faces words ≡ (has_face faces face.id || has_request faces face.request)) × IsTrue (has_metrics face)
+    → (repeats_face faces words ≡ (has_face faces face.id || has_request faces face.request)) × IsTrue (is_face face)
+unfolding face_of_words
 face_facts faces words face is =
-    let facts = facts_of_face words face is in
-    (rw (facts.id, facts.request) refl, facts.metrics)
+    let word : List ℕ = get_or words 10 [] in
+    let all = passed_through (length words == 11) (option_and_then (face_with_codes words) (codes_of word)) face is in
+    let given = of_value (face_with_codes words) (codes_of word) face all in
+    let facts = facts_of_parts words given.0 face given.2 in
+    let codes : IsTrue (are_ranges_from 33 face.codes) = subst (λ (r : List CodeRange). IsTrue (are_ranges_from 33 r)) (sym facts.codes) (in_order word given.0 given.1) in
+    (rw (facts.id, facts.request) refl, and_from _ _ (and_from _ _ facts.id_fits facts.metrics) codes)
 
 abbrev pub room_for_face : List Face → Face → Bool
-room_for_face faces face = not (has_face faces face.id) && not (has_request faces face.request) && nat_lt (length faces) 64 && has_metrics face
+room_for_face faces face = not (has_face faces face.id) && not (has_request faces face.request) && nat_lt (length faces) 64 && is_face face
 
--- a face on a line is new, has room and its metrics
+-- a face on a line is new, has room and is a face
 pub face_of_line : (faces : List Face) (words : List (List ℕ)) (face : Face) → face_on_line faces words ≡ Ok face → (face_of_words words ≡ Some face) × IsTrue (room_for_face faces face)
 unfolding face_on_line
 face_of_line faces words face is =
@@ -218,7 +226,7 @@ unfolding face_on_line
 line_of_face faces words face is taken =
     let no_id : Bool = not (has_face faces face.id) in
     let no_request : Bool = not (has_request faces face.request) in
-    let a = and_parts (no_id && no_request && nat_lt (length faces) 64) (has_metrics face) taken in
+    let a = and_parts (no_id && no_request && nat_lt (length faces) 64) (is_face face) taken in
     let b = and_parts (no_id && no_request) (nat_lt (length faces) 64) a.0 in
     let c = and_parts no_id no_request b.0 in
     let fresh : repeats_face faces words ≡ false = (face_facts faces words face is).0 ∙ or_from _ _ (not-true _ c.0) (not-true _ c.1) in

@@ -13,8 +13,8 @@ use Rattle.device_profile.specs.declared.font.FontRequest.{FontRequest}
 use Rattle.device_profile.specs.declared.geometry.Geometry.{Geometry}
 use Rattle.device_profile.specs.declared.fault.Cause.{Cause}
 use Rattle.device_profile.specs.declared.fault.ProfileFault.{ProfileFault}
-use Rattle.device_profile.specs.Faces.{Face, has_face, has_request, has_metrics, is_same_request}
-use Rattle.device_profile.specs.Printer.{has_row, fits_page, is_same_page}
+use Rattle.device_profile.specs.Faces.{Face, has_face, has_request, is_face, is_same_request}
+use Rattle.device_profile.specs.Printer.{has_row, is_page, is_same_page}
 use Rattle.device_profile.specs.Values.{are_choices}
 use Rattle.device_profile.specs.Draft.{Draft, draft_after}
 use Rattle.device_profile.specs.Text.{words_of_line, draft_of_lines}
@@ -45,16 +45,16 @@ takes-similar a b s (new_page row) =
     let held : has_row a.geometries row.size row.orientation ≡ has_row b.geometries row.size row.orientation =
     list_any-IsPermutation (λ (r : Geometry). (r.size == row.size) && (r.orientation == row.orientation)) a.geometries b.geometries s.geometries in
     let long : length a.geometries ≡ length b.geometries = sym (length_permutation a.geometries b.geometries s.geometries) in
-    ap (λ has. not has && nat_lt (length a.geometries) 64 && fits_page row) held
-    ∙ ap (λ n. not (has_row b.geometries row.size row.orientation) && nat_lt n 64 && fits_page row) long
+    ap (λ has. not has && nat_lt (length a.geometries) 64 && is_page row) held
+    ∙ ap (λ n. not (has_row b.geometries row.size row.orientation) && nat_lt n 64 && is_page row) long
 takes-similar a b s (new_face face) =
     let ids : has_face a.faces face.id ≡ has_face b.faces face.id = list_any-IsPermutation (λ (f : Face). f.id == face.id) a.faces b.faces s.faces in
     let requests : has_request a.faces face.request ≡ has_request b.faces face.request =
     list_any-IsPermutation (λ (f : Face). is_same_request f.request face.request) a.faces b.faces s.faces in
     let long : length a.faces ≡ length b.faces = sym (length_permutation a.faces b.faces s.faces) in
-    ap (λ has. not has && not (has_request a.faces face.request) && nat_lt (length a.faces) 64 && has_metrics face) ids
-    ∙ (ap (λ has. not (has_face b.faces face.id) && not has && nat_lt (length a.faces) 64 && has_metrics face) requests
-    ∙ ap (λ n. not (has_face b.faces face.id) && not (has_request b.faces face.request) && nat_lt n 64 && has_metrics face) long)
+    ap (λ has. not has && not (has_request a.faces face.request) && nat_lt (length a.faces) 64 && is_face face) ids
+    ∙ (ap (λ has. not (has_face b.faces face.id) && not has && nat_lt (length a.faces) 64 && is_face face) requests
+    ∙ ap (λ n. not (has_face b.faces face.id) && not (has_request b.faces face.request) && nat_lt n 64 && is_face face) long)
 takes-similar a b s addition = ap (λ draft. takes draft addition) s.others
 
 -- and are similar with them
@@ -144,9 +144,9 @@ both_orders draft (new_memory n) (new_memory m) one two = absurd (number_twice 1
 both_orders draft (new_page row) (new_page other) one two =
     let rows : List Geometry = draft.geometries in
     let with_row : List Geometry = rows ++ row ∷ [] in
-    let a = and_parts (not (has_row rows row.size row.orientation) && nat_lt (length rows) 64) (fits_page row) one in
+    let a = and_parts (not (has_row rows row.size row.orientation) && nat_lt (length rows) 64) (is_page row) one in
     let b = and_parts (not (has_row rows row.size row.orientation)) (nat_lt (length rows) 64) a.0 in
-    let c = and_parts (not (has_row with_row other.size other.orientation) && nat_lt (length with_row) 64) (fits_page other) two in
+    let c = and_parts (not (has_row with_row other.size other.orientation) && nat_lt (length with_row) 64) (is_page other) two in
     let d = and_parts (not (has_row with_row other.size other.orientation)) (nat_lt (length with_row) 64) c.0 in
     let fresh = new_alone is_same_page same_page_symmetric rows row other b.0 d.0 in
     let room = room_alone rows row other d.1 in
@@ -158,10 +158,10 @@ both_orders draft (new_page row) (new_page other) one two =
 both_orders draft (new_face face) (new_face other) one two =
     let faces : List Face = draft.faces in
     let with_face : List Face = faces ++ face ∷ [] in
-    let a = and_parts (not (has_face faces face.id) && not (has_request faces face.request) && nat_lt (length faces) 64) (has_metrics face) one in
+    let a = and_parts (not (has_face faces face.id) && not (has_request faces face.request) && nat_lt (length faces) 64) (is_face face) one in
     let b = and_parts (not (has_face faces face.id) && not (has_request faces face.request)) (nat_lt (length faces) 64) a.0 in
     let c = and_parts (not (has_face faces face.id)) (not (has_request faces face.request)) b.0 in
-    let d = and_parts (not (has_face with_face other.id) && not (has_request with_face other.request) && nat_lt (length with_face) 64) (has_metrics other) two in
+    let d = and_parts (not (has_face with_face other.id) && not (has_request with_face other.request) && nat_lt (length with_face) 64) (is_face other) two in
     let e = and_parts (not (has_face with_face other.id) && not (has_request with_face other.request)) (nat_lt (length with_face) 64) d.0 in
     let f = and_parts (not (has_face with_face other.id)) (not (has_request with_face other.request)) e.0 in
     let ids = new_alone (λ (g : Face) (h : Face). g.id == h.id) (λ g h. nat_eq_equiv.symm g.id h.id) faces face other c.0 f.0 in

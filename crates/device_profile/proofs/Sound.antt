@@ -13,8 +13,8 @@ use Rattle.device_profile.specs.declared.fault.Cause.{Cause}
 use Rattle.device_profile.specs.declared.fault.Cause.TheVariants.{Version}
 use Rattle.device_profile.specs.declared.fault.ProfileFault.{ProfileFault}
 use Rattle.device_profile.specs.declared.fault.ProfileFault.TheVariants.{Fault}
-use Rattle.device_profile.specs.Faces.{Face, has_face, has_request, has_metrics, is_same_request}
-use Rattle.device_profile.specs.Printer.{has_row, fits_page, is_same_page}
+use Rattle.device_profile.specs.Faces.{Face, has_face, has_request, is_face, is_same_request}
+use Rattle.device_profile.specs.Printer.{has_row, is_page, is_same_page}
 use Rattle.device_profile.specs.Rows.{has_alike}
 use Rattle.device_profile.specs.Words.{words_of}
 use Rattle.device_profile.specs.Values.{are_choices}
@@ -63,11 +63,11 @@ pub record Sound (draft : Draft) : Type 0 where
   pub memory : IsTrue (nat_le (unwrap_or draft.memory 0) 1_048_576)
   pub few_pages : IsTrue (nat_le (length draft.geometries) 64)
   pub new_pages : IsTrue (not (has_alike is_same_page draft.geometries))
-  pub pages : IsTrue (list_all fits_page draft.geometries)
+  pub pages : IsTrue (list_all is_page draft.geometries)
   pub few_faces : IsTrue (nat_le (length draft.faces) 64)
   pub new_ids : IsTrue (not (has_alike (λ a b. a.id == b.id) draft.faces))
   pub new_requests : IsTrue (not (has_alike (λ a b. is_same_request a.request b.request) draft.faces))
-  pub faces : IsTrue (list_all has_metrics draft.faces)
+  pub faces : IsTrue (list_all is_face draft.faces)
 
 Sound-none : Sound no_draft
 Sound-none = record {
@@ -110,23 +110,23 @@ Sound-added draft (new_duplex n) taken s = assumption s
 Sound-added draft (new_depth n) taken s = let new : IsTrue (nat_le n 8) = (and_parts _ (nat_le n 8) taken).1 in assumption new
 Sound-added draft (new_memory n) taken s = let new : IsTrue (nat_le n 1_048_576) = (and_parts _ (nat_le n 1_048_576) taken).1 in assumption new
 Sound-added draft (new_page row) taken s =
-    let whole = and_parts (not (has_row draft.geometries row.size row.orientation) && nat_lt (length draft.geometries) 64) (fits_page row) taken in
+    let whole = and_parts (not (has_row draft.geometries row.size row.orientation) && nat_lt (length draft.geometries) 64) (is_page row) taken in
     let parts = and_parts (not (has_row draft.geometries row.size row.orientation)) (nat_lt (length draft.geometries) 64) whole.0 in
     let few : IsTrue (nat_le (length (draft.geometries ++ row ∷ [])) 64) = one_more draft.geometries row parts.1 in
     let differ : IsTrue (not (has_alike is_same_page (draft.geometries ++ row ∷ []))) = differ_more is_same_page draft.geometries row s.new_pages parts.0 in
-    let all : IsTrue (list_all fits_page (draft.geometries ++ row ∷ [])) = all_more fits_page draft.geometries row s.pages whole.1 in
+    let all : IsTrue (list_all is_page (draft.geometries ++ row ∷ [])) = all_more is_page draft.geometries row s.pages whole.1 in
     assumption (few, differ, all)
 Sound-added draft (new_face face) taken s =
     let no_id : Bool = not (has_face draft.faces face.id) in
     let no_request : Bool = not (has_request draft.faces face.request) in
-    let a = and_parts (no_id && no_request && nat_lt (length draft.faces) 64) (has_metrics face) taken in
+    let a = and_parts (no_id && no_request && nat_lt (length draft.faces) 64) (is_face face) taken in
     let b = and_parts (no_id && no_request) (nat_lt (length draft.faces) 64) a.0 in
     let c = and_parts no_id no_request b.0 in
     let few : IsTrue (nat_le (length (draft.faces ++ face ∷ [])) 64) = one_more draft.faces face b.1 in
     let ids : IsTrue (not (has_alike (λ (a : Face) (b : Face). a.id == b.id) (draft.faces ++ face ∷ []))) = differ_more (λ (a : Face) (b : Face). a.id == b.id) draft.faces face s.new_ids c.0 in
     let requests : IsTrue (not (has_alike (λ (a : Face) (b : Face). is_same_request a.request b.request) (draft.faces ++ face ∷ []))) =
     differ_more (λ (a : Face) (b : Face). is_same_request a.request b.request) draft.faces face s.new_requests c.1 in
-    let all : IsTrue (list_all has_metrics (draft.faces ++ face ∷ [])) = all_more has_metrics draft.faces face s.faces a.1 in
+    let all : IsTrue (list_all is_face (draft.faces ++ face ∷ [])) = all_more is_face draft.faces face s.faces a.1 in
     assumption (few, ids, requests, all)
 
 -- the lines behind a line, or the line's fault

@@ -1,6 +1,8 @@
 -- What a valid printer has.
-use Rattle.std.proofs.Common.{◌≡◌, ℕ, ◌==◌, ◌<◌, ◌&&◌, Bool, not, List, [], ◌∷◌, length, get_or, IsTrue, IsSome, Contains, Any, find, IfSome, Some, inl, inr, nat_le, rules, arith, refl, sym, ap, ◌∙◌}
+use Rattle.std.proofs.Common.{◌≡◌, ℕ, ◌==◌, ◌<◌, ◌&&◌, Bool, not, List, [], ◌∷◌, length, get_or, IsTrue, IsSome, IsSomeAnd, Contains, Any, find, IfSome, Option, None, Some, ℤ, pos, ◌<ℤ◌, int_lt, int_le, inl, inr, nat_le, rules, arith, refl, sym, ap, ◌∙◌}
 use Rattle.std.specs.List.{list_all, list_any}
+use Rattle.std.specs.Option.{option_map_or}
+use Rattle.std.proofs.lemmas.Int.{ints}
 use Rattle.std.proofs.lemmas.Bool.{and_parts, or_cases, both_ways, false≢true, leb-true, cond_both, eqb-true}
 use Rattle.std.proofs.lemmas.List.{get_or_read}
 use Rattle.std.proofs.lemmas.List.Elements.{All-contains}
@@ -10,10 +12,10 @@ use Rattle.device_profile.specs.declared.geometry.Geometry.{Geometry}
 use Rattle.device_profile.specs.declared.panel.Panel.{Panel}
 use Rattle.device_profile.specs.declared.field.Field.{Field}
 use Rattle.device_profile.specs.declared.field.Field.TheVariants.{Size, Orientation, Vmi, Font, Copies, Sides, Tray}
-use Rattle.device_profile.specs.Faces.{Face, face_at, face_for, has_face, has_metrics, is_same_request}
+use Rattle.device_profile.specs.Faces.{Face, face_at, face_for, advance_at, has_face, has_metrics, is_face, are_ranges_from, is_same_request}
 use Rattle.device_profile.specs.declared.font.FontRequest.{FontRequest}
 use Rattle.device_profile.specs.Values.{is_between, is_value, are_values, are_choices, has_repeat}
-use Rattle.device_profile.specs.Printer.{Printer, is_valid, values_of, has_row, has_every_pair, has_size, has_orientation, has_tray, row_at, fits_page, first_panel, IsAllowed, HasPages, HasFaces, HasTrays}
+use Rattle.device_profile.specs.Printer.{Printer, is_valid, values_of, has_row, has_every_pair, has_size, has_orientation, has_tray, row_at, fits_page, is_page, first_panel, IsAllowed, HasPages, HasFaces, HasAdvances, HasTrays}
 
 -- an element of a list whose elements all pass
 passes-at : {X : Type 0} (p : X → Bool) (xs : List X) (x : X) → IsTrue (list_all p xs) → Contains xs x → IsTrue (p x)
@@ -27,11 +29,11 @@ IsSome-find p (x ∷ xs) any =
     (λ no. IsSome-find p xs (elim (or_cases (p x) (list_any p xs) any) [ inl now ↦ absurd (both_ways (p x) no now) | inr later ↦ later ]))
 
 -- what a search finds is as all elements are
-IfSome-find : {X : Type 0} (p q : X → Bool) (xs : List X) → IsTrue (list_all q xs) → IfSome (find p xs) (λ x. IsTrue (q x))
-IfSome-find p q [] all = search rules
-IfSome-find p q (x ∷ xs) all =
+IfSome-find : {X : Type 0} (P : X → Type 0) (p q : X → Bool) (xs : List X) → ((x : X) → IsTrue (q x) → P x) → IsTrue (list_all q xs) → IfSome (find p xs) P
+IfSome-find P p q [] holds all = search rules
+IfSome-find P p q (x ∷ xs) holds all =
     let parts : IsTrue (q x) × IsTrue (list_all q xs) = and_parts (q x) (list_all q xs) all in
-    cond_both (p x) (Some x) (find p xs) (λ found. IfSome found (λ y. IsTrue (q y))) (λ yes. parts.0) (λ no. IfSome-find p q xs parts.1)
+    cond_both (p x) (Some x) (find p xs) (λ found. IfSome found P) (λ yes. holds x parts.0) (λ no. IfSome-find P p q xs holds parts.1)
 
 -- where each size goes with each orientation, a size and an orientation of some row have a row
 row_of_pair : (rows : List Geometry) (size orientation : ℕ) → IsTrue (has_every_pair rows) → IsTrue (has_size rows size) → IsTrue (has_orientation rows orientation) → IsSome (row_at rows size orientation)
@@ -61,8 +63,8 @@ pub record Valid (printer : Printer) : Type 0 where
   pub faced : IsTrue (list_all (λ font. has_face printer.faces font) printer.fonts)
   pub held : IsTrue (list_all (λ tray. has_tray printer tray) printer.trays)
   pub pairs : IsTrue (has_every_pair printer.geometries)
-  pub fits : IsTrue (list_all fits_page printer.geometries)
-  pub metrics : IsTrue (list_all has_metrics printer.faces)
+  pub pages : IsTrue (list_all is_page printer.geometries)
+  pub faces : IsTrue (list_all is_face printer.faces)
 
 listed : (field : Field) (values : List ℕ) → IsTrue (are_choices field values) → IsTrue (are_values field values)
 listed field values are = (and_parts (are_values field values) (not (has_repeat values)) are).0
@@ -71,7 +73,7 @@ pub valid_parts : (printer : Printer) → IsTrue (is_valid printer) → Valid pr
 valid_parts printer valid =
     let faces = and_parts _ _ valid in
     let pages = and_parts _ _ faces.0 in
-    let metrics = and_parts _ _ faces.1 in
+    let described = and_parts _ _ faces.1 in
     let memory = and_parts _ _ pages.0 in
     let depth = and_parts _ _ memory.0 in
     let sides = and_parts _ _ depth.0 in
@@ -101,8 +103,8 @@ valid_parts printer valid =
       faced = fonts.1;
       held = offers.1;
       pairs = pairs.1;
-      fits = fits.1;
-      metrics = metrics.1;
+      pages = fits.1;
+      faces = described.1;
     }
 
 some_values : (field : Field) (values : List ℕ) → IsTrue (are_values field values) → 0 < length values
@@ -192,30 +194,57 @@ HasPages-valid printer valid panel allowed =
     (passes-at (λ size. has_size printer.geometries size) printer.sizes panel.size parts.sized allowed.size)
     (passes-at (λ orientation. has_orientation printer.geometries orientation) printer.orientations panel.orientation parts.turned allowed.orientation)
 
--- each panel that a valid printer may have has a face
-pub HasFaces-valid : (printer : Printer) → IsTrue (is_valid printer) → HasFaces printer
-unfolding face_at has_face
-HasFaces-valid printer valid panel allowed =
-    IsSome-find (λ (face : Face). face.id == panel.font) printer.faces
-    (passes-at (λ font. has_face printer.faces font) printer.fonts panel.font ((valid_parts printer valid).faced) allowed.font)
-
 -- each panel that a valid printer may have has a tray
 pub HasTrays-valid : (printer : Printer) → IsTrue (is_valid printer) → HasTrays printer
 HasTrays-valid printer valid panel allowed =
     passes-at (λ tray. has_tray printer tray) printer.trays panel.tray ((valid_parts printer valid).held) allowed.tray
 
+page_fits : (row : Geometry) → IsTrue (is_page row) → IsTrue (fits_page row)
+page_fits row is = (and_parts (is_value Size row.size && is_value Orientation row.orientation) (fits_page row) is).1
+
 -- the row that is looked up lies in its page
 pub IfSome-row_at : (printer : Printer) (size orientation : ℕ) → IsTrue (is_valid printer) → IfSome (row_at printer.geometries size orientation) (λ row. IsTrue (fits_page row))
 unfolding row_at
 IfSome-row_at printer size orientation valid =
-    IfSome-find (λ (row : Geometry). (row.size == size) && (row.orientation == orientation)) fits_page printer.geometries ((valid_parts printer valid).fits)
+    IfSome-find (λ row. IsTrue (fits_page row)) (λ (row : Geometry). (row.size == size) && (row.orientation == orientation)) is_page printer.geometries page_fits ((valid_parts printer valid).pages)
+
+face_metrics : (face : Face) → IsTrue (is_face face) → IsTrue (has_metrics face)
+face_metrics face is =
+    let parts = and_parts (is_value Font face.id && has_metrics face) (are_ranges_from 33 face.codes) is in
+    (and_parts (is_value Font face.id) (has_metrics face) parts.0).1
 
 -- the face that is looked up has its metrics
 pub IfSome-face_at : (printer : Printer) (id : ℕ) → IsTrue (is_valid printer) → IfSome (face_at printer.faces id) (λ face. IsTrue (has_metrics face))
 unfolding face_at
-IfSome-face_at printer id valid = IfSome-find (λ (face : Face). face.id == id) has_metrics printer.faces ((valid_parts printer valid).metrics)
+IfSome-face_at printer id valid =
+    IfSome-find (λ face. IsTrue (has_metrics face)) (λ (face : Face). face.id == id) is_face printer.faces face_metrics ((valid_parts printer valid).faces)
 
 pub IfSome-face_for : (printer : Printer) (request : FontRequest) → IsTrue (is_valid printer) → IfSome (face_for printer.faces request) (λ face. IsTrue (has_metrics face))
 unfolding face_for
 IfSome-face_for printer request valid =
-    IfSome-find (λ (face : Face). is_same_request face.request request) has_metrics printer.faces ((valid_parts printer valid).metrics)
+    IfSome-find (λ face. IsTrue (has_metrics face)) (λ (face : Face). is_same_request face.request request) is_face printer.faces face_metrics ((valid_parts printer valid).faces)
+
+some_and : {X : Type 0} (P : X → Type 0) (found : Option X) → IsSome found → IfSome found P → IsSomeAnd found P
+some_and P None some holds = absurd (false≢true some)
+some_and P (Some x) some holds = holds
+
+-- each panel that a valid printer may have has a face, with its metrics
+pub HasFaces-valid : (printer : Printer) → IsTrue (is_valid printer) → HasFaces printer
+unfolding face_at has_face
+HasFaces-valid printer valid panel allowed =
+    some_and (λ face. IsTrue (has_metrics face)) (face_at printer.faces panel.font)
+    (IsSome-find (λ (face : Face). face.id == panel.font) printer.faces
+    (passes-at (λ font. has_face printer.faces font) printer.fonts panel.font ((valid_parts printer valid).faced) allowed.font))
+    (IfSome-face_at printer panel.font valid)
+
+ahead : (found : Option Face) → IsSomeAnd found (λ face. IsTrue (has_metrics face)) → pos 0 <ℤ option_map_or (λ face. face.advance) found (pos 0)
+ahead None metrics = absurd metrics
+ahead (Some face) metrics =
+    let reach = and_parts (int_lt (pos 0) face.advance && int_le (pos 0) face.ascent) (int_le (pos 0) face.descent) metrics in
+    let positive : IsTrue (int_lt (pos 0) face.advance) = (and_parts (int_lt (pos 0) face.advance) (int_le (pos 0) face.ascent) reach.0).0 in
+    grind (arith, ints)
+
+-- such a face moves the cursor ahead
+pub HasAdvances-faces : (printer : Printer) → HasFaces printer → HasAdvances printer
+unfolding advance_at
+HasAdvances-faces printer faces panel allowed = ahead (face_at printer.faces panel.font) (faces panel allowed)

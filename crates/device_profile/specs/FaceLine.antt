@@ -10,7 +10,7 @@ use Rattle.device_profile.specs.declared.fault.Cause.TheVariants.{Repeated, Rang
 use Rattle.device_profile.specs.Words.{number_of, amount_of}
 use Rattle.device_profile.specs.Values.{is_between}
 use Rattle.device_profile.specs.Rows.{of_7200ths}
-use Rattle.device_profile.specs.Faces.{Face, has_face, has_request}
+use Rattle.device_profile.specs.Faces.{Face, has_face, has_request, are_ranges_from}
 
 -- a value, where it is from the first to the second
 abbrev pub between : ℕ → ℕ → Option ℕ → Option ℕ
@@ -63,15 +63,6 @@ range_of_parts (first ∷ last ∷ more ∷ parts) = None
 -- the range that a word gives: its two ends with a hyphen between
 abbrev pub range_of : List ℕ → Option CodeRange
 range_of word = range_of_parts (slice_split (λ byte. byte == 45) word)
-
--- a range begins at this code or behind it, and ends at 255 or before
-abbrev pub is_range_from : ℕ → CodeRange → Bool
-is_range_from least range = is_between least range.last range.first && nat_le range.last 255
-
--- each range begins behind the one before, the first at this code or behind it
-abbrev pub are_ranges_from : ℕ → List CodeRange → Bool
-are_ranges_from least [] = true
-are_ranges_from least (range ∷ ranges) = is_range_from least range && are_ranges_from (range.last + 1) ranges
 
 -- the ranges that stand between commas, from 33 on and each behind the one before
 unfoldable pub codes_of : List ℕ → Option (List CodeRange)

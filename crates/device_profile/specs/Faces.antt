@@ -1,10 +1,13 @@
 -- The rows in which resident faces are described.
-use Rattle.std.specs.Prelude.{ℕ, ℤ, pos, List, length, Bool, not, ◌&&◌, ◌==◌, Option, find, nat_le, int_lt, int_le}
+use Rattle.std.specs.Prelude.{ℕ, ℤ, pos, ◌+◌, List, [], ◌∷◌, length, Bool, true, not, ◌&&◌, ◌==◌, Option, find, nat_le, int_lt, int_le}
 use Rattle.std.specs.Ordering.{int_eq}
 use Rattle.std.specs.List.{list_all, list_any}
+use Rattle.std.specs.Option.{option_map_or}
 use Rattle.device_profile.specs.declared.font.CodeRange.{CodeRange}
 use Rattle.device_profile.specs.declared.font.FontRequest.{FontRequest}
+use Rattle.device_profile.specs.declared.field.Field.TheVariants.{Font}
 use Rattle.device_profile.specs.Rows.{has_alike}
+use Rattle.device_profile.specs.Values.{is_between, is_value}
 
 -- A resident face: its id, the request that it answers, how far a character moves the cursor and how far it reaches above and
 -- below the baseline, in ticks, and the codes that print.
@@ -31,6 +34,10 @@ face_for faces request = find (λ face. is_same_request face.request request) fa
 unfoldable pub face_at : List Face → ℕ → Option Face
 face_at faces id = find (λ face. face.id == id) faces
 
+-- how far a character of the face with this id moves the cursor: nowhere, where no face has the id
+unfoldable pub advance_at : List Face → ℕ → ℤ
+advance_at faces id = option_map_or (λ face. face.advance) (face_at faces id) (pos 0)
+
 -- whether some face has this id
 unfoldable pub has_face : List Face → ℕ → Bool
 has_face faces id = list_any (λ face. face.id == id) faces
@@ -43,13 +50,26 @@ has_request faces request = list_any (λ face. is_same_request face.request requ
 abbrev pub has_metrics : Face → Bool
 has_metrics face = int_lt (pos 0) face.advance && int_le (pos 0) face.ascent && int_le (pos 0) face.descent
 
--- at most 64 rows, no two of one id, no two that answer one request, and each with its metrics
+-- a range begins at this code or behind it, and ends at 255 or before
+abbrev pub is_range_from : ℕ → CodeRange → Bool
+is_range_from least range = is_between least range.last range.first && nat_le range.last 255
+
+-- each range begins behind the one before, the first at this code or behind it
+abbrev pub are_ranges_from : ℕ → List CodeRange → Bool
+are_ranges_from least [] = true
+are_ranges_from least (range ∷ ranges) = is_range_from least range && are_ranges_from (range.last + 1) ranges
+
+-- the id is one that the panel may name, the metrics are such, and the codes stand in order from 33 on
+abbrev pub is_face : Face → Bool
+is_face face = is_value Font face.id && has_metrics face && are_ranges_from 33 face.codes
+
+-- at most 64 faces, no two of one id and no two that answer one request
 abbrev pub are_faces : List Face → Bool
 are_faces faces =
     nat_le (length faces) 64
     && not (has_alike (λ a b. a.id == b.id) faces)
     && not (has_alike (λ a b. is_same_request a.request b.request) faces)
-    && list_all has_metrics faces
+    && list_all is_face faces
 
 -- whether a code prints
 abbrev pub has_code : List CodeRange → ℕ → Bool

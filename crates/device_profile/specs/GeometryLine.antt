@@ -1,15 +1,13 @@
 -- What a line with a page gives.
-use Rattle.std.specs.Prelude.{ℕ, List, [], ◌∷◌, Bool, false, ◌&&◌, ◌==◌, nat_lt, nat_le, length, slice_index, Option, None, Some, option_and_then, if◌then◌else◌, Result, Ok, Err}
+use Rattle.std.specs.Prelude.{ℕ, List, [], ◌∷◌, Bool, false, ◌&&◌, ◌==◌, nat_lt, nat_le, length, Option, None, Some, option_and_then, if◌then◌else◌, Result, Ok, Err}
 use Rattle.std.specs.List.{list_all, filter_map}
 use Rattle.std.specs.Option.{option_map_or}
-use Rattle.device_profile.specs.declared.field.Field.TheVariants.{Size, Orientation}
 use Rattle.device_profile.specs.declared.geometry.Geometry.{Geometry}
 use Rattle.device_profile.specs.declared.fault.Cause.{Cause}
 use Rattle.device_profile.specs.declared.fault.Cause.TheVariants.{Repeated, Range}
 use Rattle.device_profile.specs.Words.{number_of}
-use Rattle.device_profile.specs.Values.{is_value}
 use Rattle.device_profile.specs.Rows.{row_of}
-use Rattle.device_profile.specs.Printer.{has_row, fits_page}
+use Rattle.device_profile.specs.Printer.{has_row, is_page}
 
 -- whether these words are the size and the orientation of a row
 abbrev pub repeats_pair : List Geometry → List (List ℕ) → Bool
@@ -28,12 +26,9 @@ row_numbers_of words =
     let numbers : List ℕ = filter_map number_of words in
     if (length words == 12) && (length numbers == 12) && list_all is_row_number numbers then Some numbers else None
 
--- the row that twelve numbers give, where the first two are a size and an orientation and both its areas lie in its page
+-- the row that twelve numbers give, where it is a page
 abbrev pub row_of_numbers : List ℕ → Option Geometry
-row_of_numbers numbers =
-    if is_value Size (slice_index numbers 0) && is_value Orientation (slice_index numbers 1) && fits_page (row_of numbers)
-    then Some (row_of numbers)
-    else None
+row_of_numbers numbers = if is_page (row_of numbers) then Some (row_of numbers) else None
 
 -- the row that twelve words give
 abbrev pub row_of_words : List (List ℕ) → Option Geometry

@@ -1,13 +1,13 @@
 -- What contracts know of a printer.
-use Rattle.std.specs.Prelude.{ℕ, ◌==◌, ◌&&◌, ◌||◌, nat_le, Bool, not, IsTrue, IsSome, List, length, slice_index, Option, find, unwrap_or, Contains, pos, ◌+ℤ◌, int_lt, int_le}
+use Rattle.std.specs.Prelude.{ℕ, ◌==◌, ◌&&◌, ◌||◌, nat_le, Bool, not, IsTrue, IsSome, IsSomeAnd, List, length, slice_index, Option, find, unwrap_or, Contains, pos, ◌+ℤ◌, ◌<ℤ◌, int_lt, int_le}
 use Rattle.std.specs.List.{list_all, list_any}
 use Rattle.device_profile.specs.declared.field.Field.{Field}
 use Rattle.device_profile.specs.declared.field.Field.TheVariants.{Size, Orientation, Vmi, Font, Copies, Sides, Tray}
 use Rattle.device_profile.specs.declared.geometry.Geometry.{Geometry}
 use Rattle.device_profile.specs.declared.panel.Panel.{Panel}
-use Rattle.device_profile.specs.Faces.{Face, face_at, has_face, are_faces}
+use Rattle.device_profile.specs.Faces.{Face, face_at, advance_at, has_face, has_metrics, are_faces}
 use Rattle.device_profile.specs.Rows.{has_alike}
-use Rattle.device_profile.specs.Values.{are_choices}
+use Rattle.device_profile.specs.Values.{is_value, are_choices}
 
 -- the values that the panel may have in each field, what the device has, and its pages
 pub record Printer : Type 0 where
@@ -95,9 +95,13 @@ geometry_at rows size orientation = unwrap_or (row_at rows size orientation) no_
 abbrev pub HasPages : Printer → Type 0
 HasPages printer = (panel : Panel) → IsAllowed printer panel → IsSome (row_at printer.geometries panel.size panel.orientation)
 
--- each panel that the printer may have has a face
+-- each panel that the printer may have has a face, with its metrics
 abbrev pub HasFaces : Printer → Type 0
-HasFaces printer = (panel : Panel) → IsAllowed printer panel → IsSome (face_at printer.faces panel.font)
+HasFaces printer = (panel : Panel) → IsAllowed printer panel → IsSomeAnd (face_at printer.faces panel.font) (λ face. IsTrue (has_metrics face))
+
+-- the face of each panel that the printer may have moves the cursor ahead
+abbrev pub HasAdvances : Printer → Type 0
+HasAdvances printer = (panel : Panel) → IsAllowed printer panel → pos 0 <ℤ advance_at printer.faces panel.font
 
 -- each field of the panel has 1 to 16 of its values, and the device 1 to 16 trays, none twice
 abbrev pub has_choices : Printer → Bool
@@ -155,14 +159,18 @@ fits_printable_area row =
 abbrev pub fits_page : Geometry → Bool
 fits_page row = fits_logical_page row && fits_printable_area row
 
+-- the size and the orientation are values of these fields, and both areas lie in the page
+abbrev pub is_page : Geometry → Bool
+is_page row = is_value Size row.size && is_value Orientation row.orientation && fits_page row
+
 -- the two are pages of the same size and orientation
 abbrev pub is_same_page : Geometry → Geometry → Bool
 is_same_page a b = (a.size == b.size) && (a.orientation == b.orientation)
 
--- at most 64 rows, no two of one size and orientation, each size with each orientation, and each with its areas in the page
+-- at most 64 pages, no two of one size and orientation, and each size with each orientation
 abbrev pub are_pages : List Geometry → Bool
 are_pages rows =
-    nat_le (length rows) 64 && not (has_alike is_same_page rows) && has_every_pair rows && list_all fits_page rows
+    nat_le (length rows) 64 && not (has_alike is_same_page rows) && has_every_pair rows && list_all is_page rows
 
 -- a printer that hangs together
 abbrev pub is_valid : Printer → Bool

@@ -2,7 +2,8 @@
 ghost use Rattle.std.specs.Prelude.{◌≡◌, ◌<◌, ◌==◌, ◌∷◌, [], length, IfOk, IfSome, Some, None, option_map, if◌then◌else◌};
 ghost use Rattle.std.specs.List.{slice_split};
 ghost use Rattle.std.specs.Option.{option_and_then, option_map_or};
-ghost use Rattle.device_profile.specs.FaceLine.{codes_of, is_range_from, range_of};
+ghost use Rattle.device_profile.specs.FaceLine.{codes_of, range_of};
+ghost use Rattle.device_profile.specs.Faces.{is_range_from};
 
 use crate::font::CodeRange;
 use crate::scan::{number, place_of};
