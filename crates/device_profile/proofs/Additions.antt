@@ -14,7 +14,7 @@ use Rattle.device_profile.specs.Values.{are_choices, values_on_line, number_on_l
 use Rattle.device_profile.specs.GeometryLine.{row_of_words, geometry_on_line}
 use Rattle.device_profile.specs.FaceLine.{face_of_words, face_on_line}
 use Rattle.device_profile.specs.Draft.{Draft, or_range, or_cause, once, draft_after_key, draft_after, with_choice, key_of}
-use Rattle.device_profile.proofs.LineParts.{passed, unrepeated, of_value, of_mapped, are_choices-on_line, at_most-on_line, room_for_row, row_on_line, line_of_row, room_for_face, face_of_line, line_of_face}
+use Rattle.device_profile.proofs.LineParts.{passed, unrepeated, of_mapped, are_choices-on_line, at_most-on_line, room_for_row, row_on_line, line_of_row, room_for_face, face_of_line, line_of_face}
 
 -- what a line gives, whatever was given before it
 pub data Addition : Type 0 where

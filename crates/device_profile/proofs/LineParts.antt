@@ -1,5 +1,5 @@
 -- What stands on a line that is right.
-use Rattle.std.proofs.Common.{◌≡◌, ℕ, ℤ, pos, suc, ◌+◌, ◌*◌, ◌<◌, ◌≤◌, ◌==◌, ◌&&◌, ◌||◌, Bool, true, false, not, List, [], ◌∷◌, length, get_or, drop, IsTrue, Option, None, Some, Result, Ok, Err, nat_lt, nat_le, if◌then◌else◌, arith, refl, sym, subst, ap, ◌∙◌}
+use Rattle.std.proofs.Common.{◌≡◌, ℕ, ℤ, pos, ◌<◌, ◌≤◌, ◌==◌, ◌&&◌, ◌||◌, Bool, true, false, not, List, [], ◌∷◌, length, get_or, drop, IsTrue, Option, None, Some, Result, Ok, Err, nat_lt, nat_le, if◌then◌else◌, arith, refl, sym, subst, ap, ◌∙◌}
 use Rattle.std.specs.Prelude.{slice_index, int_lt, int_le}
 use Rattle.std.specs.Option.{option_map, option_map_or, option_and_then}
 use Rattle.std.specs.List.{list_all, filter_map, cons_option, slice_split}
@@ -9,7 +9,6 @@ use Rattle.std.proofs.lemmas.Int.{ints}
 use Rattle.device_profile.specs.declared.field.Field.{Field}
 use Rattle.device_profile.specs.declared.field.Field.TheVariants.{Font}
 use Rattle.device_profile.specs.declared.font.CodeRange.{CodeRange}
-use Rattle.device_profile.specs.declared.font.FontRequest.{FontRequest}
 use Rattle.device_profile.specs.declared.geometry.Geometry.{Geometry}
 use Rattle.device_profile.specs.declared.fault.Cause.{Cause}
 use Rattle.device_profile.specs.declared.fault.Cause.TheVariants.{Repeated, Range}
@@ -19,7 +18,7 @@ use Rattle.device_profile.specs.Rows.{of_7200ths, row_of}
 use Rattle.device_profile.specs.Words.{number_of}
 use Rattle.device_profile.specs.Values.{value_of, is_between, is_value, has_repeat, are_values, are_choices, values_on_line, number_on_line}
 use Rattle.device_profile.specs.GeometryLine.{is_row_number, repeats_pair, row_numbers_of, row_of_numbers, row_of_words, geometry_on_line}
-use Rattle.device_profile.specs.FaceLine.{between, length_between, request_of, range_of, codes_of, face_with_codes, repeats_id, repeats_request, repeats_face, face_of_words, face_on_line}
+use Rattle.device_profile.specs.FaceLine.{between, length_between, request_of, range_of, codes_of, face_with_codes, repeats_face, face_of_words, face_on_line}
 use Rattle.device_profile.proofs.RowNumbers.{length-filter_map-le}
 
 -- a test let a value pass
@@ -106,8 +105,7 @@ pub row_facts : (rows : List Geometry) (words : List (List ℕ)) (row : Geometry
 row_facts rows words row is =
     let given = of_value row_of_numbers (row_numbers_of words) row is in
     let numbers : List ℕ = given.0 in
-    let kept = passed_some (is_page (row_of numbers)) (row_of numbers) row given.2 in
-    (
+    let kept = passed_some (is_page (row_of numbers)) (row_of numbers) row given.2 in (
       first_pair rows words numbers given.1 ∙ ap (λ (r : Geometry). has_row rows r.size r.orientation) kept.1,
       subst (λ (r : Geometry). IsTrue (is_page r)) kept.1 kept.0,
     )

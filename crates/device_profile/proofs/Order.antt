@@ -1,8 +1,8 @@
 -- The lines of an accepted text may stand in any order.
-use Rattle.std.proofs.Common.{◌≡◌, ℕ, zero, suc, ◌+◌, ◌<◌, ◌==◌, ◌&&◌, ◌||◌, Bool, true, false, not, List, [], ◌∷◌, ◌++◌, length, get_or, set, swap, append_assoc, length-append, IsTrue, is_some, Option, None, Some, Result, Ok, Err, nat_lt, nat_le, arith, refl, sym, subst, ap, ◌∙◌}
+use Rattle.std.proofs.Common.{◌≡◌, ℕ, zero, suc, ◌+◌, ◌<◌, ◌==◌, ◌&&◌, ◌||◌, Bool, false, not, List, [], ◌∷◌, ◌++◌, length, get_or, set, swap, append_assoc, length-append, IsTrue, Some, Ok, nat_lt, nat_le, arith, refl, sym, subst, ap, ◌∙◌}
 use Rattle.std.specs.List.{list_any}
 use Rattle.std.specs.List.Sorted.{IsPermutation}
-use Rattle.std.proofs.lemmas.Bool.{and_parts, or_parts, or_from, and_from, not-true, not_from_false, false≢true, both_ways, leb-true, eqb-true}
+use Rattle.std.proofs.lemmas.Bool.{and_parts, or_parts, or_from, and_from, not-true, not_from_false, false≢true, eqb-true}
 use Rattle.std.proofs.lemmas.Bool.Decides.{nat_tests}
 use Rattle.std.proofs.lemmas.Cmp.{nat_eq_equiv, int_eq_equiv}
 use Rattle.std.proofs.lemmas.List.Folds.{list_any-append}
@@ -11,8 +11,6 @@ use Rattle.device_profile.specs.declared.field.Field.{Field}
 use Rattle.device_profile.specs.declared.field.Field.TheVariants.{Size, Orientation, Vmi, Font, Copies, Sides, Tray}
 use Rattle.device_profile.specs.declared.font.FontRequest.{FontRequest}
 use Rattle.device_profile.specs.declared.geometry.Geometry.{Geometry}
-use Rattle.device_profile.specs.declared.fault.Cause.{Cause}
-use Rattle.device_profile.specs.declared.fault.ProfileFault.{ProfileFault}
 use Rattle.device_profile.specs.Faces.{Face, has_face, has_request, is_face, is_same_request}
 use Rattle.device_profile.specs.Printer.{has_row, is_page, is_same_page}
 use Rattle.device_profile.specs.Values.{are_choices}
@@ -226,8 +224,7 @@ LeadsAlike-neighbours x y lines a b n m last s is =
     IsSimilar-trans given_y.0 (added (added a q) p) (added (added b q) p) here (added-similar (added a q) (added b q) after_y p) in
     let rest = LeadsAlike-refl lines given_y.0 (added (added b q) p) (n + 1 + 1) (m + 1 + 1) last there given_y.2 in
     let takes_q : IsTrue (takes b q) = sym (takes-similar a b s q) ∙ ways.first in
-    let takes_p : IsTrue (takes (added b q) p) = sym (takes-similar (added a q) (added b q) after_y p) ∙ ways.second in
-    (
+    let takes_p : IsTrue (takes (added b q) p) = sym (takes-similar (added a q) (added b q) after_y p) ∙ ways.second in (
       rest.0,
       leads_on b m y (x ∷ lines) q rest.0 step_y.told takes_q (leads_on (added b q) (m + 1) x lines p rest.0 step_x.told takes_p rest.1),
       rest.2,

@@ -1,10 +1,9 @@
 -- Keys that come once stand on one line of an accepted text.
 use Rattle.std.proofs.Common.{◌≡◌, ℕ, suc, ◌+◌, ◌≤◌, ◌==◌, ◌&&◌, Bool, true, false, not, cond, List, [], ◌∷◌, length, get_or, filter, codes, All, IsTrue, MatchBool, Option, None, Some, is_some, find, Result, Ok, Err, nat_lt, nat_le, if◌then◌else◌, arith, refl, sym, subst, ap, ◌∙◌}
-use Rattle.std.specs.Option.{option_map, option_and_then}
+use Rattle.std.specs.Option.{option_map}
 use Rattle.std.specs.Str.{bytes_eq}
 use Rattle.std.specs.List.{list_all}
 use Rattle.std.proofs.lemmas.Bool.{and_parts, cond_both, not-true, not_from_true, not_from_false, false≢true, leb-true, ne_eqb}
-use Rattle.std.proofs.lemmas.Bool.Decides.{nat_tests}
 use Rattle.std.proofs.lemmas.List.Elements.{All-from_recursion}
 use Rattle.std.proofs.lemmas.Slice.Eq.{bytes_eq-Decides}
 use Rattle.device_profile.specs.declared.field.Field.{Field}
@@ -12,7 +11,6 @@ use Rattle.device_profile.specs.declared.field.Field.TheVariants.{Size, Orientat
 use Rattle.device_profile.specs.declared.key.Key.{Key}
 use Rattle.device_profile.specs.declared.key.Key.TheVariants.{Name, Choice, Trays, Duplex, Depth, Memory, Page, Face as FaceRow}
 use Rattle.device_profile.specs.declared.fault.Cause.{Cause}
-use Rattle.device_profile.specs.declared.fault.ProfileFault.{ProfileFault}
 use Rattle.device_profile.specs.Values.{is_between, is_value, are_values, are_choices, has_repeat, values_on_line, number_on_line, is_name}
 use Rattle.device_profile.specs.GeometryLine.{row_of_words}
 use Rattle.device_profile.specs.FaceLine.{face_of_words}
@@ -296,16 +294,37 @@ all_once all draft is complete =
     let c3 = and_parts _ _ c4.0 in
     let c2 = and_parts _ _ c3.0 in
     let c1 = and_parts _ _ c2.0 in
-    All-from_recursion (λ key. length (filter (has_key key) all) ≡ 1) single_keys
-    (stands_once Name refl all draft is c1.0,
-    (stands_once (Choice Size) refl all draft is (some_given draft.sizes c1.1),
-    (stands_once (Choice Orientation) refl all draft is (some_given draft.orientations c2.1),
-    (stands_once (Choice Vmi) refl all draft is (some_given draft.vmis c3.1),
-    (stands_once (Choice Font) refl all draft is (some_given draft.fonts c4.1),
-    (stands_once (Choice Copies) refl all draft is (some_given draft.copies c5.1),
-    (stands_once (Choice Sides) refl all draft is (some_given draft.sides c6.1),
-    (stands_once (Choice Tray) refl all draft is (some_given draft.trays c7.1),
-    (stands_once Trays refl all draft is (some_given draft.device_trays c8.1),
-    (stands_once Duplex refl all draft is c9.1,
-    (stands_once Depth refl all draft is c10.1,
-    (stands_once Memory refl all draft is c11.1, tt))))))))))))
+    All-from_recursion (λ key. length (filter (has_key key) all) ≡ 1) single_keys (
+      stands_once Name refl all draft is c1.0,
+      (
+        stands_once (Choice Size) refl all draft is (some_given draft.sizes c1.1),
+        (
+          stands_once (Choice Orientation) refl all draft is (some_given draft.orientations c2.1),
+          (
+            stands_once (Choice Vmi) refl all draft is (some_given draft.vmis c3.1),
+            (
+              stands_once (Choice Font) refl all draft is (some_given draft.fonts c4.1),
+              (
+                stands_once (Choice Copies) refl all draft is (some_given draft.copies c5.1),
+                (
+                  stands_once (Choice Sides) refl all draft is (some_given draft.sides c6.1),
+                  (
+                    stands_once (Choice Tray) refl all draft is (some_given draft.trays c7.1),
+                    (
+                      stands_once Trays refl all draft is (some_given draft.device_trays c8.1),
+                      (
+                        stands_once Duplex refl all draft is c9.1,
+                        (
+                          stands_once Depth refl all draft is c10.1,
+                          (stands_once Memory refl all draft is c11.1, tt),
+                        ),
+                      ),
+                    ),
+                  ),
+                ),
+              ),
+            ),
+          ),
+        ),
+      ),
+    )

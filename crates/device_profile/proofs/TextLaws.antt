@@ -1,9 +1,9 @@
 -- Laws of accepted texts.
-use Rattle.std.proofs.Common.{◌≡◌, ℕ, ◌≤◌, ◌==◌, ◌&&◌, Bool, true, false, not, List, [], ◌∷◌, length, IsTrue, Result, Ok, Err, is_some, nat_lt, if◌then◌else◌, refl, sym, subst, ap, ◌∙◌}
-use Rattle.std.specs.List.{All, list_all, list_any}
+use Rattle.std.proofs.Common.{◌≡◌, ℕ, ◌==◌, ◌&&◌, Bool, true, false, not, List, [], ◌∷◌, length, IsTrue, Result, Ok, Err, is_some, nat_lt, if◌then◌else◌, refl, sym, subst, ap, ◌∙◌}
+use Rattle.std.specs.List.{list_all, list_any}
 use Rattle.std.specs.List.Sorted.{IsPermutation}
 use Rattle.std.specs.Str.Lines.{lines}
-use Rattle.std.proofs.lemmas.Bool.{and_parts, and_from, not-false, cond-false}
+use Rattle.std.proofs.lemmas.Bool.{and_parts, and_from}
 use Rattle.std.proofs.lemmas.List.Sorted.{All-permutation, length_permutation, list_any-IsPermutation}
 use Rattle.std.proofs.lemmas.List.Sums.{AllPass-from_list_all, list_all-from_AllPass}
 use Rattle.device_profile.specs.declared.geometry.Geometry.{Geometry}
@@ -163,8 +163,7 @@ order_is_free text other printer first later moved is all all_moved_lines permut
     let draft : Draft = alike.0 in
     let drafted : draft_of (lines other) ≡ Ok draft = ap draft_of all_moved_lines ∙ draft_of_version first moved draft parts.0 alike.1 in
     let accepted : printer_of draft ≡ Ok (printer_of_draft draft) =
-    printer_of_whole draft (sym (complete_too given.0 draft alike.2) ∙ whole.complete) (pages_too given.0 draft alike.2 whole.pages) (choices_too given.0 draft alike.2 whole.choices) in
-    (
+    printer_of_whole draft (sym (complete_too given.0 draft alike.2) ∙ whole.complete) (pages_too given.0 draft alike.2 whole.pages) (choices_too given.0 draft alike.2 whole.choices) in (
       printer_of_draft draft,
       of_draft other draft short drafted ∙ accepted,
       subst (λ (p : Printer). IsSamePrinter p (printer_of_draft draft)) whole.is (same_printer given.0 draft alike.2),

@@ -1,5 +1,5 @@
 -- What a valid printer has.
-use Rattle.std.proofs.Common.{◌≡◌, ℕ, ◌==◌, ◌<◌, ◌&&◌, Bool, not, List, [], ◌∷◌, length, get_or, IsTrue, IsSome, IsSomeAnd, Contains, Any, find, IfSome, Option, None, Some, ℤ, pos, ◌<ℤ◌, int_lt, int_le, inl, inr, nat_le, rules, arith, refl, sym, ap, ◌∙◌}
+use Rattle.std.proofs.Common.{◌≡◌, ℕ, ◌==◌, ◌<◌, ◌&&◌, Bool, not, List, [], ◌∷◌, length, get_or, IsTrue, IsSome, IsSomeAnd, Contains, Any, find, IfSome, Option, None, Some, pos, ◌<ℤ◌, int_lt, int_le, inl, inr, nat_le, rules, arith, refl, sym, ap, ◌∙◌}
 use Rattle.std.specs.List.{list_all, list_any}
 use Rattle.std.specs.Option.{option_map_or}
 use Rattle.std.proofs.lemmas.Int.{ints}
