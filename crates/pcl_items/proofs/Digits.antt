@@ -11,7 +11,7 @@ use Rattle.pcl_items.specs.declared.number.Sign.{Sign}
 use Rattle.pcl_items.specs.Value.{Amount, most}
 use Rattle.pcl_items.specs.Field.{Field, field_at, digits, sign_at, sign_len, has_point, next_digit, decimal, four, ten_thousandths_of, amount_of}
 use Rattle.pcl_items.proofs.Tables.{both_true}
-use Rattle.pcl_items.proofs.Fields.{from, field_from}
+use Rattle.pcl_items.proofs.Fields.{field_from}
 
 -- ---- the digits from a place on
 

@@ -1,5 +1,5 @@
-use Rattle.std.proofs.Common.{◌≡◌, ◌+◌, ◌-◌, ◌*◌, get_or, refl, sym, subst, rules}
-use Rattle.pcl_items.proofs.Digits.{digits_end, digits_all, StaysExact, worthless, zero_digit, worth_some, AreDecimalsSoFar, decimals_more, decimals_are}
+use Rattle.std.proofs.Common.{get_or, refl, sym, subst, rules}
+use Rattle.pcl_items.proofs.Digits.{digits_end, digits_all, StaysExact, worthless, zero_digit, worth_some, decimals_more, decimals_are}
 use Rattle.pcl_items.proofs.field.leading_decimals.Goals as goal
 use Rattle.pcl_items.proofs.field.leading_decimals.Goals.{then-worth-eq0+then-byte-ne48, else-worth-eq0, else-worth-eq0-via-then-worth-eq0+else-byte-ne48, else-worth-eq0-via-else-worth-eq0}
 
@@ -9,9 +9,9 @@ loop-len-preserved c =
     let is = StaysExact c.loop-len.worth byte c.loop-len.is_exact in
     let stays : is c.if-worth-eq0.is_exact =
     elim c.if-worth-eq0.branch [
-      then-worth-eq0+then-byte-ne48 w ↦ subst is (sym w.is_exact-is) (worthless w.if-worth-eq0.true w.if-byte-ne48.true)
+      | then-worth-eq0+then-byte-ne48 w ↦ subst is (sym w.is_exact-is) (worthless w.if-worth-eq0.true w.if-byte-ne48.true)
       | else-worth-eq0 w ↦ subst is (sym w.is_exact-is) (elim w.else-worth-eq0.branch [
-        else-worth-eq0-via-then-worth-eq0+else-byte-ne48 w' ↦ zero_digit w'.if-byte-ne48.false
+        | else-worth-eq0-via-then-worth-eq0+else-byte-ne48 w' ↦ zero_digit w'.if-byte-ne48.false
         | else-worth-eq0-via-else-worth-eq0 w' ↦ worth_some w'.if-worth-eq0.false
       ])
     ] in

@@ -1,4 +1,4 @@
-use Rattle.std.proofs.Common.{◌+◌, ◌-◌, ◌*◌, get_or, refl, ap, sym, subst, ◌∙◌, rules}
+use Rattle.std.proofs.Common.{◌+◌, ◌*◌, get_or, refl, ap, sym, subst, ◌∙◌, rules}
 use Rattle.pcl_items.proofs.Digits.{limited, IsNumberSoFar, number_more}
 use Rattle.pcl_items.proofs.field.leading_digits.Goals as goal
 

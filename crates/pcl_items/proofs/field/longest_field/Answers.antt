@@ -1,4 +1,4 @@
-use Rattle.std.proofs.Common.{false, true, sym, ◌∙◌}
+use Rattle.std.proofs.Common.{sym, ◌∙◌}
 use Rattle.pcl_items.proofs.Digits.{without_point, with_point}
 use Rattle.pcl_items.proofs.field.longest_field.Goals as goal
 
