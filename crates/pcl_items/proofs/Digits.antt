@@ -10,7 +10,7 @@ use Rattle.std.proofs.lemmas.List.Sums.{take_while-cons}
 use Rattle.pcl_items.specs.declared.number.Sign.{Sign}
 use Rattle.pcl_items.specs.Value.{Amount, most}
 use Rattle.pcl_items.specs.Field.{Field, field_at, digits, sign_at, sign_len, has_point, next_digit, decimal, four, ten_thousandths_of, amount_of}
-use Rattle.pcl_items.proofs.Tables.{both_true}
+use Rattle.pcl_items.proofs.Tables.{both_true, by_test}
 use Rattle.pcl_items.proofs.Fields.{field_from}
 
 -- ---- the digits from a place on
@@ -125,10 +125,6 @@ pub data StaysExact (w b : ℕ) (exact : Bool) : Bool → Type 0 where
   worthless : w ≡ 0 → (b ≡ 48 → ⊥) → StaysExact w b exact false
   zero_digit : b ≡ 48 → StaysExact w b exact exact
   worth_some : (w ≡ 0 → ⊥) → StaysExact w b exact exact
-
-by_test : (b : Bool) → (b ≡ true → ⊥) → b ≡ false
-by_test true h = absurd (h refl)
-by_test false h = refl
 
 stays_exact : (w b : ℕ) (exact exact2 : Bool) → StaysExact w b exact exact2 → exact2 ≡ cond ((w == 0) && (cond (b == 48) false true)) false exact
 stays_exact w b exact _ (worthless e f) = let t = eq-eqb w 0 e in let u : (b == 48) ≡ false = by_test (b == 48) (λ h. f (eqb-true b 48 h)) in sym (rw (t, u) refl)
