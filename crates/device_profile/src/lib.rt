@@ -28,10 +28,3 @@ pub use geometry::Geometry;
 pub use panel::Panel;
 pub use profile::Profile;
 pub use sample::{Sample, sample_a};
-
-#[cfg(test)]
-mod row_tests;
-#[cfg(test)]
-mod tests;
-#[cfg(test)]
-mod text_tests;

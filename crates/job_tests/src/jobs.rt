@@ -1,0 +1,112 @@
+//! The check of jobs for one printer.
+
+use crate::printers::Printer::{A, B, C};
+use crate::printers::{Printer, fleet_of};
+use crate::rows::Expected::{Fault, Found, Pass};
+use crate::rows::{Expected, PAGE_LENGTH, Row, check_in_pieces, check_rows, job_of};
+use device_profile::Field;
+use page_env::Finding::{EmptyRectangle, NotPrintable, OffPage, StackFull, Unset};
+use pcl_items::Cause::Truncated;
+use preflight::{Watched, check_job};
+use std::test::Fail;
+
+const JOBS_FOR_A: &[Row] = &[
+    (b"", Pass(0, 0)),
+    (
+        b"\x1bE\x1b&l2a0O\x1b*p300x300Y\x1b*c100a50b0P\x0c",
+        Pass(1, 1),
+    ),
+    // A move reads the size, and a form feed the page.
+    (b"\x1bE\x1b*p300X", Found(2, Unset(Field::Size))),
+    (b"\x1bE\x0c", Found(2, Unset(Field::Size))),
+    (b"\x1bE\x1b&l2A\x0c", Found(7, Unset(Field::Orientation))),
+    (b"\x1bE\x1b&l2a0O\x1b*c0P", Found(9, EmptyRectangle)),
+    // The logical page is 8 inches wide.
+    (b"\x1bE\x1b&l2a0O\x1b*p2401X", Found(9, OffPage)),
+    // The mark ends at the printable edge, and past it.
+    (b"\x1bE\x1b&l2a0O\x1b*p2300x300Y\x1b*c125a50b0P", Pass(1, 1)),
+    (
+        b"\x1bE\x1b&l2a0O\x1b*p2300x300Y\x1b*c126a50b0P",
+        Found(31, NotPrintable),
+    ),
+    (b"\x1bE\x1b&l2a", Fault(7, Truncated)),
+    (b"\x1bE\x1b&l2a66P", Fault(7, PAGE_LENGTH)),
+    // A finding stands before a later fault.
+    (b"\x1bE\x0c\x1b)", Found(2, Unset(Field::Size))),
+];
+
+const JOBS_FOR_B: &[Row] = &[
+    (b"\x1bE\x1b*p300X", Pass(0, 0)),
+    (b"\x1bE\x1b*p2300x300Y\x1b*c125a50b0P", Pass(1, 1)),
+    (
+        b"\x1bE\x1b*p2300x300Y\x1b*c126a50b0P",
+        Found(24, NotPrintable),
+    ),
+    (b"\x1bE\x1b*p+0X", Pass(0, 0)),
+    (b"\x1bE\x1b*p-1X", Found(2, OffPage)),
+    (b"\x1bE\x1b*c0P", Found(2, EmptyRectangle)),
+];
+
+#[test]
+fn jobs_for_one_printer(rt: HostRuntime) -> Result<(), Fail> {
+    check_rows(&rt, rt.alloc(), &[A], JOBS_FOR_A)?;
+    check_rows(&rt, rt.alloc(), &[B], JOBS_FOR_B)
+}
+
+/// A printer, and a job of a front, so many times a part, and an end.
+type Repeated = (
+    Printer,
+    (&'static [u8], u32, &'static [u8], &'static [u8]),
+    Expected,
+);
+
+const REPEATED: &[Repeated] = &[
+    // Lines are fed past the bottom margin to a new page, and without perforation skip to the foot.
+    (B, (b"\x1bE", 60, b"\n", b"\x1b*c30a30b0P"), Pass(1, 1)),
+    (B, (b"\x1bE\x1b&l0L", 62, b"\n", b""), Pass(0, 0)),
+    (B, (b"\x1bE\x1b&l0L", 63, b"\n", b""), Found(69, OffPage)),
+    // From the first line, half an inch and an eighth down, 124 half lines of a twelfth of an inch end 1/24 inch above the foot.
+    (B, (b"\x1bE\x1b&l0L", 124, b"\x1b=", b""), Pass(0, 0)),
+    (
+        B,
+        (b"\x1bE\x1b&l0L", 125, b"\x1b=", b""),
+        Found(255, OffPage),
+    ),
+    // The stack holds 20 cursors.
+    (B, (b"\x1bE", 20, b"\x1b&f0S", b""), Pass(0, 0)),
+    (B, (b"\x1bE", 21, b"\x1b&f0S", b""), Found(102, StackFull)),
+    // A full stack comes before an unset field.
+    (
+        C,
+        (b"\x1bE\x1b&l8C", 20, b"\x1b&f0S", b"\x1b&l0O\x1b&f0S"),
+        Found(112, StackFull),
+    ),
+    (
+        C,
+        (b"\x1bE\x1b&l8C", 19, b"\x1b&f0S", b"\x1b&l0O\x1b&f0S"),
+        Found(107, Unset(Field::Vmi)),
+    ),
+];
+
+#[test]
+fn jobs_that_repeat_a_part(rt: HostRuntime) -> Result<(), Fail> {
+    for (printer, (front, times, part, end), expected) in REPEATED {
+        let fleet = fleet_of(rt.alloc(), &[*printer])?;
+        let job = job_of(rt.alloc(), front, *times, part, end)?;
+        check_in_pieces(&rt, rt.alloc(), &fleet, &job, *expected)?;
+    }
+    Ok(())
+}
+
+/// The front of a job with a rectangle on letter paper, which is then filled over and over.
+const RECTANGLE: &[u8] = b"\x1bE\x1b&l2a0O\x1b*p300x300Y\x1b*c100a50B";
+
+#[test]
+fn a_job_of_many_reads(rt: HostRuntime) -> Result<(), Fail> {
+    let fleet = fleet_of(rt.alloc(), &[A])?;
+    let job = job_of(rt.alloc(), RECTANGLE, 3000, b"\x1b*c0P", b"")?;
+    let mut source = Watched::new(job.as_slice());
+    let verdict = check_job(rt.alloc(), &mut source, &fleet)?;
+    assert_eq!(rt; verdict, Pass(1, 3000).verdict());
+    Ok(())
+}

@@ -1,0 +1,188 @@
+//! Jobs fed in pieces, and a request for memory that is refused.
+
+use crate::items::{Last, read_bytes, read_on, read_whole};
+use pcl_items::{Cause, Command, Group, Item, LexFault, Lexed, Lexer, Name, Number, Place, Sign};
+use refusing::Refusing;
+use std::alloc::{AllocError, Allocator};
+use std::process::Abort;
+use std::test::Fail;
+
+/// An item of a row.
+#[derive(Clone, Copy)]
+enum Wanted {
+    CarriageReturn,
+    LineFeed,
+    FormFeed,
+    Reset,
+    ClearMargins,
+    HalfLineFeed,
+    /// A command with a whole number.
+    Sent(Command, Sign, u16),
+}
+
+impl Wanted {
+    fn item(self) -> Item {
+        match self {
+            Wanted::CarriageReturn => Item::CarriageReturn,
+            Wanted::LineFeed => Item::LineFeed,
+            Wanted::FormFeed => Item::FormFeed,
+            Wanted::Reset => Item::Reset,
+            Wanted::ClearMargins => Item::ClearMargins,
+            Wanted::HalfLineFeed => Item::HalfLineFeed,
+            Wanted::Sent(command, sign, units) => Item::Parameterized(
+                command,
+                Number {
+                    sign,
+                    ten_thousandths: u32::from(units) * 10_000,
+                },
+            ),
+        }
+    }
+}
+
+const PLAIN: Sign = Sign::Absent;
+
+const LETTER: Wanted = Wanted::Sent(Command::PageSize, PLAIN, 2);
+
+/// Jobs, their items with their places, and the fault behind them, if there is one.
+const JOBS: &[(&[u8], &[(Place, Wanted)], Option<(Place, Cause)>)] = &[
+    (
+        b"\x1bE\x1b&l2a66P",
+        &[(0, Wanted::Reset), (2, LETTER)],
+        Some((7, Cause::NotInProfile(Name::Command(Group::Layout, b'P')))),
+    ),
+    (
+        b"\x1bE\x1b&l2a0O\x1b*p300x300Y\x1b*c100a50b0P\x0c",
+        &[
+            (0, Wanted::Reset),
+            (2, LETTER),
+            (7, Wanted::Sent(Command::Orientation, PLAIN, 0)),
+            (9, Wanted::Sent(Command::HorizontalUnits, PLAIN, 300)),
+            (16, Wanted::Sent(Command::VerticalUnits, PLAIN, 300)),
+            (20, Wanted::Sent(Command::RectangleWidth, PLAIN, 100)),
+            (27, Wanted::Sent(Command::RectangleHeight, PLAIN, 50)),
+            (30, Wanted::Sent(Command::FillRectangle, PLAIN, 0)),
+            (32, Wanted::FormFeed),
+        ],
+        None,
+    ),
+    // A value field of a sign and a point, and one of nothing.
+    (
+        b"\x1b*p-X\x1b*p.X\x1b*p+.X\x1b&lO",
+        &[
+            (0, Wanted::Sent(Command::HorizontalUnits, Sign::Minus, 0)),
+            (5, Wanted::Sent(Command::HorizontalUnits, PLAIN, 0)),
+            (10, Wanted::Sent(Command::HorizontalUnits, Sign::Plus, 0)),
+            (16, Wanted::Sent(Command::Orientation, PLAIN, 0)),
+        ],
+        None,
+    ),
+    (b"\x1b&l2a", &[(0, LETTER)], Some((5, Cause::Truncated))),
+    (b"\x1b&l2a\x1bE", &[(0, LETTER)], Some((5, Cause::Syntax))),
+    (b"\x1b*p00000000000000000", &[], Some((0, Cause::BadNumber))),
+    (
+        b"\x1b%-12345.0X",
+        &[],
+        Some((0, Cause::NotInProfile(Name::Pair(b'%', b'X')))),
+    ),
+    (
+        b"\r\n\x0c\x1b9\x1b=\x1bE\x1b7",
+        &[
+            (0, Wanted::CarriageReturn),
+            (1, Wanted::LineFeed),
+            (2, Wanted::FormFeed),
+            (3, Wanted::ClearMargins),
+            (5, Wanted::HalfLineFeed),
+            (7, Wanted::Reset),
+        ],
+        Some((9, Cause::NotInProfile(Name::Byte(b'7')))),
+    ),
+    (
+        b"\x1b&u300D\x1b&l1x0s1h8c6d2e60f1L\x1b&k12h2G",
+        &[
+            (0, Wanted::Sent(Command::UnitOfMeasure, PLAIN, 300)),
+            (7, Wanted::Sent(Command::Copies, PLAIN, 1)),
+            (12, Wanted::Sent(Command::Sides, PLAIN, 0)),
+            (14, Wanted::Sent(Command::Source, PLAIN, 1)),
+            (16, Wanted::Sent(Command::VerticalMotionIndex, PLAIN, 8)),
+            (18, Wanted::Sent(Command::LineSpacing, PLAIN, 6)),
+            (20, Wanted::Sent(Command::TopMargin, PLAIN, 2)),
+            (22, Wanted::Sent(Command::TextLength, PLAIN, 60)),
+            (25, Wanted::Sent(Command::PerforationSkip, PLAIN, 1)),
+            (27, Wanted::Sent(Command::HorizontalMotionIndex, PLAIN, 12)),
+            (33, Wanted::Sent(Command::LineTermination, PLAIN, 2)),
+        ],
+        None,
+    ),
+    (
+        b"\x1b&a5l75m10c+2r720h-36V\x1b&f0s1S",
+        &[
+            (0, Wanted::Sent(Command::LeftMargin, PLAIN, 5)),
+            (5, Wanted::Sent(Command::RightMargin, PLAIN, 75)),
+            (8, Wanted::Sent(Command::Column, PLAIN, 10)),
+            (11, Wanted::Sent(Command::Row, Sign::Plus, 2)),
+            (14, Wanted::Sent(Command::HorizontalDecipoints, PLAIN, 720)),
+            (
+                18,
+                Wanted::Sent(Command::VerticalDecipoints, Sign::Minus, 36),
+            ),
+            (22, Wanted::Sent(Command::CursorStack, PLAIN, 0)),
+            (27, Wanted::Sent(Command::CursorStack, PLAIN, 1)),
+        ],
+        None,
+    ),
+];
+
+/// The items are those of the row.
+fn assert_items(rt: &impl Abort, items: &[(Place, Item)], wanted: &[(Place, Wanted)]) {
+    assert_eq!(rt; items.len(), wanted.len());
+    for ((place, item), (wanted_place, wanted_item)) in items.iter().zip(wanted) {
+        assert_eq!(rt; (*place, *item), (*wanted_place, wanted_item.item()));
+    }
+}
+
+#[test]
+fn jobs_are_read_whole_and_byte_by_byte(rt: HostRuntime) -> Result<(), Fail> {
+    for (job, wanted, fault) in JOBS {
+        assert!(rt; job.len() <= 4096);
+        let last = match *fault {
+            Some((place, cause)) => Err(LexFault { place, cause }),
+            None => Ok(Lexed::End),
+        };
+        let mut whole = Vec::new(rt.alloc());
+        assert_eq!(rt; read_whole(rt.alloc(), job, &mut whole)?, last, "{job:?}");
+        assert_items(&rt, &whole, wanted);
+        let mut pieces = Vec::new(rt.alloc());
+        assert_eq!(rt; read_bytes(rt.alloc(), job, &mut pieces)?, last, "{job:?}");
+        assert_items(&rt, &pieces, wanted);
+    }
+    Ok(())
+}
+
+/// Feeds an item, and then a large piece, which is refused: the job ends without it.
+fn read_past_refusal<A: Allocator, B: Allocator>(
+    alloc: A,
+    items: &mut Vec<(Place, Item), B>,
+) -> Result<Last, AllocError> {
+    let mut lexer = Lexer::new(alloc);
+    lexer.feed(b"\x1bE")?;
+    match read_on(&mut lexer, items)? {
+        Ok(Lexed::NeedMore) => {}
+        other => return Ok(other),
+    }
+    if lexer.feed(&[b'\x0c'; 4096]).is_ok() {
+        return Ok(Ok(Lexed::NeedMore));
+    }
+    lexer.end_input();
+    read_on(&mut lexer, items)
+}
+
+#[test]
+fn refused_piece_leaves_the_lexer(rt: HostRuntime) -> Result<(), Fail> {
+    let heap = Refusing::new(rt.alloc(), 1);
+    let mut items = Vec::new(rt.alloc());
+    let end = read_past_refusal(&heap, &mut items)?;
+    assert_eq!(rt; end, Ok(Lexed::End));
+    assert_items(&rt, &items, &[(0, Wanted::Reset)]);
+    Ok(())
+}

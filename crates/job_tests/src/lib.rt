@@ -1,0 +1,35 @@
+//! Tests over the public calls of the libraries. They stand in a crate of their own, since a crate with tests is proved twice.
+#![tactic(auto)]
+
+#[cfg(test)]
+mod fakes;
+#[cfg(test)]
+mod fleets;
+#[cfg(test)]
+mod items;
+#[cfg(test)]
+mod jobs;
+#[cfg(test)]
+mod lengths;
+#[cfg(test)]
+mod lexer;
+#[cfg(test)]
+mod machine;
+#[cfg(test)]
+mod memory;
+#[cfg(test)]
+mod page;
+#[cfg(test)]
+mod places;
+#[cfg(test)]
+mod printers;
+#[cfg(test)]
+mod profile_texts;
+#[cfg(test)]
+mod profiles;
+#[cfg(test)]
+mod rows;
+#[cfg(test)]
+mod settings;
+#[cfg(test)]
+mod sources;

@@ -1,0 +1,297 @@
+//! The machine, and copies of what it hands over.
+
+use crate::items::items_of;
+use device_profile::{Field, sample_a};
+use page_env::Finding::Unset;
+use page_env::{Bounds, Finding, Mark, PageEnd};
+use page_machine::{Machine, MarkSink, OwnedEvent, OwnedMark, Start, Stop};
+use pcl_items::{Item, Place};
+use refusing::Refusing;
+use std::alloc::Global;
+use std::process::Abort;
+use std::test::Fail;
+use tick_length::Length;
+
+/// No room for a further event.
+#[derive(Drop)]
+struct Full;
+
+/// Takes so many events, and keeps the last mark and the last page.
+#[derive(Drop)]
+struct Recorder {
+    room: u32,
+    mark: Option<Mark>,
+    page: Option<PageEnd>,
+}
+
+impl Recorder {
+    fn take_room(&mut self) -> Result<(), Full> {
+        if self.room == 0 {
+            return Err(Full);
+        }
+        self.room -= 1;
+        Ok(())
+    }
+}
+
+impl MarkSink for Recorder {
+    type Fault = Full;
+
+    ghost takes = { λ old event new. Unit {0} };
+
+    ghost refuses = { λ old event new. Unit {0} };
+
+    fn mark(&mut self, mark: &Mark) -> Result<(), Full> {
+        self.take_room()?;
+        self.mark = Some(*mark);
+        Ok(())
+    }
+
+    fn page(&mut self, page: PageEnd) -> Result<(), Full> {
+        self.take_room()?;
+        self.page = Some(page);
+        Ok(())
+    }
+}
+
+/// What a machine answers.
+#[derive(Clone, Copy)]
+enum Answer {
+    Goes,
+    Found(Place, Finding),
+    Refused,
+    Stopped,
+}
+
+use Answer::{Found, Goes, Refused, Stopped};
+
+/// The run of a machine whose sink has room for some events.
+struct Run {
+    room: u32,
+    /// Bytes, what the machine answers on their last item, and for how many events there is room then.
+    steps: &'static [(&'static [u8], Answer, u32)],
+    /// The last mark, in 7200ths of an inch: its left, upper, right and lower edge.
+    mark: Option<(u32, u32, u32, u32)>,
+    /// What it answers on the end of the bytes, for how many events there is room then, and the last page.
+    end: (Answer, u32, Option<PageEnd>),
+}
+
+/// Letter paper in portrait, one copy of one side from tray 1.
+const LETTER: PageEnd = PageEnd {
+    size: 2,
+    orientation: 0,
+    sides: 0,
+    tray: 1,
+    copies: 1,
+};
+
+const FROM_ANY_PANEL: &[Run] = &[
+    // The rectangle begins an inch and a quarter from the left and an inch and a half from the top.
+    Run {
+        room: 2,
+        steps: &[
+            (
+                b"\x1bE\x1b&l2A\x1b&l0O\x1b*p300X\x1b*p300Y\x1b*c100A\x1b*c50B\x1b*c0P",
+                Goes,
+                1,
+            ),
+            (b"\x0c", Goes, 0),
+        ],
+        mark: Some((9000, 10800, 11400, 12000)),
+        end: (Goes, 0, Some(LETTER)),
+    },
+    Run {
+        room: 1,
+        steps: &[
+            (b"\x1bE\x0c", Found(2, Unset(Field::Size)), 1),
+            (b"\x1bE", Stopped, 1),
+        ],
+        mark: None,
+        end: (Stopped, 1, None),
+    },
+];
+
+const FROM_THE_FIRST_PANEL: &[Run] = &[
+    Run {
+        room: 1,
+        steps: &[
+            (b"\x0c", Goes, 0),
+            (b"\x0c", Refused, 0),
+            (b"\x0c", Stopped, 0),
+        ],
+        mark: None,
+        end: (Stopped, 0, Some(LETTER)),
+    },
+    // A feed closes a marked page from a line 1/4 inch below the bottom margin. The new page has no mark, so a second feed
+    // from there closes nothing; the cursor goes home again.
+    Run {
+        room: 4,
+        steps: &[
+            (b"\x1b*c30a30b0P\x1b*p3075Y", Goes, 3),
+            (b"\n", Goes, 2),
+            (b"\x1b*p3075Y\n", Goes, 2),
+            (b"\x1b*c0P", Goes, 1),
+        ],
+        mark: Some((1800, 4500, 2520, 5220)),
+        end: (Goes, 0, Some(LETTER)),
+    },
+    Run {
+        room: 4,
+        steps: &[
+            (b"\x1b*c30a30b0P\x1b*p3075Y", Goes, 3),
+            (b"\x1b=", Goes, 2),
+            (b"\x1b*p3075Y\x1b=", Goes, 2),
+            (b"\x1b*c0P", Goes, 1),
+        ],
+        mark: Some((1800, 4500, 2520, 5220)),
+        end: (Goes, 0, Some(LETTER)),
+    },
+    // The sink refuses the page.
+    Run {
+        room: 1,
+        steps: &[
+            (b"\x1b*c30a30b0P\x1b*p3075Y", Goes, 0),
+            (b"\n", Refused, 0),
+            (b"\r", Stopped, 0),
+        ],
+        mark: Some((1800, 4500, 2520, 5220)),
+        end: (Stopped, 0, None),
+    },
+    // Line termination makes CR, LF and FF several parts, but not a half line feed.
+    Run {
+        room: 2,
+        steps: &[(b"\x1b*c30a30B\x1b&k3G\x1b*p300X\r\x1b*c0P", Goes, 1)],
+        mark: Some((1800, 5700, 2520, 6420)),
+        end: (Goes, 0, Some(LETTER)),
+    },
+    Run {
+        room: 2,
+        steps: &[(b"\x1b*c30a30B\x1b&k3G\x1b*p300X\n\x1b*c0P", Goes, 1)],
+        mark: Some((1800, 5700, 2520, 6420)),
+        end: (Goes, 0, Some(LETTER)),
+    },
+    Run {
+        room: 2,
+        steps: &[(b"\x1b*c30a30B\x1b&k3G\x1b*p300X\x1b=\x1b*c0P", Goes, 1)],
+        mark: Some((9000, 5100, 9720, 5820)),
+        end: (Goes, 0, Some(LETTER)),
+    },
+    Run {
+        room: 2,
+        steps: &[(b"\x1b*c30a30B\x1b&k3G\x1b*p300X\x0c\x1b*c0P", Goes, 0)],
+        mark: Some((1800, 4500, 2520, 5220)),
+        end: (Refused, 0, Some(LETTER)),
+    },
+];
+
+/// A rectangle with these edges, in 7200ths of an inch.
+fn rectangle((left, top, right, bottom): (u32, u32, u32, u32)) -> Mark {
+    Mark::Rect(Bounds {
+        left: Length::of_7200ths(left),
+        top: Length::of_7200ths(top),
+        right: Length::of_7200ths(right),
+        bottom: Length::of_7200ths(bottom),
+    })
+}
+
+/// Carries out items up to the first that does not go.
+fn step_all(
+    machine: &mut Machine<'_>,
+    items: &[(Place, Item)],
+    sink: &mut Recorder,
+) -> Result<(), Stop<Full>> {
+    for (place, item) in items {
+        machine.step(*place, item, sink)?;
+    }
+    Ok(())
+}
+
+fn assert_answer(rt: &impl Abort, outcome: Result<(), Stop<Full>>, answer: Answer, bytes: &[u8]) {
+    match (outcome, answer) {
+        (Ok(()), Goes) => {}
+        (Err(Stop::Found(place, found)), Found(at, finding)) => {
+            assert_eq!(rt; (place, found), (at, finding), "{bytes:?}");
+        }
+        (Err(Stop::Refused(Full)), Refused) => {}
+        (Err(Stop::Stopped), Stopped) => {}
+        _ => assert!(rt; false, "another answer at {bytes:?}"),
+    }
+}
+
+fn check_run(
+    rt: &impl Abort,
+    alloc: Global,
+    mut machine: Machine<'_>,
+    run: &Run,
+) -> Result<(), Fail> {
+    let mut sink = Recorder {
+        room: run.room,
+        mark: None,
+        page: None,
+    };
+    for (bytes, answer, room) in run.steps {
+        let items = items_of(rt, alloc, bytes)?;
+        let outcome = step_all(&mut machine, &items, &mut sink);
+        assert_answer(rt, outcome, *answer, bytes);
+        assert_eq!(rt; sink.room, *room, "{bytes:?}");
+    }
+    assert_eq!(rt; sink.mark, run.mark.map(rectangle));
+    let (answer, room, page) = run.end;
+    assert_answer(rt, machine.finish(99, &mut sink), answer, b"");
+    assert_eq!(rt; (sink.room, sink.page), (room, page));
+    // A machine that is finished answers so.
+    assert_answer(rt, machine.finish(99, &mut sink), Stopped, b"");
+    Ok(())
+}
+
+#[test]
+fn machines_run(rt: HostRuntime) -> Result<(), Fail> {
+    let profile = sample_a(rt.alloc())?;
+    for run in FROM_ANY_PANEL {
+        let machine = Machine::new(&profile, Start::Unknown);
+        check_run(&rt, rt.alloc(), machine, run)?;
+    }
+    for run in FROM_THE_FIRST_PANEL {
+        let machine = Machine::new(&profile, Start::At(profile.first_panel()));
+        check_run(&rt, rt.alloc(), machine, run)?;
+    }
+    Ok(())
+}
+
+/// Boxes that differ from (1, 2, 3, 4).
+const OTHERS: &[(u32, u32, u32, u32)] = &[
+    (0, 2, 3, 4),
+    (1, 0, 3, 4),
+    (1, 2, 0, 4),
+    (1, 2, 3, 0),
+    (1, 2, 3, 5),
+];
+
+#[test]
+fn copies_are_told_from_others(rt: HostRuntime) -> Result<(), Fail> {
+    let mark = rectangle((1, 2, 3, 4));
+    // A rectangle is copied without memory.
+    let full = Refusing::new(rt.alloc(), 0);
+    let copy = OwnedMark::copy_of(&full, &mark)?;
+    assert!(rt; copy.is_same(&mark));
+    assert_eq!(rt; copy, OwnedMark::copy_of(rt.alloc(), &mark)?);
+    let kept = OwnedEvent::Marked(OwnedMark::copy_of(rt.alloc(), &mark)?);
+    assert!(rt; kept.is_marked(&mark));
+    for edges in OTHERS {
+        let other = rectangle(*edges);
+        assert!(rt; !copy.is_same(&other));
+        assert_ne!(rt; copy, OwnedMark::copy_of(rt.alloc(), &other)?);
+        assert!(rt; !kept.is_marked(&other));
+    }
+    let ended = OwnedEvent::Ended(LETTER);
+    assert!(rt; ended.is_ended(&LETTER) && !kept.is_ended(&LETTER));
+    assert!(rt; !ended.is_marked(&mark));
+    assert!(rt;
+        !ended.is_ended(&PageEnd {
+            copies: 2,
+            ..LETTER
+        })
+    );
+    assert_ne!(rt; kept, ended);
+    Ok(())
+}

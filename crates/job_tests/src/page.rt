@@ -1,0 +1,246 @@
+//! The print environment of one page.
+
+use crate::items::items_of;
+use device_profile::{Field, Panel, Profile, sample_a};
+use page_env::Finding::{
+    BadValue, Inexact, MarginIgnored, NotOnDevice, OffPage, StackEmpty, StackFull, Unset,
+};
+use page_env::{
+    Carried, Cell, Finding, Mark, Page, PageChange, PageEnd, VerticalPlace, carry_out, change_page,
+    first_page, page_end, user_defaults, user_defaults_of,
+};
+use pcl_items::{Item, Number, Place, Sign};
+use std::process::Abort;
+use std::test::Fail;
+use tick_length::Length;
+
+/// What bytes come to.
+#[derive(Clone, Copy)]
+enum Comes {
+    /// The cursor stands here, in ticks; its y only where it is not at home.
+    To(i64, Option<i64>),
+    /// The right margin lies here.
+    RightMargin(i64),
+    /// The top margin lies here.
+    TopMargin(i64),
+    /// A rectangle has these edges: left, top, right and bottom.
+    Rectangle([i64; 4]),
+    /// A marked page is to be closed, with the cursor at home then.
+    Closes,
+    Found(Finding),
+}
+
+use Comes::{Closes, Found, Rectangle, RightMargin, To, TopMargin};
+
+const INCH: i64 = 36_576_000_000;
+
+/// The first line of 6 to the inch lies an eighth of an inch below the top margin, which is half an inch.
+const FIRST_LINE: i64 = INCH / 8 * 5;
+
+/// Pages of letter paper in portrait, each from its start: bytes, so many times, and what they come to.
+const PAGES: &[&[(u32, &[u8], Comes)]] = &[
+    // 300 units are an inch, and the top margin is half an inch.
+    &[
+        (1, b"", To(0, None)),
+        (1, b"\x1b*p300X", To(INCH, None)),
+        (1, b"\x1b*p300Y", To(INCH, Some(54_864_000_000))),
+    ],
+    &[(1, b"\x1b*p+0Y", To(0, Some(FIRST_LINE)))],
+    // The logical page is 8 inches wide.
+    &[(1, b"\x1b*p2400X", To(8 * INCH, None))],
+    &[(1, b"\x1b*p2401X", Found(OffPage))],
+    // The logical page begins a quarter of an inch from the left edge of the paper, and at its top.
+    &[
+        (
+            1,
+            b"\x1b*p300X\x1b*p300Y\x1b*c100A\x1b*c50B",
+            To(INCH, Some(54_864_000_000)),
+        ),
+        (
+            1,
+            b"\x1b*c0P",
+            Rectangle([
+                45_720_000_000,
+                54_864_000_000,
+                57_912_000_000,
+                60_960_000_000,
+            ]),
+        ),
+    ],
+    &[
+        (1, b"\x1b&l66A", Found(NotOnDevice)),
+        (1, b"\x1b&l0A", Found(BadValue)),
+        (1, b"\x1b*c-0A", To(0, None)),
+        (1, b"\x1b*c-1A", Found(BadValue)),
+    ],
+    // The logical page has 80 columns of a tenth of an inch.
+    &[
+        (1, b"\x1b&a90M", Found(MarginIgnored)),
+        (1, b"\x1b&a80L", Found(MarginIgnored)),
+    ],
+    &[(1, b"\x1b&a79M", RightMargin(8 * INCH))],
+    &[(1, b"\x1b&a79L", To(INCH / 10 * 79, None))],
+    // 12 lines of a sixth of an inch are two inches; a changed perforation skip returns the top margin.
+    &[
+        (1, b"\x1b&l12E", TopMargin(2 * INCH)),
+        (1, b"\x1b&l0L", TopMargin(INCH / 2)),
+    ],
+    &[
+        (1, b"\x1b&u600D", To(0, None)),
+        (1, b"\x1b*p600X", To(INCH, None)),
+    ],
+    &[(1, b"\x1b&u301D", Found(BadValue))],
+    &[(1, b"\x1b&a720H", To(INCH, None))],
+    &[(1, b"\x1b&a10C", To(INCH, None))],
+    &[
+        (1, b"\x1b&k0.0001H", To(0, None)),
+        (1, b"\x1b&a0.0001C", Found(Inexact)),
+    ],
+    // 60 lines lie above the bottom margin.
+    &[
+        (59, b"\n", To(0, Some(FIRST_LINE + INCH / 6 * 59))),
+        (1, b"\n", Closes),
+    ],
+    // Where the perforation is not skipped, lines go on to the foot of the page.
+    &[
+        (1, b"\x1b&l0L", To(0, None)),
+        (62, b"\n", To(0, Some(FIRST_LINE + INCH / 6 * 62))),
+        (1, b"\n", Found(OffPage)),
+    ],
+    // The stack holds 20 cursors; the home of the first push becomes a number.
+    &[
+        (1, b"\x1b&f1S", Found(StackEmpty)),
+        (20, b"\x1b&f0S", To(0, Some(FIRST_LINE))),
+        (1, b"\x1b&f0S", Found(StackFull)),
+        (1, b"\x1b*p300X", To(INCH, Some(FIRST_LINE))),
+        (1, b"\x1b&f1S", To(0, Some(FIRST_LINE))),
+    ],
+];
+
+/// The start of a job on letter paper in portrait, with 6 lines to the inch.
+fn letter_page() -> Page {
+    let panel = Panel {
+        size: 2,
+        orientation: 0,
+        vmi: 80_000,
+        font: 1,
+        copies: 1,
+        sides: 0,
+        tray: 1,
+    };
+    first_page(user_defaults_of(&panel))
+}
+
+/// The last of the items, so many times, or the first that is not one step without a mark.
+fn carry_out_all(
+    profile: &Profile,
+    page: &mut Page,
+    times: u32,
+    items: &[(Place, Item)],
+) -> Result<Carried, Finding> {
+    for _ in 0..times {
+        for (_, item) in items {
+            match carry_out(profile, page, item) {
+                Ok(Carried::Stepped) => {}
+                other => return other,
+            }
+        }
+    }
+    Ok(Carried::Stepped)
+}
+
+/// The ticks of the cursor's x, and of its y where that is not home.
+fn cursor_ticks(page: &Page) -> (i64, Option<i64>) {
+    let y = page.cursor.y.map(VerticalPlace::ticks);
+    (page.cursor.x.ticks(), y)
+}
+
+/// Where the right margin lies, if it was set.
+fn right_margin_ticks(page: &Page) -> Option<i64> {
+    page.env.job.right_margin.map(Length::ticks)
+}
+
+fn assert_comes(
+    rt: &impl Abort,
+    page: &Page,
+    carried: Result<Carried, Finding>,
+    comes: Comes,
+    bytes: &[u8],
+) {
+    let stepped = matches!(carried, Ok(Carried::Stepped));
+    match comes {
+        Rectangle(edges) => match carried {
+            Ok(Carried::Marked(Mark::Rect(bounds))) => {
+                assert_eq!(rt; bounds.left.ticks(), edges[0]);
+                assert_eq!(rt; bounds.top.ticks(), edges[1]);
+                assert_eq!(rt; bounds.right.ticks(), edges[2]);
+                assert_eq!(rt; bounds.bottom.ticks(), edges[3]);
+                assert!(rt; page.marked);
+            }
+            _ => assert!(rt; false, "no mark at {bytes:?}"),
+        },
+        Found(finding) => assert_eq!(rt; carried.err(), Some(finding), "{bytes:?}"),
+        Closes => {
+            let closes = matches!(carried, Ok(Carried::Closing(PageChange::Home)));
+            assert!(rt; closes, "no page is closed at {bytes:?}");
+        }
+        To(x, y) => assert_eq!(rt; (stepped, cursor_ticks(page)), (true, (x, y)), "{bytes:?}"),
+        RightMargin(ticks) => {
+            assert_eq!(rt;
+                (stepped, right_margin_ticks(page)),
+                (true, Some(ticks)),
+                "{bytes:?}"
+            );
+        }
+        TopMargin(ticks) => {
+            let margin = page.env.job.top_margin;
+            assert_eq!(rt; (stepped, margin.ticks()), (true, ticks), "{bytes:?}");
+        }
+    }
+}
+
+#[test]
+fn pages_come_to_this(rt: HostRuntime) -> Result<(), Fail> {
+    let profile = sample_a(rt.alloc())?;
+    for steps in PAGES {
+        let mut page = letter_page();
+        for (times, bytes, comes) in *steps {
+            let items = items_of(&rt, rt.alloc(), bytes)?;
+            let carried = carry_out_all(&profile, &mut page, *times, &items);
+            assert_comes(&rt, &page, carried, *comes, bytes);
+        }
+    }
+    Ok(())
+}
+
+/// A whole number without a sign.
+fn whole(number: u16) -> Number {
+    Number {
+        sign: Sign::Absent,
+        ten_thousandths: u32::from(number) * 10_000,
+    }
+}
+
+#[test]
+fn fields_of_one_value_are_known(rt: HostRuntime) -> Result<(), Fail> {
+    let profile = sample_a(rt.alloc())?;
+    let defaults = user_defaults(&profile);
+    assert!(rt; matches!(defaults.fields.size, Cell::FromPanel));
+    assert!(rt; matches!(defaults.fields.vmi, Cell::Known(80_000)));
+    let mut start = first_page(defaults);
+    let items = items_of(&rt, rt.alloc(), b"\x1b*p300X")?;
+    let unset = carry_out_all(&profile, &mut start, 1, &items);
+    assert!(rt; matches!(unset, Err(Unset(Field::Size))));
+    change_page(&defaults, &mut start, PageChange::Size(whole(26)));
+    assert_eq!(rt; page_end(&start), Err(Field::Orientation));
+    change_page(&defaults, &mut start, PageChange::Orientation(whole(1)));
+    let end = PageEnd {
+        size: 26,
+        orientation: 1,
+        sides: 0,
+        tray: 1,
+        copies: 1,
+    };
+    assert_eq!(rt; page_end(&start), Ok(end));
+    Ok(())
+}

@@ -1,0 +1,100 @@
+//! The printers of the tests.
+
+use device_profile::{Profile, Sample};
+use std::alloc::Global;
+use std::test::Fail;
+
+/// A printer of a row.
+#[derive(Clone, Copy)]
+pub enum Printer {
+    /// Sample A.
+    A,
+    /// Sample B.
+    B,
+    /// Sample C.
+    C,
+    /// Sample B with a logical page that begins 1/120 inch further right.
+    Moved,
+    /// Sample B with a printable area that ends 10000/7200 inch from the left edge of the page.
+    Narrow,
+    /// Sample B with 8 lines to the inch.
+    EightLines,
+    /// Sample B that prints on one side alone.
+    OneSided,
+    /// Sample B with one copy or two.
+    SomeCopies,
+    /// Sample B with two copies of two sides from tray 2.
+    OtherPanel,
+}
+
+/// The lines of sample B, but for those of its panel that follow, its duplex and its page.
+const FRONT: &[u8] = b"\
+pclprofile 1
+name B
+size 2
+orientation 0
+font 1
+trays 1 2
+depth 2
+memory 100
+face 1 10U 10 12 0 0 3 720 900 300 33-126
+";
+
+/// The other lines of sample B for its panel, and its duplex.
+const PANEL: &[u8] = b"vmi 8\ncopies 1\nsides 0\ntray 1\nduplex 1\n";
+
+/// Letter paper in portrait, up to the logical page.
+const LETTER: &[u8] = b"geometry 2 0 61200 79200 ";
+
+/// The logical page and the printable area of sample B.
+const PAGE: &[u8] = b"1800 0 57600 79200 1200 1200 60000 78000";
+
+/// The text of a printer like sample B, with one page and one face.
+pub fn text_of(alloc: Global, panel: &[u8], page: &[u8]) -> Result<Vec<u8>, Fail> {
+    let mut text = Vec::new(alloc);
+    for part in [FRONT, panel, LETTER, page, b"\n"] {
+        text.extend_from_slice(part)?;
+    }
+    Ok(text)
+}
+
+/// The text of sample B, with one page and one face.
+pub fn text_of_one_page(alloc: Global) -> Result<Vec<u8>, Fail> {
+    text_of(alloc, PANEL, PAGE)
+}
+
+fn printer_of(alloc: Global, panel: &[u8], page: &[u8]) -> Result<Profile, Fail> {
+    Ok(Profile::read(alloc, &text_of(alloc, panel, page)?)?)
+}
+
+/// The profile of a printer.
+fn profile_of(alloc: Global, printer: Printer) -> Result<Profile, Fail> {
+    let (panel, page): (&[u8], &[u8]) = match printer {
+        Printer::A => return Ok(Sample::A.profile(alloc)?),
+        Printer::B => return Ok(Sample::B.profile(alloc)?),
+        Printer::C => return Ok(Sample::C.profile(alloc)?),
+        Printer::Moved => (PANEL, b"1860 0 57600 79200 1200 1200 60000 78000"),
+        Printer::Narrow => (PANEL, b"1800 0 57600 79200 1200 1200 10000 78000"),
+        Printer::EightLines => (b"vmi 6\ncopies 1\nsides 0\ntray 1\nduplex 1\n", PAGE),
+        Printer::OneSided => (b"vmi 8\ncopies 1\nsides 0\ntray 1\nduplex 0\n", PAGE),
+        Printer::SomeCopies => (b"vmi 8\ncopies 1 2\nsides 0\ntray 1\nduplex 1\n", PAGE),
+        Printer::OtherPanel => (b"vmi 8\ncopies 2\nsides 1\ntray 2\nduplex 1\n", PAGE),
+    };
+    printer_of(alloc, panel, page)
+}
+
+/// The profiles of a fleet.
+pub fn fleet_of(alloc: Global, printers: &[Printer]) -> Result<Vec<Profile>, Fail> {
+    let mut fleet = Vec::new(alloc);
+    for printer in printers {
+        fleet.push(profile_of(alloc, *printer)?)?;
+    }
+    Ok(fleet)
+}
+
+/// A printer like sample B whose printable area is a square of a tenth of an inch that begins here, in 7200ths of an inch.
+pub fn with_square(alloc: Global, left: u32, top: u32) -> Result<Profile, Fail> {
+    let (right, bottom) = (u64::from(left) + 720, u64::from(top) + 720);
+    let page = format!(in alloc; "1800 0 57600 79200 {left} {top} {right} {bottom}")?;
+    printer_of(alloc, PANEL, page.as_bytes())
+}

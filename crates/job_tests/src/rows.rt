@@ -1,0 +1,116 @@
+//! Rows of jobs with the verdicts on them.
+
+ghost use Rattle.std.specs.Prelude.{◌≤◌, length};
+
+use crate::fakes::{CutSource, FailingSource};
+use crate::printers::{Printer, fleet_of};
+use device_profile::Profile;
+use page_env::Finding;
+use pcl_items::{Cause, Group, Name};
+use preflight::{Reason, Verdict, Watched, check_job};
+use std::alloc::{AllocError, Global};
+use std::process::Abort;
+use std::test::Fail;
+
+/// What a row expects of a check.
+#[derive(Clone, Copy)]
+pub enum Expected {
+    /// So many pages and marks.
+    Pass(u64, u64),
+    /// A fault of the bytes at the place.
+    Fault(u64, Cause),
+    /// A finding at the place, on the first printer.
+    Found(u64, Finding),
+    /// A finding at the place, on the printer of this number.
+    FoundOn(u64, u64, Finding),
+    /// Other marks or pages at the place, on the printer of this number.
+    Differs(u64, u64),
+}
+
+/// What the bytes of the command `&l#P` are a fault for: it is no part of the profile.
+pub const PAGE_LENGTH: Cause = Cause::NotInProfile(Name::Command(Group::Layout, b'P'));
+
+/// A job and what is expected of its check.
+pub type Row = (&'static [u8], Expected);
+
+impl Expected {
+    pub fn verdict(self) -> Verdict {
+        let (place, profile, finding) = match self {
+            Expected::Pass(pages, marks) => return Verdict::Pass { pages, marks },
+            Expected::Fault(place, cause) => (place, 0, Reason::Fault(cause)),
+            Expected::Found(place, finding) => (place, 1, Reason::Finding(finding)),
+            Expected::FoundOn(place, profile, finding) => (
+                place,
+                profile,
+                Reason::Finding(finding),
+            ),
+            Expected::Differs(place, profile) => (place, profile, Reason::Differs),
+        };
+        Verdict::Fail {
+            place,
+            profile,
+            finding,
+        }
+    }
+}
+
+/// Checks a job whole, byte by byte, and in two pieces that are cut at each place.
+pub fn check_in_pieces(
+    rt: &impl Abort,
+    alloc: Global,
+    fleet: &[Profile],
+    job: &[u8],
+    expected: Expected,
+) -> Result<(), Fail> {
+    let verdict = expected.verdict();
+    let mut whole = Watched::new(job);
+    let answer = check_job(alloc, &mut whole, fleet)?;
+    assert_eq!(rt; answer, verdict, "{job:?}");
+    let mut bytes = FailingSource::new(job, u64::MAX);
+    let answer = check_job(alloc, &mut bytes, fleet)?;
+    assert_eq!(rt; answer, verdict, "{job:?} byte by byte");
+    for place in 0..job.len() {
+        let answer = check_cut(alloc, fleet, job, place)?;
+        assert_eq!(rt; answer, verdict, "{job:?} cut at {place}");
+    }
+    Ok(())
+}
+
+fn check_cut(alloc: Global, fleet: &[Profile], job: &[u8], place: usize) -> Result<Verdict, Fail>
+    requires { place ≤ length job.now }
+{
+    let (first, second) = job.split_at(place);
+    let mut cut = CutSource::new(first, second);
+    Ok(check_job(alloc, &mut cut, fleet)?)
+}
+
+/// Checks jobs for a fleet.
+pub fn check_rows(
+    rt: &impl Abort,
+    alloc: Global,
+    printers: &[Printer],
+    rows: &[Row],
+) -> Result<(), Fail> {
+    let fleet = fleet_of(alloc, printers)?;
+    for (job, expected) in rows {
+        check_in_pieces(rt, alloc, &fleet, job, *expected)?;
+    }
+    Ok(())
+}
+
+/// A front, so many times a part, and an end.
+pub fn job_of(
+    alloc: Global,
+    front: &[u8],
+    times: u32,
+    part: &[u8],
+    end: &[u8],
+) -> Result<Vec<u8>, AllocError> {
+    let mut job = Vec::new(alloc);
+    job.extend_from_slice(front)?;
+    for _ in 0..times {
+        job.extend_from_slice(part)?;
+    }
+    job.extend_from_slice(end)?;
+    Ok(job)
+}
