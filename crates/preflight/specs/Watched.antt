@@ -1,7 +1,8 @@
 -- What a watched reader or writer stands for.
-use Rattle.std.specs.Prelude.{Bool}
+use Rattle.std.specs.Prelude.{ℕ, List, Bool}
 
--- the reader or writer itself, and whether it has failed
+-- the reader or writer itself, what its reads gave, and whether it has failed
 pub record WatchedState (T : Type 0) : Type 0 where
   pub inner : T
+  pub given : List (List ℕ)
   pub has_failed : Bool

@@ -1,0 +1,93 @@
+-- The pieces that reads gave: their bytes, and the jobs that may be by them.
+use Rattle.std.proofs.Common.{◌≡◌, ◌<◌, ◌+◌, ◌^◌, ℕ, Bool, true, false, List, [], ◌∷◌, ◌++◌, length, take, refl, ap, sym, ◌∙◌, subst, append-nil, append_assoc, length-append, Option, None, Some, IfSome, arith, ◌⊎◌, inl, inr}
+use Rattle.std.specs.Io.KnownBytes.{Consumes, IsAtEnd}
+use Rattle.pcl_items.specs.Lexing.{MayBe}
+use Rattle.preflight.specs.Pieces.{MayBeBy, ByReads, Spell}
+
+-- no piece
+pub spell_none : Spell [] []
+spell_none = record { leads = λ later job h. (job, refl, h); led = λ later more h. h }
+
+-- a piece that is not empty stands at the front
+front_of : (piece : List ℕ) (later : List (List ℕ)) (job : List ℕ) → 0 < length piece → MayBeBy (piece ∷ later) job → (more : List ℕ) × (job ≡ piece ++ more) × MayBeBy later more
+front_of [] later job some h = absurd (omega (arith, some))
+front_of (b ∷ bs) later job some h = h
+
+in_front : (piece : List ℕ) (later : List (List ℕ)) (more : List ℕ) → 0 < length piece → MayBeBy later more → MayBeBy (piece ∷ later) (piece ++ more)
+in_front [] later more some h = absurd (omega (arith, some))
+in_front (b ∷ bs) later more some h = (more, refl, h)
+
+-- one more piece
+pub spell_more : (pieces : List (List ℕ)) (bytes piece : List ℕ) → 0 < length piece → Spell pieces bytes → Spell (pieces ++ piece ∷ []) (bytes ++ piece)
+spell_more pieces bytes piece some spelled = record {
+  leads = λ later job h.
+      let first = spelled.leads (piece ∷ later) job (subst (λ ps. MayBeBy ps job) (append_assoc pieces (piece ∷ []) later) h) in
+      let second = front_of piece later first.0 some first.2 in
+      (second.0, first.1 ∙ ap (λ more. bytes ++ more) second.1 ∙ sym (append_assoc bytes piece second.0), second.2);
+  led = λ later more h.
+      let both = spelled.led (piece ∷ later) (piece ++ more) (in_front piece later more some h) in
+      subst (λ ps. MayBeBy ps (bytes ++ piece ++ more)) (sym (append_assoc pieces (piece ∷ []) later)) (subst (MayBeBy (pieces ++ piece ∷ later)) (sym (append_assoc bytes piece more)) both);
+}
+
+-- one more piece was given
+pub given_more : (before mid after pieces : List (List ℕ)) (piece : List ℕ) → mid ≡ before ++ pieces → after ≡ mid ++ piece ∷ [] → after ≡ before ++ (pieces ++ piece ∷ [])
+given_more before mid after pieces piece first second = second ∙ ap (λ front. front ++ piece ∷ []) first ∙ append_assoc before pieces (piece ∷ [])
+
+at_job : (pieces : List (List ℕ)) (before : Option (List ℕ)) (bytes : List ℕ) → MayBeBy pieces bytes → IfSome before (λ job. bytes ≡ job) → IfSome before (MayBeBy pieces)
+at_job pieces None bytes h same = tt
+at_job pieces (Some job) bytes h same = subst (MayBeBy pieces) same h
+
+-- a read found the end behind these bytes, so the job is these
+pub by_end : (given_before given_mid given_after pieces : List (List ℕ)) (before : Option (List ℕ)) (bytes piece : List ℕ) (n : ℕ) (P : List ℕ → Type 0)
+    → given_mid ≡ given_before ++ pieces → given_after ≡ given_mid ++ take n piece ∷ [] → n ≡ 0 → Spell pieces bytes → IfSome before (λ job. bytes ≡ job) → P bytes → ByReads given_before given_after before P
+by_end given_before given_mid given_after pieces before bytes piece n P first second none spelled same holds =
+    let last : given_after ≡ given_mid ++ [] ∷ [] = second ∙ ap (λ m. given_mid ++ take m piece ∷ []) none in
+    record {
+      pieces = pieces ++ [] ∷ [];
+      given = given_more given_before given_mid given_after pieces [] first last;
+      each = λ job h.
+          let split = spelled.leads ([] ∷ []) job h in
+          subst P (sym (split.1 ∙ ap (λ more. bytes ++ more) split.2 ∙ append-nil bytes)) holds;
+      known = at_job (pieces ++ [] ∷ []) before bytes (subst (MayBeBy (pieces ++ [] ∷ [])) (append-nil bytes) (spelled.led ([] ∷ []) [] refl)) same;
+    }
+
+at_front : (pieces : List (List ℕ)) (before after : Option (List ℕ)) (bytes : List ℕ) → Consumes before after bytes → ((more : List ℕ) → MayBeBy pieces (bytes ++ more)) → IfSome before (MayBeBy pieces)
+at_front pieces None after bytes consumed h = tt
+at_front pieces (Some job) None bytes consumed h = absurd consumed
+at_front pieces (Some job) (Some rest) bytes consumed h = subst (MayBeBy pieces) (sym consumed) (h rest)
+
+-- whatever follows
+pub by_front : (given_before given_after pieces : List (List ℕ)) (before after : Option (List ℕ)) (bytes : List ℕ) (ended : Bool) (P : List ℕ → Type 0)
+    → given_after ≡ given_before ++ pieces → Spell pieces bytes → Consumes before after bytes → ended ≡ false → ((job : List ℕ) → MayBe ended bytes job → P job) → ByReads given_before given_after before P
+by_front given_before given_after pieces before after bytes ended P given spelled consumed open_input holds = record {
+  pieces = pieces;
+  given = given;
+  each = λ job h.
+      let split = spelled.leads [] job (subst (λ ps. MayBeBy ps job) (sym (append-nil pieces)) h) in
+      holds job (split.0, split.1, λ e. let both : true ≡ false = sym e ∙ open_input in absurd cc);
+  known = at_front pieces before after bytes consumed (λ more. subst (λ ps. MayBeBy ps (bytes ++ more)) (append-nil pieces) (spelled.led [] more tt));
+}
+
+-- what is true of every job that may be is true of the job that was known
+pub known_by : (old new : List (List ℕ)) (remaining : Option (List ℕ)) (P : List ℕ → Type 0) → ByReads old new remaining P → IfSome remaining P
+known_by old new None P by = tt
+known_by old new (Some job) P by = by.each job by.known
+
+-- ---- a verdict before the end
+
+-- some piece is empty, or whatever follows some bytes may be the job
+abbrev Open : List (List ℕ) → Type 0
+Open pieces = (bytes : List ℕ) × ((more : List ℕ) → MayBeBy pieces (bytes ++ more))
+
+abbrev Ended : List (List ℕ) → Type 0
+Ended pieces = (front : List (List ℕ)) × (later : List (List ℕ)) × (pieces ≡ front ++ [] ∷ later)
+
+behind : (piece : List ℕ) (pieces : List (List ℕ)) → 0 < length piece → (Ended pieces ⊎ Open pieces) → Ended (piece ∷ pieces) ⊎ Open (piece ∷ pieces)
+behind piece pieces some (inl ended) = inl (piece ∷ ended.0, ended.1, ap (λ ps. piece ∷ ps) ended.2)
+behind piece pieces some (inr open_) =
+    inr (piece ++ open_.0, λ more. subst (MayBeBy (piece ∷ pieces)) (sym (append_assoc piece open_.0 more)) (in_front piece pieces (open_.0 ++ more) some (open_.1 more)))
+
+pub ended_or_open : (pieces : List (List ℕ)) → Ended pieces ⊎ Open pieces
+ended_or_open [] = inr ([], λ more. tt)
+ended_or_open ([] ∷ pieces) = inl ([], pieces, refl)
+ended_or_open ((b ∷ bs) ∷ pieces) = behind (b ∷ bs) pieces (omega arith) (ended_or_open pieces)
