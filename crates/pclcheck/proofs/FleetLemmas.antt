@@ -1,12 +1,16 @@
 -- Lemmas on fleets.
-use Rattle.std.proofs.Common.{◌≡◌, ◌≢◌, ◌<◌, ◌≤◌, ◌+◌, suc, ℕ, List, [], ◌∷◌, ◌++◌, map, take, drop, length, get_or, Option, refl, sym, ◌∙◌, ap, subst, arith}
+use Rattle.std.proofs.Common.{◌≡◌, ◌≢◌, ◌<◌, ◌≤◌, ◌+◌, suc, ℕ, List, [], ◌∷◌, ◌++◌, map, take, drop, length, get_or, Option, Some, append-nil, append_assoc, refl, sym, ◌∙◌, ap, subst, arith}
 use Rattle.std.proofs.Math.Seq.{split_at}
 use Rattle.std.proofs.lemmas.List.{map_more, map-append, length-map, length-take, take_all}
+use Rattle.device_profile.specs.declared.fault.ProfileFault.{ProfileFault}
+use Rattle.device_profile.specs.declared.fault.ProfileFault.TheVariants.{Fault, Memory as NoMemory}
 use Rattle.device_profile.specs.Printer.{Printer}
+use Rattle.device_profile.specs.Text.{IsErrorOfText}
 use Rattle.preflight.specs.declared.error.Error.TheVariants.{Memory, Read, Write, Turns, NoProfile}
 use Rattle.pclcheck.specs.declared.status.Status.{Status}
 use Rattle.pclcheck.specs.declared.status.Status.TheVariants.{Pass, Fail, Help, Words, Profile, Stopped}
-use Rattle.pclcheck.specs.Fleet.{Describes, DescribeFleet, IsReached, IsRefused, IsEndOfProfile, IsEndOfFleet}
+use Rattle.pclcheck.specs.Status.{refusal_of}
+use Rattle.pclcheck.specs.Fleet.{Describes, DescribeBy, DescribeFleet, IsReached, IsRefused, IsEndOfProfile, IsEndOfFleet, RefusesBy, RefusesRead}
 
 -- one more text describes one more printer
 DescribeFleet-more : (texts : List (Option (List ℕ))) (printers : List Printer) (text : Option (List ℕ)) (printer : Printer) →
@@ -69,3 +73,58 @@ pub fleet_ends : {X : Type 0} (start now : List ℕ → Option (List ℕ)) (byte
     IsEndOfFleet (map (λ word. start (bytes word)) words) status
 fleet_ends start now bytes words i d printers status h same before end =
     end_reached (λ word. start (bytes word)) words i d printers status h before (subst (λ t. IsEndOfProfile (i + 1) (t (bytes (get_or words i d))) status) same end)
+
+DescribeFleet-append : (texts later : List (Option (List ℕ))) (printers others : List Printer) → DescribeFleet texts printers → DescribeFleet later others → DescribeFleet (texts ++ later) (printers ++ others)
+DescribeFleet-append [] later [] others first second = second
+DescribeFleet-append [] later (p ∷ printers) others first second = absurd first
+DescribeFleet-append (t ∷ texts) later [] others first second = absurd first
+DescribeFleet-append (t ∷ texts) later (p ∷ printers) others first second = (first.0, DescribeFleet-append texts later printers others first.1 second)
+
+-- before the first text
+pub DescribeBy-none : (given : List (List ℕ)) → DescribeBy given given []
+DescribeBy-none given = ([], sym (append-nil given), tt)
+
+-- the texts of more printers
+pub DescribeBy-more : (start mid after : List (List ℕ)) (printers others : List Printer) → DescribeBy start mid printers → DescribeBy mid after others → DescribeBy start after (printers ++ others)
+DescribeBy-more start mid after printers others first second = (
+  first.0 ++ second.0,
+  second.1 ∙ ap (λ front. front ++ second.0) first.1 ∙ append_assoc start first.0 second.0,
+  subst (λ texts. DescribeFleet texts (printers ++ others)) (sym (map-append (λ text. Some text) first.0 second.0))
+      (DescribeFleet-append (map (λ text. Some text) first.0) (map (λ text. Some text) second.0) printers others first.2 second.2),
+)
+
+-- each text describes one printer
+described_count : (texts : List (Option (List ℕ))) (printers : List Printer) → DescribeFleet texts printers → length texts ≡ length printers
+described_count [] [] described = refl
+described_count [] (p ∷ printers) described = absurd described
+described_count (t ∷ texts) [] described = absurd described
+described_count (t ∷ texts) (p ∷ printers) described = omega (arith, described_count texts printers described.1)
+
+-- a fault in a text that was read is why its profile is refused
+pub read_is_refused : (old new : List (List ℕ)) (text : List ℕ) (number : ℕ) (fault : ProfileFault) (status : Status) → new ≡ old ++ text ∷ [] → IsErrorOfText text fault → status ≡ refusal_of number fault → RefusesRead old new number status
+read_is_refused old new text number (Fault line cause) status read refused is = subst (RefusesRead old new number) (sym is) (refl, text, read, refused)
+read_is_refused old new text number NoMemory status read refused is = subst (RefusesRead old new number) (sym is) tt
+
+-- behind texts that describe printers
+behind_described : (start mid after : List (List ℕ)) (printers : List Printer) (i : ℕ) (status : Status) → DescribeBy start mid printers → length printers ≡ i → RefusesRead mid after (i + 1) status → RefusesBy start after status
+behind_described start mid after printers i (Profile number line cause) described count refused = record {
+  before = described.0;
+  text = refused.1;
+  read = refused.2 ∙ ap (λ front. front ++ refused.1 ∷ []) described.1 ∙ append_assoc start described.0 (refused.1 ∷ []);
+  number_is = omega (arith, refused.0, count, described_count (map (λ text. Some text) described.0) printers described.2, length-map described.0 (λ text. Some text));
+  printers = printers;
+  accepted = described.2;
+  refused = refused.3;
+}
+behind_described start mid after printers i (Stopped error) described count refused = tt
+behind_described start mid after printers i Pass described count refused = tt
+behind_described start mid after printers i Fail described count refused = tt
+behind_described start mid after printers i Help described count refused = tt
+behind_described start mid after printers i Words described count refused = tt
+
+-- the texts of words describe as many printers as there are words
+pub refused_behind : {X : Type 0} (f : X → Option (List ℕ)) (words : List X) (i : ℕ) (start mid after : List (List ℕ)) (printers : List Printer) (status : Status) → i < length words →
+    DescribeFleet (map f (take i words)) printers → DescribeBy start mid printers → RefusesRead mid after (i + 1) status → RefusesBy start after status
+refused_behind f words i start mid after printers status h named described refused =
+    let count : length printers ≡ i = omega (arith, described_count (map f (take i words)) printers named, length-map (take i words) f, length-take i words) in
+    behind_described start mid after printers i status described count refused

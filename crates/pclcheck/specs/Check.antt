@@ -1,5 +1,5 @@
 -- How the command `check` ends.
-use Rattle.std.specs.Prelude.{ℕ, List, Option, IfSome}
+use Rattle.std.specs.Prelude.{ℕ, List, Option}
 use Rattle.std.specs.Io.KnownBytes.{Appends, Keeps}
 use Rattle.device_profile.specs.Printer.{Printer}
 use Rattle.preflight.specs.declared.error.Error.{Error}
@@ -8,19 +8,38 @@ use Rattle.preflight.specs.declared.verdict.Reason.{Reason}
 use Rattle.preflight.specs.declared.verdict.Verdict.{Verdict}
 use Rattle.preflight.specs.declared.verdict.Verdict.TheVariants.{Pass as PassOf, Fail as FailOf}
 use Rattle.preflight.specs.Outlet.{AppendsPrefix}
+use Rattle.preflight.specs.Pieces.{ByReads}
 use Rattle.preflight.specs.Verdict.{IsExact, KeepsPromise}
 use Rattle.pclcheck.specs.declared.status.Status.{Status}
 use Rattle.pclcheck.specs.declared.status.Status.TheVariants.{Pass, Fail, Help, Words, Profile, Stopped}
-use Rattle.pclcheck.specs.Fleet.{DescribeFleet}
+use Rattle.pclcheck.specs.Fleet.{DescribeBy, DescribeFleet}
 use Rattle.pclcheck.specs.Lines.{verdict_line}
 
--- on the bytes that the source had, where these are known, the verdict is exact and keeps its promise
-abbrev pub IsRight : Option (List ℕ) → List Printer → Verdict → Type 0
-IsRight remaining fleet verdict = IfSome remaining (λ job. IsExact fleet job verdict × KeepsPromise fleet job verdict)
+-- what a job is read from: what its reads gave before and after, and its bytes, where these are known
+pub record Source : Type 0 where
+  pub before : List (List ℕ)
+  pub after : List (List ℕ)
+  pub remaining : Option (List ℕ)
+
+abbrev pub read_by : List (List ℕ) → List (List ℕ) → Option (List ℕ) → Source
+read_by before after remaining = record { before = before; after = after; remaining = remaining }
+
+-- the texts of profiles: those that are known, in order, and those that were read before and after
+pub record Texts : Type 0 where
+  pub known : List (Option (List ℕ))
+  pub before : List (List ℕ)
+  pub after : List (List ℕ)
+
+abbrev pub texts_by : List (Option (List ℕ)) → List (List ℕ) → List (List ℕ) → Texts
+texts_by known before after = record { known = known; before = before; after = after }
+
+-- of every job that may be by what the reads gave, the verdict is exact and keeps its promise
+abbrev pub IsRight : Source → List Printer → Verdict → Type 0
+IsRight job fleet verdict = ByReads job.before job.after job.remaining (λ bytes. IsExact fleet bytes verdict) × ByReads job.before job.after job.remaining (λ bytes. KeepsPromise fleet bytes verdict)
 
 -- the verdict is right for a fleet that the texts of its profiles describe
-abbrev pub IsRightFor : List (Option (List ℕ)) → Option (List ℕ) → Verdict → Type 0
-IsRightFor texts remaining verdict = (fleet : List Printer) × DescribeFleet texts fleet × IsRight remaining fleet verdict
+abbrev pub IsRightFor : Texts → Source → Verdict → Type 0
+IsRightFor texts job verdict = (fleet : List Printer) × DescribeFleet texts.known fleet × DescribeBy texts.before texts.after fleet × IsRight job fleet verdict
 
 -- where a write failed, a front of the line of a verdict with this fact stands there, and otherwise nothing new
 abbrev pub LeavesAtStop : Error → (Verdict → Type 0) → Option (List ℕ) → Option (List ℕ) → Type 0

@@ -1,5 +1,5 @@
 -- The texts of profiles, and the words that name them.
-use Rattle.std.specs.Prelude.{ℕ, List, Option, Some, None, option_map, codes, if◌then◌else◌, ⊤}
+use Rattle.std.specs.Prelude.{[], ◌∷◌, Result, Ok, Err, ℕ, List, Option, Some, None, option_map, codes, if◌then◌else◌, ⊤}
 use Rattle.std.specs.Str.{bytes_eq}
 use Rattle.device_profile.specs.declared.sample.Sample.{Sample}
 use Rattle.device_profile.specs.declared.sample.Sample.TheVariants.{A, B, C, D}
@@ -24,3 +24,8 @@ sample_named word =
 -- the text that a word names on this machine, where it is known: a file's is not
 abbrev pub text_named : List ℕ → Option (List ℕ)
 text_named word = option_map sample_text (sample_named word)
+
+-- the text that was read; where it could not be, none
+abbrev pub text_read : {T : Type 0} → (T → List ℕ) → Result T Error → List (List ℕ)
+text_read bytes (Ok text) = bytes text ∷ []
+text_read bytes (Err e) = []

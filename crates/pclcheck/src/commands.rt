@@ -1,10 +1,10 @@
 //! The program's commands.
-ghost use Rattle.std.specs.Prelude.{◌≡◌, ◌≢◌, ◌≤◌, ◌^◌, [], ◌||◌, length, map, IfOk, IfErr, IfSome, IsErrOf, IsFalse, IsTrue};
+ghost use Rattle.std.specs.Prelude.{◌≡◌, ◌≢◌, ◌+◌, ◌^◌, [], ◌||◌, length, map, IfOk, IfErr, IsErrOf, IsFalse, IsTrue};
 ghost use Rattle.std.specs.Io.KnownBytes.{Appends};
 ghost use Rattle.preflight.specs.Outlet.{Writes, is_err_of_write};
 ghost use Rattle.preflight.specs.Source.{is_err_of_read};
-ghost use Rattle.pclcheck.specs.Check.{IsRight, IsRightFor, Leaves, LeavesAtStop};
-ghost use Rattle.pclcheck.specs.Fleet.{RefusesFirst, ReachesSome};
+ghost use Rattle.pclcheck.specs.Check.{read_by, texts_by, IsRight, IsRightFor, Leaves, LeavesAtStop};
+ghost use Rattle.pclcheck.specs.Fleet.{RefusesBy, RefusesFirst, ReachesSome};
 ghost use Rattle.pclcheck.specs.Lines.{verdict_line};
 ghost use Rattle.pclcheck.specs.Status.{is_refusal, is_stop_of_read, is_stop_of_write, status_line};
 
@@ -33,14 +33,15 @@ pub fn check<S: Source, T: ProfileTexts, O: Outlet, E: Outlet, A: Allocator + Co
     requires stderr { IsFalse (E.failed stderr.old) }
     requires some { profiles.now ≢ [] }
     ensures line { Leaves result
-        (IsRightFor (map (λ word. T.text_of texts.old word.now) profiles.now) (S.remaining job.old))
+        (IsRightFor (texts_by (map (λ word. T.text_of texts.old word.now) profiles.now) (T.given texts.old) (T.given texts.new)) (read_by (S.given job.old) (S.given job.new) (S.remaining job.old)))
         (O.contents stdout.old) (O.contents stdout.new) }
     ensures refusal { RefusesFirst (map (λ word. T.text_of texts.old word.now) profiles.now) result }
+    ensures refused { RefusesBy (T.given texts.old) (T.given texts.new) result }
     ensures reached { IsTrue (T.failed texts.new) → ReachesSome (map (λ word. T.text_of texts.old word.now) profiles.now) }
     ensures unread { IsTrue (is_refusal result || T.failed texts.new) → job.new ≡ job.old }
     ensures read { (S.failed job.new || T.failed texts.new) ≡ is_stop_of_read result }
     ensures write { O.failed stdout.new ≡ is_stop_of_write result }
-    ensures turns { result ≡ Status.Stopped Error.Turns → IfSome (S.remaining job.old) (λ job. 2 ^ 40 ≤ length job) }
+    ensures turns { result ≡ Status.Stopped Error.Turns → length (S.given job.new) ≡ length (S.given job.old) + 2 ^ 40 }
     ensures error { Writes (E.failed stderr.new) (E.contents stderr.old) (E.contents stderr.new) (status_line result) }
 {
     let status = judge(alloc, job, texts, profiles, stdout);
@@ -60,14 +61,15 @@ fn judge<S: Source, T: ProfileTexts, O: Outlet, A: Allocator + Copy>(
     requires stdout { IsFalse (O.failed stdout.old) }
     requires some { profiles.now ≢ [] }
     ensures line { Leaves result
-        (IsRightFor (map (λ word. T.text_of texts.old word.now) profiles.now) (S.remaining job.old))
+        (IsRightFor (texts_by (map (λ word. T.text_of texts.old word.now) profiles.now) (T.given texts.old) (T.given texts.new)) (read_by (S.given job.old) (S.given job.new) (S.remaining job.old)))
         (O.contents stdout.old) (O.contents stdout.new) }
     ensures refusal { RefusesFirst (map (λ word. T.text_of texts.old word.now) profiles.now) result }
+    ensures refused { RefusesBy (T.given texts.old) (T.given texts.new) result }
     ensures reached { IsTrue (T.failed texts.new) → ReachesSome (map (λ word. T.text_of texts.old word.now) profiles.now) }
     ensures unread { IsTrue (is_refusal result || T.failed texts.new) → job.new ≡ job.old }
     ensures read { (S.failed job.new || T.failed texts.new) ≡ is_stop_of_read result }
     ensures write { O.failed stdout.new ≡ is_stop_of_write result }
-    ensures turns { result ≡ Status.Stopped Error.Turns → IfSome (S.remaining job.old) (λ job. 2 ^ 40 ≤ length job) }
+    ensures turns { result ≡ Status.Stopped Error.Turns → length (S.given job.new) ≡ length (S.given job.old) + 2 ^ 40 }
 {
     let fleet = match read_fleet(alloc, texts, profiles) {
         Ok(fleet) => fleet,
@@ -90,13 +92,13 @@ fn write_verdict<S: Source, O: Outlet, A: Allocator + Copy>(
     requires job { IsFalse (S.failed job.old) }
     requires stdout { IsFalse (O.failed stdout.old) }
     requires some { fleet.now ≢ [] }
-    ensures ok { IfOk result (λ verdict. IsRight (S.remaining job.old) fleet.now verdict
+    ensures ok { IfOk result (λ verdict. IsRight (read_by (S.given job.old) (S.given job.new) (S.remaining job.old)) fleet.now verdict
         × Appends (O.contents stdout.old) (O.contents stdout.new) (verdict_line verdict)) }
-    ensures err { IfErr result (λ error. LeavesAtStop error (IsRight (S.remaining job.old) fleet.now)
+    ensures err { IfErr result (λ error. LeavesAtStop error (IsRight (read_by (S.given job.old) (S.given job.new) (S.remaining job.old)) fleet.now)
         (O.contents stdout.old) (O.contents stdout.new)) }
     ensures read { S.failed job.new ≡ is_err_of_read result }
     ensures write { O.failed stdout.new ≡ is_err_of_write result }
-    ensures turns { IsErrOf result Error.Turns → IfSome (S.remaining job.old) (λ job. 2 ^ 40 ≤ length job) }
+    ensures turns { IsErrOf result Error.Turns → length (S.given job.new) ≡ length (S.given job.old) + 2 ^ 40 }
 {
     let verdict = check_job(alloc, job, fleet)?;
     let line = line_of(alloc, verdict)?;

@@ -2,6 +2,7 @@
 ghost use Rattle.std.specs.Prelude.{◌≡◌, None, false};
 ghost use Rattle.std.specs.Io.{ReadsAtMost};
 
+use given::Given;
 use preflight::Source;
 use std::io::Read;
 use std::rt::Files;
@@ -14,6 +15,7 @@ pub struct FileSource<'a, R: Files> {
     files: &'a R,
     path: &'a str,
     opened: Option<R::File>,
+    given: Given,
     has_failed: bool,
 }
 
@@ -25,12 +27,14 @@ impl<'a, R: Files> FileSource<'a, R> {
             files,
             path,
             opened: None,
+            given: Given::new(),
             has_failed: false,
         }
     }
 
     fn read_opened(&mut self, buf: &mut [u8]) -> io::Result<usize>
-        ensures { ReadsAtMost result buf.new }
+        ensures bound { ReadsAtMost result buf.new }
+        ensures given { self.new.given ≡ self.old.given }
     {
         match &mut self.opened {
             Some(file) => file.read(buf),
@@ -47,10 +51,15 @@ impl<'a, R: Files> FileSource<'a, R> {
 impl<R: Files> Source for FileSource<'_, R> {
     ghost remaining = { λ _. None };
 
+    ghost given = { λ file. file.given.pieces };
+
     ghost failed = { λ file. file.has_failed };
 
     fn read(&mut self, buf: &mut [u8]) -> io::Result<usize> {
         let result = self.read_opened(buf);
+        if let Ok(count) = &result {
+            self.given = self.given.and(&buf[..*count]);
+        }
         self.has_failed = result.is_err();
         result
     }

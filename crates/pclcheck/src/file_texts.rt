@@ -1,11 +1,13 @@
 //! The texts of profiles on this machine: built-in samples and files.
-ghost use Rattle.std.specs.Prelude.{◌≡◌, false};
-ghost use Rattle.pclcheck.specs.Texts.{sample_named, text_named};
+ghost use Rattle.std.specs.Prelude.{◌≡◌, ◌≤◌, false, take, length, IfOk, IfErr, IfSome};
+ghost use Rattle.preflight.specs.Source.{is_err_of_read};
+ghost use Rattle.pclcheck.specs.Texts.{IsErrorOfReading, sample_named, text_named};
 
 use crate::file_source::FileSource;
 use crate::front::read_front;
 use crate::texts::{MOST_OF_TEXT, ProfileTexts};
 use device_profile::Sample;
+use given::Given;
 use preflight::{Error, Source, Watched};
 use std::alloc::Allocator;
 use std::rt::Files;
@@ -14,6 +16,7 @@ use std::rt::Files;
 #[derive(Drop)]
 pub struct FileTexts<'a, R: Files> {
     files: &'a R,
+    given: Given,
     has_failed: bool,
 }
 
@@ -23,17 +26,18 @@ impl<'a, R: Files> FileTexts<'a, R> {
     {
         FileTexts {
             files,
+            given: Given::new(),
             has_failed: false,
         }
     }
-}
 
-impl<R: Files> ProfileTexts for FileTexts<'_, R> {
-    ghost text_of = { λ _. text_named };
-
-    ghost failed = { λ texts. texts.has_failed };
-
-    fn read_text<A: Allocator>(&mut self, alloc: A, word: &str) -> Result<Vec<u8, A>, Error> {
+    fn read_named<A: Allocator>(&mut self, alloc: A, word: &str) -> Result<Vec<u8, A>, Error>
+        ensures bytes { IfOk result (λ text. IfSome (text_named word.now) (λ known. text.items ≡ take 65_537 known)) }
+        ensures most { IfOk result (λ text. length text.items ≤ 65_537) }
+        ensures errors { IfErr result IsErrorOfReading }
+        ensures given { self.new.given ≡ self.old.given }
+        ensures status { self.new.has_failed ≡ is_err_of_read result }
+    {
         if let Some(sample) = sample_named(word) {
             let mut source = Watched::new(sample.text());
             let result = read_front(alloc, &mut source, MOST_OF_TEXT);
@@ -43,6 +47,22 @@ impl<R: Files> ProfileTexts for FileTexts<'_, R> {
         let mut file = FileSource::new(self.files, word);
         let result = read_front(alloc, &mut file, MOST_OF_TEXT);
         self.has_failed = file.has_failed();
+        result
+    }
+}
+
+impl<R: Files> ProfileTexts for FileTexts<'_, R> {
+    ghost text_of = { λ _. text_named };
+
+    ghost given = { λ texts. texts.given.pieces };
+
+    ghost failed = { λ texts. texts.has_failed };
+
+    fn read_text<A: Allocator>(&mut self, alloc: A, word: &str) -> Result<Vec<u8, A>, Error> {
+        let result = self.read_named(alloc, word);
+        if let Ok(text) = &result {
+            self.given = self.given.and(text.as_slice());
+        }
         result
     }
 }

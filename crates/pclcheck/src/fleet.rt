@@ -1,6 +1,6 @@
 //! The fleet that the words name.
-ghost use Rattle.std.specs.Prelude.{◌≡◌, ◌+◌, ◌<◌, ◌^◌, map, length, IfSome, IsFalse, MatchResult};
-ghost use Rattle.pclcheck.specs.Fleet.{DescribeFleet, Describes, IsEndOfFleet, IsEndOfProfile};
+ghost use Rattle.std.specs.Prelude.{◌≡◌, ◌+◌, ◌<◌, ◌^◌, [], ◌∷◌, map, length, IfSome, IsFalse, MatchResult};
+ghost use Rattle.pclcheck.specs.Fleet.{DescribeBy, DescribeFleet, Describes, IsEndOfFleet, IsEndOfProfile, RefusesBy, RefusesRead};
 ghost use Rattle.pclcheck.specs.Status.{is_err_at_read, refusal_of};
 
 use crate::status::Status;
@@ -22,6 +22,9 @@ pub fn read_fleet<T: ProfileTexts, A: Allocator + Copy>(
     ensures fleet { MatchResult result
         (λ fleet. DescribeFleet (map (λ word. T.text_of texts.old word.now) words.now) fleet.items)
         (IsEndOfFleet (map (λ word. T.text_of texts.old word.now) words.now)) }
+    ensures given { MatchResult result
+        (λ fleet. DescribeBy (T.given texts.old) (T.given texts.new) fleet.items)
+        (RefusesBy (T.given texts.old) (T.given texts.new)) }
     ensures read { T.failed texts.new ≡ is_err_at_read result }
 {
     let mut fleet = Vec::new(alloc);
@@ -41,6 +44,9 @@ fn read_profile<T: ProfileTexts, A: Allocator + Copy>(
 ) -> Result<Profile<A>, Status>
     requires { IsFalse (T.failed texts.old) }
     ensures profile { MatchResult result (Describes (T.text_of texts.old word.now)) (IsEndOfProfile number (T.text_of texts.old word.now)) }
+    ensures given { MatchResult result
+        (λ profile. DescribeBy (T.given texts.old) (T.given texts.new) (profile ∷ []))
+        (RefusesRead (T.given texts.old) (T.given texts.new) number) }
     ensures same { T.text_of texts.new ≡ T.text_of texts.old }
     ensures read { T.failed texts.new ≡ is_err_at_read result }
 {

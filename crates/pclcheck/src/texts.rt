@@ -1,7 +1,7 @@
 //! What the texts of profiles are read from.
-ghost use Rattle.std.specs.Prelude.{◌≡◌, ◌≤◌, ℕ, Bool, List, Option, take, length, IfOk, IfErr, IfSome, IsFalse};
+ghost use Rattle.std.specs.Prelude.{◌≡◌, ◌≤◌, ℕ, Bool, List, ◌++◌, Option, take, length, IfOk, IfErr, IfSome, IsFalse};
 ghost use Rattle.preflight.specs.Source.{is_err_of_read};
-ghost use Rattle.pclcheck.specs.Texts.{IsErrorOfReading};
+ghost use Rattle.pclcheck.specs.Texts.{IsErrorOfReading, text_read};
 
 use preflight::Error;
 use std::alloc::Allocator;
@@ -15,6 +15,9 @@ pub trait ProfileTexts {
     // The text that a word names, where it is known.
     ghost text_of: { Self → List ℕ → Option (List ℕ) };
 
+    // The texts that were read so far, one after another.
+    ghost given: { Self → List (List ℕ) };
+
     // A read has failed.
     ghost failed: { Self → Bool };
 
@@ -25,6 +28,7 @@ pub trait ProfileTexts {
     fn read_text<A: Allocator>(&mut self, alloc: A, word: &str) -> Result<Vec<u8, A>, Error>
         requires { IsFalse (failed self.old) }
         ensures bytes { IfOk result (λ text. IfSome (text_of self.old word.now) (λ known. text.items ≡ take 65_537 known)) }
+        ensures given { given self.new ≡ given self.old ++ text_read (λ text. text.items) result }
         ensures most { IfOk result (λ text. length text.items ≤ 65_537) }
         ensures errors { IfErr result IsErrorOfReading }
         ensures same { text_of self.new ≡ text_of self.old }

@@ -1,8 +1,9 @@
 //! A job and texts that fail when they are told to.
-ghost use Rattle.std.specs.Prelude.{◌≡◌, None, false};
+ghost use Rattle.std.specs.Prelude.{◌≡◌, [], None, false};
 
 use crate::front::read_front;
 use crate::texts::{MOST_OF_TEXT, ProfileTexts};
+use given::Given;
 use preflight::{Error, Source, Watched};
 use std::alloc::Allocator;
 use std::io;
@@ -24,6 +25,8 @@ impl Unreadable {
 impl Source for Unreadable {
     ghost remaining = { λ _. None };
 
+    ghost given = { λ _. [] };
+
     ghost failed = { λ source. source.has_failed };
 
     fn read(&mut self, _buf: &mut [u8]) -> io::Result<usize> {
@@ -40,6 +43,7 @@ impl Source for Unreadable {
 #[derive(Drop)]
 pub struct KeptTexts<'a> {
     texts: &'a [(&'a str, &'a [u8])],
+    given: Given,
     has_failed: bool,
     /// How many texts were asked for.
     pub asked: u64,
@@ -51,28 +55,43 @@ impl<'a> KeptTexts<'a> {
     {
         KeptTexts {
             texts,
+            given: Given::new(),
             has_failed: false,
             asked: 0,
         }
     }
 }
 
+impl<'a> KeptTexts<'a> {
+    fn find(&self, word: &str) -> Option<&'a [u8]> {
+        for (name, text) in self.texts {
+            if *name == word {
+                return Some(text);
+            }
+        }
+        None
+    }
+}
+
 impl ProfileTexts for KeptTexts<'_> {
     ghost text_of = { λ _ _. None };
+
+    ghost given = { λ kept. kept.given.pieces };
 
     ghost failed = { λ kept. kept.has_failed };
 
     fn read_text<A: Allocator>(&mut self, alloc: A, word: &str) -> Result<Vec<u8, A>, Error> {
         self.asked = self.asked.saturating_add(1);
-        for (name, text) in self.texts {
-            if *name == word {
-                let mut source = Watched::new(*text);
-                let result = read_front(alloc, &mut source, MOST_OF_TEXT);
-                self.has_failed = source.has_failed();
-                return result;
-            }
+        let Some(text) = self.find(word) else {
+            self.has_failed = true;
+            return Err(Error::Read);
+        };
+        let mut source = Watched::new(text);
+        let result = read_front(alloc, &mut source, MOST_OF_TEXT);
+        self.has_failed = source.has_failed();
+        if let Ok(text) = &result {
+            self.given = self.given.and(text.as_slice());
         }
-        self.has_failed = true;
-        Err(Error::Read)
+        result
     }
 }

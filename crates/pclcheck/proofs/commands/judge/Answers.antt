@@ -1,5 +1,5 @@
 use Rattle.std.proofs.Common.{sym, subst}
-use Rattle.pclcheck.specs.Fleet.{DescribeFleet}
+use Rattle.pclcheck.specs.Fleet.{DescribeBy, DescribeFleet}
 use Rattle.pclcheck.proofs.FleetLemmas.{DescribeFleet-some}
 use Rattle.pclcheck.proofs.LeavesLemmas.{LeavesAtStop-more}
 use Rattle.pclcheck.proofs.commands.judge.Goals as goal
@@ -11,5 +11,5 @@ write_verdict-requires-clause-some g c =
 pub returns-clause-line : goal.returns-clause-line
 returns-clause-line g c =
     LeavesAtStop-more c.in-Err-write_verdict.error _ _ _ _
-    (λ verdict right. (c.as_slice.result.now, subst (DescribeFleet _) (sym c.as_slice.ensures.value) c.in-Ok.ensures.fleet, right))
+    (λ verdict right. (c.as_slice.result.now, subst (DescribeFleet _) (sym c.as_slice.ensures.value) c.in-Ok.ensures.fleet, subst (DescribeBy _ _) (sym c.as_slice.ensures.value) c.in-Ok.ensures.given, right))
     c.in-Err-write_verdict.ensures.err
