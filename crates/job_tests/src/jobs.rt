@@ -10,12 +10,12 @@ use pcl_items::Cause::Truncated;
 use preflight::{Watched, check_job};
 use std::test::Fail;
 
+/// A page with one rectangle, whose size and orientation the job sets.
+pub const PAGE: &[u8] = b"\x1bE\x1b&l2a0O\x1b*p300x300Y\x1b*c100a50b0P\x0c";
+
 const JOBS_FOR_A: &[Row] = &[
     (b"", Pass(0, 0)),
-    (
-        b"\x1bE\x1b&l2a0O\x1b*p300x300Y\x1b*c100a50b0P\x0c",
-        Pass(1, 1),
-    ),
+    (PAGE, Pass(1, 1)),
     // A move reads the size, and a form feed the page.
     (b"\x1bE\x1b*p300X", Found(2, Unset(Field::Size))),
     (b"\x1bE\x0c", Found(2, Unset(Field::Size))),
@@ -98,13 +98,13 @@ fn jobs_that_repeat_a_part(rt: HostRuntime) -> Result<(), Fail> {
     Ok(())
 }
 
-/// The front of a job with a rectangle on letter paper, which is then filled over and over.
-const RECTANGLE: &[u8] = b"\x1bE\x1b&l2a0O\x1b*p300x300Y\x1b*c100a50B";
+/// The front of a job with a rectangle, which is then filled over and over.
+const FRONT: &[u8] = b"\x1bE\x1b&l2a0O\x1b*p300x300Y\x1b*c100a50B";
 
 #[test]
 fn a_job_of_many_reads(rt: HostRuntime) -> Result<(), Fail> {
     let fleet = fleet_of(rt.alloc(), &[A])?;
-    let job = job_of(rt.alloc(), RECTANGLE, 3000, b"\x1b*c0P", b"")?;
+    let job = job_of(rt.alloc(), FRONT, 3000, b"\x1b*c0P", b"")?;
     let mut source = Watched::new(job.as_slice());
     let verdict = check_job(rt.alloc(), &mut source, &fleet)?;
     assert_eq!(rt; verdict, Pass(1, 3000).verdict());

@@ -1,6 +1,7 @@
 //! Requests for memory that are refused.
 
 use crate::fleets::{RECTANGLE, TWO_PAGES};
+use crate::jobs::PAGE;
 use crate::printers::{Printer, fleet_of};
 use crate::rows::Expected::{Differs, Pass};
 use crate::rows::{Expected, check_in_pieces};
@@ -18,15 +19,12 @@ const EACH_COMMAND: &[u8] = b"\x1bE\x1b&l2a0o1x0s1h8c6d3e50f1L\x1b&u300D\x1b&k12
 /// Printers, a job, what is expected of its check, and how many requests for memory the check makes at least: for the lexer's
 /// window, and with several printers for the machines of the others and for the record of events.
 const ROWS: &[(&[Printer], &[u8], Expected, u64)] = &[
-    (&[Printer::A], RECTANGLE_FOR_A, Pass(1, 1), 1),
+    (&[Printer::A], PAGE, Pass(1, 1), 1),
     (&[Printer::B, Printer::B], RECTANGLE, Pass(1, 1), 3),
     (&[Printer::B, Printer::B], TWO_PAGES, Pass(2, 2), 3),
     (&[Printer::B, Printer::Moved], RECTANGLE, Differs(23, 2), 3),
     (&[Printer::A, Printer::B], EACH_COMMAND, Pass(1, 1), 3),
 ];
-
-/// A page with one rectangle, whose size and orientation the job sets.
-const RECTANGLE_FOR_A: &[u8] = b"\x1bE\x1b&l2a0O\x1b*p300x300Y\x1b*c100a50b0P\x0c";
 
 /// How many requests for memory the check makes, each of which was refused in turn.
 fn requests_of(
