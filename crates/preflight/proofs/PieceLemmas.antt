@@ -1,5 +1,5 @@
 -- The pieces that reads gave: their bytes, and the jobs that may be by them.
-use Rattle.std.proofs.Common.{◌≡◌, ◌<◌, ◌+◌, ◌^◌, ℕ, Bool, true, false, List, [], ◌∷◌, ◌++◌, length, take, refl, ap, sym, ◌∙◌, subst, append-nil, append_assoc, length-append, Option, None, Some, IfSome, arith, ◌⊎◌, inl, inr}
+use Rattle.std.proofs.Common.{◌≡◌, ◌<◌, ◌≤◌, ◌+◌, ◌^◌, ℕ, Bool, true, false, List, [], ◌∷◌, ◌++◌, length, take, refl, ap, sym, ◌∙◌, subst, append-nil, append_assoc, length-append, Option, None, Some, IfSome, arith, ◌⊎◌, inl, inr}
 use Rattle.std.specs.Io.KnownBytes.{Consumes, IsAtEnd}
 use Rattle.pcl_items.specs.Lexing.{MayBe}
 use Rattle.preflight.specs.Pieces.{MayBeBy, ByReads, Spell}
@@ -67,6 +67,13 @@ by_front given_before given_after pieces before after bytes ended P given spelle
       holds job (split.0, split.1, λ e. let both : true ≡ false = sym e ∙ open_input in absurd cc);
   known = at_front pieces before after bytes consumed (λ more. subst (λ ps. MayBeBy ps (bytes ++ more)) (append-nil pieces) (spelled.led [] more tt));
 }
+
+-- the job begins with the bytes, so it has as many
+pub by_length : (given_before given_after pieces : List (List ℕ)) (before after : Option (List ℕ)) (bytes : List ℕ) {n : ℕ}
+    → given_after ≡ given_before ++ pieces → Spell pieces bytes → Consumes before after bytes → n ≤ length bytes → ByReads given_before given_after before (λ job. n ≤ length job)
+by_length given_before given_after pieces before after bytes {n} given spelled consumed long =
+    by_front given_before given_after pieces before after bytes false (λ job. n ≤ length job) given spelled consumed refl
+    (λ job may. omega (arith, long, ap length may.1, length-append bytes may.0))
 
 -- what is true of every job that may be is true of the job that was known
 pub known_by : (old new : List (List ℕ)) (remaining : Option (List ℕ)) (P : List ℕ → Type 0) → ByReads old new remaining P → IfSome remaining P
