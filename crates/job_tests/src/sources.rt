@@ -2,6 +2,7 @@
 
 use crate::fakes::{FailingOutlet, FailingSource};
 use crate::fleets::{RECTANGLE, TWO_PAGES};
+use crate::jobs::PAGE;
 use crate::printers::{Printer, fleet_of};
 use crate::rows::Expected;
 use crate::rows::Expected::{Differs, Found, Pass};
@@ -12,19 +13,16 @@ use std::test::Fail;
 
 const LINE: &[u8] = b"PASS pages=5 marks=7\n";
 
-/// A page with one rectangle.
-const JOB: &[u8] = b"\x1bE\x1b&l2a0O\x1b*p300x300Y\x1b*c100a50b0P\x0c";
-
 /// Printers, a job, and what comes of it after so many reads of one byte; with fewer a read fails.
 const READS: &[(&[Printer], &[u8], u64, Expected)] = &[
-    (&[Printer::A], JOB, JOB.len() as u64 + 1, Pass(1, 1)),
+    (&[Printer::A], PAGE, PAGE.len() as u64 + 1, Pass(1, 1)),
     (
         &[Printer::B, Printer::B],
         TWO_PAGES,
         TWO_PAGES.len() as u64 + 1,
         Pass(2, 2),
     ),
-    // Nothing is read after a Fail, which the last of these bytes decides.
+    // Nothing is read after the byte that decides a Fail.
     (
         &[Printer::A],
         b"\x1bE\x0c\x1bE",
@@ -60,7 +58,7 @@ fn each_read_fails_in_turn(rt: HostRuntime) -> Result<(), Fail> {
 #[test]
 fn a_fleet_of_none(rt: HostRuntime) {
     let fleet: [Profile; 0] = [];
-    let mut job = Watched::new(JOB);
+    let mut job = Watched::new(PAGE);
     assert_eq!(rt;
         check_job(rt.alloc(), &mut job, &fleet),
         Err(Error::NoProfile)
