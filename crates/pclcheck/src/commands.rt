@@ -1,7 +1,6 @@
 //! The program's commands.
 ghost use Rattle.std.specs.Prelude.{◌≡◌, ◌≢◌, ◌+◌, ◌^◌, [], ◌||◌, length, map, IfOk, IfErr, IsErrOf, IsFalse, IsTrue};
-ghost use Rattle.std.specs.Io.KnownBytes.{Appends};
-ghost use Rattle.preflight.specs.Outlet.{Writes, is_err_of_write};
+ghost use Rattle.preflight.specs.Outlet.{Adds, Writes, is_err_of_write};
 ghost use Rattle.preflight.specs.Source.{is_err_of_read};
 ghost use Rattle.pclcheck.specs.Check.{read_by, texts_by, IsRight, IsRightFor, Leaves, LeavesAtStop};
 ghost use Rattle.pclcheck.specs.Fleet.{RefusesBy, RefusesFirst, ReachesSome};
@@ -34,7 +33,7 @@ pub fn check<S: Source, T: ProfileTexts, O: Outlet, E: Outlet, A: Allocator + Co
     requires some { profiles.now ≢ [] }
     ensures line { Leaves result
         (IsRightFor (texts_by (map (λ word. T.text_of texts.old word.now) profiles.now) (T.given texts.old) (T.given texts.new)) (read_by (S.given job.old) (S.given job.new) (S.remaining job.old)))
-        (O.contents stdout.old) (O.contents stdout.new) }
+        (O.written stdout.old) (O.written stdout.new) }
     ensures refusal { RefusesFirst (map (λ word. T.text_of texts.old word.now) profiles.now) result }
     ensures refused { RefusesBy (T.given texts.old) (T.given texts.new) result }
     ensures reached { IsTrue (T.failed texts.new) → ReachesSome (map (λ word. T.text_of texts.old word.now) profiles.now) }
@@ -42,7 +41,7 @@ pub fn check<S: Source, T: ProfileTexts, O: Outlet, E: Outlet, A: Allocator + Co
     ensures read { (S.failed job.new || T.failed texts.new) ≡ is_stop_of_read result }
     ensures write { O.failed stdout.new ≡ is_stop_of_write result }
     ensures turns { result ≡ Status.Stopped Error.Turns → length (S.given job.new) ≡ length (S.given job.old) + 2 ^ 40 }
-    ensures error { Writes (E.failed stderr.new) (E.contents stderr.old) (E.contents stderr.new) (status_line result) }
+    ensures error { Writes (E.failed stderr.new) (E.written stderr.old) (E.written stderr.new) (status_line result) }
 {
     let status = judge(alloc, job, texts, profiles, stdout);
     tell(status, stderr)
@@ -62,7 +61,7 @@ fn judge<S: Source, T: ProfileTexts, O: Outlet, A: Allocator + Copy>(
     requires some { profiles.now ≢ [] }
     ensures line { Leaves result
         (IsRightFor (texts_by (map (λ word. T.text_of texts.old word.now) profiles.now) (T.given texts.old) (T.given texts.new)) (read_by (S.given job.old) (S.given job.new) (S.remaining job.old)))
-        (O.contents stdout.old) (O.contents stdout.new) }
+        (O.written stdout.old) (O.written stdout.new) }
     ensures refusal { RefusesFirst (map (λ word. T.text_of texts.old word.now) profiles.now) result }
     ensures refused { RefusesBy (T.given texts.old) (T.given texts.new) result }
     ensures reached { IsTrue (T.failed texts.new) → ReachesSome (map (λ word. T.text_of texts.old word.now) profiles.now) }
@@ -93,9 +92,9 @@ fn write_verdict<S: Source, O: Outlet, A: Allocator + Copy>(
     requires stdout { IsFalse (O.failed stdout.old) }
     requires some { fleet.now ≢ [] }
     ensures ok { IfOk result (λ verdict. IsRight (read_by (S.given job.old) (S.given job.new) (S.remaining job.old)) fleet.now verdict
-        × Appends (O.contents stdout.old) (O.contents stdout.new) (verdict_line verdict)) }
+        × Adds (O.written stdout.old) (O.written stdout.new) (verdict_line verdict)) }
     ensures err { IfErr result (λ error. LeavesAtStop error (IsRight (read_by (S.given job.old) (S.given job.new) (S.remaining job.old)) fleet.now)
-        (O.contents stdout.old) (O.contents stdout.new)) }
+        (O.written stdout.old) (O.written stdout.new)) }
     ensures read { S.failed job.new ≡ is_err_of_read result }
     ensures write { O.failed stdout.new ≡ is_err_of_write result }
     ensures turns { IsErrOf result Error.Turns → length (S.given job.new) ≡ length (S.given job.old) + 2 ^ 40 }

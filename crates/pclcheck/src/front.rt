@@ -1,6 +1,7 @@
 //! The front of what a source has.
 ghost use Rattle.std.specs.Prelude.{◌≡◌, ◌≤◌, take, length, IfOk, IfErr, IfSome, IsFalse};
 ghost use Rattle.std.specs.Io.KnownBytes.{Consumes};
+ghost use Rattle.preflight.specs.Pieces.{ByReads};
 ghost use Rattle.preflight.specs.Source.{is_err_of_read};
 ghost use Rattle.pclcheck.specs.Texts.{IsErrorOfReading};
 
@@ -19,6 +20,7 @@ pub fn read_front<S: Source, A: Allocator>(
 ) -> Result<Vec<u8, A>, Error>
     requires { IsFalse (S.failed source.old) }
     ensures bytes { IfOk result (λ front. IfSome (S.remaining source.old) (λ input. front.items ≡ take most input)) }
+    ensures given { IfOk result (λ front. ByReads (S.given source.old) (S.given source.new) (S.remaining source.old) (λ input. front.items ≡ take most input)) }
     ensures taken { IfOk result (λ front. Consumes (S.remaining source.old) (S.remaining source.new) front.items) }
     ensures most { IfOk result (λ front. length front.items ≤ most) }
     ensures errors { IfErr result IsErrorOfReading }

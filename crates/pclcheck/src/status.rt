@@ -67,7 +67,7 @@ impl<T: Drop> From<AllocFailed<T>> for Status {
 pub fn tell<E: Outlet>(status: Status, stderr: &mut E) -> Status
     requires { IsFalse (E.failed stderr.old) }
     ensures same { result ≡ status }
-    ensures line { Writes (E.failed stderr.new) (E.contents stderr.old) (E.contents stderr.new) (status_line status) }
+    ensures line { Writes (E.failed stderr.new) (E.written stderr.old) (E.written stderr.new) (status_line status) }
 {
     // Where standard error takes nothing either, the status alone is left to tell.
     let _ = match status {
@@ -102,7 +102,7 @@ fn write_refusal<E: Outlet>(
     cause: Cause,
 ) -> Result<(), Error>
     requires { IsFalse (E.failed stderr.old) }
-    ensures { Writes (E.failed stderr.new) (E.contents stderr.old) (E.contents stderr.new) (refusal_line number line cause) }
+    ensures { Writes (E.failed stderr.new) (E.written stderr.old) (E.written stderr.new) (refusal_line number line cause) }
 {
     let mut number_digits = Buffer::new();
     let mut line_digits = Buffer::new();
@@ -134,7 +134,7 @@ fn cause_name(cause: Cause) -> &'static [u8]
 /// Writes pieces of a text one after the other.
 fn write_pieces<E: Outlet>(outlet: &mut E, pieces: &[&[u8]]) -> Result<(), Error>
     requires { IsFalse (E.failed outlet.old) }
-    ensures { Writes (E.failed outlet.new) (E.contents outlet.old) (E.contents outlet.new) (concat (map (λ piece. piece.now) pieces.now)) }
+    ensures { Writes (E.failed outlet.new) (E.written outlet.old) (E.written outlet.new) (concat (map (λ piece. piece.now) pieces.now)) }
 {
     for piece in pieces {
         write_text(outlet, piece)?;

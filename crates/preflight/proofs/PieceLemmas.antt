@@ -1,6 +1,7 @@
 -- The pieces that reads gave: their bytes, and the jobs that may be by them.
 use Rattle.std.proofs.Common.{◌≡◌, ◌<◌, ◌≤◌, ◌+◌, ◌^◌, ℕ, Bool, true, false, List, [], ◌∷◌, ◌++◌, length, take, refl, ap, sym, ◌∙◌, subst, append-nil, append_assoc, length-append, Option, None, Some, IfSome, arith, ◌⊎◌, inl, inr}
 use Rattle.std.specs.Io.KnownBytes.{Consumes, IsAtEnd}
+use Rattle.std.proofs.KnownBytes.{Consumes-trans, Consumes-all}
 use Rattle.pcl_items.specs.Lexing.{MayBe}
 use Rattle.preflight.specs.Pieces.{MayBeBy, ByReads, Spell}
 
@@ -36,6 +37,12 @@ given_more before mid after pieces piece first second = second ∙ ap (λ front.
 at_job : (pieces : List (List ℕ)) (before : Option (List ℕ)) (bytes : List ℕ) → MayBeBy pieces bytes → IfSome before (λ job. bytes ≡ job) → IfSome before (MayBeBy pieces)
 at_job pieces None bytes h same = tt
 at_job pieces (Some job) bytes h same = subst (MayBeBy pieces) same h
+
+-- what was read is the job, where no byte is left
+pub all_read : (before mid after : Option (List ℕ)) (bytes piece : List ℕ) (n : ℕ) → Consumes before mid bytes → Consumes mid after (take n piece) → n ≡ 0 → IsAtEnd after → IfSome before (λ job. bytes ≡ job)
+all_read before mid after bytes piece n first second none end =
+    let e : bytes ++ take n piece ≡ bytes = ap (λ m. bytes ++ take m piece) none ∙ append-nil bytes in
+    Consumes-all before after bytes [] bytes (subst (Consumes before after) e (Consumes-trans before mid after bytes (take n piece) first second)) end refl
 
 -- a read found the end behind these bytes, so the job is these
 pub by_end : (given_before given_mid given_after pieces : List (List ℕ)) (before : Option (List ℕ)) (bytes piece : List ℕ) (n : ℕ) (P : List ℕ → Type 0)
