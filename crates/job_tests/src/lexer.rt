@@ -1,9 +1,11 @@
 //! Jobs fed in pieces, and a request for memory that is refused.
 
+ghost use Rattle.std.specs.Prelude.{◌≤◌, length};
+
 use crate::items::{Last, read_bytes, read_on, read_whole};
 use pcl_items::{Cause, Command, Group, Item, LexFault, Lexed, Lexer, Name, Number, Place, Sign};
 use refusing::Refusing;
-use std::alloc::{AllocError, Allocator};
+use std::alloc::{AllocError, Allocator, Global};
 use std::process::Abort;
 use std::test::Fail;
 
@@ -135,10 +137,32 @@ const JOBS: &[(&[u8], &[(Place, Wanted)], Option<(Place, Cause)>)] = &[
 
 /// The items are those of the row.
 fn assert_items(rt: &impl Abort, items: &[(Place, Item)], wanted: &[(Place, Wanted)]) {
-    assert_eq!(rt; items.len(), wanted.len());
-    for ((place, item), (wanted_place, wanted_item)) in items.iter().zip(wanted) {
-        assert_eq!(rt; (*place, *item), (*wanted_place, wanted_item.item()));
+    assert!(rt; items.len() == wanted.len());
+    for (item, (place, wanted_item)) in items.iter().zip(wanted) {
+        assert_eq!(rt; *item, (*place, wanted_item.item()));
     }
+}
+
+/// Reads a job whole or byte by byte, which has to come to these items and to this answer behind them.
+fn check_job(
+    rt: &impl Abort,
+    alloc: Global,
+    is_whole: bool,
+    job: &[u8],
+    wanted: &[(Place, Wanted)],
+    last: Last,
+) -> Result<(), AllocError>
+    requires { length job.now ≤ 4096 }
+{
+    let mut items = Vec::new(alloc);
+    let answer = if is_whole {
+        read_whole(alloc, job, &mut items)?
+    } else {
+        read_bytes(alloc, job, &mut items)?
+    };
+    assert_eq!(rt; answer, last, "{job:?}");
+    assert_items(rt, &items, wanted);
+    Ok(())
 }
 
 #[test]
@@ -149,12 +173,8 @@ fn jobs_are_read_whole_and_byte_by_byte(rt: HostRuntime) -> Result<(), Fail> {
             Some((place, cause)) => Err(LexFault { place, cause }),
             None => Ok(Lexed::End),
         };
-        let mut whole = Vec::new(rt.alloc());
-        assert_eq!(rt; read_whole(rt.alloc(), job, &mut whole)?, last, "{job:?}");
-        assert_items(&rt, &whole, wanted);
-        let mut pieces = Vec::new(rt.alloc());
-        assert_eq!(rt; read_bytes(rt.alloc(), job, &mut pieces)?, last, "{job:?}");
-        assert_items(&rt, &pieces, wanted);
+        check_job(&rt, rt.alloc(), true, job, wanted, last)?;
+        check_job(&rt, rt.alloc(), false, job, wanted, last)?;
     }
     Ok(())
 }

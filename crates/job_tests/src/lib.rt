@@ -2,7 +2,11 @@
 #![tactic(auto)]
 
 #[cfg(test)]
+mod checks;
+#[cfg(test)]
 mod fakes;
+#[cfg(test)]
+mod file_texts;
 #[cfg(test)]
 mod fleets;
 #[cfg(test)]
@@ -10,9 +14,13 @@ mod items;
 #[cfg(test)]
 mod jobs;
 #[cfg(test)]
+mod kept_texts;
+#[cfg(test)]
 mod lengths;
 #[cfg(test)]
 mod lexer;
+#[cfg(test)]
+mod lines;
 #[cfg(test)]
 mod machine;
 #[cfg(test)]
@@ -27,6 +35,8 @@ mod printers;
 mod profile_texts;
 #[cfg(test)]
 mod profiles;
+#[cfg(test)]
+mod recording;
 #[cfg(test)]
 mod rows;
 #[cfg(test)]

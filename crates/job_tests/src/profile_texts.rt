@@ -101,6 +101,9 @@ const LINES_OF_A: &[Row] = &[
     (3, b"size 2 3", Some((0, NoGeometry))),
 ];
 
+/// A panel of two sides wants duplex.
+const DUPLEX_OF_TWO_SIDES: &[Row] = &[(11, b"duplex 0", Some((0, Range)))];
+
 /// The words behind a key, and what is wrong with such a line, if anything is.
 type Words = (&'static [u8], Option<Cause>);
 
@@ -242,22 +245,17 @@ fn lines_in_place_of_others(rt: HostRuntime) -> Result<(), Fail> {
     let alloc = rt.alloc();
     check_lines(&rt, alloc, Sample::B.text(), LINES_OF_B)?;
     check_lines(&rt, alloc, Sample::A.text(), LINES_OF_A)?;
-    check_words(&rt, alloc, Sample::A.text(), 20, b"face ", FACES)?;
-    check_words(
-        &rt,
-        alloc,
-        &text_of_one_page(alloc)?,
-        16,
-        b"geometry ",
-        PAGES,
-    )?;
     let two_sides = with_line(alloc, Sample::B.text(), 8, b"sides 1")?;
-    check_lines(
-        &rt,
-        alloc,
-        &two_sides,
-        &[(11, b"duplex 0", Some((0, Range)))],
-    )?;
+    check_lines(&rt, alloc, &two_sides, DUPLEX_OF_TWO_SIDES)?;
+    Ok(())
+}
+
+#[test]
+fn further_lines(rt: HostRuntime) -> Result<(), Fail> {
+    let alloc = rt.alloc();
+    check_words(&rt, alloc, Sample::A.text(), 20, b"face ", FACES)?;
+    let one_page = text_of_one_page(alloc)?;
+    check_words(&rt, alloc, &one_page, 16, b"geometry ", PAGES)?;
     Ok(())
 }
 
@@ -297,20 +295,26 @@ const SIXTY_FIFTH_FACES: &[(&[u8], Wrong)] = &[
     (b"face 1", Some((82, Repeated))),
 ];
 
+/// The bytes between two lines, those at the end of the text, and what is wrong then.
+const ENDS: &[(&[u8], &[u8], Wrong)] = &[(b"\r\n", b"", None), (b"\n", b"\r", Some((19, Range)))];
+
+/// How many bytes a text of a comment alone has, and what is wrong with it: at most 65,536 bytes are read.
+const COMMENTS: &[(usize, Wrong)] = &[(65_536, Some((1, Version))), (65_537, Some((0, Range)))];
+
 #[test]
 fn whole_texts(rt: HostRuntime) -> Result<(), Fail> {
     let alloc = rt.alloc();
-    let returns = with_ends(alloc, b"\r\n", b"")?;
-    check_text(&rt, alloc, &returns, b"\r\n", None);
-    let last_return = with_ends(alloc, b"\n", b"\r")?;
-    check_text(&rt, alloc, &last_return, b"\r", Some((19, Range)));
+    check_text(&rt, alloc, b"", b"", Some((1, Version)));
+    for (between, last, wrong) in ENDS {
+        let text = with_ends(alloc, between, last)?;
+        check_text(&rt, alloc, &text, between, *wrong);
+    }
     for (last, wrong) in SIXTY_FIFTH_FACES {
         check_text(&rt, alloc, &with_faces(alloc, last)?, last, *wrong);
     }
-    check_text(&rt, alloc, b"", b"", Some((1, Version)));
-    // A text of 65,536 bytes is read, and a longer one is not.
-    let comment = vec![in alloc; b'#'; 65_537]?;
-    check_text(&rt, alloc, &comment[..65_536], b"#", Some((1, Version)));
-    check_text(&rt, alloc, &comment, b"##", Some((0, Range)));
+    for (size, wrong) in COMMENTS {
+        let text = vec![in alloc; b'#'; *size]?;
+        check_text(&rt, alloc, &text, b"#", *wrong);
+    }
     Ok(())
 }

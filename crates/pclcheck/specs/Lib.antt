@@ -1,6 +1,1 @@
-pub mod Check
-pub mod Fleet
-pub mod Lines
-pub mod Status
-pub mod Texts
 pub mod Words

@@ -1,8 +1,8 @@
 -- What the words ask for, and how their reading ends where they ask for no work.
 use Rattle.std.specs.Prelude.{◌≢◌, [], ⊤}
 use Rattle.preflight.specs.declared.error.Error.TheVariants.{Memory, Write}
-use Rattle.pclcheck.specs.declared.status.Status.{Status}
-use Rattle.pclcheck.specs.declared.status.Status.TheVariants.{Help, Words, Stopped}
+use Rattle.subcommands.specs.declared.status.Status.{Status}
+use Rattle.subcommands.specs.declared.status.Status.TheVariants.{Help, Words, Stopped}
 use Rattle.pclcheck.specs.declared.words.Request.{Request}
 use Rattle.pclcheck.specs.declared.words.Request.TheVariants.{Check}
 

@@ -3,26 +3,16 @@
 
 ghost use Rattle.std.specs.Prelude.{IsFalse};
 
-mod commands;
-mod file_source;
-mod file_texts;
-mod fleet;
-mod front;
-mod lines;
-mod status;
 #[cfg(test)]
 mod tests;
-mod texts;
 mod words;
 
-use crate::file_source::FileSource;
-use crate::file_texts::FileTexts;
-use crate::status::{Status, tell};
 use crate::words::Request;
 use preflight::{Error, Outlet, Watched, write_text};
 use std::process::ExitCode;
 use std::rt::{Env, Files};
 use std::{env, io};
+use subcommands::{FileSource, FileTexts, Status, check, tell};
 
 fn main(rt: HostRuntime) -> ExitCode {
     let mut stdout = Watched::new(rt.stdout());
@@ -70,7 +60,7 @@ fn run<R: Files + AllocGlobal, O: Outlet, E: Outlet>(
             let mut job = FileSource::new(rt, job);
             let mut texts = FileTexts::new(rt);
             let profiles = profiles.as_slice();
-            commands::check(rt.alloc(), &mut job, &mut texts, profiles, stdout, stderr)
+            check(rt.alloc(), &mut job, &mut texts, profiles, stdout, stderr)
         }
         Err(status) => status,
     }

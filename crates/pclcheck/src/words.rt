@@ -2,11 +2,11 @@
 ghost use Rattle.std.specs.Prelude.{◌≡◌, IsFalse, OnOk, IfOk, IfErr};
 ghost use Rattle.pclcheck.specs.Words.{IsEndOfWords, NamesSome};
 
-use crate::status::{Status, tell};
 use clap::error::ErrorKind;
 use clap::{Arg, ArgAction, Command};
 use preflight::{Error, Outlet, write_text};
 use std::alloc::{AllocError, Global};
+use subcommands::{Status, tell};
 
 /// What the words ask for.
 #[derive(Drop)]

@@ -1,18 +1,17 @@
 -- A Pass tells that the end was read: bytes that may go on may go on with a fault.
-use Rattle.std.proofs.Common.{◌≡◌, ◌+◌, ℕ, List, [], ◌∷◌, ◌++◌, length, Option, None, Some, refl, ap, sym, ◌∙◌, subst, append_assoc, append-nil, arith, inl, inr}
+use Rattle.std.proofs.Common.{◌≡◌, ℕ, List, [], ◌∷◌, ◌++◌, Option, None, Some, refl, ap, sym, ◌∙◌, subst, append_assoc, append-nil, arith, inl, inr}
 use Rattle.pcl_items.specs.declared.fault.Cause.{Cause}
 use Rattle.pcl_items.specs.declared.fault.Cause.TheVariants.{NotInProfile}
 use Rattle.pcl_items.specs.declared.fault.Name.TheVariants as names
 use Rattle.pcl_items.specs.Items.{Placed}
 use Rattle.pcl_items.specs.Grammar.{Mode, Pcl, SpellsTo, here, next}
 use Rattle.pcl_items.specs.Faults.{Stops, behind_units, whole_unit, no_byte}
-use Rattle.pcl_items.specs.Reading.{Reading, Whole, Stopped, IsReading, reading_of}
+use Rattle.pcl_items.specs.Reading.{Reading, Whole, Stopped, IsReading}
 use Rattle.pcl_items.specs.Laws.{HasOneReading}
 use Rattle.device_profile.specs.Printer.{Printer}
 use Rattle.page_machine.specs.Event.{Event}
 use Rattle.page_machine.specs.Job.{events_of}
-use Rattle.preflight.specs.declared.verdict.Verdict.{Verdict}
-use Rattle.preflight.specs.declared.verdict.Verdict.TheVariants.{Pass, Fail}
+use Rattle.preflight.specs.declared.verdict.Verdict.TheVariants.{Pass}
 use Rattle.preflight.specs.Pieces.{ByReads, HasEnd}
 use Rattle.preflight.specs.Wrong.{Wrong, first_run, first_wrong}
 use Rattle.preflight.specs.Verdict.{IsExact, verdict_by, verdict_of, runs_of}

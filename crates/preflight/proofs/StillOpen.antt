@@ -9,7 +9,7 @@ use Rattle.pcl_items.specs.Reader.{First, Open, first_of}
 use Rattle.pcl_items.specs.Fault.{IsFault}
 use Rattle.pcl_items.specs.Laws.{HasOneReading}
 use Rattle.pcl_items.specs.LexerState.{LexerState, WantsMore}
-use Rattle.pcl_items.specs.Lexing.{HasRead, MayBe}
+use Rattle.pcl_items.specs.Lexing.{HasRead}
 use Rattle.pcl_items.specs.Reading.{Reading, Stopped, IsReading, IsReadFrom}
 use Rattle.pcl_items.proofs.Opening.{open_refuses}
 use Rattle.pcl_items.proofs.Readings.{one_reading}
@@ -17,7 +17,7 @@ use Rattle.pcl_items.proofs.ReadsTo.{same_whole, grows}
 use Rattle.pcl_items.proofs.Stopping.{read_by_rules}
 use Rattle.device_profile.specs.Printer.{Printer}
 use Rattle.page_machine.specs.MachineState.{MachineState}
-use Rattle.preflight.specs.declared.counts.Counts.{Counts}
+use Rattle.sinks.specs.declared.counts.Counts.{Counts}
 use Rattle.preflight.specs.declared.verdict.Reason.TheVariants.{Fault as FaultOfBytes}
 use Rattle.preflight.specs.declared.verdict.Verdict.{Verdict}
 use Rattle.preflight.specs.declared.verdict.Verdict.TheVariants.{Fail}

@@ -1,7 +1,5 @@
 -- What the check's loop carries from one item to the next, and what its parts promise one another. A reader of the verdict needs
 -- none of it.
 pub mod Each
-pub mod Recorder
-pub mod Comparer
 pub mod Lockstep
 pub mod Checking

@@ -1,0 +1,66 @@
+//! Texts in memory under the words that name them.
+ghost use Rattle.std.specs.Prelude.{◌≡◌, None, false};
+
+use given::Given;
+use preflight::{Error, Source, Watched};
+use std::alloc::Allocator;
+use subcommands::{MOST_OF_TEXT, ProfileTexts, read_front};
+
+/// A word and the text that it names.
+pub type Named<'a> = (&'a str, &'a [u8]);
+
+/// Texts in memory under their words; what any other word names cannot be read.
+#[derive(Drop)]
+pub struct KeptTexts<'a> {
+    texts: &'a [Named<'a>],
+    given: Given,
+    pub has_failed: bool,
+    /// How many texts were asked for.
+    pub asked: u64,
+}
+
+impl<'a> KeptTexts<'a> {
+    pub fn new(texts: &'a [Named<'a>]) -> KeptTexts<'a>
+        ensures { result.has_failed ≡ false }
+    {
+        KeptTexts {
+            texts,
+            given: Given::new(),
+            has_failed: false,
+            asked: 0,
+        }
+    }
+
+    /// The text that the word names, if there is one.
+    fn text_named(&self, word: &str) -> Option<&'a [u8]> {
+        for (name, text) in self.texts {
+            if *name == word {
+                return Some(text);
+            }
+        }
+        None
+    }
+}
+
+impl ProfileTexts for KeptTexts<'_> {
+    ghost text_of = { λ _ _. None };
+
+    ghost given = { λ kept. kept.given.pieces };
+
+    ghost failed = { λ kept. kept.has_failed };
+
+    fn read_text<A: Allocator>(&mut self, alloc: A, word: &str) -> Result<Vec<u8, A>, Error> {
+        self.asked = self.asked.saturating_add(1);
+        let Some(text) = self.text_named(word) else {
+            self.has_failed = true;
+            return Err(Error::Read);
+        };
+        let mut source = Watched::new(text);
+        let result = read_front(alloc, &mut source, MOST_OF_TEXT);
+        self.has_failed = source.has_failed();
+        if let Ok(text) = &result {
+            self.given = self.given.and(text.as_slice());
+        }
+        result
+    }
+}

@@ -1,0 +1,121 @@
+//! Sinks that count, record and compare events.
+
+use crate::recording::Event::{Letter, Square};
+use page_env::{Bounds, Mark, PageEnd};
+use page_machine::MarkSink;
+use refusing::Refusing;
+use sinks::{Comparer, Counts, Recorder};
+use std::alloc::{AllocError, Global};
+use std::test::Fail;
+use tick_length::Length;
+
+/// An event of a row.
+#[derive(Clone, Copy, Debug)]
+enum Event {
+    /// A square at the corner of the page, with sides of so many 7200ths of an inch.
+    Square(u32),
+    /// So many copies of a page of letter paper in portrait.
+    Letter(u32),
+}
+
+fn square(side: u32) -> Mark {
+    Mark::Rect(Bounds {
+        left: Length::ZERO,
+        top: Length::ZERO,
+        right: Length::of_7200ths(side),
+        bottom: Length::of_7200ths(side),
+    })
+}
+
+fn letter(copies: u32) -> PageEnd {
+    PageEnd {
+        size: 2,
+        orientation: 0,
+        sides: 0,
+        tray: 1,
+        copies,
+    }
+}
+
+/// Hands events to a sink, up to the first that it refuses.
+fn hand<S: MarkSink>(events: &[Event], sink: &mut S) -> Result<(), S::Fault> {
+    for event in events {
+        let taken = match *event {
+            Square(side) => sink.mark(&square(side)),
+            Letter(copies) => sink.page(letter(copies)),
+        };
+        match taken {
+            Ok(()) => {}
+            Err(fault) => return Err(fault),
+        }
+    }
+    Ok(())
+}
+
+const PAGE: &[Event] = &[Square(1), Letter(1), Letter(1)];
+
+/// Recorded events, others, and whether these differ from them.
+const ROWS: &[(&[Event], &[Event], bool)] = &[
+    (PAGE, PAGE, false),
+    (&[Square(1), Square(2)], &[Square(1), Square(2)], false),
+    (&[], &[], false),
+    (&[], &[Square(1)], true),
+    (PAGE, &[], true),
+    (PAGE, &[Square(1), Letter(1)], true),
+    (PAGE, &[Square(1), Letter(1), Letter(1), Letter(1)], true),
+    (PAGE, &[Square(2), Letter(1), Letter(1)], true),
+    (PAGE, &[Square(1), Letter(2), Letter(1)], true),
+    (PAGE, &[Letter(1), Square(1), Letter(1)], true),
+    (PAGE, &[Square(2), Square(1), Letter(1), Letter(1)], true),
+];
+
+/// Whether events differ from others that were recorded.
+fn differs(alloc: Global, recorded: &[Event], events: &[Event]) -> Result<bool, AllocError> {
+    let mut recorder = Recorder::new(alloc);
+    hand(recorded, &mut recorder)?;
+    let mut comparer = Comparer::new(recorder.events());
+    match hand(events, &mut comparer) {
+        Ok(()) => Ok(comparer.differs()),
+        Err(never) => match never {},
+    }
+}
+
+#[test]
+fn events_are_compared_in_order(rt: HostRuntime) -> Result<(), Fail> {
+    for (recorded, events, differ) in ROWS {
+        let answer = differs(rt.alloc(), recorded, events)?;
+        assert_eq!(rt; answer, *differ, "{recorded:?} and {events:?}");
+    }
+    Ok(())
+}
+
+#[test]
+fn a_recorder_is_cleared_and_counts_on(rt: HostRuntime) -> Result<(), Fail> {
+    let mut recorder = Recorder::new(rt.alloc());
+    hand(&[Square(1), Square(2), Letter(1)], &mut recorder)?;
+    let kept = recorder.events().len();
+    recorder.clear();
+    let cleared = recorder.events().len();
+    hand(&[Square(3)], &mut recorder)?;
+    let lengths = (kept, cleared, recorder.events().len());
+    let counts = Counts { pages: 1, marks: 3 };
+    assert_eq!(rt; (lengths, recorder.counts()), ((3, 0, 1), counts));
+    Ok(())
+}
+
+/// What is recorded of a square and a page where so many requests for memory are granted, and whether an event was refused.
+fn record_with(alloc: Global, requests: u64) -> (usize, Counts, bool) {
+    let heap = Refusing::new(alloc, requests);
+    let mut recorder = Recorder::new(&heap);
+    let is_refused = hand(&[Square(1), Letter(1)], &mut recorder).is_err();
+    (recorder.events().len(), recorder.counts(), is_refused)
+}
+
+#[test]
+fn a_refused_event_is_not_kept(rt: HostRuntime) {
+    let none = Counts { pages: 0, marks: 0 };
+    let both = Counts { pages: 1, marks: 1 };
+    for (requests, recorded) in [(0, (0, none, true)), (1, (2, both, false))] {
+        assert_eq!(rt; record_with(rt.alloc(), requests), recorded);
+    }
+}

@@ -1,0 +1,3 @@
+pub mod Comparer
+pub mod Counts
+pub mod Recorder

@@ -1,0 +1,69 @@
+//! Compares the events of a run with recorded ones.
+
+ghost use Rattle.std.specs.Prelude.{◌≡◌, ◌↔◌, Some, [], map, IsFalse};
+ghost use Rattle.page_machine.specs.Owned.{event_of};
+ghost use Rattle.sinks.specs.Comparer.{Compares};
+
+use page_env::{Mark, PageEnd};
+use page_machine::{MarkSink, OwnedEvent};
+use std::convert::Infallible;
+use std::marker::Model;
+
+/// Compares each event that it is handed with the next one of a recorded list.
+#[derive(Drop)]
+pub struct Comparer<'a> {
+    /// The events that are still to come, unless one came that differs.
+    expected: Option<&'a [OwnedEvent]>,
+}
+
+impl<'a> Model for Comparer<'a> {
+    ghost use Rattle.std.specs.Prelude.{List, Option, map, option_map};
+    ghost use Rattle.page_machine.specs.Event.{Event};
+    ghost use Rattle.page_machine.specs.Owned.{event_of};
+
+    ghost Value = { Option (List Event) };
+
+    ghost view = { λ comparer. option_map (λ rest. map event_of rest.now) comparer.expected };
+}
+
+impl<'a> Comparer<'a> {
+    /// A comparer that expects these events, in order.
+    pub fn new(recorded: &'a [OwnedEvent]) -> Comparer<'a>
+        ensures { result ≡ Some (map event_of recorded.now) }
+    {
+        Comparer {
+            expected: Some(recorded),
+        }
+    }
+
+    /// Whether the events that it was handed are others than the recorded ones, or fewer, or more.
+    pub fn differs(&self) -> bool
+        ensures { IsFalse result ↔ (self.now ≡ Some []) }
+    {
+        !matches!(self.expected, Some([]))
+    }
+}
+
+impl MarkSink for Comparer<'_> {
+    type Fault = Infallible;
+
+    ghost takes = { Compares };
+
+    ghost refuses = { λ old event new. ⊥ };
+
+    fn mark(&mut self, mark: &Mark) -> Result<(), Infallible> {
+        self.expected = match self.expected {
+            Some([first, rest @ ..]) if first.is_marked(mark) => Some(rest),
+            _ => None,
+        };
+        Ok(())
+    }
+
+    fn page(&mut self, page: PageEnd) -> Result<(), Infallible> {
+        self.expected = match self.expected {
+            Some([first, rest @ ..]) if first.is_ended(&page) => Some(rest),
+            _ => None,
+        };
+        Ok(())
+    }
+}

@@ -1,0 +1,86 @@
+//! Keeps the events of a run.
+
+ghost use Rattle.std.specs.Prelude.{◌≡◌, [], map};
+ghost use Rattle.page_machine.specs.Owned.{event_of};
+ghost use Rattle.sinks.specs.Recorder.{nothing_recorded, recorded};
+
+use crate::counts::Counts;
+use page_env::{Mark, PageEnd};
+use page_machine::{MarkSink, OwnedEvent, OwnedMark};
+use std::alloc::{AllocError, Allocator, Global};
+use std::marker::Model;
+
+/// Keeps the events that it was handed since it was cleared, and counts all the pages and marks that it was ever handed.
+///
+/// It refuses an event where the allocator refuses to keep it, and then it is as before.
+#[derive(Drop)]
+pub struct Recorder<A: Allocator + Copy = Global> {
+    alloc: A,
+    events: Vec<OwnedEvent, A>,
+    counts: Counts,
+}
+
+impl<A: Allocator + Copy> Model for Recorder<A> {
+    ghost use Rattle.std.specs.Prelude.{map};
+    ghost use Rattle.page_machine.specs.Owned.{event_of};
+    ghost use Rattle.sinks.specs.Recorder.{Recorded};
+
+    ghost Value = { Recorded };
+
+    ghost view = { λ recorder. record { events = map event_of recorder.events.items; counts = recorder.counts } };
+}
+
+impl<A: Allocator + Copy> Recorder<A> {
+    /// A recorder of no events.
+    pub fn new(alloc: A) -> Self
+        ensures { result ≡ nothing_recorded }
+    {
+        Recorder {
+            alloc,
+            events: Vec::new(alloc),
+            counts: Counts::none(),
+        }
+    }
+
+    /// The events since it was cleared, in order.
+    pub fn events(&self) -> &[OwnedEvent]
+        ensures { map event_of result.now ≡ self.now.events }
+    {
+        &self.events
+    }
+
+    /// How many pages and marks it was handed, those before it was cleared among them.
+    pub fn counts(&self) -> Counts
+        ensures { result ≡ self.now.counts }
+    {
+        self.counts
+    }
+
+    /// Forgets the events; the counts go on.
+    pub fn clear(&mut self)
+        ensures { self.new ≡ record self.old { events = [] } }
+    {
+        self.events.clear();
+    }
+}
+
+impl<A: Allocator + Copy> MarkSink for Recorder<A> {
+    type Fault = AllocError;
+
+    ghost takes = { λ old event new. new ≡ recorded event old };
+
+    ghost refuses = { λ old event new. new ≡ old };
+
+    fn mark(&mut self, mark: &Mark) -> Result<(), AllocError> {
+        let copy = OwnedMark::copy_of(self.alloc, mark)?;
+        self.events.push(OwnedEvent::Marked(copy))?;
+        let Ok(()) = self.counts.mark(mark);
+        Ok(())
+    }
+
+    fn page(&mut self, page: PageEnd) -> Result<(), AllocError> {
+        self.events.push(OwnedEvent::Ended(page))?;
+        let Ok(()) = self.counts.page(page);
+        Ok(())
+    }
+}

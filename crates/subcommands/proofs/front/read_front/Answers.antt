@@ -1,0 +1,20 @@
+use Rattle.std.proofs.Common.{◌≡◌, ◌++◌, ◌≤◌, rules, length, take, drop}
+use Rattle.std.proofs.KnownBytes.{Consumes-trans}
+use Rattle.std.proofs.lemmas.List.{take-append-le}
+use Rattle.subcommands.proofs.FrontLemmas.{HasGiven-more, front_by_length}
+use Rattle.subcommands.proofs.front.read_front.Goals as goal
+
+pub loop-piece-preserved : goal.loop-piece-preserved
+loop-piece-preserved g c =
+    let fits : c.in-Ok.count ≤ length c.read.new.buf = search rules in
+    let same : take c.in-Ok.count (c.read.new.buf ++ drop c.min-wanted.result c.loop-piece.piece) ≡ take c.in-Ok.count c.read.new.buf =
+    take-append-le c.in-Ok.count c.read.new.buf (drop c.min-wanted.result c.loop-piece.piece) fits in (
+      search rules,
+      rw (c.in_ok-extend_from_slice.ensures.items, same) (Consumes-trans _ _ _ _ _ c.loop-piece.invariant.1 c.in-Ok.ensures.bytes.0),
+      search rules,
+      rw (c.in_ok-extend_from_slice.ensures.items, same) (HasGiven-more _ _ _ c.loop-piece.front.items (take c.in-Ok.count c.read.new.buf) c.loop-piece.invariant.3 c.in-Ok.ensures.given (search rules)),
+    )
+
+pub returns-clause-given : goal.returns-clause-given
+returns-clause-given g c =
+    front_by_length _ _ _ _ c.loop-piece.front.items c.args.most c.loop-piece.invariant.3 c.loop-piece.invariant.1 (search rules)

@@ -1,0 +1,74 @@
+-- How the program ends.
+use Rattle.std.specs.Prelude.{ℕ, List, [], ◌++◌, codes, decimal, Bool, false, true, Result, Ok, Err}
+use Rattle.device_profile.specs.declared.fault.Cause.{Cause}
+use Rattle.device_profile.specs.declared.fault.Cause.TheVariants.{Version, Unknown, Repeated, Range, Missing, NoGeometry}
+use Rattle.device_profile.specs.declared.fault.ProfileFault.{ProfileFault}
+use Rattle.device_profile.specs.declared.fault.ProfileFault.TheVariants.{Fault, Memory as NoMemory}
+use Rattle.preflight.specs.declared.error.Error.{Error}
+use Rattle.preflight.specs.declared.error.Error.TheVariants.{Memory, Read, Write, Turns, NoProfile}
+use Rattle.preflight.specs.Source.{is_read}
+use Rattle.preflight.specs.Outlet.{is_write}
+use Rattle.subcommands.specs.declared.status.Status.{Status}
+use Rattle.subcommands.specs.declared.status.Status.TheVariants.{Pass, Fail, Help, Words, Profile, Stopped}
+
+-- the number that the system is told
+abbrev pub code_of : Status → ℕ
+code_of Pass = 0
+code_of Fail = 1
+code_of Help = 0
+code_of Words = 2
+code_of (Profile number line cause) = 2
+code_of (Stopped error) = 3
+
+abbrev pub error_line : Error → List ℕ
+error_line Memory = codes "ERROR memory\n"
+error_line Read = codes "ERROR read\n"
+error_line Write = codes "ERROR write\n"
+error_line Turns = codes "ERROR turns\n"
+error_line NoProfile = codes "ERROR no profile\n"
+
+abbrev pub cause_name : Cause → List ℕ
+cause_name Version = codes "Version"
+cause_name Unknown = codes "Unknown"
+cause_name Repeated = codes "Repeated"
+cause_name Range = codes "Range"
+cause_name Missing = codes "Missing"
+cause_name NoGeometry = codes "NoGeometry"
+
+-- the number of the profile and of the line in it, and what is wrong
+abbrev pub refusal_line : ℕ → ℕ → Cause → List ℕ
+refusal_line number line cause = codes "ERROR profile " ++ decimal number ++ codes " " ++ decimal line ++ codes " " ++ cause_name cause ++ codes "\n"
+
+-- what tells of the status on standard error
+abbrev pub status_line : Status → List ℕ
+status_line Pass = []
+status_line Fail = []
+status_line Help = []
+status_line Words = []
+status_line (Profile number line cause) = refusal_line number line cause
+status_line (Stopped error) = error_line error
+
+-- a profile is refused
+abbrev pub is_refusal : Status → Bool
+is_refusal (Profile number line cause) = true
+is_refusal _ = false
+
+-- the work stopped at a read that failed
+abbrev pub is_stop_of_read : Status → Bool
+is_stop_of_read (Stopped error) = is_read error
+is_stop_of_read _ = false
+
+-- the work stopped at a write that failed
+abbrev pub is_stop_of_write : Status → Bool
+is_stop_of_write (Stopped error) = is_write error
+is_stop_of_write _ = false
+
+-- the result is that the work stopped at a read that failed
+abbrev pub is_err_at_read : {T : Type 0} → Result T Status → Bool
+is_err_at_read (Ok x) = false
+is_err_at_read (Err status) = is_stop_of_read status
+
+-- how the program ends where the text of the profile of this number gives none
+abbrev pub refusal_of : ℕ → ProfileFault → Status
+refusal_of number (Fault line cause) = Profile number line cause
+refusal_of number NoMemory = Stopped Memory

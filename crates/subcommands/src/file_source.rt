@@ -1,0 +1,81 @@
+//! A file as a source of bytes.
+ghost use Rattle.std.specs.Prelude.{◌≡◌, [], None, false};
+ghost use Rattle.std.specs.Io.{ReadsAtMost};
+
+use given::Given;
+use preflight::Source;
+use std::io::Read;
+use std::marker::Model;
+use std::rt::Files;
+use std::{fs, io};
+
+/// A file that is opened at its first read, so that what is wrong with the words before it is told
+/// before it is touched.
+#[derive(Drop)]
+pub struct FileSource<'a, R: Files> {
+    files: &'a R,
+    path: &'a str,
+    opened: Option<R::File>,
+    given: Given,
+    has_failed: bool,
+}
+
+impl<'a, R: Files> Model for FileSource<'a, R> {
+    ghost use Rattle.subcommands.specs.FileState.{FileState};
+
+    ghost Value = { FileState };
+
+    ghost view = { λ file. record { given = file.given.pieces; has_failed = file.has_failed } };
+}
+
+impl<'a, R: Files> FileSource<'a, R> {
+    /// The file at a path, of which nothing is read yet.
+    pub fn new(files: &'a R, path: &'a str) -> FileSource<'a, R>
+        ensures given { result.given ≡ [] }
+        ensures working { result.has_failed ≡ false }
+    {
+        FileSource {
+            files,
+            path,
+            opened: None,
+            given: Given::new(),
+            has_failed: false,
+        }
+    }
+
+    fn read_opened(&mut self, buf: &mut [u8]) -> io::Result<usize>
+        ensures bound { ReadsAtMost result buf.new }
+        ensures given { self.new.given ≡ self.old.given }
+    {
+        match &mut self.opened {
+            Some(file) => file.read(buf),
+            None => {
+                let mut file = fs::open(self.files, self.path)?;
+                let result = file.read(buf);
+                self.opened = Some(file);
+                result
+            }
+        }
+    }
+}
+
+impl<R: Files> Source for FileSource<'_, R> {
+    ghost remaining = { λ _. None };
+
+    ghost given = { λ file. file.given };
+
+    ghost failed = { λ file. file.has_failed };
+
+    fn read(&mut self, buf: &mut [u8]) -> io::Result<usize> {
+        let result = self.read_opened(buf);
+        if let Ok(count) = &result {
+            self.given = self.given.and(&buf[..*count]);
+        }
+        self.has_failed = result.is_err();
+        result
+    }
+
+    fn has_failed(&self) -> bool {
+        self.has_failed
+    }
+}

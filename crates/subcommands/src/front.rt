@@ -1,0 +1,42 @@
+//! The front of what a source has.
+ghost use Rattle.std.specs.Prelude.{◌≡◌, ◌≤◌, take, length, IfOk, IfErr, IfSome, IsFalse};
+ghost use Rattle.std.specs.Io.KnownBytes.{Consumes};
+ghost use Rattle.preflight.specs.Pieces.{ByReads};
+ghost use Rattle.preflight.specs.Source.{is_err_of_read};
+ghost use Rattle.subcommands.specs.Texts.{IsErrorOfReading};
+
+use preflight::{Error, Source};
+use std::alloc::Allocator;
+
+/// So many bytes are asked for in one read.
+const PIECE: usize = 4096;
+
+/// The first bytes of a source, at most so many, and fewer only where it has no more. What is
+/// behind them is not read.
+pub fn read_front<S: Source, A: Allocator>(
+    alloc: A,
+    source: &mut S,
+    most: usize,
+) -> Result<Vec<u8, A>, Error>
+    requires { IsFalse (S.failed source.old) }
+    ensures bytes { IfOk result (λ front. IfSome (S.remaining source.old) (λ input. front.items ≡ take most input)) }
+    ensures given { IfOk result (λ front. ByReads (S.given source.old) (S.given source.new) (S.remaining source.old) (λ input. front.items ≡ take most input)) }
+    ensures taken { IfOk result (λ front. Consumes (S.remaining source.old) (S.remaining source.new) front.items) }
+    ensures most { IfOk result (λ front. length front.items ≤ most) }
+    ensures errors { IfErr result IsErrorOfReading }
+    ensures read { S.failed source.new ≡ is_err_of_read result }
+{
+    let mut front = Vec::new(alloc);
+    let mut piece = [0u8; PIECE];
+    while front.len() < most {
+        let wanted = PIECE.min(most - front.len());
+        let Ok(count) = source.read(&mut piece[..wanted]) else {
+            return Err(Error::Read);
+        };
+        if count == 0 {
+            return Ok(front);
+        }
+        front.extend_from_slice(&piece[..count])?;
+    }
+    Ok(front)
+}

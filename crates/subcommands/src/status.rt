@@ -1,0 +1,143 @@
+//! How the program ends.
+ghost use Rattle.std.specs.Prelude.{◌≡◌, IsFalse, map};
+ghost use Rattle.std.specs.List.{concat};
+ghost use Rattle.preflight.specs.Outlet.{Writes};
+ghost use Rattle.preflight.specs.declared.error.Error.TheVariants.{Memory};
+ghost use Rattle.subcommands.specs.Status.{code_of, cause_name, error_line, refusal_line, status_line};
+ghost use Rattle.subcommands.specs.declared.status.Status.TheVariants.{Stopped};
+
+use device_profile::Cause;
+use itoa::Buffer;
+use preflight::{Error, Outlet, write_text};
+use std::alloc::AllocFailed;
+
+/// How the program ends.
+#[derive(Clone, Copy, Debug, PartialEq, Eq)]
+pub enum Status {
+    /// The job passes.
+    Pass,
+    /// The job fails.
+    Fail,
+    /// Help or the version was asked for.
+    Help,
+    /// The words ask for nothing that there is.
+    Words,
+    /// A profile is refused: the one of this number, counted from 1, at this line of its text,
+    /// counted from 1, or as a whole, with line 0.
+    Profile {
+        number: u64,
+        line: u64,
+        cause: Cause,
+    },
+    /// The work stopped before its end.
+    Stopped(Error),
+}
+
+impl Status {
+    /// The number that the system is told.
+    pub fn code(self) -> u8
+        ensures { result ≡ code_of self }
+    {
+        match self {
+            Status::Pass | Status::Help => 0,
+            Status::Fail => 1,
+            Status::Words | Status::Profile { .. } => 2,
+            Status::Stopped(_) => 3,
+        }
+    }
+}
+
+impl From<Error> for Status {
+    ghost from_gives = { λ error status. status ≡ Stopped error };
+
+    fn from(error: Error) -> Status {
+        Status::Stopped(error)
+    }
+}
+
+impl<T: Drop> From<AllocFailed<T>> for Status {
+    ghost from_gives = { λ _ status. status ≡ Stopped Memory };
+
+    fn from(error: AllocFailed<T>) -> Status {
+        Status::Stopped(Error::from(error))
+    }
+}
+
+/// Writes the line of a status, as far as it can be written, and hands the status back.
+pub fn tell<E: Outlet>(status: Status, stderr: &mut E) -> Status
+    requires { IsFalse (E.failed stderr.old) }
+    ensures same { result ≡ status }
+    ensures line { Writes (E.failed stderr.new) (E.written stderr.old) (E.written stderr.new) (status_line status) }
+{
+    // Where standard error takes nothing either, the status alone is left to tell.
+    let _ = match status {
+        Status::Profile {
+            number,
+            line,
+            cause,
+        } => write_refusal(stderr, number, line, cause),
+        Status::Stopped(error) => write_text(stderr, error_line(error)),
+        Status::Pass | Status::Fail | Status::Help | Status::Words => Ok(()),
+    };
+    status
+}
+
+fn error_line(error: Error) -> &'static [u8]
+    ensures { result.now ≡ error_line error }
+{
+    match error {
+        Error::Memory => b"ERROR memory\n",
+        Error::Read => b"ERROR read\n",
+        Error::Write => b"ERROR write\n",
+        Error::Turns => b"ERROR turns\n",
+        Error::NoProfile => b"ERROR no profile\n",
+    }
+}
+
+/// Writes which profile is refused, at which line and why.
+fn write_refusal<E: Outlet>(
+    stderr: &mut E,
+    number: u64,
+    line: u64,
+    cause: Cause,
+) -> Result<(), Error>
+    requires { IsFalse (E.failed stderr.old) }
+    ensures { Writes (E.failed stderr.new) (E.written stderr.old) (E.written stderr.new) (refusal_line number line cause) }
+{
+    let mut number_digits = Buffer::new();
+    let mut line_digits = Buffer::new();
+    let pieces: [&[u8]; 7] = [
+        b"ERROR profile ",
+        number_digits.format(number).as_bytes(),
+        b" ",
+        line_digits.format(line).as_bytes(),
+        b" ",
+        cause_name(cause),
+        b"\n",
+    ];
+    write_pieces(stderr, &pieces)
+}
+
+fn cause_name(cause: Cause) -> &'static [u8]
+    ensures { result.now ≡ cause_name cause }
+{
+    match cause {
+        Cause::Version => b"Version",
+        Cause::Unknown => b"Unknown",
+        Cause::Repeated => b"Repeated",
+        Cause::Range => b"Range",
+        Cause::Missing => b"Missing",
+        Cause::NoGeometry => b"NoGeometry",
+    }
+}
+
+/// Writes pieces of a text one after the other.
+fn write_pieces<E: Outlet>(outlet: &mut E, pieces: &[&[u8]]) -> Result<(), Error>
+    requires { IsFalse (E.failed outlet.old) }
+    ensures { Writes (E.failed outlet.new) (E.written outlet.old) (E.written outlet.new) (concat (map (λ piece. piece.now) pieces.now)) }
+{
+    for piece in pieces {
+        write_text(outlet, piece)?;
+    }
+    Ok(())
+}

@@ -1,0 +1,36 @@
+//! What the texts of profiles are read from.
+ghost use Rattle.std.specs.Prelude.{◌≡◌, ◌≤◌, ℕ, Bool, List, ◌++◌, Option, take, length, IfOk, IfErr, IfSome, IsFalse};
+ghost use Rattle.preflight.specs.Source.{is_err_of_read};
+ghost use Rattle.subcommands.specs.Texts.{IsErrorOfReading, text_read};
+
+use preflight::Error;
+use std::alloc::Allocator;
+
+/// So many bytes of a text are read at most: one more than a text may have, which tells that it
+/// has too many.
+pub const MOST_OF_TEXT: usize = 65_537;
+
+/// Texts under the words that name them. After a failed read no more are read.
+pub trait ProfileTexts {
+    // The text that a word names, where it is known.
+    ghost text_of: { Self → List ℕ → Option (List ℕ) };
+
+    // The texts that were read so far, one after another.
+    ghost given: { Self → List (List ℕ) };
+
+    // A read has failed.
+    ghost failed: { Self → Bool };
+
+    /// Reads the text that a word names: its first 65,537 bytes, where it has more.
+    ///
+    /// An error is `Memory` where the allocator refused a request, or `Read` where the text could
+    /// not be read.
+    fn read_text<A: Allocator>(&mut self, alloc: A, word: &str) -> Result<Vec<u8, A>, Error>
+        requires { IsFalse (failed self.old) }
+        ensures bytes { IfOk result (λ text. IfSome (text_of self.old word.now) (λ known. text.items ≡ take 65_537 known)) }
+        ensures given { given self.new ≡ given self.old ++ text_read (λ text. text.items) result }
+        ensures most { IfOk result (λ text. length text.items ≤ 65_537) }
+        ensures errors { IfErr result IsErrorOfReading }
+        ensures same { text_of self.new ≡ text_of self.old }
+        ensures status { failed self.new ≡ is_err_of_read result };
+}
