@@ -1,5 +1,5 @@
 //! The subcommand `check`: its exit status, and what it writes.
-ghost use Rattle.std.specs.Prelude.{◌≢◌, []};
+ghost use Rattle.std.specs.Prelude.{◌≡◌, ◌≢◌, [], false, IsFalse};
 
 use crate::fakes::FailingSource;
 use crate::fleets::RECTANGLE;
@@ -9,6 +9,7 @@ use crate::profile_texts::with_line;
 use device_profile::Sample;
 use preflight::{Error, Outlet, Source, Watched};
 use refusing::Refusing;
+use std::alloc::Allocator;
 use std::process::Abort;
 use std::test::Fail;
 use subcommands::{Status, check};
@@ -138,6 +139,24 @@ const ROWS: &[(&[&str], Job, Answer)] = &[
     ),
 ];
 
+/// Runs `check`. It alone meets the clauses of that call, so that the tests have no part of them to carry.
+fn status_of<H: Allocator + Copy, J: Source, O: Outlet, E: Outlet>(
+    heap: H,
+    job: &mut J,
+    texts: &mut KeptTexts,
+    words: &[&str],
+    stdout: &mut O,
+    stderr: &mut E,
+) -> Status
+    requires job { IsFalse (J.failed job.old) }
+    requires texts { texts.old.has_failed ≡ false }
+    requires stdout { IsFalse (O.failed stdout.old) }
+    requires stderr { IsFalse (E.failed stderr.old) }
+    requires words { words.now ≢ [] }
+{
+    check(heap, job, texts, words, stdout, stderr)
+}
+
 /// Runs `check`, and compares what it did. A read of the job fails only where all texts were had and no line tells of a verdict.
 fn assert_answer(
     rt: &(impl Abort + AllocGlobal),
@@ -154,7 +173,7 @@ fn assert_answer(
     let mut kept = KeptTexts::new(texts);
     let mut stdout = Watched::new(Vec::new(rt.alloc()));
     let mut stderr = Watched::new(Vec::new(rt.alloc()));
-    let status = check(
+    let status = status_of(
         rt.alloc(),
         &mut job,
         &mut kept,
@@ -208,7 +227,7 @@ fn a_failed_write_is_told(rt: HostRuntime) {
         let mut taken = [0u8; 21];
         let mut stdout = Watched::new(&mut taken[..room]);
         let mut stderr = Watched::new(Vec::new(rt.alloc()));
-        let status = check(
+        let status = status_of(
             rt.alloc(),
             &mut job,
             &mut kept,
@@ -239,7 +258,7 @@ fn each_request_for_memory_is_refused_in_turn(rt: HostRuntime) {
         let mut kept = KeptTexts::new(&texts);
         let mut stdout = Watched::new(Vec::new(rt.alloc()));
         let mut stderr = Watched::new(Vec::new(rt.alloc()));
-        let status = check(
+        let status = status_of(
             &heap,
             &mut job,
             &mut kept,

@@ -43,3 +43,5 @@ mod rows;
 mod settings;
 #[cfg(test)]
 mod sources;
+#[cfg(test)]
+mod words;

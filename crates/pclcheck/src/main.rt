@@ -3,11 +3,7 @@
 
 ghost use Rattle.std.specs.Prelude.{IsFalse};
 
-#[cfg(test)]
-mod tests;
-mod words;
-
-use crate::words::Request;
+use command_line::{Request, read_words};
 use preflight::{Error, Outlet, Watched, write_text};
 use std::process::ExitCode;
 use std::rt::{Env, Files};
@@ -55,7 +51,7 @@ fn run<R: Files + AllocGlobal, O: Outlet, E: Outlet>(
     requires stdout { IsFalse (O.failed stdout.old) }
     requires stderr { IsFalse (E.failed stderr.old) }
 {
-    match words::read_words(rt.alloc(), words, stdout, stderr) {
+    match read_words(rt.alloc(), words, stdout, stderr) {
         Ok(Request::Check { job, profiles }) => {
             let mut job = FileSource::new(rt, job);
             let mut texts = FileTexts::new(rt);

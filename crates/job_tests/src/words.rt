@@ -1,6 +1,6 @@
 //! What the words of the command line ask for.
 
-use crate::words::{Request, read_words};
+use command_line::{Request, read_words};
 use preflight::Watched;
 use std::alloc::{AllocError, Global};
 use std::test::Fail;

@@ -1,6 +1,6 @@
 //! The words that the program is started with.
 ghost use Rattle.std.specs.Prelude.{◌≡◌, IsFalse, OnOk, IfOk, IfErr};
-ghost use Rattle.pclcheck.specs.Words.{IsEndOfWords, NamesSome};
+ghost use Rattle.command_line.specs.Words.{IsEndOfWords, NamesSome};
 
 use clap::error::ErrorKind;
 use clap::{Arg, ArgAction, Command};

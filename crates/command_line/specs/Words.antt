@@ -3,8 +3,8 @@ use Rattle.std.specs.Prelude.{◌≢◌, [], ⊤}
 use Rattle.preflight.specs.declared.error.Error.TheVariants.{Memory, Write}
 use Rattle.subcommands.specs.declared.status.Status.{Status}
 use Rattle.subcommands.specs.declared.status.Status.TheVariants.{Help, Words, Stopped}
-use Rattle.pclcheck.specs.declared.words.Request.{Request}
-use Rattle.pclcheck.specs.declared.words.Request.TheVariants.{Check}
+use Rattle.command_line.specs.declared.words.Request.{Request}
+use Rattle.command_line.specs.declared.words.Request.TheVariants.{Check}
 
 -- one printer at least is named
 abbrev pub NamesSome : Request → Type 0

@@ -1,0 +1,6 @@
+//! What the words of the command line ask for.
+#![tactic(auto)]
+
+mod words;
+
+pub use words::{Request, read_words};
