@@ -3,7 +3,10 @@
 ghost use Rattle.std.specs.Prelude.{◌≤◌, length};
 
 use crate::items::{Last, read_bytes, read_on, read_whole};
-use pcl_items::{Cause, Command, Group, Item, LexFault, Lexed, Lexer, Name, Number, Place, Sign};
+use pcl_items::{
+    Cause, Command, DataCommand, Group, Item, LexFault, Lexed, Lexer, Name, Number, OwnedItem,
+    Place, Sign, SimpleItem,
+};
 use refusing::Refusing;
 use std::alloc::{AllocError, Allocator, Global};
 use std::process::Abort;
@@ -18,27 +21,48 @@ enum Wanted {
     Reset,
     ClearMargins,
     HalfLineFeed,
+    DefaultFont,
     /// A command with a whole number.
     Sent(Command, Sign, u16),
+    /// A byte of text.
+    Text(u8),
+    /// A symbol set of a whole number.
+    Set(u16, u8),
+    /// Transparent print data.
+    Data(&'static [u8]),
 }
 
 impl Wanted {
-    fn item(self) -> Item {
-        match self {
-            Wanted::CarriageReturn => Item::CarriageReturn,
-            Wanted::LineFeed => Item::LineFeed,
-            Wanted::FormFeed => Item::FormFeed,
-            Wanted::Reset => Item::Reset,
-            Wanted::ClearMargins => Item::ClearMargins,
-            Wanted::HalfLineFeed => Item::HalfLineFeed,
-            Wanted::Sent(command, sign, units) => Item::Parameterized(
-                command,
-                Number {
-                    sign,
-                    ten_thousandths: u32::from(units) * 10_000,
-                },
-            ),
+    fn is_of(self, item: Item<'_>) -> bool {
+        match (self, item) {
+            (Wanted::CarriageReturn, Item::Simple(SimpleItem::CarriageReturn)) => true,
+            (Wanted::LineFeed, Item::Simple(SimpleItem::LineFeed)) => true,
+            (Wanted::FormFeed, Item::Simple(SimpleItem::FormFeed)) => true,
+            (Wanted::Reset, Item::Simple(SimpleItem::Reset)) => true,
+            (Wanted::ClearMargins, Item::Simple(SimpleItem::ClearMargins)) => true,
+            (Wanted::HalfLineFeed, Item::Simple(SimpleItem::HalfLineFeed)) => true,
+            (Wanted::DefaultFont, Item::Simple(SimpleItem::DefaultFont)) => true,
+            (
+                Wanted::Sent(command, sign, units),
+                Item::Simple(SimpleItem::Parameterized(sent, number)),
+            ) => { sent == command && number == whole(sign, units) }
+            (Wanted::Text(code), Item::Text(byte)) => byte.code == code,
+            (Wanted::Set(units, letter), Item::Simple(SimpleItem::SymbolSet(set))) => {
+                set.number == whole(PLAIN, units) && set.letter == letter
+            }
+            (Wanted::Data(bytes), Item::WithData(DataCommand::TransparentText, data)) => {
+                data.bytes == bytes
+            }
+            _ => false,
         }
+    }
+}
+
+/// A whole number.
+fn whole(sign: Sign, units: u16) -> Number {
+    Number {
+        sign,
+        ten_thousandths: u32::from(units) * 10_000,
     }
 }
 
@@ -133,13 +157,37 @@ const JOBS: &[(&[u8], &[(Place, Wanted)], Option<(Place, Cause)>)] = &[
         ],
         None,
     ),
+    (
+        b"A\x7f\xff \x1b&p3X\x1bE\x00\x1b(8U\x1b(s10h0p12V\x1b(3@\x1b&p0X.",
+        &[
+            (0, Wanted::Text(b'A')),
+            (1, Wanted::Text(127)),
+            (2, Wanted::Text(255)),
+            (3, Wanted::Text(b' ')),
+            (4, Wanted::Data(b"\x1bE\x00")),
+            (12, Wanted::Set(8, b'U')),
+            (16, Wanted::Sent(Command::FontPitch, PLAIN, 10)),
+            (22, Wanted::Sent(Command::FontSpacing, PLAIN, 0)),
+            (24, Wanted::Sent(Command::FontHeight, PLAIN, 12)),
+            (27, Wanted::DefaultFont),
+            (31, Wanted::Data(b"")),
+            (36, Wanted::Text(b'.')),
+        ],
+        None,
+    ),
+    (
+        b"AB\x1b&p3XAB",
+        &[(0, Wanted::Text(b'A')), (1, Wanted::Text(b'B'))],
+        Some((2, Cause::Truncated)),
+    ),
 ];
 
 /// The items are those of the row.
-fn assert_items(rt: &impl Abort, items: &[(Place, Item)], wanted: &[(Place, Wanted)]) {
+fn assert_items(rt: &impl Abort, items: &[(Place, OwnedItem)], wanted: &[(Place, Wanted)]) {
     assert!(rt; items.len() == wanted.len());
     for (item, (place, wanted_item)) in items.iter().zip(wanted) {
-        assert_eq!(rt; *item, (*place, wanted_item.item()));
+        let (at, item) = item;
+        assert!(rt; at == place && wanted_item.is_of(item.as_item()));
     }
 }
 
@@ -156,9 +204,9 @@ fn check_job(
 {
     let mut items = Vec::new(alloc);
     let answer = if is_whole {
-        read_whole(alloc, job, &mut items)?
+        read_whole(alloc, alloc, job, &mut items)?
     } else {
-        read_bytes(alloc, job, &mut items)?
+        read_bytes(alloc, alloc, job, &mut items)?
     };
     assert_eq!(rt; answer, last, "{job:?}");
     assert_items(rt, &items, wanted);
@@ -181,12 +229,13 @@ fn jobs_are_read_whole_and_byte_by_byte(rt: HostRuntime) -> Result<(), Fail> {
 
 /// Feeds an item, and then a large piece, which is refused: the job ends without it.
 fn read_past_refusal<A: Allocator, B: Allocator>(
+    kept: Global,
     alloc: A,
-    items: &mut Vec<(Place, Item), B>,
+    items: &mut Vec<(Place, OwnedItem), B>,
 ) -> Result<Last, AllocError> {
     let mut lexer = Lexer::new(alloc);
     lexer.feed(b"\x1bE")?;
-    match read_on(&mut lexer, items)? {
+    match read_on(kept, &mut lexer, items)? {
         Ok(Lexed::NeedMore) => {}
         other => return Ok(other),
     }
@@ -194,14 +243,14 @@ fn read_past_refusal<A: Allocator, B: Allocator>(
         return Ok(Ok(Lexed::NeedMore));
     }
     lexer.end_input();
-    read_on(&mut lexer, items)
+    read_on(kept, &mut lexer, items)
 }
 
 #[test]
 fn refused_piece_leaves_the_lexer(rt: HostRuntime) -> Result<(), Fail> {
     let heap = Refusing::new(rt.alloc(), 1);
     let mut items = Vec::new(rt.alloc());
-    let end = read_past_refusal(&heap, &mut items)?;
+    let end = read_past_refusal(rt.alloc(), &heap, &mut items)?;
     assert_eq!(rt; end, Ok(Lexed::End));
     assert_items(&rt, &items, &[(0, Wanted::Reset)]);
     Ok(())

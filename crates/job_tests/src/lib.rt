@@ -44,4 +44,6 @@ mod settings;
 #[cfg(test)]
 mod sources;
 #[cfg(test)]
+mod text;
+#[cfg(test)]
 mod words;

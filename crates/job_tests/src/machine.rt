@@ -1,11 +1,11 @@
 //! The machine, and copies of what it hands over.
 
 use crate::items::items_of;
-use device_profile::{Field, sample_a};
+use device_profile::{Field, FontRequest, Sample, SymbolSet, sample_a};
 use page_env::Finding::Unset;
-use page_env::{Bounds, Finding, Mark, PageEnd};
+use page_env::{Bounds, Finding, Glyph, Mark, PageEnd};
 use page_machine::{Machine, MarkSink, OwnedEvent, OwnedMark, Start, Stop};
-use pcl_items::{Item, Place};
+use pcl_items::{OwnedItem, Place};
 use refusing::Refusing;
 use std::alloc::Global;
 use std::process::Abort;
@@ -185,23 +185,48 @@ const FROM_THE_FIRST_PANEL: &[Run] = &[
 ];
 
 /// A rectangle with these edges, in 7200ths of an inch.
-fn rectangle((left, top, right, bottom): (u32, u32, u32, u32)) -> Mark {
-    Mark::Rect(Bounds {
+fn rectangle(edges: (u32, u32, u32, u32)) -> Mark {
+    Mark::Rect(box_of(edges))
+}
+
+fn box_of((left, top, right, bottom): (u32, u32, u32, u32)) -> Bounds {
+    Bounds {
         left: Length::of_7200ths(left),
         top: Length::of_7200ths(top),
         right: Length::of_7200ths(right),
         bottom: Length::of_7200ths(bottom),
+    }
+}
+
+/// The character of a code in the first face of sample B, with its reference point at the first line of the page.
+fn character(code: u8) -> Mark {
+    Mark::Character(Glyph {
+        code,
+        request: FontRequest {
+            symbol_set: SymbolSet {
+                number: 100_000,
+                letter: b'U',
+            },
+            spacing: 0,
+            pitch: 100_000,
+            height: 120_000,
+            style: 0,
+            weight: 0,
+            typeface: 30_000,
+        },
+        y: Length::of_7200ths(4500),
+        bounds: box_of((1800, 3600, 2520, 4800)),
     })
 }
 
 /// Carries out items up to the first that does not go.
 fn step_all(
     machine: &mut Machine<'_>,
-    items: &[(Place, Item)],
+    items: &[(Place, OwnedItem)],
     sink: &mut Recorder,
 ) -> Result<(), Stop<Full>> {
     for (place, item) in items {
-        machine.step(*place, item, sink)?;
+        machine.step(*place, &item.as_item(), sink)?;
     }
     Ok(())
 }
@@ -259,6 +284,28 @@ fn machines_run(rt: HostRuntime) -> Result<(), Fail> {
         let machine = Machine::new(&profile, Start::At(profile.first_panel()));
         check_run(&rt, rt.alloc(), machine, run)?;
     }
+    Ok(())
+}
+
+#[test]
+fn a_character_is_marked(rt: HostRuntime) -> Result<(), Fail> {
+    let profile = Sample::B.profile(rt.alloc())?;
+    let mut machine = Machine::new(&profile, Start::Unknown);
+    let mut sink = Recorder {
+        room: 1,
+        mark: None,
+        page: None,
+    };
+    let items = items_of(&rt, rt.alloc(), b"\x1bEA ")?;
+    assert!(rt; step_all(&mut machine, &items, &mut sink).is_ok());
+    assert_eq!(rt; sink.mark, Some(character(b'A')));
+    let copy = OwnedMark::copy_of(rt.alloc(), &character(b'A'))?;
+    let answers = (
+        copy.is_same(&character(b'A')),
+        copy.is_same(&character(b'B')),
+        copy.is_same(&rectangle((1800, 3600, 2520, 4800))),
+    );
+    assert_eq!(rt; answers, (true, false, false));
     Ok(())
 }
 

@@ -6,10 +6,10 @@ use page_env::Finding::{
     BadValue, Inexact, MarginIgnored, NotOnDevice, OffPage, StackEmpty, StackFull, Unset,
 };
 use page_env::{
-    Bounds, Carried, Cell, Finding, Mark, Page, PageChange, PageEnd, VerticalPlace, carry_out,
+    Bounds, Carried, Cell, Finding, Page, PageChange, PageEnd, VerticalPlace, carry_out,
     change_page, first_page, page_end, user_defaults, user_defaults_of,
 };
-use pcl_items::{Item, Number, Place, Sign};
+use pcl_items::{Item, Number, OwnedItem, Place, Sign};
 use std::alloc::Global;
 use std::process::Abort;
 use std::test::Fail;
@@ -140,10 +140,13 @@ fn carry_out_all(
     profile: &Profile,
     page: &mut Page,
     times: u32,
-    items: &[(Place, Item)],
+    items: &[(Place, OwnedItem)],
 ) -> Result<Carried, Finding> {
     for _ in 0..times {
         for (_, item) in items {
+            let Item::Simple(item) = item.as_item() else {
+                continue;
+            };
             match carry_out(profile, page, item) {
                 Ok(Carried::Stepped) => {}
                 other => return other,
@@ -174,7 +177,7 @@ fn has_come_to(page: &Page, carried: Result<Carried, Finding>, comes: Comes) -> 
             job.right_margin.map(Length::ticks) == Some(ticks)
         }
         (Ok(Carried::Stepped), TopMargin(ticks)) => job.top_margin.ticks() == ticks,
-        (Ok(Carried::Marked(Mark::Rect(bounds))), Rectangle(edges)) => {
+        (Ok(Carried::Filled(bounds)), Rectangle(edges)) => {
             page.marked && edges_of(bounds) == edges
         }
         (Ok(Carried::Closing(PageChange::Home)), Closes) => true,

@@ -13,6 +13,8 @@ pub enum Printer {
     B,
     /// Sample C.
     C,
+    /// Sample D.
+    D,
     /// Sample B with a logical page that begins 1/120 inch further right.
     Moved,
     /// Sample B with a printable area that ends 10000/7200 inch from the left edge of the page.
@@ -73,6 +75,7 @@ fn profile_of(alloc: Global, printer: Printer) -> Result<Profile, Fail> {
         Printer::A => return Ok(Sample::A.profile(alloc)?),
         Printer::B => return Ok(Sample::B.profile(alloc)?),
         Printer::C => return Ok(Sample::C.profile(alloc)?),
+        Printer::D => return Ok(Sample::D.profile(alloc)?),
         Printer::Moved => (PANEL, b"1860 0 57600 79200 1200 1200 60000 78000"),
         Printer::Narrow => (PANEL, b"1800 0 57600 79200 1200 1200 10000 78000"),
         Printer::EightLines => (b"vmi 6\ncopies 1\nsides 0\ntray 1\nduplex 1\n", PAGE),

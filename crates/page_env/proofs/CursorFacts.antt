@@ -34,7 +34,7 @@ module _ (printer : Printer) (s : State) where
   move_x_decipoints_is_sound n = quiet page_rises refl refl refl refl refl refl refl
 
   pub move_columns_is_sound : (n : Amount) → IsSound printer s (move_columns printer s n) (move_columns printer (plain_state s) n)
-  move_columns_is_sound n = quiet (columns_rise s.settings.job.hmi) refl refl refl refl refl refl refl
+  move_columns_is_sound n = quiet (columns_rise s.settings.job) refl refl refl refl refl refl refl
 
   pub move_y_is_sound : (n : Amount) → IsSound printer s (move_y printer s n) (move_y printer (plain_state s) n)
   move_y_is_sound n = quiet (relative_rises n.sign s.cursor.y) refl refl refl refl refl refl refl

@@ -18,10 +18,10 @@ module _ (printer : Printer) (s : State) where
   perforation_skip_is_sound n = quiet refl refl refl refl refl refl refl refl
 
   pub left_margin_is_sound : (n : Amount) → IsSound printer s (set_left_margin printer s n) (set_left_margin printer (plain_state s) n)
-  left_margin_is_sound n = quiet (columns_rise s.settings.job.hmi) refl refl refl refl refl refl refl
+  left_margin_is_sound n = quiet (columns_rise s.settings.job) refl refl refl refl refl refl refl
 
   pub right_margin_is_sound : (n : Amount) → IsSound printer s (set_right_margin printer s n) (set_right_margin printer (plain_state s) n)
-  right_margin_is_sound n = quiet (columns_rise s.settings.job.hmi) refl refl refl refl refl refl refl
+  right_margin_is_sound n = quiet (columns_rise s.settings.job) refl refl refl refl refl refl refl
 
   pub clearing_is_sound : IsSound printer s (clear_margins s) (clear_margins (plain_state s))
   clearing_is_sound = quiet refl refl refl refl refl refl refl refl

@@ -1,7 +1,8 @@
 -- Each item of the table is carried out soundly.
+use Rattle.std.proofs.Common.{refl}
 use Rattle.pcl_items.specs.declared.command.Command.{Command}
-use Rattle.pcl_items.specs.declared.command.Command.TheVariants.{LeftMargin, RightMargin, Column, Row, HorizontalDecipoints, VerticalDecipoints, CursorStack, HorizontalMotionIndex, LineTermination, PageSize, Orientation, Copies, Sides, Source, VerticalMotionIndex, LineSpacing, TopMargin, TextLength, PerforationSkip, UnitOfMeasure, RectangleWidth, RectangleHeight, FillRectangle, HorizontalUnits, VerticalUnits}
-use Rattle.pcl_items.specs.Items.{Entry, CarriageReturn, LineFeed, FormFeed, Reset, ClearMargins, HalfLineFeed, Parameterized}
+use Rattle.pcl_items.specs.declared.command.Command.TheVariants.{LeftMargin, RightMargin, Column, Row, HorizontalDecipoints, VerticalDecipoints, CursorStack, HorizontalMotionIndex, LineTermination, PageSize, Orientation, Copies, Sides, Source, VerticalMotionIndex, LineSpacing, TopMargin, TextLength, PerforationSkip, UnitOfMeasure, RectangleWidth, RectangleHeight, FillRectangle, HorizontalUnits, VerticalUnits, FontSpacing, FontPitch, FontHeight, FontStyle, FontWeight, FontTypeface}
+use Rattle.pcl_items.specs.Items.{Entry, Text, CarriageReturn, LineFeed, FormFeed, Reset, ClearMargins, HalfLineFeed, Parameterized, SymbolSet, DefaultFont, WithData}
 use Rattle.pcl_items.specs.Value.{Amount}
 use Rattle.device_profile.specs.Printer.{Printer}
 use Rattle.page_env.specs.Settings.{Settings, State}
@@ -13,6 +14,9 @@ use Rattle.page_env.proofs.MarginFacts.{top_margin_is_sound, text_length_is_soun
 use Rattle.page_env.proofs.MotionFacts.{vmi_is_sound, line_spacing_is_sound, hmi_is_sound, line_termination_is_sound, return_is_sound, line_feed_is_sound, form_feed_is_sound, half_line_feed_is_sound}
 use Rattle.page_env.proofs.CursorFacts.{move_x_is_sound, move_y_is_sound, move_x_decipoints_is_sound, move_y_decipoints_is_sound, move_columns_is_sound, move_rows_is_sound, stack_is_sound}
 use Rattle.page_env.proofs.RectangleFacts.{width_is_sound, height_is_sound, fill_is_sound}
+use Rattle.page_env.proofs.FontFacts.{symbol_set_is_sound, spacing_is_sound, pitch_is_sound, font_height_is_sound, style_is_sound, weight_is_sound, typeface_is_sound, default_font_is_sound}
+use Rattle.page_env.proofs.TextFacts.{byte_is_sound}
+use Rattle.page_env.proofs.Sound.{quiet}
 
 module _ (printer : Printer) (defaults : Settings) where
   command_is_sound : (command : Command) (n : Amount) (s : State) → IsSoundTransition printer defaults s (command_transition printer defaults s command n) (command_transition printer (plain_settings defaults) (plain_state s) command n)
@@ -41,8 +45,15 @@ module _ (printer : Printer) (defaults : Settings) where
   command_is_sound RectangleWidth n s = width_is_sound printer s n
   command_is_sound RectangleHeight n s = height_is_sound printer s n
   command_is_sound FillRectangle n s = fill_is_sound printer s n
+  command_is_sound FontSpacing n s = spacing_is_sound printer s n
+  command_is_sound FontPitch n s = pitch_is_sound printer s n
+  command_is_sound FontHeight n s = font_height_is_sound printer s n
+  command_is_sound FontStyle n s = style_is_sound printer s n
+  command_is_sound FontWeight n s = weight_is_sound printer s n
+  command_is_sound FontTypeface n s = typeface_is_sound printer s n
 
 pub item_is_sound : (printer : Printer) (defaults : Settings) (item : Entry) → IsSoundItem printer defaults item
+item_is_sound printer defaults (Text code) = λ s. byte_is_sound printer s code
 item_is_sound printer defaults CarriageReturn = λ s. return_is_sound printer defaults s
 item_is_sound printer defaults LineFeed = λ s. line_feed_is_sound printer defaults s
 item_is_sound printer defaults FormFeed = λ s. form_feed_is_sound printer defaults s
@@ -50,3 +61,6 @@ item_is_sound printer defaults Reset = λ s. reset_is_sound printer defaults s
 item_is_sound printer defaults ClearMargins = λ s. clearing_is_sound printer s
 item_is_sound printer defaults HalfLineFeed = λ s. half_line_feed_is_sound printer defaults s
 item_is_sound printer defaults (Parameterized command n) = λ s. command_is_sound printer defaults command n s
+item_is_sound printer defaults (SymbolSet n letter) = λ s. symbol_set_is_sound printer s n letter
+item_is_sound printer defaults DefaultFont = λ s. default_font_is_sound printer s
+item_is_sound printer defaults (WithData command bytes) = λ s. quiet refl refl refl refl refl refl refl refl

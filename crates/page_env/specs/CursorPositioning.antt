@@ -1,5 +1,5 @@
 -- Cursor positioning and the cursor stack (`*p#X`, `*p#Y`, `&a#H`, `&a#V`, `&a#C`, `&a#R`, `&f#S`).
-use Rattle.std.specs.Prelude.{ℕ, ℤ, pos, ◌==◌, nat_lt, not, cond, length, Option, Some, is_none, unwrap_or, List, [], ◌∷◌}
+use Rattle.std.specs.Prelude.{ℕ, ℤ, pos, ◌==◌, nat_lt, not, cond, length, Option, Some, is_none, unwrap_or, List, [], ◌∷◌, ◌++◌}
 use Rattle.pcl_items.specs.declared.number.Sign.{Sign}
 use Rattle.pcl_items.specs.Value.{Amount}
 use Rattle.device_profile.specs.declared.field.Field.{Field}
@@ -9,19 +9,20 @@ use Rattle.page_env.specs.declared.finding.Finding.TheVariants.{BadValue, OffPag
 use Rattle.page_env.specs.declared.page.Cursor.{Cursor}
 use Rattle.page_env.specs.Settings.{State}
 use Rattle.page_env.specs.Numbers.{is_absent, is_whole_between, whole_of}
-use Rattle.page_env.specs.Places.{unit_ticks, decipoint_ticks, times, geometry_of, column_of, column_reads, line_of, home_of, vertical_place, vertical_reads, page_reads, page_and_line_reads, target_of, is_between}
+use Rattle.page_env.specs.Places.{unit_ticks, decipoint_ticks, times, geometry_of, column_width, column_reads, line_of, home_of, vertical_place, vertical_reads, page_reads, page_and_line_reads, target_of, is_between}
+use Rattle.page_env.specs.Fonts.{no_column}
 use Rattle.page_env.specs.Effect.{Check, check, Line}
 
 -- ---- moves
 
--- a horizontal move by so many ticks, where these are whole, from the left edge of the logical page
-abbrev pub move_across : Printer → State → List Field → Sign → Option ℕ → Line
-move_across printer s reads sign by =
+-- a horizontal move by so many ticks, where these are whole, from the left edge of the logical page, behind these checks
+abbrev pub move_across : Printer → State → List Field → List Check → Sign → Option ℕ → Line
+move_across printer s reads checks sign by =
     let x : ℤ = target_of sign (pos 0) s.cursor.x (pos (unwrap_or by 0)) in
     record {
       before = [];
       reads = reads;
-      after = check (is_none by) Inexact ∷ check (not (is_between (pos 0) (geometry_of printer s).logical_width x)) OffPage ∷ [];
+      after = checks ++ check (is_none by) Inexact ∷ check (not (is_between (pos 0) (geometry_of printer s).logical_width x)) OffPage ∷ [];
       state = record s { cursor = record s.cursor { x = x } };
       marks = [];
     }
@@ -48,21 +49,21 @@ move_from_top printer s sign by = move_down printer s (relative_reads sign s.cur
 
 -- `*p#X` and `*p#Y`: PCL units
 abbrev pub move_x : Printer → State → Amount → Line
-move_x printer s n = move_across printer s page_reads n.sign (Some (unit_ticks s.settings.job.units_per_inch n))
+move_x printer s n = move_across printer s page_reads [] n.sign (Some (unit_ticks s.settings.job.units_per_inch n))
 
 abbrev pub move_y : Printer → State → Amount → Line
 move_y printer s n = move_from_top printer s n.sign (unit_ticks s.settings.job.units_per_inch n)
 
 -- `&a#H` and `&a#V`: decipoints
 abbrev pub move_x_decipoints : Printer → State → Amount → Line
-move_x_decipoints printer s n = move_across printer s page_reads n.sign (Some (decipoint_ticks n))
+move_x_decipoints printer s n = move_across printer s page_reads [] n.sign (Some (decipoint_ticks n))
 
 abbrev pub move_y_decipoints : Printer → State → Amount → Line
 move_y_decipoints printer s n = move_from_top printer s n.sign (decipoint_ticks n)
 
 -- `&a#C`: columns
 abbrev pub move_columns : Printer → State → Amount → Line
-move_columns printer s n = move_across printer s (Size ∷ Orientation ∷ column_reads s.settings.job.hmi) n.sign (times (column_of printer s) n.ten_thousandths)
+move_columns printer s n = move_across printer s (Size ∷ Orientation ∷ column_reads s.settings.job) (no_column printer s ∷ []) n.sign (times (column_width printer s) n.ten_thousandths)
 
 -- `&a#R`: rows, the first of which is the first line
 abbrev pub move_rows : Printer → State → Amount → Line

@@ -1,12 +1,13 @@
 -- Margins: top margin, text length, perforation skip, left and right margin, and their clearing (`&l#E`, `&l#F`, `&l#L`, `&a#L`, `&a#M`, `ESC 9`).
-use Rattle.std.specs.Prelude.{ℕ, ℤ, pos, ◌+◌, ◌*◌, ◌==◌, ◌||◌, not, cond, Bool, ◌+ℤ◌, int_lt, Some, None, List, [], ◌∷◌}
+use Rattle.std.specs.Prelude.{ℕ, ℤ, pos, ◌+◌, ◌*◌, ◌==◌, ◌||◌, not, cond, Bool, ◌+ℤ◌, int_lt, Some, None, List, [], ◌∷◌, ◌++◌}
 use Rattle.pcl_items.specs.Value.{Amount}
 use Rattle.device_profile.specs.declared.field.Field.TheVariants.{Size, Orientation}
 use Rattle.device_profile.specs.Printer.{Printer}
 use Rattle.page_env.specs.declared.finding.Finding.TheVariants.{BadValue, MarginIgnored}
 use Rattle.page_env.specs.Settings.{State, half_inch, with_job}
 use Rattle.page_env.specs.Numbers.{is_whole_between, is_whole_from, whole_of}
-use Rattle.page_env.specs.Places.{geometry_of, line_of, page_and_line_reads, column_of, column_reads, right_of}
+use Rattle.page_env.specs.Places.{geometry_of, line_of, page_and_line_reads, column_width, column_reads, right_of}
+use Rattle.page_env.specs.Fonts.{no_column}
 use Rattle.page_env.specs.Effect.{Check, check, Line, moving, setting}
 
 -- ---- vertical margins
@@ -60,7 +61,7 @@ set_perforation_skip s n =
 
 -- so many columns
 abbrev pub columns_of : Printer → State → ℕ → ℤ
-columns_of printer s columns = pos (column_of printer s * columns)
+columns_of printer s columns = pos (column_width printer s * columns)
 
 -- a margin is ignored where it passes the logical page, or the left one would not lie left of the right one
 abbrev pub horizontal_margin_checks : Printer → State → ℤ → ℤ → ℤ → List Check
@@ -73,8 +74,8 @@ set_left_margin printer s n =
     let left : ℤ = columns_of printer s (whole_of n) in
     record {
       before = check (not (is_whole_from 0 n)) BadValue ∷ [];
-      reads = Size ∷ Orientation ∷ column_reads s.settings.job.hmi;
-      after = horizontal_margin_checks printer s left left (right_of printer s);
+      reads = Size ∷ Orientation ∷ column_reads s.settings.job;
+      after = no_column printer s ∷ horizontal_margin_checks printer s left left (right_of printer s);
       state = record (with_job s (record s.settings.job { left_margin = left })) {
         cursor = record s.cursor { x = cond (int_lt s.cursor.x left) left s.cursor.x };
       };
@@ -87,8 +88,8 @@ set_right_margin printer s n =
     let right : ℤ = columns_of printer s (whole_of n + 1) in
     record {
       before = check (not (is_whole_from 0 n)) BadValue ∷ [];
-      reads = Size ∷ Orientation ∷ column_reads s.settings.job.hmi;
-      after = horizontal_margin_checks printer s right s.settings.job.left_margin right;
+      reads = Size ∷ Orientation ∷ column_reads s.settings.job;
+      after = no_column printer s ∷ horizontal_margin_checks printer s right s.settings.job.left_margin right;
       state = record (with_job s (record s.settings.job { right_margin = Some right })) {
         cursor = record s.cursor { x = cond (int_lt right s.cursor.x) right s.cursor.x };
       };

@@ -3,7 +3,7 @@ use Rattle.std.specs.Prelude.{ℕ, ◌==◌, nat_le, ◌&&◌, Bool, true, lengt
 use Rattle.device_profile.specs.declared.field.Field.{Field}
 use Rattle.device_profile.specs.declared.field.Field.TheVariants.{Size, Orientation, Vmi, Font, Copies, Sides, Tray}
 use Rattle.page_env.specs.declared.finding.Finding.{Finding}
-use Rattle.page_env.specs.declared.finding.Finding.TheVariants.{BadValue, NotOnDevice, Unset, OffPage, NotPrintable, StackFull, StackEmpty, EmptyRectangle, Inexact, MarginIgnored}
+use Rattle.page_env.specs.declared.finding.Finding.TheVariants.{BadValue, NotOnDevice, Unset, NoFont, NoGlyph, OffPage, PastRightMargin, NotPrintable, StackFull, StackEmpty, EmptyRectangle, Inexact, MarginIgnored}
 use Rattle.page_env.specs.Effect.{Check, Line}
 
 -- the numbers of all findings of a step, in the order in which they are reported
@@ -17,7 +17,10 @@ abbrev pub number_of : Finding → ℕ
 number_of BadValue = 10
 number_of NotOnDevice = 11
 number_of (Unset field) = 12
+number_of NoFont = 13
+number_of NoGlyph = 14
 number_of OffPage = 15
+number_of PastRightMargin = 16
 number_of NotPrintable = 17
 number_of StackFull = 18
 number_of StackEmpty = 19

@@ -1,7 +1,7 @@
 //! Cursor positioning and the cursor stack.
 #![tactic(auto, unfolding(crate::specs::Answers::CarriesOut))]
 
-ghost use Rattle.std.specs.Prelude.{cond, Some};
+ghost use Rattle.std.specs.Prelude.{cond, Some, []};
 ghost use Rattle.pcl_items.specs.Items.{amount};
 ghost use Rattle.page_env.specs.Settings.{state_at};
 ghost use Rattle.page_env.specs.Effect.{Reads};
@@ -30,7 +30,7 @@ fn move_across<A: Allocator>(
     sign: Sign,
     by: u64,
 ) -> Result<Carried, Finding>
-    ensures { Steps (λ s. move_across profile.now s page_reads sign (Some by)) page.old page.new result }
+    ensures { Steps (λ s. move_across profile.now s page_reads [] sign (Some by)) page.old page.new result }
 {
     let geometry = geometry(profile, page)?;
     let here = page.cursor.x.ticks();
@@ -80,6 +80,10 @@ pub(crate) fn move_columns<A: Allocator>(
     ensures { Steps (λ s. move_columns profile.now s (amount n)) page.old page.new result }
 {
     let (geometry, column) = geometry_and_column(profile, page)?;
+    let column = match column {
+        None => return Err(Finding::NoFont),
+        Some(column) => column,
+    };
     let by = match times(column, n.ten_thousandths) {
         None => return Err(Finding::Inexact),
         Some(by) => by,

@@ -12,7 +12,8 @@ use crate::finding::Finding;
 use crate::number::{is_whole_between, is_whole_from, whole_of};
 use crate::page::{JobSettings, Page};
 use crate::places::{
-    geometry_and_column, geometry_and_vmi, half_inch, length_at, place_between, ticks_in,
+    geometry_and_column, geometry_and_vmi, half_inch, length_at, place_between, right_margin,
+    ticks_in,
 };
 use device_profile::{Geometry, Profile};
 use pcl_items::Number;
@@ -111,16 +112,6 @@ pub(crate) fn set_perforation_skip(page: &mut Page, n: Number) -> Result<Carried
     Ok(Carried::Stepped)
 }
 
-/// The right margin.
-fn right_margin(job: &JobSettings, geometry: &Geometry) -> Length
-    ensures { result ≡ unwrap_or job.now.right_margin geometry.now.logical_width }
-{
-    match job.right_margin {
-        Some(right) => right,
-        None => geometry.logical_width,
-    }
-}
-
 /// The left margin behind so many columns, unless it is to be ignored.
 fn left_margin_behind(
     job: &JobSettings,
@@ -186,6 +177,10 @@ pub(crate) fn set_left_margin<A: Allocator>(
         return Err(Finding::BadValue);
     }
     let (geometry, column) = geometry_and_column(profile, page)?;
+    let column = match column {
+        None => return Err(Finding::NoFont),
+        Some(column) => column,
+    };
     match left_margin_behind(&page.env.job, &geometry, column, whole_of(n)) {
         None => Err(Finding::MarginIgnored),
         Some(left) => {
@@ -208,6 +203,10 @@ pub(crate) fn set_right_margin<A: Allocator>(
         return Err(Finding::BadValue);
     }
     let (geometry, column) = geometry_and_column(profile, page)?;
+    let column = match column {
+        None => return Err(Finding::NoFont),
+        Some(column) => column,
+    };
     match right_margin_behind(&page.env.job, &geometry, column, whole_of(n)) {
         None => Err(Finding::MarginIgnored),
         Some(right) => {

@@ -26,14 +26,14 @@ spells_more more here = here
 spells_more more (next {mode = Pcl} {text = text} {bytes = bytes} unit followed spells) =
     respelled (sym (append_assoc text bytes more)) (next unit tt (spells_more more spells))
 
--- the control code DEL is none
-stops_at_del : (mode : Mode) (bytes : List ℕ) (items : List Placed) (end : ℕ) → SpellsTo Pcl 0 bytes items mode end [] → Stops Pcl 0 (bytes ++ 127 ∷ []) items end (NotInProfile (names.Byte 127))
-stops_at_del Pcl bytes items end spells =
-    subst (λ all. Stops Pcl 0 (bytes ++ 127 ∷ []) all end (NotInProfile (names.Byte 127))) (append-nil items)
-    (behind_units (spells_more (127 ∷ []) spells) (whole_unit (no_byte refl (λ e. absurd (omega (arith, e))))))
+-- the byte 0 is no control code
+stops_at_null : (mode : Mode) (bytes : List ℕ) (items : List Placed) (end : ℕ) → SpellsTo Pcl 0 bytes items mode end [] → Stops Pcl 0 (bytes ++ 0 ∷ []) items end (NotInProfile (names.Byte 0))
+stops_at_null Pcl bytes items end spells =
+    subst (λ all. Stops Pcl 0 (bytes ++ 0 ∷ []) all end (NotInProfile (names.Byte 0))) (append-nil items)
+    (behind_units (spells_more (0 ∷ []) spells) (whole_unit (no_byte (omega arith) refl (λ e. absurd (omega (arith, e))))))
 
-stops_behind : (bytes : List ℕ) (items : List Placed) (place : ℕ) → IsReading bytes (Whole items place) → (end : ℕ) × IsReading (bytes ++ 127 ∷ []) (Stopped items end (NotInProfile (names.Byte 127)))
-stops_behind bytes items place whole = (whole.2.0, stops_at_del whole.0 bytes items whole.2.0 whole.2.1)
+stops_behind : (bytes : List ℕ) (items : List Placed) (place : ℕ) → IsReading bytes (Whole items place) → (end : ℕ) × IsReading (bytes ++ 0 ∷ []) (Stopped items end (NotInProfile (names.Byte 0)))
+stops_behind bytes items place whole = (whole.2.0, stops_at_null whole.0 bytes items whole.2.0 whole.2.1)
 
 -- a reading that stops is passed by no fleet
 fail_by : (wrong : Option Wrong) (items : List Placed) (place : ℕ) (cause : Cause) (events : List Event) (pages marks : ℕ) → Pass pages marks ≡ verdict_by wrong (Stopped items place cause) events → ⊥
@@ -45,12 +45,12 @@ stopped_fails fleet items place cause pages marks e =
     let runs = runs_of fleet (Stopped items place cause) in
     fail_by (first_wrong runs) items place cause (events_of (first_run runs)) pages marks e
 
-goes_wrong : (fleet : List Printer) (bytes : List ℕ) (pages marks : ℕ) (one : HasOneReading (bytes ++ 127 ∷ [])) (reading : Reading) → IsReading bytes reading → Pass pages marks ≡ verdict_of fleet reading → IsExact fleet (bytes ++ 127 ∷ []) (Pass pages marks) → ⊥
+goes_wrong : (fleet : List Printer) (bytes : List ℕ) (pages marks : ℕ) (one : HasOneReading (bytes ++ 0 ∷ [])) (reading : Reading) → IsReading bytes reading → Pass pages marks ≡ verdict_of fleet reading → IsExact fleet (bytes ++ 0 ∷ []) (Pass pages marks) → ⊥
 goes_wrong fleet bytes pages marks one (Stopped items place cause) reads e exact = stopped_fails fleet items place cause pages marks e
 goes_wrong fleet bytes pages marks one (Whole items place) reads e exact =
     let stops = stops_behind bytes items place reads in
-    let same : exact.0 ≡ Stopped items stops.0 (NotInProfile (names.Byte 127)) = one.only exact.0 exact.1 ∙ sym (one.only _ stops.1) in
-    stopped_fails fleet items stops.0 (NotInProfile (names.Byte 127)) pages marks (exact.2 ∙ ap (verdict_of fleet) same)
+    let same : exact.0 ≡ Stopped items stops.0 (NotInProfile (names.Byte 0)) = one.only exact.0 exact.1 ∙ sym (one.only _ stops.1) in
+    stopped_fails fleet items stops.0 (NotInProfile (names.Byte 0)) pages marks (exact.2 ∙ ap (verdict_of fleet) same)
 
 pub pass_is_ended : ((bytes : List ℕ) → HasOneReading bytes) → (fleet : List Printer) (old new : List (List ℕ)) (remaining : Option (List ℕ)) (pages marks : ℕ) → ByReads old new remaining (λ job. IsExact fleet job (Pass pages marks)) → HasEnd old new
 pass_is_ended one fleet old new remaining pages marks by =
@@ -59,6 +59,6 @@ pass_is_ended one fleet old new remaining pages marks by =
       | inr open_ ↦
           let bytes = open_.0 ++ [] in
           let now = by.each bytes (open_.1 []) in
-          let longer = subst (λ job. IsExact fleet job (Pass pages marks)) (ap (λ all. all ++ 127 ∷ []) (sym (append-nil open_.0))) (by.each (open_.0 ++ 127 ∷ []) (open_.1 (127 ∷ []))) in
-          absurd (goes_wrong fleet bytes pages marks (one (bytes ++ 127 ∷ [])) now.0 now.1 now.2 longer)
+          let longer = subst (λ job. IsExact fleet job (Pass pages marks)) (ap (λ all. all ++ 0 ∷ []) (sym (append-nil open_.0))) (by.each (open_.0 ++ 0 ∷ []) (open_.1 (0 ∷ []))) in
+          absurd (goes_wrong fleet bytes pages marks (one (bytes ++ 0 ∷ [])) now.0 now.1 now.2 longer)
     ]

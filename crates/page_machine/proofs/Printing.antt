@@ -1,0 +1,55 @@
+-- The printing of bytes one after another.
+use Rattle.std.proofs.Common.{◌≡◌, ◌<◌, ◌+◌, ℕ, zero, suc, List, [], ◌∷◌, take, drop, length, get_or, Result, Err, refl, ap, ◌∙◌, arith}
+use Rattle.device_profile.specs.declared.panel.Panel.{Panel}
+use Rattle.pcl_items.specs.declared.item.SimpleItem.{SimpleItem}
+use Rattle.pcl_items.specs.declared.item.SimpleItem.TheVariants as simple
+use Rattle.pcl_items.specs.declared.command.DataCommand.{DataCommand}
+use Rattle.pcl_items.specs.declared.command.DataCommand.TheVariants.{TransparentText}
+use Rattle.pcl_items.specs.Items.{WithData, simple_view}
+use Rattle.page_env.specs.declared.page.Page.{Page}
+use Rattle.page_env.specs.Settings.{State}
+use Rattle.page_machine.specs.declared.carrying.Halt.{Halt}
+use Rattle.page_machine.specs.Event.{Event}
+use Rattle.page_machine.specs.Run.{Run, followed_by, Conditions, unmoved, byte_run, printing, own_run, item_run}
+use Rattle.page_machine.specs.Follows.{Follows}
+use Rattle.page_machine.proofs.Composed.{Follows-stopped}
+
+-- an item that is neither text nor has data is its own step
+pub simple_run : (conditions : Conditions) (item : SimpleItem) (s : State) → item_run conditions (simple_view item) s ≡ own_run conditions (simple_view item) s
+simple_run conditions simple.CarriageReturn s = refl
+simple_run conditions simple.LineFeed s = refl
+simple_run conditions simple.FormFeed s = refl
+simple_run conditions simple.Reset s = refl
+simple_run conditions simple.ClearMargins s = refl
+simple_run conditions simple.HalfLineFeed s = refl
+simple_run conditions (simple.Parameterized command number) s = refl
+simple_run conditions (simple.SymbolSet set) s = refl
+simple_run conditions simple.DefaultFont s = refl
+
+-- an item with data moves nothing, and then prints them
+pub data_run : (conditions : Conditions) (command : DataCommand) (bytes : List ℕ) (s : State) → item_run conditions (WithData command bytes) s ≡ printing conditions (unmoved s) bytes
+data_run conditions TransparentText bytes s = refl
+
+-- one byte more
+printing-suc : (conditions : Conditions) (r : Run) (xs : List ℕ) (i d : ℕ) → i < length xs → printing conditions r (take (suc i) xs) ≡ followed_by (printing conditions r (take i xs)) (byte_run conditions (get_or xs i d))
+printing-suc conditions r [] i d h = absurd (omega arith)
+printing-suc conditions r (x ∷ xs) zero d h = refl
+printing-suc conditions r (x ∷ xs) (suc i) d h = printing-suc conditions (followed_by r (byte_run conditions x)) xs i d (omega arith)
+
+pub printing-next : (conditions : Conditions) (r : Run) (xs : List ℕ) (i d : ℕ) → i < length xs → printing conditions r (take (i + 1) xs) ≡ followed_by (printing conditions r (take i xs)) (byte_run conditions (get_or xs i d))
+printing-next conditions r xs i d h =
+    let one : i + 1 ≡ suc i = omega arith in
+    ap (λ n. printing conditions r (take n xs)) one ∙ printing-suc conditions r xs i d h
+
+-- the bytes before one, that one, and those behind it
+pub printing-split : (conditions : Conditions) (r : Run) (xs : List ℕ) (i d : ℕ) → i < length xs → printing conditions r xs ≡ printing conditions (followed_by (printing conditions r (take i xs)) (byte_run conditions (get_or xs i d))) (drop (suc i) xs)
+printing-split conditions r [] i d h = absurd (omega arith)
+printing-split conditions r (x ∷ xs) zero d h = refl
+printing-split conditions r (x ∷ xs) (suc i) d h = printing-split conditions (followed_by r (byte_run conditions x)) xs i d (omega arith)
+
+-- what stopped a run stops it with the bytes that would follow
+pub Follows-cut : {S : Type 0} (takes refuses : S → Event → S → Type 0) (F : Type 0) (old new : S) (page : Page) (conditions : Panel → Conditions) (run : Panel → Run) (halt : Halt F) (codes : List ℕ) → Follows takes refuses run old new page (Err halt) → Follows takes refuses (λ panel. printing (conditions panel) (run panel) codes) old new page (Err halt)
+Follows-cut takes refuses F old new page conditions run halt [] h = h
+Follows-cut takes refuses F old new page conditions run halt (code ∷ codes) h =
+    Follows-cut takes refuses F old new page conditions (λ panel. followed_by (run panel) (byte_run (conditions panel) code)) halt codes
+    (Follows-stopped takes refuses F old new page page run (λ panel. byte_run (conditions panel) code) halt h)
