@@ -117,6 +117,19 @@ def settings_of_form(number):
     yield b"\x1b&k12h%dG\x1b&a5l74M" % (number % 4)
 
 
+def text(number):
+    """60 lines of 20 to 80 characters, words and columns of numbers, as a host prints a report."""
+    for line in range(60):
+        yield line_of_text(number, line) + CR_LF
+    yield FORM_FEED
+
+
+def line_of_text(number, line):
+    """A line of so many characters, a sixth of them spaces."""
+    length = 20 + (7 * line + 11 * number) % 61
+    return bytes(32 if i % 6 == 5 else 33 + (number + line + i) % 94 for i in range(length))
+
+
 def rectangle(width, height):
     """A solid rectangle at the cursor, in PCL units."""
     return b"\x1b*c%da%db0P" % (width, height)
@@ -132,7 +145,7 @@ def to_cell(column, row):
     return b"\x1b&a%dc%dR" % (column, row)
 
 
-KINDS = {maker.__name__: maker for maker in (rectangles, lines, mix)}
+KINDS = {maker.__name__: maker for maker in (rectangles, lines, text, mix)}
 
 
 @dataclass(frozen=True)

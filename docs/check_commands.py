@@ -15,7 +15,11 @@ ROOT = Path(__file__).resolve().parent.parent
 DOCUMENT = ROOT / "docs" / "DEFINITIONS.md"
 CODES = ROOT / "crates" / "pcl_items" / "src" / "code.rt"
 COMMANDS = ROOT / "crates" / "pcl_items" / "src" / "command.rt"
+ITEMS = ROOT / "crates" / "pcl_items" / "src" / "item.rt"
 WORDS = ROOT / "crates" / "preflight" / "src" / "words.rt"
+
+# The kinds of items that stand in no table of bytes, as the table of commands writes them.
+OTHERS = {"Text": "`32` to `255`", "SymbolSet": "`ESC (#`letter", "DefaultFont": "`ESC (3@`"}
 
 # The names of the control codes, by their bytes.
 CONTROL_NAMES = (
@@ -61,7 +65,7 @@ def arms(path, head, pattern):
 def commands_of_code():
     """The commands that the lexer knows, as the first column of the table writes them."""
     literal = r"b'(\\?[^']+)'"
-    single = rf"{literal} => Some\(Item::\w+\)"
+    single = rf"{literal} => Some\(SimpleItem::\w+\)"
     commands = []
     for code in map(byte_of, arms(CODES, "pub fn control_at", single)):
         name = CONTROL_NAMES[code] if code < len(CONTROL_NAMES) else "?"
@@ -74,7 +78,25 @@ def commands_of_code():
     }
     for group, letter in arms(COMMANDS, "impl Command", rf"\(Group::(\w+), {literal}\) => Some\(Command::\w+\)"):
         commands.append(f"`ESC {groups.get(group, '?')}#{chr(byte_of(letter))}`")
-    return commands
+    for group, letter in arms(COMMANDS, "impl DataCommand", rf"\(Group::(\w+), {literal}\) => Some\(DataCommand::\w+\)"):
+        commands.append(f"`ESC {groups.get(group, '?')}#{chr(byte_of(letter))}`")
+    return commands + [others_of_code(kind) for kind in other_kinds()]
+
+
+def other_kinds():
+    """The kinds of items that stand in no table of bytes."""
+    kinds = []
+    for head in ("pub enum SimpleItem", "pub enum Item<'a>"):
+        kinds += re.findall(r"^    (\w+)(?:\(.*\))?,$", block(ITEMS, head), re.MULTILINE)
+    in_tables = re.findall(r"SimpleItem::(\w+)", CODES.read_text(encoding="utf-8"))
+    return [kind for kind in kinds if kind not in in_tables + ["Parameterized", "Simple", "WithData"]]
+
+
+def others_of_code(kind):
+    """Such a kind, as the first column of the table writes it."""
+    if kind not in OTHERS:
+        raise Unreadable(f"{ITEMS.relative_to(ROOT)}: this script does not know the kind of item `{kind}`")
+    return OTHERS[kind]
 
 
 def findings_of_code():
