@@ -18,3 +18,4 @@ pub mod Sound
 pub mod TextLaws
 pub mod Valid
 pub mod ValueLemmas
+mod SameRanges

@@ -1,8 +1,6 @@
 -- What a valid printer has.
-use Rattle.std.proofs.Common.{◌≡◌, ℕ, ◌==◌, ◌<◌, ◌&&◌, Bool, not, List, [], ◌∷◌, length, get_or, IsTrue, IsSome, IsSomeAnd, Contains, Any, find, IfSome, Option, None, Some, pos, ◌<ℤ◌, int_lt, int_le, inl, inr, nat_le, rules, arith, refl, sym, ap, ◌∙◌}
+use Rattle.std.proofs.Common.{◌≡◌, ℕ, ◌==◌, ◌<◌, ◌&&◌, Bool, not, List, [], ◌∷◌, length, get_or, IsTrue, IsSome, IsSomeAnd, Contains, Any, find, IfSome, Option, None, Some, inl, inr, nat_le, rules, arith, refl, sym, ap, ◌∙◌}
 use Rattle.std.specs.List.{list_all, list_any}
-use Rattle.std.specs.Option.{option_map_or}
-use Rattle.std.proofs.lemmas.Int.{ints}
 use Rattle.std.proofs.lemmas.Bool.{and_parts, or_cases, both_ways, false≢true, leb-true, cond_both, eqb-true}
 use Rattle.std.proofs.lemmas.List.{get_or_read}
 use Rattle.std.proofs.lemmas.List.Elements.{All-contains}
@@ -12,10 +10,10 @@ use Rattle.device_profile.specs.declared.geometry.Geometry.{Geometry}
 use Rattle.device_profile.specs.declared.panel.Panel.{Panel}
 use Rattle.device_profile.specs.declared.field.Field.{Field}
 use Rattle.device_profile.specs.declared.field.Field.TheVariants.{Size, Orientation, Vmi, Font, Copies, Sides, Tray}
-use Rattle.device_profile.specs.Faces.{Face, face_at, face_for, advance_at, has_face, has_metrics, is_face, are_ranges_from, is_same_request}
+use Rattle.device_profile.specs.Faces.{Face, face_at, face_for, has_face, has_metrics, is_face, are_ranges_from, is_same_request}
 use Rattle.device_profile.specs.declared.font.FontRequest.{FontRequest}
 use Rattle.device_profile.specs.Values.{is_between, is_value, are_values, are_choices, has_repeat}
-use Rattle.device_profile.specs.Printer.{Printer, is_valid, values_of, has_row, has_every_pair, has_size, has_orientation, has_tray, row_at, fits_page, is_page, first_panel, IsAllowed, HasPages, HasFaces, HasAdvances, HasTrays}
+use Rattle.device_profile.specs.Printer.{Printer, is_valid, values_of, has_row, has_every_pair, has_size, has_orientation, has_tray, row_at, fits_page, is_page, first_panel, IsAllowed, HasPages, HasFaces, HasTrays}
 
 -- an element of a list whose elements all pass
 passes-at : {X : Type 0} (p : X → Bool) (xs : List X) (x : X) → IsTrue (list_all p xs) → Contains xs x → IsTrue (p x)
@@ -236,15 +234,3 @@ HasFaces-valid printer valid panel allowed =
     (IsSome-find (λ (face : Face). face.id == panel.font) printer.faces
     (passes-at (λ font. has_face printer.faces font) printer.fonts panel.font ((valid_parts printer valid).faced) allowed.font))
     (IfSome-face_at printer panel.font valid)
-
-ahead : (found : Option Face) → IsSomeAnd found (λ face. IsTrue (has_metrics face)) → pos 0 <ℤ option_map_or (λ face. face.advance) found (pos 0)
-ahead None metrics = absurd metrics
-ahead (Some face) metrics =
-    let reach = and_parts (int_lt (pos 0) face.advance && int_le (pos 0) face.ascent) (int_le (pos 0) face.descent) metrics in
-    let positive : IsTrue (int_lt (pos 0) face.advance) = (and_parts (int_lt (pos 0) face.advance) (int_le (pos 0) face.ascent) reach.0).0 in
-    grind (arith, ints)
-
--- such a face moves the cursor ahead
-pub HasAdvances-faces : (printer : Printer) → HasFaces printer → HasAdvances printer
-unfolding advance_at
-HasAdvances-faces printer faces panel allowed = ahead (face_at printer.faces panel.font) (faces panel allowed)

@@ -1,8 +1,7 @@
 -- The rows in which resident faces are described.
-use Rattle.std.specs.Prelude.{ℕ, ℤ, pos, ◌+◌, List, [], ◌∷◌, length, Bool, true, not, ◌&&◌, ◌==◌, Option, find, nat_le, int_lt, int_le}
+use Rattle.std.specs.Prelude.{ℕ, ℤ, pos, ◌+◌, List, [], ◌∷◌, length, Bool, true, not, ◌&&◌, ◌||◌, ◌==◌, Option, find, nat_le, int_lt, int_le}
 use Rattle.std.specs.Ordering.{int_eq}
 use Rattle.std.specs.List.{list_all, list_any}
-use Rattle.std.specs.Option.{option_map_or}
 use Rattle.device_profile.specs.declared.font.CodeRange.{CodeRange}
 use Rattle.device_profile.specs.declared.font.FontRequest.{FontRequest}
 use Rattle.device_profile.specs.declared.field.Field.TheVariants.{Font}
@@ -33,10 +32,6 @@ face_for faces request = find (λ face. is_same_request face.request request) fa
 -- the face of an id
 unfoldable pub face_at : List Face → ℕ → Option Face
 face_at faces id = find (λ face. face.id == id) faces
-
--- how far a character of the face with this id moves the cursor: nowhere, where no face has the id
-unfoldable pub advance_at : List Face → ℕ → ℤ
-advance_at faces id = option_map_or (λ face. face.advance) (face_at faces id) (pos 0)
 
 -- whether some face has this id
 unfoldable pub has_face : List Face → ℕ → Bool
@@ -74,3 +69,7 @@ are_faces faces =
 -- whether a code prints
 abbrev pub has_code : List CodeRange → ℕ → Bool
 has_code ranges code = list_any (λ range. nat_le range.first code && nat_le code range.last) ranges
+
+-- whether a byte of text can go in a face with these codes: it is no control code, and is a space or prints
+abbrev pub is_text_of : List CodeRange → ℕ → Bool
+is_text_of ranges code = nat_le 32 code && (code == 32 || has_code ranges code)

@@ -1,11 +1,11 @@
 -- What contracts know of a printer.
-use Rattle.std.specs.Prelude.{ℕ, ◌==◌, ◌&&◌, ◌||◌, nat_le, Bool, not, IsTrue, IsSome, IsSomeAnd, List, length, slice_index, Option, find, unwrap_or, Contains, pos, ◌+ℤ◌, ◌<ℤ◌, int_lt, int_le}
+use Rattle.std.specs.Prelude.{ℕ, ◌==◌, ◌&&◌, ◌||◌, nat_le, Bool, not, IsTrue, IsSome, IsSomeAnd, List, length, slice_index, Option, find, unwrap_or, Contains, pos, ◌+ℤ◌, int_lt, int_le}
 use Rattle.std.specs.List.{list_all, list_any}
 use Rattle.device_profile.specs.declared.field.Field.{Field}
 use Rattle.device_profile.specs.declared.field.Field.TheVariants.{Size, Orientation, Vmi, Font, Copies, Sides, Tray}
 use Rattle.device_profile.specs.declared.geometry.Geometry.{Geometry}
 use Rattle.device_profile.specs.declared.panel.Panel.{Panel}
-use Rattle.device_profile.specs.Faces.{Face, face_at, advance_at, has_face, has_metrics, are_faces}
+use Rattle.device_profile.specs.Faces.{Face, face_at, has_face, has_metrics, are_faces}
 use Rattle.device_profile.specs.Rows.{has_alike}
 use Rattle.device_profile.specs.Values.{is_value, are_choices}
 
@@ -98,10 +98,6 @@ HasPages printer = (panel : Panel) → IsAllowed printer panel → IsSome (row_a
 -- each panel that the printer may have has a face, with its metrics
 abbrev pub HasFaces : Printer → Type 0
 HasFaces printer = (panel : Panel) → IsAllowed printer panel → IsSomeAnd (face_at printer.faces panel.font) (λ face. IsTrue (has_metrics face))
-
--- the face of each panel that the printer may have moves the cursor ahead
-abbrev pub HasAdvances : Printer → Type 0
-HasAdvances printer = (panel : Panel) → IsAllowed printer panel → pos 0 <ℤ advance_at printer.faces panel.font
 
 -- each field of the panel has 1 to 16 of its values, and the device 1 to 16 trays, none twice
 abbrev pub has_choices : Printer → Bool

@@ -7,7 +7,7 @@ ghost use Rattle.device_profile.specs.Words.{words_of};
 
 use crate::code_ranges::code_ranges;
 use crate::fault::{Cause, LineFault};
-use crate::font::{CodeRange, FontRequest, FontRow, SymbolSet, is_same_request};
+use crate::font::{CodeRange, FontRequest, FontRow, SymbolSet, codes_in, is_same_request, text_in};
 use crate::rows::has_face;
 use crate::scan::{amount, number};
 use crate::values::count_words;
@@ -104,6 +104,8 @@ fn face_with_codes<A: Allocator>(words: &[u8], codes: Vec<CodeRange, A>) -> Opti
         advance: length_between(nth_word(words, 7), 1, MOST_ADVANCE)?,
         ascent: length_between(nth_word(words, 8), 0, MOST_HEIGHT)?,
         descent: length_between(nth_word(words, 9), 0, MOST_HEIGHT)?,
+        prints: codes_in(&codes),
+        text: text_in(&codes),
         codes,
     })
 }

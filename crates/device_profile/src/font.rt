@@ -1,6 +1,6 @@
 //! Resident faces, and what a job asks of one.
-ghost use Rattle.std.specs.Prelude.{◌≡◌};
-ghost use Rattle.device_profile.specs.Faces.{is_same_request};
+ghost use Rattle.std.specs.Prelude.{◌≡◌, ◌<◌, ℕ, get_or, false, IsTrue};
+ghost use Rattle.device_profile.specs.Faces.{is_same_request, has_code, is_text_of};
 
 use std::alloc::{Allocator, Global};
 use std::marker::Model;
@@ -55,6 +55,10 @@ pub struct FontRow<A: Allocator = Global> {
     pub(crate) ascent: Length,
     pub(crate) descent: Length,
     pub(crate) codes: Vec<CodeRange, A>,
+    /// For each code whether it prints.
+    pub(crate) prints: [bool; 256],
+    /// For each code whether it is text of this face: one that prints, from 32 on, or a space.
+    pub(crate) text: [bool; 256],
 }
 
 impl<A: Allocator> Model for FontRow<A> {
@@ -71,7 +75,7 @@ impl<A: Allocator> Model for FontRow<A> {
 
 impl<A: Allocator> FontRow<A> {
     ghost use Rattle.std.specs.Prelude.{◌≡◌, pos, ◌<ℤ◌, ◌≤ℤ◌};
-    ghost use Rattle.device_profile.specs.Faces.{has_code};
+    ghost use Rattle.device_profile.specs.Faces.{has_code, is_text_of};
 
     /// The number by which the panel names the face.
     pub fn id(&self) -> u32
@@ -111,14 +115,65 @@ impl<A: Allocator> FontRow<A> {
         self.descent
     }
 
+    /// The codes that print, in ranges.
+    pub fn codes(&self) -> &[CodeRange]
+        ensures { result.now ≡ self.now.codes }
+    {
+        &self.codes
+    }
+
     /// Whether a code prints.
     pub fn has_code(&self, code: u8) -> bool
         ensures { result ≡ has_code self.now.codes code }
     {
-        self.codes
-            .iter()
-            .any(|range| range.first <= code && code <= range.last)
+        self.prints[usize::from(code)]
     }
+
+    /// Whether a byte of text can go in this face: it is a space, or its code prints.
+    #[inline]
+    pub fn is_text(&self, code: u8) -> bool
+        ensures { result ≡ is_text_of self.now.codes code }
+    {
+        self.text[usize::from(code)]
+    }
+}
+
+/// Whether the ranges are the same, one by one.
+pub fn are_same_ranges(a: &[CodeRange], b: &[CodeRange]) -> bool
+    ensures { IsTrue result → a.now ≡ b.now }
+{
+    a == b
+}
+
+/// Whether a code is in one of the ranges.
+fn is_in(ranges: &[CodeRange], code: u8) -> bool
+    ensures { result ≡ has_code ranges.now code }
+{
+    ranges
+        .iter()
+        .any(|range| range.first <= code && code <= range.last)
+}
+
+/// For each code whether it is in one of the ranges.
+pub(crate) fn codes_in(ranges: &[CodeRange]) -> [bool; 256]
+    ensures { (code : ℕ) → code < 256 → get_or result code false ≡ has_code ranges.now code }
+{
+    let mut codes = [false; 256];
+    for code in 0..256usize {
+        codes[code] = is_in(ranges, code as u8);
+    }
+    codes
+}
+
+/// For each code whether it is a byte of text in a face with these ranges.
+pub(crate) fn text_in(ranges: &[CodeRange]) -> [bool; 256]
+    ensures { (code : ℕ) → code < 256 → get_or result code false ≡ is_text_of ranges.now code }
+{
+    let mut codes = [false; 256];
+    for code in 0..256usize {
+        codes[code] = code >= 32 && (code == 32 || is_in(ranges, code as u8));
+    }
+    codes
 }
 
 /// Whether the two ask for the same in all seven parts.

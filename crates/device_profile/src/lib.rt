@@ -23,7 +23,7 @@ mod words;
 
 pub use fault::{Cause, ProfileFault};
 pub use field::Field;
-pub use font::{CodeRange, FontRequest, FontRow, SymbolSet};
+pub use font::{CodeRange, FontRequest, FontRow, SymbolSet, are_same_ranges};
 pub use geometry::Geometry;
 pub use panel::Panel;
 pub use profile::Profile;

@@ -45,9 +45,9 @@ impl<A: Allocator> Model for Profile<A> {
 
 impl<A: Allocator> Profile<A> {
     ghost use Rattle.std.specs.Prelude.{◌≡◌, IsTrue, IfSome, pos, ◌≤ℤ◌};
-    ghost use Rattle.device_profile.specs.Printer.{values_of, row_at, geometry_at, has_size, has_orientation, first_panel, has_tray, IsAllowed, HasPages, HasFaces, HasAdvances, HasTrays, has_every_pair, fits_page};
+    ghost use Rattle.device_profile.specs.Printer.{values_of, row_at, geometry_at, has_size, has_orientation, first_panel, has_tray, IsAllowed, HasPages, HasFaces, HasTrays, has_every_pair, fits_page};
     ghost use Rattle.std.specs.Option.{option_copied};
-    ghost use Rattle.device_profile.specs.Faces.{face_at, face_for, advance_at, has_metrics};
+    ghost use Rattle.device_profile.specs.Faces.{face_at, face_for, has_metrics};
 
     /// The page of a size and an orientation.
     pub fn geometry(&self, size: u32, orientation: u32) -> Option<Geometry>
@@ -93,20 +93,6 @@ impl<A: Allocator> Profile<A> {
         ensures allowed { HasFaces self.now }
     {
         self.faces.iter().find(|face| face.id() == id)
-    }
-
-    /// How far a character of the face with this id moves the cursor: nowhere, where no face has the id.
-    #[tactic(auto, unfolding(crate::specs::Faces::advance_at))]
-    pub fn advance(&self, id: u32) -> Length
-        ensures value { result ≡ advance_at self.now.faces id }
-        ensures not_negative { pos 0 ≤ℤ result }
-        // The face of each panel that the printer may have moves it ahead.
-        ensures allowed { HasAdvances self.now }
-    {
-        match self.face(id) {
-            Some(face) => face.advance(),
-            None => Length::ZERO,
-        }
     }
 
     /// The face that a request selects: the one of these seven parts.

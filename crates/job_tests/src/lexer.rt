@@ -47,8 +47,8 @@ impl Wanted {
                 Item::Simple(SimpleItem::Parameterized(sent, number)),
             ) => { sent == command && number == whole(sign, units) }
             (Wanted::Text(code), Item::Text(byte)) => byte.code == code,
-            (Wanted::Set(units, letter), Item::Simple(SimpleItem::SymbolSet(set))) => {
-                set.number == whole(PLAIN, units) && set.letter == letter
+            (Wanted::Set(units, letter), Item::Simple(SimpleItem::SymbolSet(set, number))) => {
+                number == whole(PLAIN, units) && set.code == letter
             }
             (Wanted::Data(bytes), Item::WithData(DataCommand::TransparentText, data)) => {
                 data.bytes == bytes

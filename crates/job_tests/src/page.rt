@@ -147,7 +147,7 @@ fn carry_out_all(
             let Item::Simple(item) = item.as_item() else {
                 continue;
             };
-            match carry_out(profile, page, item) {
+            match carry_out(profile, page, &item) {
                 Ok(Carried::Stepped) => {}
                 other => return other,
             }

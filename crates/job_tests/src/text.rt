@@ -113,6 +113,7 @@ fn text_for_one_printer(rt: HostRuntime) -> Result<(), Fail> {
 
 const FLEETS: &[(&[Printer], &[u8], Expected)] = &[
     (&[B, B], b"\x1bEA", Pass(1, 1)),
+    (&[B, B, B], b"\x1bEone line of text", Pass(1, 13)),
     // The panel's font of another advance: another box.
     (&[B, D], b"\x1bEA", Differs(2, 2)),
     (&[B, D], b"\x1bE ", Pass(0, 0)),

@@ -1,6 +1,6 @@
 -- A printer that has every pair of a size and an orientation has the page to which a size or an orientation leads.
 use Rattle.std.proofs.Common.{◌≡◌, ℕ, ◌==◌, ◌&&◌, Bool, true, false, not, cond, List, [], ◌∷◌, IsTrue, IsSome, Any, Option, find, Some, None, inl, inr, refl, subst}
-use Rattle.std.specs.Prelude.{nat_lt, ◌||◌}
+use Rattle.std.specs.Prelude.{◌||◌}
 use Rattle.std.specs.List.{list_all, list_any}
 use Rattle.std.proofs.lemmas.Bool.{and_parts, or_cases, both_ways, cond_both, eqb-true, false≢true}
 use Rattle.std.proofs.lemmas.List.Elements.{All-contains}

@@ -1,5 +1,5 @@
 -- Facts of text.
-use Rattle.std.proofs.Common.{◌≡◌, ◌==◌, ℕ, Bool, true, false, not, cond, List, [], ◌∷◌, None, Some, Option, refl}
+use Rattle.std.proofs.Common.{◌≡◌, ◌==◌, ℕ, Bool, true, false, not, [], ◌∷◌, None, Some, Option, refl}
 use Rattle.std.specs.Prelude.{◌&&◌, int_lt}
 use Rattle.std.specs.Option.{option_map_or}
 use Rattle.device_profile.specs.declared.geometry.Geometry.{Geometry}
@@ -11,7 +11,7 @@ use Rattle.page_env.specs.Settings.{State}
 use Rattle.page_env.specs.FontInForce.{face_of}
 use Rattle.page_env.specs.Mark.{Character, is_inside}
 use Rattle.page_env.specs.Places.{geometry_of, right_of}
-use Rattle.page_env.specs.Effect.{Check, check, first_finding}
+use Rattle.page_env.specs.Effect.{check, first_finding}
 use Rattle.page_env.specs.Order.{rank_of, rises, ranks}
 use Rattle.page_env.specs.Text.{behind_of, glyph_of, checks_of, character, space, transparent_space, print_byte, print_transparent}
 use Rattle.page_env.specs.Sound.{plain_state, AreInside, IsSound, IsSoundByte}

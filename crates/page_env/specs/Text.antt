@@ -13,7 +13,7 @@ use Rattle.page_env.specs.Settings.{State}
 use Rattle.page_env.specs.FontInForce.{request_of, face_of, font_reads}
 use Rattle.page_env.specs.Fonts.{no_font, no_column}
 use Rattle.page_env.specs.Places.{geometry_of, column_width, column_reads, right_of, vertical_place, vertical_reads}
-use Rattle.page_env.specs.Mark.{Shape, Character, is_inside}
+use Rattle.page_env.specs.Mark.{Character, is_inside}
 use Rattle.page_env.specs.Effect.{Check, check, Line}
 
 -- A character that begins left of the right margin may not lead past it, and another one not past the logical page.

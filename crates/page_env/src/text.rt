@@ -36,8 +36,9 @@ fn space_place<A: Allocator>(
 }
 
 /// The page in force, the vertical place of the cursor, and the font request.
+#[inline(always)]
 #[tactic(auto, unfolding(crate::specs::Text::text_reads))]
-fn character_place<A: Allocator>(
+pub(crate) fn character_place<A: Allocator>(
     profile: &Profile<A>,
     page: &Page,
 ) -> Result<(Geometry, VerticalPlace, FontRequest), Field>
@@ -125,7 +126,9 @@ fn baseline(top: Length, bottom: Length, ascent: Length, descent: Length) -> Len
 }
 
 /// A character of a face with its reference point at a place of the logical page, if it lies within the printable area.
-fn glyph_inside<A: Allocator>(
+// Inlined, so that nothing is put together that the caller takes apart.
+#[inline(always)]
+pub(crate) fn glyph_inside<A: Allocator>(
     geometry: &Geometry,
     face: &FontRow<A>,
     x: Length,

@@ -1,5 +1,5 @@
 -- The printing of bytes one after another.
-use Rattle.std.proofs.Common.{◌≡◌, ◌<◌, ◌+◌, ℕ, zero, suc, List, [], ◌∷◌, take, drop, length, get_or, Result, Err, refl, ap, ◌∙◌, arith}
+use Rattle.std.proofs.Common.{◌≡◌, ◌<◌, ◌+◌, ℕ, zero, suc, List, [], ◌∷◌, take, drop, length, get_or, Err, refl, ap, ◌∙◌, arith}
 use Rattle.device_profile.specs.declared.panel.Panel.{Panel}
 use Rattle.pcl_items.specs.declared.item.SimpleItem.{SimpleItem}
 use Rattle.pcl_items.specs.declared.item.SimpleItem.TheVariants as simple
@@ -23,7 +23,7 @@ simple_run conditions simple.Reset s = refl
 simple_run conditions simple.ClearMargins s = refl
 simple_run conditions simple.HalfLineFeed s = refl
 simple_run conditions (simple.Parameterized command number) s = refl
-simple_run conditions (simple.SymbolSet set) s = refl
+simple_run conditions (simple.SymbolSet letter number) s = refl
 simple_run conditions simple.DefaultFont s = refl
 
 -- an item with data moves nothing, and then prints them

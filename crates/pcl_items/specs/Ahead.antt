@@ -10,9 +10,9 @@ use Rattle.pcl_items.specs.Items.{view}
 use Rattle.pcl_items.specs.Reader.{Open, Begins, first_of}
 use Rattle.pcl_items.specs.Fault.{IsFault}
 
--- an item of one byte stands first
-abbrev pub IsByte : Item → Context → List ℕ → Type 0
-IsByte item context bytes = (context ≡ Pcl) × ((whole : Bool) → first_of whole context bytes ≡ Begins (view item) 1 Pcl) × (1 ≤ length bytes)
+-- an item of one byte stands first, between units
+abbrev pub IsByte : Item → List ℕ → Type 0
+IsByte item bytes = ((whole : Bool) → first_of whole Pcl bytes ≡ Begins (view item) 1 Pcl) × (1 ≤ length bytes)
 
 -- the answer where the bytes that are left decide nothing
 abbrev pub IsUndecided : Bool → Context → ℕ → List ℕ → Result Lexed LexFault → Type 0

@@ -4,6 +4,8 @@ ghost use Rattle.std.specs.Prelude.{◌≡◌, ◌+◌, ◌<◌, ◌≤◌, ◌-
 ghost use Rattle.pcl_items.specs.Reader.{first_of};
 ghost use Rattle.pcl_items.specs.FirstView.{first_view, Within};
 ghost use Rattle.pcl_items.specs.Ahead.{IsByte, IsUndecided};
+ghost use Rattle.pcl_items.specs.ReadCommands.{IsAhead};
+ghost use Rattle.pcl_items.specs.Passing.{ahead_in};
 
 use crate::code::control_at;
 use crate::fault::{Cause, LexFault};
@@ -11,33 +13,57 @@ use crate::first::{Context, First, first_in};
 use crate::item::{Data, Item, Place, TextByte};
 use crate::lexer::Lexed;
 use crate::number::DataCount;
+use crate::parameterized::{ReadCommand, parameterized_in};
 
-/// The item of the byte at `start` of the window, where it is one by itself: text, or a control code.
-#[inline]
-pub fn byte_ahead(context: Context, start: usize, window: &[u8]) -> Option<Item<'static>>
+/// The item of the byte at `start` of the window, where it is one by itself between units: text, or a control code.
+#[inline(always)]
+pub fn byte_ahead(start: usize, window: &[u8]) -> Option<Item<'static>>
     requires { start ≤ length window.now }
-    ensures { IfSome result (λ item. IsByte item context (drop start window.now)) }
+    ensures { IfSome result (λ item. IsByte item (drop start window.now)) }
 {
-    byte_in(context, &window[start..])
+    byte_in(&window[start..])
 }
 
-#[inline]
+#[inline(always)]
 #[tactic(auto, unfolding(crate::specs::Reader::first_of))]
-fn byte_in(context: Context, bytes: &[u8]) -> Option<Item<'static>>
-    ensures { IfSome result (λ item. IsByte item context bytes.now) }
+fn byte_in(bytes: &[u8]) -> Option<Item<'static>>
+    ensures { IfSome result (λ item. IsByte item bytes.now) }
 {
-    match (context, bytes) {
-        (Context::Pcl, [code @ 32..=255, ..]) => Some(Item::Text(TextByte { code: *code })),
-        (Context::Pcl, [code, ..]) => match control_at(*code) {
+    match bytes {
+        [code @ 32..=255, ..] => Some(Item::Text(TextByte { code: *code })),
+        [code, ..] => match control_at(*code) {
             Some(item) => Some(Item::Simple(item)),
             None => None,
         },
-        _ => None,
+        [] => None,
     }
 }
 
-/// What stands first at `start` of the window.
+/// The bytes from `start` on, where an item may begin between units; else none.
+#[inline]
+pub fn bytes_ahead(context: Context, start: usize, window: &[u8]) -> &[u8]
+    requires { start ≤ length window.now }
+    ensures { result.now ≡ ahead_in context (drop start window.now) }
+{
+    match context {
+        Context::Pcl => &window[start..],
+        Context::Sequence(_) => &[],
+    }
+}
+
+/// The parameterized command at `start` of the window, unless something else stands there.
 #[inline(always)]
+pub fn command_ahead(context: Context, start: usize, window: &[u8]) -> Option<ReadCommand>
+    requires inside { start ≤ length window.now }
+    requires short { length window.now ≤ 2 ^ 62 }
+    ensures { IfSome result (λ read. IsAhead read context (drop start window.now)) }
+{
+    parameterized_in(context, &window[start..])
+}
+
+/// What stands first at `start` of the window.
+// It is asked where no usual item stands, and is not to crowd the code of those that do.
+#[inline(never)]
 pub fn first_ahead(context: Context, start: usize, window: &[u8]) -> First
     requires inside { start ≤ length window.now }
     requires short { length window.now ≤ 2 ^ 62 }
@@ -59,6 +85,7 @@ pub fn data_before(count: DataCount, end: usize, window: &[u8]) -> Data<'_>
 }
 
 /// The answer where the bytes from `start` on decide nothing.
+#[inline(always)]
 pub fn undecided(
     ended: bool,
     context: Context,

@@ -2,4 +2,5 @@
 -- none of it.
 pub mod Each
 pub mod Lockstep
+pub mod TextInStep
 pub mod Checking

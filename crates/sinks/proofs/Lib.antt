@@ -1,1 +1,2 @@
 pub mod Recording
+mod Counting

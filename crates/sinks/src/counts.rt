@@ -1,7 +1,9 @@
 //! Counts the pages and marks of a run.
 
-ghost use Rattle.std.specs.Prelude.{◌≡◌};
-ghost use Rattle.sinks.specs.Counts.{counted, no_counts};
+ghost use Rattle.std.specs.Prelude.{◌≡◌, List, length, map};
+ghost use Rattle.page_env.specs.Mark.{Shape};
+ghost use Rattle.page_machine.specs.Event.{Marked};
+ghost use Rattle.sinks.specs.Counts.{counted, counts_after, no_counts};
 
 use page_env::{Mark, PageEnd};
 use page_machine::MarkSink;
@@ -20,6 +22,13 @@ impl Counts {
         ensures { result ≡ no_counts }
     {
         Counts { pages: 0, marks: 0 }
+    }
+
+    /// Counts so many marks, as if they were handed over one after another.
+    pub fn add_marks(&mut self, marks: u64)
+        ensures { (shapes : List Shape) → length shapes ≡ marks → self.new ≡ counts_after (map Marked shapes) self.old }
+    {
+        self.marks = self.marks.saturating_add(marks);
     }
 }
 

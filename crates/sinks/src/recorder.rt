@@ -1,7 +1,10 @@
 //! Keeps the events of a run.
 
-ghost use Rattle.std.specs.Prelude.{◌≡◌, [], map};
+ghost use Rattle.std.specs.Prelude.{◌≡◌, List, [], length, map};
+ghost use Rattle.page_env.specs.Mark.{Shape};
+ghost use Rattle.page_machine.specs.Event.{Marked};
 ghost use Rattle.page_machine.specs.Owned.{event_of};
+ghost use Rattle.sinks.specs.Counts.{counts_after};
 ghost use Rattle.sinks.specs.Recorder.{nothing_recorded, recorded};
 
 use crate::counts::Counts;
@@ -54,6 +57,13 @@ impl<A: Allocator + Copy> Recorder<A> {
         ensures { result ≡ self.now.counts }
     {
         self.counts
+    }
+
+    /// Counts so many marks, as if they were handed over one after another and then forgotten.
+    pub fn add_marks(&mut self, marks: u64)
+        ensures { (shapes : List Shape) → length shapes ≡ marks → self.new ≡ record self.old { counts = counts_after (map Marked shapes) self.old.counts } }
+    {
+        self.counts.add_marks(marks);
     }
 
     /// Forgets the events; the counts go on.

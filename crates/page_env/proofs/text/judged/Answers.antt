@@ -1,10 +1,8 @@
 use Rattle.std.proofs.Common.{rules, ◌≡◌, true, Bool, not, pos, ◌+ℤ◌, ℤ, None, Some, unwrap_or, cond}
 use Rattle.std.specs.Prelude.{◌&&◌, int_lt}
 use Rattle.device_profile.specs.Faces.{has_code}
-use Rattle.page_env.specs.declared.finding.Finding.TheVariants.{NoGlyph, OffPage, PastRightMargin, NotPrintable}
-use Rattle.page_env.specs.Mark.{is_inside}
+use Rattle.page_env.specs.declared.finding.Finding.TheVariants.{NoGlyph, OffPage, PastRightMargin}
 use Rattle.page_env.specs.Places.{column_with}
-use Rattle.page_env.specs.Text.{character_box}
 use Rattle.page_env.proofs.TextJudging.{found_at_edge}
 use Rattle.page_env.proofs.text.judged.Goals as goal
 

@@ -12,7 +12,7 @@ pub returns : goal.returns
 unfolding CarriesOut
 returns g c =
     Follows-is _ _ _ _ _ _ _ _ _
-    (λ panel. simple_run (in_job c.args.profile.now (settings_at panel c.args.defaults.now)) c.args.item (state_at panel c.args.page.now))
+    (λ panel. simple_run (in_job c.args.profile.now (settings_at panel c.args.defaults.now)) c.args.item.now (state_at panel c.args.page.now))
     (c.go_on.ensures
-    (λ panel. effect_of (settings_at panel c.args.page.now.env) (transition_of c.args.profile.now (settings_at panel c.args.defaults.now) (state_at panel c.args.page.now) (simple_view c.args.item)))
+    (λ panel. effect_of (settings_at panel c.args.page.now.env) (transition_of c.args.profile.now (settings_at panel c.args.defaults.now) (state_at panel c.args.page.now) (simple_view c.args.item.now)))
     (λ panel. c.carry_out-carried.ensures panel (settings_at panel c.args.defaults.now)))

@@ -12,7 +12,7 @@ pub returns-then-not-is_point_at-clause-number : goal.returns-then-not-is_point_
 returns-then-not-is_point_at-clause-number c =
     let sign = c.leading_sign-sign.ensures in
     let whole = c.leading_digits-whole.ensures in
-    c.limited.ensures ∙ (without_point c.args.bytes.now _ _ _ _ sign.sign sign.len whole.len whole.number (sym c.is_point_at.ensures.point ∙ c.if-not-is_point_at.true)).number_is
+    (without_point c.args.bytes.now _ _ _ _ sign.sign sign.len whole.len whole.number (sym c.is_point_at.ensures.point ∙ c.if-not-is_point_at.true)).number_is
 
 pub returns-then-decimals-clause-len : goal.returns-then-decimals-clause-len
 returns-then-decimals-clause-len c =
@@ -26,7 +26,7 @@ returns-then-decimals-clause-number c =
     let sign = c.leading_sign-sign.ensures in
     let whole = c.leading_digits-whole.ensures in
     let decimals = c.leading_decimals-decimals.ensures in
-    c.limited-then-decimals.ensures ∙ (with_point c.args.bytes.now _ _ _ _ _ _ _ sign.sign sign.len whole.len whole.number (sym c.is_point_at.ensures.point ∙ c.if-not-is_point_at.false) decimals.len decimals.value (sym c.if-decimals.true ∙ decimals.exact)).number_is
+    (with_point c.args.bytes.now _ _ _ _ _ _ _ sign.sign sign.len whole.len whole.number (sym c.is_point_at.ensures.point ∙ c.if-not-is_point_at.false) decimals.len decimals.value (sym c.if-decimals.true ∙ decimals.exact)).number_is
 
 pub returns-else-decimals-clause-len : goal.returns-else-decimals-clause-len
 returns-else-decimals-clause-len c =

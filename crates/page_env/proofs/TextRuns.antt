@@ -1,0 +1,123 @@
+-- Columns that meet no edge, and the bytes that go in them.
+use Rattle.std.proofs.Common.{◌≡◌, ℕ, zero, suc, ℤ, pos, ◌+◌, ◌*◌, ◌≤◌, Bool, true, false, not, ◌&&◌, ◌||◌, cond, None, Some, refl, sym, subst, arith}
+use Rattle.std.specs.Prelude.{◌+ℤ◌, ◌-ℤ◌, ◌≤ℤ◌, int_lt}
+use Rattle.std.proofs.Math.Nat.{suc-mul}
+use Rattle.std.proofs.lemmas.Int.{ints}
+use Rattle.std.proofs.lemmas.Bool.{and_parts, cond_both}
+use Rattle.tick_length.specs.Length.{IsInRange}
+use Rattle.page_env.specs.declared.finding.Finding.TheVariants.{OffPage, PastRightMargin}
+use Rattle.page_env.specs.Places.{is_between}
+use Rattle.page_env.specs.Mark.{is_inside}
+use Rattle.page_env.specs.Effect.{first_finding}
+use Rattle.page_env.specs.Text.{edge_checks}
+use Rattle.page_env.specs.TextMeasure.{TextMeasure, HasColumn, HasColumns, box_at, edge_from}
+
+-- ---- between two bounds
+
+between_low : (low high z : ℤ) → is_between low high z ≡ true → low ≤ℤ z
+unfolding is_between
+between_low low high z h = low_of (int_lt z low) (int_lt high z) refl h
+  where
+    low_of : (a b : Bool) → int_lt z low ≡ a → not (a || b) ≡ true → low ≤ℤ z
+    low_of true b e h = absurd cc
+    low_of false b e h = omega (arith, ints)
+
+between_high : (low high z : ℤ) → is_between low high z ≡ true → z ≤ℤ high
+unfolding is_between
+between_high low high z h = high_of (int_lt z low) (int_lt high z) refl h
+  where
+    high_of : (a b : Bool) → int_lt high z ≡ b → not (a || b) ≡ true → z ≤ℤ high
+    high_of true b e h = absurd cc
+    high_of false true e h = absurd cc
+    high_of false false e h = omega (arith, ints)
+
+is_between-of : (low high z : ℤ) → low ≤ℤ z → z ≤ℤ high → is_between low high z ≡ true
+unfolding is_between
+is_between-of low high z l h = by (int_lt z low) (int_lt high z) refl refl
+  where
+    by : (a b : Bool) → int_lt z low ≡ a → int_lt high z ≡ b → not (a || b) ≡ true
+    by true b e f = absurd (omega (arith, ints))
+    by false true e f = absurd (omega (arith, ints))
+    by false false e f = refl
+
+-- ---- columns
+
+module _ (m : TextMeasure) where
+  -- a box that is inside, and the one so far to the right of it that ends before the printable area does
+  box_inside : (x : ℤ) → is_inside m.geometry (box_at m x) ≡ true → pos 0 ≤ℤ m.face.advance → (((x +ℤ pos m.column) +ℤ m.geometry.logical_left) +ℤ m.face.advance) ≤ℤ m.geometry.printable_right → is_inside m.geometry (box_at m (x +ℤ pos m.column)) ≡ true
+  unfolding is_inside
+  box_inside x h ahead ends =
+      let g = m.geometry in
+      let here = box_at m x in
+      let next = box_at m (x +ℤ pos m.column) in
+      let parts = and_parts (is_between g.printable_left g.printable_right here.left && is_between g.printable_left g.printable_right here.right) _ h in
+      let across = and_parts (is_between g.printable_left g.printable_right here.left) (is_between g.printable_left g.printable_right here.right) parts.0 in
+      let low = between_low g.printable_left g.printable_right here.left across.0 in
+      let left = is_between-of g.printable_left g.printable_right next.left (omega (arith, ints, low)) (omega (arith, ints, ahead, ends)) in
+      let right = is_between-of g.printable_left g.printable_right next.right (omega (arith, ints, low, ahead)) (omega (arith, ints, ends)) in
+      λ i. (left (i) && right (i)) && parts.1 i
+
+  ends_at : (x : ℤ) → (x +ℤ pos m.column) ≤ℤ edge_from m x → first_finding (edge_checks m.right m.geometry.logical_width x (x +ℤ pos m.column)) ≡ None
+  ends_at x h = by (int_lt x m.right) (int_lt m.geometry.logical_width (x +ℤ pos m.column)) (int_lt m.right (x +ℤ pos m.column)) refl refl h
+    where
+      by : (left off past : Bool) → int_lt m.geometry.logical_width (x +ℤ pos m.column) ≡ off → int_lt m.right (x +ℤ pos m.column) ≡ past → (x +ℤ pos m.column) ≤ℤ cond left m.right m.geometry.logical_width → cond (not left && off) (Some OffPage) (cond (left && past) (Some PastRightMargin) None) ≡ None
+      by true off true e f h = absurd (omega (arith, ints))
+      by true off false e f h = refl
+      by false true past e f h = absurd (omega (arith, ints))
+      by false false past e f h = refl
+
+  module _ (edge : ℤ) (edge_small : IsInRange edge) (ahead : pos 0 ≤ℤ m.face.advance) where
+    within_edge : (x : ℤ) → IsInRange x → (x +ℤ pos m.column) ≤ℤ edge → IsInRange (x +ℤ pos m.column)
+    within_edge x here h = omega (arith, ints, here, h, edge_small)
+
+    -- what ends at an edge has the same edge one column further on
+    edge_stays : (x : ℤ) (j : ℕ) → edge_from m x ≡ edge → (x +ℤ pos (suc (suc j) * m.column)) ≤ℤ edge → edge_from m (x +ℤ pos m.column) ≡ edge
+    edge_stays x j is h =
+        let c = m.column in
+        let two = suc-mul (suc j) c in
+        let one = suc-mul j c in
+        cond_both (int_lt x m.right) m.right m.geometry.logical_width (λ e. e ≡ edge → edge_from m (x +ℤ pos c) ≡ edge)
+        (λ t g. cond_both (int_lt (x +ℤ pos c) m.right) m.right m.geometry.logical_width (λ e. e ≡ edge) (λ u. g) (λ u. absurd (omega (arith, ints, t, u, g, h, two, one))))
+        (λ t g. cond_both (int_lt (x +ℤ pos c) m.right) m.right m.geometry.logical_width (λ e. e ≡ edge) (λ u. absurd (omega (arith, ints, t, u))) (λ u. g))
+        is
+
+    one_column : (x : ℤ) → IsInRange x → edge_from m x ≡ edge → (x +ℤ pos m.column) ≤ℤ edge → is_inside m.geometry (box_at m x) ≡ true → HasColumn m x
+    one_column x here is ends inside = record { within = within_edge x here ends; ends = ends_at x (subst (λ e. (x +ℤ pos m.column) ≤ℤ e) (sym is) ends); inside = inside }
+
+    -- as many as end at the edge, and whose last character ends in the printable area
+    pub columns : (x : ℤ) (n : ℕ) → IsInRange x → edge_from m x ≡ edge → is_inside m.geometry (box_at m x) ≡ true → (1 ≤ n → ((x +ℤ pos (n * m.column)) ≤ℤ edge) × ((x +ℤ pos (n * m.column)) ≤ℤ (((m.geometry.printable_right -ℤ m.geometry.logical_left) -ℤ m.face.advance) +ℤ pos m.column))) → HasColumns m x n
+    columns x zero here is inside ends = tt
+    columns x (suc zero) here is inside ends =
+        let e = (ends (omega arith)).0 in
+        (one_column x here is (omega (arith, ints, e)) inside, tt)
+    columns x (suc (suc j)) here is inside ends =
+        let c = m.column in
+        let both = ends (omega arith) in
+        let e = both.0 in
+        let p = both.1 in
+        let two = suc-mul (suc j) c in
+        let one = suc-mul j c in
+        let first : (x +ℤ pos c) ≤ℤ edge = omega (arith, ints, e, two) in
+        let next = one_column x here is first inside in
+        let further = box_inside x inside ahead (omega (arith, ints, p, two, one)) in
+        (next, columns (x +ℤ pos c) (suc j) next.within (edge_stays x j is e) further (λ some. (omega (arith, ints, e, two), omega (arith, ints, p, two))))
+
+-- one column more than end up to a place begin there
+pub begin_up_to : (x last : ℤ) (c r : ℕ) → x ≤ℤ last → ((k : ℕ) → 1 ≤ k → k ≤ r → (x +ℤ pos (k * c)) ≤ℤ last) → (n : ℕ) → 1 ≤ n → n ≤ r + 1 → (x +ℤ pos (n * c)) ≤ℤ (last +ℤ pos c)
+begin_up_to x last c r here h zero some less = absurd (omega (arith, some))
+begin_up_to x last c r here h (suc zero) some less = omega (arith, ints, here)
+begin_up_to x last c r here h (suc (suc k)) some less =
+    let one = suc-mul (suc k) c in
+    let before = h (suc k) (omega arith) (omega (arith, less)) in
+    omega (arith, ints, one, before)
+
+-- a character that is inside begins no later than the last that is
+pub begins_inside : (m : TextMeasure) (x : ℤ) → is_inside m.geometry (box_at m x) ≡ true → x ≤ℤ ((m.geometry.printable_right -ℤ m.geometry.logical_left) -ℤ m.face.advance)
+unfolding is_inside
+begins_inside m x h =
+    let g = m.geometry in
+    let here = box_at m x in
+    let parts = and_parts (is_between g.printable_left g.printable_right here.left && is_between g.printable_left g.printable_right here.right) _ h in
+    let across = and_parts (is_between g.printable_left g.printable_right here.left) (is_between g.printable_left g.printable_right here.right) parts.0 in
+    let high = between_high g.printable_left g.printable_right here.right across.1 in
+    omega (arith, ints, high)

@@ -1,0 +1,82 @@
+-- Parameterized commands that stand first.
+use Rattle.std.proofs.Common.{◌≡◌, ℕ, ◌+◌, ◌≤◌, ◌<◌, ◌-◌, List, [], ◌∷◌, length, get_or, take, drop, Bool, true, false, Option, None, Some, sym, ap, subst, ◌∙◌, arith}
+use Rattle.std.specs.Prelude.{IfSome, nat_le}
+use Rattle.std.proofs.lemmas.Bool.{cond-true, cond-false, and_from, le-leb}
+use Rattle.pcl_items.specs.declared.command.Group.{Group}
+use Rattle.pcl_items.specs.declared.command.Command.{Command}
+use Rattle.pcl_items.specs.declared.first.Context.TheVariants.{Pcl, Sequence}
+use Rattle.pcl_items.specs.Commands.{introducer_of, group_of, group_at, command_at, data_command_at}
+use Rattle.pcl_items.specs.Items.{Parameterized}
+use Rattle.pcl_items.specs.Reader.{Begins, behind, named, by_last_letter, by_other_letter, by_last_byte, command_in, is_group_or_parameter, is_termination, first_of}
+use Rattle.pcl_items.specs.Value.{Amount}
+use Rattle.pcl_items.specs.declared.parameterized.ReadCommand.{ReadCommand}
+use Rattle.pcl_items.specs.ReadCommands.{IsAhead}
+use Rattle.std.proofs.lemmas.List.{take_all}
+use Rattle.pcl_items.proofs.Heads.{group_read}
+use Rattle.pcl_items.proofs.ReadsTo.{same_whole}
+use Rattle.pcl_items.proofs.Tables.{group_found, command_found, capital_letter, no_data}
+
+-- behind ESC and the two characters of a group stands what the group has there
+pub behind_group : (whole : Bool) (i c : ℕ) (g : Group) (bytes : List ℕ) → group_at i c ≡ Some g → first_of whole Pcl (27 ∷ i ∷ c ∷ bytes) ≡ behind 3 (command_in g bytes)
+behind_group whole i c g bytes e =
+    let characters = group_found i c g e in
+    same_whole whole Pcl (27 ∷ i ∷ c ∷ bytes)
+    ∙ ap (λ n. first_of true Pcl (27 ∷ n ∷ c ∷ bytes)) characters.0
+    ∙ ap (λ n. first_of true Pcl (27 ∷ introducer_of g ∷ n ∷ bytes)) characters.1
+    ∙ group_read g bytes
+
+-- the letter of a command is a capital one, and of no command with data
+record IsLetter (g : Group) (letter : ℕ) (c : Command) : Type 0 where
+  low : 65 ≤ letter
+  high : letter ≤ 90
+  no_data : data_command_at g letter ≡ None
+
+letter_found : (g : Group) (letter : ℕ) (c : Command) → command_at g letter ≡ Some c → IsLetter g letter c
+letter_found g letter c e =
+    let found = command_found g letter c e in
+    let capital = capital_letter c in
+    record {
+      low = subst (λ (n : ℕ). 65 ≤ n) (sym found.1) capital.0;
+      high = subst (λ (n : ℕ). n ≤ 90) (sym found.1) capital.1;
+      no_data = ap (λ h. data_command_at h letter) found.0 ∙ ap (λ n. data_command_at (group_of c) n) found.1 ∙ no_data c;
+    }
+
+-- the command that a small letter names, and the one that a capital letter names
+pub named_small : (g : Group) (a : Amount) (len last : ℕ) (bytes : List ℕ) (c : Command) → 96 ≤ last → command_at g (last - 32) ≡ Some c →
+    by_last_byte (Some a) g len last bytes ≡ Begins (Parameterized c a) (len + 1) (Sequence g)
+named_small g a len last bytes c small e =
+    let letter = letter_found g (last - 32) c e in
+    let yes : is_group_or_parameter last ≡ true = and_from (nat_le 96 last) (nat_le last 126) (le-leb 96 last small) (le-leb last 126 (omega (arith, letter.high))) in
+    cond-true (is_group_or_parameter last) _ _ yes
+    ∙ ap (λ o. by_other_letter o g (last - 32) a (len + 1)) letter.no_data
+    ∙ ap (λ o. named o g (last - 32) a (len + 1) (Sequence g)) e
+
+pub named_capital : (g : Group) (a : Amount) (len last : ℕ) (bytes : List ℕ) (c : Command) → last < 96 → command_at g last ≡ Some c →
+    by_last_byte (Some a) g len last bytes ≡ Begins (Parameterized c a) (len + 1) Pcl
+named_capital g a len last bytes c small e =
+    let letter = letter_found g last c e in
+    let no : is_group_or_parameter last ≡ false = grind (arith, small) in
+    let yes : is_termination last ≡ true = and_from (nat_le 64 last) (nat_le last 94) (le-leb 64 last (omega (arith, letter.low))) (le-leb last 94 (omega (arith, letter.high))) in
+    cond-false (is_group_or_parameter last) _ _ no
+    ∙ cond-true (is_termination last) _ _ yes
+    ∙ ap (λ o. by_last_letter o g last a (len + 1) bytes) letter.no_data
+    ∙ ap (λ o. named o g last a (len + 1) Pcl) e
+
+-- the same of a slice of the bytes behind these characters
+pub behind_characters : (whole : Bool) (g : Group) (bytes : List ℕ) → 2 ≤ length bytes → group_at (get_or bytes 0 0) (get_or bytes 1 0) ≡ Some g →
+    first_of whole Pcl (27 ∷ bytes) ≡ behind 3 (command_in g (take (length bytes - 2) (drop 2 bytes)))
+behind_characters whole g [] two e = absurd (omega (arith, two))
+behind_characters whole g (i ∷ []) two e = absurd (omega (arith, two))
+behind_characters whole g (i ∷ c ∷ bytes) two e =
+    let count : length (i ∷ c ∷ bytes) - 2 ≡ length bytes = omega arith in
+    let all : take (length (i ∷ c ∷ bytes) - 2) bytes ≡ bytes = ap (λ n. take n bytes) count ∙ take_all (length bytes) bytes (omega arith) in
+    behind_group whole i c g bytes e ∙ ap (λ l. behind 3 (command_in g l)) (sym all)
+
+-- what stands behind an escape character
+pub behind_escape : (bytes : List ℕ) (result : Option ReadCommand) → 1 ≤ length bytes → get_or bytes 0 0 ≡ 27 →
+    IfSome result (λ read. IsAhead read Pcl (27 ∷ take (length bytes - 1) (drop 1 bytes))) → IfSome result (λ read. IsAhead read Pcl bytes)
+behind_escape [] result one e h = absurd (omega (arith, one))
+behind_escape (b ∷ bytes) result one e h =
+    let count : length (b ∷ bytes) - 1 ≡ length bytes = omega arith in
+    let all : take (length (b ∷ bytes) - 1) bytes ≡ bytes = ap (λ n. take n bytes) count ∙ take_all (length bytes) bytes (omega arith) in
+    subst (λ (n : ℕ). IfSome result (λ read. IsAhead read Pcl (n ∷ bytes))) (sym e) (subst (λ (l : List ℕ). IfSome result (λ read. IsAhead read Pcl (27 ∷ l))) all h)

@@ -1,0 +1,24 @@
+-- A parameterized command that stands first.
+use Rattle.std.specs.Prelude.{◌≡◌, ◌≤◌, ◌+◌, ℕ, List, length, Bool, Some}
+use Rattle.pcl_items.specs.declared.command.Group.{Group}
+use Rattle.pcl_items.specs.declared.first.Context.{Context}
+use Rattle.pcl_items.specs.declared.number.Number.{Number}
+use Rattle.pcl_items.specs.declared.parameterized.ReadCommand.{ReadCommand}
+use Rattle.pcl_items.specs.Items.{amount, Parameterized}
+use Rattle.pcl_items.specs.Reader.{First, Begins, by_last_byte, command_in, first_of}
+
+-- what stands first where this command was read
+abbrev pub first_by : ReadCommand → First
+first_by read = Begins (Parameterized read.command (amount read.number)) read.len read.next
+
+-- the bytes from this context on begin with the command
+abbrev pub IsAhead : ReadCommand → Context → List ℕ → Type 0
+IsAhead read context bytes = ((whole : Bool) → first_of whole context bytes ≡ first_by read) × (read.len ≤ length bytes)
+
+-- the bytes behind the characters of a group begin with the command
+abbrev pub IsInGroup : ReadCommand → Group → List ℕ → Type 0
+IsInGroup read group bytes = (command_in group bytes ≡ first_by read) × (read.len ≤ length bytes)
+
+-- this byte ends the command, behind a field of so many characters
+abbrev pub IsEndedBy : ReadCommand → Group → Number → ℕ → ℕ → Type 0
+IsEndedBy read group number len last = ((bytes : List ℕ) → by_last_byte (Some (amount number)) group len last bytes ≡ first_by read) × (read.len ≡ len + 1)

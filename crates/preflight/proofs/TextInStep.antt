@@ -1,0 +1,204 @@
+-- Bytes of text on the machines of a fleet, which go in step.
+use Rattle.std.proofs.Common.{◌≡◌, ℕ, zero, suc, ◌+◌, ◌<◌, ◌≤◌, ◌==◌, Bool, true, false, cond, List, [], ◌∷◌, ◌++◌, length, take, drop, set, get_or, map, Option, None, Some, refl, ap, sym, ◌∙◌, subst, append_assoc, append-nil, arith}
+use Rattle.std.specs.List.{AllByRecursion}
+use Rattle.std.proofs.lemmas.List.{take_more, take_more_set, drop_more, drop-set-lt, drop-drop, take_all, take-take, length-set}
+use Rattle.pcl_items.specs.Items.{Text, at, Placed}
+use Rattle.pcl_items.specs.LexerState.{LexerState}
+use Rattle.pcl_items.specs.Passing.{AreText, text_items, Passes}
+use Rattle.device_profile.specs.declared.font.CodeRange.{CodeRange}
+use Rattle.device_profile.specs.Printer.{Printer}
+use Rattle.page_env.specs.declared.mark.Glyph.{Glyph}
+use Rattle.page_env.specs.declared.page.Page.{Page}
+use Rattle.page_env.specs.declared.text_run.Look.{Look}
+use Rattle.page_env.specs.Mark.{Shape, characters_of}
+use Rattle.page_env.specs.Settings.{state_at}
+use Rattle.page_env.specs.TextRun.{AllGo, CanGoIn, glyph_in, look_behind, page_behind, glyph_count}
+use Rattle.page_machine.specs.Event.{Marked}
+use Rattle.page_machine.specs.Run.{peaks_of}
+use Rattle.page_machine.specs.Job.{ItemRun, events_of}
+use Rattle.page_machine.specs.MachineState.{MachineState}
+use Rattle.page_machine.specs.TextRun.{machine_behind, glyph_events, PrintsText}
+use Rattle.sinks.specs.declared.counts.Counts.{Counts}
+use Rattle.sinks.specs.Counts.{counts_after, no_counts}
+use Rattle.preflight.specs.declared.lockstep.StepOutcome.TheVariants.{Alike}
+use Rattle.preflight.specs.Carriers.Each.{Each}
+use Rattle.preflight.specs.Carriers.Lockstep.{Execute, AreRunning, Does, GoesInStep}
+use Rattle.preflight.specs.Carriers.TextInStep.{GoOnAll, PrintInStep}
+use Rattle.preflight.specs.Carriers.Checking.{Along, HasCarriedOut}
+use Rattle.preflight.proofs.Answered.{running_on}
+use Rattle.preflight.proofs.Printers.{done_item, along_more}
+use Rattle.preflight.proofs.Fleets.{each_along, each_push, agreed_more, counts_more}
+
+-- ---- the marks of bytes
+
+abbrev pub shapes_of : Look → List ℕ → List Shape
+shapes_of look [] = []
+shapes_of look (code ∷ codes) = characters_of (glyph_in look code) ++ shapes_of (look_behind look) codes
+
+pub shape_count : (codes : List ℕ) (look : Look) → length (shapes_of look codes) ≡ glyph_count codes
+shape_count [] look = refl
+shape_count (code ∷ codes) look = by (code == 32) (record { code = code; request = look.request; y = look.y; bounds = look.bounds }) (shapes_of (look_behind look) codes) (shape_count codes (look_behind look))
+  where
+    by : (b : Bool) (glyph : Glyph) (rest : List Shape) → length rest ≡ glyph_count codes → length (characters_of (cond b None (Some glyph)) ++ rest) ≡ cond b 0 1 + glyph_count codes
+    by true glyph rest e = omega (arith, e)
+    by false glyph rest e = omega (arith, e)
+
+-- the mark of a byte, and those behind it
+count_one : (glyph : Option Glyph) (rest : List Shape) (counts : Counts) → counts_after (map Marked rest) (counts_after (map Marked (characters_of glyph)) counts) ≡ counts_after (map Marked (characters_of glyph ++ rest)) counts
+count_one None rest counts = refl
+count_one (Some glyph) rest counts = refl
+
+-- ---- machines that print bytes print them in step
+
+nothing_done : (look : Look) (old new : List MachineState) → Each (PrintsText look []) old new → new ≡ old
+nothing_done look [] [] h = refl
+nothing_done look [] (m ∷ new) h = absurd h
+nothing_done look (m ∷ old) [] h = absurd h
+nothing_done look (m ∷ old) (n ∷ new) h = λ i. h.0 i ∷ nothing_done look old new h.1 i
+
+each_does : (look : Look) (code : ℕ) (codes : List ℕ) (old new : List MachineState) → AreRunning old → Each (PrintsText look (code ∷ codes)) old new → Each (Does (Execute (Text code)) (glyph_events look code)) old (map (machine_behind look code) old)
+each_does look code codes [] new running h = tt
+each_does look code codes (m ∷ old) [] running h = absurd h
+each_does look code codes (m ∷ old) (n ∷ new) running h = (
+  record {
+    is = λ i. record m { page = page_behind look code m.page; stopped = running.0 i };
+    peaks = λ panel. peaks_of (state_at panel (page_behind look code m.page));
+    run = h.0.0;
+  },
+  each_does look code codes old new running.1 h.1,
+)
+
+each_prints : (look : Look) (code : ℕ) (codes : List ℕ) (old new : List MachineState) → Each (PrintsText look (code ∷ codes)) old new → Each (PrintsText (look_behind look) codes) (map (machine_behind look code) old) new
+each_prints look code codes [] [] h = tt
+each_prints look code codes [] (n ∷ new) h = absurd h
+each_prints look code codes (m ∷ old) [] h = absurd h
+each_prints look code codes (m ∷ old) (n ∷ new) h = (h.0.1, each_prints look code codes old new h.1)
+
+still_running : (look : Look) (code : ℕ) (old : List MachineState) → AreRunning old → AreRunning (map (machine_behind look code) old)
+still_running look code [] running = tt
+still_running look code (m ∷ old) running = (running.0, still_running look code old running.1)
+
+pub print_in_step : (codes : List ℕ) (look : Look) (old new : List MachineState) (counts : Counts) → AreRunning old → Each (PrintsText look codes) old new → PrintInStep codes old new counts (counts_after (map Marked (shapes_of look codes)) counts)
+print_in_step [] look old new counts running h = (nothing_done look old new h, refl)
+print_in_step (code ∷ codes) look old new counts running h =
+    let mid = map (machine_behind look code) old in
+    let between = counts_after (glyph_events look code) counts in (
+      mid,
+      between,
+      (glyph_events look code, each_does look code codes old new running h, refl),
+      subst (λ c. PrintInStep codes mid new between c) (count_one (glyph_in look code) (shapes_of (look_behind look) codes) counts)
+          (print_in_step codes (look_behind look) mid new between (still_running look code old running) (each_prints look code codes old new h)),
+    )
+
+pub text_of : (printer : Printer) (codes : List ℕ) (look : Look) (page : Page) → AllGo printer look page codes → AreText codes
+text_of printer [] look page h = tt
+text_of printer (code ∷ codes) look page h = (h.0.text, text_of printer codes (look_behind look) (page_behind look code page) h.1)
+
+-- ---- bytes that go on all machines
+
+-- fewer bytes go too
+front_goes : (printer : Printer) (k : ℕ) (codes : List ℕ) (look : Look) (page : Page) → AllGo printer look page codes → AllGo printer look page (take k codes)
+front_goes printer zero codes look page h = tt
+front_goes printer (suc k) [] look page h = tt
+front_goes printer (suc k) (code ∷ codes) look page h = (h.0, front_goes printer k codes (look_behind look) (page_behind look code page) h.1)
+
+pub fewer_can_go : (ranges : List CodeRange) (k : ℕ) (codes : List ℕ) → CanGoIn ranges codes → CanGoIn ranges (take k codes)
+fewer_can_go ranges zero codes h = tt
+fewer_can_go ranges (suc k) [] h = tt
+fewer_can_go ranges (suc k) (code ∷ codes) h = (h.0, fewer_can_go ranges k codes h.1)
+
+fewer_go : (look : Look) (k : ℕ) (codes : List ℕ) (machines : List MachineState) → GoOnAll look codes machines → GoOnAll look (take k codes) machines
+fewer_go look k codes [] h = tt
+fewer_go look k codes (m ∷ machines) h = (front_goes m.printer k codes look m.page h.0, fewer_go look k codes machines h.1)
+
+one_more : (look : Look) (codes : List ℕ) (machines : List MachineState) (m : MachineState) → GoOnAll look codes machines → AllGo m.printer look m.page codes → GoOnAll look codes (machines ++ m ∷ [])
+one_more look codes [] m h go = (go, tt)
+one_more look codes (n ∷ machines) m h go = (h.0, one_more look codes machines m h.1 go)
+
+-- as many as go on one machine more
+pub more_go : (look : Look) (k count : ℕ) (bytes : List ℕ) (first : MachineState) (others : List MachineState) (i : ℕ) (m : MachineState) → i < length others → k ≤ count →
+    m ≡ get_or others i m → GoOnAll look (take count bytes) (first ∷ take i others) → AllGo m.printer look m.page (take k (take count bytes)) → GoOnAll look (take k bytes) (first ∷ take (i + 1) others)
+more_go look k count bytes first others i m inside most is h go =
+    let same : take k (take count bytes) ≡ take k bytes = take-take k count bytes most in
+    let front : take (i + 1) others ≡ take i others ++ m ∷ [] = take_more others i m inside ∙ ap (λ (n : MachineState). take i others ++ n ∷ []) (sym is) in
+    subst (λ (ms : List MachineState). GoOnAll look (take k bytes) (first ∷ ms)) (sym front)
+    (subst (λ (codes : List ℕ). GoOnAll look codes (first ∷ (take i others ++ m ∷ []))) same
+    (one_more look (take k (take count bytes)) (first ∷ take i others) m (fewer_go look k (take count bytes) (first ∷ take i others) h) go))
+
+pub goes_at : (look : Look) (codes : List ℕ) (machines : List MachineState) (i : ℕ) (d : MachineState) → i < length machines → GoOnAll look codes machines → AllGo (get_or machines i d).printer look (get_or machines i d).page codes
+goes_at look codes [] i d inside h = absurd (omega (arith, inside))
+goes_at look codes (m ∷ machines) zero d inside h = h.0
+goes_at look codes (m ∷ machines) (suc i) d inside h = goes_at look codes machines i d (omega (arith, inside)) h.1
+
+-- ---- a loop that changes each element
+
+-- those before i were changed, and those from i on are as they were
+abbrev pub ChangedUpTo : {X : Type 0} → (X → X → Type 0) → ℕ → List X → List X → Type 0
+ChangedUpTo P i old new = (length new ≡ length old) × (drop i new ≡ drop i old) × Each P (take i old) (take i new)
+
+module _ {X : Type 0} (P : X → X → Type 0) (i : ℕ) (old new : List X) (d : X) (h : ChangedUpTo P i old new) (inside : i < length new) where
+  tails : get_or new i d ∷ drop (i + 1) new ≡ get_or old i d ∷ drop (i + 1) old
+  tails = sym (drop_more new i d inside) ∙ h.1 ∙ drop_more old i d (omega (arith, inside, h.0))
+
+  -- what stands at i is as it was
+  pub unchanged_at : get_or new i d ≡ get_or old i d
+  unchanged_at = ap (λ (l : List X). get_or l 0 d) tails
+
+  pub changed_more : (x : X) → P (get_or old i d) x → ChangedUpTo P (i + 1) old (set new i x)
+  changed_more x p =
+      let front_new : take (i + 1) (set new i x) ≡ take i new ++ x ∷ [] = take_more_set new i x inside in
+      let front_old : take (i + 1) old ≡ take i old ++ get_or old i d ∷ [] = take_more old i d (omega (arith, inside, h.0)) in (
+        length-set new i x ∙ h.0,
+        drop-set-lt (i + 1) new i x (omega arith) ∙ sym (drop-drop 1 i new) ∙ ap (drop 1) h.1 ∙ drop-drop 1 i old,
+        subst (λ (l : List X). Each P (take (i + 1) old) l) (sym front_new) (subst (λ (l : List X). Each P l (take i new ++ x ∷ [])) (sym front_old) (each_push P (take i old) (take i new) (get_or old i d) x h.2 p)),
+      )
+
+pub changed_all : {X : Type 0} (P : X → X → Type 0) (i : ℕ) (old new : List X) → ChangedUpTo P i old new → length new ≤ i → Each P old new
+changed_all P i old new h end =
+    subst (λ (l : List _). Each P l new) (take_all i old (omega (arith, end, h.0))) (subst (λ (l : List _). Each P (take i old) l) (take_all i new end) h.2)
+
+-- ---- what was carried out behind bytes of text
+
+-- items that were carried out on each printer of a fleet, wherever they were read
+record CarriedItems (fleet : List Printer) (items : List Placed) (machines : List MachineState) (counts : Counts) : Type 0 where
+  done : List ItemRun
+  agreed : AllByRecursion (λ item. item.finding ≡ None) done
+  counts_are : counts ≡ counts_after (events_of done) no_counts
+  along : Each (Along items done) fleet machines
+
+module _ (fleet : List Printer) where
+  item_on : (items : List Placed) (place code : ℕ) (machines mid : List MachineState) (counts between : Counts) → CarriedItems fleet items machines counts → GoesInStep (Execute (Text code)) machines mid counts between Alike → CarriedItems fleet (items ++ at place (Text code) ∷ []) mid between
+  item_on items place code machines mid counts between h step = record {
+    done = h.done ++ done_item place step.0 ∷ [];
+    agreed = agreed_more h.done place step.0 h.agreed;
+    counts_are = counts_more h.done place step.0 counts between h.counts_are step.2;
+    along = each_along (Along items h.done) (Does (Execute (Text code)) step.0) (Along (items ++ at place (Text code) ∷ []) (h.done ++ done_item place step.0 ∷ []))
+        (λ printer machine machine' along does. along_more items h.done printer machine along (Execute (Text code)) (at place (Text code)) (λ m p. refl) step.0 machine' does) fleet machines mid h.along step.1;
+  }
+
+  items_on : (codes : List ℕ) (items : List Placed) (place : ℕ) (machines machines' : List MachineState) (counts counts' : Counts) → CarriedItems fleet items machines counts → PrintInStep codes machines machines' counts counts' → CarriedItems fleet (items ++ text_items place codes) machines' counts'
+  items_on [] items place machines machines' counts counts' h step =
+      let whole : items ≡ items ++ [] = sym (append-nil items) in
+      subst (λ l. CarriedItems fleet l machines' counts') whole (subst (λ ms. CarriedItems fleet items ms counts') (sym step.0) (subst (λ c. CarriedItems fleet items machines c) (sym step.1) h))
+  items_on (code ∷ codes) items place machines machines' counts counts' h step =
+      subst (λ l. CarriedItems fleet l machines' counts') (append_assoc items (at place (Text code) ∷ []) (text_items (place + 1) codes))
+      (items_on codes (items ++ at place (Text code) ∷ []) (place + 1) step.0 machines' step.1 counts' (item_on items place code machines step.0 counts step.1 h step.2) step.3)
+
+  pub text_done : (bytes codes : List ℕ) (old new : LexerState) (machines machines' : List MachineState) (counts counts' : Counts) → Passes old codes new → PrintInStep codes machines machines' counts counts' → HasCarriedOut fleet bytes old machines counts → HasCarriedOut fleet bytes new machines' counts'
+  text_done bytes codes old new machines machines' counts counts' passes step carried =
+      let h : CarriedItems fleet (carried.items ++ text_items old.place codes) machines' counts' =
+      items_on codes carried.items old.place machines machines' counts counts' (record { done = carried.done; agreed = carried.agreed; counts_are = carried.counts_are; along = carried.along }) step in
+      record {
+        some = carried.some;
+        items = carried.items ++ text_items old.place codes;
+        reads = passes.reads bytes carried.items carried.reads;
+        done = h.done;
+        agreed = h.agreed;
+        counts_are = h.counts_are;
+        along = h.along;
+      }
+
+pub still_run : (codes : List ℕ) (machines machines' : List MachineState) (counts counts' : Counts) → PrintInStep codes machines machines' counts counts' → AreRunning machines → AreRunning machines'
+still_run [] machines machines' counts counts' step running = subst AreRunning (sym step.0) running
+still_run (code ∷ codes) machines machines' counts counts' step running =
+    still_run codes step.0 machines' step.1 counts' step.3 (running_on (Execute (Text code)) step.2.0 machines step.0 refl step.2.1)

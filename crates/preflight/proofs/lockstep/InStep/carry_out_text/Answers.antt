@@ -1,0 +1,26 @@
+use Rattle.std.proofs.Common.{◌∷◌, take, ap, sym, subst, ◌∙◌, arith}
+use Rattle.page_machine.specs.TextRun.{PrintsText}
+use Rattle.sinks.specs.Recorder.{Recorded}
+use Rattle.preflight.specs.Carriers.Each.{Each}
+use Rattle.preflight.specs.Carriers.TextInStep.{PrintInStep}
+use Rattle.preflight.proofs.Carrying.{written_back}
+use Rattle.preflight.proofs.TextInStep.{shapes_of, shape_count, print_in_step, text_of}
+use Rattle.preflight.proofs.lockstep.InStep.carry_out_text.Goals as goal
+
+pub returns-clause-text : goal.returns-clause-text
+returns-clause-text g c =
+    let first = c.args.self.now.first in
+    text_of first.printer (take c.in-Some.run'.count c.args.bytes.now) c.in-Some.run'.look first.page c.in-Some.ensures.2.0
+
+pub returns-clause-step : goal.returns-clause-step
+returns-clause-step g c =
+    let text = take c.in-Some.run'.count c.args.bytes.now in
+    let look = c.in-Some.run'.look in
+    let before = c.args.self.now in
+    let others = c.pass_text_on_each.new.machines in
+    let whole = written_back before.others.len before.others.items others (omega (arith, c.pass_text_on_each.auto.machines, c.deref_mut.ensures.len)) (omega (arith, before.others.ok.0)) in
+    let counted = ap (λ (r : Recorded). r.counts) (c.add_marks.ensures (shapes_of look text) (shape_count text look ∙ sym c.glyph_count-glyphs.ensures ∙ sym c.from.ensures)) in
+    let each = subst (λ ms. Each (PrintsText look text) ms others) c.deref_mut.ensures.value c.pass_text_on_each.ensures in
+    subst (λ ms. PrintInStep text (before.first ∷ before.others.items) (c.pass_text.new.self ∷ ms) before.recorder.counts c.add_marks.new.self.counts) (sym whole)
+    (subst (λ counts. PrintInStep text (before.first ∷ before.others.items) (c.pass_text.new.self ∷ others) before.recorder.counts counts) (sym counted)
+    (print_in_step text look (before.first ∷ before.others.items) (c.pass_text.new.self ∷ others) before.recorder.counts c.requires (c.pass_text.ensures, each)))
