@@ -1,20 +1,25 @@
 -- Ranges of codes that are the same one by one.
-use Rattle.std.proofs.Common.{◌≡◌, ◌==◌, ◌&&◌, Bool, true, List, [], ◌∷◌, refl}
+use Rattle.std.proofs.Common.{◌≡◌, ◌==◌, ◌&&◌, Bool, false, List, [], ◌∷◌, refl, ap}
+use Rattle.std.specs.Bool.{Decides}
 use Rattle.std.specs.Cmp.Lexicographic.{pointwise}
-use Rattle.std.proofs.lemmas.Bool.{and_parts, eqb-true}
+use Rattle.std.proofs.lemmas.Bool.{false≢true}
+use Rattle.std.proofs.lemmas.Bool.Decides.{Decides-eqb, Decides-like, Decides-and}
 use Rattle.device_profile.specs.declared.font.CodeRange.{CodeRange}
 
 abbrev is_same_range : CodeRange → CodeRange → Bool
 is_same_range a b = (a.first == b.first) && (a.last == b.last)
 
-pub same_ranges : (xs ys : List CodeRange) → pointwise is_same_range xs ys ≡ true → xs ≡ ys
-same_ranges [] [] h = refl
-same_ranges [] (y ∷ ys) h = absurd cc
-same_ranges (x ∷ xs) [] h = absurd cc
-same_ranges (x ∷ xs) (y ∷ ys) h =
-    let parts = and_parts (is_same_range x y) (pointwise is_same_range xs ys) h in
-    let range = and_parts (x.first == y.first) (x.last == y.last) parts.0 in
-    let first = eqb-true x.first y.first range.0 in
-    let last = eqb-true x.last y.last range.1 in
-    let rest = same_ranges xs ys parts.1 in
-    λ i. record { first = first i; last = last i } ∷ rest i
+range_decides : (a b : CodeRange) → Decides (is_same_range a b) (a ≡ b)
+range_decides a b =
+    Decides-like _ (λ h. λ i. record { first = h.0 i; last = h.1 i })
+    (λ e. (ap (λ (r : CodeRange). r.first) e, ap (λ (r : CodeRange). r.last) e))
+    (Decides-and _ _ (Decides-eqb a.first b.first) (Decides-eqb a.last b.last))
+
+never : {P : Type 0} → (P → ⊥) → Decides false P
+never refuted = (λ h. absurd (false≢true h), λ p. absurd (refuted p))
+
+pub ranges_decide : (xs ys : List CodeRange) → Decides (pointwise is_same_range xs ys) (xs ≡ ys)
+ranges_decide [] [] = (λ h. refl, λ e. refl)
+ranges_decide [] (y ∷ ys) = never (λ e. cc)
+ranges_decide (x ∷ xs) [] = never (λ e. cc)
+ranges_decide (x ∷ xs) (y ∷ ys) = Decides-like _ (λ h. λ i. h.0 i ∷ h.1 i) (λ e. (cc, cc)) (Decides-and _ _ (range_decides x y) (ranges_decide xs ys))

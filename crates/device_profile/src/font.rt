@@ -1,5 +1,5 @@
 //! Resident faces, and what a job asks of one.
-ghost use Rattle.std.specs.Prelude.{◌≡◌, ◌<◌, ℕ, get_or, false, IsTrue};
+ghost use Rattle.std.specs.Prelude.{◌≡◌, ◌↔◌, ◌<◌, ℕ, get_or, false, IsTrue};
 ghost use Rattle.device_profile.specs.Faces.{is_same_request, has_code, is_text_of};
 
 use std::alloc::{Allocator, Global};
@@ -140,7 +140,7 @@ impl<A: Allocator> FontRow<A> {
 
 /// Whether the ranges are the same, one by one.
 pub fn are_same_ranges(a: &[CodeRange], b: &[CodeRange]) -> bool
-    ensures { IsTrue result → a.now ≡ b.now }
+    ensures { IsTrue result ↔ (a.now ≡ b.now) }
 {
     a == b
 }
