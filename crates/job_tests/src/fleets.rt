@@ -26,6 +26,7 @@ const ROWS: &[(&[Printer], &[u8], Expected)] = &[
     (&[Moved, B], RECTANGLE, Differs(23, 2)),
     (&[B, B, Moved], RECTANGLE, Differs(23, 3)),
     (&[B, Moved, Moved], RECTANGLE, Differs(23, 2)),
+    (&[B, B], b"\x1bE\x1b*c9g30a30b0p1p2P", Pass(1, 3)),
     // A page without marks is the same.
     (&[B, Moved], b"\x1bE\x0c", Pass(1, 0)),
     // A page that ends on one printer alone.

@@ -3,7 +3,7 @@
 use crate::items::items_of;
 use device_profile::{Field, FontRequest, Sample, SymbolSet, sample_a};
 use page_env::Finding::Unset;
-use page_env::{Bounds, Finding, Glyph, Mark, PageEnd};
+use page_env::{Area, Bounds, Fill, Finding, Glyph, Mark, PageEnd};
 use page_machine::{Machine, MarkSink, OwnedEvent, OwnedMark, Start, Stop};
 use pcl_items::{OwnedItem, Place};
 use refusing::Refusing;
@@ -186,7 +186,10 @@ const FROM_THE_FIRST_PANEL: &[Run] = &[
 
 /// A rectangle with these edges, in 7200ths of an inch.
 fn rectangle(edges: (u32, u32, u32, u32)) -> Mark {
-    Mark::Rect(box_of(edges))
+    Mark::Rect(Area {
+        fill: Fill::Solid,
+        bounds: box_of(edges),
+    })
 }
 
 fn box_of((left, top, right, bottom): (u32, u32, u32, u32)) -> Bounds {

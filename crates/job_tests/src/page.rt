@@ -6,7 +6,7 @@ use page_env::Finding::{
     BadValue, Inexact, MarginIgnored, NotOnDevice, OffPage, StackEmpty, StackFull, Unset,
 };
 use page_env::{
-    Bounds, Carried, Cell, Finding, Page, PageChange, PageEnd, VerticalPlace, carry_out,
+    Bounds, Carried, Cell, Fill, Finding, Page, PageChange, PageEnd, VerticalPlace, carry_out,
     change_page, first_page, page_end, user_defaults, user_defaults_of,
 };
 use pcl_items::{Item, Number, OwnedItem, Place, Sign};
@@ -177,8 +177,8 @@ fn has_come_to(page: &Page, carried: Result<Carried, Finding>, comes: Comes) -> 
             job.right_margin.map(Length::ticks) == Some(ticks)
         }
         (Ok(Carried::Stepped), TopMargin(ticks)) => job.top_margin.ticks() == ticks,
-        (Ok(Carried::Filled(bounds)), Rectangle(edges)) => {
-            page.marked && edges_of(bounds) == edges
+        (Ok(Carried::Filled(area)), Rectangle(edges)) => {
+            page.marked && area.fill == Fill::Solid && edges_of(area.bounds) == edges
         }
         (Ok(Carried::Closing(PageChange::Home)), Closes) => true,
         (Err(found), Found(finding)) => found == finding,

@@ -1,7 +1,7 @@
 //! Sinks that count, record and compare events.
 
 use crate::recording::Event::{Letter, Square};
-use page_env::{Bounds, Mark, PageEnd};
+use page_env::{Area, Bounds, Fill, Mark, PageEnd};
 use page_machine::MarkSink;
 use refusing::Refusing;
 use sinks::{Comparer, Counts, Recorder};
@@ -19,11 +19,14 @@ enum Event {
 }
 
 fn square(side: u32) -> Mark {
-    Mark::Rect(Bounds {
-        left: Length::ZERO,
-        top: Length::ZERO,
-        right: Length::of_7200ths(side),
-        bottom: Length::of_7200ths(side),
+    Mark::Rect(Area {
+        fill: Fill::Solid,
+        bounds: Bounds {
+            left: Length::ZERO,
+            top: Length::ZERO,
+            right: Length::of_7200ths(side),
+            bottom: Length::of_7200ths(side),
+        },
     })
 }
 
