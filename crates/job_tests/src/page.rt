@@ -6,7 +6,7 @@ use page_env::Finding::{
     BadValue, Inexact, MarginIgnored, NotOnDevice, OffPage, StackEmpty, StackFull, Unset,
 };
 use page_env::{
-    Bounds, Carried, Cell, Fill, Finding, Page, PageChange, PageEnd, VerticalPlace, carry_out,
+    Bounds, Carried, Cell, Fill, Finding, Page, PageChange, PageEnd, Coordinate, carry_out,
     change_page, first_page, page_end, user_defaults, user_defaults_of,
 };
 use pcl_items::{Item, Number, OwnedItem, Place, Sign};
@@ -171,7 +171,7 @@ fn has_come_to(page: &Page, carried: Result<Carried, Finding>, comes: Comes) -> 
     let job = &page.env.job;
     match (carried, comes) {
         (Ok(Carried::Stepped), To(x, y)) => {
-            page.cursor.x.ticks() == x && page.cursor.y.map(VerticalPlace::ticks) == y
+            page.cursor.x.ticks() == x && page.cursor.y.map(Coordinate::ticks) == y
         }
         (Ok(Carried::Stepped), RightMargin(ticks)) => {
             job.right_margin.map(Length::ticks) == Some(ticks)

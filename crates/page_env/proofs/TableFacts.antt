@@ -1,7 +1,8 @@
 -- Each item of the table is carried out soundly.
 use Rattle.std.proofs.Common.{refl}
 use Rattle.pcl_items.specs.declared.command.Command.{Command}
-use Rattle.pcl_items.specs.declared.command.Command.TheVariants.{LeftMargin, RightMargin, Column, Row, HorizontalDecipoints, VerticalDecipoints, CursorStack, HorizontalMotionIndex, LineTermination, PageSize, Orientation, Copies, Sides, Source, VerticalMotionIndex, LineSpacing, TopMargin, TextLength, PerforationSkip, UnitOfMeasure, RectangleWidth, RectangleHeight, FillRectangle, RectangleWidthDecipoints, RectangleHeightDecipoints, FillId, HorizontalUnits, VerticalUnits, FontSpacing, FontPitch, FontHeight, FontStyle, FontWeight, FontTypeface}
+use Rattle.pcl_items.specs.declared.command.Command.TheVariants.{LeftMargin, RightMargin, Column, Row, HorizontalDecipoints, VerticalDecipoints, CursorStack, HorizontalMotionIndex, LineTermination, PageSize, Orientation, Copies, Sides, Source, VerticalMotionIndex, LineSpacing, TopMargin, TextLength, PerforationSkip, UnitOfMeasure, RectangleWidth, RectangleHeight, FillRectangle, RectangleWidthDecipoints, RectangleHeightDecipoints, FillId, RasterResolution, StartRaster, RasterWidth, RasterHeight, RasterPresentation, EndRaster, EndRasterAndMethod, CompressionMethod, RasterOffset, HorizontalUnits, VerticalUnits, FontSpacing, FontPitch, FontHeight, FontStyle, FontWeight, FontTypeface}
+use Rattle.pcl_items.specs.declared.command.DataCommand.TheVariants.{TransparentText, RasterRow}
 use Rattle.pcl_items.specs.Items.{Entry, Text, CarriageReturn, LineFeed, FormFeed, Reset, ClearMargins, HalfLineFeed, Parameterized, SymbolSet, DefaultFont, WithData}
 use Rattle.pcl_items.specs.Value.{Amount}
 use Rattle.device_profile.specs.Printer.{Printer}
@@ -14,6 +15,7 @@ use Rattle.page_env.proofs.MarginFacts.{top_margin_is_sound, text_length_is_soun
 use Rattle.page_env.proofs.MotionFacts.{vmi_is_sound, line_spacing_is_sound, hmi_is_sound, line_termination_is_sound, return_is_sound, line_feed_is_sound, form_feed_is_sound, half_line_feed_is_sound}
 use Rattle.page_env.proofs.CursorFacts.{move_x_is_sound, move_y_is_sound, move_x_decipoints_is_sound, move_y_decipoints_is_sound, move_columns_is_sound, move_rows_is_sound, stack_is_sound}
 use Rattle.page_env.proofs.RectangleFacts.{width_is_sound, height_is_sound, width_decipoints_is_sound, height_decipoints_is_sound, fill_id_is_sound, fill_is_sound}
+use Rattle.page_env.proofs.RasterFacts as rasters
 use Rattle.page_env.proofs.FontFacts.{symbol_set_is_sound, spacing_is_sound, pitch_is_sound, font_height_is_sound, style_is_sound, weight_is_sound, typeface_is_sound, default_font_is_sound}
 use Rattle.page_env.proofs.TextFacts.{byte_is_sound}
 use Rattle.page_env.proofs.Sound.{quiet}
@@ -48,6 +50,15 @@ module _ (printer : Printer) (defaults : Settings) where
   command_is_sound RectangleWidthDecipoints n s = width_decipoints_is_sound printer s n
   command_is_sound RectangleHeightDecipoints n s = height_decipoints_is_sound printer s n
   command_is_sound FillId n s = fill_id_is_sound printer s n
+  command_is_sound RasterResolution n s = rasters.resolution_is_sound printer s n
+  command_is_sound StartRaster n s = rasters.start_is_sound printer s n
+  command_is_sound RasterWidth n s = rasters.width_is_sound printer s n
+  command_is_sound RasterHeight n s = rasters.height_is_sound printer s n
+  command_is_sound RasterPresentation n s = rasters.presentation_is_sound printer s n
+  command_is_sound EndRaster n s = rasters.end_is_sound printer s n
+  command_is_sound EndRasterAndMethod n s = rasters.end_is_sound printer s n
+  command_is_sound CompressionMethod n s = rasters.compression_is_sound printer s n
+  command_is_sound RasterOffset n s = rasters.skip_is_sound printer s n
   command_is_sound FontSpacing n s = spacing_is_sound printer s n
   command_is_sound FontPitch n s = pitch_is_sound printer s n
   command_is_sound FontHeight n s = font_height_is_sound printer s n
@@ -66,4 +77,5 @@ item_is_sound printer defaults HalfLineFeed = λ s. half_line_feed_is_sound prin
 item_is_sound printer defaults (Parameterized command n) = λ s. command_is_sound printer defaults command n s
 item_is_sound printer defaults (SymbolSet n letter) = λ s. symbol_set_is_sound printer s n letter
 item_is_sound printer defaults DefaultFont = λ s. default_font_is_sound printer s
-item_is_sound printer defaults (WithData command bytes) = λ s. quiet refl refl refl refl refl refl refl refl
+item_is_sound printer defaults (WithData TransparentText bytes) = λ s. quiet refl refl refl refl refl refl refl refl
+item_is_sound printer defaults (WithData RasterRow bytes) = λ s. rasters.row_is_sound printer s bytes

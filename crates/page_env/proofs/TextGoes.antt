@@ -9,6 +9,7 @@ use Rattle.std.proofs.lemmas.Bool.Decides.{nat_tests}
 use Rattle.std.proofs.lemmas.List.{take_more, length-take-le}
 use Rattle.tick_length.specs.Length.{IsInRange}
 use Rattle.device_profile.specs.declared.field.Field.{Field}
+use Rattle.device_profile.specs.declared.panel.Panel.{Panel}
 use Rattle.device_profile.specs.Faces.{Face, has_code, is_text_of}
 use Rattle.device_profile.specs.Printer.{Printer}
 use Rattle.page_env.specs.declared.finding.Finding.{Finding}
@@ -113,16 +114,21 @@ module _ (printer : Printer) (s : State) (m : TextMeasure) (h : IsMeasured print
 
 -- ---- bytes one after another
 
+-- that no raster is started is so under whatever panel
+some_panel : Panel
+some_panel = record { size = 0; orientation = 0; vmi = 0; font = 0; copies = 0; sides = 0; tray = 0 }
+
 module _ (printer : Printer) (m : TextMeasure) where
   measure_stays : (look : Look) (code : ℕ) (page : Page) → HasMeasure printer page m → HasMeasure printer (page_behind look code page) m
   measure_stays look code page h = λ panel.
       let k = h panel in
-      record { read = k.read; request = k.request; face = k.face; geometry = k.geometry; y = k.y; column = k.column; right = k.right }
+      record { read = k.read; request = k.request; face = k.face; geometry = k.geometry; y = k.y; column = k.column; right = k.right; no_raster = k.no_raster }
 
   goes : (page : Page) (code : ℕ) → HasMeasure printer page m → HasColumn m page.cursor.x → is_text_of m.face.codes code ≡ true → run.Goes printer (look_at m page.cursor.x) page code
   unfolding Prints
   goes page code h k known = record {
     text = text_of_face m.face code known;
+    no_raster = (h some_panel).no_raster;
     within = k.within;
     prints = λ panel. byte_goes printer (state_at panel page) m (h panel) k code known;
   }

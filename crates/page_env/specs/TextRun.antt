@@ -32,6 +32,7 @@ page_behind look code page = record page {
 -- the byte is text, and prints as the character that looks so
 pub record Goes (printer : Printer) (look : Look) (page : Page) (code : ℕ) : Type 0 where
   pub text : 32 ≤ code
+  pub no_raster : page.raster ≡ None
   pub within : IsInRange (page.cursor.x +ℤ pos look.column)
   pub prints : Prints (λ s. print_byte printer s code) page (page_behind look code page) (Ok (glyph_in look code))
 

@@ -13,7 +13,7 @@ ghost use Rattle.page_env.specs.Answers.{CarriesOut, Steps};
 use crate::change::Carried;
 use crate::finding::Finding;
 use crate::number::{is_whole_between, whole_of};
-use crate::page::{Page, VerticalPlace};
+use crate::page::{Page, Coordinate};
 use crate::places::{
     first_line, geometry, geometry_and_column, geometry_and_vmi, target, target_down, ticks_in,
     times, vertical, vertical_with,
@@ -102,7 +102,7 @@ fn geometry_and_origin<A: Allocator>(
     profile: &Profile<A>,
     page: &Page,
     sign: Sign,
-) -> Result<(Geometry, VerticalPlace), Field>
+) -> Result<(Geometry, Coordinate), Field>
     ensures { Reads page.now.env (relative_reads sign page.now.cursor.y)
         (λ panel. (
           geometry_of profile.now (state_at panel page.now),
@@ -115,7 +115,7 @@ fn geometry_and_origin<A: Allocator>(
     let geometry = profile.page_geometry(size, orientation);
     match sign {
         Sign::Absent => {
-            let top = VerticalPlace::from_ticks(page.env.job.top_margin.ticks());
+            let top = Coordinate::from_ticks(page.env.job.top_margin.ticks());
             Ok((geometry, top))
         }
         Sign::Plus | Sign::Minus => {

@@ -14,7 +14,7 @@ use crate::cell::Cell;
 use crate::change::{Carried, PageChange};
 use crate::finding::Finding;
 use crate::number::{is_up_to, is_whole_between, is_whole_from, whole_of};
-use crate::page::{LineTermination, Page, VerticalPlace};
+use crate::page::{LineTermination, Page, Coordinate};
 use crate::places::{bottom_margin, geometry_and_vmi, ticks_in, vertical_with};
 use device_profile::{Geometry, Profile};
 use pcl_items::Number;
@@ -128,14 +128,14 @@ fn fed_to(page: &Page, vmi: u32, feed: Feed) -> i128
 }
 
 /// A place, unless it lies past a limit.
-fn up_to(limit: i64, y: i128) -> Option<VerticalPlace>
+pub(crate) fn up_to(limit: i64, y: i128) -> Option<Coordinate>
     requires { neg_ℤ (pos (2 ^ 63)) ≤ℤ y }
     ensures { result ≡ cond (int_lt limit y) None (Some y) }
 {
     if i128::from(limit) < y {
         None
     } else {
-        Some(VerticalPlace::from_ticks(y as i64))
+        Some(Coordinate::from_ticks(y as i64))
     }
 }
 

@@ -13,7 +13,7 @@ ghost use Rattle.page_env.specs.Answers.{Prints};
 use crate::finding::Finding;
 use crate::font_in_force::font_request;
 use crate::mark::{Bounds, Glyph};
-use crate::page::{Cursor, JobSettings, Page, VerticalPlace};
+use crate::page::{Cursor, JobSettings, Page, Coordinate};
 use crate::places::{
     column, column_width, geometry_and_vertical, length_at, right_margin, span_between, sum_between,
 };
@@ -26,7 +26,7 @@ use tick_length::Length;
 fn space_place<A: Allocator>(
     profile: &Profile<A>,
     page: &Page,
-) -> Result<(Geometry, VerticalPlace, Option<u64>), Field>
+) -> Result<(Geometry, Coordinate, Option<u64>), Field>
     ensures { Reads page.now.env (text_reads page.now.cursor.y (column_reads page.now.env.job))
         (λ panel. (geometry_of profile.now (state_at panel page.now), vertical_place (state_at panel page.now), column_of profile.now (state_at panel page.now))) result }
 {
@@ -41,7 +41,7 @@ fn space_place<A: Allocator>(
 pub(crate) fn character_place<A: Allocator>(
     profile: &Profile<A>,
     page: &Page,
-) -> Result<(Geometry, VerticalPlace, FontRequest), Field>
+) -> Result<(Geometry, Coordinate, FontRequest), Field>
     ensures { Reads page.now.env (text_reads page.now.cursor.y (font_reads page.now.env.job.font))
         (λ panel. (geometry_of profile.now (state_at panel page.now), vertical_place (state_at panel page.now), request_of profile.now (state_at panel page.now))) result }
 {
@@ -97,7 +97,7 @@ fn box_inside<A: Allocator>(
     geometry: &Geometry,
     face: &FontRow<A>,
     x: Length,
-    y: VerticalPlace,
+    y: Coordinate,
 ) -> Option<Bounds>
     ensures { let box = character_box geometry.now face.now x y in
         result ≡ cond (is_inside geometry.now box) (Some box) None }
@@ -132,7 +132,7 @@ pub(crate) fn glyph_inside<A: Allocator>(
     geometry: &Geometry,
     face: &FontRow<A>,
     x: Length,
-    y: VerticalPlace,
+    y: Coordinate,
     code: u8,
     request: FontRequest,
 ) -> Option<Glyph>
@@ -159,7 +159,7 @@ fn judged<A: Allocator>(
     geometry: &Geometry,
     face: &FontRow<A>,
     page: &Page,
-    y: VerticalPlace,
+    y: Coordinate,
     code: u8,
     request: FontRequest,
 ) -> Result<(Length, Glyph), Finding>

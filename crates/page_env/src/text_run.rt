@@ -8,7 +8,7 @@ ghost use Rattle.page_env.specs.TextRun.{AllGo, CanGoIn, GoFirst, IsRun, page_be
 ghost use Rattle.page_env.specs.TextMeasure.{HasMeasure, HasColumns, GoLike, IsMeasuredRun, box_at, edge_from, look_at};
 
 use crate::mark::Bounds;
-use crate::page::{Page, VerticalPlace};
+use crate::page::{Page, Coordinate};
 use crate::places::{column_width, length_at, right_margin};
 use crate::text::{character_place, glyph_inside};
 use device_profile::{CodeRange, FontRequest, FontRow, Geometry, Profile, are_same_ranges};
@@ -47,7 +47,7 @@ struct TextMeasure<'p, A: Allocator> {
     column: u64,
     right: Length,
     geometry: Geometry,
-    y: VerticalPlace,
+    y: Coordinate,
 }
 
 impl<'p, A: Allocator> Model for TextMeasure<'p, A> {
@@ -65,13 +65,16 @@ impl<'p, A: Allocator> Model for TextMeasure<'p, A> {
     } };
 }
 
-/// What text takes from the settings, where it is known and a face answers the font request.
+/// What text takes from the settings, where it is known, a face answers the font request and no raster is started.
 fn text_measure<'p, A: Allocator>(
     profile: &'p Profile<A>,
     page: &Page,
 ) -> Option<TextMeasure<'p, A>>
     ensures { IfSome result (λ measure. HasMeasure profile.now page.now measure) }
 {
+    if page.raster.is_some() {
+        return None;
+    }
     let y = page.cursor.y?;
     let Ok((geometry, _, request)) = character_place(profile, page) else {
         return None;

@@ -3,19 +3,17 @@ use Rattle.std.proofs.Common.{◌≡◌, ◌<◌, ◌+◌, ℕ, zero, suc, List,
 use Rattle.device_profile.specs.declared.panel.Panel.{Panel}
 use Rattle.pcl_items.specs.declared.item.SimpleItem.{SimpleItem}
 use Rattle.pcl_items.specs.declared.item.SimpleItem.TheVariants as simple
-use Rattle.pcl_items.specs.declared.command.DataCommand.{DataCommand}
-use Rattle.pcl_items.specs.declared.command.DataCommand.TheVariants.{TransparentText}
-use Rattle.pcl_items.specs.Items.{WithData, simple_view}
+use Rattle.pcl_items.specs.Items.{simple_view}
 use Rattle.page_env.specs.declared.page.Page.{Page}
 use Rattle.page_env.specs.Settings.{State}
 use Rattle.page_machine.specs.declared.carrying.Halt.{Halt}
 use Rattle.page_machine.specs.Event.{Event}
-use Rattle.page_machine.specs.Run.{Run, followed_by, Conditions, unmoved, byte_run, printing, own_run, item_run}
+use Rattle.page_machine.specs.Run.{Run, followed_by, Conditions, unmoved, byte_run, printing, own_run, begun_run}
 use Rattle.page_machine.specs.Follows.{Follows}
 use Rattle.page_machine.proofs.Composed.{Follows-stopped}
 
 -- an item that is neither text nor has data is its own step
-pub simple_run : (conditions : Conditions) (item : SimpleItem) (s : State) → item_run conditions (simple_view item) s ≡ own_run conditions (simple_view item) s
+pub simple_run : (conditions : Conditions) (item : SimpleItem) (s : State) → begun_run conditions (simple_view item) s ≡ own_run conditions (simple_view item) s
 simple_run conditions simple.CarriageReturn s = refl
 simple_run conditions simple.LineFeed s = refl
 simple_run conditions simple.FormFeed s = refl
@@ -25,10 +23,6 @@ simple_run conditions simple.HalfLineFeed s = refl
 simple_run conditions (simple.Parameterized command number) s = refl
 simple_run conditions (simple.SymbolSet letter number) s = refl
 simple_run conditions simple.DefaultFont s = refl
-
--- an item with data moves nothing, and then prints them
-pub data_run : (conditions : Conditions) (command : DataCommand) (bytes : List ℕ) (s : State) → item_run conditions (WithData command bytes) s ≡ printing conditions (unmoved s) bytes
-data_run conditions TransparentText bytes s = refl
 
 -- one byte more
 printing-suc : (conditions : Conditions) (r : Run) (xs : List ℕ) (i d : ℕ) → i < length xs → printing conditions r (take (suc i) xs) ≡ followed_by (printing conditions r (take i xs)) (byte_run conditions (get_or xs i d))

@@ -7,9 +7,9 @@ use Rattle.page_env.specs.Answers.{Prints}
 use Rattle.page_env.specs.Settings.{State, state_at}
 use Rattle.page_env.specs.TextRun.{Goes, AllGo, look_behind, page_behind, page_behind_all}
 use Rattle.page_machine.specs.Event.{Event}
-use Rattle.page_machine.specs.Run.{just, after, Done, no_peaks, higher, peaks_of, page_close, effect_run}
+use Rattle.page_machine.specs.Run.{just, after, Done, no_peaks, higher, peaks_of, page_close, effect_run, begun_run}
 use Rattle.page_machine.specs.MachineState.{MachineState}
-use Rattle.page_machine.specs.Machine.{item_run_of}
+use Rattle.page_machine.specs.Machine.{conditions_of, item_run_of}
 use Rattle.page_machine.specs.TextRun.{machine_behind, glyph_events, PrintsText}
 
 -- a step with these events, by itself and with nothing behind it
@@ -21,7 +21,8 @@ byte_prints : (machine : MachineState) (look : Look) (code : ℕ) → Goes machi
     item_run_of machine (Text code) panel ≡ after (glyph_events look code) (peaks_of s) (just [] (Done s))
 unfolding Prints
 byte_prints machine look code h panel =
-    ap (effect_run page_close) (h.prints panel) ∙ step_ends (glyph_events look code) (state_at panel (page_behind look code machine.page))
+    ap (λ raster. begun_run (conditions_of machine panel) (Text code) (record (state_at panel machine.page) { raster = raster })) (sym h.no_raster)
+    ∙ ap (effect_run page_close) (h.prints panel) ∙ step_ends (glyph_events look code) (state_at panel (page_behind look code machine.page))
 
 pub prints_text : (codes : List ℕ) (look : Look) (machine : MachineState) → AllGo machine.printer look machine.page codes → PrintsText look codes machine (record machine { page = page_behind_all look codes machine.page })
 prints_text [] look machine h = refl

@@ -6,17 +6,18 @@ ghost use Rattle.sinks.specs.Comparer.{Compares};
 
 use page_env::{Mark, PageEnd};
 use page_machine::{MarkSink, OwnedEvent};
+use std::alloc::{Allocator, Global};
 use std::convert::Infallible;
 use std::marker::Model;
 
 /// Compares each event that it is handed with the next one of a recorded list.
 #[derive(Drop)]
-pub struct Comparer<'a> {
+pub struct Comparer<'a, A: Allocator = Global> {
     /// The events that are still to come, unless one came that differs.
-    expected: Option<&'a [OwnedEvent]>,
+    expected: Option<&'a [OwnedEvent<A>]>,
 }
 
-impl<'a> Model for Comparer<'a> {
+impl<'a, A: Allocator> Model for Comparer<'a, A> {
     ghost use Rattle.std.specs.Prelude.{List, Option, map, option_map};
     ghost use Rattle.page_machine.specs.Event.{Event};
     ghost use Rattle.page_machine.specs.Owned.{event_of};
@@ -26,9 +27,9 @@ impl<'a> Model for Comparer<'a> {
     ghost view = { λ comparer. option_map (λ rest. map event_of rest.now) comparer.expected };
 }
 
-impl<'a> Comparer<'a> {
+impl<'a, A: Allocator> Comparer<'a, A> {
     /// A comparer that expects these events, in order.
-    pub fn new(recorded: &'a [OwnedEvent]) -> Comparer<'a>
+    pub fn new(recorded: &'a [OwnedEvent<A>]) -> Comparer<'a, A>
         ensures { result ≡ Some (map event_of recorded.now) }
     {
         Comparer {
@@ -44,14 +45,14 @@ impl<'a> Comparer<'a> {
     }
 }
 
-impl MarkSink for Comparer<'_> {
+impl<A: Allocator> MarkSink for Comparer<'_, A> {
     type Fault = Infallible;
 
     ghost takes = { Compares };
 
     ghost refuses = { λ old event new. ⊥ };
 
-    fn mark(&mut self, mark: &Mark) -> Result<(), Infallible> {
+    fn mark(&mut self, mark: &Mark<'_>) -> Result<(), Infallible> {
         self.expected = match self.expected {
             Some([first, rest @ ..]) if first.is_marked(mark) => Some(rest),
             _ => None,

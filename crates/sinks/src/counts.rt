@@ -39,7 +39,7 @@ impl MarkSink for Counts {
 
     ghost refuses = { λ old event new. ⊥ };
 
-    fn mark(&mut self, _mark: &Mark) -> Result<(), Infallible> {
+    fn mark(&mut self, _mark: &Mark<'_>) -> Result<(), Infallible> {
         self.marks = self.marks.saturating_add(1);
         Ok(())
     }

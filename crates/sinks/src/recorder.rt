@@ -19,7 +19,7 @@ use std::marker::Model;
 #[derive(Drop)]
 pub struct Recorder<A: Allocator + Copy = Global> {
     alloc: A,
-    events: Vec<OwnedEvent, A>,
+    events: Vec<OwnedEvent<A>, A>,
     counts: Counts,
 }
 
@@ -46,7 +46,7 @@ impl<A: Allocator + Copy> Recorder<A> {
     }
 
     /// The events since it was cleared, in order.
-    pub fn events(&self) -> &[OwnedEvent]
+    pub fn events(&self) -> &[OwnedEvent<A>]
         ensures { map event_of result.now ≡ self.now.events }
     {
         &self.events
@@ -81,7 +81,7 @@ impl<A: Allocator + Copy> MarkSink for Recorder<A> {
 
     ghost refuses = { λ old event new. new ≡ old };
 
-    fn mark(&mut self, mark: &Mark) -> Result<(), AllocError> {
+    fn mark(&mut self, mark: &Mark<'_>) -> Result<(), AllocError> {
         let copy = OwnedMark::copy_of(self.alloc, mark)?;
         self.events.push(OwnedEvent::Marked(copy))?;
         let Ok(()) = self.counts.mark(mark);

@@ -1,0 +1,28 @@
+use Rattle.page_env.proofs.table.carry_out.Goals as goal
+
+pub returns-in-CarriageReturn : goal.returns-in-CarriageReturn
+returns-in-CarriageReturn g c = rw c.in-CarriageReturn.is c.return_line.ensures
+
+pub returns-in-LineFeed : goal.returns-in-LineFeed
+returns-in-LineFeed g c = rw c.in-LineFeed.is c.line_feed.ensures
+
+pub returns-in-FormFeed : goal.returns-in-FormFeed
+returns-in-FormFeed g c = rw c.in-FormFeed.is c.form_feed.ensures
+
+pub returns-in-Reset : goal.returns-in-Reset
+returns-in-Reset g c = rw c.in-Reset.is c.reset.ensures
+
+pub returns-in-ClearMargins : goal.returns-in-ClearMargins
+returns-in-ClearMargins g c = rw c.in-ClearMargins.is c.clear_margins.ensures
+
+pub returns-in-HalfLineFeed : goal.returns-in-HalfLineFeed
+returns-in-HalfLineFeed g c = rw c.in-HalfLineFeed.is c.half_line_feed.ensures
+
+pub returns-in-Parameterized : goal.returns-in-Parameterized
+returns-in-Parameterized g c = rw c.in-Parameterized.is c.carry_out_command.ensures
+
+pub returns-in-SymbolSet : goal.returns-in-SymbolSet
+returns-in-SymbolSet g c = rw c.in-SymbolSet.is c.set_symbol_set.ensures
+
+pub returns-in-DefaultFont : goal.returns-in-DefaultFont
+returns-in-DefaultFont g c = rw c.in-DefaultFont.is c.default_font.ensures

@@ -1,0 +1,333 @@
+//! Rows of rasters, and rows that are skipped.
+#![tactic(auto, unfolding(crate::specs::Answers::CarriesOut, crate::specs::Answers::PrintsRow))]
+
+ghost use Rattle.std.specs.Prelude.{◌≡◌, ◌≤◌, ◌<◌, ◌*◌, ◌^◌, length, reverse, cond, is_some, IfSome, pos, neg_ℤ, ◌+ℤ◌, ◌≤ℤ◌, ◌&&◌, int_lt, Some, None, MatchResult};
+ghost use Rattle.std.specs.List.{position};
+ghost use Rattle.std.specs.Option.{option_map};
+ghost use Rattle.pcl_items.specs.Items.{amount};
+ghost use Rattle.page_env.specs.Mark.{pixel_of, white_ahead, black_end, row_bounds, row_of, shapes_of, is_inside};
+ghost use Rattle.page_env.specs.Places.{is_between};
+ghost use Rattle.page_env.specs.Rasters.{passes_height, raster_behind, place_behind, skip_rows, up_to_black, is_black, blank_ahead, has_black, passes_width, row_from, row_checks, place_checks, marks_of, print_row};
+ghost use Rattle.page_env.specs.Effect.{first_finding};
+ghost use Rattle.page_env.specs.Answers.{Steps, PrintsRow};
+
+use crate::change::Carried;
+use crate::finding::Finding;
+use crate::mark::{Mark, RasterRow};
+use crate::motion::up_to;
+use crate::number::{is_whole_between, whole_of};
+use crate::page::{Coordinate, Page, RasterSettings, Resolution, StartedRaster};
+use crate::places::{geometry_and_vertical, length_at, span_between};
+use device_profile::{Geometry, Profile};
+use pcl_items::Number;
+use std::alloc::Allocator;
+use tick_length::Length;
+
+/// How far a pixel goes, in ticks.
+fn pixel_of(resolution: Resolution) -> u32
+    ensures { result ≡ pixel_of resolution }
+{
+    match resolution {
+        Resolution::Dots75 => 487_680_000,
+        Resolution::Dots100 => 365_760_000,
+        Resolution::Dots150 => 243_840_000,
+        Resolution::Dots200 => 182_880_000,
+        Resolution::Dots300 => 121_920_000,
+        Resolution::Dots600 => 60_960_000,
+    }
+}
+
+/// The raster behind so many rows, unless they are more than its height has left.
+fn raster_behind(rows: u32, raster: StartedRaster) -> Option<StartedRaster>
+    ensures { result ≡ cond (passes_height rows raster) None (Some (raster_behind rows raster)) }
+{
+    match raster.rows_left {
+        None => Some(raster),
+        Some(left) if left < rows => None,
+        Some(left) => Some(StartedRaster {
+            rows_left: Some(left - rows),
+        }),
+    }
+}
+
+/// The place so many rows below another, unless it lies past a limit.
+fn place_behind(
+    y: Coordinate,
+    rows: u32,
+    resolution: Resolution,
+    limit: Length,
+) -> Option<Coordinate>
+    ensures { let place = y +ℤ pos (rows * pixel_of resolution) in
+        result ≡ cond (int_lt limit place) None (Some place) }
+{
+    let by = u64::from(rows) * u64::from(pixel_of(resolution));
+    up_to(limit.ticks(), i128::from(y.ticks()) + i128::from(by))
+}
+
+/// `*b#Y`: leaves so many rows white.
+pub(crate) fn skip_rows<A: Allocator>(
+    profile: &Profile<A>,
+    page: &mut Page,
+    n: Number,
+) -> Result<Carried, Finding>
+    ensures { Steps (λ s. skip_rows profile.now s (amount n)) page.old page.new result }
+{
+    if !is_whole_between(0, 32_767, n) {
+        return Err(Finding::BadValue);
+    }
+    let Some(raster) = page.raster else {
+        return Err(Finding::RasterNotStarted);
+    };
+    let Some(behind) = raster_behind(whole_of(n), raster) else {
+        return Err(Finding::RasterTooBig);
+    };
+    let (geometry, y) = geometry_and_vertical(profile, page)?;
+    let resolution = page.env.job.raster.resolution;
+    match place_behind(y, whole_of(n), resolution, geometry.logical_height) {
+        None => Err(Finding::OffPage),
+        Some(y) => {
+            page.cursor.y = Some(y);
+            page.raster = Some(behind);
+            Ok(Carried::Stepped)
+        }
+    }
+}
+
+/// How many bytes come behind the last one with a black pixel, if there is one.
+fn blank_behind(bytes: &[u8]) -> Option<usize>
+    ensures value { result ≡ position is_black (reverse bytes.now) }
+    ensures short { IfSome result (λ behind. behind < length bytes.now) }
+{
+    bytes.iter().rev().position(|byte| *byte != 0)
+}
+
+/// The bytes of a row up to its last one with a black pixel.
+#[tactic(auto, unfolding(crate::specs::Rasters::up_to_black))]
+fn up_to_black(bytes: &[u8]) -> &[u8]
+    ensures value { result.now ≡ up_to_black bytes.now }
+    ensures short { length result.now ≤ length bytes.now }
+{
+    match blank_behind(bytes) {
+        None => &[],
+        Some(behind) => &bytes[..bytes.len() - behind],
+    }
+}
+
+/// How many bytes come before the first one with a black pixel, if there is one.
+#[tactic(auto, unfolding(crate::specs::Rasters::blank_ahead))]
+fn blank_ahead(bytes: &[u8]) -> Option<usize>
+    ensures { result ≡ cond (has_black bytes.now) (Some (blank_ahead bytes.now)) None }
+{
+    bytes.iter().position(|byte| *byte != 0)
+}
+
+/// How many pixels there are up to the last black one, where the last byte has one.
+fn black_end(bytes: &[u8]) -> u32
+    requires { length bytes.now ≤ 32767 }
+    ensures value { result ≡ black_end bytes.now }
+    ensures small { result ≤ 262136 }
+{
+    match bytes {
+        [] => 0,
+        [.., last] => 8 * bytes.len() as u32 - last.trailing_zeros(),
+    }
+}
+
+/// Whether the last black pixel lies at or past the width.
+fn passes_width(raster: &RasterSettings, bytes: &[u8]) -> bool
+    requires { length bytes.now ≤ 32767 }
+    ensures { result ≡ passes_width raster.now bytes.now }
+{
+    match raster.width {
+        None => false,
+        Some(width) => width < black_end(bytes),
+    }
+}
+
+/// How many pixels come before the first black one, where the first byte has one.
+fn white_ahead(bytes: &[u8]) -> u32
+    requires { 0 < length bytes.now }
+    ensures value { result ≡ white_ahead bytes.now }
+    ensures small { result ≤ 8 }
+{
+    bytes[0].leading_zeros()
+}
+
+/// How far so many pixels go.
+fn width_of(pixels: u32, resolution: Resolution) -> Length
+    requires { pixels ≤ 262136 }
+    ensures { result ≡ pos (pixels * pixel_of resolution) }
+{
+    length_at(i128::from(u64::from(pixels) * u64::from(pixel_of(resolution))))
+}
+
+/// A place of the logical page, which begins so far from the edge of the physical one.
+fn place_on_paper(edge: Length, place: Length) -> Coordinate
+    ensures value { result ≡ edge +ℤ place }
+    ensures low { neg_ℤ (pos (2 ^ 61)) ≤ℤ result }
+    ensures high { result ≤ℤ pos (2 ^ 61) }
+{
+    Coordinate::from_ticks(edge.ticks() + place.ticks())
+}
+
+/// A place so far behind another.
+fn behind(place: Coordinate, by: Length) -> Coordinate
+    requires low { neg_ℤ (pos (2 ^ 61)) ≤ℤ place }
+    requires high { place ≤ℤ pos (2 ^ 61) }
+    ensures { result ≡ place +ℤ by }
+{
+    Coordinate::from_ticks(place.ticks() + by.ticks())
+}
+
+/// Where the first byte with a black pixel begins, where so many come before it.
+fn first_byte(left: Length, x: Length, blank: usize, resolution: Resolution) -> Coordinate
+    requires { blank ≤ 32767 }
+    ensures { result ≡ (left +ℤ x) +ℤ pos (8 * blank * pixel_of resolution) }
+{
+    behind(place_on_paper(left, x), width_of(8 * blank as u32, resolution))
+}
+
+/// Whether a place lies between two bounds.
+#[tactic(auto, unfolding(crate::specs::Places::is_between))]
+fn lies_between(low: Length, high: Length, place: i128) -> bool
+    ensures { result ≡ is_between low high place }
+{
+    i128::from(low.ticks()) <= place && place <= i128::from(high.ticks())
+}
+
+/// Whether the place so many pixels behind another lies between two bounds.
+fn pixel_lies_between(
+    x: Coordinate,
+    pixels: u32,
+    resolution: Resolution,
+    low: Length,
+    high: Length,
+) -> bool
+    ensures { result ≡ is_between low high (x +ℤ pos (pixels * pixel_of resolution)) }
+{
+    let by = u64::from(pixels) * u64::from(pixel_of(resolution));
+    lies_between(low, high, i128::from(x.ticks()) + i128::from(by))
+}
+
+/// The upper edge of a row at a place of the logical page, if the row lies between two bounds.
+fn row_top(
+    top: Length,
+    y: Coordinate,
+    resolution: Resolution,
+    low: Length,
+    high: Length,
+) -> Option<Length>
+    ensures { let edge = top +ℤ y in
+        result ≡ cond (is_between low high edge && is_between low high (edge +ℤ pos (pixel_of resolution))) (Some edge) None }
+{
+    let pixel = width_of(1, resolution);
+    let (edge, _) = span_between(top, y.ticks(), pixel, low, high)?;
+    Some(edge)
+}
+
+/// A row from a place of the logical page, if its black pixels lie within the printable area. It ends with a byte with a black
+/// pixel, and so many bytes come before the first one.
+#[tactic(auto, unfolding(crate::specs::Mark::is_inside))]
+fn row_inside<'a>(
+    geometry: &Geometry,
+    resolution: Resolution,
+    x: Length,
+    y: Coordinate,
+    black: &'a [u8],
+    blank: usize,
+) -> Option<RasterRow<'a>>
+    requires blank { blank ≡ blank_ahead black.now }
+    requires some { blank < length black.now }
+    requires short { length black.now ≤ 32767 }
+    ensures { let row = row_from geometry.now resolution x y black.now in
+        option_map row_of result ≡ cond (is_inside geometry.now (row_bounds row)) (Some row) None }
+{
+    let bytes = &black[blank..];
+    let left = first_byte(geometry.logical_left, x, blank, resolution);
+    let (low, high) = (geometry.printable_left, geometry.printable_right);
+    if !pixel_lies_between(left, white_ahead(bytes), resolution, low, high) {
+        return None;
+    }
+    if !pixel_lies_between(left, black_end(bytes), resolution, low, high) {
+        return None;
+    }
+    let (low, high) = (geometry.printable_top, geometry.printable_bottom);
+    match row_top(geometry.logical_top, y, resolution, low, high) {
+        None => None,
+        Some(y) => Some(RasterRow {
+            resolution,
+            x: left,
+            y,
+            bytes,
+        }),
+    }
+}
+
+/// The raster behind a row, unless the row has no place in it.
+fn row_behind(page: &Page, black: &[u8]) -> Result<StartedRaster, Finding>
+    requires { length black.now ≤ 32767 }
+    ensures { let checks = row_checks page.now.env.job.raster page.now.raster black.now in MatchResult result
+        (λ behind. (option_map (raster_behind 1) page.now.raster ≡ Some behind) × (first_finding checks ≡ None))
+        (λ finding. first_finding checks ≡ Some finding) }
+{
+    let Some(raster) = page.raster else {
+        return Err(Finding::RasterNotStarted);
+    };
+    let Some(behind) = raster_behind(1, raster) else {
+        return Err(Finding::RasterTooBig);
+    };
+    if passes_width(&page.env.job.raster, black) {
+        return Err(Finding::RasterTooBig);
+    }
+    Ok(behind)
+}
+
+/// A row at the cursor, where its vertical place is this, and the place below it; there is no row where no byte has a black pixel.
+fn judged<'a>(
+    geometry: &Geometry,
+    page: &Page,
+    y: Coordinate,
+    black: &'a [u8],
+) -> Result<(Coordinate, Option<Mark<'a>>), Finding>
+    requires { length black.now ≤ 32767 }
+    ensures { let resolution = page.now.env.job.raster.resolution in
+        let x = page.now.cursor.x in
+        let checks = place_checks geometry.now resolution x y black.now in
+        MatchResult result
+        (λ answer. (answer.0 ≡ place_behind resolution y 1) × (shapes_of answer.1 ≡ marks_of black.now (row_from geometry.now resolution x y black.now)) × (is_some answer.1 ≡ has_black black.now) × (first_finding checks ≡ None))
+        (λ finding. first_finding checks ≡ Some finding) }
+{
+    let resolution = page.env.job.raster.resolution;
+    let Some(below) = place_behind(y, 1, resolution, geometry.logical_height) else {
+        return Err(Finding::OffPage);
+    };
+    let Some(blank) = blank_ahead(black) else {
+        return Ok((below, None));
+    };
+    match row_inside(geometry, resolution, page.cursor.x, y, black, blank) {
+        None => Err(Finding::NotPrintable),
+        Some(row) => Ok((below, Some(Mark::Row(row)))),
+    }
+}
+
+/// `*b#W`: one row of a raster at the cursor, which moves a pixel down.
+pub fn print_row<'a, A: Allocator>(
+    profile: &Profile<A>,
+    page: &mut Page,
+    bytes: &'a [u8],
+) -> Result<Option<Mark<'a>>, Finding>
+    requires { length bytes.now ≤ 32767 }
+    ensures { PrintsRow (λ s. print_row profile.now s bytes.now) page.old page.new result }
+{
+    let black = up_to_black(bytes);
+    let behind = row_behind(page, black)?;
+    let (geometry, y) = geometry_and_vertical(profile, page)?;
+    let (below, row) = match judged(&geometry, page, y, black) {
+        Err(finding) => return Err(finding),
+        Ok(answer) => answer,
+    };
+    page.cursor.y = Some(below);
+    page.raster = Some(behind);
+    page.marked = row.is_some() || page.marked;
+    Ok(row)
+}
