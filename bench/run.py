@@ -130,6 +130,23 @@ def line_of_text(number, line):
     return bytes(32 if i % 6 == 5 else 33 + (number + line + i) % 94 for i in range(length))
 
 
+def raster(number):
+    """600 rows of 40 to 300 bytes, as a scanned form has them, a third of them blank at both ends."""
+    yield b"\x1b*t300R\x1b*r0F" + to_units(0, 300) + b"\x1b*r1A"
+    for row in range(600):
+        data = row_of_raster(number, row)
+        yield b"\x1b*b%dW" % len(data) + data
+    yield b"\x1b*rB" + FORM_FEED
+
+
+def row_of_raster(number, row):
+    """A row of black and white pixels, the first and the last byte black, or with white bytes before and behind."""
+    length = 40 + (37 * row + 53 * number) % 261
+    blank = length // 8 if row % 3 == 2 else 0
+    bytes_between = bytes(1 + (number + 7 * row + 31 * i) % 255 for i in range(length - 2 * blank))
+    return bytes(blank) + bytes_between + bytes(blank)
+
+
 def rectangle(width, height):
     """A solid rectangle at the cursor, in PCL units."""
     return b"\x1b*c%da%db0P" % (width, height)
@@ -145,7 +162,7 @@ def to_cell(column, row):
     return b"\x1b&a%dc%dR" % (column, row)
 
 
-KINDS = {maker.__name__: maker for maker in (rectangles, lines, text, mix)}
+KINDS = {maker.__name__: maker for maker in (rectangles, lines, text, raster, mix)}
 
 
 @dataclass(frozen=True)

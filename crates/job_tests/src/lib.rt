@@ -36,6 +36,8 @@ mod profile_texts;
 #[cfg(test)]
 mod profiles;
 #[cfg(test)]
+mod rasters;
+#[cfg(test)]
 mod recording;
 #[cfg(test)]
 mod rows;

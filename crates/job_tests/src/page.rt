@@ -6,10 +6,11 @@ use page_env::Finding::{
     BadValue, Inexact, MarginIgnored, NotOnDevice, OffPage, StackEmpty, StackFull, Unset,
 };
 use page_env::{
-    Bounds, Carried, Cell, Fill, Finding, Page, PageChange, PageEnd, Coordinate, carry_out,
-    change_page, first_page, page_end, user_defaults, user_defaults_of,
+    Area, Bounds, Carried, Cell, Coordinate, Fill, Finding, Page, PageChange, PageEnd, carry_out,
+    change_page, fill_rectangle, fill_value, first_page, page_end, user_defaults,
+    user_defaults_of,
 };
-use pcl_items::{Item, Number, OwnedItem, Place, Sign};
+use pcl_items::{Item, Number, OwnedItem, Place, Sign, SimpleItem};
 use std::alloc::Global;
 use std::process::Abort;
 use std::test::Fail;
@@ -135,25 +136,39 @@ fn letter_page() -> Page {
     first_page(user_defaults_of(&panel))
 }
 
+/// What an item did.
+#[derive(Clone, Copy, Debug)]
+enum Did {
+    Step(Carried),
+    Fill(Area),
+}
+
+fn carry_out_one(profile: &Profile, page: &mut Page, item: &SimpleItem) -> Result<Did, Finding> {
+    match fill_value(item) {
+        Some(n) => Ok(Did::Fill(fill_rectangle(profile, page, n)?)),
+        None => Ok(Did::Step(carry_out(profile, page, item)?)),
+    }
+}
+
 /// The last of the items, so many times, or the first that is not one step without a mark.
 fn carry_out_all(
     profile: &Profile,
     page: &mut Page,
     times: u32,
     items: &[(Place, OwnedItem)],
-) -> Result<Carried, Finding> {
+) -> Result<Did, Finding> {
     for _ in 0..times {
         for (_, item) in items {
             let Item::Simple(item) = item.as_item() else {
                 continue;
             };
-            match carry_out(profile, page, &item) {
-                Ok(Carried::Stepped) => {}
+            match carry_out_one(profile, page, &item) {
+                Ok(Did::Step(Carried::Stepped)) => {}
                 other => return other,
             }
         }
     }
-    Ok(Carried::Stepped)
+    Ok(Did::Step(Carried::Stepped))
 }
 
 /// The left, top, right and bottom edge, in ticks.
@@ -167,20 +182,20 @@ fn edges_of(bounds: Bounds) -> [i64; 4] {
 }
 
 /// Whether the last item came to this.
-fn has_come_to(page: &Page, carried: Result<Carried, Finding>, comes: Comes) -> bool {
+fn has_come_to(page: &Page, did: Result<Did, Finding>, comes: Comes) -> bool {
     let job = &page.env.job;
-    match (carried, comes) {
-        (Ok(Carried::Stepped), To(x, y)) => {
+    match (did, comes) {
+        (Ok(Did::Step(Carried::Stepped)), To(x, y)) => {
             page.cursor.x.ticks() == x && page.cursor.y.map(Coordinate::ticks) == y
         }
-        (Ok(Carried::Stepped), RightMargin(ticks)) => {
+        (Ok(Did::Step(Carried::Stepped)), RightMargin(ticks)) => {
             job.right_margin.map(Length::ticks) == Some(ticks)
         }
-        (Ok(Carried::Stepped), TopMargin(ticks)) => job.top_margin.ticks() == ticks,
-        (Ok(Carried::Filled(area)), Rectangle(edges)) => {
+        (Ok(Did::Step(Carried::Stepped)), TopMargin(ticks)) => job.top_margin.ticks() == ticks,
+        (Ok(Did::Fill(area)), Rectangle(edges)) => {
             page.marked && area.fill == Fill::Solid && edges_of(area.bounds) == edges
         }
-        (Ok(Carried::Closing(PageChange::Home)), Closes) => true,
+        (Ok(Did::Step(Carried::Closing(PageChange::Home))), Closes) => true,
         (Err(found), Found(finding)) => found == finding,
         _ => false,
     }
@@ -196,10 +211,10 @@ fn check_page(
     let mut page = letter_page();
     for (times, bytes, comes) in steps {
         let items = items_of(rt, alloc, bytes)?;
-        let carried = carry_out_all(profile, &mut page, *times, &items);
+        let did = carry_out_all(profile, &mut page, *times, &items);
         assert!(rt;
-            has_come_to(&page, carried, *comes),
-            "{carried:?} at {bytes:?}"
+            has_come_to(&page, did, *comes),
+            "{did:?} at {bytes:?}"
         );
     }
     Ok(())

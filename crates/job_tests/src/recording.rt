@@ -18,7 +18,7 @@ enum Event {
     Letter(u32),
 }
 
-fn square(side: u32) -> Mark {
+fn square(side: u32) -> Mark<'static> {
     Mark::Rect(Area {
         fill: Fill::Solid,
         bounds: Bounds {

@@ -23,7 +23,7 @@ use Rattle.page_env.specs.Mark.{Character, characters_of, is_inside}
 use Rattle.page_env.specs.Places.{column_with, column_from, column_of, column_reads, home_of, right_of, vertical_place, vertical_reads}
 use Rattle.page_env.specs.Effect.{check, first_finding, first_unset, is_unset, effect_of, Step, Goes}
 use Rattle.page_env.specs.Text.{edge_checks, character_checks, character_box, text_reads, behind_of, advanced, space, character, print_byte}
-use Rattle.page_env.specs.Answers.{Prints}
+use Rattle.page_env.specs.Answers.{Marks}
 use Rattle.page_env.specs.TextRun as run
 use Rattle.page_env.specs.TextRun.{glyph_in, look_behind, page_behind, AllGo, CanGoIn, GoFirst, IsRun, page_behind_all, glyph_count}
 use Rattle.page_env.specs.TextMeasure.{TextMeasure, IsMeasured, HasMeasure, HasColumn, HasColumns, box_at, look_at, GoLike, IsMeasuredRun}
@@ -125,7 +125,7 @@ module _ (printer : Printer) (m : TextMeasure) where
       record { read = k.read; request = k.request; face = k.face; geometry = k.geometry; y = k.y; column = k.column; right = k.right; no_raster = k.no_raster }
 
   goes : (page : Page) (code : ℕ) → HasMeasure printer page m → HasColumn m page.cursor.x → is_text_of m.face.codes code ≡ true → run.Goes printer (look_at m page.cursor.x) page code
-  unfolding Prints
+  unfolding Marks
   goes page code h k known = record {
     text = text_of_face m.face code known;
     no_raster = (h some_panel).no_raster;

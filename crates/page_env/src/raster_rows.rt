@@ -1,5 +1,5 @@
 //! Rows of rasters, and rows that are skipped.
-#![tactic(auto, unfolding(crate::specs::Answers::CarriesOut, crate::specs::Answers::PrintsRow))]
+#![tactic(auto, unfolding(crate::specs::Answers::CarriesOut, crate::specs::Answers::Marks))]
 
 ghost use Rattle.std.specs.Prelude.{◌≡◌, ◌≤◌, ◌<◌, ◌*◌, ◌^◌, length, reverse, cond, is_some, IfSome, pos, neg_ℤ, ◌+ℤ◌, ◌≤ℤ◌, ◌&&◌, int_lt, Some, None, MatchResult};
 ghost use Rattle.std.specs.List.{position};
@@ -9,7 +9,7 @@ ghost use Rattle.page_env.specs.Mark.{pixel_of, white_ahead, black_end, row_boun
 ghost use Rattle.page_env.specs.Places.{is_between};
 ghost use Rattle.page_env.specs.Rasters.{passes_height, raster_behind, place_behind, skip_rows, up_to_black, is_black, blank_ahead, has_black, passes_width, row_from, row_checks, place_checks, marks_of, print_row};
 ghost use Rattle.page_env.specs.Effect.{first_finding};
-ghost use Rattle.page_env.specs.Answers.{Steps, PrintsRow};
+ghost use Rattle.page_env.specs.Answers.{Steps, Marks};
 
 use crate::change::Carried;
 use crate::finding::Finding;
@@ -317,7 +317,7 @@ pub fn print_row<'a, A: Allocator>(
     bytes: &'a [u8],
 ) -> Result<Option<Mark<'a>>, Finding>
     requires { length bytes.now ≤ 32767 }
-    ensures { PrintsRow (λ s. print_row profile.now s bytes.now) page.old page.new result }
+    ensures { Marks shapes_of (λ s. print_row profile.now s bytes.now) page.old page.new result }
 {
     let black = up_to_black(bytes);
     let behind = row_behind(page, black)?;

@@ -1,5 +1,5 @@
 //! Text, and transparent print data.
-#![tactic(auto, unfolding(crate::specs::Answers::Prints))]
+#![tactic(auto, unfolding(crate::specs::Answers::Marks))]
 
 ghost use Rattle.std.specs.Prelude.{◌≡◌, pos, ◌+ℤ◌, ◌-ℤ◌, ◌≤ℤ◌, cond, unwrap_or, int_lt, true, false, None, Some, MatchResult};
 ghost use Rattle.page_env.specs.Settings.{state_at};

@@ -3,7 +3,7 @@ use Rattle.std.proofs.Common.{◌≡◌, ℕ, List, [], ◌∷◌, refl, sym, ap
 use Rattle.device_profile.specs.declared.panel.Panel.{Panel}
 use Rattle.pcl_items.specs.Items.{Text}
 use Rattle.page_env.specs.declared.text_run.Look.{Look}
-use Rattle.page_env.specs.Answers.{Prints}
+use Rattle.page_env.specs.Answers.{Marks}
 use Rattle.page_env.specs.Settings.{State, state_at}
 use Rattle.page_env.specs.TextRun.{Goes, AllGo, look_behind, page_behind, page_behind_all}
 use Rattle.page_machine.specs.Event.{Event}
@@ -19,7 +19,7 @@ step_ends events s = let whole = append-nil events in λ i. record { events = sy
 byte_prints : (machine : MachineState) (look : Look) (code : ℕ) → Goes machine.printer look machine.page code → (panel : Panel) →
     let s = state_at panel (page_behind look code machine.page) in
     item_run_of machine (Text code) panel ≡ after (glyph_events look code) (peaks_of s) (just [] (Done s))
-unfolding Prints
+unfolding Marks
 byte_prints machine look code h panel =
     ap (λ raster. begun_run (conditions_of machine panel) (Text code) (record (state_at panel machine.page) { raster = raster })) (sym h.no_raster)
     ∙ ap (effect_run page_close) (h.prints panel) ∙ step_ends (glyph_events look code) (state_at panel (page_behind look code machine.page))

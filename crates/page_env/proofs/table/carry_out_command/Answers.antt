@@ -72,9 +72,6 @@ returns-in-RectangleWidth g c = rw c.in-RectangleWidth.is c.set_rectangle_width.
 pub returns-in-RectangleHeight : goal.returns-in-RectangleHeight
 returns-in-RectangleHeight g c = rw c.in-RectangleHeight.is c.set_rectangle_height.ensures
 
-pub returns-in-FillRectangle : goal.returns-in-FillRectangle
-returns-in-FillRectangle g c = rw c.in-FillRectangle.is c.fill_rectangle.ensures
-
 pub returns-in-RectangleWidthDecipoints : goal.returns-in-RectangleWidthDecipoints
 returns-in-RectangleWidthDecipoints g c = rw c.in-RectangleWidthDecipoints.is c.set_rectangle_width_decipoints.ensures
 
