@@ -1,5 +1,5 @@
 //! Cursor positioning and the cursor stack.
-#![tactic(auto, unfolding(crate::specs::Answers::CarriesOut))]
+#![tactic(auto, unfolding(crate::specs::Answers::Marks))]
 
 ghost use Rattle.std.specs.Prelude.{cond, Some, []};
 ghost use Rattle.pcl_items.specs.Items.{amount};
@@ -10,7 +10,6 @@ ghost use Rattle.page_env.specs.Places.{vertical_place, geometry_of, page_reads}
 ghost use Rattle.page_env.specs.CursorPositioning.{push_cursor, pop_cursor, use_stack, move_across, move_from_top, relative_reads, move_x, move_y, move_x_decipoints, move_y_decipoints, move_columns, move_rows};
 ghost use Rattle.page_env.specs.Answers.{CarriesOut, Steps};
 
-use crate::change::Carried;
 use crate::finding::Finding;
 use crate::number::{is_whole_between, whole_of};
 use crate::page::{Page, Coordinate};
@@ -29,7 +28,7 @@ fn move_across<A: Allocator>(
     page: &mut Page,
     sign: Sign,
     by: u64,
-) -> Result<Carried, Finding>
+) -> Result<(), Finding>
     ensures { Steps (λ s. move_across profile.now s page_reads [] sign (Some by)) page.old page.new result }
 {
     let geometry = geometry(profile, page)?;
@@ -38,7 +37,7 @@ fn move_across<A: Allocator>(
         None => Err(Finding::OffPage),
         Some(x) => {
             page.cursor.x = x;
-            Ok(Carried::Stepped)
+            Ok(())
         }
     }
 }
@@ -48,7 +47,7 @@ pub(crate) fn move_x<A: Allocator>(
     profile: &Profile<A>,
     page: &mut Page,
     n: Number,
-) -> Result<Carried, Finding>
+) -> Result<(), Finding>
     ensures { Steps (λ s. move_x profile.now s (amount n)) page.old page.new result }
 {
     let unit = Unit::PclUnit(page.env.job.units_per_inch);
@@ -60,7 +59,7 @@ pub(crate) fn move_x_decipoints<A: Allocator>(
     profile: &Profile<A>,
     page: &mut Page,
     n: Number,
-) -> Result<Carried, Finding>
+) -> Result<(), Finding>
     ensures { Steps (λ s. move_x_decipoints profile.now s (amount n)) page.old page.new result }
 {
     move_across(
@@ -76,7 +75,7 @@ pub(crate) fn move_columns<A: Allocator>(
     profile: &Profile<A>,
     page: &mut Page,
     n: Number,
-) -> Result<Carried, Finding>
+) -> Result<(), Finding>
     ensures { Steps (λ s. move_columns profile.now s (amount n)) page.old page.new result }
 {
     let (geometry, column) = geometry_and_column(profile, page)?;
@@ -92,7 +91,7 @@ pub(crate) fn move_columns<A: Allocator>(
         None => Err(Finding::OffPage),
         Some(x) => {
             page.cursor.x = x;
-            Ok(Carried::Stepped)
+            Ok(())
         }
     }
 }
@@ -131,7 +130,7 @@ fn move_from_top<A: Allocator>(
     page: &mut Page,
     sign: Sign,
     by: u64,
-) -> Result<Carried, Finding>
+) -> Result<(), Finding>
     ensures { Steps (λ s. move_from_top profile.now s sign by) page.old page.new result }
 {
     let (geometry, from) = geometry_and_origin(profile, page, sign)?;
@@ -139,7 +138,7 @@ fn move_from_top<A: Allocator>(
         None => Err(Finding::OffPage),
         Some(y) => {
             page.cursor.y = Some(y);
-            Ok(Carried::Stepped)
+            Ok(())
         }
     }
 }
@@ -149,7 +148,7 @@ pub(crate) fn move_y<A: Allocator>(
     profile: &Profile<A>,
     page: &mut Page,
     n: Number,
-) -> Result<Carried, Finding>
+) -> Result<(), Finding>
     ensures { Steps (λ s. move_y profile.now s (amount n)) page.old page.new result }
 {
     let unit = Unit::PclUnit(page.env.job.units_per_inch);
@@ -161,7 +160,7 @@ pub(crate) fn move_y_decipoints<A: Allocator>(
     profile: &Profile<A>,
     page: &mut Page,
     n: Number,
-) -> Result<Carried, Finding>
+) -> Result<(), Finding>
     ensures { Steps (λ s. move_y_decipoints profile.now s (amount n)) page.old page.new result }
 {
     move_from_top(
@@ -177,7 +176,7 @@ pub(crate) fn move_rows<A: Allocator>(
     profile: &Profile<A>,
     page: &mut Page,
     n: Number,
-) -> Result<Carried, Finding>
+) -> Result<(), Finding>
     ensures { Steps (λ s. move_rows profile.now s (amount n)) page.old page.new result }
 {
     let (geometry, vmi) = geometry_and_vmi(profile, page)?;
@@ -191,13 +190,13 @@ pub(crate) fn move_rows<A: Allocator>(
         None => Err(Finding::OffPage),
         Some(y) => {
             page.cursor.y = Some(y);
-            Ok(Carried::Stepped)
+            Ok(())
         }
     }
 }
 
 /// `&f0S`: pushes the cursor.
-fn push_cursor(page: &mut Page, n: Number) -> Result<Carried, Finding>
+fn push_cursor(page: &mut Page, n: Number) -> Result<(), Finding>
     ensures { Steps (λ s. push_cursor s (amount n)) page.old page.new result }
 {
     if !is_whole_between(0, 1, n) {
@@ -209,11 +208,11 @@ fn push_cursor(page: &mut Page, n: Number) -> Result<Carried, Finding>
     let y = vertical(page)?;
     page.cursor.y = Some(y);
     page.stack.push(page.cursor);
-    Ok(Carried::Stepped)
+    Ok(())
 }
 
 /// `&f1S`: pops the cursor that was pushed last.
-fn pop_cursor(page: &mut Page, n: Number) -> Result<Carried, Finding>
+fn pop_cursor(page: &mut Page, n: Number) -> Result<(), Finding>
     ensures { Steps (λ s. pop_cursor s (amount n)) page.old page.new result }
 {
     if !is_whole_between(0, 1, n) {
@@ -223,13 +222,13 @@ fn pop_cursor(page: &mut Page, n: Number) -> Result<Carried, Finding>
         None => Err(Finding::StackEmpty),
         Some(cursor) => {
             page.cursor = cursor;
-            Ok(Carried::Stepped)
+            Ok(())
         }
     }
 }
 
 /// `&f#S`: pushes or pops the cursor.
-pub(crate) fn use_stack(page: &mut Page, n: Number) -> Result<Carried, Finding>
+pub(crate) fn use_stack(page: &mut Page, n: Number) -> Result<(), Finding>
     ensures { Steps (λ s. use_stack s (amount n)) page.old page.new result }
 {
     if whole_of(n) == 0 {

@@ -1,5 +1,5 @@
 //! Job control: number of copies, simplex and duplex, unit of measure, reset.
-#![tactic(auto, unfolding(crate::specs::Answers::CarriesOut))]
+#![tactic(auto, unfolding(crate::specs::Answers::CarriesOut, crate::specs::Answers::Marks))]
 
 ghost use Rattle.std.specs.Prelude.{◌≡◌, ◌==◌, ◌&&◌, true, false, MatchOption};
 ghost use Rattle.std.specs.List.{list_any};
@@ -21,14 +21,14 @@ use std::alloc::Allocator;
 use tick_length::UnitsPerInch;
 
 /// `&l#X`: sets the number of copies.
-pub(crate) fn set_copies(page: &mut Page, n: Number) -> Result<Carried, Finding>
+pub(crate) fn set_copies(page: &mut Page, n: Number) -> Result<(), Finding>
     ensures { Steps (λ s. set_copies s (amount n)) page.old page.new result }
 {
     if !is_whole_between(1, 32_767, n) {
         return Err(Finding::BadValue);
     }
     page.env.fields.copies = Cell::Known(whole_of(n));
-    Ok(Carried::Stepped)
+    Ok(())
 }
 
 /// `&l#S`: simplex or duplex is to be set once a marked page is closed.
@@ -71,14 +71,14 @@ fn units_of(n: Number) -> Option<UnitsPerInch>
 }
 
 /// `&u#D`: sets how many PCL units an inch has.
-pub(crate) fn set_units(page: &mut Page, n: Number) -> Result<Carried, Finding>
+pub(crate) fn set_units(page: &mut Page, n: Number) -> Result<(), Finding>
     ensures { Steps (λ s. set_units s (amount n)) page.old page.new result }
 {
     match units_of(n) {
         None => Err(Finding::BadValue),
         Some(units) => {
             page.env.job.units_per_inch = units;
-            Ok(Carried::Stepped)
+            Ok(())
         }
     }
 }

@@ -1,5 +1,5 @@
 //! Margins: top margin, text length, perforation skip, left and right margin, and their clearing.
-#![tactic(auto, unfolding(crate::specs::Answers::CarriesOut))]
+#![tactic(auto, unfolding(crate::specs::Answers::Marks))]
 
 ghost use Rattle.std.specs.Prelude.{◌≡◌, ◌≤◌, ◌^◌, pos, ◌+◌, ◌*◌, ◌+ℤ◌, int_lt, ◌||◌, ◌==◌, not, cond, Some, None, unwrap_or};
 ghost use Rattle.pcl_items.specs.Items.{amount};
@@ -7,7 +7,6 @@ ghost use Rattle.page_env.specs.Places.{ticks_in};
 ghost use Rattle.page_env.specs.Margins.{is_same, set_perforation_skip, set_top_margin, set_text_length, set_left_margin, set_right_margin, clear_margins};
 ghost use Rattle.page_env.specs.Answers.{CarriesOut, Steps};
 
-use crate::change::Carried;
 use crate::finding::Finding;
 use crate::number::{is_whole_between, is_whole_from, whole_of};
 use crate::page::{JobSettings, Page};
@@ -45,7 +44,7 @@ pub(crate) fn set_top_margin<A: Allocator>(
     profile: &Profile<A>,
     page: &mut Page,
     n: Number,
-) -> Result<Carried, Finding>
+) -> Result<(), Finding>
     ensures { Steps (λ s. set_top_margin profile.now s (amount n)) page.old page.new result }
 {
     if !is_whole_from(0, n) {
@@ -57,7 +56,7 @@ pub(crate) fn set_top_margin<A: Allocator>(
         Some(top) => {
             page.env.job.top_margin = top;
             page.env.job.bottom_margin = None;
-            Ok(Carried::Stepped)
+            Ok(())
         }
     }
 }
@@ -67,7 +66,7 @@ pub(crate) fn set_text_length<A: Allocator>(
     profile: &Profile<A>,
     page: &mut Page,
     n: Number,
-) -> Result<Carried, Finding>
+) -> Result<(), Finding>
     ensures { Steps (λ s. set_text_length profile.now s (amount n)) page.old page.new result }
 {
     if !is_whole_from(1, n) {
@@ -83,7 +82,7 @@ pub(crate) fn set_text_length<A: Allocator>(
         None => Err(Finding::MarginIgnored),
         Some(bottom) => {
             page.env.job.bottom_margin = Some(bottom);
-            Ok(Carried::Stepped)
+            Ok(())
         }
     }
 }
@@ -96,7 +95,7 @@ fn is_same(a: bool, b: bool) -> bool
 }
 
 /// `&l#L`: sets the perforation skip. A change returns the top and the bottom margin to their defaults.
-pub(crate) fn set_perforation_skip(page: &mut Page, n: Number) -> Result<Carried, Finding>
+pub(crate) fn set_perforation_skip(page: &mut Page, n: Number) -> Result<(), Finding>
     ensures { Steps (λ s. set_perforation_skip s (amount n)) page.old page.new result }
 {
     if !is_whole_between(0, 1, n) {
@@ -109,7 +108,7 @@ pub(crate) fn set_perforation_skip(page: &mut Page, n: Number) -> Result<Carried
         page.env.job.top_margin = half_inch();
         page.env.job.bottom_margin = None;
     }
-    Ok(Carried::Stepped)
+    Ok(())
 }
 
 /// The left margin behind so many columns, unless it is to be ignored.
@@ -170,7 +169,7 @@ pub(crate) fn set_left_margin<A: Allocator>(
     profile: &Profile<A>,
     page: &mut Page,
     n: Number,
-) -> Result<Carried, Finding>
+) -> Result<(), Finding>
     ensures { Steps (λ s. set_left_margin profile.now s (amount n)) page.old page.new result }
 {
     if !is_whole_from(0, n) {
@@ -186,7 +185,7 @@ pub(crate) fn set_left_margin<A: Allocator>(
         Some(left) => {
             page.env.job.left_margin = left;
             page.cursor.x = at_least(page.cursor.x, left);
-            Ok(Carried::Stepped)
+            Ok(())
         }
     }
 }
@@ -196,7 +195,7 @@ pub(crate) fn set_right_margin<A: Allocator>(
     profile: &Profile<A>,
     page: &mut Page,
     n: Number,
-) -> Result<Carried, Finding>
+) -> Result<(), Finding>
     ensures { Steps (λ s. set_right_margin profile.now s (amount n)) page.old page.new result }
 {
     if !is_whole_from(0, n) {
@@ -212,16 +211,16 @@ pub(crate) fn set_right_margin<A: Allocator>(
         Some(right) => {
             page.env.job.right_margin = Some(right);
             page.cursor.x = at_most(page.cursor.x, right);
-            Ok(Carried::Stepped)
+            Ok(())
         }
     }
 }
 
 /// `ESC 9`: clears the horizontal margins.
-pub(crate) fn clear_margins(page: &mut Page) -> Result<Carried, Finding>
+pub(crate) fn clear_margins(page: &mut Page) -> Result<(), Finding>
     ensures { Steps (λ s. clear_margins s) page.old page.new result }
 {
     page.env.job.left_margin = Length::ZERO;
     page.env.job.right_margin = None;
-    Ok(Carried::Stepped)
+    Ok(())
 }

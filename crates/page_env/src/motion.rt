@@ -1,5 +1,5 @@
 //! Motion and line ends: VMI, line spacing, HMI, line termination, and the control codes.
-#![tactic(auto, unfolding(crate::specs::Answers::CarriesOut))]
+#![tactic(auto, unfolding(crate::specs::Answers::CarriesOut, crate::specs::Answers::Marks))]
 
 ghost use Rattle.std.specs.Prelude.{◌≡◌, ◌^◌, ◌/◌, ◌==◌, ◌&&◌, ℤ, pos, neg_ℤ, ◌≤ℤ◌, ◌+ℤ◌, ◌-ℤ◌, int_lt, cond, unwrap_or, Some, None, Ok, Err};
 ghost use Rattle.std.specs.List.{list_any};
@@ -31,14 +31,14 @@ pub enum Feed {
 }
 
 /// `&l#C`: sets the vertical motion index, in 1/48 inch.
-pub(crate) fn set_vmi(page: &mut Page, n: Number) -> Result<Carried, Finding>
+pub(crate) fn set_vmi(page: &mut Page, n: Number) -> Result<(), Finding>
     ensures { Steps (λ s. set_vmi s (amount n)) page.old page.new result }
 {
     if !is_up_to(3_350_000, n) {
         return Err(Finding::BadValue);
     }
     page.env.fields.vmi = Cell::Known(n.ten_thousandths);
-    Ok(Carried::Stepped)
+    Ok(())
 }
 
 const LINE_SPACINGS: [u32; 10] = [1, 2, 3, 4, 6, 8, 12, 16, 24, 48];
@@ -64,27 +64,27 @@ fn vmi_of_spacing(n: Number) -> Option<u32>
 }
 
 /// `&l#D`: sets the VMI to so many lines an inch.
-pub(crate) fn set_line_spacing(page: &mut Page, n: Number) -> Result<Carried, Finding>
+pub(crate) fn set_line_spacing(page: &mut Page, n: Number) -> Result<(), Finding>
     ensures { Steps (λ s. set_line_spacing s (amount n)) page.old page.new result }
 {
     match vmi_of_spacing(n) {
         None => Err(Finding::BadValue),
         Some(vmi) => {
             page.env.fields.vmi = Cell::Known(vmi);
-            Ok(Carried::Stepped)
+            Ok(())
         }
     }
 }
 
 /// `&k#H`: sets the horizontal motion index, in 1/120 inch.
-pub(crate) fn set_hmi(page: &mut Page, n: Number) -> Result<Carried, Finding>
+pub(crate) fn set_hmi(page: &mut Page, n: Number) -> Result<(), Finding>
     ensures { Steps (λ s. set_hmi s (amount n)) page.old page.new result }
 {
     if !is_up_to(8_400_000, n) {
         return Err(Finding::BadValue);
     }
     page.env.job.hmi = Some(n.ten_thousandths);
-    Ok(Carried::Stepped)
+    Ok(())
 }
 
 /// The cursor goes home.
@@ -179,7 +179,7 @@ pub(crate) fn half_line_feed<A: Allocator>(
 }
 
 /// `&k#G`: sets what CR, LF and FF do beside what they stand for.
-pub(crate) fn set_line_termination(page: &mut Page, n: Number) -> Result<Carried, Finding>
+pub(crate) fn set_line_termination(page: &mut Page, n: Number) -> Result<(), Finding>
     ensures { Steps (λ s. set_line_termination s (amount n)) page.old page.new result }
 {
     if !is_whole_between(0, 3, n) {
@@ -190,7 +190,7 @@ pub(crate) fn set_line_termination(page: &mut Page, n: Number) -> Result<Carried
         feeds_at_return: value == 1 || value == 3,
         returns_at_feed: value == 2 || value == 3,
     };
-    Ok(Carried::Stepped)
+    Ok(())
 }
 
 /// The cursor goes to the left margin.

@@ -1,5 +1,5 @@
 //! Rows of rasters, and rows that are skipped.
-#![tactic(auto, unfolding(crate::specs::Answers::CarriesOut, crate::specs::Answers::Marks))]
+#![tactic(auto, unfolding(crate::specs::Answers::Marks))]
 
 ghost use Rattle.std.specs.Prelude.{◌≡◌, ◌≤◌, ◌<◌, ◌*◌, ◌^◌, length, reverse, cond, is_some, IfSome, pos, neg_ℤ, ◌+ℤ◌, ◌≤ℤ◌, ◌&&◌, int_lt, Some, None, MatchResult};
 ghost use Rattle.std.specs.List.{position};
@@ -11,7 +11,6 @@ ghost use Rattle.page_env.specs.Rasters.{passes_height, raster_behind, place_beh
 ghost use Rattle.page_env.specs.Effect.{first_finding};
 ghost use Rattle.page_env.specs.Answers.{Steps, Marks};
 
-use crate::change::Carried;
 use crate::finding::Finding;
 use crate::mark::{Mark, RasterRow};
 use crate::motion::up_to;
@@ -69,7 +68,7 @@ pub(crate) fn skip_rows<A: Allocator>(
     profile: &Profile<A>,
     page: &mut Page,
     n: Number,
-) -> Result<Carried, Finding>
+) -> Result<(), Finding>
     ensures { Steps (λ s. skip_rows profile.now s (amount n)) page.old page.new result }
 {
     if !is_whole_between(0, 32_767, n) {
@@ -88,7 +87,7 @@ pub(crate) fn skip_rows<A: Allocator>(
         Some(y) => {
             page.cursor.y = Some(y);
             page.raster = Some(behind);
-            Ok(Carried::Stepped)
+            Ok(())
         }
     }
 }

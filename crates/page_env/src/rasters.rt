@@ -1,5 +1,5 @@
 //! Rasters: their settings, start and end.
-#![tactic(auto, unfolding(crate::specs::Answers::CarriesOut))]
+#![tactic(auto, unfolding(crate::specs::Answers::Marks))]
 
 ghost use Rattle.std.specs.Prelude.{◌≡◌, ◌==◌, not, is_some, ◌&&◌};
 ghost use Rattle.pcl_items.specs.Items.{amount, view};
@@ -9,7 +9,6 @@ ghost use Rattle.page_env.specs.Settings.{state_at};
 ghost use Rattle.device_profile.specs.declared.panel.Panel.{Panel};
 ghost use Rattle.page_env.specs.Answers.{CarriesOut, Steps};
 
-use crate::change::Carried;
 use crate::finding::Finding;
 use crate::number::{is_whole_between, is_whole_from, whole_of};
 use crate::page::{Page, Presentation, Resolution, StartedRaster};
@@ -78,7 +77,7 @@ fn resolution_of(n: Number) -> Option<Resolution>
 }
 
 /// `*t#R`: sets how many pixels an inch has.
-pub(crate) fn set_resolution(page: &mut Page, n: Number) -> Result<Carried, Finding>
+pub(crate) fn set_resolution(page: &mut Page, n: Number) -> Result<(), Finding>
     ensures { Steps (λ s. set_resolution s (amount n)) page.old page.new result }
 {
     let Some(resolution) = resolution_of(n) else {
@@ -88,11 +87,11 @@ pub(crate) fn set_resolution(page: &mut Page, n: Number) -> Result<Carried, Find
         return Err(Finding::RasterLocked);
     }
     page.env.job.raster.resolution = resolution;
-    Ok(Carried::Stepped)
+    Ok(())
 }
 
 /// `*r#S`: sets the width of rasters, in pixels.
-pub(crate) fn set_raster_width(page: &mut Page, n: Number) -> Result<Carried, Finding>
+pub(crate) fn set_raster_width(page: &mut Page, n: Number) -> Result<(), Finding>
     ensures { Steps (λ s. set_raster_width s (amount n)) page.old page.new result }
 {
     if !is_whole_from(1, n) {
@@ -102,11 +101,11 @@ pub(crate) fn set_raster_width(page: &mut Page, n: Number) -> Result<Carried, Fi
         return Err(Finding::RasterLocked);
     }
     page.env.job.raster.width = Some(whole_of(n));
-    Ok(Carried::Stepped)
+    Ok(())
 }
 
 /// `*r#T`: sets the height of rasters, in rows.
-pub(crate) fn set_raster_height(page: &mut Page, n: Number) -> Result<Carried, Finding>
+pub(crate) fn set_raster_height(page: &mut Page, n: Number) -> Result<(), Finding>
     ensures { Steps (λ s. set_raster_height s (amount n)) page.old page.new result }
 {
     if !is_whole_from(1, n) {
@@ -116,7 +115,7 @@ pub(crate) fn set_raster_height(page: &mut Page, n: Number) -> Result<Carried, F
         return Err(Finding::RasterLocked);
     }
     page.env.job.raster.height = Some(whole_of(n));
-    Ok(Carried::Stepped)
+    Ok(())
 }
 
 /// How a value has rasters lie on the page.
@@ -133,7 +132,7 @@ fn presentation_of(n: Number) -> Option<Presentation>
 }
 
 /// `*r#F`: sets how rasters lie on the page.
-pub(crate) fn set_presentation(page: &mut Page, n: Number) -> Result<Carried, Finding>
+pub(crate) fn set_presentation(page: &mut Page, n: Number) -> Result<(), Finding>
     ensures { Steps (λ s. set_presentation s (amount n)) page.old page.new result }
 {
     let Some(presentation) = presentation_of(n) else {
@@ -143,17 +142,17 @@ pub(crate) fn set_presentation(page: &mut Page, n: Number) -> Result<Carried, Fi
         return Err(Finding::RasterLocked);
     }
     page.env.job.raster.presentation = presentation;
-    Ok(Carried::Stepped)
+    Ok(())
 }
 
 /// `*b#M`: sets no compression, which is all that there is.
-pub(crate) fn set_compression(_page: &mut Page, n: Number) -> Result<Carried, Finding>
+pub(crate) fn set_compression(_page: &mut Page, n: Number) -> Result<(), Finding>
     ensures { Steps (λ s. set_compression s (amount n)) _page.old _page.new result }
 {
     if !is_whole_between(0, 0, n) {
         return Err(Finding::BadValue);
     }
-    Ok(Carried::Stepped)
+    Ok(())
 }
 
 /// Whether a raster that lies so would be turned in an orientation.
@@ -164,7 +163,7 @@ fn is_rotated(presentation: Presentation, orientation: u32) -> bool
 }
 
 /// `*r#A`: starts a raster at the left edge of the logical page or at the cursor.
-pub(crate) fn start_raster(page: &mut Page, n: Number) -> Result<Carried, Finding>
+pub(crate) fn start_raster(page: &mut Page, n: Number) -> Result<(), Finding>
     ensures { Steps (λ s. start_raster s (amount n)) page.old page.new result }
 {
     if !is_whole_between(0, 1, n) {
@@ -187,16 +186,16 @@ pub(crate) fn start_raster(page: &mut Page, n: Number) -> Result<Carried, Findin
     page.raster = Some(StartedRaster {
         rows_left: page.env.job.raster.height,
     });
-    Ok(Carried::Stepped)
+    Ok(())
 }
 
 /// `*rB` and `*rC`: end a raster.
-pub(crate) fn end_raster(page: &mut Page, n: Number) -> Result<Carried, Finding>
+pub(crate) fn end_raster(page: &mut Page, n: Number) -> Result<(), Finding>
     ensures { Steps (λ s. end_raster s (amount n)) page.old page.new result }
 {
     if !is_whole_between(0, 0, n) {
         return Err(Finding::BadValue);
     }
     page.raster = None;
-    Ok(Carried::Stepped)
+    Ok(())
 }

@@ -1,3 +1,4 @@
+use Rattle.page_env.proofs.Steps.{as_step}
 use Rattle.page_env.proofs.table.carry_out.Goals as goal
 
 pub returns-in-CarriageReturn : goal.returns-in-CarriageReturn
@@ -13,7 +14,7 @@ pub returns-in-Reset : goal.returns-in-Reset
 returns-in-Reset g c = rw c.in-Reset.is c.reset.ensures
 
 pub returns-in-ClearMargins : goal.returns-in-ClearMargins
-returns-in-ClearMargins g c = rw c.in-ClearMargins.is c.clear_margins.ensures
+returns-in-ClearMargins g c = rw (c.in-ClearMargins.is, c.stepped.ensures) (as_step _ _ _ _ c.clear_margins.ensures)
 
 pub returns-in-HalfLineFeed : goal.returns-in-HalfLineFeed
 returns-in-HalfLineFeed g c = rw c.in-HalfLineFeed.is c.half_line_feed.ensures
@@ -22,7 +23,7 @@ pub returns-in-Parameterized : goal.returns-in-Parameterized
 returns-in-Parameterized g c = rw c.in-Parameterized.is c.carry_out_command.ensures
 
 pub returns-in-SymbolSet : goal.returns-in-SymbolSet
-returns-in-SymbolSet g c = rw c.in-SymbolSet.is c.set_symbol_set.ensures
+returns-in-SymbolSet g c = rw (c.in-SymbolSet.is, c.stepped-in-SymbolSet.ensures) (as_step _ _ _ _ c.set_symbol_set.ensures)
 
 pub returns-in-DefaultFont : goal.returns-in-DefaultFont
-returns-in-DefaultFont g c = rw c.in-DefaultFont.is c.default_font.ensures
+returns-in-DefaultFont g c = rw (c.in-DefaultFont.is, c.stepped-in-DefaultFont.ensures) (as_step _ _ _ _ c.default_font.ensures)

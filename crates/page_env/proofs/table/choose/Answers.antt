@@ -1,0 +1,13 @@
+use Rattle.page_env.proofs.table.choose.Goals as goal
+
+pub returns-in-Sides : goal.returns-in-Sides
+returns-in-Sides g c = rw c.in-Sides.is c.choose_sides.ensures
+
+pub returns-in-Source : goal.returns-in-Source
+returns-in-Source g c = rw c.in-Source.is c.choose_source.ensures
+
+pub returns-in-PageSize : goal.returns-in-PageSize
+returns-in-PageSize g c = rw c.in-PageSize.is c.choose_size.ensures
+
+pub returns-in-Orientation : goal.returns-in-Orientation
+returns-in-Orientation g c = rw c.in-Orientation.is c.choose_orientation.ensures
