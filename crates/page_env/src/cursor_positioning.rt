@@ -12,7 +12,7 @@ ghost use Rattle.page_env.specs.Answers.{CarriesOut, Steps};
 
 use crate::finding::Finding;
 use crate::number::{is_whole_between, whole_of};
-use crate::page::{Page, Coordinate};
+use crate::page::{Coordinate, Page};
 use crate::places::{
     first_line, geometry, geometry_and_column, geometry_and_vmi, target, target_down, ticks_in,
     times, vertical, vertical_with,

@@ -14,7 +14,7 @@ use crate::cell::Cell;
 use crate::change::{Carried, PageChange};
 use crate::finding::Finding;
 use crate::number::{is_up_to, is_whole_between, is_whole_from, whole_of};
-use crate::page::{LineTermination, Page, Coordinate};
+use crate::page::{Coordinate, LineTermination, Page};
 use crate::places::{bottom_margin, geometry_and_vmi, ticks_in, vertical_with};
 use device_profile::{Geometry, Profile};
 use pcl_items::Number;

@@ -183,7 +183,10 @@ fn first_byte(left: Length, x: Length, blank: usize, resolution: Resolution) -> 
     requires { blank ≤ 32767 }
     ensures { result ≡ (left +ℤ x) +ℤ pos (8 * blank * pixel_of resolution) }
 {
-    behind(place_on_paper(left, x), width_of(8 * blank as u32, resolution))
+    behind(
+        place_on_paper(left, x),
+        width_of(8 * blank as u32, resolution),
+    )
 }
 
 /// Whether a place lies between two bounds.

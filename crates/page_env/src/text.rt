@@ -13,7 +13,7 @@ ghost use Rattle.page_env.specs.Answers.{Prints};
 use crate::finding::Finding;
 use crate::font_in_force::font_request;
 use crate::mark::{Bounds, Glyph};
-use crate::page::{Cursor, JobSettings, Page, Coordinate};
+use crate::page::{Coordinate, Cursor, JobSettings, Page};
 use crate::places::{
     column, column_width, geometry_and_vertical, length_at, right_margin, span_between, sum_between,
 };

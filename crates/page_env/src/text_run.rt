@@ -8,7 +8,7 @@ ghost use Rattle.page_env.specs.TextRun.{AllGo, CanGoIn, GoFirst, IsRun, page_be
 ghost use Rattle.page_env.specs.TextMeasure.{HasMeasure, HasColumns, GoLike, IsMeasuredRun, box_at, edge_from, look_at};
 
 use crate::mark::Bounds;
-use crate::page::{Page, Coordinate};
+use crate::page::{Coordinate, Page};
 use crate::places::{column_width, length_at, right_margin};
 use crate::text::{character_place, glyph_inside};
 use device_profile::{CodeRange, FontRequest, FontRow, Geometry, Profile, are_same_ranges};
