@@ -7,8 +7,7 @@ use page_env::Finding::{
 };
 use page_env::{
     Area, Bounds, Carried, Cell, Coordinate, Fill, Finding, Page, PageChange, PageEnd, carry_out,
-    change_page, fill_rectangle, fill_value, first_page, page_end, user_defaults,
-    user_defaults_of,
+    change_page, fill_rectangle, fill_value, first_page, page_end, user_defaults, user_defaults_of,
 };
 use pcl_items::{Item, Number, OwnedItem, Place, Sign, SimpleItem};
 use std::alloc::Global;
@@ -212,10 +211,7 @@ fn check_page(
     for (times, bytes, comes) in steps {
         let items = items_of(rt, alloc, bytes)?;
         let did = carry_out_all(profile, &mut page, *times, &items);
-        assert!(rt;
-            has_come_to(&page, did, *comes),
-            "{did:?} at {bytes:?}"
-        );
+        assert!(rt; has_come_to(&page, did, *comes), "{did:?} at {bytes:?}");
     }
     Ok(())
 }

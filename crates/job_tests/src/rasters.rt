@@ -37,18 +37,12 @@ const ROWS_FOR_B: &[Row] = &[
         Pass(1, 2),
     ),
     // The black pixels of the last row end 2424 units to the right, and 2428.
-    (
-        b"\x1bE\x1b*p2400x300Y\x1b*r0f1A\x1b*b1W\x84",
-        Pass(1, 1),
-    ),
+    (b"\x1bE\x1b*p2400x300Y\x1b*r0f1A\x1b*b1W\x84", Pass(1, 1)),
     (
         b"\x1bE\x1b*p2400x300Y\x1b*r0f1A\x1b*b1W\x82",
         Found(21, NotPrintable),
     ),
-    (
-        b"\x1bE\x1b*p2368x300Y\x1b*r0f1A\x1b*b2W\0\x84",
-        Pass(1, 1),
-    ),
+    (b"\x1bE\x1b*p2368x300Y\x1b*r0f1A\x1b*b2W\0\x84", Pass(1, 1)),
     (
         b"\x1bE\x1b*p2368x300Y\x1b*r0f1A\x1b*b2W\0\x02",
         Found(21, NotPrintable),
@@ -90,10 +84,7 @@ const ROWS_FOR_B: &[Row] = &[
 
 /// Width and height, and what is locked while a raster is started.
 const SIZES_FOR_B: &[Row] = &[
-    (
-        b"\x1bE\x1b*r8S\x1b*r0F\x1b*r1A\x1b*b2W\x01\0",
-        Pass(1, 1),
-    ),
+    (b"\x1bE\x1b*r8S\x1b*r0F\x1b*r1A\x1b*b2W\x01\0", Pass(1, 1)),
     (
         b"\x1bE\x1b*r8S\x1b*r0F\x1b*r1A\x1b*b2W\0\x80",
         Found(17, RasterTooBig),
@@ -114,10 +105,7 @@ const SIZES_FOR_B: &[Row] = &[
     ),
     (b"\x1bE\x1b*r2T\x1b*r1A\x1b*b2Y", Pass(0, 0)),
     (b"\x1bE\x1b*r1T\x1b*r1A\x1b*b0W\x1b*b0Y", Pass(0, 0)),
-    (
-        b"\x1bE\x1b*r2T\x1b*r1A\x1b*b3Y",
-        Found(12, RasterTooBig),
-    ),
+    (b"\x1bE\x1b*r2T\x1b*r1A\x1b*b3Y", Found(12, RasterTooBig)),
     (
         b"\x1bE\x1b*r3T\x1b*r1A\x1b*b1W\0\x1b*b1y2Y",
         Found(23, RasterTooBig),
@@ -230,6 +218,7 @@ const UNSET: &[(Printer, &[u8], Expected)] = &[
 
 /// A row at the upper left, and one at the right edge of the printable area.
 const LEFT: &[u8] = b"\x1bE\x1b*p300x300Y\x1b*r0f1A\x1b*b1W\x80";
+
 const RIGHT: &[u8] = b"\x1bE\x1b*p2400x300Y\x1b*r0f1A\x1b*b1W\x84";
 
 const FLEETS: &[(&[Printer], &[u8], Expected)] = &[
@@ -254,7 +243,13 @@ fn each_other_item_ends_a_raster(rt: HostRuntime) -> Result<(), Fail> {
     for item in ENDS {
         let job = job_of(rt.alloc(), b"\x1bE\x1b*r0f1A", 1, item, b"\x1b*b0W")?;
         let place = 9 + item.len() as u64;
-        check_in_pieces(&rt, rt.alloc(), &fleet, &job, Found(place, RasterNotStarted));
+        check_in_pieces(
+            &rt,
+            rt.alloc(),
+            &fleet,
+            &job,
+            Found(place, RasterNotStarted),
+        );
     }
     Ok(())
 }
@@ -294,12 +289,22 @@ type Marked = (&'static [u8], (Resolution, i64, i64, &'static [u8]));
 const MARKED: &[Marked] = &[
     (
         b"\x1bE\x1b*p300x300Y\x1b*t300R\x1b*r0f1A\x1b*b2W\x1bE",
-        (Resolution::Dots300, 45_720_000_000, 54_864_000_000, b"\x1bE"),
+        (
+            Resolution::Dots300,
+            45_720_000_000,
+            54_864_000_000,
+            b"\x1bE",
+        ),
     ),
     // Bytes without a black pixel at both ends, but not between.
     (
         b"\x1bE\x1b*p300x300Y\x1b*t300R\x1b*r0f1A\x1b*b6W\0\0\x01\0\x80\0",
-        (Resolution::Dots300, 47_670_720_000, 54_864_000_000, b"\x01\0\x80"),
+        (
+            Resolution::Dots300,
+            47_670_720_000,
+            54_864_000_000,
+            b"\x01\0\x80",
+        ),
     ),
     // Two rows further down, at the left edge.
     (
