@@ -4,9 +4,8 @@ use crate::items::items_of;
 use device_profile::{Field, FontRequest, Sample, SymbolSet, sample_a};
 use page_env::Finding::Unset;
 use page_env::{Area, Bounds, Fill, Finding, Glyph, Mark, PageEnd};
-use page_machine::{Machine, MarkSink, OwnedEvent, OwnedMark, Start, Stop};
+use page_machine::{Machine, MarkSink, OwnedMark, Start, Stop};
 use pcl_items::{OwnedItem, Place};
-use refusing::Refusing;
 use std::alloc::Global;
 use std::process::Abort;
 use std::test::Fail;
@@ -191,11 +190,11 @@ const FROM_THE_FIRST_PANEL: &[Run] = &[
 ];
 
 /// A rectangle with these edges, in 7200ths of an inch.
-fn rectangle(edges: (u32, u32, u32, u32)) -> Mark<'static> {
-    Mark::Rect(Area {
+pub fn rectangle(edges: (u32, u32, u32, u32)) -> Area {
+    Area {
         fill: Fill::Solid,
         bounds: box_of(edges),
-    })
+    }
 }
 
 fn box_of((left, top, right, bottom): (u32, u32, u32, u32)) -> Bounds {
@@ -208,8 +207,8 @@ fn box_of((left, top, right, bottom): (u32, u32, u32, u32)) -> Bounds {
 }
 
 /// The character of a code in the first face of sample B, with its reference point at the first line of the page.
-fn character(code: u8) -> Mark<'static> {
-    Mark::Character(Glyph {
+pub fn character(code: u8) -> Glyph {
+    Glyph {
         code,
         request: FontRequest {
             symbol_set: SymbolSet {
@@ -225,7 +224,7 @@ fn character(code: u8) -> Mark<'static> {
         },
         y: Length::of_7200ths(4500),
         bounds: box_of((1800, 3600, 2520, 4800)),
-    })
+    }
 }
 
 /// Carries out items up to the first that does not go.
@@ -251,10 +250,18 @@ fn is_answer(outcome: Result<(), Stop<Full>>, answer: Answer) -> bool {
     }
 }
 
+/// Whether the last mark is the character of a code.
+fn is_character(kept: &Option<OwnedMark>, code: u8) -> bool {
+    match kept {
+        Some(OwnedMark::Character(glyph)) => *glyph == character(code),
+        _ => false,
+    }
+}
+
 /// Whether the last mark is the rectangle with these edges, where there is one.
 fn is_last(kept: &Option<OwnedMark>, edges: Option<(u32, u32, u32, u32)>) -> bool {
     match (kept, edges) {
-        (Some(kept), Some(edges)) => kept.is_same(&rectangle(edges)),
+        (Some(OwnedMark::Rect(area)), Some(edges)) => *area == rectangle(edges),
         (None, None) => true,
         _ => false,
     }
@@ -315,45 +322,6 @@ fn a_character_is_marked(rt: HostRuntime) -> Result<(), Fail> {
     };
     let items = items_of(&rt, rt.alloc(), b"\x1bEA ")?;
     assert!(rt; step_all(&mut machine, &items, &mut sink).is_ok());
-    assert!(rt; sink.mark.is_some_and(|mark| mark.is_same(&character(b'A'))));
-    let copy = OwnedMark::copy_of(rt.alloc(), &character(b'A'))?;
-    let answers = (
-        copy.is_same(&character(b'A')),
-        copy.is_same(&character(b'B')),
-        copy.is_same(&rectangle((1800, 3600, 2520, 4800))),
-    );
-    assert_eq!(rt; answers, (true, false, false));
-    Ok(())
-}
-
-/// The left, upper, right and lower edge of boxes, and whether they are those of the first box.
-const BOXES: &[((u32, u32, u32, u32), bool)] = &[
-    ((1, 2, 3, 4), true),
-    ((0, 2, 3, 4), false),
-    ((1, 0, 3, 4), false),
-    ((1, 2, 0, 4), false),
-    ((1, 2, 3, 0), false),
-    ((1, 2, 3, 5), false),
-];
-
-#[test]
-fn copies_are_told_from_others(rt: HostRuntime) -> Result<(), Fail> {
-    let mark = rectangle((1, 2, 3, 4));
-    // A rectangle is copied without memory.
-    let no_memory = Refusing::new(rt.alloc(), 0);
-    let copy = OwnedMark::copy_of(&no_memory, &mark)?;
-    let kept = OwnedEvent::Marked(OwnedMark::copy_of(rt.alloc(), &mark)?);
-    for (edges, is_same) in BOXES {
-        let other = rectangle(*edges);
-        let answers = [copy.is_same(&other), kept.is_marked(&other)];
-        assert!(rt; answers == [*is_same; 2], "{edges:?}");
-    }
-    let ended: OwnedEvent = OwnedEvent::Ended(LETTER);
-    let two_copies = PageEnd {
-        copies: 2,
-        ..LETTER
-    };
-    assert!(rt; ended.is_ended(&LETTER) && !kept.is_ended(&LETTER));
-    assert!(rt; !ended.is_ended(&two_copies) && !ended.is_marked(&mark));
+    assert!(rt; is_character(&sink.mark, b'A'));
     Ok(())
 }

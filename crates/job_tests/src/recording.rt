@@ -1,6 +1,7 @@
 //! Sinks that count, record and compare events.
 
-use crate::recording::Event::{Letter, Square};
+use crate::machine::{character, rectangle};
+use crate::recording::Event::{Character, Letter, Rect, Square};
 use page_env::{Area, Bounds, Fill, Mark, PageEnd};
 use page_machine::MarkSink;
 use refusing::Refusing;
@@ -14,6 +15,10 @@ use tick_length::Length;
 enum Event {
     /// A square at the corner of the page, with sides of so many 7200ths of an inch.
     Square(u32),
+    /// A black area with these edges, in 7200ths of an inch.
+    Rect((u32, u32, u32, u32)),
+    /// A character by its code.
+    Character(u8),
     /// So many copies of a page of letter paper in portrait.
     Letter(u32),
 }
@@ -45,6 +50,8 @@ fn hand<S: MarkSink>(events: &[Event], sink: &mut S) -> Result<(), S::Fault> {
     for event in events {
         let taken = match *event {
             Square(side) => sink.mark(&square(side)),
+            Rect(edges) => sink.mark(&Mark::Rect(rectangle(edges))),
+            Character(code) => sink.mark(&Mark::Character(character(code))),
             Letter(copies) => sink.page(letter(copies)),
         };
         match taken {
@@ -70,6 +77,15 @@ const ROWS: &[(&[Event], &[Event], bool)] = &[
     (PAGE, &[Square(1), Letter(2), Letter(1)], true),
     (PAGE, &[Letter(1), Square(1), Letter(1)], true),
     (PAGE, &[Square(2), Square(1), Letter(1), Letter(1)], true),
+    (&[Rect((1, 2, 3, 4))], &[Rect((1, 2, 3, 4))], false),
+    (&[Rect((1, 2, 3, 4))], &[Rect((0, 2, 3, 4))], true),
+    (&[Rect((1, 2, 3, 4))], &[Rect((1, 0, 3, 4))], true),
+    (&[Rect((1, 2, 3, 4))], &[Rect((1, 2, 0, 4))], true),
+    (&[Rect((1, 2, 3, 4))], &[Rect((1, 2, 3, 0))], true),
+    (&[Rect((1, 2, 3, 4))], &[Rect((1, 2, 3, 5))], true),
+    (&[Character(b'A')], &[Character(b'A')], false),
+    (&[Character(b'A')], &[Character(b'B')], true),
+    (&[Character(b'A')], &[Rect((1800, 3600, 2520, 4800))], true),
 ];
 
 /// Whether events differ from others that were recorded.

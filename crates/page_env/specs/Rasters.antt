@@ -43,8 +43,8 @@ begun_by item s = cond (is_of_raster item) s (record s { raster = None })
 
 -- ---- settings, which no item may change while a raster is started
 
-abbrev pub is_locked : Option StartedRaster → Check
-is_locked raster = check (is_some raster) RasterLocked
+abbrev pub locked : Option StartedRaster → Check
+locked raster = check (is_some raster) RasterLocked
 
 abbrev pub with_raster : State → RasterSettings → State
 with_raster s raster = with_job s (record s.settings.job { raster = raster })
@@ -59,19 +59,19 @@ resolution_of n = cond (is_whole_from 0 n) (find (λ r. pixels_per_inch r == who
 -- `*t#R` raster graphics resolution
 abbrev pub set_resolution : State → Amount → Line
 set_resolution s n =
-    setting (check (is_none (resolution_of n)) BadValue ∷ is_locked s.raster ∷ [])
+    setting (check (is_none (resolution_of n)) BadValue ∷ locked s.raster ∷ [])
     (with_raster s (record s.settings.job.raster { resolution = unwrap_or (resolution_of n) s.settings.job.raster.resolution }))
 
 -- `*r#S` raster width, in pixels
 abbrev pub set_raster_width : State → Amount → Line
 set_raster_width s n =
-    setting (check (not (is_whole_from 1 n)) BadValue ∷ is_locked s.raster ∷ [])
+    setting (check (not (is_whole_from 1 n)) BadValue ∷ locked s.raster ∷ [])
     (with_raster s (record s.settings.job.raster { width = Some (whole_of n) }))
 
 -- `*r#T` raster height, in rows
 abbrev pub set_raster_height : State → Amount → Line
 set_raster_height s n =
-    setting (check (not (is_whole_from 1 n)) BadValue ∷ is_locked s.raster ∷ [])
+    setting (check (not (is_whole_from 1 n)) BadValue ∷ locked s.raster ∷ [])
     (with_raster s (record s.settings.job.raster { height = Some (whole_of n) }))
 
 -- `*r#F` raster graphics presentation: 0 as the logical page lies, 3 along the width of the physical page
@@ -80,7 +80,7 @@ presentation_of n = cond (is_whole_between 0 0 n) (Some LogicalPage) (cond (is_w
 
 abbrev pub set_presentation : State → Amount → Line
 set_presentation s n =
-    setting (check (is_none (presentation_of n)) BadValue ∷ is_locked s.raster ∷ [])
+    setting (check (is_none (presentation_of n)) BadValue ∷ locked s.raster ∷ [])
     (with_raster s (record s.settings.job.raster { presentation = unwrap_or (presentation_of n) s.settings.job.raster.presentation }))
 
 -- `*b#M` compression method: none
@@ -100,7 +100,7 @@ is_rotated s = is_physical s.settings.job.raster.presentation && not (s.settings
 -- `*r#A` start raster graphics: 0 at the left edge of the logical page, 1 at the cursor. A home becomes a number.
 abbrev pub start_raster : State → Amount → Line
 start_raster s n = record {
-  before = check (not (is_whole_between 0 1 n)) BadValue ∷ is_locked s.raster ∷ [];
+  before = check (not (is_whole_between 0 1 n)) BadValue ∷ locked s.raster ∷ [];
   reads = Size ∷ Orientation ∷ vertical_reads s.cursor.y;
   after = check (is_rotated s) RotatedRaster ∷ [];
   state = record s {
@@ -116,8 +116,8 @@ end_raster s n = setting (check (not (is_whole_between 0 0 n)) BadValue ∷ []) 
 
 -- ---- rows
 
-abbrev pub is_missing : Option StartedRaster → Check
-is_missing raster = check (is_none raster) RasterNotStarted
+abbrev pub not_started : Option StartedRaster → Check
+not_started raster = check (is_none raster) RasterNotStarted
 
 -- so many rows are more than the height has left
 abbrev pub passes_height : ℕ → StartedRaster → Bool
@@ -137,17 +137,17 @@ rows_down s rows = record s {
   raster = option_map (raster_behind rows) s.raster;
 }
 
-abbrev pub is_past_foot : Geometry → Dots → ℤ → ℕ → Check
-is_past_foot g resolution y rows = check (int_lt g.logical_height (place_behind resolution y rows)) OffPage
+abbrev pub past_foot : Geometry → Dots → ℤ → ℕ → Check
+past_foot g resolution y rows = check (int_lt g.logical_height (place_behind resolution y rows)) OffPage
 
 -- `*b#Y` raster Y offset: so many rows that stay white
 abbrev pub skip_rows : Printer → State → Amount → Line
 skip_rows printer s n = record {
   before =
-      check (not (is_whole_between 0 32_767 n)) BadValue ∷ is_missing s.raster
+      check (not (is_whole_between 0 32_767 n)) BadValue ∷ not_started s.raster
       ∷ check (option_map_or (passes_height (whole_of n)) s.raster false) RasterTooBig ∷ [];
   reads = Size ∷ Orientation ∷ vertical_reads s.cursor.y;
-  after = is_past_foot (geometry_of printer s) s.settings.job.raster.resolution (vertical_place s) (whole_of n) ∷ [];
+  after = past_foot (geometry_of printer s) s.settings.job.raster.resolution (vertical_place s) (whole_of n) ∷ [];
   state = rows_down s (whole_of n);
   marks = [];
 }
@@ -184,12 +184,12 @@ row_from g resolution x y bytes = record {
 -- what may be wrong with a row before the page is known
 abbrev pub row_checks : RasterSettings → Option StartedRaster → List ℕ → List Check
 row_checks settings raster black =
-    is_missing raster ∷ check (option_map_or (passes_height 1) raster false || passes_width settings black) RasterTooBig ∷ []
+    not_started raster ∷ check (option_map_or (passes_height 1) raster false || passes_width settings black) RasterTooBig ∷ []
 
 -- and on it
 abbrev pub place_checks : Geometry → Dots → (x y : ℤ) → List ℕ → List Check
 place_checks g resolution x y black =
-    is_past_foot g resolution y 1
+    past_foot g resolution y 1
     ∷ check (has_black black && not (is_inside g (row_bounds (row_from g resolution x y black)))) NotPrintable ∷ []
 
 -- the mark of a row: none where no byte has a black pixel
