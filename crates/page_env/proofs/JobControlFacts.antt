@@ -1,5 +1,5 @@
 -- Facts of job control.
-use Rattle.std.proofs.Common.{refl, arith, ◌≤◌}
+use Rattle.std.proofs.Common.{true, refl, arith, ◌≤◌}
 use Rattle.pcl_items.specs.Value.{Amount}
 use Rattle.device_profile.specs.Printer.{Printer}
 use Rattle.page_env.specs.Settings.{Settings, State}
@@ -18,8 +18,17 @@ module _ (printer : Printer) (defaults : Settings) (s : State) where
   pub units_are_sound : (n : Amount) → IsSound printer s (set_units s n) (set_units (plain_state s) n)
   units_are_sound n = quiet refl refl refl refl refl refl refl refl
 
-  pub sides_are_sound : (n : Amount) → IsSoundTransition printer defaults s (Closes (checking s (sides_checks printer n)) (λ t. set_sides t n)) (Closes (checking (plain_state s) (sides_checks printer n)) (λ t. set_sides t n))
-  sides_are_sound n = (checks_are_sound s (sides_checks printer n) refl, calm (λ t. refl) (λ t. refl) (λ t. refl) (λ t. refl))
+  pub sides_are_sound : (n : Amount) → IsSoundTransition printer defaults s (Closes (checking s (sides_checks printer n)) true (λ t. set_sides t n)) (Closes (checking (plain_state s) (sides_checks printer n)) true (λ t. set_sides t n))
+  sides_are_sound n = (checks_are_sound s (sides_checks printer n) refl, calm (λ t. refl) (λ t. refl) (λ t. refl) (λ t. refl), refl)
 
   pub reset_is_sound : IsSoundTransition printer defaults s (reset defaults s) (reset (plain_settings defaults) (plain_state s))
-  reset_is_sound = (quiet refl refl refl refl refl refl refl refl, record { same = λ t. refl; room = λ t h. empty_has_room; page = λ pairs begun none t h. begun })
+  reset_is_sound = (
+    quiet refl refl refl refl refl refl refl refl,
+    record {
+      same = λ t. refl;
+      room = λ t h. empty_has_room;
+      keeps = λ e. absurd cc;
+      page = λ pairs begun none t h. begun;
+    },
+    refl,
+  )

@@ -1,5 +1,5 @@
 -- Steps without a mark, as the table has them.
-use Rattle.std.proofs.Common.{[], Ok, Err, Result}
+use Rattle.std.proofs.Common.{Ok, Err, Result}
 use Rattle.page_env.specs.declared.finding.Finding.{Finding}
 use Rattle.page_env.specs.declared.page.Page.{Page}
 use Rattle.page_env.specs.Settings.{State}

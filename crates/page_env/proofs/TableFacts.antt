@@ -1,7 +1,7 @@
 -- Each item of the table is carried out soundly.
 use Rattle.std.proofs.Common.{refl}
 use Rattle.pcl_items.specs.declared.command.Command.{Command}
-use Rattle.pcl_items.specs.declared.command.Command.TheVariants.{LeftMargin, RightMargin, Column, Row, HorizontalDecipoints, VerticalDecipoints, CursorStack, HorizontalMotionIndex, LineTermination, PageSize, Orientation, Copies, Sides, Source, VerticalMotionIndex, LineSpacing, TopMargin, TextLength, PerforationSkip, UnitOfMeasure, RectangleWidth, RectangleHeight, FillRectangle, RectangleWidthDecipoints, RectangleHeightDecipoints, FillId, RasterResolution, StartRaster, RasterWidth, RasterHeight, RasterPresentation, EndRaster, EndRasterAndMethod, CompressionMethod, RasterOffset, HorizontalUnits, VerticalUnits, FontSpacing, FontPitch, FontHeight, FontStyle, FontWeight, FontTypeface}
+use Rattle.pcl_items.specs.declared.command.Command.TheVariants.{LeftMargin, RightMargin, Column, Row, HorizontalDecipoints, VerticalDecipoints, CursorStack, MacroId, MacroControl, HorizontalMotionIndex, LineTermination, PageSize, Orientation, Copies, Sides, Source, VerticalMotionIndex, LineSpacing, TopMargin, TextLength, PerforationSkip, UnitOfMeasure, RectangleWidth, RectangleHeight, FillRectangle, RectangleWidthDecipoints, RectangleHeightDecipoints, FillId, RasterResolution, StartRaster, RasterWidth, RasterHeight, RasterPresentation, EndRaster, EndRasterAndMethod, CompressionMethod, RasterOffset, HorizontalUnits, VerticalUnits, FontSpacing, FontPitch, FontHeight, FontStyle, FontWeight, FontTypeface}
 use Rattle.pcl_items.specs.declared.command.DataCommand.TheVariants.{TransparentText, RasterRow}
 use Rattle.pcl_items.specs.Items.{Entry, Text, CarriageReturn, LineFeed, FormFeed, Reset, ClearMargins, HalfLineFeed, Parameterized, SymbolSet, DefaultFont, WithData}
 use Rattle.pcl_items.specs.Value.{Amount}
@@ -14,6 +14,7 @@ use Rattle.page_env.proofs.PageControlFacts.{source_is_sound, size_is_sound, ori
 use Rattle.page_env.proofs.MarginFacts.{top_margin_is_sound, text_length_is_sound, perforation_skip_is_sound, left_margin_is_sound, right_margin_is_sound, clearing_is_sound}
 use Rattle.page_env.proofs.MotionFacts.{vmi_is_sound, line_spacing_is_sound, hmi_is_sound, line_termination_is_sound, return_is_sound, line_feed_is_sound, form_feed_is_sound, half_line_feed_is_sound}
 use Rattle.page_env.proofs.CursorFacts.{move_x_is_sound, move_y_is_sound, move_x_decipoints_is_sound, move_y_decipoints_is_sound, move_columns_is_sound, move_rows_is_sound, stack_is_sound}
+use Rattle.page_env.proofs.MacroFacts.{macro_id_is_sound}
 use Rattle.page_env.proofs.RectangleFacts.{width_is_sound, height_is_sound, width_decipoints_is_sound, height_decipoints_is_sound, fill_id_is_sound, fill_is_sound}
 use Rattle.page_env.proofs.RasterFacts as rasters
 use Rattle.page_env.proofs.FontFacts.{symbol_set_is_sound, spacing_is_sound, pitch_is_sound, font_height_is_sound, style_is_sound, weight_is_sound, typeface_is_sound, default_font_is_sound}
@@ -44,6 +45,8 @@ module _ (printer : Printer) (defaults : Settings) where
   command_is_sound Column n s = move_columns_is_sound printer s n
   command_is_sound Row n s = move_rows_is_sound printer s n
   command_is_sound CursorStack n s = stack_is_sound printer s n
+  command_is_sound MacroId n s = macro_id_is_sound printer s n
+  command_is_sound MacroControl n s = (refl, refl, refl)
   command_is_sound RectangleWidth n s = width_is_sound printer s n
   command_is_sound RectangleHeight n s = height_is_sound printer s n
   command_is_sound FillRectangle n s = fill_is_sound printer s n

@@ -20,7 +20,7 @@ use Rattle.page_env.specs.declared.text_run.TextRun.{TextRun}
 use Rattle.page_env.specs.Settings.{Settings, State, state_at}
 use Rattle.page_env.specs.FontInForce.{font_reads}
 use Rattle.page_env.specs.Mark.{Character, characters_of, is_inside}
-use Rattle.page_env.specs.Places.{column_with, column_from, column_of, column_reads, home_of, right_of, vertical_place, vertical_reads}
+use Rattle.page_env.specs.Places.{column_from, column_of, column_reads, home_of, right_of, vertical_place, vertical_reads}
 use Rattle.page_env.specs.Effect.{check, first_finding, first_unset, is_unset, effect_of, Step, Goes}
 use Rattle.page_env.specs.Text.{edge_checks, character_checks, character_box, text_reads, behind_of, advanced, space, character, print_byte}
 use Rattle.page_env.specs.Answers.{Marks}
@@ -28,6 +28,7 @@ use Rattle.page_env.specs.TextRun as run
 use Rattle.page_env.specs.TextRun.{glyph_in, look_behind, page_behind, AllGo, CanGoIn, GoFirst, IsRun, page_behind_all, glyph_count}
 use Rattle.page_env.specs.TextMeasure.{TextMeasure, IsMeasured, HasMeasure, HasColumn, HasColumns, box_at, look_at, GoLike, IsMeasuredRun}
 use Rattle.page_env.proofs.Lines.{goes_line}
+use Rattle.page_env.proofs.TextJudging.{column_of_face}
 
 -- ---- reads and checks
 
@@ -60,11 +61,7 @@ known_code face code h other = by (code == 32) (has_code face.codes code) other 
 
 module _ (printer : Printer) (s : State) (m : TextMeasure) (h : IsMeasured printer s m) where
   column_is : column_of printer s ≡ Some m.column
-  column_is = ap (column_from s.settings.job.hmi) h.face ∙ by s.settings.job.hmi h.column
-    where
-      by : (hmi : Option ℕ) → m.column ≡ column_with hmi m.face → column_from hmi (Some m.face) ≡ Some m.column
-      by None e = ap Some (sym e)
-      by (Some hmi) e = ap Some (sym e)
+  column_is = ap (column_from s.settings.job.hmi) h.face ∙ column_of_face s.settings.job.hmi m.face ∙ ap Some (sym h.column)
 
   right_is : right_of printer s ≡ m.right
   right_is = ap (λ q. unwrap_or s.settings.job.right_margin q.logical_width) h.geometry ∙ sym h.right

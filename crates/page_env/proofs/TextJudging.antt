@@ -1,12 +1,23 @@
 -- How text is judged.
-use Rattle.std.proofs.Common.{◌≡◌, Bool, true, false, not, cond, Option, Some, None, List, [], ◌∷◌, ◌++◌, Result, Ok, Err, refl, ap, sym, ◌∙◌}
+use Rattle.std.proofs.Common.{◌≡◌, ℕ, ℤ, pos, Bool, true, false, not, cond, Option, Some, None, List, [], ◌∷◌, ◌++◌, Result, Ok, Err, refl, ap, sym, ◌∙◌}
+use Rattle.std.specs.Prelude.{◌+ℤ◌, unwrap_or}
+use Rattle.std.specs.Option.{option_map_or}
 use Rattle.std.specs.Result.{IsErrAnd}
 use Rattle.device_profile.specs.declared.field.Field.{Field}
+use Rattle.device_profile.specs.declared.font.FontRequest.{FontRequest}
+use Rattle.device_profile.specs.declared.geometry.Geometry.{Geometry}
 use Rattle.device_profile.specs.declared.panel.Panel.{Panel}
+use Rattle.device_profile.specs.Faces.{Face, face_for}
+use Rattle.device_profile.specs.Printer.{Printer}
 use Rattle.page_env.specs.declared.page.Env.{Env}
-use Rattle.page_env.specs.Settings.{Settings, settings_at}
-use Rattle.page_env.specs.Effect.{is_unset, first_unset, Reads}
+use Rattle.page_env.specs.Settings.{Settings, State, settings_at}
+use Rattle.page_env.specs.FontInForce.{request_of, face_of, font_reads}
+use Rattle.page_env.specs.Places.{geometry_of, vertical_place, column_with, column_from}
+use Rattle.page_env.specs.Effect.{check, is_unset, first_finding, first_unset, effect_of, Step, Goes, Fails, Reads}
+use Rattle.page_env.specs.Text.{behind_of, text_reads, character_checks, character_box, character}
 use Rattle.page_env.specs.declared.finding.Finding.{Finding}
+use Rattle.page_env.specs.declared.finding.Finding.TheVariants.{NoFont}
+use Rattle.page_env.proofs.Lines.{late_line}
 
 -- what is found at the edge of the text is found, whatever else is checked behind it
 pub found_at_edge : (has off past : Bool) (e f g finding : Finding) (rest : Option Finding) → has ≡ true → cond off (Some f) (cond past (Some g) None) ≡ Some finding → cond (not has) (Some e) (cond off (Some f) (cond past (Some g) rest)) ≡ Some finding
@@ -42,3 +53,20 @@ unset_in_first settings field (x ∷ xs) ys e = by (is_unset settings x) (first_
 pub reads_fail : {T : Type 0} (env : Env) (fields : List Field) (f : Panel → T) (field : Field) (r : Result T Field) → IsErrAnd r (λ e. e ≡ field) → ((panel : Panel) → first_unset (settings_at panel env) fields ≡ Some field) → Reads env fields f r
 reads_fail env fields f field (Ok value) is h = absurd is
 reads_fail env fields f field (Err found) is h = λ panel. h panel ∙ ap Some (sym is)
+
+-- the column of a face that answers
+pub column_of_face : (hmi : Option ℕ) (face : Face) → column_from hmi (Some face) ≡ Some (column_with hmi face)
+column_of_face None face = refl
+column_of_face (Some hmi) face = refl
+
+-- a character of the face that answers, of which its checks find something
+pub character_fails : (printer : Printer) (s : State) (code : ℕ) (face : Face) (g : Geometry) (y : ℤ) (request : FontRequest) (finding : Finding) → first_unset s.settings (text_reads s.cursor.y (font_reads s.settings.job.font)) ≡ None → ◌≡◌ {A = Geometry × ℤ × FontRequest} (geometry_of printer s, vertical_place s, request_of printer s) (g, y, request) → Some face ≡ face_for printer.faces request → first_finding (character_checks g face code (unwrap_or s.settings.job.right_margin g.logical_width) s.cursor.x (s.cursor.x +ℤ pos (column_with s.settings.job.hmi face)) (character_box g face s.cursor.x y)) ≡ Some finding → effect_of s.settings (Step (character printer s code)) ≡ Fails finding
+character_fails printer s code face g y request finding set read answers judged =
+    let x = s.cursor.x in
+    let right = s.settings.job.right_margin in
+    let hmi = s.settings.job.hmi in
+    let at : face_of printer s ≡ Some face = ap (λ r. face_for printer.faces r.2) read ∙ sym answers in
+    let behind : behind_of printer s ≡ x +ℤ pos (column_with hmi face) = ap (λ o. x +ℤ pos (unwrap_or (column_from hmi o) 0)) at ∙ ap (λ o. x +ℤ pos (unwrap_or o 0)) (column_of_face hmi face) in
+    let late : first_finding (character printer s code).after ≡ Some finding =
+    (λ i. first_finding (option_map_or (λ face. character_checks (read i).0 face code (unwrap_or right (read i).0.logical_width) x (behind i) (character_box (read i).0 face x (read i).1)) (at i) (check true NoFont ∷ []))) ∙ judged in
+    late_line s.settings (character printer s code) (Goes (character printer s code).state (character printer s code).marks) finding refl set late

@@ -1,5 +1,5 @@
 -- Job control: number of copies, simplex and duplex, unit of measure, reset (`&l#X`, `&l#S`, `&u#D`, `ESC E`).
-use Rattle.std.specs.Prelude.{nat_lt, ◌==◌, ◌&&◌, not, false, List, [], ◌∷◌}
+use Rattle.std.specs.Prelude.{nat_lt, ◌==◌, ◌&&◌, not, true, false, List, [], ◌∷◌}
 use Rattle.std.specs.List.{list_any}
 use Rattle.tick_length.specs.UnitsPerInch.{units_per_inch}
 use Rattle.pcl_items.specs.Value.{Amount}
@@ -40,4 +40,4 @@ set_units s n =
 
 -- `ESC E`, and the end of the bytes: all settings are the user defaults again
 abbrev pub reset : Settings → State → Transition
-reset defaults s = Closes (moving s) (λ t. start_state defaults)
+reset defaults s = Closes (moving s) true (λ t. start_state defaults)

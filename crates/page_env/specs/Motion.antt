@@ -71,7 +71,7 @@ feed_down printer s y = record {
 -- a feed: past the bottom margin the page is closed and the cursor goes home, where the perforation is skipped
 abbrev pub feed_by : Printer → State → Feed → Transition
 feed_by printer s by =
-    cond (is_past_bottom printer s (fed_to s by)) (Closes (reading s page_and_line_reads) at_home) (Step (feed_down printer s (fed_to s by)))
+    cond (is_past_bottom printer s (fed_to s by)) (Closes (reading s page_and_line_reads) false at_home) (Step (feed_down printer s (fed_to s by)))
 
 -- `ESC =`
 abbrev pub half_line_feed : Printer → State → Transition

@@ -3,7 +3,7 @@ use Rattle.std.specs.Prelude.{ℕ, ◌==◌, nat_le, ◌&&◌, Bool, true, lengt
 use Rattle.device_profile.specs.declared.field.Field.{Field}
 use Rattle.device_profile.specs.declared.field.Field.TheVariants.{Size, Orientation, Vmi, Font, Copies, Sides, Tray}
 use Rattle.page_env.specs.declared.finding.Finding.{Finding}
-use Rattle.page_env.specs.declared.finding.Finding.TheVariants.{BadValue, NotOnDevice, Unset, NoFont, NoGlyph, OffPage, PastRightMargin, NotPrintable, StackFull, StackEmpty, RasterNotStarted, RasterLocked, RasterTooBig, EmptyRectangle, Inexact, MarginIgnored, RotatedRaster}
+use Rattle.page_env.specs.declared.finding.Finding.TheVariants.{BadValue, NotOnDevice, Unset, NoFont, NoGlyph, OffPage, PastRightMargin, NotPrintable, StackFull, StackEmpty, NoMacro, MacroDepth, MacroMemory, InMacro, DefinitionOpen, RasterNotStarted, RasterLocked, RasterTooBig, EmptyRectangle, Inexact, MarginIgnored, RotatedRaster}
 use Rattle.page_env.specs.Effect.{Check, Line}
 
 -- the numbers of all findings of a step, in the order in which they are reported
@@ -24,6 +24,11 @@ number_of PastRightMargin = 16
 number_of NotPrintable = 17
 number_of StackFull = 18
 number_of StackEmpty = 19
+number_of NoMacro = 20
+number_of MacroDepth = 21
+number_of MacroMemory = 22
+number_of InMacro = 23
+number_of DefinitionOpen = 24
 number_of RasterNotStarted = 25
 number_of RasterLocked = 26
 number_of RasterTooBig = 27

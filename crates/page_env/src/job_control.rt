@@ -37,7 +37,7 @@ pub(crate) fn choose_sides<A: Allocator>(
     page: &mut Page,
     n: Number,
 ) -> Result<Carried, Finding>
-    ensures { CarriesOut (λ defaults s. Closes (checking s (sides_checks profile.now (amount n))) (λ t. set_sides t (amount n)))
+    ensures { CarriesOut (λ defaults s. Closes (checking s (sides_checks profile.now (amount n))) true (λ t. set_sides t (amount n)))
         page.old page.new result }
 {
     if !is_whole_between(0, 2, n) {

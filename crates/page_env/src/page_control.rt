@@ -1,7 +1,7 @@
 //! Page control: paper source, page size, orientation.
 #![tactic(auto, unfolding(crate::specs::Answers::CarriesOut))]
 
-ghost use Rattle.std.specs.Prelude.{◌≡◌};
+ghost use Rattle.std.specs.Prelude.{◌≡◌, true};
 ghost use Rattle.pcl_items.specs.Items.{amount};
 ghost use Rattle.page_env.specs.Effect.{checking, Closes};
 ghost use Rattle.page_env.specs.PageControl.{source_checks, set_source, size_checks, set_size, orientation_checks, set_orientation, without_margins};
@@ -24,7 +24,7 @@ pub(crate) fn choose_source<A: Allocator>(
     page: &mut Page,
     n: Number,
 ) -> Result<Carried, Finding>
-    ensures { CarriesOut (λ defaults s. Closes (checking s (source_checks profile.now (amount n))) (λ t. set_source t (amount n)))
+    ensures { CarriesOut (λ defaults s. Closes (checking s (source_checks profile.now (amount n))) true (λ t. set_source t (amount n)))
         page.old page.new result }
 {
     if !is_whole_between(0, 255, n) {
@@ -53,7 +53,7 @@ pub(crate) fn choose_size<A: Allocator>(
     page: &mut Page,
     n: Number,
 ) -> Result<Carried, Finding>
-    ensures { CarriesOut (λ defaults s. Closes (checking s (size_checks profile.now (amount n))) (λ t. set_size t (amount n)))
+    ensures { CarriesOut (λ defaults s. Closes (checking s (size_checks profile.now (amount n))) true (λ t. set_size t (amount n)))
         page.old page.new result }
 {
     if !is_whole_between(1, 999, n) {
@@ -71,7 +71,7 @@ pub(crate) fn choose_orientation<A: Allocator>(
     page: &mut Page,
     n: Number,
 ) -> Result<Carried, Finding>
-    ensures { CarriesOut (λ defaults s. Closes (checking s (orientation_checks profile.now (amount n))) (λ t. set_orientation defaults t (amount n)))
+    ensures { CarriesOut (λ defaults s. Closes (checking s (orientation_checks profile.now (amount n))) true (λ t. set_orientation defaults t (amount n)))
         page.old page.new result }
 {
     if !is_whole_between(0, 3, n) {
@@ -93,17 +93,18 @@ fn clear_all_margins(job: &mut JobSettings)
     job.right_margin = None;
 }
 
-/// Sets the page size.
+/// Sets the page size, and disables the overlay.
 #[tactic(auto, unfolding(crate::specs::Answers::Changes))]
 pub(crate) fn set_size(page: &mut Page, n: Number)
     ensures { Moves (λ s. set_size s (amount n)) page.old page.new }
 {
     page.env.fields.size = Cell::Known(whole_of(n));
     clear_all_margins(&mut page.env.job);
+    page.env.job.overlay = None;
     page.cursor = Cursor::home();
 }
 
-/// Sets the orientation, and returns VMI and HMI to their user defaults.
+/// Sets the orientation, returns VMI and HMI to their user defaults, and disables the overlay.
 #[tactic(auto, unfolding(crate::specs::Answers::Changes))]
 pub(crate) fn set_orientation(defaults: &Env, page: &mut Page, n: Number)
     ensures { Changes (λ d s. set_orientation d s (amount n)) defaults.now page.old page.new }
@@ -112,5 +113,6 @@ pub(crate) fn set_orientation(defaults: &Env, page: &mut Page, n: Number)
     page.env.fields.vmi = defaults.fields.vmi;
     clear_all_margins(&mut page.env.job);
     page.env.job.hmi = defaults.job.hmi;
+    page.env.job.overlay = None;
     page.cursor = Cursor::home();
 }

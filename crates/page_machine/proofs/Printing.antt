@@ -4,46 +4,47 @@ use Rattle.device_profile.specs.declared.panel.Panel.{Panel}
 use Rattle.pcl_items.specs.declared.item.SimpleItem.{SimpleItem}
 use Rattle.pcl_items.specs.declared.item.SimpleItem.TheVariants as simple
 use Rattle.pcl_items.specs.Items.{simple_view}
+use Rattle.device_profile.specs.Printer.{Printer}
 use Rattle.page_env.specs.declared.page.Page.{Page}
 use Rattle.page_env.specs.Settings.{State}
-use Rattle.page_machine.specs.declared.carrying.Halt.{Halt}
+use Rattle.page_machine.specs.declared.steps.Halt.{Halt}
 use Rattle.page_machine.specs.Event.{Event}
-use Rattle.page_machine.specs.Run.{Run, followed_by, Conditions, unmoved, byte_run, printing, own_run, begun_run}
+use Rattle.page_machine.specs.Run.{Run, followed_by, Conditions, byte_run, printing, own_run, begun_run}
 use Rattle.page_machine.specs.Follows.{Follows}
 use Rattle.page_machine.proofs.Composed.{Follows-stopped}
 
 -- an item that is neither text nor has data is its own step
-pub simple_run : (conditions : Conditions) (item : SimpleItem) (s : State) → begun_run conditions (simple_view item) s ≡ own_run conditions (simple_view item) s
-simple_run conditions simple.CarriageReturn s = refl
-simple_run conditions simple.LineFeed s = refl
-simple_run conditions simple.FormFeed s = refl
-simple_run conditions simple.Reset s = refl
-simple_run conditions simple.ClearMargins s = refl
-simple_run conditions simple.HalfLineFeed s = refl
-simple_run conditions (simple.Parameterized command number) s = refl
-simple_run conditions (simple.SymbolSet letter number) s = refl
-simple_run conditions simple.DefaultFont s = refl
+pub simple_run : (printer : Printer) (conditions : Conditions) (item : SimpleItem) (s : State) → begun_run printer conditions (simple_view item) s ≡ own_run printer conditions (simple_view item) s
+simple_run printer conditions simple.CarriageReturn s = refl
+simple_run printer conditions simple.LineFeed s = refl
+simple_run printer conditions simple.FormFeed s = refl
+simple_run printer conditions simple.Reset s = refl
+simple_run printer conditions simple.ClearMargins s = refl
+simple_run printer conditions simple.HalfLineFeed s = refl
+simple_run printer conditions (simple.Parameterized command number) s = refl
+simple_run printer conditions (simple.SymbolSet letter number) s = refl
+simple_run printer conditions simple.DefaultFont s = refl
 
 -- one byte more
-printing-suc : (conditions : Conditions) (r : Run) (xs : List ℕ) (i d : ℕ) → i < length xs → printing conditions r (take (suc i) xs) ≡ followed_by (printing conditions r (take i xs)) (byte_run conditions (get_or xs i d))
-printing-suc conditions r [] i d h = absurd (omega arith)
-printing-suc conditions r (x ∷ xs) zero d h = refl
-printing-suc conditions r (x ∷ xs) (suc i) d h = printing-suc conditions (followed_by r (byte_run conditions x)) xs i d (omega arith)
+printing-suc : (printer : Printer) (conditions : Conditions) (r : Run) (xs : List ℕ) (i d : ℕ) → i < length xs → printing printer conditions r (take (suc i) xs) ≡ followed_by (printing printer conditions r (take i xs)) (byte_run printer conditions (get_or xs i d))
+printing-suc printer conditions r [] i d h = absurd (omega arith)
+printing-suc printer conditions r (x ∷ xs) zero d h = refl
+printing-suc printer conditions r (x ∷ xs) (suc i) d h = printing-suc printer conditions (followed_by r (byte_run printer conditions x)) xs i d (omega arith)
 
-pub printing-next : (conditions : Conditions) (r : Run) (xs : List ℕ) (i d : ℕ) → i < length xs → printing conditions r (take (i + 1) xs) ≡ followed_by (printing conditions r (take i xs)) (byte_run conditions (get_or xs i d))
-printing-next conditions r xs i d h =
+pub printing-next : (printer : Printer) (conditions : Conditions) (r : Run) (xs : List ℕ) (i d : ℕ) → i < length xs → printing printer conditions r (take (i + 1) xs) ≡ followed_by (printing printer conditions r (take i xs)) (byte_run printer conditions (get_or xs i d))
+printing-next printer conditions r xs i d h =
     let one : i + 1 ≡ suc i = omega arith in
-    ap (λ n. printing conditions r (take n xs)) one ∙ printing-suc conditions r xs i d h
+    ap (λ n. printing printer conditions r (take n xs)) one ∙ printing-suc printer conditions r xs i d h
 
 -- the bytes before one, that one, and those behind it
-pub printing-split : (conditions : Conditions) (r : Run) (xs : List ℕ) (i d : ℕ) → i < length xs → printing conditions r xs ≡ printing conditions (followed_by (printing conditions r (take i xs)) (byte_run conditions (get_or xs i d))) (drop (suc i) xs)
-printing-split conditions r [] i d h = absurd (omega arith)
-printing-split conditions r (x ∷ xs) zero d h = refl
-printing-split conditions r (x ∷ xs) (suc i) d h = printing-split conditions (followed_by r (byte_run conditions x)) xs i d (omega arith)
+pub printing-split : (printer : Printer) (conditions : Conditions) (r : Run) (xs : List ℕ) (i d : ℕ) → i < length xs → printing printer conditions r xs ≡ printing printer conditions (followed_by (printing printer conditions r (take i xs)) (byte_run printer conditions (get_or xs i d))) (drop (suc i) xs)
+printing-split printer conditions r [] i d h = absurd (omega arith)
+printing-split printer conditions r (x ∷ xs) zero d h = refl
+printing-split printer conditions r (x ∷ xs) (suc i) d h = printing-split printer conditions (followed_by r (byte_run printer conditions x)) xs i d (omega arith)
 
 -- what stopped a run stops it with the bytes that would follow
-pub Follows-cut : {S : Type 0} (takes refuses : S → Event → S → Type 0) (F : Type 0) (old new : S) (page : Page) (conditions : Panel → Conditions) (run : Panel → Run) (halt : Halt F) (codes : List ℕ) → Follows takes refuses run old new page (Err halt) → Follows takes refuses (λ panel. printing (conditions panel) (run panel) codes) old new page (Err halt)
-Follows-cut takes refuses F old new page conditions run halt [] h = h
-Follows-cut takes refuses F old new page conditions run halt (code ∷ codes) h =
-    Follows-cut takes refuses F old new page conditions (λ panel. followed_by (run panel) (byte_run (conditions panel) code)) halt codes
-    (Follows-stopped takes refuses F old new page page run (λ panel. byte_run (conditions panel) code) halt h)
+pub Follows-cut : {S : Type 0} (takes refuses : S → Event → S → Type 0) (F : Type 0) (old new : S) (page : Page) (printer : Printer) (conditions : Panel → Conditions) (run : Panel → Run) (halt : Halt F) (codes : List ℕ) → Follows takes refuses run old new page (Err halt) → Follows takes refuses (λ panel. printing printer (conditions panel) (run panel) codes) old new page (Err halt)
+Follows-cut takes refuses F old new page printer conditions run halt [] h = h
+Follows-cut takes refuses F old new page printer conditions run halt (code ∷ codes) h =
+    Follows-cut takes refuses F old new page printer conditions (λ panel. followed_by (run panel) (byte_run printer (conditions panel) code)) halt codes
+    (Follows-stopped takes refuses F old new page page run (λ panel. byte_run printer (conditions panel) code) halt h)

@@ -9,7 +9,7 @@ use Rattle.page_env.specs.TextRun.{glyph_in, look_behind, page_behind}
 use Rattle.page_machine.specs.Event.{Event, Marked}
 use Rattle.page_machine.specs.Run.{just, after, Done, peaks_of}
 use Rattle.page_machine.specs.MachineState.{MachineState}
-use Rattle.page_machine.specs.Machine.{item_run_of}
+use Rattle.page_machine.specs.Machine.{item_of}
 
 -- the machine behind a byte that goes
 abbrev pub machine_behind : Look → ℕ → MachineState → MachineState
@@ -24,5 +24,6 @@ abbrev pub PrintsText : Look → List ℕ → MachineState → MachineState → 
 PrintsText look [] old new = new ≡ old
 PrintsText look (code ∷ codes) old new =
     let mid = machine_behind look code old in
-    ((panel : Panel) → item_run_of old (Text code) panel ≡ after (glyph_events look code) (peaks_of (state_at panel mid.page)) (just [] (Done (state_at panel mid.page))))
+    ((panel : Panel) → (item_of old (Text code)).run panel ≡ after (glyph_events look code) (peaks_of (state_at panel mid.page)) (just [] (Done (state_at panel mid.page))))
+    × ((item_of old (Text code)).macros ≡ old.macros)
     × PrintsText (look_behind look) codes mid new

@@ -7,11 +7,11 @@ use Rattle.pcl_items.specs.declared.fault.Cause.{Cause}
 use Rattle.pcl_items.specs.declared.fault.Cause.TheVariants.{Truncated}
 use Rattle.pcl_items.specs.declared.first.Context.{Context}
 use Rattle.pcl_items.specs.declared.first.Context.TheVariants.{Pcl, Sequence}
+use Rattle.pcl_items.specs.declared.item.Mode.TheVariants as modes
 use Rattle.pcl_items.specs.Commands.{data_letter_of}
 use Rattle.pcl_items.specs.Reader.{First, Open, first_of}
 use Rattle.pcl_items.specs.Fault.{IsFault}
 use Rattle.pcl_items.specs.LexerState.{most_open}
-use Rattle.pcl_items.specs.Grammar as grammar
 use Rattle.pcl_items.specs.Faults as rules
 use Rattle.pcl_items.specs.Faults.{IsCut, cut, CommandFault, number, no_letter, unknown_last, unknown_more, data_goes_on, no_count, cut_data, cut_command, LoneFault, lone_number, no_end, unknown_end, cut_lone, UnitFault, no_byte, cut_escape, no_sequence, no_character, cut_introducer, no_group, unknown_group, font, language}
 use Rattle.pcl_items.proofs.ReadsTo.{same_whole}
@@ -37,7 +37,7 @@ lone_short _ _ _ (no_end rest f ends no_capital) e = absurd cc
 lone_short _ _ _ (unknown_end rest f capital none) e = absurd cc
 lone_short _ _ _ (cut_lone {bytes = bytes} h) e = field_short bytes h
 
-unit_short : (bytes : List ℕ) (cause : Cause) → UnitFault grammar.Pcl bytes cause → cause ≡ Truncated → length bytes ≤ most_open
+unit_short : (bytes : List ℕ) (cause : Cause) → UnitFault modes.Pcl bytes cause → cause ≡ Truncated → length bytes ≤ most_open
 unit_short _ _ (no_byte low h k) e = absurd cc
 unit_short _ _ cut_escape e = omega arith
 unit_short _ _ (no_sequence l h none e37 g) e = absurd cc

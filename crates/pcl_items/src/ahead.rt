@@ -1,6 +1,8 @@
 //! What stands ahead in a lexer's window, and what is lent of it.
 
-ghost use Rattle.std.specs.Prelude.{◌≡◌, ◌+◌, ◌<◌, ◌≤◌, ◌-◌, ◌^◌, length, take, drop, Bool, IfSome};
+ghost use Rattle.std.specs.Prelude.{◌≡◌, ◌+◌, ◌<◌, ◌≤◌, ◌-◌, length, take, drop, Bool, IfSome};
+ghost use Rattle.pcl_items.specs.Items.{view};
+ghost use Rattle.pcl_items.specs.Canon.{canon};
 ghost use Rattle.pcl_items.specs.Reader.{first_of};
 ghost use Rattle.pcl_items.specs.FirstView.{first_view, Within};
 ghost use Rattle.pcl_items.specs.Ahead.{IsByte, IsUndecided};
@@ -24,10 +26,12 @@ pub fn byte_ahead(start: usize, window: &[u8]) -> Option<Item<'static>>
     byte_in(&window[start..])
 }
 
+/// The item of the first byte, where it is one by itself.
 #[inline(always)]
 #[tactic(auto, unfolding(crate::specs::Reader::first_of))]
-fn byte_in(bytes: &[u8]) -> Option<Item<'static>>
-    ensures { IfSome result (λ item. IsByte item bytes.now) }
+pub fn byte_in(bytes: &[u8]) -> Option<Item<'static>>
+    ensures first { IfSome result (λ item. IsByte item bytes.now) }
+    ensures spelled { IfSome result (λ item. canon (view item) ≡ take 1 bytes.now) }
 {
     match bytes {
         [code @ 32..=255, ..] => Some(Item::Text(TextByte { code: *code })),
@@ -54,8 +58,7 @@ pub fn bytes_ahead(context: Context, start: usize, window: &[u8]) -> &[u8]
 /// The parameterized command at `start` of the window, unless something else stands there.
 #[inline(always)]
 pub fn command_ahead(context: Context, start: usize, window: &[u8]) -> Option<ReadCommand>
-    requires inside { start ≤ length window.now }
-    requires short { length window.now ≤ 2 ^ 62 }
+    requires { start ≤ length window.now }
     ensures { IfSome result (λ read. IsAhead read context (drop start window.now)) }
 {
     parameterized_in(context, &window[start..])
@@ -65,8 +68,7 @@ pub fn command_ahead(context: Context, start: usize, window: &[u8]) -> Option<Re
 // It is asked where no usual item stands, and is not to crowd the code of those that do.
 #[inline(never)]
 pub fn first_ahead(context: Context, start: usize, window: &[u8]) -> First
-    requires inside { start ≤ length window.now }
-    requires short { length window.now ≤ 2 ^ 62 }
+    requires { start ≤ length window.now }
     ensures first { (whole : Bool) → first_view (drop start window.now) result ≡ first_of whole context (drop start window.now) }
     ensures within { Within (length (drop start window.now)) result }
 {

@@ -24,7 +24,6 @@ pub struct ReadCommand {
 #[inline(always)]
 #[tactic(auto, unfolding(crate::specs::Reader::first_of))]
 pub fn parameterized_in(context: Context, bytes: &[u8]) -> Option<ReadCommand>
-    requires { length bytes.now ≤ 4611686018427387904 }
     ensures { IfSome result (λ read. IsAhead read context bytes.now) }
 {
     match context {
@@ -39,7 +38,6 @@ pub fn parameterized_in(context: Context, bytes: &[u8]) -> Option<ReadCommand>
 /// The command that stands first behind an escape character.
 #[inline(always)]
 fn escaped(bytes: &[u8]) -> Option<ReadCommand>
-    requires { length bytes.now ≤ 4611686018427387904 }
     ensures { IfSome result (λ read. IsAhead read Context.Pcl (27 ∷ bytes.now)) }
 {
     match bytes {
@@ -59,7 +57,6 @@ fn escaped(bytes: &[u8]) -> Option<ReadCommand>
 #[inline(always)]
 #[tactic(auto, unfolding(crate::specs::Reader::command_in))]
 fn command(group: Group, bytes: &[u8]) -> Option<ReadCommand>
-    requires { length bytes.now ≤ 4611686018427387904 }
     ensures { IfSome result (λ read. IsInGroup read group bytes.now) }
 {
     let field = longest_field(bytes);

@@ -3,8 +3,10 @@ use Rattle.std.proofs.Common.{◌≡◌, ℕ, List, [], ◌∷◌, ◌++◌, Opt
 use Rattle.pcl_items.specs.declared.fault.Cause.{Cause}
 use Rattle.pcl_items.specs.declared.fault.Cause.TheVariants.{NotInProfile}
 use Rattle.pcl_items.specs.declared.fault.Name.TheVariants as names
+use Rattle.pcl_items.specs.declared.item.Mode.{Mode}
+use Rattle.pcl_items.specs.declared.item.Mode.TheVariants.{Pcl}
 use Rattle.pcl_items.specs.Items.{Placed}
-use Rattle.pcl_items.specs.Grammar.{Mode, Pcl, SpellsTo, here, next}
+use Rattle.pcl_items.specs.Grammar.{SpellsTo, here, next}
 use Rattle.pcl_items.specs.Faults.{Stops, behind_units, whole_unit, no_byte}
 use Rattle.pcl_items.specs.Reading.{Reading, Whole, Stopped, IsReading}
 use Rattle.pcl_items.specs.Laws.{HasOneReading}

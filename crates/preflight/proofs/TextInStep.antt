@@ -61,7 +61,7 @@ each_does look code codes [] new running h = tt
 each_does look code codes (m ∷ old) [] running h = absurd h
 each_does look code codes (m ∷ old) (n ∷ new) running h = (
   record {
-    is = λ i. record m { page = page_behind look code m.page; stopped = running.0 i };
+    is = λ i. record m { page = page_behind look code m.page; macros = sym h.0.1 i; stopped = running.0 i };
     peaks = λ panel. peaks_of (state_at panel (page_behind look code m.page));
     run = h.0.0;
   },
@@ -72,7 +72,7 @@ each_prints : (look : Look) (code : ℕ) (codes : List ℕ) (old new : List Mach
 each_prints look code codes [] [] h = tt
 each_prints look code codes [] (n ∷ new) h = absurd h
 each_prints look code codes (m ∷ old) [] h = absurd h
-each_prints look code codes (m ∷ old) (n ∷ new) h = (h.0.1, each_prints look code codes old new h.1)
+each_prints look code codes (m ∷ old) (n ∷ new) h = (h.0.2, each_prints look code codes old new h.1)
 
 still_running : (look : Look) (code : ℕ) (old : List MachineState) → AreRunning old → AreRunning (map (machine_behind look code) old)
 still_running look code [] running = tt
@@ -109,15 +109,15 @@ fewer_can_go ranges (suc k) (code ∷ codes) h = (h.0, fewer_can_go ranges k cod
 
 fewer_go : (look : Look) (k : ℕ) (codes : List ℕ) (machines : List MachineState) → GoOnAll look codes machines → GoOnAll look (take k codes) machines
 fewer_go look k codes [] h = tt
-fewer_go look k codes (m ∷ machines) h = (front_goes m.printer k codes look m.page h.0, fewer_go look k codes machines h.1)
+fewer_go look k codes (m ∷ machines) h = ((front_goes m.printer k codes look m.page h.0.0, h.0.1), fewer_go look k codes machines h.1)
 
-one_more : (look : Look) (codes : List ℕ) (machines : List MachineState) (m : MachineState) → GoOnAll look codes machines → AllGo m.printer look m.page codes → GoOnAll look codes (machines ++ m ∷ [])
+one_more : (look : Look) (codes : List ℕ) (machines : List MachineState) (m : MachineState) → GoOnAll look codes machines → AllGo m.printer look m.page codes × (m.macros.definition ≡ None) → GoOnAll look codes (machines ++ m ∷ [])
 one_more look codes [] m h go = (go, tt)
 one_more look codes (n ∷ machines) m h go = (h.0, one_more look codes machines m h.1 go)
 
 -- as many as go on one machine more
 pub more_go : (look : Look) (k count : ℕ) (bytes : List ℕ) (first : MachineState) (others : List MachineState) (i : ℕ) (m : MachineState) → i < length others → k ≤ count →
-    m ≡ get_or others i m → GoOnAll look (take count bytes) (first ∷ take i others) → AllGo m.printer look m.page (take k (take count bytes)) → GoOnAll look (take k bytes) (first ∷ take (i + 1) others)
+    m ≡ get_or others i m → GoOnAll look (take count bytes) (first ∷ take i others) → AllGo m.printer look m.page (take k (take count bytes)) × (m.macros.definition ≡ None) → GoOnAll look (take k bytes) (first ∷ take (i + 1) others)
 more_go look k count bytes first others i m inside most is h go =
     let same : take k (take count bytes) ≡ take k bytes = take-take k count bytes most in
     let front : take (i + 1) others ≡ take i others ++ m ∷ [] = take_more others i m inside ∙ ap (λ (n : MachineState). take i others ++ n ∷ []) (sym is) in
@@ -125,7 +125,7 @@ more_go look k count bytes first others i m inside most is h go =
     (subst (λ (codes : List ℕ). GoOnAll look codes (first ∷ (take i others ++ m ∷ []))) same
     (one_more look (take k (take count bytes)) (first ∷ take i others) m (fewer_go look k (take count bytes) (first ∷ take i others) h) go))
 
-pub goes_at : (look : Look) (codes : List ℕ) (machines : List MachineState) (i : ℕ) (d : MachineState) → i < length machines → GoOnAll look codes machines → AllGo (get_or machines i d).printer look (get_or machines i d).page codes
+pub goes_at : (look : Look) (codes : List ℕ) (machines : List MachineState) (i : ℕ) (d : MachineState) → i < length machines → GoOnAll look codes machines → AllGo (get_or machines i d).printer look (get_or machines i d).page codes × ((get_or machines i d).macros.definition ≡ None)
 goes_at look codes [] i d inside h = absurd (omega (arith, inside))
 goes_at look codes (m ∷ machines) zero d inside h = h.0
 goes_at look codes (m ∷ machines) (suc i) d inside h = goes_at look codes machines i d (omega (arith, inside)) h.1
@@ -173,7 +173,7 @@ module _ (fleet : List Printer) where
     agreed = agreed_more h.done place step.0 h.agreed;
     counts_are = counts_more h.done place step.0 counts between h.counts_are step.2;
     along = each_along (Along items h.done) (Does (Execute (Text code)) step.0) (Along (items ++ at place (Text code) ∷ []) (h.done ++ done_item place step.0 ∷ []))
-        (λ printer machine machine' along does. along_more items h.done printer machine along (Execute (Text code)) (at place (Text code)) (λ m p. refl) step.0 machine' does) fleet machines mid h.along step.1;
+        (λ printer machine machine' along does. along_more items h.done printer machine along (Execute (Text code)) (at place (Text code)) (λ m. refl) step.0 machine' does) fleet machines mid h.along step.1;
   }
 
   items_on : (codes : List ℕ) (items : List Placed) (place : ℕ) (machines machines' : List MachineState) (counts counts' : Counts) → CarriedItems fleet items machines counts → PrintInStep codes machines machines' counts counts' → CarriedItems fleet (items ++ text_items place codes) machines' counts'

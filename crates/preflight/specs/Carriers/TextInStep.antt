@@ -1,5 +1,5 @@
 -- Bytes of text on the machines of a fleet, which go in step.
-use Rattle.std.specs.Prelude.{◌≡◌, ℕ, List, [], ◌∷◌}
+use Rattle.std.specs.Prelude.{◌≡◌, ℕ, None, List, [], ◌∷◌}
 use Rattle.std.specs.List.{AllByRecursion}
 use Rattle.pcl_items.specs.Items.{Text}
 use Rattle.page_env.specs.declared.text_run.Look.{Look}
@@ -9,9 +9,10 @@ use Rattle.sinks.specs.declared.counts.Counts.{Counts}
 use Rattle.preflight.specs.declared.lockstep.StepOutcome.TheVariants.{Alike}
 use Rattle.preflight.specs.Carriers.Lockstep.{Execute, GoesInStep}
 
--- the bytes go on each of the machines, as characters of one look
+-- the bytes go on each of the machines, as characters of one look, and no definition is open
 abbrev pub GoOnAll : Look → List ℕ → List MachineState → Type 0
-GoOnAll look codes machines = AllByRecursion (λ machine. AllGo machine.printer look machine.page codes) machines
+GoOnAll look codes machines =
+    AllByRecursion (λ machine. AllGo machine.printer look machine.page codes × (machine.macros.definition ≡ None)) machines
 
 -- each of the bytes is an item that all machines carry out with the same events, which are counted
 abbrev pub PrintInStep : List ℕ → List MachineState → List MachineState → Counts → Counts → Type 0

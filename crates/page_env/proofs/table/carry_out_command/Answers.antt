@@ -1,10 +1,22 @@
-use Rattle.std.proofs.Common.{subst}
-use Rattle.pcl_items.specs.Items.{amount}
-use Rattle.page_env.specs.Table.{command_transition}
-use Rattle.page_env.specs.Answers.{CarriesOut, carried_of}
+use Rattle.std.proofs.Common.{refl}
+use Rattle.page_env.specs.Answers.{CarriesOut}
 use Rattle.page_env.proofs.table.carry_out_command.Goals as goal
 
-pub returns-in-None : goal.returns-in-None
-returns-in-None g c =
-    rw c.stepped.ensures
-    (subst (λ page. CarriesOut (λ defaults s. command_transition c.args.profile.now defaults s c.args.command (amount c.args.n)) page c.carry_out_step.new.page (carried_of c.carry_out_step.result)) c.in-None.ensures.1 c.carry_out_step.ensures)
+pub returns-in-Sides : goal.returns-in-Sides
+returns-in-Sides g c = rw c.in-Sides.is c.choose_sides.ensures
+
+pub returns-in-Source : goal.returns-in-Source
+returns-in-Source g c = rw c.in-Source.is c.choose_source.ensures
+
+pub returns-in-PageSize : goal.returns-in-PageSize
+returns-in-PageSize g c = rw c.in-PageSize.is c.choose_size.ensures
+
+pub returns-in-Orientation : goal.returns-in-Orientation
+returns-in-Orientation g c = rw c.in-Orientation.is c.choose_orientation.ensures
+
+pub returns-in-MacroControl : goal.returns-in-MacroControl
+unfolding CarriesOut
+returns-in-MacroControl g c = rw c.in-MacroControl.is (λ panel defaults. refl)
+
+pub returns-in_default : goal.returns-in_default
+returns-in_default g c = rw c.stepped.ensures c.carry_out_step.ensures

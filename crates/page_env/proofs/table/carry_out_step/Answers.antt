@@ -55,6 +55,9 @@ returns-in-VerticalUnits g c = rw c.in-VerticalUnits.is (as_step _ _ _ _ c.move_
 pub returns-in-CursorStack : goal.returns-in-CursorStack
 returns-in-CursorStack g c = rw c.in-CursorStack.is (as_step _ _ _ _ c.use_stack.ensures)
 
+pub returns-in-MacroId : goal.returns-in-MacroId
+returns-in-MacroId g c = rw c.in-MacroId.is (as_step _ _ _ _ c.set_macro_id.ensures)
+
 pub returns-in-RectangleWidth : goal.returns-in-RectangleWidth
 returns-in-RectangleWidth g c = rw c.in-RectangleWidth.is (as_step _ _ _ _ c.set_rectangle_width.ensures)
 

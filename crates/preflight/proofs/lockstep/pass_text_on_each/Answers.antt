@@ -1,4 +1,4 @@
-use Rattle.std.proofs.Common.{◌<◌, length, subst, sym, arith}
+use Rattle.std.proofs.Common.{◌≡◌, None, ◌<◌, length, subst, sym, arith}
 use Rattle.page_env.specs.TextRun.{AllGo}
 use Rattle.page_machine.specs.TextRun.{PrintsText}
 use Rattle.preflight.proofs.TextInStep.{goes_at, unchanged_at, changed_more, changed_all}
@@ -11,7 +11,16 @@ pass_text-requires-clause-go g c =
     let d = c.machine-item.result in
     let inside : i < length c.loop-machine.machines = omega (arith, c.loop-machine-test.true, c.loop-machine.auto.machines) in
     subst (λ m. AllGo m.printer c.args.look.now m.page c.args.text.now) (sym (unchanged_at prints i c.args.machines.now c.loop-machine.machines d c.loop-machine.invariant inside))
-    (goes_at c.args.look.now c.args.text.now c.args.machines.now i d c.loop-machine-test.true c.requires.go)
+    (goes_at c.args.look.now c.args.text.now c.args.machines.now i d c.loop-machine-test.true c.requires.go).0
+
+pub pass_text-requires-clause-no_definition : goal.pass_text-requires-clause-no_definition
+pass_text-requires-clause-no_definition g c =
+    let prints = PrintsText c.args.look.now c.args.text.now in
+    let i = c.loop-machine.machine-index in
+    let d = c.machine-item.result in
+    let inside : i < length c.loop-machine.machines = omega (arith, c.loop-machine-test.true, c.loop-machine.auto.machines) in
+    subst (λ m. m.macros.definition ≡ None) (sym (unchanged_at prints i c.args.machines.now c.loop-machine.machines d c.loop-machine.invariant inside))
+    (goes_at c.args.look.now c.args.text.now c.args.machines.now i d c.loop-machine-test.true c.requires.go).1
 
 pub loop-machine-preserved : goal.loop-machine-preserved
 loop-machine-preserved g c =

@@ -10,11 +10,11 @@ loop-machine-preserved g c =
     let h = c.loop-machine.invariant in
     let run = c.in-Some.run' in
     let count = c.in_ok-count.count in
-    let far = c.in_ok-count.ensures in
+    let far = c.in_ok-count.ensures.0 in
     let most : count ≤ c.loop-machine.count = omega (arith, far.short, length-take-le c.loop-machine.count bytes h.1) in
     let can : CanGoIn run.codes.now (take count bytes) = subst (λ l. CanGoIn run.codes.now l) (take-take count c.loop-machine.count bytes most) (fewer_can_go run.codes.now count (take c.loop-machine.count bytes) h.2) in (
       omega (arith, most, h.0),
       omega (arith, most, h.1),
       can,
-      more_go run.look count c.loop-machine.count bytes c.args.first.now c.args.others.now c.loop-machine.machine-index c.machine-item.result c.loop-machine-test.true most c.machine-item.is h.3 far.go,
+      more_go run.look count c.loop-machine.count bytes c.args.first.now c.args.others.now c.loop-machine.machine-index c.machine-item.result c.loop-machine-test.true most c.machine-item.is h.3 (far.go, c.in_ok-count.ensures.1),
     )

@@ -6,7 +6,7 @@ use Rattle.preflight.proofs.lockstep.Alone.carry_out_text.Goals as goal
 pub returns-clause-text : goal.returns-clause-text
 returns-clause-text g c =
     let machine = c.args.self.now.machine in
-    text_of machine.printer (take c.in-Some.run'.count c.args.bytes.now) c.in-Some.run'.look machine.page c.in-Some.ensures.go.go
+    text_of machine.printer (take c.in-Some.run'.count c.args.bytes.now) c.in-Some.run'.look machine.page c.in-Some.ensures.0.go.go
 
 pub returns-clause-step : goal.returns-clause-step
 returns-clause-step g c =

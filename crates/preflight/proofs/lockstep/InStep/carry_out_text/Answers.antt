@@ -10,7 +10,7 @@ use Rattle.preflight.proofs.lockstep.InStep.carry_out_text.Goals as goal
 pub returns-clause-text : goal.returns-clause-text
 returns-clause-text g c =
     let first = c.args.self.now.first in
-    text_of first.printer (take c.in-Some.run'.count c.args.bytes.now) c.in-Some.run'.look first.page c.in-Some.ensures.2.0
+    text_of first.printer (take c.in-Some.run'.count c.args.bytes.now) c.in-Some.run'.look first.page c.in-Some.ensures.2.0.0
 
 pub returns-clause-step : goal.returns-clause-step
 returns-clause-step g c =

@@ -1,0 +1,20 @@
+use Rattle.std.proofs.Common.{◌∷◌, sym, ap, subst, ◌∙◌}
+use Rattle.std.proofs.lemmas.List.{take_rest}
+use Rattle.pcl_items.specs.Items.{view}
+use Rattle.pcl_items.specs.Spelled.{IsSpelled, items_in}
+use Rattle.macro_store.proofs.BodyItems.{next_of, none_left}
+use Rattle.macro_store.proofs.body.Body.next.Goals as goal
+
+pub invariant_of-self : goal.invariant_of-self
+invariant_of-self c =
+    let next = next_of c.self.inside.rest.now c.self.invariant (view c.in-Some.item) c.in-Some.end _ c.in-Some.ensures in
+    subst IsSpelled (sym (take_rest c.self.inside.rest.now c.in-Some.end)) next.left
+
+pub returns-in-None : goal.returns-in-None
+returns-in-None c =
+    let none = sym c.self.view_is ∙ none_left c.self.inside.rest.now c.self.invariant c.in-None.ensures in (none, none)
+
+pub returns-in-Some : goal.returns-in-Some
+returns-in-Some c =
+    let next = next_of c.self.inside.rest.now c.self.invariant (view c.in-Some.item) c.in-Some.end _ c.in-Some.ensures in
+    sym c.self.view_is ∙ next.items ∙ ap (λ bytes. view c.in-Some.item ∷ items_in bytes) (sym (take_rest c.self.inside.rest.now c.in-Some.end))

@@ -1,0 +1,40 @@
+//! The items of a body.
+
+ghost use Rattle.std.specs.Prelude.{◌≡◌, ◌∷◌, [], MatchOption};
+ghost use Rattle.pcl_items.specs.Items.{view as entry_of};
+
+use pcl_items::{Item, first_spelled};
+use std::marker::Model;
+
+/// The items of a body that are still to come, in order.
+#[derive(Drop)]
+pub struct Body<'a> {
+    pub(crate) rest: &'a [u8],
+}
+
+impl<'a> Model for Body<'a> {
+    ghost use Rattle.std.specs.Prelude.{List};
+    ghost use Rattle.pcl_items.specs.Items.{Entry};
+    ghost use Rattle.pcl_items.specs.Spelled.{IsSpelled, items_in};
+
+    ghost Value = { List Entry };
+
+    ghost view = { λ body. items_in body.rest.now };
+
+    ghost invariant = { λ body. IsSpelled body.rest.now };
+}
+
+impl<'a> Body<'a> {
+    /// The next item. Its data are lent from the store.
+    pub fn next(&mut self) -> Option<Item<'a>>
+        ensures { MatchOption result ((self.old ≡ []) × (self.new ≡ [])) (λ item. self.old ≡ entry_of item ∷ self.new) }
+    {
+        match first_spelled(self.rest) {
+            None => None,
+            Some((item, end)) => {
+                self.rest = &self.rest[end..];
+                Some(item)
+            }
+        }
+    }
+}

@@ -1,0 +1,80 @@
+-- Macros: the id of which controls speak (`&f#Y`), the controls (`&f#X`), and where an overlay begins.
+use Rattle.std.specs.Prelude.{ℕ, ◌==◌, not, Bool, true, cond, Option, Some, None, List, [], ◌∷◌}
+use Rattle.std.specs.Map.{lookup}
+use Rattle.pcl_items.specs.Value.{Amount}
+use Rattle.page_env.specs.declared.finding.Finding.TheVariants.{BadValue, NoMacro, InMacro}
+use Rattle.page_env.specs.declared.macros.Control.{Control}
+use Rattle.page_env.specs.declared.macros.Control.TheVariants.{Begin, End, Execute, Call, EnableOverlay, DisableOverlay, DeleteAll, Delete, MakeTemporary}
+use Rattle.page_env.specs.declared.page.JobSettings.{JobSettings}
+use Rattle.page_env.specs.Settings.{Settings, State, home_cursor, with_job}
+use Rattle.page_env.specs.Numbers.{is_whole_between, whole_of}
+use Rattle.page_env.specs.Effect.{Check, check, Line, setting}
+
+-- `&f#Y` macro id
+abbrev pub set_macro_id : State → Amount → Line
+set_macro_id s n =
+    setting (check (not (is_whole_between 0 32_767 n)) BadValue ∷ []) (with_job s (record s.settings.job { macro_id = whole_of n }))
+
+-- the controls by their values; every macro is temporary, so 6 (all) and 7 (all temporary ones) delete the same
+abbrev pub controls : List (ℕ × Control)
+controls =
+    (0, Begin) ∷ (1, End) ∷ (2, Execute) ∷ (3, Call) ∷ (4, EnableOverlay) ∷ (5, DisableOverlay) ∷ (6, DeleteAll) ∷ (7, DeleteAll)
+    ∷ (8, Delete) ∷ (9, MakeTemporary) ∷ []
+
+-- `&f#X` macro control
+abbrev pub control_of : Amount → Option Control
+control_of n = cond (is_whole_between 0 9 n) (lookup (λ value. value == whole_of n) controls) None
+
+-- What a control checks, where the macro of the id in force is known or not, and in a macro or not. No definition is open, so
+-- there is none to end.
+abbrev pub control_checks : (known in_macro : Bool) → Option Control → List Check
+control_checks known in_macro None = check true BadValue ∷ []
+control_checks known in_macro (Some Begin) = check in_macro InMacro ∷ []
+control_checks known in_macro (Some End) = check true NoMacro ∷ []
+control_checks known in_macro (Some Execute) = check (not known) NoMacro ∷ []
+control_checks known in_macro (Some Call) = check (not known) NoMacro ∷ []
+control_checks known in_macro (Some EnableOverlay) = check (not known) NoMacro ∷ check in_macro InMacro ∷ []
+control_checks known in_macro (Some DisableOverlay) = check in_macro InMacro ∷ []
+control_checks known in_macro (Some DeleteAll) = check in_macro InMacro ∷ []
+control_checks known in_macro (Some Delete) = check (not known) NoMacro ∷ check in_macro InMacro ∷ []
+control_checks known in_macro (Some MakeTemporary) = []
+
+-- the overlay that is left where this macro goes
+abbrev pub overlay_without : ℕ → Option ℕ → Option ℕ
+overlay_without id None = None
+overlay_without id (Some overlay) = cond (overlay == id) None (Some overlay)
+
+-- the overlay that a control leaves; one whose macro goes is disabled
+abbrev pub overlay_after : Option Control → JobSettings → Option ℕ
+overlay_after None job = job.overlay
+overlay_after (Some Begin) job = overlay_without job.macro_id job.overlay
+overlay_after (Some End) job = job.overlay
+overlay_after (Some Execute) job = job.overlay
+overlay_after (Some Call) job = job.overlay
+overlay_after (Some EnableOverlay) job = Some job.macro_id
+overlay_after (Some DisableOverlay) job = None
+overlay_after (Some DeleteAll) job = None
+overlay_after (Some Delete) job = overlay_without job.macro_id job.overlay
+overlay_after (Some MakeTemporary) job = job.overlay
+
+-- all that a control does to the state by itself
+abbrev pub controlled : Option Control → State → State
+controlled control s = with_job s (record s.settings.job { overlay = overlay_after control s.settings.job })
+
+-- the own step of a control, before a macro that it runs
+abbrev pub control_line : (known in_macro : Bool) → Option Control → State → Line
+control_line known in_macro control s = setting (control_checks known in_macro control) (controlled control s)
+
+-- An overlay begins with the user defaults, but for the page's five values, with the cursor at the left edge and at home, an
+-- empty stack, the page marked or not as it is, and no raster started.
+abbrev pub overlay_state : Settings → State → State
+overlay_state defaults s = record {
+  settings = record defaults {
+    fields = record s.settings.fields { vmi = defaults.fields.vmi; font = defaults.fields.font };
+    unset = record s.settings.unset { vmi = defaults.unset.vmi; font = defaults.unset.font };
+  };
+  cursor = home_cursor;
+  stack = [];
+  marked = s.marked;
+  raster = None;
+}

@@ -1,0 +1,119 @@
+//! Items of the job and the macros: what is stored, and what the controls do to the store.
+
+ghost use Rattle.std.specs.Prelude.{◌≡◌, None, IsSome, true, OnOk, OnErr};
+ghost use Rattle.pcl_items.specs.Items.{view};
+ghost use Rattle.page_machine.specs.Defining.{is_reset, control_in, defining_control, defining_of, begins, carried_after};
+ghost use Rattle.page_machine.specs.Machine.{Defines};
+
+use crate::machine::Stop;
+use macro_store::{MacroStore, Refusal};
+use page_env::{Control, Finding, control_of};
+use pcl_items::{Command, Item, Place, SimpleItem};
+use std::alloc::{AllocError, Allocator};
+
+/// What an item does to the definition that is open.
+#[derive(Clone, Copy, Debug, PartialEq, Eq)]
+pub enum Defining {
+    /// It may not stand in a definition.
+    Refused,
+    /// It ends the definition.
+    Completed,
+    /// It is stored.
+    Stored,
+}
+
+/// The control that an item is.
+#[inline(always)]
+fn control_in(item: &Item<'_>) -> Option<Control>
+    ensures { result ≡ control_in (view item.now) }
+{
+    match item {
+        Item::Simple(item) => match item {
+            SimpleItem::Parameterized(Command::MacroControl, n) => control_of(*n),
+            _ => None,
+        },
+        _ => None,
+    }
+}
+
+/// Whether an item is a reset.
+#[inline(always)]
+fn is_reset(item: &Item<'_>) -> bool
+    ensures { result ≡ is_reset (view item.now) }
+{
+    matches!(item, Item::Simple(SimpleItem::Reset))
+}
+
+/// What a control does to the definition that is open.
+fn defining_control(control: Option<Control>) -> Defining
+    ensures { result ≡ defining_control control }
+{
+    match control {
+        Some(Control::Begin) => Defining::Refused,
+        Some(Control::End) => Defining::Completed,
+        _ => Defining::Stored,
+    }
+}
+
+/// What an item does to the definition that is open.
+fn defining_of(item: &Item<'_>) -> Defining
+    ensures { result ≡ defining_of (view item.now) }
+{
+    if is_reset(item) {
+        Defining::Refused
+    } else {
+        defining_control(control_in(item))
+    }
+}
+
+/// Stores the item, or ends the definition, or refuses the item.
+pub(crate) fn define<F, B: Allocator + Copy>(
+    macros: &mut MacroStore<B>,
+    place: Place,
+    item: &Item<'_>,
+) -> Result<(), Stop<F>>
+    requires { IsSome macros.old.definition }
+    ensures { Defines place (view item.now) macros.old macros.new result }
+{
+    match defining_of(item) {
+        Defining::Refused => Err(Stop::Found(place, Finding::DefinitionOpen)),
+        Defining::Completed => {
+            macros.commit();
+            Ok(())
+        }
+        Defining::Stored => match macros.append(item) {
+            Ok(()) => Ok(()),
+            Err(Refusal::MacroMemory) => Err(Stop::Found(place, Finding::MacroMemory)),
+            Err(Refusal::Memory(error)) => Err(Stop::Memory(error)),
+        },
+    }
+}
+
+/// Does to the macros what an item that was carried out does, with this id in force.
+#[inline(always)]
+pub(crate) fn keep<B: Allocator + Copy>(
+    macros: &mut MacroStore<B>,
+    id: u16,
+    item: &Item<'_>,
+) -> Result<(), AllocError>
+    requires { macros.old.definition ≡ None }
+    ensures ok { OnOk result (macros.new ≡ carried_after id (view item.now) macros.old) }
+    ensures err { OnErr result (begins (control_in (view item.now)) ≡ true) }
+{
+    if is_reset(item) {
+        macros.clear();
+        return Ok(());
+    }
+    match control_in(item) {
+        Some(Control::Begin) => macros.begin(id),
+        Some(Control::DeleteAll) => {
+            macros.clear();
+            Ok(())
+        }
+        Some(Control::Delete) => {
+            macros.delete(id);
+            Ok(())
+        }
+        _ => Ok(()),
+    }
+}

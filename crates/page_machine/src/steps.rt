@@ -1,0 +1,276 @@
+//! Steps: what carries out an item or a part of one without the closing of a page and without a macro.
+
+ghost use Rattle.std.specs.Prelude.{◌≡◌, ◌≤◌, [], true, length, MatchOption};
+ghost use Rattle.device_profile.specs.declared.panel.Panel.{Panel};
+ghost use Rattle.page_env.specs.Answers.{marked_at};
+ghost use Rattle.page_env.specs.Effect.{Effect, Goes};
+ghost use Rattle.page_env.specs.Mark.{characters_of, shapes_of};
+ghost use Rattle.page_env.specs.Settings.{state_at};
+ghost use Rattle.page_env.specs.Table.{is_step, page_end_of};
+ghost use Rattle.pcl_items.specs.declared.command.DataCommand.TheVariants.{RasterRow as RasterRowCommand};
+ghost use Rattle.pcl_items.specs.declared.command.Command.TheVariants.{FillRectangle};
+ghost use Rattle.pcl_items.specs.Items.{Parameterized, Text, WithData, amount, view};
+ghost use Rattle.page_machine.specs.Run.{unmoved, effect_run, Conditions, byte_run, printing, begun_run, item_run};
+ghost use Rattle.page_machine.specs.Macros.{ended};
+ghost use Rattle.page_machine.specs.Defining.{LeavesMacros};
+ghost use Rattle.page_machine.specs.Follows.{Follows};
+
+use crate::sink::MarkSink;
+use device_profile::Profile;
+use page_env::{
+    Finding, Glyph, Mark, Page, PageEnd, begin_item, carry_out_step, fill_rectangle, fill_value,
+    print_byte, print_row, print_transparent, step_of,
+};
+use pcl_items::{Command, Data, DataCommand, Item, Number};
+use std::alloc::Allocator;
+
+/// Why an item was not carried out to its end.
+#[derive(Drop)]
+pub enum Halt<F> {
+    Found(Finding),
+    Refused(F),
+}
+
+/// Hands over the end of the page; the next page is unmarked, and the cursor is at home.
+pub(crate) fn end_page<S: MarkSink>(
+    page: &mut Page,
+    end: PageEnd,
+    sink: &mut S,
+) -> Result<(), Halt<S::Fault>>
+    requires { (panel : Panel) → page_end_of (state_at panel page.old) ≡ end }
+    ensures { Follows S.takes S.refuses (λ panel. ended (state_at panel page.old))
+        sink.old sink.new page.new result }
+{
+    match sink.page(end) {
+        Err(fault) => Err(Halt::Refused(fault)),
+        Ok(()) => {
+            page.cursor.y = None;
+            page.marked = false;
+            page.raster = None;
+            Ok(())
+        }
+    }
+}
+
+/// Hands over what a step of text printed.
+fn hand_over<S: MarkSink>(
+    printed: Result<Option<Glyph>, Finding>,
+    page: &Page,
+    sink: &mut S,
+) -> Result<(), Halt<S::Fault>>
+    ensures { (conditions : Panel → Conditions) (effect : Panel → Effect) →
+        ((panel : Panel) → effect panel ≡ marked_at characters_of panel page.now printed) →
+        Follows S.takes S.refuses (λ panel. effect_run (conditions panel) (effect panel))
+        sink.old sink.new page.now result }
+{
+    match printed {
+        Err(finding) => Err(Halt::Found(finding)),
+        Ok(None) => Ok(()),
+        Ok(Some(glyph)) => match sink.mark(&Mark::Character(glyph)) {
+            Err(fault) => Err(Halt::Refused(fault)),
+            Ok(()) => Ok(()),
+        },
+    }
+}
+
+/// Prints a byte of text.
+pub(crate) fn run_text<S: MarkSink, A: Allocator>(
+    profile: &Profile<A>,
+    code: u8,
+    page: &mut Page,
+    sink: &mut S,
+) -> Result<(), Halt<S::Fault>>
+    ensures { (conditions : Panel → Conditions) → Follows S.takes S.refuses
+        (λ panel. begun_run profile.now (conditions panel) (Text code) (state_at panel page.old))
+        sink.old sink.new page.new result }
+{
+    let printed = print_byte(profile, page, code);
+    hand_over(printed, page, sink)
+}
+
+/// Prints a byte of transparent print data.
+fn run_byte<S: MarkSink, A: Allocator>(
+    profile: &Profile<A>,
+    code: u8,
+    page: &mut Page,
+    sink: &mut S,
+) -> Result<(), Halt<S::Fault>>
+    ensures { (conditions : Panel → Conditions) → Follows S.takes S.refuses
+        (λ panel. byte_run profile.now (conditions panel) code (state_at panel page.old))
+        sink.old sink.new page.new result }
+{
+    let printed = print_transparent(profile, page, code);
+    hand_over(printed, page, sink)
+}
+
+/// Prints bytes of transparent print data one after another.
+fn run_bytes<S: MarkSink, A: Allocator>(
+    profile: &Profile<A>,
+    bytes: &[u8],
+    page: &mut Page,
+    sink: &mut S,
+) -> Result<(), Halt<S::Fault>>
+    ensures { (conditions : Panel → Conditions) → Follows S.takes S.refuses
+        (λ panel. printing profile.now (conditions panel) (unmoved (state_at panel page.old)) bytes.now)
+        sink.old sink.new page.new result }
+{
+    for code in bytes {
+        match run_byte(profile, *code, page, sink) {
+            Err(halt) => return Err(halt),
+            Ok(()) => {}
+        }
+    }
+    Ok(())
+}
+
+/// Hands over a mark, if there is one.
+fn hand_over_mark<S: MarkSink>(
+    mark: &Option<Mark<'_>>,
+    page: &Page,
+    sink: &mut S,
+) -> Result<(), Halt<S::Fault>>
+    ensures { (conditions : Panel → Conditions) (effect : Panel → Effect) →
+        ((panel : Panel) → effect panel ≡ Goes (state_at panel page.now) (shapes_of mark.now)) →
+        Follows S.takes S.refuses (λ panel. effect_run (conditions panel) (effect panel))
+        sink.old sink.new page.now result }
+{
+    match mark {
+        None => Ok(()),
+        Some(mark) => match sink.mark(mark) {
+            Err(fault) => Err(Halt::Refused(fault)),
+            Ok(()) => Ok(()),
+        },
+    }
+}
+
+/// Hands over what a row of a raster printed.
+fn hand_over_row<S: MarkSink>(
+    printed: &Result<Option<Mark<'_>>, Finding>,
+    page: &Page,
+    sink: &mut S,
+) -> Result<(), Halt<S::Fault>>
+    ensures { (conditions : Panel → Conditions) (effect : Panel → Effect) →
+        ((panel : Panel) → effect panel ≡ marked_at shapes_of panel page.now printed.now) →
+        Follows S.takes S.refuses (λ panel. effect_run (conditions panel) (effect panel))
+        sink.old sink.new page.now result }
+{
+    match printed {
+        Err(finding) => Err(Halt::Found(*finding)),
+        Ok(row) => hand_over_mark(row, page, sink),
+    }
+}
+
+/// Prints a row of a raster.
+fn run_row<S: MarkSink, A: Allocator>(
+    profile: &Profile<A>,
+    bytes: &[u8],
+    page: &mut Page,
+    sink: &mut S,
+) -> Result<(), Halt<S::Fault>>
+    requires { length bytes.now ≤ 32767 }
+    ensures { (conditions : Panel → Conditions) → Follows S.takes S.refuses
+        (λ panel. begun_run profile.now (conditions panel) (WithData RasterRowCommand bytes.now) (state_at panel page.old))
+        sink.old sink.new page.new result }
+{
+    let printed = print_row(profile, page, bytes);
+    hand_over_row(&printed, page, sink)
+}
+
+/// Fills a rectangle.
+#[inline(always)]
+pub(crate) fn run_fill<S: MarkSink, A: Allocator>(
+    profile: &Profile<A>,
+    n: Number,
+    page: &mut Page,
+    sink: &mut S,
+) -> Result<(), Halt<S::Fault>>
+    ensures { (conditions : Panel → Conditions) → Follows S.takes S.refuses
+        (λ panel. begun_run profile.now (conditions panel) (Parameterized FillRectangle (amount n)) (state_at panel page.old))
+        sink.old sink.new page.new result }
+{
+    match fill_rectangle(profile, page, n) {
+        Err(finding) => Err(Halt::Found(finding)),
+        Ok(area) => match sink.mark(&Mark::Rect(area)) {
+            Err(fault) => Err(Halt::Refused(fault)),
+            Ok(()) => Ok(()),
+        },
+    }
+}
+
+/// Carries out a command that is one step without a mark.
+// Most items are these, and nothing is left of them but a finding.
+#[inline(always)]
+pub(crate) fn run_step<S: MarkSink, A: Allocator>(
+    profile: &Profile<A>,
+    command: Command,
+    n: Number,
+    page: &mut Page,
+    sink: &mut S,
+) -> Result<(), Halt<S::Fault>>
+    requires { is_step command ≡ true }
+    ensures { (conditions : Panel → Conditions) → Follows S.takes S.refuses
+        (λ panel. begun_run profile.now (conditions panel) (Parameterized command (amount n)) (state_at panel page.old))
+        sink.old sink.new page.new result }
+{
+    match carry_out_step(profile, page, command, n) {
+        Ok(()) => Ok(()),
+        Err(finding) => Err(Halt::Found(finding)),
+    }
+}
+
+/// Carries out a command with its data.
+#[inline(always)]
+pub(crate) fn run_data<S: MarkSink, A: Allocator>(
+    profile: &Profile<A>,
+    command: DataCommand,
+    data: &Data<'_>,
+    page: &mut Page,
+    sink: &mut S,
+) -> Result<(), Halt<S::Fault>>
+    ensures { (conditions : Panel → Conditions) → Follows S.takes S.refuses
+        (λ panel. begun_run profile.now (conditions panel) (WithData command data.now.bytes.now) (state_at panel page.old))
+        sink.old sink.new page.new result }
+{
+    match command {
+        DataCommand::TransparentText => run_bytes(profile, data.bytes, page, sink),
+        DataCommand::RasterRow => run_row(profile, data.bytes, page, sink),
+    }
+}
+
+/// Carries out one item that is a step or a mark alone: it closes no page, and macros stay as they are.
+// Most items are these, so nothing is put together for them that only others need.
+#[inline(always)]
+pub(crate) fn run_alone<S: MarkSink, A: Allocator>(
+    profile: &Profile<A>,
+    item: &Item<'_>,
+    page: &mut Page,
+    sink: &mut S,
+) -> Option<Result<(), Halt<S::Fault>>>
+    ensures { MatchOption result
+        ((page.new ≡ page.old) × (sink.new ≡ sink.old))
+        (λ ran. LeavesMacros (view item.now) × ((conditions : Panel → Conditions) → Follows S.takes S.refuses
+        (λ panel. item_run profile.now (conditions panel) (view item.now) (state_at panel page.old))
+        sink.old sink.new page.new ran)) }
+{
+    match item {
+        Item::Simple(simple) => match step_of(simple) {
+            Some((command, n)) => {
+                begin_item(page, item);
+                Some(run_step(profile, command, n, page, sink))
+            }
+            None => {
+                let n = fill_value(simple)?;
+                begin_item(page, item);
+                Some(run_fill(profile, n, page, sink))
+            }
+        },
+        Item::Text(byte) => {
+            begin_item(page, item);
+            Some(run_text(profile, byte.code, page, sink))
+        }
+        Item::WithData(command, data) => {
+            begin_item(page, item);
+            Some(run_data(profile, *command, data, page, sink))
+        }
+    }
+}

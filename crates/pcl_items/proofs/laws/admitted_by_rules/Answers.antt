@@ -1,0 +1,5 @@
+use Rattle.pcl_items.proofs.Canonical as lemmas
+use Rattle.pcl_items.proofs.laws.admitted_by_rules.Goals as goal
+
+pub returns : goal.returns
+returns c mode mode2 item h = (λ e. (lemmas.has_canon mode mode2 item h e).unit, lemmas.one_unit_admitted mode mode2 item)

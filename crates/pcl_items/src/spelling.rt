@@ -1,0 +1,289 @@
+//! The one spelling of each item, written and read again.
+
+ghost use Rattle.std.specs.Prelude.{◌≡◌, ◌≤◌, ◌+◌, ◌-◌, ◌%◌, List, ◌++◌, ◌∷◌, [], ℕ, take, length, decimal, MatchOption, OnOk, OnErr};
+ghost use Rattle.arrayvec.specs.ArrayVec.{array_vec_len};
+ghost use Rattle.pcl_items.specs.declared.item.Mode.TheVariants.{Pcl};
+ghost use Rattle.pcl_items.specs.Items.{Entry, view, simple_view, amount};
+ghost use Rattle.pcl_items.specs.Canon.{canon, data_of, amount_text, with_point, without_zeros, four_decimals};
+ghost use Rattle.pcl_items.specs.ValueField.{sign_text};
+ghost use Rattle.pcl_items.specs.FirstView.{head_view, data_len};
+ghost use Rattle.pcl_items.specs.Spelled.{StandsAt, NothingStands, IsSpelled};
+
+use crate::ahead::{byte_in, data_before};
+use crate::command::{Command, DataCommand};
+use crate::first::{Context, First, Head, first_in};
+use crate::item::{Item, Mode, SetLetter, SimpleItem};
+use crate::number::{Number, Sign};
+use crate::parameterized::parameterized_in;
+use arrayvec::ArrayVec;
+use itoa::Buffer;
+use std::alloc::{AllocError, Allocator};
+
+/// The most bytes of a spelling but for data: ESC, two characters, a sign, five digits, a point, four digits and a letter.
+const LONGEST: usize = 15;
+
+/// A spelling but for the data that end it.
+type HeadText = ArrayVec<u8, LONGEST>;
+
+/// Appends bytes that have room.
+fn append(text: &mut HeadText, bytes: &[u8])
+    requires { array_vec_len text.old + length bytes.now ≤ 15 }
+    ensures text { text.new.items ≡ text.old.items ++ bytes.now }
+    ensures len { array_vec_len text.new ≡ array_vec_len text.old + length bytes.now }
+{
+    let Ok(()) = text.try_extend_from_slice(bytes) else {
+        unreachable!()
+    };
+}
+
+/// The last decimal digit of a number.
+fn last_digit(n: u32) -> u8
+    ensures { result ≡ 48 + n % 10 }
+{
+    b'0' + (n % 10) as u8
+}
+
+/// How much is shown of a point and four decimals: no zeros at the end, and no point that is last.
+fn shown(text: &[u8; 5]) -> usize
+    ensures within { result ≤ 5 }
+    ensures shown { (a b c d : ℕ) → text.now ≡ 46 ∷ a ∷ b ∷ c ∷ d ∷ [] → take result text.now ≡ with_point (without_zeros (a ∷ b ∷ c ∷ d ∷ [])) }
+{
+    let [_, tenth, hundredth, thousandth, last] = *text;
+    if last != b'0' {
+        5
+    } else if thousandth != b'0' {
+        4
+    } else if hundredth != b'0' {
+        3
+    } else if tenth != b'0' {
+        2
+    } else {
+        0
+    }
+}
+
+/// Appends a point and the decimals of a number, where it has some.
+fn append_decimals(text: &mut HeadText, n: u32)
+    requires { array_vec_len text.old ≤ 10 }
+    ensures text { text.new.items ≡ text.old.items ++ with_point (without_zeros (four_decimals n)) }
+    ensures len { array_vec_len text.new ≤ array_vec_len text.old + 5 }
+{
+    let all = [
+        b'.',
+        last_digit(n / 1000),
+        last_digit(n / 100),
+        last_digit(n / 10),
+        last_digit(n),
+    ];
+    append(text, &all[..shown(&all)]);
+}
+
+/// Appends a whole number.
+fn append_whole(text: &mut HeadText, n: u16)
+    requires { array_vec_len text.old ≤ 10 }
+    ensures text { text.new.items ≡ text.old.items ++ decimal n }
+    ensures len { array_vec_len text.new ≤ array_vec_len text.old + 5 }
+{
+    let mut digits = Buffer::new();
+    append(text, digits.format(n).as_bytes());
+}
+
+/// Appends a sign, where there is one.
+fn append_sign(text: &mut HeadText, sign: Sign)
+    requires { array_vec_len text.old ≤ 10 }
+    ensures text { text.new.items ≡ text.old.items ++ sign_text sign }
+    ensures len { array_vec_len text.new ≤ array_vec_len text.old + 1 }
+{
+    match sign {
+        Sign::Absent => {}
+        Sign::Plus => text.push(b'+'),
+        Sign::Minus => text.push(b'-'),
+    }
+}
+
+/// Appends a number: its sign, its whole part, and its decimals.
+fn append_number(text: &mut HeadText, n: Number)
+    requires { array_vec_len text.old ≤ 3 }
+    ensures text { text.new.items ≡ text.old.items ++ amount_text (amount n) }
+    ensures len { array_vec_len text.new ≤ array_vec_len text.old + 11 }
+{
+    append_sign(text, n.sign);
+    append_whole(text, (n.ten_thousandths / 10_000) as u16);
+    append_decimals(text, n.ten_thousandths);
+}
+
+/// A spelling that no number enters.
+fn fixed(bytes: &[u8]) -> HeadText
+    requires { length bytes.now ≤ 15 }
+    ensures text { result.items ≡ bytes.now }
+    ensures len { array_vec_len result ≡ length bytes.now }
+{
+    let mut text = ArrayVec::new();
+    append(&mut text, bytes);
+    text
+}
+
+/// A command with its number.
+fn command_text(command: Command, n: Number) -> HeadText
+    ensures { result.items ≡ canon (Entry.Parameterized command (amount n)) }
+{
+    let group = command.group();
+    let mut text = fixed(&[b'\x1b', group.introducer(), group.character()]);
+    append_number(&mut text, n);
+    text.push(command.letter());
+    text
+}
+
+/// A symbol set with its number.
+fn symbol_set_text(letter: SetLetter, n: Number) -> HeadText
+    ensures { result.items ≡ canon (Entry.SymbolSet (amount n) letter.code) }
+{
+    let mut text = fixed(b"\x1b(");
+    append_number(&mut text, n);
+    text.push(letter.code);
+    text
+}
+
+/// A command with the count of its data, which are to follow.
+fn counting_text(command: DataCommand, count: u16) -> HeadText
+    ensures { (bytes : List ℕ) → length bytes ≡ count → result.items ++ bytes ≡ canon (Entry.WithData command bytes) }
+{
+    let group = command.group();
+    let mut text = fixed(&[b'\x1b', group.introducer(), group.character()]);
+    append_whole(&mut text, count);
+    text.push(command.letter());
+    text
+}
+
+fn simple_text(item: &SimpleItem) -> HeadText
+    ensures { result.items ≡ canon (simple_view item.now) }
+{
+    match item {
+        SimpleItem::CarriageReturn => fixed(b"\r"),
+        SimpleItem::LineFeed => fixed(b"\n"),
+        SimpleItem::FormFeed => fixed(b"\x0c"),
+        SimpleItem::Reset => fixed(b"\x1bE"),
+        SimpleItem::ClearMargins => fixed(b"\x1b9"),
+        SimpleItem::HalfLineFeed => fixed(b"\x1b="),
+        SimpleItem::Parameterized(command, n) => command_text(*command, *n),
+        SimpleItem::SymbolSet(letter, n) => symbol_set_text(*letter, *n),
+        SimpleItem::DefaultFont => fixed(b"\x1b(3@"),
+    }
+}
+
+/// The spelling of an item but for its data.
+fn head_text(item: &Item<'_>) -> HeadText
+    ensures { result.items ++ data_of (view item.now) ≡ canon (view item.now) }
+{
+    match item {
+        Item::Text(byte) => fixed(&[byte.code]),
+        Item::Simple(item) => simple_text(item),
+        Item::WithData(command, data) => counting_text(*command, data.bytes.len() as u16),
+    }
+}
+
+/// The data of an item, none for one that has no data.
+fn data_of<'a>(item: &Item<'a>) -> &'a [u8]
+    ensures data { result.now ≡ data_of (view item.now) }
+    ensures short { length result.now ≤ 32767 }
+{
+    match item {
+        Item::Text(_) => &[],
+        Item::Simple(_) => &[],
+        Item::WithData(_, data) => data.bytes,
+    }
+}
+
+/// Appends the spelling of an item.
+///
+/// An error means that memory was refused; the bytes then stand as before.
+pub fn spell<A: Allocator>(item: &Item<'_>, bytes: &mut Vec<u8, A>) -> Result<(), AllocError>
+    ensures ok { OnOk result (bytes.new.items ≡ bytes.old.items ++ canon (view item.now)) }
+    ensures err { OnErr result (bytes.new.items ≡ bytes.old.items) }
+{
+    let head = head_text(item);
+    let data = data_of(item);
+    // There is room for both before the first is appended, so that no part of a spelling is left behind.
+    bytes.reserve(head.len() + data.len())?;
+    bytes.extend_from_slice(&head)?;
+    bytes.extend_from_slice(data)
+}
+
+/// The number of bytes of the spelling of an item.
+pub fn spelled_len(item: &Item<'_>) -> u64
+    ensures len { result ≡ length (canon (view item.now)) }
+    ensures short { result ≤ 65536 }
+{
+    (head_text(item).len() + data_of(item).len()) as u64
+}
+
+/// The item of so many bytes in front.
+fn with_its_data(head: Head, len: usize, bytes: &[u8]) -> Item<'_>
+    requires inside { len ≤ length bytes.now }
+    requires there { data_len head ≤ len }
+    ensures item { view result ≡ head_view head len bytes.now }
+    ensures within { length (data_of (view result)) ≤ len }
+    ensures last { take (len - length (data_of (view result))) bytes.now ++ data_of (view result) ≡ take len bytes.now }
+{
+    match head {
+        Head::Text(byte) => Item::Text(byte),
+        Head::Simple(item) => Item::Simple(item),
+        Head::WithData(command, count) => Item::WithData(command, data_before(count, len, bytes)),
+    }
+}
+
+/// The item whose spelling stands first in bytes of mode PCL, and how many bytes it takes.
+fn first_item(bytes: &[u8]) -> Option<(Item<'_>, usize)>
+    ensures { MatchOption result (NothingStands Pcl bytes.now 0) (λ found. StandsAt Pcl bytes.now 0 (view found.0) found.1 Pcl) }
+{
+    // A byte that is an item by itself has no other spelling.
+    if let Some(item) = byte_in(bytes) {
+        return Some((item, 1));
+    }
+    let First::Begins(len, head, _) = first_in(Context::Pcl, bytes) else {
+        return None;
+    };
+    let item = with_its_data(head, len, bytes);
+    let text = head_text(&item);
+    // A number is read from each of its spellings, and only one of them is the item's.
+    if &bytes[..len - data_of(&item).len()] == text.as_slice() {
+        Some((item, len))
+    } else {
+        None
+    }
+}
+
+/// The first item of bytes that are the spellings of items, and how many bytes it takes; none where no item is left.
+///
+/// Unlike `item_at` it compares nothing: the bytes are known to be spellings.
+pub fn first_spelled(bytes: &[u8]) -> Option<(Item<'_>, usize)>
+    requires { IsSpelled bytes.now }
+    ensures { MatchOption result (NothingStands Pcl bytes.now 0) (λ found. StandsAt Pcl bytes.now 0 (view found.0) found.1 Pcl) }
+{
+    if let Some(item) = byte_in(bytes) {
+        return Some((item, 1));
+    }
+    if let Some(read) = parameterized_in(Context::Pcl, bytes) {
+        let item = SimpleItem::Parameterized(read.command, read.number);
+        return Some((Item::Simple(item), read.len));
+    }
+    let First::Begins(len, head, _) = first_in(Context::Pcl, bytes) else {
+        return None;
+    };
+    Some((with_its_data(head, len, bytes), len))
+}
+
+/// The item whose spelling stands at a place of the bytes, the place behind it, and the mode there.
+///
+/// None means that no item that the mode admits has its spelling there.
+pub fn item_at(bytes: &[u8], at: usize, mode: Mode) -> Option<(Item<'_>, usize, Mode)>
+    requires { at ≤ length bytes.now }
+    ensures { MatchOption result (NothingStands mode bytes.now at) (λ found. StandsAt mode bytes.now at (view found.0) found.1 found.2) }
+{
+    match mode {
+        Mode::Pcl => match first_item(&bytes[at..]) {
+            None => None,
+            Some((item, len)) => Some((item, at + len, Mode::Pcl)),
+        },
+    }
+}
