@@ -2,6 +2,8 @@
 #![tactic(auto)]
 
 #[cfg(test)]
+mod bodies;
+#[cfg(test)]
 mod checks;
 #[cfg(test)]
 mod fakes;
@@ -24,7 +26,11 @@ mod lines;
 #[cfg(test)]
 mod machine;
 #[cfg(test)]
+mod macros;
+#[cfg(test)]
 mod memory;
+#[cfg(test)]
+mod overlays;
 #[cfg(test)]
 mod page;
 #[cfg(test)]
@@ -47,6 +53,10 @@ mod runs;
 mod settings;
 #[cfg(test)]
 mod sources;
+#[cfg(test)]
+mod spelling;
+#[cfg(test)]
+mod stores;
 #[cfg(test)]
 mod text;
 #[cfg(test)]

@@ -300,11 +300,11 @@ fn check_run(
 fn machines_run(rt: HostRuntime) -> Result<(), Fail> {
     let profile = sample_a(rt.alloc())?;
     for run in FROM_ANY_PANEL {
-        let machine = Machine::new(&profile, Start::Unknown);
+        let machine = Machine::new(rt.alloc(), &profile, Start::Unknown);
         check_run(&rt, rt.alloc(), machine, run)?;
     }
     for run in FROM_THE_FIRST_PANEL {
-        let machine = Machine::new(&profile, Start::At(profile.first_panel()));
+        let machine = Machine::new(rt.alloc(), &profile, Start::At(profile.first_panel()));
         check_run(&rt, rt.alloc(), machine, run)?;
     }
     Ok(())
@@ -313,7 +313,7 @@ fn machines_run(rt: HostRuntime) -> Result<(), Fail> {
 #[test]
 fn a_character_is_marked(rt: HostRuntime) -> Result<(), Fail> {
     let profile = Sample::B.profile(rt.alloc())?;
-    let mut machine = Machine::new(&profile, Start::Unknown);
+    let mut machine = Machine::new(rt.alloc(), &profile, Start::Unknown);
     let mut sink = Recorder {
         alloc: rt.alloc(),
         room: 1,

@@ -1,14 +1,19 @@
 //! Requests for memory that are refused.
 
 use crate::fleets::{RECTANGLE, TWO_PAGES};
+use crate::items::items_of;
 use crate::jobs::PAGE;
 use crate::printers::{Printer, fleet_of};
 use crate::rows::Expected::{Differs, Pass};
 use crate::rows::{Expected, check_in_pieces};
-use device_profile::Profile;
+use device_profile::{Profile, Sample};
+use page_machine::{Machine, Start, Stop};
+use pcl_items::{OwnedItem, Place};
 use preflight::{Error, Watched, check_job};
 use refusing::Refusing;
-use std::alloc::Global;
+use sinks::Counts;
+use std::alloc::{Allocator, Global};
+use std::convert::Infallible;
 use std::process::Abort;
 use std::test::Fail;
 
@@ -16,14 +21,20 @@ use std::test::Fail;
 const EACH_COMMAND: &[u8] = b"\x1bE\x1b&l2a0o1x0s1h8c6d3e50f1L\x1b&u300D\x1b&k12h3G\
 \x1b&a2l70m10c10r720h+72V\x1b*p+0x+0Y\x1b&f0s1S\r\n\x1b=\x1b9\x1b*c30a30b0P\x0c";
 
+/// A macro of two items, which is executed and then runs as an overlay.
+const MACRO: &[u8] = b"\x1bE\x1b&f0X\x1b*p300x300Y\x1b*c30a30b0P\x1b&f1X\x1b&f2x4X\x0c";
+
 /// Printers, a job, what is expected of its check, and how many requests for memory the check makes at least: for the lexer's
-/// window, and with several printers for the machines of the others and for the record of events.
+/// window, with several printers for the machines of the others and for the record of events, and on each printer with a macro
+/// for its entry and its items.
 const ROWS: &[(&[Printer], &[u8], Expected, u64)] = &[
     (&[Printer::A], PAGE, Pass(1, 1), 1),
     (&[Printer::B, Printer::B], RECTANGLE, Pass(1, 1), 3),
     (&[Printer::B, Printer::B], TWO_PAGES, Pass(2, 2), 3),
     (&[Printer::B, Printer::Moved], RECTANGLE, Differs(23, 2), 3),
     (&[Printer::A, Printer::B], EACH_COMMAND, Pass(1, 1), 3),
+    (&[Printer::B], MACRO, Pass(1, 2), 3),
+    (&[Printer::B, Printer::B], MACRO, Pass(1, 2), 7),
 ];
 
 /// How many requests for memory the check makes, each of which was refused in turn.
@@ -56,5 +67,69 @@ fn each_request_is_refused_in_turn(rt: HostRuntime) -> Result<(), Fail> {
         let requests = requests_of(&rt, rt.alloc(), &fleet, job, *expected);
         assert!(rt; requests >= *least, "{requests} requests");
     }
+    Ok(())
+}
+
+/// Carries out items up to the first that does not go.
+fn step_all<P: Allocator, A: Allocator + Copy>(
+    machine: &mut Machine<'_, P, A>,
+    items: &[(Place, OwnedItem)],
+    counts: &mut Counts,
+) -> Result<(), Stop<Infallible>> {
+    for (place, item) in items {
+        machine.step(*place, &item.as_item(), counts)?;
+    }
+    Ok(())
+}
+
+const DEFINITION: &[u8] = b"\x1bE\x1b&f0XA\x1b&p2XBC\x1b&f1X";
+
+#[test]
+fn a_machine_stops_where_memory_is_refused(rt: HostRuntime) -> Result<(), Fail> {
+    let profile = Sample::B.profile(rt.alloc())?;
+    let items = items_of(&rt, rt.alloc(), DEFINITION)?;
+    for requests in 0..1000 {
+        let heap = Refusing::new(rt.alloc(), requests);
+        let mut machine = Machine::new(&heap, &profile, Start::Unknown);
+        let mut counts = Counts::none();
+        match step_all(&mut machine, &items, &mut counts) {
+            Ok(()) => {
+                // For the entry of the macro, and for its items.
+                assert!(rt; requests >= 2, "{requests} requests");
+                return Ok(());
+            }
+            Err(stop) => assert!(rt; matches!(stop, Stop::Memory(_)), "{requests} requests"),
+        }
+        let end = machine.finish(DEFINITION.len() as u64, &mut counts);
+        assert!(rt; matches!(end, Err(Stop::Stopped)), "{requests} requests");
+    }
+    assert!(rt; false, "more than 1000 requests");
+    Ok(())
+}
+
+#[test]
+fn macros_run_without_memory(rt: HostRuntime) -> Result<(), Fail> {
+    let profile = Sample::B.profile(rt.alloc())?;
+    let definition = items_of(&rt, rt.alloc(), DEFINITION)?;
+    let runs = items_of(&rt, rt.alloc(), b"\x1b&f2x3x9x4XA\x0c\x1b&f5x8x6X\x1bEA")?;
+    let heap = Refusing::new(rt.alloc(), 1000);
+    let mut machine = Machine::new(&heap, &profile, Start::Unknown);
+    let mut counts = Counts::none();
+    assert!(rt; step_all(&mut machine, &definition, &mut counts).is_ok());
+    let left = heap.left();
+    assert!(rt; step_all(&mut machine, &runs, &mut counts).is_ok());
+    assert!(rt; machine.finish(99, &mut counts).is_ok());
+    // Three characters each run, and two of the job.
+    assert_eq!(rt;
+        (heap.left(), counts),
+        (
+            left,
+            Counts {
+                pages: 2,
+                marks: 11
+            }
+        )
+    );
+    assert!(rt; left < 1000);
     Ok(())
 }

@@ -1,5 +1,6 @@
 //! The printers of the tests.
 
+use crate::profile_texts::with_line;
 use device_profile::{Profile, Sample};
 use std::alloc::Global;
 use std::test::Fail;
@@ -27,9 +28,19 @@ pub enum Printer {
     SomeCopies,
     /// Sample B with two copies of two sides from tray 2.
     OtherPanel,
+    /// Sample B without memory for macros.
+    NoMemory,
+    /// Sample B with the most memory for macros.
+    MostMemory,
+    /// Sample B that runs no macro.
+    NoLevels,
+    /// Sample B that runs macros in eight levels.
+    EightLevels,
+    /// Sample A that runs no macro.
+    NoLevelsOfA,
 }
 
-/// The lines of sample B, but for those of its panel that follow, its duplex and its page.
+/// The lines of sample B, but for those of its macros, its duplex, its page, and its panel that follow.
 const FRONT: &[u8] = b"\
 pclprofile 1
 name B
@@ -37,13 +48,14 @@ size 2
 orientation 0
 font 1
 trays 1 2
-depth 2
-memory 100
 face 1 10U 10 12 0 0 3 720 900 300 33-126
 ";
 
 /// The other lines of sample B for its panel, and its duplex.
 const PANEL: &[u8] = b"vmi 8\ncopies 1\nsides 0\ntray 1\nduplex 1\n";
+
+/// The lines of sample B for macros.
+const MACROS: &[u8] = b"depth 2\nmemory 100\n";
 
 /// Letter paper in portrait, up to the logical page.
 const LETTER: &[u8] = b"geometry 2 0 61200 79200 ";
@@ -52,9 +64,9 @@ const LETTER: &[u8] = b"geometry 2 0 61200 79200 ";
 const PAGE: &[u8] = b"1800 0 57600 79200 1200 1200 60000 78000";
 
 /// The text of a printer like sample B, with one page and one face.
-pub fn text_of(alloc: Global, panel: &[u8], page: &[u8]) -> Result<Vec<u8>, Fail> {
+fn text_of(alloc: Global, macros: &[u8], panel: &[u8], page: &[u8]) -> Result<Vec<u8>, Fail> {
     let mut text = Vec::new(alloc);
-    for part in [FRONT, panel, LETTER, page, b"\n"] {
+    for part in [FRONT, macros, panel, LETTER, page, b"\n"] {
         text.extend_from_slice(part)?;
     }
     Ok(text)
@@ -62,12 +74,26 @@ pub fn text_of(alloc: Global, panel: &[u8], page: &[u8]) -> Result<Vec<u8>, Fail
 
 /// The text of sample B, with one page and one face.
 pub fn text_of_one_page(alloc: Global) -> Result<Vec<u8>, Fail> {
-    text_of(alloc, PANEL, PAGE)
+    text_of(alloc, MACROS, PANEL, PAGE)
 }
 
 fn printer_of(alloc: Global, panel: &[u8], page: &[u8]) -> Result<Profile, Fail> {
-    Ok(Profile::read(alloc, &text_of(alloc, panel, page)?)?)
+    Ok(Profile::read(alloc, &text_of(alloc, MACROS, panel, page)?)?)
 }
+
+/// A printer like sample B with these lines for macros.
+fn printer_with(alloc: Global, macros: &[u8]) -> Result<Profile, Fail> {
+    Ok(Profile::read(alloc, &text_of(alloc, macros, PANEL, PAGE)?)?)
+}
+
+/// Sample A with another line for the levels of its macros.
+fn sample_a_with(alloc: Global, depth: &[u8]) -> Result<Profile, Fail> {
+    let text = with_line(alloc, Sample::A.text(), DEPTH_LINE, depth)?;
+    Ok(Profile::read(alloc, &text)?)
+}
+
+/// Which line of sample A says how deep its macros go.
+const DEPTH_LINE: usize = 12;
 
 /// The profile of a printer.
 fn profile_of(alloc: Global, printer: Printer) -> Result<Profile, Fail> {
@@ -82,6 +108,11 @@ fn profile_of(alloc: Global, printer: Printer) -> Result<Profile, Fail> {
         Printer::OneSided => (b"vmi 8\ncopies 1\nsides 0\ntray 1\nduplex 0\n", PAGE),
         Printer::SomeCopies => (b"vmi 8\ncopies 1 2\nsides 0\ntray 1\nduplex 1\n", PAGE),
         Printer::OtherPanel => (b"vmi 8\ncopies 2\nsides 1\ntray 2\nduplex 1\n", PAGE),
+        Printer::NoMemory => return printer_with(alloc, b"depth 2\nmemory 0\n"),
+        Printer::MostMemory => return printer_with(alloc, b"depth 2\nmemory 1048576\n"),
+        Printer::NoLevels => return printer_with(alloc, b"depth 0\nmemory 100\n"),
+        Printer::EightLevels => return printer_with(alloc, b"depth 8\nmemory 100\n"),
+        Printer::NoLevelsOfA => return sample_a_with(alloc, b"depth 0"),
     };
     printer_of(alloc, panel, page)
 }

@@ -273,7 +273,7 @@ fn run<S: MarkSink<Fault: Drop>>(
     sink: &mut S,
 ) -> Result<bool, Fail> {
     let profile = Sample::B.profile(alloc)?;
-    let mut machine = Machine::new(&profile, Start::Unknown);
+    let mut machine = Machine::new(alloc, &profile, Start::Unknown);
     let items = items_of(rt, alloc, job)?;
     for (place, item) in &items {
         if machine.step(*place, &item.as_item(), sink).is_err() {

@@ -35,7 +35,8 @@ fn square(side: u32) -> Mark<'static> {
     })
 }
 
-fn letter(copies: u32) -> PageEnd {
+/// So many copies of a page of letter paper in portrait.
+pub fn letter(copies: u32) -> PageEnd {
     PageEnd {
         size: 2,
         orientation: 0,

@@ -97,6 +97,17 @@ pub fn check_rows(
     Ok(())
 }
 
+/// A printer, a job and what is expected of its check.
+pub type PrinterRow = (Printer, &'static [u8], Expected);
+
+/// Checks jobs, each for its printer.
+pub fn check_printer_rows(rt: &impl Abort, alloc: Global, rows: &[PrinterRow]) -> Result<(), Fail> {
+    for (printer, job, expected) in rows {
+        check_rows(rt, alloc, &[*printer], &[(*job, *expected)])?;
+    }
+    Ok(())
+}
+
 /// A front, so many times a part, and an end.
 pub fn job_of(
     alloc: Global,

@@ -36,7 +36,7 @@ const RUNS: &[(&[u8], Option<(usize, u8)>)] = &[
 #[test]
 fn text_goes_in_runs(rt: HostRuntime) -> Result<(), Fail> {
     let profile = Sample::B.profile(rt.alloc())?;
-    let mut machine = Machine::new(&profile, Start::Unknown);
+    let mut machine = Machine::new(rt.alloc(), &profile, Start::Unknown);
     // While the cursor is at home its place is not known.
     assert_eq!(rt; pass(&mut machine, b"A"), None);
     let items = items_of(&rt, rt.alloc(), b"\x1bEA")?;
@@ -50,5 +50,21 @@ fn text_goes_in_runs(rt: HostRuntime) -> Result<(), Fail> {
     for (bytes, wanted) in RUNS {
         assert_eq!(rt; pass(&mut machine, bytes), *wanted, "{bytes:?}");
     }
+    Ok(())
+}
+
+#[test]
+fn text_of_a_definition_goes_in_no_run(rt: HostRuntime) -> Result<(), Fail> {
+    let profile = Sample::B.profile(rt.alloc())?;
+    let mut machine = Machine::new(rt.alloc(), &profile, Start::Unknown);
+    let items = items_of(&rt, rt.alloc(), b"\x1bEA\x1b&f0X\x1b&f1X")?;
+    // Behind the text, the start of the definition and its end.
+    let mut runs = [None; 4];
+    for (run, (place, item)) in runs.iter_mut().zip(&items) {
+        let outcome = machine.step(*place, &item.as_item(), &mut Counts::none());
+        assert!(rt; outcome.is_ok(), "at {place}");
+        *run = pass(&mut machine, b"B");
+    }
+    assert_eq!(rt; runs, [None, Some((1, 1)), None, Some((1, 1))]);
     Ok(())
 }

@@ -1,0 +1,217 @@
+//! The one spelling of each item, written and read again.
+
+use crate::items::items_of;
+use crate::rows::job_of;
+use pcl_items::{Mode, item_at, spell, spelled_len};
+use refusing::Refusing;
+use std::alloc::Global;
+use std::process::Abort;
+use std::test::Fail;
+
+/// An item as it is sent, and its spelling.
+type Spelled = (&'static [u8], &'static [u8]);
+
+/// Items without a number, and text.
+const WITHOUT_NUMBERS: &[Spelled] = &[
+    (b"\r", b"\r"),
+    (b"\n", b"\n"),
+    (b"\x0c", b"\x0c"),
+    (b"\x1bE", b"\x1bE"),
+    (b"\x1b9", b"\x1b9"),
+    (b"\x1b=", b"\x1b="),
+    (b"\x1b(3@", b"\x1b(3@"),
+    (b"\x1b(+3.0@", b"\x1b(3@"),
+    (b" ", b" "),
+    (b"E", b"E"),
+    (b"\x7f", b"\x7f"),
+    (b"\xff", b"\xff"),
+];
+
+/// Each command, with numbers of all kinds.
+const WITH_NUMBERS: &[Spelled] = &[
+    (b"\x1b&a+7.50L", b"\x1b&a+7.5L"),
+    (b"\x1b&a-0M", b"\x1b&a-0M"),
+    (b"\x1b&a.5C", b"\x1b&a0.5C"),
+    (b"\x1b&a00300R", b"\x1b&a300R"),
+    (b"\x1b&aH", b"\x1b&a0H"),
+    (b"\x1b&a-.25V", b"\x1b&a-0.25V"),
+    (b"\x1b&f0S", b"\x1b&f0S"),
+    (b"\x1b&f32767Y", b"\x1b&f32767Y"),
+    (b"\x1b&f1.0X", b"\x1b&f1X"),
+    (b"\x1b&k12.0001H", b"\x1b&k12.0001H"),
+    (b"\x1b&k03.G", b"\x1b&k3G"),
+    (b"\x1b&l65535.0000A", b"\x1b&l65535A"),
+    (b"\x1b&l+O", b"\x1b&l+0O"),
+    (b"\x1b&l-X", b"\x1b&l-0X"),
+    (b"\x1b&l+.S", b"\x1b&l+0S"),
+    (b"\x1b&l0.1H", b"\x1b&l0.1H"),
+    (b"\x1b&l0.01C", b"\x1b&l0.01C"),
+    (b"\x1b&l0.001D", b"\x1b&l0.001D"),
+    (b"\x1b&l0.0001E", b"\x1b&l0.0001E"),
+    (b"\x1b&l9.87650F", b"\x1b&l9.8765F"),
+    (b"\x1b&l1L", b"\x1b&l1L"),
+    (b"\x1b&u300D", b"\x1b&u300D"),
+    (b"\x1b*c10A", b"\x1b*c10A"),
+    (b"\x1b*c0.50B", b"\x1b*c0.5B"),
+    (b"\x1b*c100P", b"\x1b*c100P"),
+    (b"\x1b*c1000H", b"\x1b*c1000H"),
+    (b"\x1b*c10000V", b"\x1b*c10000V"),
+    (b"\x1b*c0.G", b"\x1b*c0G"),
+    (b"\x1b*t+075R", b"\x1b*t+75R"),
+    (b"\x1b*r1A", b"\x1b*r1A"),
+    (b"\x1b*r8S", b"\x1b*r8S"),
+    (b"\x1b*r8T", b"\x1b*r8T"),
+    (b"\x1b*r3F", b"\x1b*r3F"),
+    (b"\x1b*rB", b"\x1b*r0B"),
+    (b"\x1b*rC", b"\x1b*r0C"),
+    (b"\x1b*bM", b"\x1b*b0M"),
+    (b"\x1b*b5Y", b"\x1b*b5Y"),
+    (b"\x1b*p-1.5X", b"\x1b*p-1.5X"),
+    (b"\x1b*p+0Y", b"\x1b*p+0Y"),
+    (b"\x1b(s0P", b"\x1b(s0P"),
+    (b"\x1b(s16.66H", b"\x1b(s16.66H"),
+    (b"\x1b(s8.50V", b"\x1b(s8.5V"),
+    (b"\x1b(s0S", b"\x1b(s0S"),
+    (b"\x1b(s-3B", b"\x1b(s-3B"),
+    (b"\x1b(s4148T", b"\x1b(s4148T"),
+    (b"\x1b(08U", b"\x1b(8U"),
+    (b"\x1b(+10A", b"\x1b(+10A"),
+    (b"\x1b(W", b"\x1b(0W"),
+    (b"\x1b(-0.50Z", b"\x1b(-0.5Z"),
+];
+
+/// Items with data: their count has neither sign nor zeros in front nor decimals.
+const WITH_DATA: &[Spelled] = &[
+    (b"\x1b&p+03.0XA B", b"\x1b&p3XA B"),
+    (b"\x1b&pX", b"\x1b&p0X"),
+    (b"\x1b&p5X\x1b&f1X", b"\x1b&p5X\x1b&f1X"),
+    (b"\x1b&p010XAAAAAAAAAA", b"\x1b&p10XAAAAAAAAAA"),
+    (b"\x1b*b2W\x1bE", b"\x1b*b2W\x1bE"),
+    (b"\x1b*b-0W", b"\x1b*b0W"),
+    (b"\x1b*b0004.00W\0\xff\x80W", b"\x1b*b4W\0\xff\x80W"),
+];
+
+/// Checks how an item is spelled, and that it is read from its spelling between other bytes.
+fn check_spelling(rt: &impl Abort, alloc: Global, (sent, canonical): Spelled) -> Result<(), Fail> {
+    let items = items_of(rt, alloc, sent)?;
+    let [(_, owned)] = items.as_slice() else {
+        assert!(rt; false, "not one item: {sent:?}");
+        return Ok(());
+    };
+    let item = owned.as_item();
+    let mut text = Vec::new(alloc);
+    spell(&item, &mut text)?;
+    spell(&item, &mut text)?;
+    let twice = job_of(alloc, b"", 2, canonical, b"")?;
+    assert_eq!(rt;
+        (&text, spelled_len(&item)),
+        (&twice, canonical.len() as u64)
+    );
+    assert_eq!(rt; item.follows(Mode::Pcl), Some(Mode::Pcl));
+    let placed = job_of(alloc, b"\x1b", 1, canonical, b"7E")?;
+    assert!(rt; 1 <= placed.len());
+    let read = item_at(&placed, 1, Mode::Pcl);
+    assert_eq!(rt;
+        read,
+        Some((item, 1 + canonical.len(), Mode::Pcl)),
+        "{sent:?}"
+    );
+    Ok(())
+}
+
+fn check_spellings(rt: &impl Abort, alloc: Global, rows: &[Spelled]) -> Result<(), Fail> {
+    for row in rows {
+        check_spelling(rt, alloc, *row)?;
+    }
+    Ok(())
+}
+
+#[test]
+fn items_are_spelled_and_read_again(rt: HostRuntime) -> Result<(), Fail> {
+    check_spellings(&rt, rt.alloc(), WITHOUT_NUMBERS)?;
+    check_spellings(&rt, rt.alloc(), WITH_NUMBERS)?;
+    check_spellings(&rt, rt.alloc(), WITH_DATA)
+}
+
+/// Bytes with which no spelling begins.
+const NOTHING: &[&[u8]] = &[
+    b"",
+    b"\0",
+    b"\t",
+    b"\x0e",
+    b"\x1b",
+    b"\x1bZ",
+    b"\x1b)",
+    b"\x1b&",
+    b"\x1b*p",
+    b"\x1b*p300",
+    b"\x1b*p300x",
+    // Other spellings of a number.
+    b"\x1b*pX",
+    b"\x1b*p.50X",
+    b"\x1b*p0.50X",
+    b"\x1b*p.5X",
+    b"\x1b*p5.X",
+    b"\x1b*p5.0X",
+    b"\x1b*p+7.50X",
+    b"\x1b*p+X",
+    b"\x1b*p-.5X",
+    b"\x1b*p00300X",
+    b"\x1b*p-00X",
+    b"\x1b(08U",
+    b"\x1b(U",
+    b"\x1b(+3@",
+    b"\x1b(03@",
+    b"\x1b*rB",
+    // A sequence that goes on.
+    b"\x1b&l0.5x1Y",
+    b"\x1b&l2a0O",
+    b"\x1b*p300x300Y",
+    // Numbers past their limits, and commands that are none.
+    b"\x1b*p65536X",
+    b"\x1b*p0.00001X",
+    b"\x1b*p1Z",
+    b"\x1b(8X",
+    b"\x1b(4@",
+    b"\x1b&b0X",
+    // Data with another count, and data that are cut off.
+    b"\x1b*b03Wabc",
+    b"\x1b*b+3Wabc",
+    b"\x1b*b3.0Wabc",
+    b"\x1b*bWabc",
+    b"\x1b*b3wabc",
+    b"\x1b*b3W",
+    b"\x1b*b3Wab",
+    b"\x1b*b32768W",
+    b"\x1b&p-0X",
+    b"\x1b&p1X",
+    b"\x1b&p03XA B",
+];
+
+#[test]
+fn nothing_stands_there(rt: HostRuntime) {
+    for bytes in NOTHING {
+        assert_eq!(rt; item_at(bytes, 0, Mode::Pcl), None, "{bytes:?}");
+        assert_eq!(rt; item_at(bytes, bytes.len(), Mode::Pcl), None, "{bytes:?}");
+    }
+    assert_eq!(rt; item_at(b"\x1b&l2a0O", 7, Mode::Pcl), None);
+    assert_eq!(rt; item_at(b"A\t", 1, Mode::Pcl), None);
+    assert_eq!(rt; item_at(b"AB\x1b*p.5X", 2, Mode::Pcl), None);
+}
+
+#[test]
+fn a_refused_spelling_leaves_the_bytes(rt: HostRuntime) -> Result<(), Fail> {
+    let items = items_of(
+        &rt,
+        rt.alloc(),
+        b"\x1b&p40X0123456789012345678901234567890123456789",
+    )?;
+    for (_, item) in &items {
+        let heap = Refusing::new(rt.alloc(), 1);
+        let mut bytes = Vec::new(&heap);
+        bytes.push(b'A')?;
+        let is_refused = spell(&item.as_item(), &mut bytes).is_err();
+        assert!(rt; is_refused && bytes.as_slice() == b"A".as_slice());
+    }
+    Ok(())
+}
