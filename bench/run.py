@@ -7,12 +7,15 @@
     python3 bench/run.py --program PATH      another build of the program
     python3 bench/run.py --profile           the functions that take most instructions
 
-The same jobs are made each time. Each has to pass for each fleet, which is sample @B once, twice
-and four times; the script stops where one does not.
+The same jobs are made each time. Each has to pass for each fleet, which is one printer once, twice
+and four times: sample @B, or for jobs of macros a printer like it with more macro memory. The script
+stops where one does not.
 
 - MB/s: a million bytes a second, by the wall clock of the fastest of some runs.
 - Instructions a byte: what callgrind counts more on a longer job than on a shorter one, for each
   byte more, so that the start of the program is not in it. A dash where valgrind is not installed.
+- The bytes of `macro` are those of `written_out`, which has the commands of the macro on each of as
+  many pages: so the rows of the two are of equal pages, and their numbers may be compared.
 - A further printer: how many of these instructions come with each printer after the first.
 - Peak memory: what the system says of the program while it runs.
 """
@@ -33,6 +36,26 @@ PROGRAM = ROOT / "crates" / "pclcheck" / "out" / "pclcheck"
 BUILD = "cd crates/pclcheck && rt run -- check ../../examples/ruled_form.pcl @A"
 
 PRINTER = "@B"
+
+# Sample @B has 100 bytes of macro memory. This printer has the most that a profile may say, and the
+# page and the face of that sample.
+PRINTER_OF_MACROS = b"""\
+pclprofile 1
+name macros
+size 2
+orientation 0
+vmi 8
+font 1
+copies 1
+sides 0
+tray 1
+trays 1
+duplex 0
+depth 8
+memory 1048576
+geometry 2 0 61200 79200 1800 0 57600 79200 1200 1200 60000 78000
+face 1 10U 10 12 0 0 3 720 900 300 33-126
+"""
 
 # How many printers the fleets have.
 FLEETS = (1, 2, 4)
@@ -92,7 +115,7 @@ def line_of_list(number, line):
 
 
 def mix(number):
-    """A form that takes every command that there is."""
+    """A form that takes every command but those of text, of rasters and of macros."""
     yield from settings_of_form(number)
     for line in range(12):
         yield rectangle(600 + 10 * line, 2)
@@ -147,6 +170,48 @@ def row_of_raster(number, row):
     return bytes(blank) + bytes_between + bytes(blank)
 
 
+def macro(number):
+    """A page of one macro, which the first page defines, executed: 60 rectangles."""
+    if number == 0:
+        yield b"\x1b&f1y0X"
+        yield from rectangles_of_form()
+        yield b"\x1b&f1X"
+    yield b"\x1b&f2X" + FORM_FEED
+
+
+def written_out(number):
+    """The commands of that macro, written out on each page."""
+    yield from rectangles_of_form()
+    yield FORM_FEED
+
+
+def rectangles_of_form():
+    """60 rectangles, each at a place and of a size of its own, the same on all pages."""
+    for i in range(60):
+        yield to_units(7 + 29 * i % 1800, 11 + 47 * i % 2900)
+        yield rectangle(20 + 13 * i % 400, 1 + 7 * i % 60)
+
+
+def overlay(number):
+    """40 lines of text, and the form of an overlay, which the first page defines and enables."""
+    if number == 0:
+        yield b"\x1b&f1y0X"
+        yield from form_of_rules()
+        yield b"\x1b&f1X\x1b&f1y4X"
+    for line in range(40):
+        yield line_of_text(number, line) + CR_LF
+    yield FORM_FEED
+
+
+def form_of_rules():
+    """A frame, 20 rules and a heading, from user defaults."""
+    yield to_units(0, 0) + rectangle(2250, 3) + rectangle(3, 3000)
+    yield to_units(0, 2997) + rectangle(2250, 3) + to_units(2247, 0) + rectangle(3, 3000)
+    for i in range(20):
+        yield to_units(0, 250 + 130 * i) + rectangle(2250, 1 + i % 3)
+    yield to_units(60, 100) + b"Stock of forms by shelf and by size"
+
+
 def rectangle(width, height):
     """A solid rectangle at the cursor, in PCL units."""
     return b"\x1b*c%da%db0P" % (width, height)
@@ -162,29 +227,50 @@ def to_cell(column, row):
     return b"\x1b&a%dc%dR" % (column, row)
 
 
-KINDS = {maker.__name__: maker for maker in (rectangles, lines, text, raster, mix)}
+MAKERS = (rectangles, lines, text, raster, mix, macro, written_out, overlay)
+KINDS = {maker.__name__: maker for maker in MAKERS}
+
+# The kinds that need macro memory, and the one that is measured beside one of them.
+KINDS_OF_MACROS = ("macro", "written_out", "overlay")
+
+# The kind whose bytes are counted for another.
+COUNTED_AS = {"macro": "written_out"}
 
 
 @dataclass(frozen=True)
 class Job:
-    """A job in a file, and how many bytes it has."""
+    """A job in a file, how many bytes are counted for it, and the word that names its printer."""
 
     kind: str
     path: Path
     size: int
+    printer: str
 
 
 def write_job(folder, kind, size):
-    """Writes a job of whole pages of a kind, of at least so many bytes."""
+    """Writes a job of whole pages of a kind, as many as have so many bytes."""
     path = Path(folder) / f"{kind}_{size}.pcl"
     with path.open("wb") as file:
-        written = file.write(RESET)
+        file.write(RESET)
+        counted = len(RESET)
         for number in itertools.count():
-            if written >= size:
+            if counted >= size:
                 break
-            written += file.write(b"".join(KINDS[kind](number)))
-        written += file.write(RESET)
-    return Job(kind, path, written)
+            page = b"".join(KINDS[kind](number))
+            file.write(page)
+            counted += len(b"".join(KINDS[COUNTED_AS.get(kind, kind)](number)))
+        file.write(RESET)
+        counted += len(RESET)
+    return Job(kind, path, counted, printer_of(folder, kind))
+
+
+def printer_of(folder, kind):
+    """The word that names the printer of a kind of job."""
+    if kind not in KINDS_OF_MACROS:
+        return PRINTER
+    path = Path(folder) / "macros.profile"
+    path.write_bytes(PRINTER_OF_MACROS)
+    return str(path)
 
 
 @dataclass(frozen=True)
@@ -195,7 +281,7 @@ class Program:
 
     def words(self, job, printers):
         """The words that check a job for a fleet of so many printers."""
-        return [str(self.path), "check", str(job.path)] + [PRINTER] * printers
+        return [str(self.path), "check", str(job.path)] + [job.printer] * printers
 
     def run(self, job, printers, under=()):
         """Checks a job, under another program where its words are given."""
@@ -280,7 +366,7 @@ def processor():
 
 # The columns of the table, and to which side and how wide they are written.
 COLUMNS = {
-    "Job": "<10",
+    "Job": "<11",
     "Printers": ">8",
     "Bytes": ">9",
     "MB/s": ">6",

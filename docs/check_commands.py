@@ -1,9 +1,10 @@
 #!/usr/bin/env python3
 """Compares the tables of DEFINITIONS.md with the code.
 
-The table of commands has exactly the commands that the lexer knows, each once; the table of
-faults and findings has exactly the numbers and names that the program writes; and each finding
-that the table of commands names is one of these. What differs is printed, and the status is 1.
+The table of commands has exactly the commands that the lexer knows, each once; the table of macro
+controls has exactly the values and names of the code's; the table of faults and findings has exactly
+the numbers and names that the program writes; and each finding that the tables of commands and of
+controls name is one of these. What differs is printed, and the status is 1.
 """
 
 import re
@@ -16,6 +17,7 @@ DOCUMENT = ROOT / "docs" / "DEFINITIONS.md"
 CODES = ROOT / "crates" / "pcl_items" / "src" / "code.rt"
 COMMANDS = ROOT / "crates" / "pcl_items" / "src" / "command.rt"
 ITEMS = ROOT / "crates" / "pcl_items" / "src" / "item.rt"
+MACROS = ROOT / "crates" / "page_env" / "src" / "macros.rt"
 WORDS = ROOT / "crates" / "preflight" / "src" / "words.rt"
 
 # The kinds of items that stand in no table of bytes, as the table of commands writes them.
@@ -56,7 +58,7 @@ def arms(path, head, pattern):
     """What a pattern finds in the arms of a function, each of which has to be found."""
     body = block(path, head).partition("pub fn of(")
     body = body[2] or body[0]
-    found = re.findall(pattern, body)
+    found = re.findall(pattern, body, re.MULTILINE)
     if not found or len(found) != body.count("Some("):
         raise Unreadable(f"{path.relative_to(ROOT)}: the arms of `{head}` have another form than is read")
     return found
@@ -99,6 +101,12 @@ def others_of_code(kind):
     return OTHERS[kind]
 
 
+def controls_of_code():
+    """The macro controls with their values, as `6, 7 DeleteAll`."""
+    found = arms(MACROS, "pub fn control_of(", r"^ +([\d |]+) => Some\(Control::(\w+)\)")
+    return [f"{values.replace(' |', ',')} {control}" for values, control in found]
+
+
 def findings_of_code():
     """The numbers and names that the program writes, as `12 Unset`."""
     found = re.findall(r'b"(\d+ [A-Z][A-Za-z]*)\(?"', WORDS.read_text(encoding="utf-8"))
@@ -108,13 +116,14 @@ def findings_of_code():
 
 
 def table_behind(heading):
-    """The rows of the table behind a heading of the document, without its head."""
+    """The rows of the first table behind a heading of the document, without its head."""
     text = DOCUMENT.read_text(encoding="utf-8")
     _, mark, rest = text.partition(f"\n### {heading}\n")
     if not mark:
         raise Unreadable(f"{DOCUMENT.relative_to(ROOT)} has no heading `{heading}`")
     section = re.split(r"^#", rest, maxsplit=1, flags=re.MULTILINE)[0]
-    lines = [line for line in section.splitlines() if line.startswith("|")]
+    table = re.search(r"(?:^\|.*\n)+", section, re.MULTILINE)
+    lines = table.group(0).splitlines() if table else []
     rows = [[cell.strip() for cell in line.split("|")[1:-1]] for line in lines[2:]]
     if not rows or any(len(row) != len(rows[0]) for row in rows):
         raise Unreadable(f"{DOCUMENT.relative_to(ROOT)}: the table behind `{heading}` is not whole")
@@ -131,11 +140,11 @@ def differences(what, of_code, of_document):
     return lines
 
 
-def unknown_findings(rows, known):
-    """The findings that rows name in their fifth column and that the program does not write."""
+def unknown_findings(rows, column, known):
+    """The findings that rows name in this column and that the program does not write."""
     lines = []
     for row in rows:
-        for finding in re.findall(r"\b\d+ [A-Z][A-Za-z]*", row[4]):
+        for finding in re.findall(r"\b\d+ [A-Z][A-Za-z]*", row[column]):
             if finding not in known:
                 lines.append(f"the row of {row[0]} names {finding}, which the program does not write")
     return lines
@@ -144,11 +153,14 @@ def unknown_findings(rows, known):
 def main():
     try:
         commands = table_behind("Commands")
+        controls = table_behind("Macros")
         findings = [row[0] for row in table_behind("Faults and findings")]
         known = findings_of_code()
         lines = differences("the command", commands_of_code(), [row[0] for row in commands])
+        lines += differences("the macro control", controls_of_code(), [f"{row[0]} {row[1]}" for row in controls])
         lines += differences("the finding", known, findings)
-        lines += unknown_findings(commands, known)
+        lines += unknown_findings(commands, 4, known)
+        lines += unknown_findings(controls, 3, known)
     except (OSError, Unreadable) as fault:
         print(f"check_commands: {fault}")
         return 1
@@ -156,7 +168,10 @@ def main():
         print(f"check_commands: {line}")
     if lines:
         return 1
-    print(f"check_commands: {len(commands)} commands and {len(findings)} findings are as in the code")
+    print(
+        f"check_commands: {len(commands)} commands, {len(controls)} macro controls and"
+        f" {len(findings)} findings are as in the code"
+    )
     return 0
 
 
