@@ -1,17 +1,18 @@
 //! Keeps the events of a run.
 
-ghost use Rattle.std.specs.Prelude.{◌≡◌, List, [], length, map};
-ghost use Rattle.page_env.specs.Mark.{Shape};
+ghost use Rattle.std.specs.Prelude.{◌≡◌, List, [], length, map, IfOk};
+ghost use Rattle.page_env.specs.Mark.{Shape, shape_of};
 ghost use Rattle.page_machine.specs.Event.{Marked};
-ghost use Rattle.page_machine.specs.Owned.{event_of};
+ghost use Rattle.page_machine.specs.Owned.{event_of, shape_of_owned};
 ghost use Rattle.sinks.specs.Counts.{counts_after};
 ghost use Rattle.sinks.specs.Recorder.{nothing_recorded, recorded};
 
 use crate::counts::Counts;
 use page_env::{Mark, PageEnd};
-use page_machine::{MarkSink, OwnedEvent, OwnedMark};
+use page_machine::{MarkSink, OwnedEvent, OwnedMark, OwnedRow};
 use std::alloc::{AllocError, Allocator, Global};
 use std::marker::Model;
+use std::mem;
 
 /// Keeps the events that it was handed since it was cleared, and counts all the pages and marks that it was ever handed.
 ///
@@ -20,6 +21,8 @@ use std::marker::Model;
 pub struct Recorder<A: Allocator + Copy = Global> {
     alloc: A,
     events: Vec<OwnedEvent<A>, A>,
+    /// Room for the bytes of a row, so that it is not asked for at each.
+    room: Vec<u8, A>,
     counts: Counts,
 }
 
@@ -41,6 +44,7 @@ impl<A: Allocator + Copy> Recorder<A> {
         Recorder {
             alloc,
             events: Vec::new(alloc),
+            room: Vec::new(alloc),
             counts: Counts::none(),
         }
     }
@@ -70,7 +74,34 @@ impl<A: Allocator + Copy> Recorder<A> {
     pub fn clear(&mut self)
         ensures { self.new ≡ record self.old { events = [] } }
     {
+        if let Some(OwnedEvent::Marked(OwnedMark::Row(_))) = self.events.last() {
+            self.keep_room();
+        }
         self.events.clear();
+    }
+
+    /// Takes back the room of the last event, if that is a row.
+    fn keep_room(&mut self)
+        ensures { self.new.counts ≡ self.old.counts }
+    {
+        if let Some(OwnedEvent::Marked(OwnedMark::Row(row))) = self.events.pop() {
+            self.room = row.bytes;
+        }
+    }
+
+    /// A copy of the mark, which takes the room where it is a row.
+    fn copy_of(&mut self, mark: &Mark<'_>) -> Result<OwnedMark<A>, AllocError>
+        ensures copy { IfOk result (λ copy. shape_of_owned copy ≡ shape_of mark.now) }
+        ensures same { self.new ≡ self.old }
+    {
+        match mark {
+            Mark::Row(row) => {
+                let room = mem::replace(&mut self.room, Vec::new(self.alloc));
+                let copy = OwnedRow::copy_in(room, row)?;
+                Ok(OwnedMark::Row(copy))
+            }
+            _ => OwnedMark::copy_of(self.alloc, mark),
+        }
     }
 }
 
@@ -82,7 +113,7 @@ impl<A: Allocator + Copy> MarkSink for Recorder<A> {
     ghost refuses = { λ old event new. new ≡ old };
 
     fn mark(&mut self, mark: &Mark<'_>) -> Result<(), AllocError> {
-        let copy = OwnedMark::copy_of(self.alloc, mark)?;
+        let copy = self.copy_of(mark)?;
         self.events.push(OwnedEvent::Marked(copy))?;
         let Ok(()) = self.counts.mark(mark);
         Ok(())
