@@ -74,6 +74,8 @@ fn hand_over<S: MarkSink>(
 }
 
 /// Prints a byte of text.
+// A call of its own: most text goes in runs, and other items pay for what is put together here.
+#[inline(never)]
 pub(crate) fn run_text<S: MarkSink, A: Allocator>(
     profile: &Profile<A>,
     code: u8,
@@ -104,6 +106,7 @@ fn run_byte<S: MarkSink, A: Allocator>(
 }
 
 /// Prints bytes of transparent print data one after another.
+#[inline(never)]
 fn run_bytes<S: MarkSink, A: Allocator>(
     profile: &Profile<A>,
     bytes: &[u8],
