@@ -5,17 +5,16 @@ use Rattle.std.proofs.lemmas.List.{length-append}
 use Rattle.pcl_items.specs.declared.command.Group.{Group}
 use Rattle.pcl_items.specs.declared.fault.Cause.{Cause}
 use Rattle.pcl_items.specs.declared.fault.Cause.TheVariants.{Truncated}
-use Rattle.pcl_items.specs.declared.first.Context.{Context}
-use Rattle.pcl_items.specs.declared.first.Context.TheVariants.{Pcl, Sequence}
+use Rattle.pcl_items.specs.Contexts.{Context, Pcl, Sequence, Frame, Letters, Numbered}
 use Rattle.pcl_items.specs.declared.item.Mode.TheVariants as modes
 use Rattle.pcl_items.specs.Commands.{data_letter_of}
-use Rattle.pcl_items.specs.Reader.{First, Open, first_of}
-use Rattle.pcl_items.specs.Fault.{IsFault}
+use Rattle.pcl_items.specs.Reader.{Open, first_of}
 use Rattle.pcl_items.specs.LexerState.{most_open}
 use Rattle.pcl_items.specs.Faults as rules
 use Rattle.pcl_items.specs.Faults.{IsCut, cut, CommandFault, number, no_letter, unknown_last, unknown_more, data_goes_on, no_count, cut_data, cut_command, LoneFault, lone_number, no_end, unknown_end, cut_lone, UnitFault, no_byte, cut_escape, no_sequence, no_character, cut_introducer, no_group, unknown_group, font, language}
-use Rattle.pcl_items.proofs.ReadsTo.{same_whole}
-use Rattle.pcl_items.proofs.FaultHeads.{fault_has_rule}
+use Rattle.pcl_items.proofs.ReadsTo.{same_between}
+use Rattle.pcl_items.proofs.FaultHeads.{TellsCommand, command_told, TellsUnit, unit_told}
+use Rattle.pcl_items.proofs.Waiting.{frame_waits, letters_wait, numbers_wait}
 
 field_short : (bytes : List ℕ) → IsCut bytes → length bytes ≤ 16
 field_short _ (cut h short) = short
@@ -49,12 +48,15 @@ unit_short _ _ (rules.in_group {group = g} {bytes = bytes} {cause = cause} h) e 
 unit_short _ _ (font {bytes = bytes} {cause = cause} k h) e = omega (arith, lone_short 40 bytes cause h e)
 unit_short _ _ (language {bytes = bytes} {cause = cause} h) e = omega (arith, lone_short 37 bytes cause h e)
 
-all_short : (c : Context) (rest : List ℕ) → first_of true c rest ≡ Open → length rest ≤ most_open
-all_short Pcl [] e = omega arith
-all_short Pcl (b ∷ rest) e = unit_short (b ∷ rest) Truncated (fault_has_rule Pcl (b ∷ rest) Truncated (subst (λ (f : First). IsFault true f Pcl (b ∷ rest) Truncated) (sym e) refl)) refl
-all_short (Sequence g) rest e =
-    let short = command_short g rest Truncated (fault_has_rule (Sequence g) rest Truncated (subst (λ (f : First). IsFault true f (Sequence g) rest Truncated) (sym e) refl)) refl in
-    omega (arith, short)
-
 pub open_is_short : (c : Context) (rest : List ℕ) → first_of false c rest ≡ Open → length rest ≤ most_open
-open_is_short c rest e = all_short c rest (sym (same_whole false c rest) ∙ e)
+unfolding first_of
+open_is_short Pcl [] e = omega arith
+open_is_short Pcl (b ∷ rest) e =
+    let is_open : first_of true Pcl (b ∷ rest) ≡ Open = sym (same_between false (b ∷ rest)) ∙ e in
+    unit_short (b ∷ rest) Truncated (subst (TellsUnit (b ∷ rest)) is_open (unit_told b rest)) refl
+open_is_short (Sequence g) rest e =
+    let short = command_short g rest Truncated (subst (TellsCommand g rest) e (command_told g rest)) refl in
+    omega (arith, short)
+open_is_short Frame rest e = omega (arith, frame_waits rest e)
+open_is_short (Letters m n) rest e = omega (arith, letters_wait m n rest e)
+open_is_short (Numbered x gap n) rest e = omega (arith, numbers_wait x gap n rest e)

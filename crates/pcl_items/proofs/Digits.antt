@@ -35,39 +35,39 @@ fold_grows [] n = omega arith
 fold_grows (d ∷ ds) n = omega (arith, fold_grows ds (10 * n + (d - 48)))
 
 -- a limit on the way makes no other number
-abbrev pub limited : ℕ → ℕ
-limited n = min n 65536
+abbrev pub limited : ℕ → ℕ → ℕ
+limited past n = min n past
 
-fold_limited : (ds : List ℕ) (n : ℕ) → limited (fold next_digit (limited n) ds) ≡ limited (fold next_digit n ds)
-fold_limited [] n = omega arith
-fold_limited (d ∷ ds) n =
-    let same : limited (10 * limited n + (d - 48)) ≡ limited (10 * n + (d - 48)) = omega arith in
-    sym (fold_limited ds (10 * limited n + (d - 48))) ∙ ap (λ m. limited (fold next_digit m ds)) same ∙ fold_limited ds (10 * n + (d - 48))
+fold_limited : (past : ℕ) (ds : List ℕ) (n : ℕ) → limited past (fold next_digit (limited past n) ds) ≡ limited past (fold next_digit n ds)
+fold_limited past [] n = omega arith
+fold_limited past (d ∷ ds) n =
+    let same : limited past (10 * limited past n + (d - 48)) ≡ limited past (10 * n + (d - 48)) = omega arith in
+    sym (fold_limited past ds (10 * limited past n + (d - 48))) ∙ ap (λ m. limited past (fold next_digit m ds)) same ∙ fold_limited past ds (10 * n + (d - 48))
 
 -- so many bytes are digits, and this is their number
-pub record IsNumberSoFar (bytes : List ℕ) (i n : ℕ) : Type 0 where
+pub record IsNumberSoFar (past : ℕ) (bytes : List ℕ) (i n : ℕ) : Type 0 where
   pub len : i + length (digits (drop i bytes)) ≡ length (digits bytes)
-  pub number : limited (fold next_digit n (digits (drop i bytes))) ≡ limited (fold next_digit 0 (digits bytes))
-  pub within : n ≤ 65536
+  pub number : limited past (fold next_digit n (digits (drop i bytes))) ≡ limited past (fold next_digit 0 (digits bytes))
+  pub within : n ≤ past
 
-pub number_none : (bytes : List ℕ) → IsNumberSoFar bytes 0 0
-number_none bytes = record { len = omega arith; number = refl; within = omega arith }
+pub number_none : (past : ℕ) (bytes : List ℕ) → IsNumberSoFar past bytes 0 0
+number_none past bytes = record { len = omega arith; number = refl; within = omega arith }
 
-pub number_more : (bytes : List ℕ) (i n b : ℕ) → IsNumberSoFar bytes i n → i < length bytes → b ≡ get_or bytes i 0 → is_ascii_digit b ≡ true → IsNumberSoFar bytes (i + 1) (limited (10 * n + (b - 48)))
-number_more bytes i n b h inside is e =
+pub number_more : (past : ℕ) (bytes : List ℕ) (i n b : ℕ) → IsNumberSoFar past bytes i n → i < length bytes → b ≡ get_or bytes i 0 → is_ascii_digit b ≡ true → IsNumberSoFar past bytes (i + 1) (limited past (10 * n + (b - 48)))
+number_more past bytes i n b h inside is e =
     let here = digit_here bytes i b inside is e in
     let len : length (digits (drop i bytes)) ≡ length (b ∷ digits (drop (i + 1) bytes)) = ap length here in
     record {
       len = omega (arith, len, h.len);
-      number = fold_limited (digits (drop (i + 1) bytes)) (10 * n + (b - 48)) ∙ ap (λ ds. limited (fold next_digit n ds)) (sym here) ∙ h.number;
+      number = fold_limited past (digits (drop (i + 1) bytes)) (10 * n + (b - 48)) ∙ ap (λ ds. limited past (fold next_digit n ds)) (sym here) ∙ h.number;
       within = omega arith;
     }
 
 -- where no further digit stands
-pub number_is : (bytes : List ℕ) (i n : ℕ) → IsNumberSoFar bytes i n → digits (drop i bytes) ≡ [] → (i ≡ length (digits bytes)) × (n ≡ limited (fold next_digit 0 (digits bytes)))
-number_is bytes i n h e =
+pub number_is : (past : ℕ) (bytes : List ℕ) (i n : ℕ) → IsNumberSoFar past bytes i n → digits (drop i bytes) ≡ [] → (i ≡ length (digits bytes)) × (n ≡ limited past (fold next_digit 0 (digits bytes)))
+number_is past bytes i n h e =
     let none : length (digits (drop i bytes)) ≡ 0 = ap length e in
-    let same : limited n ≡ limited (fold next_digit 0 (digits bytes)) = sym (ap (λ ds. limited (fold next_digit n ds)) e) ∙ h.number in
+    let same : limited past n ≡ limited past (fold next_digit 0 (digits bytes)) = sym (ap (λ ds. limited past (fold next_digit n ds)) e) ∙ h.number in
     (omega (arith, none, h.len), omega (arith, same, h.within))
 
 -- ---- decimals
@@ -182,14 +182,14 @@ four_grow (a ∷ b ∷ c ∷ []) n = omega arith
 four_grow (a ∷ b ∷ c ∷ d ∷ ds) n = omega arith
 
 -- a whole part past the limit makes no number, whichever it is
-limit_same : (s : Sign) (n : ℕ) (ds : List ℕ) → within_limit s (fold next_digit (limited n) (four ds)) ≡ within_limit s (fold next_digit n (four ds))
+limit_same : (s : Sign) (n : ℕ) (ds : List ℕ) → within_limit s (fold next_digit (limited 65536 n) (four ds)) ≡ within_limit s (fold next_digit n (four ds))
 limit_same s n ds = go (cases_lt 65535 n)
   where
-    go : (65535 < n) ⊎ (n ≤ 65535) → within_limit s (fold next_digit (limited n) (four ds)) ≡ within_limit s (fold next_digit n (four ds))
+    go : (65535 < n) ⊎ (n ≤ 65535) → within_limit s (fold next_digit (limited 65536 n) (four ds)) ≡ within_limit s (fold next_digit n (four ds))
     go (inl past) =
-        past_limit s (fold next_digit (limited n) (four ds)) (omega (arith, four_grow ds (limited n)))
+        past_limit s (fold next_digit (limited 65536 n) (four ds)) (omega (arith, four_grow ds (limited 65536 n)))
         ∙ sym (past_limit s (fold next_digit n (four ds)) (omega (arith, four_grow ds n)))
-    go (inr low) = let same : limited n ≡ n = omega arith in ap (λ m. within_limit s (fold next_digit m (four ds))) same
+    go (inr low) = let same : limited 65536 n ≡ n = omega arith in ap (λ m. within_limit s (fold next_digit m (four ds))) same
 
 both_tests : (a b : Bool) (x : Option Amount) → cond (a && b) x None ≡ cond b (cond a x None) None
 both_tests true true x = refl
@@ -213,23 +213,51 @@ rest_from l n = take (length l - n) (drop n l)
 rest_is : (l : List ℕ) (n : ℕ) → rest_from l n ≡ drop n l
 rest_is l n = take_all (length l - n) (drop n l) (omega (arith, length-drop n l))
 
-pub without_point : (l : List ℕ) (s : Sign) (start len n : ℕ) → s ≡ sign_at l → start ≡ sign_len (sign_at l) → len ≡ length (digits (rest_from l start)) → n ≡ limited (decimal (digits (rest_from l start))) →
+-- the parts of a field that is read, without a point and with one
+pub parts_without_point : (l : List ℕ) (s : Sign) (start len : ℕ) → s ≡ sign_at l → start ≡ sign_len (sign_at l) → len ≡ length (digits (rest_from l start)) →
+    has_point (drop (start + len) l) ≡ false → field_at l ≡ record { sign = s; whole = digits (rest_from l start); decimals = []; len = start + len }
+parts_without_point l s start len is start_is len_is none =
+    let w : List ℕ = digits (drop (sign_len s) l) in
+    let begin : start ≡ sign_len s = start_is ∙ ap sign_len (sym is) in
+    let whole : digits (rest_from l start) ≡ w = ap digits (rest_is l start) ∙ ap (λ k. digits (drop k l)) begin in
+    let size : len ≡ length w = len_is ∙ ap length whole in
+    let end : start + len ≡ sign_len s + length w = omega arith in
+    field_from l s w (sym is) refl ∙ cond-false (has_point (drop (sign_len s + length w) l)) _ _ (ap (λ k. has_point (drop k l)) (sym end) ∙ none)
+    ∙ λ i. record { sign = s; whole = sym whole i; decimals = []; len = sym end i }
+
+pub parts_with_point : (l : List ℕ) (s : Sign) (start len len2 : ℕ) → s ≡ sign_at l → start ≡ sign_len (sign_at l) → len ≡ length (digits (rest_from l start)) →
+    has_point (drop (start + len) l) ≡ true → len2 ≡ length (digits (rest_from l (start + len + 1))) →
+    field_at l ≡ record { sign = s; whole = digits (rest_from l start); decimals = digits (rest_from l (start + len + 1)); len = start + len + 1 + len2 }
+parts_with_point l s start len len2 is start_is len_is some len2_is =
+    let w : List ℕ = digits (drop (sign_len s) l) in
+    let ds : List ℕ = digits (drop (sign_len s + length w + 1) l) in
+    let begin : start ≡ sign_len s = start_is ∙ ap sign_len (sym is) in
+    let whole : digits (rest_from l start) ≡ w = ap digits (rest_is l start) ∙ ap (λ k. digits (drop k l)) begin in
+    let size : len ≡ length w = len_is ∙ ap length whole in
+    let end : start + len ≡ sign_len s + length w = omega arith in
+    let behind : digits (rest_from l (start + len + 1)) ≡ ds = ap digits (rest_is l (start + len + 1)) ∙ ap (λ k. digits (drop (k + 1) l)) end in
+    let last : len2 ≡ length ds = len2_is ∙ ap length behind in
+    let all : start + len + 1 + len2 ≡ sign_len s + length w + 1 + length ds = omega arith in
+    field_from l s w (sym is) refl ∙ cond-true (has_point (drop (sign_len s + length w) l)) _ _ (ap (λ k. has_point (drop k l)) (sym end) ∙ some)
+    ∙ λ i. record { sign = s; whole = sym whole i; decimals = sym behind i; len = sym all i }
+
+pub without_point : (l : List ℕ) (s : Sign) (start len n : ℕ) → s ≡ sign_at l → start ≡ sign_len (sign_at l) → len ≡ length (digits (rest_from l start)) → n ≡ limited 65536 (decimal (digits (rest_from l start))) →
     has_point (drop (start + len) l) ≡ false → IsFieldOf l (start + len) (within_limit s (10000 * n))
 without_point l s start len n is start_is len_is n_is none =
     let w : List ℕ = digits (drop (sign_len s) l) in
     let begin : start ≡ sign_len s = start_is ∙ ap sign_len (sym is) in
     let size : len ≡ length w = len_is ∙ ap (λ t. length (digits t)) (rest_is l start) ∙ ap (λ k. length (digits (drop k l))) begin in
-    let number : n ≡ limited (decimal w) = n_is ∙ ap (λ t. limited (decimal (digits t))) (rest_is l start) ∙ ap (λ k. limited (decimal (digits (drop k l)))) begin in
+    let number : n ≡ limited 65536 (decimal w) = n_is ∙ ap (λ t. limited 65536 (decimal (digits t))) (rest_is l start) ∙ ap (λ k. limited 65536 (decimal (digits (drop k l)))) begin in
     let end : start + len ≡ sign_len s + length w = omega arith in
     let read : field_at l ≡ record { sign = s; whole = w; decimals = []; len = sign_len s + length w } =
     field_from l s w (sym is) refl ∙ cond-false (has_point (drop (sign_len s + length w) l)) _ _ (ap (λ k. has_point (drop k l)) (sym end) ∙ none) in
-    let tens : 10000 * n ≡ fold next_digit (limited (decimal w)) (four []) = omega arith in
+    let tens : 10000 * n ≡ fold next_digit (limited 65536 (decimal w)) (four []) = omega arith in
     record {
       len_is = end ∙ ap (λ f. f.len) (sym read);
       number_is = ap (within_limit s) tens ∙ limit_same s (decimal w) [] ∙ sym (amount_by_parts (record { sign = s; whole = w; decimals = []; len = sign_len s + length w })) ∙ ap amount_of (sym read);
     }
 
-pub with_point : (l : List ℕ) (s : Sign) (start len n len2 n2 : ℕ) (exact : Bool) → s ≡ sign_at l → start ≡ sign_len (sign_at l) → len ≡ length (digits (rest_from l start)) → n ≡ limited (decimal (digits (rest_from l start))) →
+pub with_point : (l : List ℕ) (s : Sign) (start len n len2 n2 : ℕ) (exact : Bool) → s ≡ sign_at l → start ≡ sign_len (sign_at l) → len ≡ length (digits (rest_from l start)) → n ≡ limited 65536 (decimal (digits (rest_from l start))) →
     has_point (drop (start + len) l) ≡ true → len2 ≡ length (digits (rest_from l (start + len + 1))) → n2 ≡ fold next_digit n (four (digits (rest_from l (start + len + 1)))) →
     exact ≡ list_all (λ d. d == 48) (drop 4 (digits (rest_from l (start + len + 1)))) → IsFieldOf l (start + len + 1 + len2) (cond exact (within_limit s n2) None)
 with_point l s start len n len2 n2 exact is start_is len_is n_is some len2_is n2_is exact_is =
@@ -237,13 +265,13 @@ with_point l s start len n len2 n2 exact is start_is len_is n_is some len2_is n2
     let ds : List ℕ = digits (drop (sign_len s + length w + 1) l) in
     let begin : start ≡ sign_len s = start_is ∙ ap sign_len (sym is) in
     let size : len ≡ length w = len_is ∙ ap (λ t. length (digits t)) (rest_is l start) ∙ ap (λ k. length (digits (drop k l))) begin in
-    let number : n ≡ limited (decimal w) = n_is ∙ ap (λ t. limited (decimal (digits t))) (rest_is l start) ∙ ap (λ k. limited (decimal (digits (drop k l)))) begin in
+    let number : n ≡ limited 65536 (decimal w) = n_is ∙ ap (λ t. limited 65536 (decimal (digits t))) (rest_is l start) ∙ ap (λ k. limited 65536 (decimal (digits (drop k l)))) begin in
     let end : start + len ≡ sign_len s + length w = omega arith in
     let behind : digits (rest_from l (start + len + 1)) ≡ ds = ap digits (rest_is l (start + len + 1)) ∙ ap (λ k. digits (drop (k + 1) l)) end in
     let read : field_at l ≡ record { sign = s; whole = w; decimals = ds; len = sign_len s + length w + 1 + length ds } =
     field_from l s w (sym is) refl ∙ cond-true (has_point (drop (sign_len s + length w) l)) _ _ (ap (λ k. has_point (drop k l)) (sym end) ∙ some) in
     let last : len2 ≡ length ds = len2_is ∙ ap length behind in
-    let value : n2 ≡ fold next_digit (limited (decimal w)) (four ds) = n2_is ∙ ap (λ m. fold next_digit m (four (digits (rest_from l (start + len + 1))))) number ∙ ap (λ t. fold next_digit (limited (decimal w)) (four t)) behind in
+    let value : n2 ≡ fold next_digit (limited 65536 (decimal w)) (four ds) = n2_is ∙ ap (λ m. fold next_digit m (four (digits (rest_from l (start + len + 1))))) number ∙ ap (λ t. fold next_digit (limited 65536 (decimal w)) (four t)) behind in
     let zeros : exact ≡ list_all (λ d. d == 48) (drop 4 ds) = exact_is ∙ ap (λ t. list_all (λ d. d == 48) (drop 4 t)) behind in
     record {
       len_is = (let whole : start + len + 1 + len2 ≡ sign_len s + length w + 1 + length ds = omega arith in whole) ∙ ap (λ f. f.len) (sym read);

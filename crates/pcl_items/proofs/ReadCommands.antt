@@ -4,7 +4,7 @@ use Rattle.std.specs.Prelude.{IfSome, nat_le}
 use Rattle.std.proofs.lemmas.Bool.{cond-true, cond-false, and_from, le-leb}
 use Rattle.pcl_items.specs.declared.command.Group.{Group}
 use Rattle.pcl_items.specs.declared.command.Command.{Command}
-use Rattle.pcl_items.specs.declared.first.Context.TheVariants.{Pcl, Sequence}
+use Rattle.pcl_items.specs.Contexts.{Pcl, Sequence}
 use Rattle.pcl_items.specs.Commands.{introducer_of, group_of, group_at, command_at, data_command_at}
 use Rattle.pcl_items.specs.Items.{Parameterized}
 use Rattle.pcl_items.specs.Reader.{Begins, behind, named, by_last_letter, by_other_letter, by_last_byte, command_in, is_group_or_parameter, is_termination, first_of}
@@ -13,14 +13,14 @@ use Rattle.pcl_items.specs.declared.parameterized.ReadCommand.{ReadCommand}
 use Rattle.pcl_items.specs.ReadCommands.{IsAhead}
 use Rattle.std.proofs.lemmas.List.{take_all}
 use Rattle.pcl_items.proofs.Heads.{group_read}
-use Rattle.pcl_items.proofs.ReadsTo.{same_whole}
+use Rattle.pcl_items.proofs.ReadsTo.{same_between}
 use Rattle.pcl_items.proofs.Tables.{group_found, command_found, capital_letter, no_data}
 
 -- behind ESC and the two characters of a group stands what the group has there
 pub behind_group : (whole : Bool) (i c : ℕ) (g : Group) (bytes : List ℕ) → group_at i c ≡ Some g → first_of whole Pcl (27 ∷ i ∷ c ∷ bytes) ≡ behind 3 (command_in g bytes)
 behind_group whole i c g bytes e =
     let characters = group_found i c g e in
-    same_whole whole Pcl (27 ∷ i ∷ c ∷ bytes)
+    same_between whole (27 ∷ i ∷ c ∷ bytes)
     ∙ ap (λ n. first_of true Pcl (27 ∷ n ∷ c ∷ bytes)) characters.0
     ∙ ap (λ n. first_of true Pcl (27 ∷ introducer_of g ∷ n ∷ bytes)) characters.1
     ∙ group_read g bytes

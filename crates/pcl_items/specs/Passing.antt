@@ -1,8 +1,7 @@
 -- A run of text that is passed at once.
 use Rattle.std.specs.Prelude.{◌≡◌, ℕ, ◌+◌, ◌≤◌, List, [], ◌∷◌, ◌++◌, length}
 use Rattle.std.specs.List.{AllByRecursion}
-use Rattle.pcl_items.specs.declared.first.Context.{Context}
-use Rattle.pcl_items.specs.declared.first.Context.TheVariants.{Pcl, Sequence}
+use Rattle.pcl_items.specs.Contexts.{Context, Pcl}
 use Rattle.pcl_items.specs.Items.{Placed, at, Text}
 use Rattle.pcl_items.specs.LexerState.{LexerState}
 use Rattle.pcl_items.specs.Lexing.{HasRead, Decides}
@@ -10,7 +9,7 @@ use Rattle.pcl_items.specs.Lexing.{HasRead, Decides}
 -- the bytes that are not read yet, where an item may begin between units
 abbrev pub ahead_in : Context → List ℕ → List ℕ
 ahead_in Pcl rest = rest
-ahead_in (Sequence group) rest = []
+ahead_in context rest = []
 
 abbrev pub ahead_of : LexerState → List ℕ
 ahead_of lexer = ahead_in lexer.context lexer.rest
@@ -31,3 +30,5 @@ pub record Passes (old : LexerState) (codes : List ℕ) (new : LexerState) : Typ
   pub place : new.place ≡ old.place + length codes
   pub total : new.place + length new.rest ≡ old.place + length old.rest
   pub ended : new.ended ≡ old.ended
+  pub before : old.context ≡ Pcl
+  pub behind : new.context ≡ Pcl

@@ -1,15 +1,16 @@
 -- A parameterized command that stands first.
 use Rattle.std.specs.Prelude.{◌≡◌, ◌≤◌, ◌+◌, ℕ, List, length, Bool, Some}
 use Rattle.pcl_items.specs.declared.command.Group.{Group}
-use Rattle.pcl_items.specs.declared.first.Context.{Context}
+use Rattle.pcl_items.specs.Contexts.{Context}
 use Rattle.pcl_items.specs.declared.number.Number.{Number}
 use Rattle.pcl_items.specs.declared.parameterized.ReadCommand.{ReadCommand}
 use Rattle.pcl_items.specs.Items.{amount, Parameterized}
+use Rattle.pcl_items.specs.FirstView.{context_view}
 use Rattle.pcl_items.specs.Reader.{First, Begins, by_last_byte, command_in, first_of}
 
 -- what stands first where this command was read
 abbrev pub first_by : ReadCommand → First
-first_by read = Begins (Parameterized read.command (amount read.number)) read.len read.next
+first_by read = Begins (Parameterized read.command (amount read.number)) read.len (context_view read.next)
 
 -- the bytes from this context on begin with the command
 abbrev pub IsAhead : ReadCommand → Context → List ℕ → Type 0

@@ -1,11 +1,10 @@
 -- Items by their spellings, one behind another.
-use Rattle.std.specs.Prelude.{◌≡◌, ℕ, zero, suc, ◌+◌, List, [], ◌∷◌, ◌++◌, length, drop, Some, true}
+use Rattle.std.specs.Prelude.{◌≡◌, ℕ, suc, ◌+◌, List, [], ◌∷◌, ◌++◌, length, drop, Option, None, Some}
 use Rattle.pcl_items.specs.declared.item.Mode.{Mode}
-use Rattle.pcl_items.specs.declared.first.Context.TheVariants.{Pcl}
-use Rattle.pcl_items.specs.Items.{Entry}
+use Rattle.pcl_items.specs.Items.{Entry, Placed}
 use Rattle.pcl_items.specs.Grammar.{follows}
 use Rattle.pcl_items.specs.Canon.{canon, IsItem}
-use Rattle.pcl_items.specs.Reader.{First, Open, Passes, Begins, Faulty, first_of}
+use Rattle.pcl_items.specs.Reading.{between, items_of, left, read_on}
 
 -- the spelling of an item that the mode admits stands at a place of the bytes, and ends before another, in the next mode
 pub record StandsAt (mode : Mode) (bytes : List ℕ) (at : ℕ) (item : Entry) (end : ℕ) (next : Mode) : Type 0 where
@@ -23,27 +22,30 @@ abbrev pub spelled : List Entry → List ℕ
 spelled [] = []
 spelled (item ∷ items) = canon item ++ spelled items
 
-abbrev pub AllItems : List Entry → Type 0
-AllItems [] = Unit {0}
-AllItems (item ∷ items) = IsItem item × AllItems items
+-- the mode behind items that a mode admits one behind another
+abbrev pub mode_after : Option Mode → List Entry → Option Mode
+mode_after None items = None
+mode_after (Some mode) [] = Some mode
+mode_after (Some mode) (item ∷ items) = mode_after (follows mode item) items
 
--- the bytes are the spellings of items
-abbrev pub IsSpelled : List ℕ → Type 0
-IsSpelled bytes = (items : List Entry) × AllItems items × (bytes ≡ spelled items)
+abbrev pub mode_behind : Mode → List Entry → Option Mode
+mode_behind mode items = mode_after (Some mode) items
+
+-- items that a mode admits, each of the others being admitted by the mode behind the one before it
+pub data AreAdmitted : Mode → List Entry → Type 0 where
+  none : {mode : Mode} → AreAdmitted mode []
+  some : {mode next : Mode} {item : Entry} {items : List Entry} → IsItem item → follows mode item ≡ Some next → AreAdmitted next items → AreAdmitted mode (item ∷ items)
+
+-- the bytes are the spellings of such items
+abbrev pub IsSpelled : Mode → List ℕ → Type 0
+IsSpelled mode bytes = (items : List Entry) × AreAdmitted mode items × (bytes ≡ spelled items)
 
 -- ---- read again
 
-abbrev pub by_spelling : First → List ℕ → (List ℕ → List Entry) → List Entry
-by_spelling Open bytes read = []
-by_spelling (Passes len next) bytes read = []
-by_spelling (Begins item len next) bytes read = item ∷ read (drop len bytes)
-by_spelling (Faulty cause) bytes read = []
+abbrev pub entries : List Placed → List Entry
+entries [] = []
+entries (x ∷ items) = x.item ∷ entries items
 
--- at most so many items
-abbrev pub first_items : ℕ → List ℕ → List Entry
-first_items zero bytes = []
-first_items (suc n) bytes = by_spelling (first_of true Pcl bytes) bytes (first_items n)
-
--- the items whose spellings the bytes are: each takes a byte at least
-unfoldable pub items_in : List ℕ → List Entry
-items_in bytes = first_items (length bytes) bytes
+-- the items that are read of the bytes from a mode on, up to their end or a fault
+unfoldable pub items_in : Mode → List ℕ → List Entry
+items_in mode bytes = entries (items_of (read_on (suc (left (between mode) bytes)) (between mode) 0 bytes))

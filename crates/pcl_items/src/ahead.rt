@@ -1,17 +1,18 @@
 //! What stands ahead in a lexer's window, and what is lent of it.
 
-ghost use Rattle.std.specs.Prelude.{◌≡◌, ◌+◌, ◌<◌, ◌≤◌, ◌-◌, length, take, drop, Bool, IfSome};
+ghost use Rattle.std.specs.Prelude.{◌≡◌, ◌+◌, ◌<◌, ◌≤◌, ◌-◌, ◌^◌, ◌++◌, length, take, drop, IfSome};
 ghost use Rattle.pcl_items.specs.Items.{view};
-ghost use Rattle.pcl_items.specs.Canon.{canon};
+ghost use Rattle.pcl_items.specs.Canon.{canon, data_of};
 ghost use Rattle.pcl_items.specs.Reader.{first_of};
-ghost use Rattle.pcl_items.specs.FirstView.{first_view, Within};
-ghost use Rattle.pcl_items.specs.Ahead.{IsByte, IsUndecided};
+ghost use Rattle.pcl_items.specs.Contexts.{counted};
+ghost use Rattle.pcl_items.specs.FirstView.{context_view, data_len, head_view, first_view, Within, len_of, counted_after};
+ghost use Rattle.pcl_items.specs.Ahead.{IsByte, StandsAhead, IsUndecided};
 ghost use Rattle.pcl_items.specs.ReadCommands.{IsAhead};
 ghost use Rattle.pcl_items.specs.Passing.{ahead_in};
 
 use crate::code::control_at;
-use crate::fault::{Cause, LexFault};
-use crate::first::{Context, First, first_in};
+use crate::fault::LexFault;
+use crate::first::{Context, First, Head, first_in};
 use crate::item::{Data, Item, Place, TextByte};
 use crate::lexer::Lexed;
 use crate::number::DataCount;
@@ -47,11 +48,11 @@ pub fn byte_in(bytes: &[u8]) -> Option<Item<'static>>
 #[inline]
 pub fn bytes_ahead(context: Context, start: usize, window: &[u8]) -> &[u8]
     requires { start ≤ length window.now }
-    ensures { result.now ≡ ahead_in context (drop start window.now) }
+    ensures { result.now ≡ ahead_in (context_view context) (drop start window.now) }
 {
     match context {
         Context::Pcl => &window[start..],
-        Context::Sequence(_) => &[],
+        _ => &[],
     }
 }
 
@@ -59,20 +60,59 @@ pub fn bytes_ahead(context: Context, start: usize, window: &[u8]) -> &[u8]
 #[inline(always)]
 pub fn command_ahead(context: Context, start: usize, window: &[u8]) -> Option<ReadCommand>
     requires { start ≤ length window.now }
-    ensures { IfSome result (λ read. IsAhead read context (drop start window.now)) }
+    ensures { IfSome result (λ read. IsAhead read (context_view context) (drop start window.now)) }
 {
     parameterized_in(context, &window[start..])
 }
 
-/// What stands first at `start` of the window.
+/// What stands first in a window behind bytes that end no item.
+#[derive(Clone, Copy)]
+pub struct Ahead {
+    /// It stands behind so many bytes of the window.
+    pub start: usize,
+    /// And behind this.
+    pub context: Context,
+    /// It passes over nothing.
+    pub first: First,
+}
+
+/// What stands first from `start` of the window on, behind white space, letters and numbers of a frame that end no item.
 // It is asked where no usual item stands, and is not to crowd the code of those that do.
 #[inline(never)]
-pub fn first_ahead(context: Context, start: usize, window: &[u8]) -> First
-    requires { start ≤ length window.now }
-    ensures first { (whole : Bool) → first_view (drop start window.now) result ≡ first_of whole context (drop start window.now) }
-    ensures within { Within (length (drop start window.now)) result }
+pub fn next_ahead(whole: bool, context: Context, start: usize, window: &[u8]) -> Ahead
+    requires inside { start ≤ length window.now }
+    requires counts { counted (context_view context) + length (drop start window.now) ≤ 2 ^ 62 }
+    ensures { StandsAhead whole (context_view context) start window.now result }
 {
-    first_in(context, &window[start..])
+    let mut at = start;
+    let mut before = context;
+    loop {
+        match first_ahead(whole, before, at, window) {
+            First::Passes(len, next) => {
+                at += len;
+                before = next;
+            }
+            first => {
+                return Ahead {
+                    start: at,
+                    context: before,
+                    first,
+                };
+            }
+        }
+    }
+}
+
+/// What stands first at `start` of the window.
+#[inline(always)]
+fn first_ahead(whole: bool, context: Context, start: usize, window: &[u8]) -> First
+    requires inside { start ≤ length window.now }
+    requires counts { counted (context_view context) + length (drop start window.now) ≤ 2 ^ 62 }
+    ensures first { first_view (drop start window.now) result ≡ first_of whole (context_view context) (drop start window.now) }
+    ensures within { Within (length (drop start window.now)) result }
+    ensures counted { counted_after (first_view (drop start window.now) result) ≤ counted (context_view context) + len_of (first_view (drop start window.now) result) }
+{
+    first_in(whole, context, &window[start..])
 }
 
 /// So many bytes of the window, up to `end`.
@@ -86,6 +126,33 @@ pub fn data_before(count: DataCount, end: usize, window: &[u8]) -> Data<'_>
     }
 }
 
+/// The item of so many bytes in front.
+#[inline(always)]
+pub fn with_its_data(head: Head, len: usize, bytes: &[u8]) -> Item<'_>
+    requires inside { len ≤ length bytes.now }
+    requires there { data_len head ≤ len }
+    ensures item { view result ≡ head_view head len bytes.now }
+    ensures within { length (data_of (view result)) ≤ len }
+    ensures last { take (len - length (data_of (view result))) bytes.now ++ data_of (view result) ≡ take len bytes.now }
+{
+    match head {
+        Head::Text(byte) => Item::Text(byte),
+        Head::Simple(item) => Item::Simple(item),
+        Head::WithData(command, count) => Item::WithData(command, data_before(count, len, bytes)),
+    }
+}
+
+/// The item of `len` bytes at `start` of the window, its data lent.
+#[inline(always)]
+pub fn item_ahead(head: Head, len: usize, start: usize, window: &[u8]) -> Item<'_>
+    requires start { start ≤ length window.now }
+    requires inside { len ≤ length (drop start window.now) }
+    requires there { data_len head ≤ len }
+    ensures { view result ≡ head_view head len (drop start window.now) }
+{
+    with_its_data(head, len, &window[start..])
+}
+
 /// The answer where the bytes from `start` on decide nothing.
 #[inline(always)]
 pub fn undecided(
@@ -96,14 +163,13 @@ pub fn undecided(
     window: &[u8],
 ) -> Result<Lexed<'_>, LexFault>
     requires { start ≤ length window.now }
-    ensures { IsUndecided ended context place (drop start window.now) result }
+    ensures { IsUndecided ended (context_view context) place (drop start window.now) result }
 {
-    match (context, &window[start..]) {
-        _ if !ended => Ok(Lexed::NeedMore),
-        (Context::Pcl, []) => Ok(Lexed::End),
-        _ => Err(LexFault {
-            place,
-            cause: Cause::Truncated,
-        }),
+    if !ended {
+        return Ok(Lexed::NeedMore);
+    }
+    match context.cause_at_end(window[start..].is_empty()) {
+        None => Ok(Lexed::End),
+        Some(cause) => Err(LexFault { place, cause }),
     }
 }

@@ -4,6 +4,8 @@
 //! where an answer of several shapes goes through memory.
 
 ghost use Rattle.std.specs.Prelude.{◌≤◌, ◌∷◌, length, IfSome};
+ghost use Rattle.pcl_items.specs.Contexts.{Pcl};
+ghost use Rattle.pcl_items.specs.FirstView.{context_view};
 ghost use Rattle.pcl_items.specs.ReadCommands.{IsAhead, IsInGroup, IsEndedBy};
 
 use crate::command::{Command, Group};
@@ -24,7 +26,7 @@ pub struct ReadCommand {
 #[inline(always)]
 #[tactic(auto, unfolding(crate::specs::Reader::first_of))]
 pub fn parameterized_in(context: Context, bytes: &[u8]) -> Option<ReadCommand>
-    ensures { IfSome result (λ read. IsAhead read context bytes.now) }
+    ensures { IfSome result (λ read. IsAhead read (context_view context) bytes.now) }
 {
     match context {
         Context::Sequence(group) => command(group, bytes),
@@ -32,13 +34,14 @@ pub fn parameterized_in(context: Context, bytes: &[u8]) -> Option<ReadCommand>
             [b'\x1b', rest @ ..] => escaped(rest),
             _ => None,
         },
+        _ => None,
     }
 }
 
 /// The command that stands first behind an escape character.
 #[inline(always)]
 fn escaped(bytes: &[u8]) -> Option<ReadCommand>
-    ensures { IfSome result (λ read. IsAhead read Context.Pcl (27 ∷ bytes.now)) }
+    ensures { IfSome result (λ read. IsAhead read Pcl (27 ∷ bytes.now)) }
 {
     match bytes {
         [introducer, character, rest @ ..] => {

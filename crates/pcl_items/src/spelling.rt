@@ -1,33 +1,38 @@
 //! The one spelling of each item, written and read again.
 
 ghost use Rattle.std.specs.Prelude.{◌≡◌, ◌≤◌, ◌+◌, ◌-◌, ◌%◌, List, ◌++◌, ◌∷◌, [], ℕ, take, length, decimal, MatchOption, OnOk, OnErr};
+ghost use Rattle.std.specs.Fmt.{signed_decimal};
 ghost use Rattle.arrayvec.specs.ArrayVec.{array_vec_len};
-ghost use Rattle.pcl_items.specs.declared.item.Mode.TheVariants.{Pcl};
-ghost use Rattle.pcl_items.specs.Items.{Entry, view, simple_view, amount};
-ghost use Rattle.pcl_items.specs.Canon.{canon, data_of, amount_text, with_point, without_zeros, four_decimals};
+ghost use Rattle.pcl_items.specs.declared.item.Mode.TheVariants.{Pcl, Frame};
+ghost use Rattle.pcl_items.specs.Items.{Entry, view, simple_view, amount, pair};
+ghost use Rattle.pcl_items.specs.Canon.{canon, data_of, amount_text, magnitude_text, with_point, without_zeros, four_decimals};
+ghost use Rattle.pcl_items.specs.Mnemonics.{letters_of};
 ghost use Rattle.pcl_items.specs.ValueField.{sign_text};
-ghost use Rattle.pcl_items.specs.FirstView.{head_view, data_len};
 ghost use Rattle.pcl_items.specs.Spelled.{StandsAt, NothingStands, IsSpelled};
 
-use crate::ahead::{byte_in, data_before};
+use crate::ahead::{byte_in, next_ahead, with_its_data};
 use crate::command::{Command, DataCommand};
-use crate::first::{Context, First, Head, first_in};
+use crate::first::{Context, First, first_between};
+use crate::frame::{Coordinate, Coordinates, Handover, Mnemonic, Motion, Setting};
 use crate::item::{Item, Mode, SetLetter, SimpleItem};
-use crate::number::{Number, Sign};
+use crate::number::{Magnitude, Number, Sign};
 use crate::parameterized::parameterized_in;
 use arrayvec::ArrayVec;
 use itoa::Buffer;
 use std::alloc::{AllocError, Allocator};
 
-/// The most bytes of a spelling but for data: ESC, two characters, a sign, five digits, a point, four digits and a letter.
-const LONGEST: usize = 15;
+/// The most bytes of a spelling but for data: two letters, two coordinates, a comma and a semicolon.
+const LONGEST: usize = 26;
+
+/// No spelling of an item of a frame has more bytes.
+const MOST_IN_FRAME: usize = 64;
 
 /// A spelling but for the data that end it.
 type HeadText = ArrayVec<u8, LONGEST>;
 
 /// Appends bytes that have room.
 fn append(text: &mut HeadText, bytes: &[u8])
-    requires { array_vec_len text.old + length bytes.now ≤ 15 }
+    requires { array_vec_len text.old + length bytes.now ≤ 26 }
     ensures text { text.new.items ≡ text.old.items ++ bytes.now }
     ensures len { array_vec_len text.new ≡ array_vec_len text.old + length bytes.now }
 {
@@ -108,13 +113,33 @@ fn append_number(text: &mut HeadText, n: Number)
     ensures len { array_vec_len text.new ≤ array_vec_len text.old + 11 }
 {
     append_sign(text, n.sign);
-    append_whole(text, (n.ten_thousandths / 10_000) as u16);
-    append_decimals(text, n.ten_thousandths);
+    append_magnitude(text, n.ten_thousandths);
+}
+
+/// Appends a number that has no sign: its whole part, and its decimals.
+fn append_magnitude(text: &mut HeadText, n: u32)
+    requires room { array_vec_len text.old ≤ 4 }
+    requires limited { n ≤ 655_350_000 }
+    ensures text { text.new.items ≡ text.old.items ++ magnitude_text n }
+    ensures len { array_vec_len text.new ≤ array_vec_len text.old + 10 }
+{
+    append_whole(text, (n / 10_000) as u16);
+    append_decimals(text, n);
+}
+
+/// Appends a coordinate.
+fn append_coordinate(text: &mut HeadText, x: Coordinate)
+    requires { array_vec_len text.old ≤ 14 }
+    ensures text { text.new.items ≡ text.old.items ++ signed_decimal x.units }
+    ensures len { array_vec_len text.new ≤ array_vec_len text.old + 11 }
+{
+    let mut digits = Buffer::new();
+    append(text, digits.format(x.units).as_bytes());
 }
 
 /// A spelling that no number enters.
 fn fixed(bytes: &[u8]) -> HeadText
-    requires { length bytes.now ≤ 15 }
+    requires { length bytes.now ≤ 26 }
     ensures text { result.items ≡ bytes.now }
     ensures len { array_vec_len result ≡ length bytes.now }
 {
@@ -131,6 +156,39 @@ fn command_text(command: Command, n: Number) -> HeadText
     let mut text = fixed(&[b'\x1b', group.introducer(), group.character()]);
     append_number(&mut text, n);
     text.push(command.letter());
+    text
+}
+
+/// The two letters of a command of a frame.
+fn letters_text(mnemonic: Mnemonic) -> HeadText
+    ensures text { result.items ≡ (letters_of mnemonic).0 ∷ (letters_of mnemonic).1 ∷ [] }
+    ensures len { array_vec_len result ≡ 2 }
+{
+    let (first, second) = mnemonic.letters();
+    fixed(&[first, second])
+}
+
+/// A command of a frame with its number.
+fn setting_text(setting: Setting, magnitude: Magnitude) -> HeadText
+    ensures { result.items ≡ canon (Entry.Set setting magnitude.ten_thousandths) }
+{
+    let mut text = letters_text(Mnemonic::Sets(setting));
+    append_magnitude(&mut text, magnitude.ten_thousandths);
+    text.push(b';');
+    text
+}
+
+/// A command of a frame with a pair of coordinates, or none.
+fn motion_text(motion: Motion, to: Option<Coordinates>) -> HeadText
+    ensures { result.items ≡ canon (Entry.Move motion (pair to)) }
+{
+    let mut text = letters_text(Mnemonic::Moves(motion));
+    if let Some(place) = to {
+        append_coordinate(&mut text, place.x);
+        text.push(b',');
+        append_coordinate(&mut text, place.y);
+    }
+    text.push(b';');
     text
 }
 
@@ -168,6 +226,13 @@ fn simple_text(item: &SimpleItem) -> HeadText
         SimpleItem::Parameterized(command, n) => command_text(*command, *n),
         SimpleItem::SymbolSet(letter, n) => symbol_set_text(*letter, *n),
         SimpleItem::DefaultFont => fixed(b"\x1b(3@"),
+        SimpleItem::EnterFrame(Handover::Previous) => fixed(b"\x1b%0B"),
+        SimpleItem::EnterFrame(Handover::Current) => fixed(b"\x1b%1B"),
+        SimpleItem::LeaveFrame(Handover::Previous) => fixed(b"\x1b%0A"),
+        SimpleItem::LeaveFrame(Handover::Current) => fixed(b"\x1b%1A"),
+        SimpleItem::Initialize => fixed(b"IN;"),
+        SimpleItem::Set(setting, magnitude) => setting_text(*setting, *magnitude),
+        SimpleItem::Move(motion, to) => motion_text(*motion, *to),
     }
 }
 
@@ -217,60 +282,85 @@ pub fn spelled_len(item: &Item<'_>) -> u64
     (head_text(item).len() + data_of(item).len()) as u64
 }
 
-/// The item of so many bytes in front.
-fn with_its_data(head: Head, len: usize, bytes: &[u8]) -> Item<'_>
-    requires inside { len ≤ length bytes.now }
-    requires there { data_len head ≤ len }
-    ensures item { view result ≡ head_view head len bytes.now }
-    ensures within { length (data_of (view result)) ≤ len }
-    ensures last { take (len - length (data_of (view result))) bytes.now ++ data_of (view result) ≡ take len bytes.now }
-{
-    match head {
-        Head::Text(byte) => Item::Text(byte),
-        Head::Simple(item) => Item::Simple(item),
-        Head::WithData(command, count) => Item::WithData(command, data_before(count, len, bytes)),
-    }
-}
-
-/// The item whose spelling stands first in bytes of mode PCL, and how many bytes it takes.
-fn first_item(bytes: &[u8]) -> Option<(Item<'_>, usize)>
-    ensures { MatchOption result (NothingStands Pcl bytes.now 0) (λ found. StandsAt Pcl bytes.now 0 (view found.0) found.1 Pcl) }
+/// The item whose spelling stands first in bytes of mode PCL, how many bytes it takes, and the mode behind it.
+fn first_item(bytes: &[u8]) -> Option<(Item<'_>, usize, Mode)>
+    ensures { MatchOption result (NothingStands Pcl bytes.now 0) (λ found. StandsAt Pcl bytes.now 0 (view found.0) found.1 found.2) }
 {
     // A byte that is an item by itself has no other spelling.
     if let Some(item) = byte_in(bytes) {
-        return Some((item, 1));
+        return Some((item, 1, Mode::Pcl));
     }
-    let First::Begins(len, head, _) = first_in(Context::Pcl, bytes) else {
+    let First::Begins(len, head, next) = first_between(bytes) else {
         return None;
     };
     let item = with_its_data(head, len, bytes);
     let text = head_text(&item);
     // A number is read from each of its spellings, and only one of them is the item's.
     if &bytes[..len - data_of(&item).len()] == text.as_slice() {
-        Some((item, len))
+        Some((item, len, next.mode()))
     } else {
         None
     }
 }
 
-/// The first item of bytes that are the spellings of items, and how many bytes it takes; none where no item is left.
-///
-/// Unlike `item_at` it compares nothing: the bytes are known to be spellings.
-pub fn first_spelled(bytes: &[u8]) -> Option<(Item<'_>, usize)>
-    requires { IsSpelled bytes.now }
-    ensures { MatchOption result (NothingStands Pcl bytes.now 0) (λ found. StandsAt Pcl bytes.now 0 (view found.0) found.1 Pcl) }
+/// The item whose spelling stands first in bytes of a frame, how many bytes it takes, and the mode behind it.
+fn first_of_frame(bytes: &[u8]) -> Option<(Item<'_>, usize, Mode)>
+    ensures { MatchOption result (NothingStands Frame bytes.now 0) (λ found. StandsAt Frame bytes.now 0 (view found.0) found.1 found.2) }
+{
+    let front = &bytes[..bytes.len().min(MOST_IN_FRAME)];
+    let ahead = next_ahead(true, Context::Frame, 0, front);
+    let First::Begins(len, head, next) = ahead.first else {
+        return None;
+    };
+    let item = with_its_data(head, len, &front[ahead.start..]);
+    let text = head_text(&item);
+    if bytes.starts_with(text.as_slice()) {
+        Some((item, text.len(), next.mode()))
+    } else {
+        None
+    }
+}
+
+/// The first item of bytes of mode PCL that are the spellings of items.
+fn first_spelled_between(bytes: &[u8]) -> Option<(Item<'_>, usize, Mode)>
+    requires { IsSpelled Pcl bytes.now }
+    ensures { MatchOption result (NothingStands Pcl bytes.now 0) (λ found. StandsAt Pcl bytes.now 0 (view found.0) found.1 found.2) }
 {
     if let Some(item) = byte_in(bytes) {
-        return Some((item, 1));
+        return Some((item, 1, Mode::Pcl));
     }
     if let Some(read) = parameterized_in(Context::Pcl, bytes) {
         let item = SimpleItem::Parameterized(read.command, read.number);
-        return Some((Item::Simple(item), read.len));
+        return Some((Item::Simple(item), read.len, Mode::Pcl));
     }
-    let First::Begins(len, head, _) = first_in(Context::Pcl, bytes) else {
+    let First::Begins(len, head, next) = first_between(bytes) else {
         return None;
     };
-    Some((with_its_data(head, len, bytes), len))
+    Some((with_its_data(head, len, bytes), len, next.mode()))
+}
+
+/// The first item of bytes that are the spellings of items from a mode on, how many bytes it takes, and the mode behind
+/// it; none where no item is left.
+///
+/// Unlike `item_at` it compares nothing in mode PCL: the bytes are known to be spellings.
+pub fn first_spelled(bytes: &[u8], mode: Mode) -> Option<(Item<'_>, usize, Mode)>
+    requires { IsSpelled mode bytes.now }
+    ensures { MatchOption result (NothingStands mode bytes.now 0) (λ found. StandsAt mode bytes.now 0 (view found.0) found.1 found.2) }
+{
+    match mode {
+        Mode::Pcl => first_spelled_between(bytes),
+        Mode::Frame => first_of_frame(bytes),
+    }
+}
+
+/// The item whose spelling stands first in bytes of a mode, how many bytes it takes, and the mode behind it.
+fn first_of_mode(bytes: &[u8], mode: Mode) -> Option<(Item<'_>, usize, Mode)>
+    ensures { MatchOption result (NothingStands mode bytes.now 0) (λ found. StandsAt mode bytes.now 0 (view found.0) found.1 found.2) }
+{
+    match mode {
+        Mode::Pcl => first_item(bytes),
+        Mode::Frame => first_of_frame(bytes),
+    }
 }
 
 /// The item whose spelling stands at a place of the bytes, the place behind it, and the mode there.
@@ -280,10 +370,8 @@ pub fn item_at(bytes: &[u8], at: usize, mode: Mode) -> Option<(Item<'_>, usize, 
     requires { at ≤ length bytes.now }
     ensures { MatchOption result (NothingStands mode bytes.now at) (λ found. StandsAt mode bytes.now at (view found.0) found.1 found.2) }
 {
-    match mode {
-        Mode::Pcl => match first_item(&bytes[at..]) {
-            None => None,
-            Some((item, len)) => Some((item, at + len, Mode::Pcl)),
-        },
+    match first_of_mode(&bytes[at..], mode) {
+        None => None,
+        Some((item, len, next)) => Some((item, at + len, next)),
     }
 }

@@ -1,5 +1,6 @@
 use Rattle.std.proofs.Common.{◌≡◌, ◌+◌, ◌≤◌, ◌<◌, ◌∙◌, Some, sym, ap, refl, arith}
 use Rattle.pcl_items.specs.Commands.{command_at}
+use Rattle.pcl_items.specs.FirstView.{context_view}
 use Rattle.pcl_items.specs.Items.{amount, Parameterized}
 use Rattle.pcl_items.specs.Reader.{Begins}
 use Rattle.pcl_items.proofs.ReadCommands.{named_small, named_capital}
@@ -18,9 +19,9 @@ returns c =
       | in-0-to-95 w ↦
           let below : last < 96 = omega arith in
           let named = ap (λ l. command_at group l.0) (sym w.letter-is) ∙ known in
-          (λ bytes. named_capital group number c.args.len last bytes command below named ∙ ap (λ l. Begins (Parameterized command number) (c.args.len + 1) l.1) (sym w.letter-is), refl)
+          (λ bytes. named_capital group number c.args.len last bytes command below named ∙ ap (λ l. Begins (Parameterized command number) (c.args.len + 1) (context_view l.1)) (sym w.letter-is), refl)
       | in-96-to-255 w ↦
           let above : 96 ≤ last = omega arith in
           let named = ap (λ l. command_at group l.0) (sym w.letter-is) ∙ known in
-          (λ bytes. named_small group number c.args.len last bytes command above named ∙ ap (λ l. Begins (Parameterized command number) (c.args.len + 1) l.1) (sym w.letter-is), refl)
+          (λ bytes. named_small group number c.args.len last bytes command above named ∙ ap (λ l. Begins (Parameterized command number) (c.args.len + 1) (context_view l.1)) (sym w.letter-is), refl)
     ]

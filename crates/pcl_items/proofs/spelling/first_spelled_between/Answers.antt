@@ -1,0 +1,25 @@
+use Rattle.std.proofs.Common.{true, refl, sym, ap, subst, ◌∙◌}
+use Rattle.pcl_items.specs.declared.item.Mode.{Mode}
+use Rattle.pcl_items.specs.declared.item.Mode.TheVariants.{Pcl}
+use Rattle.pcl_items.specs.Items.{view}
+use Rattle.pcl_items.specs.FirstView.{context_view, first_view}
+use Rattle.pcl_items.specs.Reader.{Begins}
+use Rattle.pcl_items.specs.Spelled.{StandsAt}
+use Rattle.pcl_items.proofs.Spellings.{byte_stands, no_item, spelled_stands, stands_as}
+use Rattle.pcl_items.proofs.spelling.first_spelled_between.Goals as goal
+
+pub returns-in-Some : goal.returns-in-Some
+returns-in-Some c = byte_stands c.args.bytes.now c.in-Some.item c.in-Some.ensures.first.1 (c.in-Some.ensures.first.0 true) c.in-Some.ensures.spelled
+
+pub returns-in-Some-parameterized_in : goal.returns-in-Some-parameterized_in
+returns-in-Some-parameterized_in c =
+    stands_as Pcl c.args.bytes.now 0 _ _ (spelled_stands c.args.bytes.now c.requires _ _ _ (c.in-Some-parameterized_in.ensures.0 true)) refl
+
+pub returns-in_default-first_between : goal.returns-in_default-first_between
+returns-in_default-first_between c = no_item c.args.bytes.now c.first_between.result (c.first_between.ensures.first true) c.in_default-first_between.not-Begins
+
+pub returns : goal.returns
+returns c =
+    subst (λ (mode : Mode). StandsAt Pcl c.args.bytes.now 0 (view c.with_its_data.result) c.in-Begins.len mode) (sym c.mode.ensures)
+    (spelled_stands c.args.bytes.now c.requires (view c.with_its_data.result) c.in-Begins.len (context_view c.in-Begins.next)
+    (sym (c.first_between.ensures.first true) ∙ ap (first_view c.args.bytes.now) c.in-Begins.is ∙ ap (λ x. Begins x c.in-Begins.len (context_view c.in-Begins.next)) (sym c.with_its_data.ensures.item)))
