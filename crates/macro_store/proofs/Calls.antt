@@ -6,14 +6,17 @@ use Rattle.std.proofs.lemmas.Bool.{eq-eqb}
 use Rattle.std.proofs.lemmas.List.{length-append, length-drop, length-take-le, append-nil}
 use Rattle.std.proofs.lemmas.Map.Made.{lookup-map_values}
 use Rattle.std.specs.Option.{option_map, IsSome}
+use Rattle.macro_store.proofs.Modes.{mode_defined, admitted_more}
+use Rattle.pcl_items.specs.declared.item.Mode.TheVariants.{Pcl}
 use Rattle.pcl_items.specs.Items.{Entry}
 use Rattle.pcl_items.specs.Canon.{canon, IsItem}
 use Rattle.pcl_items.specs.Spelled.{spelled, items_in}
-use Rattle.pcl_items.proofs.Spellings.{spelled-append, AllItems-append}
+use Rattle.pcl_items.specs.Spelled as spellings
+use Rattle.pcl_items.proofs.Spellings.{spelled-append}
 use Rattle.macro_store.specs.declared.span.Span.{Span}
 use Rattle.macro_store.specs.declared.span.Definition.{Definition}
-use Rattle.macro_store.specs.Store.{Store, stored_bytes, with_item, bodies_with, began, appended, committed, deleted}
-use Rattle.macro_store.proofs.Laid.{defined, IsOut, taken_out, texts_more, spans_more, all_more, all_fewer, bodies_are, definition_is, found_in, pool_length}
+use Rattle.macro_store.specs.Store.{Store, stored_bytes, Admits, with_item, bodies_with, began, appended, committed, deleted}
+use Rattle.macro_store.proofs.Laid.{defined, IsOut, taken_out, texts_more, spans_more, all_more, all_fewer, bodies_are, definition_is, found_in, pool_length, definition_admits}
 use Rattle.macro_store.specs.Layout.{bytes_at, bodies_in, definition_in, moved_down, down, texts, spans_from, IsBehind, IsLaidOut}
 
 abbrev pub store_of : ℕ → List ℕ → List (ℕ × Span) → Option Definition → Store
@@ -39,20 +42,20 @@ behind_more spans place items more (Some d) h b = b
 
 module _ (limit : ℕ) (pool : List ℕ) (spans : List (ℕ × Span)) where
   -- an item more in the open definition
-  module _ (definition : Option Definition) (h : IsLaidOut pool spans definition) (item : Entry) (is : IsItem item) (opened : IsSome (definition_in pool definition)) where
+  module _ (definition : Option Definition) (h : IsLaidOut pool spans definition) (item : Entry) (is : IsItem item) (admits : Admits (store_of limit pool spans definition) item) where
     abbrev pub appended_laid : IsLaidOut (pool ++ canon item) spans definition
     appended_laid = record {
       bodies = h.bodies;
       items = h.items ++ item ∷ [];
       all = h.all;
-      all_open = AllItems-append h.items (item ∷ []) h.all_open (is, tt);
+      all_open = admitted_more h.items item h.all_open is (definition_admits pool spans definition h item admits);
       spans_are = h.spans_are;
       pool_is =
           ap (λ bytes. bytes ++ canon item) h.pool_is
           ∙ append_assoc (texts h.bodies) (spelled h.items) (canon item)
           ∙ ap (λ bytes. texts h.bodies ++ (spelled h.items ++ bytes)) (sym (append-nil (canon item)))
           ∙ ap (λ bytes. texts h.bodies ++ bytes) (sym (spelled-append h.items (item ∷ [])));
-      behind = behind_more spans (length (texts h.bodies)) h.items (h.items ++ item ∷ []) definition (is_defined pool definition opened) h.behind;
+      behind = behind_more spans (length (texts h.bodies)) h.items (h.items ++ item ∷ []) definition (is_defined pool definition (mode_defined (definition_in pool definition) item admits)) h.behind;
     }
 
     more_defined : (d : Option Definition) → defined (h.items ++ item ∷ []) d ≡ with_item item (defined h.items d)
@@ -81,7 +84,7 @@ module _ (limit : ℕ) (pool : List ℕ) (spans : List (ℕ × Span)) where
       bodies = h.bodies ++ (d.id, h.items) ∷ [];
       items = [];
       all = all_more h.bodies (d.id, h.items) h.all h.all_open;
-      all_open = tt;
+      all_open = spellings.none;
       spans_are =
           ap (λ start. spans ++ (d.id, record { start = start; end = length pool }) ∷ []) start_is
           ∙ ap (λ end. spans ++ (d.id, record { start = 0 + length (texts h.bodies); end = end }) ∷ []) end_is
@@ -156,11 +159,11 @@ module _ (limit : ℕ) (pool : List ℕ) (spans : List (ℕ × Span)) where
 pub same_id : (id : ℕ) → nat_eq id id ≡ true
 same_id id = eq-eqb id id refl
 
-pub body_found : (pool : List ℕ) (id : ℕ) (spans : List (ℕ × Span)) → lookup (nat_eq id) (bodies_in pool spans) ≡ option_map (λ span. items_in (bytes_at pool span)) (lookup (nat_eq id) spans)
-body_found pool id spans = lookup-map_values (λ span. items_in (bytes_at pool span)) (nat_eq id) spans
+pub body_found : (pool : List ℕ) (id : ℕ) (spans : List (ℕ × Span)) → lookup (nat_eq id) (bodies_in pool spans) ≡ option_map (λ span. items_in Pcl (bytes_at pool span)) (lookup (nat_eq id) spans)
+body_found pool id spans = lookup-map_values (λ span. items_in Pcl (bytes_at pool span)) (nat_eq id) spans
 
 pub body_gone : (pool : List ℕ) (id : ℕ) (spans : List (ℕ × Span)) → lookup (nat_eq id) spans ≡ None → lookup (nat_eq id) (bodies_in pool spans) ≡ None
-body_gone pool id spans e = body_found pool id spans ∙ ap (option_map (λ span. items_in (bytes_at pool span))) e
+body_gone pool id spans e = body_found pool id spans ∙ ap (option_map (λ span. items_in Pcl (bytes_at pool span))) e
 
 -- what is looked up after an entry was taken out and the others moved
 pub down_gone : (place by id : ℕ) (spans : List (ℕ × Span)) → lookup (nat_eq id) spans ≡ None → lookup (nat_eq id) (down place by spans) ≡ None
@@ -187,17 +190,17 @@ none_opened (Some d) P e h = absurd cc
 -- ---- a spelling that is appended, or refused
 
 module _ (limit : ℕ) (pool : List ℕ) (spans : List (ℕ × Span)) (definition : Option Definition) (h : IsLaidOut pool spans definition) (item : Entry) where
-  opened_in : (store : Store) → store_of limit pool spans definition ≡ store → IsSome store.definition → IsSome (definition_in pool definition)
-  opened_in store e o = subst (λ (s : Store). IsSome s.definition) (sym e) o
+  admits_in : (store : Store) → store_of limit pool spans definition ≡ store → Admits store item → Admits (store_of limit pool spans definition) item
+  admits_in store e o = subst (λ (s : Store). Admits s item) (sym e) o
 
-  pub add_laid : {E : Type 0} → IsItem item → {store : Store} → store_of limit pool spans definition ≡ store → IsSome store.definition → (pool' : List ℕ) (result : Result Unit E) → OnOk result (pool' ≡ pool ++ canon item) → OnErr result (pool' ≡ pool) → IsLaidOut pool' spans definition
+  pub add_laid : {E : Type 0} → IsItem item → {store : Store} → store_of limit pool spans definition ≡ store → Admits store item → (pool' : List ℕ) (result : Result Unit E) → OnOk result (pool' ≡ pool ++ canon item) → OnErr result (pool' ≡ pool) → IsLaidOut pool' spans definition
   add_laid is {store} e o pool' (Ok done) ok err =
-      subst (λ p. IsLaidOut p spans definition) (sym ok) (appended_laid limit pool spans definition h item is (opened_in store e o))
+      subst (λ p. IsLaidOut p spans definition) (sym ok) (appended_laid limit pool spans definition h item is (admits_in store e o))
   add_laid is {store} e o pool' (Err x) ok err = subst (λ p. IsLaidOut p spans definition) (sym err) h
 
-  pub add_is : {E : Type 0} → IsItem item → {store : Store} → store_of limit pool spans definition ≡ store → IsSome store.definition → (pool' : List ℕ) (result : Result Unit E) → OnOk result (pool' ≡ pool ++ canon item) → OnOk result (store_of limit pool' spans definition ≡ appended item store)
+  pub add_is : {E : Type 0} → IsItem item → {store : Store} → store_of limit pool spans definition ≡ store → Admits store item → (pool' : List ℕ) (result : Result Unit E) → OnOk result (pool' ≡ pool ++ canon item) → OnOk result (store_of limit pool' spans definition ≡ appended item store)
   add_is is {store} e o pool' (Ok done) ok =
-      ap (λ p. store_of limit p spans definition) ok ∙ appended_is limit pool spans definition h item is (opened_in store e o) ∙ ap (appended item) e
+      ap (λ p. store_of limit p spans definition) ok ∙ appended_is limit pool spans definition h item is (admits_in store e o) ∙ ap (appended item) e
   add_is is {store} e o pool' (Err x) ok = tt
 
   pub add_fits : {E : Type 0} → {store : Store} → store_of limit pool spans definition ≡ store → stored_bytes store + length (canon item) ≤ store.limit → (pool' : List ℕ) (result : Result Unit E) → OnOk result (pool' ≡ pool ++ canon item) → OnErr result (pool' ≡ pool) → length pool' ≤ limit

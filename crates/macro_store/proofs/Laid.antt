@@ -6,13 +6,15 @@ use Rattle.std.proofs.lemmas.Bool.{leb-true, le-leb}
 use Rattle.std.proofs.Math.Seq.{take-append_seam, drop-append_seam}
 use Rattle.std.proofs.lemmas.List.{length-append}
 use Rattle.std.proofs.lemmas.List.Sums.{sum_by-cons}
+use Rattle.pcl_items.specs.declared.item.Mode.TheVariants.{Pcl}
 use Rattle.pcl_items.specs.Items.{Entry}
 use Rattle.pcl_items.specs.Canon.{canon}
-use Rattle.pcl_items.specs.Spelled.{spelled, AllItems, IsSpelled, items_in}
+use Rattle.pcl_items.specs.Spelled.{spelled, AreAdmitted, IsSpelled, mode_behind, items_in}
+use Rattle.pcl_items.specs.Spelled as spellings
 use Rattle.pcl_items.proofs.Spellings.{items_in-spelled}
 use Rattle.macro_store.specs.declared.span.Span.{Span}
 use Rattle.macro_store.specs.declared.span.Definition.{Definition}
-use Rattle.macro_store.specs.Store.{bytes_of, open_bytes}
+use Rattle.macro_store.specs.Store.{mode_in, IsAdmittedIn, bytes_of, open_bytes}
 use Rattle.macro_store.specs.Layout.{bytes_at, bodies_in, definition_in, moved_down, down, texts, spans_from, AllBodies, IsBehind, IsLaidOut}
 
 -- ---- lists of bytes
@@ -59,7 +61,7 @@ bodies_known pool front rest (m ∷ ms) h place p e =
     let text : List ℕ = spelled m.1 in
     let end : ℕ = place + length text in
     let here = middle pool front text (texts ms ++ rest) place p (from_here pool front text (texts ms) rest e) in
-    let items = ap items_in here ∙ items_in-spelled m.1 h.0 in
+    let items = ap (items_in Pcl) here ∙ items_in-spelled Pcl m.1 h.0 in
     ap (λ xs. (m.0, xs) ∷ bodies_in pool (spans_from end ms)) items
     ∙ ap (λ ms'. m ∷ ms') (bodies_known pool (front ++ text) rest ms h.1 end (next_place front text place p) (from_next pool front text (texts ms) rest e))
 
@@ -68,7 +70,7 @@ pub record Found (pool : List ℕ) (place : ℕ) (span : Span) : Type 0 where
   pub from : place ≤ span.start
   pub forward : span.start ≤ span.end
   pub within : span.end ≤ length pool
-  pub spelled : IsSpelled (bytes_at pool span)
+  pub spelled : IsSpelled Pcl (bytes_at pool span)
 
 some_same : {X : Type 0} (x y : X) → Some x ≡ Some y → x ≡ y
 some_same x y e = cc
@@ -186,11 +188,11 @@ spans_more place (b ∷ bodies) m =
     ∙ ap (λ start. head ∷ (spans_from (place + n) bodies ++ (m.0, record { start = start; end = start + length (spelled m.1) }) ∷ []))
     (omega (arith, length-append (spelled b.1) (texts bodies)))
 
-pub all_more : (bodies : List (ℕ × List Entry)) (m : ℕ × List Entry) → AllBodies bodies → AllItems m.1 → AllBodies (bodies ++ m ∷ [])
+pub all_more : (bodies : List (ℕ × List Entry)) (m : ℕ × List Entry) → AllBodies bodies → AreAdmitted Pcl m.1 → AllBodies (bodies ++ m ∷ [])
 all_more [] m h k = (k, tt)
 all_more (b ∷ bodies) m h k = (h.0, all_more bodies m h.1 k)
 
-fewer_case : (b : Bool) (m : ℕ × List Entry) (ms removed : List (ℕ × List Entry)) → AllItems m.1 → AllBodies ms → AllBodies removed → AllBodies (cond b ms (m ∷ removed))
+fewer_case : (b : Bool) (m : ℕ × List Entry) (ms removed : List (ℕ × List Entry)) → AreAdmitted Pcl m.1 → AllBodies ms → AllBodies removed → AllBodies (cond b ms (m ∷ removed))
 fewer_case true m ms removed h k l = k
 fewer_case false m ms removed h k l = (h, l)
 
@@ -224,13 +226,21 @@ module _ (pool : List ℕ) (spans : List (ℕ × Span)) (definition : Option Def
   defined_case : (d : Option Definition) → IsBehind spans (length (texts h.bodies)) h.items d → definition_in pool d ≡ defined h.items d
   defined_case None b = refl
   defined_case (Some d) b =
-      ap (λ n. Some (d.id, items_in (drop n pool))) b.0
-      ∙ ap (λ bytes. Some (d.id, items_in (drop (length (texts h.bodies)) bytes))) h.pool_is
-      ∙ ap (λ bytes. Some (d.id, items_in bytes)) (drop-append_seam (texts h.bodies) (spelled h.items))
-      ∙ ap (λ items. Some (d.id, items)) (items_in-spelled h.items h.all_open)
+      ap (λ n. Some (d.id, items_in Pcl (drop n pool))) b.0
+      ∙ ap (λ bytes. Some (d.id, items_in Pcl (drop (length (texts h.bodies)) bytes))) h.pool_is
+      ∙ ap (λ bytes. Some (d.id, items_in Pcl bytes)) (drop-append_seam (texts h.bodies) (spelled h.items))
+      ∙ ap (λ items. Some (d.id, items)) (items_in-spelled Pcl h.items h.all_open)
 
   pub definition_is : definition_in pool definition ≡ defined h.items definition
   definition_is = defined_case definition h.behind
+
+  admits_case : (d : Option Definition) (item : Entry) → IsAdmittedIn (mode_in (defined h.items d)) item → IsAdmittedIn (mode_behind Pcl h.items) item
+  admits_case None item a = absurd a
+  admits_case (Some d) item a = a
+
+  -- what the open definition may have next is what may stand behind its items
+  pub definition_admits : (item : Entry) → IsAdmittedIn (mode_in (definition_in pool definition)) item → IsAdmittedIn (mode_behind Pcl h.items) item
+  definition_admits item a = admits_case definition item (subst (λ d. IsAdmittedIn (mode_in d) item) definition_is a)
 
   -- a body that a look-up finds
   pub found_in : (id : ℕ) (span : Span) → lookup (nat_eq id) spans ≡ Some span → Found pool 0 span
@@ -250,4 +260,4 @@ module _ (pool : List ℕ) (spans : List (ℕ × Span)) (definition : Option Def
       ∙ ap (λ n. sum_by (λ m. bytes_of m.1) (bodies_in pool spans) + n) (sym (open_case definition h.behind) ∙ ap open_bytes (sym definition_is))
 
 pub laid_none : IsLaidOut [] [] None
-laid_none = record { bodies = []; items = []; all = tt; all_open = tt; spans_are = refl; pool_is = refl; behind = refl }
+laid_none = record { bodies = []; items = []; all = tt; all_open = spellings.none; spans_are = refl; pool_is = refl; behind = refl }

@@ -1,3 +1,4 @@
 pub mod Laid
 pub mod BodyItems
+pub mod Modes
 pub mod Calls

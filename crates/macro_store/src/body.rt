@@ -3,13 +3,15 @@
 ghost use Rattle.std.specs.Prelude.{◌≡◌, ◌∷◌, [], MatchOption};
 ghost use Rattle.pcl_items.specs.Items.{view as entry_of};
 
-use pcl_items::{Item, first_spelled};
+use pcl_items::{Item, Mode, first_spelled};
 use std::marker::Model;
 
 /// The items of a body that are still to come, in order.
 #[derive(Drop)]
 pub struct Body<'a> {
     pub(crate) rest: &'a [u8],
+    /// The mode in which they stand.
+    pub(crate) mode: Mode,
 }
 
 impl<'a> Model for Body<'a> {
@@ -19,9 +21,9 @@ impl<'a> Model for Body<'a> {
 
     ghost Value = { List Entry };
 
-    ghost view = { λ body. items_in body.rest.now };
+    ghost view = { λ body. items_in body.mode body.rest.now };
 
-    ghost invariant = { λ body. IsSpelled body.rest.now };
+    ghost invariant = { λ body. IsSpelled body.mode body.rest.now };
 }
 
 impl<'a> Body<'a> {
@@ -29,10 +31,11 @@ impl<'a> Body<'a> {
     pub fn next(&mut self) -> Option<Item<'a>>
         ensures { MatchOption result ((self.old ≡ []) × (self.new ≡ [])) (λ item. self.old ≡ entry_of item ∷ self.new) }
     {
-        match first_spelled(self.rest) {
+        match first_spelled(self.rest, self.mode) {
             None => None,
-            Some((item, end)) => {
+            Some((item, end, mode)) => {
                 self.rest = &self.rest[end..];
+                self.mode = mode;
                 Some(item)
             }
         }

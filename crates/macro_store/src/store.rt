@@ -7,12 +7,12 @@ ghost use Rattle.indexmap.specs.IndexMap.{spare};
 ghost use Rattle.pcl_items.specs.Items.{view as entry_of};
 ghost use Rattle.pcl_items.specs.Canon.{canon};
 ghost use Rattle.macro_store.specs.Layout.{moved_down, down, bodies_in, IsLaidOut};
-ghost use Rattle.macro_store.specs.Store.{no_macros, body_of, stored_bytes, began, appended, committed, deleted, cleared};
+ghost use Rattle.macro_store.specs.Store.{no_macros, body_of, stored_bytes, Admits, began, appended, committed, deleted, cleared};
 
 use crate::body::Body;
 use crate::span::{Definition, Span, moved_down, part};
 use indexmap::IndexMap;
-use pcl_items::{Item, spell, spelled_len};
+use pcl_items::{Item, Mode, spell, spelled_len};
 use std::alloc::{AllocError, Allocator, Global};
 use std::hash::{BuildHasherDefault, FoldHasher};
 use std::marker::Model;
@@ -141,11 +141,11 @@ impl<A: Allocator + Copy> MacroStore<A> {
         Ok(())
     }
 
-    /// Adds an item to the open definition, unless it would take the store past its limit.
+    /// Adds an item to the open definition, in a mode that admits it, unless it would take the store past its limit.
     ///
     /// An error leaves the store as before.
     pub fn append(&mut self, item: &Item<'_>) -> Result<(), Refusal>
-        requires { IsSome self.old.definition }
+        requires { Admits self.old (entry_of item.now) }
         ensures full { (result ≡ Err Refusal.MacroMemory) ↔ (self.old.limit < stored_bytes self.old + length (canon (entry_of item.now))) }
         ensures ok { OnOk result (self.new ≡ appended (entry_of item.now) self.old) }
         ensures err { OnErr result (self.new ≡ self.old) }
@@ -162,7 +162,7 @@ impl<A: Allocator + Copy> MacroStore<A> {
 
     // Adds an item that has room.
     fn add(&mut self, item: &Item<'_>) -> Result<(), AllocError>
-        requires defined { IsSome self.old.definition }
+        requires admitted { Admits self.old (entry_of item.now) }
         requires fits { stored_bytes self.old + length (canon (entry_of item.now)) ≤ self.old.limit }
         ensures ok { OnOk result (self.new ≡ appended (entry_of item.now) self.old) }
         ensures err { OnErr result (self.new ≡ self.old) }
@@ -213,6 +213,7 @@ impl<A: Allocator + Copy> MacroStore<A> {
             None => None,
             Some(span) => Some(Body {
                 rest: part(&self.pool, *span),
+                mode: Mode::Pcl,
             }),
         }
     }

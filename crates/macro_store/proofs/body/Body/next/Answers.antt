@@ -7,8 +7,8 @@ use Rattle.macro_store.proofs.body.Body.next.Goals as goal
 
 pub invariant_of-self : goal.invariant_of-self
 invariant_of-self c =
-    let next = next_of c.self.inside.rest.now c.self.invariant (view c.in-Some.item) c.in-Some.end _ c.in-Some.ensures in
-    subst IsSpelled (sym (take_rest c.self.inside.rest.now c.in-Some.end)) next.left
+    let next = next_of c.self.inside.rest.now c.self.invariant (view c.in-Some.item) c.in-Some.end c.in-Some.mode c.in-Some.ensures in
+    subst (IsSpelled c.in-Some.mode) (sym (take_rest c.self.inside.rest.now c.in-Some.end)) next.left
 
 pub returns-in-None : goal.returns-in-None
 returns-in-None c =
@@ -16,5 +16,5 @@ returns-in-None c =
 
 pub returns-in-Some : goal.returns-in-Some
 returns-in-Some c =
-    let next = next_of c.self.inside.rest.now c.self.invariant (view c.in-Some.item) c.in-Some.end _ c.in-Some.ensures in
-    sym c.self.view_is ∙ next.items ∙ ap (λ bytes. view c.in-Some.item ∷ items_in bytes) (sym (take_rest c.self.inside.rest.now c.in-Some.end))
+    let next = next_of c.self.inside.rest.now c.self.invariant (view c.in-Some.item) c.in-Some.end c.in-Some.mode c.in-Some.ensures in
+    sym c.self.view_is ∙ next.items ∙ ap (λ bytes. view c.in-Some.item ∷ items_in c.in-Some.mode bytes) (sym (take_rest c.self.inside.rest.now c.in-Some.end))

@@ -1,5 +1,6 @@
 use Rattle.std.proofs.Common.{Some, sym, subst, ap, ◌∙◌}
 use Rattle.std.specs.Option.{option_map, option_copied}
+use Rattle.pcl_items.specs.declared.item.Mode.TheVariants.{Pcl}
 use Rattle.pcl_items.specs.Spelled.{IsSpelled, items_in}
 use Rattle.macro_store.specs.Store.{body_of}
 use Rattle.macro_store.specs.Layout.{bytes_at}
@@ -18,18 +19,18 @@ part-requires-clause-within g c =
 
 pub invariant_of-result : goal.invariant_of-result
 invariant_of-result g c =
-    subst IsSpelled (sym (c.part.ensures ∙ ap (λ pool. bytes_at pool c.in-Some.span.now) c.deref.ensures.value))
+    subst (IsSpelled Pcl) (sym (c.part.ensures ∙ ap (λ pool. bytes_at pool c.in-Some.span.now) c.deref.ensures.value))
     ((found_in c.self.inside.pool.items c.self.inside.spans.entries c.self.inside.definition c.self.invariant.0 c.args.id c.in-Some.span.now (sym c.get.ensures.value ∙ ap option_copied c.in-Some.is)).spelled)
 
 pub returns-in-None : goal.returns-in-None
 returns-in-None g c =
     sym (ap (λ store. body_of store c.args.id) (sym c.self.view_is)
     ∙ body_found c.self.inside.pool.items c.args.id c.self.inside.spans.entries
-    ∙ ap (option_map (λ span. items_in (bytes_at c.self.inside.pool.items span))) (sym c.get.ensures.value ∙ ap option_copied c.in-None.is))
+    ∙ ap (option_map (λ span. items_in Pcl (bytes_at c.self.inside.pool.items span))) (sym c.get.ensures.value ∙ ap option_copied c.in-None.is))
 
 pub returns-in-Some : goal.returns-in-Some
 returns-in-Some g c =
-    ap (λ bytes. Some (items_in bytes)) (c.part.ensures ∙ ap (λ pool. bytes_at pool c.in-Some.span.now) c.deref.ensures.value)
+    ap (λ bytes. Some (items_in Pcl bytes)) (c.part.ensures ∙ ap (λ pool. bytes_at pool c.in-Some.span.now) c.deref.ensures.value)
     ∙ sym (ap (λ store. body_of store c.args.id) (sym c.self.view_is)
     ∙ body_found c.self.inside.pool.items c.args.id c.self.inside.spans.entries
-    ∙ ap (option_map (λ span. items_in (bytes_at c.self.inside.pool.items span))) (sym c.get.ensures.value ∙ ap option_copied c.in-Some.is))
+    ∙ ap (option_map (λ span. items_in Pcl (bytes_at c.self.inside.pool.items span))) (sym c.get.ensures.value ∙ ap option_copied c.in-Some.is))
