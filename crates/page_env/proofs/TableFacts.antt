@@ -1,9 +1,9 @@
 -- Each item of the table is carried out soundly.
 use Rattle.std.proofs.Common.{refl}
 use Rattle.pcl_items.specs.declared.command.Command.{Command}
-use Rattle.pcl_items.specs.declared.command.Command.TheVariants.{LeftMargin, RightMargin, Column, Row, HorizontalDecipoints, VerticalDecipoints, CursorStack, MacroId, MacroControl, HorizontalMotionIndex, LineTermination, PageSize, Orientation, Copies, Sides, Source, VerticalMotionIndex, LineSpacing, TopMargin, TextLength, PerforationSkip, UnitOfMeasure, RectangleWidth, RectangleHeight, FillRectangle, RectangleWidthDecipoints, RectangleHeightDecipoints, FillId, RasterResolution, StartRaster, RasterWidth, RasterHeight, RasterPresentation, EndRaster, EndRasterAndMethod, CompressionMethod, RasterOffset, HorizontalUnits, VerticalUnits, FontSpacing, FontPitch, FontHeight, FontStyle, FontWeight, FontTypeface}
+use Rattle.pcl_items.specs.declared.command.Command.TheVariants.{LeftMargin, RightMargin, Column, Row, HorizontalDecipoints, VerticalDecipoints, CursorStack, MacroId, MacroControl, HorizontalMotionIndex, LineTermination, PageSize, Orientation, Copies, Sides, Source, VerticalMotionIndex, LineSpacing, TopMargin, TextLength, PerforationSkip, UnitOfMeasure, RectangleWidth, RectangleHeight, FillRectangle, RectangleWidthDecipoints, RectangleHeightDecipoints, FillId, PictureFrameAnchor, PictureFrameWidth, PictureFrameHeight, RasterResolution, StartRaster, RasterWidth, RasterHeight, RasterPresentation, EndRaster, EndRasterAndMethod, CompressionMethod, RasterOffset, HorizontalUnits, VerticalUnits, FontSpacing, FontPitch, FontHeight, FontStyle, FontWeight, FontTypeface}
 use Rattle.pcl_items.specs.declared.command.DataCommand.TheVariants.{TransparentText, RasterRow}
-use Rattle.pcl_items.specs.Items.{Entry, Text, CarriageReturn, LineFeed, FormFeed, Reset, ClearMargins, HalfLineFeed, Parameterized, SymbolSet, DefaultFont, WithData}
+use Rattle.pcl_items.specs.Items.{Entry, Text, CarriageReturn, LineFeed, FormFeed, Reset, ClearMargins, HalfLineFeed, Parameterized, SymbolSet, DefaultFont, EnterFrame, LeaveFrame, Initialize, Set, Move, WithData}
 use Rattle.pcl_items.specs.Value.{Amount}
 use Rattle.device_profile.specs.Printer.{Printer}
 use Rattle.page_env.specs.Settings.{Settings, State}
@@ -17,6 +17,8 @@ use Rattle.page_env.proofs.CursorFacts.{move_x_is_sound, move_y_is_sound, move_x
 use Rattle.page_env.proofs.MacroFacts.{macro_id_is_sound}
 use Rattle.page_env.proofs.RectangleFacts.{width_is_sound, height_is_sound, width_decipoints_is_sound, height_decipoints_is_sound, fill_id_is_sound, fill_is_sound}
 use Rattle.page_env.proofs.RasterFacts as rasters
+use Rattle.page_env.proofs.FrameFacts as frames
+use Rattle.page_env.proofs.PenFacts as pens
 use Rattle.page_env.proofs.FontFacts.{symbol_set_is_sound, spacing_is_sound, pitch_is_sound, font_height_is_sound, style_is_sound, weight_is_sound, typeface_is_sound, default_font_is_sound}
 use Rattle.page_env.proofs.TextFacts.{byte_is_sound}
 use Rattle.page_env.proofs.Sound.{quiet}
@@ -53,6 +55,9 @@ module _ (printer : Printer) (defaults : Settings) where
   command_is_sound RectangleWidthDecipoints n s = width_decipoints_is_sound printer s n
   command_is_sound RectangleHeightDecipoints n s = height_decipoints_is_sound printer s n
   command_is_sound FillId n s = fill_id_is_sound printer s n
+  command_is_sound PictureFrameAnchor n s = frames.anchor_is_sound printer s n
+  command_is_sound PictureFrameWidth n s = frames.width_is_sound printer s n
+  command_is_sound PictureFrameHeight n s = frames.height_is_sound printer s n
   command_is_sound RasterResolution n s = rasters.resolution_is_sound printer s n
   command_is_sound StartRaster n s = rasters.start_is_sound printer s n
   command_is_sound RasterWidth n s = rasters.width_is_sound printer s n
@@ -80,5 +85,10 @@ item_is_sound printer defaults HalfLineFeed = λ s. half_line_feed_is_sound prin
 item_is_sound printer defaults (Parameterized command n) = λ s. command_is_sound printer defaults command n s
 item_is_sound printer defaults (SymbolSet n letter) = λ s. symbol_set_is_sound printer s n letter
 item_is_sound printer defaults DefaultFont = λ s. default_font_is_sound printer s
+item_is_sound printer defaults (EnterFrame handover) = λ s. frames.enter_is_sound printer s handover
+item_is_sound printer defaults (LeaveFrame handover) = λ s. frames.leave_is_sound printer s handover
+item_is_sound printer defaults Initialize = λ s. pens.initialize_is_sound printer s
+item_is_sound printer defaults (Set setting n) = λ s. pens.setting_is_sound printer s setting n
+item_is_sound printer defaults (Move motion to) = λ s. pens.motion_is_sound printer s motion
 item_is_sound printer defaults (WithData TransparentText bytes) = λ s. quiet refl refl refl refl refl refl refl refl
 item_is_sound printer defaults (WithData RasterRow bytes) = λ s. rasters.row_is_sound printer s bytes

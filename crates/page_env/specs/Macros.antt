@@ -1,5 +1,5 @@
 -- Macros: the id of which controls speak (`&f#Y`), the controls (`&f#X`), and where an overlay begins.
-use Rattle.std.specs.Prelude.{ℕ, ◌==◌, not, Bool, true, cond, Option, Some, None, List, [], ◌∷◌}
+use Rattle.std.specs.Prelude.{ℕ, ◌==◌, not, Bool, true, false, cond, Option, Some, None, List, [], ◌∷◌}
 use Rattle.std.specs.Map.{lookup}
 use Rattle.pcl_items.specs.Value.{Amount}
 use Rattle.page_env.specs.declared.finding.Finding.TheVariants.{BadValue, NoMacro, InMacro}
@@ -66,7 +66,7 @@ abbrev pub control_line : (known in_macro : Bool) → Option Control → State �
 control_line known in_macro control s = setting (control_checks known in_macro control) (controlled control s)
 
 -- An overlay begins with the user defaults, but for the page's five values, with the cursor at the left edge and at home, an
--- empty stack, the page marked or not as it is, and no raster started.
+-- empty stack, the page marked or not as it is, no raster started and outside any frame.
 abbrev pub overlay_state : Settings → State → State
 overlay_state defaults s = record {
   settings = record defaults {
@@ -77,4 +77,5 @@ overlay_state defaults s = record {
   stack = [];
   marked = s.marked;
   raster = None;
+  in_frame = false;
 }

@@ -3,7 +3,7 @@ use Rattle.std.specs.Prelude.{ℕ, ◌==◌, nat_le, ◌&&◌, Bool, true, lengt
 use Rattle.device_profile.specs.declared.field.Field.{Field}
 use Rattle.device_profile.specs.declared.field.Field.TheVariants.{Size, Orientation, Vmi, Font, Copies, Sides, Tray}
 use Rattle.page_env.specs.declared.finding.Finding.{Finding}
-use Rattle.page_env.specs.declared.finding.Finding.TheVariants.{BadValue, NotOnDevice, Unset, NoFont, NoGlyph, OffPage, PastRightMargin, NotPrintable, StackFull, StackEmpty, NoMacro, MacroDepth, MacroMemory, InMacro, DefinitionOpen, RasterNotStarted, RasterLocked, RasterTooBig, EmptyRectangle, Inexact, MarginIgnored, RotatedRaster}
+use Rattle.page_env.specs.declared.finding.Finding.TheVariants.{BadValue, NotOnDevice, Unset, NoFont, NoGlyph, OffPage, PastRightMargin, NotPrintable, StackFull, StackEmpty, NoMacro, MacroDepth, MacroMemory, InMacro, DefinitionOpen, RasterNotStarted, RasterLocked, RasterTooBig, NoPen, OutsideFrame, EmptyRectangle, Inexact, MarginIgnored, RotatedRaster}
 use Rattle.page_env.specs.Effect.{Check, Line}
 
 -- the numbers of all findings of a step, in the order in which they are reported
@@ -32,6 +32,8 @@ number_of DefinitionOpen = 24
 number_of RasterNotStarted = 25
 number_of RasterLocked = 26
 number_of RasterTooBig = 27
+number_of NoPen = 28
+number_of OutsideFrame = 29
 number_of EmptyRectangle = 30
 number_of Inexact = 31
 number_of MarginIgnored = 32

@@ -140,5 +140,6 @@ pub fn overlay_page(defaults: &Env, page: &Page) -> Page
         stack: CursorStack::new(),
         marked: page.marked,
         raster: None,
+        in_frame: false,
     }
 }

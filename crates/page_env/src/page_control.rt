@@ -10,6 +10,7 @@ ghost use Rattle.page_env.specs.Answers.{CarriesOut, Changes, Moves};
 use crate::cell::Cell;
 use crate::change::{Carried, PageChange};
 use crate::finding::Finding;
+use crate::frames::{default_frame, set_frame};
 use crate::number::{is_whole_between, whole_of};
 use crate::page::{Cursor, Env, JobSettings, Page};
 use crate::places::half_inch;
@@ -100,6 +101,7 @@ pub(crate) fn set_size(page: &mut Page, n: Number)
 {
     page.env.fields.size = Cell::Known(whole_of(n));
     clear_all_margins(&mut page.env.job);
+    set_frame(&mut page.env.job, default_frame());
     page.env.job.overlay = None;
     page.cursor = Cursor::home();
 }
@@ -112,6 +114,7 @@ pub(crate) fn set_orientation(defaults: &Env, page: &mut Page, n: Number)
     page.env.fields.orientation = Cell::Known(whole_of(n));
     page.env.fields.vmi = defaults.fields.vmi;
     clear_all_margins(&mut page.env.job);
+    set_frame(&mut page.env.job, default_frame());
     page.env.job.hmi = defaults.job.hmi;
     page.env.job.overlay = None;
     page.cursor = Cursor::home();

@@ -16,7 +16,7 @@ use crate::mark::{Mark, RasterRow};
 use crate::motion::up_to;
 use crate::number::{is_whole_between, whole_of};
 use crate::page::{Coordinate, Page, RasterSettings, Resolution, StartedRaster};
-use crate::places::{geometry_and_vertical, length_at, span_between};
+use crate::places::{geometry_and_vertical, length_at, lies_between, span_between};
 use device_profile::{Geometry, Profile};
 use pcl_items::Number;
 use std::alloc::Allocator;
@@ -189,14 +189,6 @@ fn first_byte(left: Length, x: Length, blank: usize, resolution: Resolution) -> 
     )
 }
 
-/// Whether a place lies between two bounds.
-#[tactic(auto, unfolding(crate::specs::Places::is_between))]
-fn lies_between(low: Length, high: Length, place: i128) -> bool
-    ensures { result ≡ is_between low high place }
-{
-    i128::from(low.ticks()) <= place && place <= i128::from(high.ticks())
-}
-
 /// Whether the place so many pixels behind another lies between two bounds.
 fn pixel_lies_between(
     x: Coordinate,
@@ -208,7 +200,8 @@ fn pixel_lies_between(
     ensures { result ≡ is_between low high (x +ℤ pos (pixels * pixel_of resolution)) }
 {
     let by = u64::from(pixels) * u64::from(pixel_of(resolution));
-    lies_between(low, high, i128::from(x.ticks()) + i128::from(by))
+    let place = i128::from(x.ticks()) + i128::from(by);
+    lies_between(low.ticks(), high.ticks(), place)
 }
 
 /// The upper edge of a row at a place of the logical page, if the row lies between two bounds.

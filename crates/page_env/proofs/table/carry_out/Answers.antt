@@ -27,3 +27,15 @@ returns-in-SymbolSet g c = rw (c.in-SymbolSet.is, c.stepped-in-SymbolSet.ensures
 
 pub returns-in-DefaultFont : goal.returns-in-DefaultFont
 returns-in-DefaultFont g c = rw (c.in-DefaultFont.is, c.stepped-in-DefaultFont.ensures) (as_step _ _ _ _ c.default_font.ensures)
+
+pub returns-in-EnterFrame : goal.returns-in-EnterFrame
+returns-in-EnterFrame g c = rw (c.in-EnterFrame.is, c.stepped-in-EnterFrame.ensures) (as_step _ _ _ _ c.enter_frame.ensures)
+
+pub returns-in-LeaveFrame : goal.returns-in-LeaveFrame
+returns-in-LeaveFrame g c = rw (c.in-LeaveFrame.is, c.stepped-in-LeaveFrame.ensures) (as_step _ _ _ _ c.leave_frame.ensures)
+
+pub returns-in-Initialize : goal.returns-in-Initialize
+returns-in-Initialize g c = rw (c.in-Initialize.is, c.stepped-in-Initialize.ensures) (as_step _ _ _ _ c.initialize.ensures)
+
+pub returns-in-Set : goal.returns-in-Set
+returns-in-Set g c = rw (c.in-Set.is, c.stepped-in-Set.ensures) (as_step _ _ _ _ c.set_pen.ensures)

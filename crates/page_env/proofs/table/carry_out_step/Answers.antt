@@ -73,6 +73,15 @@ returns-in-RectangleHeightDecipoints g c = rw c.in-RectangleHeightDecipoints.is 
 pub returns-in-FillId : goal.returns-in-FillId
 returns-in-FillId g c = rw c.in-FillId.is (as_step _ _ _ _ c.set_fill_id.ensures)
 
+pub returns-in-PictureFrameAnchor : goal.returns-in-PictureFrameAnchor
+returns-in-PictureFrameAnchor g c = rw c.in-PictureFrameAnchor.is (as_step _ _ _ _ c.set_frame_anchor.ensures)
+
+pub returns-in-PictureFrameWidth : goal.returns-in-PictureFrameWidth
+returns-in-PictureFrameWidth g c = rw c.in-PictureFrameWidth.is (as_step _ _ _ _ c.set_frame_width.ensures)
+
+pub returns-in-PictureFrameHeight : goal.returns-in-PictureFrameHeight
+returns-in-PictureFrameHeight g c = rw c.in-PictureFrameHeight.is (as_step _ _ _ _ c.set_frame_height.ensures)
+
 pub returns-in-RasterResolution : goal.returns-in-RasterResolution
 returns-in-RasterResolution g c = rw c.in-RasterResolution.is (as_step _ _ _ _ c.set_resolution.ensures)
 

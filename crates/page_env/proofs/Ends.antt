@@ -1,0 +1,44 @@
+-- The ends of a line, and places of two parts.
+use Rattle.std.proofs.Common.{arith, ◌≡◌, ℕ, ℤ, pos, Bool, true, false, not, ◌&&◌, ◌||◌, cond, Some, None, refl, ap, ◌∙◌}
+use Rattle.std.specs.Prelude.{◌+ℤ◌, ◌-ℤ◌, int_lt}
+use Rattle.std.specs.Int.{int_min, int_max}
+use Rattle.std.proofs.lemmas.Int.{ints}
+use Rattle.tick_length.specs.Length.{IsInRange}
+use Rattle.page_env.specs.Places.{is_between}
+use Rattle.page_env.proofs.TextJudging.{taken_is}
+
+-- ---- where both ends, with half a width about them, lie between two lengths, each end is a length
+
+neither : (p q : Bool) → not (p || q) ≡ true → (p ≡ false) × (q ≡ false)
+neither true q e = absurd cc
+neither false true e = absurd cc
+neither false false e = (refl, refl)
+
+both_true : (p q : Bool) → (p && q) ≡ true → (p ≡ true) × (q ≡ true)
+both_true true q e = (refl, e)
+both_true false q e = absurd cc
+
+within : (low high a b : ℤ) (half : ℕ) (turned : Bool) → int_lt b a ≡ turned → IsInRange low → IsInRange high → int_lt (cond turned b a -ℤ pos half) low ≡ false → int_lt high (cond turned a b +ℤ pos half) ≡ false → IsInRange a × IsInRange b
+within low high a b half true e l h p q = (first_of (omega (arith, ints), grind (arith, ints)), first_of (omega (arith, ints), grind (arith, ints)))
+within low high a b half false e l h p q = (first_of (omega (arith, ints), grind (arith, ints)), first_of (omega (arith, ints), grind (arith, ints)))
+
+pub ends_in_range : (low high a b : ℤ) (half : ℕ) → IsInRange low → IsInRange high → (is_between low high (int_min a b -ℤ pos half) && is_between low high (int_max a b +ℤ pos half)) ≡ true → IsInRange a × IsInRange b
+unfolding is_between
+ends_in_range low high a b half l h e =
+    let parts = both_true (is_between low high (int_min a b -ℤ pos half)) (is_between low high (int_max a b +ℤ pos half)) e in
+    within low high a b half (int_lt b a) refl l h
+    (neither (int_lt (int_min a b -ℤ pos half) low) (int_lt high (int_min a b -ℤ pos half)) parts.0).0
+    (neither (int_lt (int_max a b +ℤ pos half) low) (int_lt high (int_max a b +ℤ pos half)) parts.1).1
+
+-- ---- what is made of two parts, each of which may be missing
+
+pub both_taken : {X Y Z : Type 0} (b c : Bool) (make : X → Y → Z) (x taken_x : X) (y taken_y : Y) → Some taken_x ≡ cond b (Some x) None → Some taken_y ≡ cond c (Some y) None → Some (make taken_x taken_y) ≡ cond (b && c) (Some (make x y)) None
+both_taken true true make x taken_x y taken_y e f =
+    ap (λ u. Some (make u taken_y)) (taken_is true x taken_x e) ∙ ap (λ v. Some (make x v)) (taken_is true y taken_y f)
+both_taken true false make x taken_x y taken_y e f = absurd cc
+both_taken false c make x taken_x y taken_y e f = absurd cc
+
+pub second_missing : {X Y Z : Type 0} (b c : Bool) (x taken_x : X) (y : Y) (z : Z) → Some taken_x ≡ cond b (Some x) None → None ≡ cond c (Some y) None → None ≡ cond (b && c) (Some z) None
+second_missing true true x taken_x y z e f = absurd cc
+second_missing true false x taken_x y z e f = refl
+second_missing false c x taken_x y z e f = absurd cc
