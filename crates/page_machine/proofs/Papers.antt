@@ -1,5 +1,5 @@
 -- Where the paper of a page is fixed, its size and orientation stay as they were.
-use Rattle.std.proofs.Common.{◌≡◌, ℕ, zero, suc, Bool, true, false, cond, ◌&&◌, is_some, List, [], ◌∷◌, refl, sym, ◌∙◌, subst, Option, Some, None}
+use Rattle.std.proofs.Common.{◌≡◌, ℕ, ℤ, zero, suc, Bool, true, false, cond, ◌&&◌, is_some, List, [], ◌∷◌, refl, sym, ◌∙◌, subst, Option, Some, None}
 use Rattle.pcl_items.specs.Items.{Entry}
 use Rattle.pcl_items.specs.Value.{Amount}
 use Rattle.device_profile.specs.declared.field.Field.{Field}
@@ -13,14 +13,16 @@ use Rattle.page_env.specs.Effect.{check, first_finding, first_unset, Line, Effec
 use Rattle.page_env.specs.Effect as effect
 use Rattle.page_env.specs.Macros.{control_of, control_checks, controlled, overlay_state}
 use Rattle.page_env.specs.Settings.{Settings, State}
-use Rattle.page_env.specs.Sound.{plain_settings, plain_state, IsSound, IsSoundTransition, IsSoundItem, IsSoundByte}
+use Rattle.page_env.specs.Sound.{plain_settings, plain_state, IsSound, IsSoundTransition, IsSoundItem}
 use Rattle.page_env.specs.Rasters.{begun_by}
 use Rattle.page_env.specs.Table.{transition_of}
+use Rattle.page_env.specs.Pens.{move_pen}
 use Rattle.page_env.specs.Text.{print_transparent}
 use Rattle.page_machine.specs.declared.nesting.Nesting.{Nesting}
 use Rattle.page_machine.specs.declared.nesting.Nesting.TheVariants.{Job, Executed, Called, Overlaid}
 use Rattle.page_machine.specs.Event.{Event}
-use Rattle.page_machine.specs.Run.{Peaks, Run, just, onward, followed_by, finding_or, unset_or, goes, effect_run, Ending, Done, Halts, marked_close, close_and_change, transition_run, Conditions, byte_run, printing, printed_bytes, own_run, item_run, entries_run}
+use Rattle.page_machine.specs.Run.{Peaks, Run, just, onward, followed_by, finding_or, unset_or, goes, effect_run, Ending, Done, Halts, marked_close, close_and_change, transition_run, Conditions, byte_run, printing, printed_bytes, move_run, drawing, coordinates_of, own_run, item_run, entries_run}
+use Rattle.page_machine.proofs.Parts.{AreSoundParts}
 use Rattle.page_machine.specs.Macros.{Context, is_macro, fixes_paper, executed_in, called_in, ending_with, put_back, found_run, control_body, control_run, conditions_in, raster_ended, body_run, closing_reads, ended, refused, ending_at, give_up, overlay_run, is_too_deep, page_close}
 use Rattle.page_machine.specs.Job.{with_macros}
 use Rattle.page_machine.proofs.Cases.{has_begun}
@@ -102,25 +104,35 @@ module _ (printer : Printer) (defaults : Settings) (fixed : Bool) (is_fixed : fi
   transition_keeps s (Controls t n) (Controls plain m) sound = subst (λ u. KeepsPaper s (control n u)) (sym sound.0) (controls n s)
   transition_keeps s _ _ sound = absurd sound
 
-  module _ (sound : (item : Entry) → IsSoundItem printer defaults item) (bytes : (code : ℕ) → IsSoundByte printer code) where
+  module _ (sound : (item : Entry) → IsSoundItem printer defaults item) (parts : AreSoundParts printer) where
     own_keeps : (item : Entry) (s : State) → KeepsPaper s (own_run printer here item s)
     own_keeps item s =
         transition_keeps s (transition_of printer defaults s item) (transition_of printer (plain_settings defaults) (plain_state s) item) (sound item s)
 
     byte_keeps : (code : ℕ) (s : State) → KeepsPaper s (byte_run printer here code s)
     byte_keeps code s =
-        transition_keeps s (Step (print_transparent printer s code)) (Step (print_transparent printer (plain_state s) code)) (bytes code s)
+        transition_keeps s (Step (print_transparent printer s code)) (Step (print_transparent printer (plain_state s) code)) (parts.bytes code s)
 
     printing_keeps : (s : State) (r : Run) (codes : List ℕ) → KeepsPaper s r → KeepsPaper s (printing printer here r codes)
     printing_keeps s r [] h = h
     printing_keeps s r (code ∷ codes) h =
         printing_keeps s (followed_by r (byte_run printer here code)) codes (then_keeps s r (byte_run printer here code) h (byte_keeps code))
 
+    move_keeps : (to : ℤ × ℤ) (s : State) → KeepsPaper s (move_run printer here to s)
+    move_keeps to s =
+        transition_keeps s (Step (move_pen printer s to)) (Step (move_pen printer (plain_state s) to)) (parts.moves to s)
+
+    drawing_keeps : (s : State) (r : Run) (to : Option (ℤ × ℤ)) → KeepsPaper s r → KeepsPaper s (drawing printer here r to)
+    drawing_keeps s r None h = h
+    drawing_keeps s r (Some to) h = then_keeps s r (move_run printer here to) h (move_keeps to)
+
     item_keeps : (item : Entry) (s : State) → KeepsPaper s (item_run printer here item s)
     item_keeps item s =
         let begun : State = begun_by item s in
-        printing_keeps s (own_run printer here item begun) (printed_bytes item)
-        (kept_on s begun (own_run printer here item begun).ending (has_begun (SamePaper s) item s (refl, refl) (refl, refl)) (own_keeps item begun))
+        let own : Run = own_run printer here item begun in
+        drawing_keeps s (printing printer here own (printed_bytes item)) (coordinates_of item)
+        (printing_keeps s own (printed_bytes item)
+        (kept_on s begun own.ending (has_begun (SamePaper s) item s (refl, refl) (refl, refl)) (own_keeps item begun)))
 
 -- ---- controls
 
@@ -176,7 +188,7 @@ give_up_keeps : (s : State) (e : Ending) → Kept s (ending_at s e)
 give_up_keeps s (Done t) = (refl, refl)
 give_up_keeps s (Halts finding) = tt
 
-module _ (printer : Printer) (defaults : Settings) (sound : (item : Entry) → IsSoundItem printer defaults item) (bytes : (code : ℕ) → IsSoundByte printer code) (macros : Store) where
+module _ (printer : Printer) (defaults : Settings) (sound : (item : Entry) → IsSoundItem printer defaults item) (parts : AreSoundParts printer) (macros : Store) where
   abbrev the_context : Context
   the_context = with_macros printer defaults macros
 
@@ -186,7 +198,7 @@ module _ (printer : Printer) (defaults : Settings) (sound : (item : Entry) → I
       let inner : Nesting → List Entry → State → Run = body_run the_context close left (suc level) in
       let run : Entry → State → Run = item_run printer (conditions_in the_context close nesting inner) in
       then_keeps s (entries_run run items s) raster_ended
-      (entries_keep run (item_keeps printer defaults (fixes_paper nesting) f close (control_run macros inner nesting) closes (control_keeps macros inner (body_keeps close closes left (suc level)) nesting f) sound bytes) items s)
+      (entries_keep run (item_keeps printer defaults (fixes_paper nesting) f close (control_run macros inner nesting) closes (control_keeps macros inner (body_keeps close closes left (suc level)) nesting f) sound parts) items s)
       (λ t. (refl, refl))
 
   -- a page and its overlay

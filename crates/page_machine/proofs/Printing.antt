@@ -1,5 +1,5 @@
--- The printing of bytes one after another.
-use Rattle.std.proofs.Common.{◌≡◌, ◌<◌, ◌+◌, ℕ, zero, suc, List, [], ◌∷◌, take, drop, length, get_or, Err, refl, ap, ◌∙◌, arith}
+-- What an item does behind its own step: bytes that are printed one after another, and a move of the pen.
+use Rattle.std.proofs.Common.{◌≡◌, ◌<◌, ◌+◌, ℕ, ℤ, zero, suc, false, Option, None, Some, List, [], ◌∷◌, take, drop, length, get_or, Err, refl, ap, ◌∙◌, arith}
 use Rattle.device_profile.specs.declared.panel.Panel.{Panel}
 use Rattle.pcl_items.specs.declared.item.SimpleItem.{SimpleItem}
 use Rattle.pcl_items.specs.declared.item.SimpleItem.TheVariants as simple
@@ -7,23 +7,29 @@ use Rattle.pcl_items.specs.Items.{simple_view}
 use Rattle.device_profile.specs.Printer.{Printer}
 use Rattle.page_env.specs.declared.page.Page.{Page}
 use Rattle.page_env.specs.Settings.{State}
+use Rattle.page_env.specs.Table.{is_motion}
 use Rattle.page_machine.specs.declared.steps.Halt.{Halt}
 use Rattle.page_machine.specs.Event.{Event}
-use Rattle.page_machine.specs.Run.{Run, followed_by, Conditions, byte_run, printing, own_run, begun_run}
+use Rattle.page_machine.specs.Run.{Run, followed_by, Conditions, byte_run, printing, move_run, drawing, own_run, begun_run}
 use Rattle.page_machine.specs.Follows.{Follows}
 use Rattle.page_machine.proofs.Composed.{Follows-stopped}
 
--- an item that is neither text nor has data is its own step
-pub simple_run : (printer : Printer) (conditions : Conditions) (item : SimpleItem) (s : State) → begun_run printer conditions (simple_view item) s ≡ own_run printer conditions (simple_view item) s
-simple_run printer conditions simple.CarriageReturn s = refl
-simple_run printer conditions simple.LineFeed s = refl
-simple_run printer conditions simple.FormFeed s = refl
-simple_run printer conditions simple.Reset s = refl
-simple_run printer conditions simple.ClearMargins s = refl
-simple_run printer conditions simple.HalfLineFeed s = refl
-simple_run printer conditions (simple.Parameterized command number) s = refl
-simple_run printer conditions (simple.SymbolSet letter number) s = refl
-simple_run printer conditions simple.DefaultFont s = refl
+-- an item that is neither text nor has data nor moves the pen is its own step
+pub simple_run : (printer : Printer) (conditions : Conditions) (item : SimpleItem) (s : State) → is_motion (simple_view item) ≡ false → begun_run printer conditions (simple_view item) s ≡ own_run printer conditions (simple_view item) s
+simple_run printer conditions simple.CarriageReturn s h = refl
+simple_run printer conditions simple.LineFeed s h = refl
+simple_run printer conditions simple.FormFeed s h = refl
+simple_run printer conditions simple.Reset s h = refl
+simple_run printer conditions simple.ClearMargins s h = refl
+simple_run printer conditions simple.HalfLineFeed s h = refl
+simple_run printer conditions (simple.Parameterized command number) s h = refl
+simple_run printer conditions (simple.SymbolSet letter number) s h = refl
+simple_run printer conditions simple.DefaultFont s h = refl
+simple_run printer conditions (simple.EnterFrame handover) s h = refl
+simple_run printer conditions (simple.LeaveFrame handover) s h = refl
+simple_run printer conditions simple.Initialize s h = refl
+simple_run printer conditions (simple.Set setting magnitude) s h = refl
+simple_run printer conditions (simple.Move motion to) s h = absurd cc
 
 -- one byte more
 printing-suc : (printer : Printer) (conditions : Conditions) (r : Run) (xs : List ℕ) (i d : ℕ) → i < length xs → printing printer conditions r (take (suc i) xs) ≡ followed_by (printing printer conditions r (take i xs)) (byte_run printer conditions (get_or xs i d))
@@ -48,3 +54,9 @@ Follows-cut takes refuses F old new page printer conditions run halt [] h = h
 Follows-cut takes refuses F old new page printer conditions run halt (code ∷ codes) h =
     Follows-cut takes refuses F old new page printer conditions (λ panel. followed_by (run panel) (byte_run printer (conditions panel) code)) halt codes
     (Follows-stopped takes refuses F old new page page run (λ panel. byte_run printer (conditions panel) code) halt h)
+
+-- and with the move of the pen that would follow
+pub Follows-undrawn : {S : Type 0} (takes refuses : S → Event → S → Type 0) (F : Type 0) (old new : S) (page : Page) (printer : Printer) (conditions : Panel → Conditions) (run : Panel → Run) (halt : Halt F) (to : Option (ℤ × ℤ)) → Follows takes refuses run old new page (Err halt) → Follows takes refuses (λ panel. drawing printer (conditions panel) (run panel) to) old new page (Err halt)
+Follows-undrawn takes refuses F old new page printer conditions run halt None h = h
+Follows-undrawn takes refuses F old new page printer conditions run halt (Some to) h =
+    Follows-stopped takes refuses F old new page page run (λ panel. move_run printer (conditions panel) to) halt h

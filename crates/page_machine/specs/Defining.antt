@@ -1,9 +1,10 @@
 -- What an item of the job does: it is carried out, or stored in the definition that is open; and the macros after it.
-use Rattle.std.specs.Prelude.{◌≡◌, ℕ, ◌+◌, nat_lt, length, Bool, true, false, cond, is_some, Option, Some, None, [], ◌∷◌}
+use Rattle.std.specs.Prelude.{◌≡◌, ℕ, ◌+◌, nat_lt, length, Bool, true, false, cond, is_some, Option, Some, None, IsSome, [], ◌∷◌}
 use Rattle.pcl_items.specs.declared.command.Command.TheVariants.{MacroControl}
+use Rattle.pcl_items.specs.declared.item.Mode.{Mode}
 use Rattle.pcl_items.specs.Canon.{canon}
 use Rattle.pcl_items.specs.Items.{Entry, Reset, Parameterized}
-use Rattle.macro_store.specs.Store.{Store, stored_bytes, began, appended, committed, deleted, cleared}
+use Rattle.macro_store.specs.Store.{Store, mode_in, stored_bytes, began, appended, committed, deleted, cleared}
 use Rattle.page_env.specs.declared.finding.Finding.TheVariants.{MacroMemory, DefinitionOpen}
 use Rattle.page_env.specs.declared.macros.Control.{Control}
 use Rattle.page_env.specs.declared.macros.Control.TheVariants.{Begin, End, DeleteAll, Delete}
@@ -52,6 +53,10 @@ abbrev pub defined_after : Entry → Defining → Store → Store
 defined_after item Refused macros = macros
 defined_after item Completed macros = committed macros
 defined_after item Stored macros = appended item macros
+
+-- an open definition's items leave this mode
+abbrev pub StandsIn : Store → Mode → Type 0
+StandsIn macros mode = IsSome macros.definition → mode_in macros.definition ≡ Some mode
 
 -- ---- while none is open
 

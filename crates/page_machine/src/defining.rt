@@ -1,8 +1,11 @@
 //! Items of the job and the macros: what is stored, and what the controls do to the store.
 
-ghost use Rattle.std.specs.Prelude.{◌≡◌, None, IsSome, true, OnOk, OnErr};
+ghost use Rattle.std.specs.Prelude.{◌≡◌, None, Some, true, OnOk, OnErr};
+ghost use Rattle.pcl_items.specs.declared.item.Mode.{Mode};
+ghost use Rattle.pcl_items.specs.Grammar.{follows};
+ghost use Rattle.macro_store.specs.Store.{Admits};
 ghost use Rattle.pcl_items.specs.Items.{view};
-ghost use Rattle.page_machine.specs.Defining.{is_reset, control_in, defining_control, defining_of, begins, carried_after};
+ghost use Rattle.page_machine.specs.Defining.{is_reset, control_in, defining_control, defining_of, begins, carried_after, StandsIn};
 ghost use Rattle.page_machine.specs.Machine.{Defines};
 
 use crate::machine::Stop;
@@ -72,8 +75,9 @@ pub(crate) fn define<F, B: Allocator + Copy>(
     place: Place,
     item: &Item<'_>,
 ) -> Result<(), Stop<F>>
-    requires { IsSome macros.old.definition }
-    ensures { Defines place (view item.now) macros.old macros.new result }
+    requires { Admits macros.old (view item.now) }
+    ensures defines { Defines place (view item.now) macros.old macros.new result }
+    ensures stands { (mode next : Mode) → StandsIn macros.old mode → follows mode (view item.now) ≡ Some next → OnOk result (StandsIn macros.new next) }
 {
     match defining_of(item) {
         Defining::Refused => Err(Stop::Found(place, Finding::DefinitionOpen)),

@@ -1,27 +1,28 @@
 //! Steps: what carries out an item or a part of one without the closing of a page and without a macro.
 
-ghost use Rattle.std.specs.Prelude.{◌≡◌, ◌≤◌, [], true, length, MatchOption};
+ghost use Rattle.std.specs.Prelude.{ℤ, Option, ◌≡◌, ◌≤◌, [], true, length, MatchOption};
 ghost use Rattle.device_profile.specs.declared.panel.Panel.{Panel};
 ghost use Rattle.page_env.specs.Answers.{marked_at};
 ghost use Rattle.page_env.specs.Effect.{Effect, Goes};
-ghost use Rattle.page_env.specs.Mark.{characters_of, shapes_of};
+ghost use Rattle.page_env.specs.Mark.{characters_of, lines_of, shapes_of};
 ghost use Rattle.page_env.specs.Settings.{state_at};
 ghost use Rattle.page_env.specs.Table.{is_step, page_end_of};
 ghost use Rattle.pcl_items.specs.declared.command.DataCommand.TheVariants.{RasterRow as RasterRowCommand};
 ghost use Rattle.pcl_items.specs.declared.command.Command.TheVariants.{FillRectangle};
-ghost use Rattle.pcl_items.specs.Items.{Parameterized, Text, WithData, amount, view};
-ghost use Rattle.page_machine.specs.Run.{unmoved, effect_run, Conditions, byte_run, printing, begun_run, item_run};
+ghost use Rattle.pcl_items.specs.Items.{Move, Parameterized, Text, WithData, amount, pair, simple_view, view};
+ghost use Rattle.page_machine.specs.Run.{unmoved, effect_run, Conditions, byte_run, printing, move_run, own_run, begun_run, item_run};
 ghost use Rattle.page_machine.specs.Macros.{ended};
-ghost use Rattle.page_machine.specs.Defining.{LeavesMacros};
+ghost use Rattle.page_machine.specs.Machine.{RunsAlone, nothing_left};
 ghost use Rattle.page_machine.specs.Follows.{Follows};
 
 use crate::sink::MarkSink;
 use device_profile::Profile;
 use page_env::{
-    Finding, Glyph, Mark, Page, PageEnd, begin_item, carry_out_step, fill_rectangle, fill_value,
-    print_byte, print_row, print_transparent, step_of,
+    Carried, Finding, Glyph, Mark, Page, PageEnd, PenLine, begin_item, carry_out, carry_out_motion,
+    carry_out_step, fill_rectangle, fill_value, motion_of, move_pen, print_byte, print_row,
+    print_transparent, step_of,
 };
-use pcl_items::{Command, Data, DataCommand, Item, Number};
+use pcl_items::{Command, Coordinates, Data, DataCommand, Item, Motion, Number, SimpleItem};
 use std::alloc::Allocator;
 
 /// Why an item was not carried out to its end.
@@ -76,7 +77,7 @@ fn hand_over<S: MarkSink>(
 /// Prints a byte of text.
 // A call of its own: most text goes in runs, and other items pay for what is put together here.
 #[inline(never)]
-pub(crate) fn run_text<S: MarkSink, A: Allocator>(
+fn run_text<S: MarkSink, A: Allocator>(
     profile: &Profile<A>,
     code: u8,
     page: &mut Page,
@@ -179,9 +180,87 @@ fn run_row<S: MarkSink, A: Allocator>(
     hand_over_row(&printed, page, sink)
 }
 
+/// The mark of a line, if there is one.
+fn line_mark(line: Option<PenLine>) -> Option<Mark<'static>>
+    ensures { shapes_of result ≡ lines_of line }
+{
+    match line {
+        None => None,
+        Some(line) => Some(Mark::Line(line)),
+    }
+}
+
+/// Hands over what a step of the pen drew.
+fn hand_over_line<S: MarkSink>(
+    drawn: Result<Option<PenLine>, Finding>,
+    page: &Page,
+    sink: &mut S,
+) -> Result<(), Halt<S::Fault>>
+    ensures { (conditions : Panel → Conditions) (effect : Panel → Effect) →
+        ((panel : Panel) → effect panel ≡ marked_at lines_of panel page.now drawn) →
+        Follows S.takes S.refuses (λ panel. effect_run (conditions panel) (effect panel))
+        sink.old sink.new page.now result }
+{
+    match drawn {
+        Err(finding) => Err(Halt::Found(finding)),
+        Ok(line) => hand_over_mark(&line_mark(line), page, sink),
+    }
+}
+
+/// Carries out the own step of a command that moves the pen.
+fn run_own_motion<S: MarkSink, A: Allocator>(
+    profile: &Profile<A>,
+    motion: Motion,
+    page: &mut Page,
+    sink: &mut S,
+) -> Result<(), Halt<S::Fault>>
+    ensures { (to : Option (ℤ × ℤ)) (conditions : Panel → Conditions) → Follows S.takes S.refuses
+        (λ panel. own_run profile.now (conditions panel) (Move motion to) (state_at panel page.old))
+        sink.old sink.new page.new result }
+{
+    let drawn = carry_out_motion(profile, page, motion);
+    hand_over_line(drawn, page, sink)
+}
+
+/// Moves the pen to a pair of coordinates.
+fn run_move<S: MarkSink, A: Allocator>(
+    profile: &Profile<A>,
+    to: Coordinates,
+    page: &mut Page,
+    sink: &mut S,
+) -> Result<(), Halt<S::Fault>>
+    ensures { (conditions : Panel → Conditions) → Follows S.takes S.refuses
+        (λ panel. move_run profile.now (conditions panel) (to.x.units, to.y.units) (state_at panel page.old))
+        sink.old sink.new page.new result }
+{
+    let drawn = move_pen(profile, page, to);
+    hand_over_line(drawn, page, sink)
+}
+
+/// Carries out a command that moves the pen: its own step, and then the move to its coordinates.
+fn run_motion<S: MarkSink, A: Allocator>(
+    profile: &Profile<A>,
+    motion: Motion,
+    to: Option<Coordinates>,
+    page: &mut Page,
+    sink: &mut S,
+) -> Result<(), Halt<S::Fault>>
+    ensures { (conditions : Panel → Conditions) → Follows S.takes S.refuses
+        (λ panel. begun_run profile.now (conditions panel) (Move motion (pair to)) (state_at panel page.old))
+        sink.old sink.new page.new result }
+{
+    match run_own_motion(profile, motion, page, sink) {
+        Err(halt) => Err(halt),
+        Ok(()) => match to {
+            None => Ok(()),
+            Some(to) => run_move(profile, to, page, sink),
+        },
+    }
+}
+
 /// Fills a rectangle.
 #[inline(always)]
-pub(crate) fn run_fill<S: MarkSink, A: Allocator>(
+fn run_fill<S: MarkSink, A: Allocator>(
     profile: &Profile<A>,
     n: Number,
     page: &mut Page,
@@ -203,7 +282,7 @@ pub(crate) fn run_fill<S: MarkSink, A: Allocator>(
 /// Carries out a command that is one step without a mark.
 // Most items are these, and nothing is left of them but a finding.
 #[inline(always)]
-pub(crate) fn run_step<S: MarkSink, A: Allocator>(
+fn run_step<S: MarkSink, A: Allocator>(
     profile: &Profile<A>,
     command: Command,
     n: Number,
@@ -223,7 +302,7 @@ pub(crate) fn run_step<S: MarkSink, A: Allocator>(
 
 /// Carries out a command with its data.
 #[inline(always)]
-pub(crate) fn run_data<S: MarkSink, A: Allocator>(
+fn run_data<S: MarkSink, A: Allocator>(
     profile: &Profile<A>,
     command: DataCommand,
     data: &Data<'_>,
@@ -240,40 +319,76 @@ pub(crate) fn run_data<S: MarkSink, A: Allocator>(
     }
 }
 
-/// Carries out one item that is a step or a mark alone: it closes no page, and macros stay as they are.
-// Most items are these, so nothing is put together for them that only others need.
+/// Nothing is left of what ran to its end, or was halted.
+#[inline(always)]
+fn nothing_left<F>(ran: Result<(), Halt<F>>) -> Result<Option<Carried>, Halt<F>>
+    ensures { result ≡ nothing_left ran }
+{
+    match ran {
+        Ok(()) => Ok(None),
+        Err(halt) => Err(halt),
+    }
+}
+
+/// What is left of an item that came to this.
+#[inline(always)]
+fn left_of(carried: Carried) -> Option<Carried>
+    ensures { MatchOption result (carried ≡ Carried.Stepped) (λ left. left ≡ carried) }
+{
+    match carried {
+        Carried::Stepped => None,
+        Carried::Closing(_) | Carried::Ending | Carried::Controlling(_) => Some(carried),
+    }
+}
+
+/// Carries out an item that is neither text nor has data, once it has begun: all of it but the closing of a page and a macro, which are
+/// left.
+// Steps come first: most items are these, and their answer stays in registers.
+#[inline(always)]
+fn run_simple<S: MarkSink, A: Allocator>(
+    profile: &Profile<A>,
+    item: &SimpleItem,
+    page: &mut Page,
+    sink: &mut S,
+) -> Result<Option<Carried>, Halt<S::Fault>>
+    ensures { RunsAlone S.takes S.refuses (simple_view item.now)
+        (λ conditions panel. begun_run profile.now conditions (simple_view item.now) (state_at panel page.old))
+        sink.old sink.new page.new result }
+{
+    if let Some((command, n)) = step_of(item) {
+        return nothing_left(run_step(profile, command, n, page, sink));
+    }
+    if let Some(n) = fill_value(item) {
+        return nothing_left(run_fill(profile, n, page, sink));
+    }
+    if let Some((motion, to)) = motion_of(item) {
+        return nothing_left(run_motion(profile, motion, to, page, sink));
+    }
+    match carry_out(profile, page, item) {
+        Err(finding) => Err(Halt::Found(finding)),
+        Ok(carried) => Ok(left_of(carried)),
+    }
+}
+
+/// Carries out one item: all of it but the closing of a page and a macro, which are left.
+// Of most items nothing is left, so nothing is put together for them that only others need.
 #[inline(always)]
 pub(crate) fn run_alone<S: MarkSink, A: Allocator>(
     profile: &Profile<A>,
     item: &Item<'_>,
     page: &mut Page,
     sink: &mut S,
-) -> Option<Result<(), Halt<S::Fault>>>
-    ensures { MatchOption result
-        ((page.new ≡ page.old) × (sink.new ≡ sink.old))
-        (λ ran. LeavesMacros (view item.now) × ((conditions : Panel → Conditions) → Follows S.takes S.refuses
-        (λ panel. item_run profile.now (conditions panel) (view item.now) (state_at panel page.old))
-        sink.old sink.new page.new ran)) }
+) -> Result<Option<Carried>, Halt<S::Fault>>
+    ensures { RunsAlone S.takes S.refuses (view item.now)
+        (λ conditions panel. item_run profile.now conditions (view item.now) (state_at panel page.old))
+        sink.old sink.new page.new result }
 {
+    begin_item(page, item);
     match item {
-        Item::Simple(simple) => match step_of(simple) {
-            Some((command, n)) => {
-                begin_item(page, item);
-                Some(run_step(profile, command, n, page, sink))
-            }
-            None => {
-                let n = fill_value(simple)?;
-                begin_item(page, item);
-                Some(run_fill(profile, n, page, sink))
-            }
-        },
-        Item::Text(byte) => {
-            begin_item(page, item);
-            Some(run_text(profile, byte.code, page, sink))
-        }
+        Item::Simple(item) => run_simple(profile, item, page, sink),
+        Item::Text(byte) => nothing_left(run_text(profile, byte.code, page, sink)),
         Item::WithData(command, data) => {
-            begin_item(page, item);
-            Some(run_data(profile, *command, data, page, sink))
+            nothing_left(run_data(profile, *command, data, page, sink))
         }
     }
 }

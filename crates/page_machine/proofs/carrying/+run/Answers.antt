@@ -1,18 +1,15 @@
-use Rattle.std.proofs.Common.{[], None, Some, ap, sym, ◌∙◌, refl, cond, is_some, ◌<◌, suc, arith}
+use Rattle.std.proofs.Common.{[], None, Some, Ok, ap, sym, ◌∙◌, refl, cond, is_some, ◌<◌, suc, arith}
 use Rattle.device_profile.specs.declared.panel.Panel.{Panel}
-use Rattle.pcl_items.specs.Items.{simple_view, view, amount}
+use Rattle.pcl_items.specs.Items.{view, amount}
 use Rattle.page_env.specs.declared.finding.Finding.TheVariants.{InMacro}
-use Rattle.page_env.specs.Answers.{CarriesOut, Changes, Marks, changed}
-use Rattle.page_env.specs.Effect.{effect_of}
+use Rattle.page_env.specs.Answers.{Changes, Marks, changed, effect_at}
 use Rattle.page_env.specs.Settings.{State, settings_at, state_at}
-use Rattle.page_env.specs.Table.{transition_of}
 use Rattle.page_machine.specs.declared.nesting.Nesting.TheVariants.{Overlaid}
-use Rattle.page_machine.specs.Run.{Run, just, Done, Halts, goes, peaks_of, marked_close, close_and_change, effect_run, begun_run, item_run, entries_run}
+use Rattle.page_machine.specs.Run.{Run, just, Done, Halts, goes, peaks_of, marked_close, close_and_change, effect_run, item_run, entries_run}
 use Rattle.page_machine.specs.Macros.{put_back, give_up, refused, at_level, raster_ended, ended, overlay_run, body_run, control_body, close_in}
 use Rattle.page_machine.specs.Machine.{context_with, conditions_with}
 use Rattle.page_machine.proofs.Cases.{page_close-deep, page_close-unset, page_close-passes, overlay_run-unknown, overlay_run-found, marked_close-marked, marked_close-unmarked, control_run-found, control_run-goes, execute-is, call-is, no_body, executed_body, called_body, body_run-none, body_run-some, entries_run-end, entries_run-next}
 use Rattle.page_machine.proofs.Composed.{TakesUpTo-none, TakesUpTo-is, TakesUpTo-rest, TakesUpTo-first, TakesUpTo-after, TakesUpTo-done, Follows-done, Follows-found, Follows-is, Follows-step, Follows-onward, Follows-stopped, Follows-took, Follows-after, Follows-put_back, Follows-call_stopped, Follows-give_up}
-use Rattle.page_machine.proofs.Printing.{simple_run}
 use Rattle.page_machine.proofs.carrying.+run.Goals as goal
 
 -- ---- closing a page
@@ -204,38 +201,19 @@ close_and_change-returns-in-Ok g t c = λ level.
 
 -- ---- items
 
-pub run_begun-returns-in-Simple : goal.run_begun-returns-in-Simple
-run_begun-returns-in-Simple g t c = λ level. rw c.in-Simple.is (c.run_simple.ensures level)
+pub run_next-returns-in-Err : goal.run_next-returns-in-Err
+run_next-returns-in-Err g t c = λ level. c.in-Err.ensures (conditions_with c.args.around.now level)
 
-pub run_begun-returns-in-Text : goal.run_begun-returns-in-Text
-run_begun-returns-in-Text g t c = λ level. rw c.in-Text.is (c.run_text.ensures (conditions_with c.args.around.now level))
-
-pub run_begun-returns-in-WithData : goal.run_begun-returns-in-WithData
-run_begun-returns-in-WithData g t c = λ level. rw c.in-WithData.is (c.run_data.ensures (conditions_with c.args.around.now level))
-
-pub run_item-returns : goal.run_item-returns
-run_item-returns g t c = λ level.
-    Follows-is _ _ _ _ _ _ _ _ _
-    (λ panel. ap (begun_run c.args.around.now.profile.now (conditions_with c.args.around.now level panel) (view c.args.item.now)) (c.begin_item.ensures panel))
-    (c.run_begun.ensures level)
-
-pub run_simple-returns-in-Some : goal.run_simple-returns-in-Some
-run_simple-returns-in-Some g t c = λ level.
-    Follows-is _ _ _ _ _ _ _ _ _
-    (λ panel. ap (λ item. begun_run c.args.around.now.profile.now (conditions_with c.args.around.now level panel) item (state_at panel c.args.page.now)) c.in-Some.ensures)
-    (c.run_fill.ensures (conditions_with c.args.around.now level))
-
-pub run_simple-returns-in-None : goal.run_simple-returns-in-None
-unfolding CarriesOut
-run_simple-returns-in-None g t c = λ level.
-    Follows-is _ _ _ _ _ _ _ _ _
-    (λ panel. simple_run c.args.around.now.profile.now (conditions_with c.args.around.now level panel) c.args.item.now (state_at panel c.args.page.now))
-    (c.go_on.ensures level
-    (λ panel. effect_of (settings_at panel c.args.page.now.env) (transition_of c.args.around.now.profile.now (settings_at panel c.args.around.now.defaults.now) (state_at panel c.args.page.now) (simple_view c.args.item.now)))
-    (λ panel. c.carry_out-carried.ensures panel (settings_at panel c.args.around.now.defaults.now)))
+pub run_next-returns-in-None : goal.run_next-returns-in-None
+run_next-returns-in-None g t c = λ level.
+    Follows-took _ _ _ _ _ _ _ _ ((rw c.in-None.is at c.in-Ok.ensures).1 (conditions_with c.args.around.now level))
 
 pub run_next-returns-in-Some : goal.run_next-returns-in-Some
-run_next-returns-in-Some g t c = λ level. c.in-Some.ensures.1 (conditions_with c.args.around.now level)
+run_next-returns-in-Some g t c = λ level.
+    let left = rw c.in-Some.is at c.in-Ok.ensures in
+    rw (sym left.0)
+    (Follows-is _ _ _ _ _ _ _ _ _ (λ panel. left.1 (conditions_with c.args.around.now level panel) panel)
+    (c.go_on.ensures level (λ panel. effect_at panel (settings_at panel c.args.around.now.defaults.now) c.run_alone.new.page (Ok c.in-Some.left)) (λ panel. refl)))
 
 pub run_overlay-returns-in_default : goal.run_overlay-returns-in_default
 run_overlay-returns-in_default g t c = λ begins.
@@ -254,6 +232,3 @@ run_controlled-returns-then-is_call g t c = λ level.
 pub run_controlled-returns-else-is_call : goal.run_controlled-returns-else-is_call
 run_controlled-returns-else-is_call g t c = λ level.
     Follows-done _ _ _ _ _ _ _ (λ panel. no_body c.args.around.now.macros.now (body_run (context_with c.args.around.now panel) (close_in (context_with c.args.around.now panel) c.args.around.now.nesting) c.args.around.now.left level) c.args.around.now.nesting (state_at panel c.args.page.now) c.args.control (c.is_execute.ensures.no c.if-is_execute.false) (c.is_call.ensures.no c.if-is_call.false))
-
-pub run_next-returns-in-None : goal.run_next-returns-in-None
-run_next-returns-in-None g t c = λ level. rw (c.in-None.ensures.0, c.in-None.ensures.1) at c.run_item.ensures level

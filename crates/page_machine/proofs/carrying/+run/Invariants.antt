@@ -12,15 +12,6 @@ decreases-run_items g l = 16 * (levels_left l.around.now.profile.now.depth l.aro
 abbrev pub decreases-run_next : goal.decreases-run_next
 decreases-run_next g l = 16 * (levels_left l.around.now.profile.now.depth l.around.now.left l.around.now.nesting) + 14
 
-abbrev pub decreases-run_item : goal.decreases-run_item
-decreases-run_item g l = 16 * (levels_left l.around.now.profile.now.depth l.around.now.left l.around.now.nesting) + 13
-
-abbrev pub decreases-run_begun : goal.decreases-run_begun
-decreases-run_begun g l = 16 * (levels_left l.around.now.profile.now.depth l.around.now.left l.around.now.nesting) + 12
-
-abbrev pub decreases-run_simple : goal.decreases-run_simple
-decreases-run_simple g l = 16 * (levels_left l.around.now.profile.now.depth l.around.now.left l.around.now.nesting) + 11
-
 abbrev pub decreases-go_on : goal.decreases-go_on
 decreases-go_on g l = 16 * (levels_left l.around.now.profile.now.depth l.around.now.left l.around.now.nesting) + 10
 

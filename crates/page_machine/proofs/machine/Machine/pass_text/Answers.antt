@@ -14,6 +14,7 @@ returns g c =
       defaults = c.self.inside.defaults;
       page = c.self.inside.page;
       macros = c.self.inside.macros;
+      mode = c.self.inside.mode;
       stopped = c.self.inside.stopped;
     } in
     let go : AllGo fields.printer look fields.page bytes = subst (λ m. AllGo m.printer look m.page bytes) (sym c.self.view_is) c.requires.go in
