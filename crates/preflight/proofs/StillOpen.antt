@@ -1,21 +1,23 @@
 -- Bytes that decide no further item and no fault leave the verdict open: they go on in two ways.
-use Rattle.std.proofs.Common.{◌≡◌, ◌≤◌, ◌<◌, ℕ, Bool, true, false, List, Option, [], ◌∷◌, ◌++◌, refl, ap, sym, ◌∙◌, subst, append-nil, arith}
+use Rattle.std.proofs.Common.{◌≡◌, ◌+◌, ◌≤◌, ◌<◌, ℕ, Bool, true, false, List, Option, None, Some, [], ◌∷◌, ◌++◌, refl, ap, sym, ◌∙◌, subst, append-nil, arith}
 use Rattle.pcl_items.specs.declared.fault.Cause.{Cause}
-use Rattle.pcl_items.specs.declared.fault.Cause.TheVariants.{Truncated, NotInProfile}
+use Rattle.pcl_items.specs.declared.fault.Cause.TheVariants.{NotInProfile}
 use Rattle.pcl_items.specs.declared.fault.Name.TheVariants as names
-use Rattle.pcl_items.specs.declared.first.Context.{Context}
-use Rattle.pcl_items.specs.declared.first.Context.TheVariants.{Pcl, Sequence}
+use Rattle.pcl_items.specs.declared.item.Mode.TheVariants as modes
+use Rattle.pcl_items.specs.Contexts.{Context, Pcl, Sequence, Frame, Letters, Numbered, Single, Odd, Even, counted, item_place}
 use Rattle.pcl_items.specs.Items.{Entry, Placed}
-use Rattle.pcl_items.specs.Reader.{First, Open, Begins, Faulty, first_of}
-use Rattle.pcl_items.specs.Fault.{IsFault}
+use Rattle.pcl_items.specs.Modes.{mode_of}
+use Rattle.pcl_items.specs.Reader.{First, Open, Begins, first_of}
+use Rattle.pcl_items.specs.Fault.{end_cause, IsFault}
 use Rattle.pcl_items.specs.Laws.{HasOneReading}
 use Rattle.pcl_items.specs.LexerState.{LexerState, WantsMore}
 use Rattle.pcl_items.specs.Lexing.{HasRead}
 use Rattle.pcl_items.specs.Reading.{Reading, Stopped, IsReading, items_of, ReadsTo, here, passes, begins, IsReadFrom}
-use Rattle.pcl_items.proofs.Opening.{Decided, by_item, by_fault, open_goes_on}
-use Rattle.pcl_items.proofs.Readings.{one_reading}
-use Rattle.pcl_items.proofs.ReadsTo.{same_whole, ReadsTo-append, grows, behind_front}
-use Rattle.pcl_items.proofs.Spans.{begins-span, no_passing}
+use Rattle.pcl_items.proofs.FrameOpening.{Refuses, IsEnding, Opened, refuses, completes, opened}
+use Rattle.pcl_items.proofs.Readings.{one_only, one_reading, fault_last, whole_end}
+use Rattle.pcl_items.proofs.ReadsTo.{ReadsTo-append, closes, grows, behind_front}
+use Rattle.pcl_items.proofs.Spans.{begins-taken, passes-taken, pcl_item, pcl_item_in}
+use Rattle.pcl_items.proofs.Steps.{open_end, with_items, read_behind, behind_end}
 use Rattle.pcl_items.proofs.Stopping.{read_by_rules}
 use Rattle.device_profile.specs.Printer.{Printer}
 use Rattle.page_machine.specs.MachineState.{MachineState}
@@ -31,64 +33,48 @@ use Rattle.preflight.proofs.FaultVerdicts.{stops_there}
 use Rattle.preflight.proofs.Fleets.{bytes_faulty}
 use Rattle.preflight.proofs.PieceLemmas.{given_more}
 
--- The rest goes on to a fault by the one bytes, and by the others to another fault there or to an item that begins there.
-record TwoWays (context : Context) (rest : List ℕ) : Type 0 where
-  one : List ℕ
-  other : List ℕ
-  cause : Cause
-  fault : IsFault true (first_of true context (rest ++ one)) context (rest ++ one) cause
-  goes : Decided (first_of true context (rest ++ other))
-  differ : (found : Cause) → first_of true context (rest ++ other) ≡ Faulty found → cause ≡ found → ⊥
+-- ---- places
 
--- whatever stands behind a rest that is open, an end cuts it
-cut_or_decided : (context : Context) (rest : List ℕ) → first_of true context rest ≡ Open → IsFault true Open context rest Truncated → TwoWays context rest
-cut_or_decided context rest is cut =
-    let on = open_goes_on context rest is in
-    record {
-      one = [];
-      other = on.more;
-      cause = Truncated;
-      fault = subst (λ (l : List ℕ). IsFault true (first_of true context l) context l Truncated) (sym (append-nil rest)) (subst (λ (f : First). IsFault true f context rest Truncated) (sym is) cut);
-      goes = on.decided;
-      differ = λ found e same. not_cut (first_of true context (rest ++ on.more)) on.decided found e (sym same);
-    }
-  where
-    not_cut : (f : First) → Decided f → (found : Cause) → f ≡ Faulty found → found ≡ Truncated → ⊥
-    not_cut f (by_item entry len next h) found e same = let both : Begins entry len next ≡ Faulty found = sym h ∙ e in absurd cc
-    not_cut f (by_fault cause h other) found e same = let both : cause ≡ found = cc in other (both ∙ same)
-
-one_byte : (a b : ℕ) → NotInProfile (names.Byte a) ≡ NotInProfile (names.Byte b) → a ≡ b
-one_byte a b e = cc
-
-two_ways : (context : Context) (rest : List ℕ) → first_of true context rest ≡ Open → TwoWays context rest
-unfolding first_of
-two_ways Pcl [] is = record {
-  one = 0 ∷ [];
-  other = 1 ∷ [];
-  cause = NotInProfile (names.Byte 0);
-  fault = refl;
-  goes = by_fault (NotInProfile (names.Byte 1)) refl (λ e. absurd cc);
-  differ = λ found e same. let is : NotInProfile (names.Byte 1) ≡ found = cc in absurd (omega (arith, one_byte 0 1 (same ∙ sym is)));
-}
-two_ways Pcl (b ∷ rest) is = cut_or_decided Pcl (b ∷ rest) is refl
-two_ways (Sequence group) rest is = cut_or_decided (Sequence group) rest is refl
-
--- a fault lies where its items end
-ahead : {w : Bool} {c d : Context} {p q : ℕ} {bytes rest : List ℕ} {items : List Placed} → ReadsTo w c p bytes items d q rest → p ≤ q
+-- what is read leads on
+ahead : {w : Bool} {c d : Context} {p q : ℕ} {bytes rest : List ℕ} {items : List Placed} → ReadsTo w c p bytes items d q rest → p + counted d ≤ q + counted c
 ahead here = omega arith
-ahead (passes {whole = w} {context = c} {bytes = bytes} len next e h) = absurd (no_passing w c bytes len next e)
-ahead (begins entry len next e h) = omega (arith, ahead h)
+ahead (passes {whole = w} {context = c} {bytes = bytes} len next e h) = omega (arith, ahead h, (passes-taken w c bytes len next e).counts)
+ahead (begins {whole = w} {context = c} {bytes = bytes} entry len next e h) = omega (arith, ahead h, (begins-taken w c bytes entry len next e).counts)
 
--- where an item begins the bytes do not stop
-no_stop : (bytes : List ℕ) (items more_items : List Placed) (context : Context) (place : ℕ) (rest : List ℕ) (entry : Entry) (len : ℕ) (next : Context) (cause : Cause) → ReadsTo true Pcl 0 bytes items context place rest → first_of true context rest ≡ Begins entry len next → IsReadFrom Pcl 0 bytes (Stopped more_items place cause) → ⊥
-no_stop bytes items more_items context place rest entry len next cause reads e stops =
+-- an item stands before the place where it is read by what is counted
+counted_back : (c : Context) (q : ℕ) → q ≤ item_place c q + counted c
+counted_back Pcl q = omega arith
+counted_back (Sequence g) q = omega arith
+counted_back Frame q = omega arith
+counted_back (Letters m n) q = omega arith
+counted_back (Numbered (Single s a) gap n) q = omega arith
+counted_back (Numbered (Odd motion x) gap n) q = omega arith
+counted_back (Numbered (Even motion) gap n) q = omega arith
+
+-- an item of mode PCL has a byte at least
+record TakesBytes (c : Context) (len : ℕ) (next : Context) : Type 0 where
+  some : 0 < len
+  none_counted : counted next ≡ 0
+  here_is : (place : ℕ) → item_place c place ≡ place
+
+pcl_takes : (c : Context) → mode_of c ≡ modes.Pcl → (bytes : List ℕ) (entry : Entry) (len : ℕ) (next : Context) → first_of true c bytes ≡ Begins entry len next → TakesBytes c len next
+pcl_takes Pcl pcl bytes entry len next e =
+    let k = pcl_item true bytes entry len next e in record { some = k.0; none_counted = k.1; here_is = λ place. refl }
+pcl_takes (Sequence g) pcl bytes entry len next e =
+    let k = pcl_item_in true g bytes entry len next e in record { some = k.0; none_counted = k.1; here_is = λ place. refl }
+pcl_takes Frame pcl bytes entry len next e = absurd cc
+pcl_takes (Letters m n) pcl bytes entry len next e = absurd cc
+pcl_takes (Numbered x gap n) pcl bytes entry len next e = absurd cc
+
+-- where such an item begins the bytes do not stop
+no_stop : (bytes : List ℕ) (items more_items : List Placed) (c : Context) (place : ℕ) (rest : List ℕ) (entry : Entry) (len : ℕ) (next : Context) (cause : Cause) → mode_of c ≡ modes.Pcl → ReadsTo true Pcl 0 bytes items c place rest → first_of true c rest ≡ Begins entry len next → IsReadFrom Pcl 0 bytes (Stopped more_items (item_place c place) cause) → ⊥
+no_stop bytes items more_items c place rest entry len next cause pcl reads e stops =
     let front = ReadsTo-append reads (begins entry len next e here) in
-    let behind = behind_front front stops.reads (λ i n d f. no_item (first_of true stops.last stops.rest) i n d f stops.fault) in
-    let span : 0 < len = (begins-span true context rest entry len next e).0 in
-    absurd (omega (arith, ahead behind.reads, span, stops.at_end))
-  where
-    no_item : (f : First) (i : Entry) (n : ℕ) (d : Context) → f ≡ Begins i n d → IsFault true f stops.last stops.rest cause → ⊥
-    no_item f i n d e fault = subst (λ (g : First). IsFault true g stops.last stops.rest cause) e fault
+    let behind = behind_front front stops.reads (fault_last stops.last stops.rest cause stops.fault) in
+    let takes = pcl_takes c pcl rest entry len next e in
+    absurd (omega (arith, ahead behind.reads, counted_back stops.last stops.end, takes.some, takes.none_counted, takes.here_is place, stops.at_end))
+
+-- ---- verdicts
 
 -- a job has one verdict
 one_verdict : (fleet : List Printer) (job : List ℕ) (a b : Verdict) → IsExact fleet job a → IsExact fleet job b → a ≡ b
@@ -99,40 +85,90 @@ one_verdict fleet job a b first second =
 one_cause : (place : ℕ) (a b : Cause) → Fail place 0 (FaultOfBytes a) ≡ Fail place 0 (FaultOfBytes b) → a ≡ b
 one_cause place a b e = cc
 
+one_byte : (a b : ℕ) → NotInProfile (names.Byte a) ≡ NotInProfile (names.Byte b) → a ≡ b
+one_byte a b e = cc
+
+-- two bytes that are no items
+pub byte_0 : IsFault true (first_of true Pcl (0 ∷ [])) Pcl (0 ∷ []) (NotInProfile (names.Byte 0))
+unfolding first_of
+byte_0 = refl
+
+byte_1 : IsFault true (first_of true Pcl (1 ∷ [])) Pcl (1 ∷ []) (NotInProfile (names.Byte 1))
+unfolding first_of
+byte_1 = refl
+
+-- behind whole items
+pub between_items : (c : Context) (rest more : List ℕ) (cause : Cause) → c ≡ Pcl → rest ≡ [] → IsFault true (first_of true Pcl more) Pcl more cause → IsFault true (first_of true c (rest ++ more)) c (rest ++ more) cause
+between_items c rest more cause e f h =
+    subst (λ (x : Context). IsFault true (first_of true x (rest ++ more)) x (rest ++ more) cause) (sym e)
+    (subst (λ (l : List ℕ). IsFault true (first_of true Pcl (l ++ more)) Pcl (l ++ more) cause) (sym f) h)
+
 module _ (fleet : List Printer) (bytes : List ℕ) (lexer : LexerState) (machines : List MachineState) (counts : Counts) (carried : HasCarriedOut fleet bytes lexer machines counts) (goes_on : lexer.ended ≡ false) where
+  abbrev place_here : ℕ
+  place_here = item_place lexer.context lexer.place
+
   -- the bytes, and behind them these, which make a fault
-  fault_behind : (more : List ℕ) (cause : Cause) → IsFault true (first_of true lexer.context (lexer.rest ++ more)) lexer.context (lexer.rest ++ more) cause → IsExact fleet (bytes ++ more) (Fail lexer.place 0 (FaultOfBytes cause))
+  fault_behind : (more : List ℕ) (cause : Cause) → IsFault true (first_of true lexer.context (lexer.rest ++ more)) lexer.context (lexer.rest ++ more) cause → IsExact fleet (bytes ++ more) (Fail place_here 0 (FaultOfBytes cause))
   fault_behind more cause fault =
       let all : List ℕ = bytes ++ more in
       let behind : LexerState = record { rest = lexer.rest ++ more; place = lexer.place; context = lexer.context; ended = true; held = 0 } in
       let reads : HasRead behind all carried.items = record { reads = grows true more goes_on carried.reads.reads } in
-      let reading : Reading = Stopped carried.items lexer.place cause in
+      let reading : Reading = Stopped carried.items place_here cause in
       let there : IsReadFrom Pcl 0 all reading = record { last = lexer.context; end = lexer.place; rest = lexer.rest ++ more; reads = reads.reads; at_end = refl; fault = fault } in
       let is : IsReading all reading = (read_by_rules all reading).sound there in
       bytes_faulty fleet all behind machines counts
       (record { some = carried.some; items = carried.items; reads = reads; done = carried.done; agreed = carried.agreed; counts_are = carried.counts_are; along = carried.along })
-      true lexer.place cause
+      true place_here cause
       (λ job may. subst (λ (j : List ℕ). IsReading j reading) (sym (may.1 ∙ ap (λ rest. all ++ rest) (may.2 refl) ∙ append-nil all)) is)
       all (is_all true all)
 
-  -- a fault of the bytes at the place is no verdict on bytes that go on to something else
-  not_both : (more : List ℕ) (cause : Cause) → Decided (first_of true lexer.context (lexer.rest ++ more)) → ((found : Cause) → first_of true lexer.context (lexer.rest ++ more) ≡ Faulty found → cause ≡ found → ⊥) → IsExact fleet (bytes ++ more) (Fail lexer.place 0 (FaultOfBytes cause)) → ⊥
-  not_both more cause (by_fault found e other) differ exact =
-      let fault : IsFault true (first_of true lexer.context (lexer.rest ++ more)) lexer.context (lexer.rest ++ more) found = subst (λ (f : First). IsFault true f lexer.context (lexer.rest ++ more) found) (sym e) refl in
-      differ found e (one_cause lexer.place cause found (one_verdict fleet (bytes ++ more) _ _ exact (fault_behind more found fault)))
-  not_both more cause (by_item entry len next e) differ exact =
-      let all : List ℕ = bytes ++ more in
-      let stopped : exact.0 ≡ Stopped (items_of exact.0) lexer.place cause = stops_there fleet exact.0 lexer.place cause exact.2 in
-      let reading : IsReading all (Stopped (items_of exact.0) lexer.place cause) = subst (λ (r : Reading). IsReading all r) stopped exact.1 in
-      no_stop all carried.items (items_of exact.0) lexer.context lexer.place (lexer.rest ++ more) entry len next cause
-      (grows true more goes_on carried.reads.reads) e ((read_by_rules all (Stopped (items_of exact.0) lexer.place cause)).complete reading)
+  module _ (verdict : Verdict) (known : (more : List ℕ) → IsExact fleet (bytes ++ more) verdict) where
+    -- so the verdict is that fault
+    is_fault : (more : List ℕ) (cause : Cause) → IsFault true (first_of true lexer.context (lexer.rest ++ more)) lexer.context (lexer.rest ++ more) cause → verdict ≡ Fail place_here 0 (FaultOfBytes cause)
+    is_fault more cause fault = one_verdict fleet (bytes ++ more) verdict (Fail place_here 0 (FaultOfBytes cause)) (known more) (fault_behind more cause fault)
+
+    -- and all bytes that the job may have stop at it
+    stops_here : (cause : Cause) → verdict ≡ Fail place_here 0 (FaultOfBytes cause) → (job : List ℕ) → IsExact fleet job verdict → (items : List Placed) × IsReadFrom Pcl 0 job (Stopped items place_here cause)
+    stops_here cause is job exact =
+        let fails : IsExact fleet job (Fail place_here 0 (FaultOfBytes cause)) = subst (IsExact fleet job) is exact in
+        let stopped : fails.0 ≡ Stopped (items_of fails.0) place_here cause = stops_there fleet fails.0 place_here cause fails.2 in
+        let reading : IsReading job (Stopped (items_of fails.0) place_here cause) = subst (λ (r : Reading). IsReading job r) stopped fails.1 in
+        (items_of fails.0, (read_by_rules job (Stopped (items_of fails.0) place_here cause)).complete reading)
+
+    -- they may go on to a fault, and end with another or none
+    not_refused : (more : List ℕ) → Refuses (first_of true lexer.context (lexer.rest ++ more)) → IsEnding lexer.rest (first_of true lexer.context lexer.rest) → ⊥
+    not_refused more r ending =
+        let fault = subst (λ (f : First). IsFault true f lexer.context (lexer.rest ++ more) r.cause) (sym r.is) refl in
+        let stops = stops_here r.cause (is_fault more r.cause fault) bytes (subst (λ (l : List ℕ). IsExact fleet l verdict) (append-nil bytes) (known [])) in
+        let end = open_end lexer.context lexer.place lexer.rest ending in
+        let all = read_behind end.reading (closes carried.reads.reads) end.read in
+        let last = one_only bytes (with_items carried.items end.reading) (Stopped stops.0 place_here r.cause) all stops.1 in
+        r.other (behind_end carried.items end.reading end.at_end stops.0 place_here r.cause last)
+
+    -- they may go on to an item, and end with a fault there, or with none, and then with this or that byte
+    not_completed : (more : List ℕ) (entry : Entry) (len : ℕ) (next : Context) → mode_of lexer.context ≡ modes.Pcl → first_of true lexer.context (lexer.rest ++ more) ≡ Begins entry len next → first_of true lexer.context lexer.rest ≡ Open → ⊥
+    not_completed more entry len next pcl e is_open = by_end (end_cause lexer.context lexer.rest) refl
+      where
+        by_end : (o : Option Cause) → end_cause lexer.context lexer.rest ≡ o → ⊥
+        by_end (Some cause) at_end =
+            let ends : IsFault true (first_of true lexer.context lexer.rest) lexer.context lexer.rest cause = subst (λ (f : First). IsFault true f lexer.context lexer.rest cause) (sym is_open) at_end in
+            let fault = subst (λ (l : List ℕ). IsFault true (first_of true lexer.context l) lexer.context l cause) (sym (append-nil lexer.rest)) ends in
+            let stops = stops_here cause (is_fault [] cause fault) (bytes ++ more) (known more) in
+            no_stop (bytes ++ more) carried.items stops.0 lexer.context lexer.place (lexer.rest ++ more) entry len next cause pcl (grows true more goes_on carried.reads.reads) e stops.1
+        by_end None at_end =
+            let whole = whole_end lexer.context lexer.rest at_end in
+            let by_0 = is_fault (0 ∷ []) (NotInProfile (names.Byte 0)) (between_items lexer.context lexer.rest (0 ∷ []) (NotInProfile (names.Byte 0)) whole.0 whole.1 byte_0) in
+            let by_1 = is_fault (1 ∷ []) (NotInProfile (names.Byte 1)) (between_items lexer.context lexer.rest (1 ∷ []) (NotInProfile (names.Byte 1)) whole.0 whole.1 byte_1) in
+            absurd (omega (arith, one_byte 0 1 (one_cause place_here (NotInProfile (names.Byte 0)) (NotInProfile (names.Byte 1)) (sym by_0 ∙ by_1))))
+
+    not_opened : Opened lexer.context lexer.rest → ⊥
+    not_opened (refuses more r ending) = not_refused more r ending
+    not_opened (completes more entry len next pcl e is_open) = not_completed more entry len next pcl e is_open
 
   leaves_open : (pieces : List (List ℕ)) → Spell pieces bytes → WantsMore lexer → LeavesOpen fleet pieces
   leaves_open pieces spelled wanted verdict exact =
-      let ways = two_ways lexer.context lexer.rest (sym (same_whole false lexer.context lexer.rest) ∙ wanted) in
       let known = λ (more : List ℕ). exact (bytes ++ more) (subst (λ ps. MayBeBy ps (bytes ++ more)) (append-nil pieces) (spelled.led [] more tt)) in
-      let first = one_verdict fleet (bytes ++ ways.one) _ _ (known ways.one) (fault_behind ways.one ways.cause ways.fault) in
-      not_both ways.other ways.cause ways.goes ways.differ (subst (IsExact fleet (bytes ++ ways.other)) first (known ways.other))
+      not_opened verdict known (opened lexer.context lexer.rest wanted)
 
 -- one more read was needed
 pub needs_read : (fleet : List Printer) (failed : Bool) (given_before given_mid given_after : List (List ℕ)) (before mid : Option (List ℕ)) (reads total : ℕ) (lexer : LexerState) (machines : List MachineState) (counts : Counts) (piece : List ℕ)

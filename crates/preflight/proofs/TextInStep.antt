@@ -1,8 +1,14 @@
 -- Bytes of text on the machines of a fleet, which go in step.
-use Rattle.std.proofs.Common.{◌≡◌, ℕ, zero, suc, ◌+◌, ◌<◌, ◌≤◌, ◌==◌, Bool, true, false, cond, List, [], ◌∷◌, ◌++◌, length, take, drop, set, get_or, map, Option, None, Some, refl, ap, sym, ◌∙◌, subst, append_assoc, append-nil, arith}
+use Rattle.std.proofs.Common.{◌≡◌, ℕ, zero, suc, ◌+◌, ◌<◌, ◌≤◌, ◌==◌, Bool, true, false, cond, List, [], ◌∷◌, ◌++◌, length, take, drop, set, get_or, map, Option, None, Some, unwrap_or, refl, ap, sym, ◌∙◌, subst, append_assoc, append-nil, arith}
 use Rattle.std.specs.List.{AllByRecursion}
 use Rattle.std.proofs.lemmas.List.{take_more, take_more_set, drop_more, drop-set-lt, drop-drop, take_all, take-take, length-set}
+use Rattle.pcl_items.specs.declared.item.Mode.{Mode}
+use Rattle.pcl_items.specs.declared.item.Mode.TheVariants as modes
+use Rattle.pcl_items.specs.Contexts.{pending}
+use Rattle.pcl_items.specs.Grammar.{follows}
 use Rattle.pcl_items.specs.Items.{Text, at, Placed}
+use Rattle.pcl_items.specs.Modes.{mode_of}
+use Rattle.pcl_items.specs.Reading.{left}
 use Rattle.pcl_items.specs.LexerState.{LexerState}
 use Rattle.pcl_items.specs.Passing.{AreText, text_items, Passes}
 use Rattle.device_profile.specs.declared.font.CodeRange.{CodeRange}
@@ -22,10 +28,10 @@ use Rattle.sinks.specs.declared.counts.Counts.{Counts}
 use Rattle.sinks.specs.Counts.{counts_after, no_counts}
 use Rattle.preflight.specs.declared.lockstep.StepOutcome.TheVariants.{Alike}
 use Rattle.preflight.specs.Carriers.Each.{Each}
-use Rattle.preflight.specs.Carriers.Lockstep.{Execute, AreRunning, Does, GoesInStep}
+use Rattle.preflight.specs.Carriers.Lockstep.{Execute, AreRunning, AreIn, Does, GoesInStep}
 use Rattle.preflight.specs.Carriers.TextInStep.{GoOnAll, PrintInStep}
 use Rattle.preflight.specs.Carriers.Checking.{Along, HasCarriedOut}
-use Rattle.preflight.proofs.Answered.{running_on}
+use Rattle.preflight.proofs.Answered.{running_on, in_next}
 use Rattle.preflight.proofs.Printers.{done_item, along_more}
 use Rattle.preflight.proofs.Fleets.{each_along, each_push, agreed_more, counts_more}
 
@@ -56,12 +62,17 @@ nothing_done look [] (m ∷ new) h = absurd h
 nothing_done look (m ∷ old) [] h = absurd h
 nothing_done look (m ∷ old) (n ∷ new) h = λ i. h.0 i ∷ nothing_done look old new h.1 i
 
+-- text leaves the mode
+text_mode : (mode : Mode) (code : ℕ) → unwrap_or (follows mode (Text code)) mode ≡ mode
+text_mode modes.Pcl code = refl
+text_mode modes.Frame code = refl
+
 each_does : (look : Look) (code : ℕ) (codes : List ℕ) (old new : List MachineState) → AreRunning old → Each (PrintsText look (code ∷ codes)) old new → Each (Does (Execute (Text code)) (glyph_events look code)) old (map (machine_behind look code) old)
 each_does look code codes [] new running h = tt
 each_does look code codes (m ∷ old) [] running h = absurd h
 each_does look code codes (m ∷ old) (n ∷ new) running h = (
   record {
-    is = λ i. record m { page = page_behind look code m.page; macros = sym h.0.1 i; stopped = running.0 i };
+    is = λ i. record m { page = page_behind look code m.page; macros = sym h.0.1 i; mode = sym (text_mode m.mode code) i; stopped = running.0 i };
     peaks = λ panel. peaks_of (state_at panel (page_behind look code m.page));
     run = h.0.0;
   },
@@ -202,3 +213,19 @@ pub still_run : (codes : List ℕ) (machines machines' : List MachineState) (cou
 still_run [] machines machines' counts counts' step running = subst AreRunning (sym step.0) running
 still_run (code ∷ codes) machines machines' counts counts' step running =
     still_run codes step.0 machines' step.1 counts' step.3 (running_on (Execute (Text code)) step.2.0 machines step.0 refl step.2.1)
+
+-- text is in mode PCL, and leaves it
+text_in_pcl : (codes : List ℕ) (machines machines' : List MachineState) (counts counts' : Counts) → PrintInStep codes machines machines' counts counts' → AreIn modes.Pcl machines → AreIn modes.Pcl machines'
+text_in_pcl [] machines machines' counts counts' step in_pcl = subst (AreIn modes.Pcl) (sym step.0) in_pcl
+text_in_pcl (code ∷ codes) machines machines' counts counts' step in_pcl =
+    text_in_pcl codes step.0 machines' step.1 counts' step.3 (in_next modes.Pcl modes.Pcl (Text code) step.2.0 machines step.0 refl step.2.1 in_pcl)
+
+module _ (codes : List ℕ) (old new : LexerState) (passes : Passes old codes new) where
+  pub text_modes : (machines machines' : List MachineState) (counts counts' : Counts) → PrintInStep codes machines machines' counts counts' → AreIn (mode_of old.context) machines → AreIn (mode_of new.context) machines'
+  text_modes machines machines' counts counts' step in_mode =
+      subst (λ c. AreIn (mode_of c) machines') (sym passes.behind)
+      (text_in_pcl codes machines machines' counts counts' step (subst (λ c. AreIn (mode_of c) machines) passes.before in_mode))
+
+  -- bytes of it leave less to be read
+  pub text_less : 1 ≤ length codes → left new.context new.rest < left old.context old.rest
+  text_less some = omega (arith, passes.total, passes.place, ap pending passes.before, ap pending passes.behind)

@@ -1,11 +1,20 @@
-use Rattle.std.proofs.Common.{subst, take}
+use Rattle.std.proofs.Common.{◌≡◌, length, subst, take, ◌∙◌, ap, sym, arith}
+use Rattle.std.proofs.lemmas.List.{length-take-le}
+use Rattle.pcl_items.specs.Passing.{ahead_of}
 use Rattle.preflight.specs.Carriers.Lockstep.{machines_of, counts_of}
 use Rattle.preflight.specs.Carriers.TextInStep.{PrintInStep}
-use Rattle.preflight.proofs.TextInStep.{text_done, still_run}
+use Rattle.preflight.proofs.TextInStep.{text_done, text_less, text_modes, still_run}
 use Rattle.preflight.proofs.check.carry_out_text.Goals as goal
 
 pub returns-clause-running : goal.returns-clause-running
-returns-clause-running g c = still_run _ _ _ _ _ c.carry_out_text-passed.ensures.step c.requires
+returns-clause-running g c = still_run _ _ _ _ _ c.carry_out_text-passed.ensures.step c.requires.running
+
+pub returns-clause-modes : goal.returns-clause-modes
+returns-clause-modes g c =
+    let before = c.args.machines.now in
+    let after = c.carry_out_text-passed.new.self in
+    let step = subst (λ ahead. PrintInStep (take c.carry_out_text-passed.result ahead) (machines_of before) (machines_of after) (counts_of before) (counts_of after)) c.ahead.ensures c.carry_out_text-passed.ensures.step in
+    text_modes _ _ _ c.pass_text.ensures _ _ _ _ step c.requires.modes
 
 pub returns-clause-carried : goal.returns-clause-carried
 returns-clause-carried g c = λ fleet bytes carried.
@@ -13,3 +22,16 @@ returns-clause-carried g c = λ fleet bytes carried.
     let after = c.carry_out_text-passed.new.self in
     let step = subst (λ ahead. PrintInStep (take c.carry_out_text-passed.result ahead) (machines_of before) (machines_of after) (counts_of before) (counts_of after)) c.ahead.ensures c.carry_out_text-passed.ensures.step in
     text_done fleet bytes _ _ _ _ _ _ _ c.pass_text.ensures step carried
+
+pub returns-clause-no_more : goal.returns-clause-no_more
+returns-clause-no_more g c =
+    let ahead = ahead_of c.args.lexer.now in
+    let some : length (take c.carry_out_text-passed.result ahead) ≡ c.carry_out_text-passed.result = length-take-le c.carry_out_text-passed.result ahead (omega (arith, c.carry_out_text-passed.ensures.short, ap length c.ahead.ensures)) in
+    let less = text_less _ _ _ c.pass_text.ensures (omega (arith, some)) in
+    omega (arith, less)
+
+pub returns-clause-less : goal.returns-clause-less
+returns-clause-less g c = λ is.
+    let ahead = ahead_of c.args.lexer.now in
+    let some : length (take c.carry_out_text-passed.result ahead) ≡ c.carry_out_text-passed.result = length-take-le c.carry_out_text-passed.result ahead (omega (arith, c.carry_out_text-passed.ensures.short, ap length c.ahead.ensures)) in
+    text_less _ _ _ c.pass_text.ensures (omega (arith, some))
