@@ -1,18 +1,17 @@
 //! Bodies of macros: their items run as they are written out, and a call returns what they set.
 
-use crate::items::items_of;
+use crate::events::Event::{Page, RasterRow, Rect};
+use crate::events::{Event, Events, check_events, run};
 use crate::printers::Printer::{B, SomeCopies};
 use crate::printers::{Printer, fleet_of};
-use crate::recording::letter;
 use crate::rows::Expected::{Found, Pass};
 use crate::rows::{Expected, Row, check_in_pieces, job_of};
-use device_profile::{Field, Profile, Sample};
+use device_profile::{Field, Profile};
 use page_env::Finding::{
-    BadValue, EmptyRectangle, NoFont, NotPrintable, OffPage, PastRightMargin, RasterTooBig,
-    RotatedRaster, StackEmpty, Unset,
+    BadValue, EmptyRectangle, NoFont, NoPen, NotPrintable, OffPage, OutsideFrame, PastRightMargin,
+    RasterTooBig, RotatedRaster, StackEmpty, Unset,
 };
-use page_env::{Fill, Resolution};
-use page_machine::{Machine, MarkSink, OwnedEvent, OwnedMark, Start};
+use page_env::Resolution;
 use sinks::{Comparer, Recorder};
 use std::alloc::Global;
 use std::process::Abort;
@@ -49,6 +48,13 @@ const ON_A_PAGE: &[Row] = &[
     (b"\x1b&k24h3GA\rB\nC", Pass(1, 3)),
     (b"\x1b(10U\x1b(s0p12h10v0s0b3TA\x1b(3@B", Pass(1, 2)),
     (b"\x1b&f9y9XA", Pass(1, 1)),
+    // Frames.
+    (b"\x1b%0BIN;SP1;PD100,100,0,200\x1b%0AA", Pass(1, 4)),
+    (
+        b"\x1b*p300x300Y\x1b*c0t720x720Y\x1b%1BSP1PW1PD;PR9,-9;\x1b%1A\x1b*c30a30b0P",
+        Pass(1, 3),
+    ),
+    (b"\x1b%0A\x1b%1A\x1b%0BPU1016,1016;\x1b%1AA", Pass(1, 1)),
 ];
 
 /// Items that close pages.
@@ -74,24 +80,6 @@ const EXECUTED: &[u8] = b"\x1b&f1X\x1b&f2X\x0c";
 const CALLED: &[u8] = b"\x1b&f1X\x1b&f3X\x0c";
 
 const OVERLAID: &[u8] = b"\x1b&f1X\x1b&f4X\x0c";
-
-/// Runs a job to its end, or up to its first refusal, and hands its events to a sink.
-fn run<S: MarkSink<Fault: Drop>>(
-    rt: &impl Abort,
-    alloc: Global,
-    job: &[u8],
-    sink: &mut S,
-) -> Result<bool, Fail> {
-    let profile = Sample::B.profile(alloc)?;
-    let mut machine = Machine::new(alloc, &profile, Start::Unknown);
-    let items = items_of(rt, alloc, job)?;
-    for (place, item) in &items {
-        if machine.step(*place, &item.as_item(), sink).is_err() {
-            return Ok(false);
-        }
-    }
-    Ok(machine.finish(job.len() as u64, sink).is_ok())
-}
 
 /// Checks items as they are written out and as the body of a macro, with each of these ends: they give the same events.
 fn check_body(
@@ -282,6 +270,92 @@ const RETURNED: &[Returned] = &[
         Pass(1, 0),
         Pass(1, 0),
     ),
+    // The pen: its number, its width, its place, whether it is down, and how it moves.
+    (
+        B,
+        [b"", b"\x1b%0BSP1\x1b%0A", b"\x1b%0BPD\x1b%0A"],
+        Pass(1, 1),
+        Found(32, NoPen),
+    ),
+    (
+        B,
+        [
+            b"\x1b%0BSP1\x1b%0A",
+            b"\x1b%0BPW10\x1b%0A",
+            b"\x1b%0BPD\x1b%0A",
+        ],
+        Found(44, NotPrintable),
+        Pass(1, 1),
+    ),
+    (
+        B,
+        [b"", b"\x1b%0BPR8388607,0\x1b%0A", b"\x1b%0BPR1,0\x1b%0A"],
+        Found(40, OutsideFrame),
+        Pass(0, 0),
+    ),
+    (
+        B,
+        [
+            b"\x1b%0BSP1\x1b%0A",
+            b"\x1b%0BPD\x1b%0A",
+            b"\x1b%0BPA1,1\x1b%0A",
+        ],
+        Pass(1, 2),
+        Pass(1, 1),
+    ),
+    (
+        B,
+        [b"", b"\x1b%0BPR\x1b%0A", b"\x1b%0BPU8388607,0,1,0\x1b%0A"],
+        Found(43, OutsideFrame),
+        Pass(0, 0),
+    ),
+    (
+        B,
+        [
+            b"\x1b%0BSP1\x1b%0A",
+            b"\x1b%0BIN\x1b%0A",
+            b"\x1b%0BPD\x1b%0A",
+        ],
+        Found(42, NoPen),
+        Pass(1, 1),
+    ),
+    // The frame: its anchor, its width and its height.
+    (
+        B,
+        [b"", b"\x1b*p600Y\x1b*c0T", b"\x1b%0B\x1b%1A"],
+        Found(33, OffPage),
+        Pass(0, 0),
+    ),
+    (
+        B,
+        [
+            b"\x1b%0BSP1\x1b%0A",
+            b"\x1b*c720X",
+            b"\x1b%0BPU1017,0PD\x1b%0A",
+        ],
+        Found(47, OutsideFrame),
+        Pass(1, 1),
+    ),
+    (
+        B,
+        [
+            b"\x1b%0BSP1\x1b%0A",
+            b"\x1b*c720Y",
+            b"\x1b%0BPU0,1017PD\x1b%0A",
+        ],
+        Found(47, OutsideFrame),
+        Pass(1, 1),
+    ),
+    (
+        B,
+        [
+            b"\x1b*c720X\x1b%0BSP1\x1b%0A",
+            b"\x1b*c1440X",
+            b"\x1b%0BPU2000,0PD\x1b%0A",
+        ],
+        Pass(1, 1),
+        Found(55, OutsideFrame),
+    ),
     // The cursor, the stack and the mark of the page stay.
     (
         B,
@@ -329,19 +403,6 @@ fn a_call_returns_what_an_execution_keeps(rt: HostRuntime) -> Result<(), Fail> {
     Ok(())
 }
 
-/// An event of a row.
-#[derive(Clone, Copy)]
-enum Event {
-    /// A black rectangle with these edges, in ticks.
-    Rect([i64; 4]),
-    /// A row of a raster: its resolution, place in ticks and bytes.
-    RasterRow(Resolution, i64, i64, &'static [u8]),
-    /// So many copies of a page of letter paper in portrait.
-    Page(u32),
-}
-
-use Event::{Page, RasterRow, Rect};
-
 /// A square of a tenth of an inch at home, and one an inch from the left and an inch below the top margin.
 const AT_HOME: Event = Rect([
     9_144_000_000,
@@ -358,7 +419,7 @@ const AT_AN_INCH: Event = Rect([
 ]);
 
 /// Jobs and their events.
-const EVENTS: &[(&[u8], &[Event])] = &[
+const EVENTS: &[Events] = &[
     // The cursor stays moved, and the line feed is that before the call.
     (
         b"\x1bE\x1b&f1y0X\x1b&l16C\x1b*p600x300Y\x1b&f1X\x1b&f1y3X\n\x1b*c30a30b0P",
@@ -416,44 +477,7 @@ const EVENTS: &[(&[u8], &[Event])] = &[
     ),
 ];
 
-fn is_event(event: &OwnedEvent, wanted: Event) -> bool {
-    match (event, wanted) {
-        (OwnedEvent::Marked(OwnedMark::Rect(area)), Rect(edges)) => {
-            let bounds = area.bounds;
-            let [left, top, right, bottom] = edges;
-            area.fill == Fill::Solid
-                && (bounds.left.ticks(), bounds.top.ticks()) == (left, top)
-                && (bounds.right.ticks(), bounds.bottom.ticks()) == (right, bottom)
-        }
-        (OwnedEvent::Marked(OwnedMark::Row(row)), RasterRow(resolution, x, y, bytes)) => {
-            let place = (
-                row.resolution,
-                row.x.ticks(),
-                row.y.ticks(),
-                row.bytes.as_slice(),
-            );
-            place == (resolution, x, y, bytes)
-        }
-        (OwnedEvent::Ended(page), Page(copies)) => *page == letter(copies),
-        _ => false,
-    }
-}
-
-/// Whether the events are these.
-fn are_events(events: &[OwnedEvent], wanted: &[Event]) -> bool {
-    let mut are = events.len() == wanted.len();
-    for (event, wanted) in events.iter().zip(wanted) {
-        are = are && is_event(event, *wanted);
-    }
-    are
-}
-
 #[test]
 fn macros_give_these_events(rt: HostRuntime) -> Result<(), Fail> {
-    for (job, wanted) in EVENTS {
-        let mut recorder = Recorder::new(rt.alloc());
-        assert!(rt; run(&rt, rt.alloc(), job, &mut recorder)?, "{job:?}");
-        assert!(rt; are_events(recorder.events(), wanted), "{job:?}");
-    }
-    Ok(())
+    check_events(&rt, rt.alloc(), EVENTS)
 }

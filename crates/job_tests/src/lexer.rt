@@ -4,8 +4,8 @@ ghost use Rattle.std.specs.Prelude.{◌≤◌, length};
 
 use crate::items::{Last, read_bytes, read_on, read_whole};
 use pcl_items::{
-    Cause, Command, DataCommand, Group, Item, LexFault, Lexed, Lexer, Name, Number, OwnedItem,
-    Place, Sign, SimpleItem,
+    Cause, Command, DataCommand, Group, Handover, Item, LexFault, Lexed, Lexer, Motion, Name,
+    Number, OwnedItem, Place, Setting, Sign, SimpleItem,
 };
 use refusing::Refusing;
 use std::alloc::{AllocError, Allocator, Global};
@@ -30,6 +30,15 @@ enum Wanted {
     Set(u16, u8),
     /// Transparent print data.
     Data(&'static [u8]),
+    Enter(Handover),
+    Leave(Handover),
+    Initialize,
+    /// A command of a frame with a number in ten-thousandths.
+    WithNumber(Setting, u32),
+    /// A command that moves the pen, without a place.
+    WithoutPlace(Motion),
+    /// The same with a place in plotter units.
+    ToPlace(Motion, i32, i32),
 }
 
 impl Wanted {
@@ -53,6 +62,23 @@ impl Wanted {
             (Wanted::Data(bytes), Item::WithData(DataCommand::TransparentText, data)) => {
                 data.bytes == bytes
             }
+            (wanted, Item::Simple(item)) => wanted.is_of_frame(item),
+            _ => false,
+        }
+    }
+
+    fn is_of_frame(self, item: SimpleItem) -> bool {
+        match (self, item) {
+            (Wanted::Enter(handover), SimpleItem::EnterFrame(entered)) => entered == handover,
+            (Wanted::Leave(handover), SimpleItem::LeaveFrame(left)) => left == handover,
+            (Wanted::Initialize, SimpleItem::Initialize) => true,
+            (Wanted::WithNumber(setting, number), SimpleItem::Set(set, magnitude)) => {
+                set == setting && magnitude.ten_thousandths == number
+            }
+            (Wanted::WithoutPlace(motion), SimpleItem::Move(moved, None)) => moved == motion,
+            (Wanted::ToPlace(motion, x, y), SimpleItem::Move(moved, Some(place))) => {
+                moved == motion && (place.x.units, place.y.units) == (x, y)
+            }
             _ => false,
         }
     }
@@ -70,8 +96,15 @@ const PLAIN: Sign = Sign::Absent;
 
 const LETTER: Wanted = Wanted::Sent(Command::PageSize, PLAIN, 2);
 
-/// Jobs, their items with their places, and the fault behind them, if there is one.
-const JOBS: &[(&[u8], &[(Place, Wanted)], Option<(Place, Cause)>)] = &[
+/// A job, its items with their places, and the fault behind them, if there is one.
+type Reading = (
+    &'static [u8],
+    &'static [(Place, Wanted)],
+    Option<(Place, Cause)>,
+);
+
+/// Jobs of the command language.
+const JOBS: &[Reading] = &[
     (
         b"\x1bE\x1b&l2a66P",
         &[(0, Wanted::Reset), (2, LETTER)],
@@ -182,6 +215,275 @@ const JOBS: &[(&[u8], &[(Place, Wanted)], Option<(Place, Cause)>)] = &[
     ),
 ];
 
+/// Jobs with frames, their items with their places, and the fault behind them.
+const FRAMES: &[Reading] = &[
+    (
+        b"\x1bE\x1b%0Bin;sp1;pu0,0pd100,100,0,200\x1b%0A",
+        &[
+            (0, Wanted::Reset),
+            (2, Wanted::Enter(Handover::Previous)),
+            (6, Wanted::Initialize),
+            (9, Wanted::WithNumber(Setting::Pen, 10_000)),
+            (13, Wanted::ToPlace(Motion::Up, 0, 0)),
+            (18, Wanted::ToPlace(Motion::Down, 100, 100)),
+            (28, Wanted::ToPlace(Motion::Down, 0, 200)),
+            (33, Wanted::Leave(Handover::Previous)),
+        ],
+        None,
+    ),
+    (
+        b"\x1b*c0t720x1440Y\x1b%1B\x1b%1A\x1b%-0B\x1bEA",
+        &[
+            (0, Wanted::Sent(Command::PictureFrameAnchor, PLAIN, 0)),
+            (5, Wanted::Sent(Command::PictureFrameWidth, PLAIN, 720)),
+            (9, Wanted::Sent(Command::PictureFrameHeight, PLAIN, 1440)),
+            (14, Wanted::Enter(Handover::Current)),
+            (18, Wanted::Leave(Handover::Current)),
+            (22, Wanted::Enter(Handover::Previous)),
+            (27, Wanted::Reset),
+            (29, Wanted::Text(b'A')),
+        ],
+        None,
+    ),
+    // White space and semicolons stand between commands, white space and a comma between numbers.
+    (
+        b"\x1b%0B;;IN ; \t\r\nSP PW\n;PU;;PDPA;PR\x1b%0A",
+        &[
+            (0, Wanted::Enter(Handover::Previous)),
+            (6, Wanted::Initialize),
+            (14, Wanted::WithNumber(Setting::Pen, 0)),
+            (17, Wanted::WithNumber(Setting::Width, 3_500)),
+            (21, Wanted::WithoutPlace(Motion::Up)),
+            (25, Wanted::WithoutPlace(Motion::Down)),
+            (27, Wanted::WithoutPlace(Motion::Absolute)),
+            (30, Wanted::WithoutPlace(Motion::Relative)),
+            (32, Wanted::Leave(Handover::Previous)),
+        ],
+        None,
+    ),
+    (
+        b"\x1b%0BPA 1 2\t3,4 , 5,\n6 ;\x1b%0A",
+        &[
+            (0, Wanted::Enter(Handover::Previous)),
+            (4, Wanted::ToPlace(Motion::Absolute, 1, 2)),
+            (11, Wanted::ToPlace(Motion::Absolute, 3, 4)),
+            (17, Wanted::ToPlace(Motion::Absolute, 5, 6)),
+            (23, Wanted::Leave(Handover::Previous)),
+        ],
+        None,
+    ),
+    (
+        b"\x1b%0Bpa1-2+3-4;Pr-0+0,.0 2.\x1b%0A\r",
+        &[
+            (0, Wanted::Enter(Handover::Previous)),
+            (4, Wanted::ToPlace(Motion::Absolute, 1, -2)),
+            (9, Wanted::ToPlace(Motion::Absolute, 3, -4)),
+            (14, Wanted::ToPlace(Motion::Relative, 0, 0)),
+            (21, Wanted::ToPlace(Motion::Relative, 0, 2)),
+            (26, Wanted::Leave(Handover::Previous)),
+            (30, Wanted::CarriageReturn),
+        ],
+        None,
+    ),
+    (
+        b"\x1b%0Bsp pw;SP+1PW0.350PA-0,+5\x1b%0A",
+        &[
+            (0, Wanted::Enter(Handover::Previous)),
+            (4, Wanted::WithNumber(Setting::Pen, 0)),
+            (7, Wanted::WithNumber(Setting::Width, 3_500)),
+            (10, Wanted::WithNumber(Setting::Pen, 10_000)),
+            (14, Wanted::WithNumber(Setting::Width, 3_500)),
+            (21, Wanted::ToPlace(Motion::Absolute, 0, 5)),
+            (28, Wanted::Leave(Handover::Previous)),
+        ],
+        None,
+    ),
+    (
+        b"\x1b%0BSP-0;SP0.5;PW.0001;PW65535;\x1b%0A",
+        &[
+            (0, Wanted::Enter(Handover::Previous)),
+            (4, Wanted::WithNumber(Setting::Pen, 0)),
+            (9, Wanted::WithNumber(Setting::Pen, 5_000)),
+            (15, Wanted::WithNumber(Setting::Width, 1)),
+            (23, Wanted::WithNumber(Setting::Width, 655_350_000)),
+            (31, Wanted::Leave(Handover::Previous)),
+        ],
+        None,
+    ),
+    (
+        b"\x1b%0BPA1.00000000,.0,2.,-0\x1b%0A",
+        &[
+            (0, Wanted::Enter(Handover::Previous)),
+            (4, Wanted::ToPlace(Motion::Absolute, 1, 0)),
+            (20, Wanted::ToPlace(Motion::Absolute, 2, 0)),
+            (25, Wanted::Leave(Handover::Previous)),
+        ],
+        None,
+    ),
+    (
+        b"\x1b%0BPD8388607,-8388607,-8388607,8388607;\x1b%1A",
+        &[
+            (0, Wanted::Enter(Handover::Previous)),
+            (4, Wanted::ToPlace(Motion::Down, 8_388_607, -8_388_607)),
+            (23, Wanted::ToPlace(Motion::Down, -8_388_607, 8_388_607)),
+            (40, Wanted::Leave(Handover::Current)),
+        ],
+        None,
+    ),
+    // White space within a command has no end.
+    (
+        b"\x1b%0Bpa                                        1\r\n,\t\t\t\t\t\t\t\t\t\t\t\t\t\t\t\t\t\t\t\t\t\t\t\t\t\t\t\t\t\t\t\t\t\t\t\t\t\t\t\t2 \x1b%0A",
+        &[
+            (0, Wanted::Enter(Handover::Previous)),
+            (4, Wanted::ToPlace(Motion::Absolute, 1, 2)),
+            (92, Wanted::Leave(Handover::Previous)),
+        ],
+        None,
+    ),
+    // What is decided comes before the fault that stands behind it.
+    (
+        b"\x1b%0BPA1,2:",
+        &[
+            (0, Wanted::Enter(Handover::Previous)),
+            (4, Wanted::ToPlace(Motion::Absolute, 1, 2)),
+        ],
+        Some((9, Cause::Syntax)),
+    ),
+    (
+        b"\x1b%0BPA1,2.0.5;",
+        &[
+            (0, Wanted::Enter(Handover::Previous)),
+            (4, Wanted::ToPlace(Motion::Absolute, 1, 2)),
+        ],
+        Some((11, Cause::Syntax)),
+    ),
+    (
+        b"\x1b%0BPA1,2E3",
+        &[
+            (0, Wanted::Enter(Handover::Previous)),
+            (4, Wanted::ToPlace(Motion::Absolute, 1, 2)),
+        ],
+        Some((9, Cause::Syntax)),
+    ),
+    (
+        b"\x1b%0BPA1,2,3,4,5;",
+        &[
+            (0, Wanted::Enter(Handover::Previous)),
+            (4, Wanted::ToPlace(Motion::Absolute, 1, 2)),
+            (10, Wanted::ToPlace(Motion::Absolute, 3, 4)),
+        ],
+        Some((14, Cause::BadNumber)),
+    ),
+    (
+        b"\x1b%0BPA1,2,;",
+        &[
+            (0, Wanted::Enter(Handover::Previous)),
+            (4, Wanted::ToPlace(Motion::Absolute, 1, 2)),
+        ],
+        Some((10, Cause::Syntax)),
+    ),
+    (
+        b"\x1b%0BPA1,2,3,4.5;",
+        &[
+            (0, Wanted::Enter(Handover::Previous)),
+            (4, Wanted::ToPlace(Motion::Absolute, 1, 2)),
+        ],
+        Some((10, Cause::BadNumber)),
+    ),
+    (
+        b"\x1b%0BPA1,2",
+        &[
+            (0, Wanted::Enter(Handover::Previous)),
+            (4, Wanted::ToPlace(Motion::Absolute, 1, 2)),
+        ],
+        Some((9, Cause::EndInFrame)),
+    ),
+    (
+        b"\x1b%0BPA1,2 ",
+        &[
+            (0, Wanted::Enter(Handover::Previous)),
+            (4, Wanted::ToPlace(Motion::Absolute, 1, 2)),
+        ],
+        Some((10, Cause::EndInFrame)),
+    ),
+    (
+        b"\x1b%0BPU",
+        &[
+            (0, Wanted::Enter(Handover::Previous)),
+            (4, Wanted::WithoutPlace(Motion::Up)),
+        ],
+        Some((6, Cause::EndInFrame)),
+    ),
+    (
+        b"\x1b%0BPU;SP",
+        &[
+            (0, Wanted::Enter(Handover::Previous)),
+            (4, Wanted::WithoutPlace(Motion::Up)),
+            (7, Wanted::WithNumber(Setting::Pen, 0)),
+        ],
+        Some((9, Cause::EndInFrame)),
+    ),
+    (
+        b"\x1b%0BPU;SP1 ",
+        &[
+            (0, Wanted::Enter(Handover::Previous)),
+            (4, Wanted::WithoutPlace(Motion::Up)),
+            (7, Wanted::WithNumber(Setting::Pen, 10_000)),
+        ],
+        Some((11, Cause::EndInFrame)),
+    ),
+    (
+        b"\x1b%0BINSP1;LT",
+        &[
+            (0, Wanted::Enter(Handover::Previous)),
+            (4, Wanted::Initialize),
+            (6, Wanted::WithNumber(Setting::Pen, 10_000)),
+        ],
+        Some((10, Cause::NotInProfile(Name::Pair(b'L', b'T')))),
+    ),
+    (
+        b"\x1b%0BIN 5",
+        &[(0, Wanted::Enter(Handover::Previous))],
+        Some((4, Cause::BadNumber)),
+    ),
+    (
+        b"\x1b%0BPU5,",
+        &[(0, Wanted::Enter(Handover::Previous))],
+        Some((4, Cause::Truncated)),
+    ),
+    (
+        b"\x1b%0BPUP",
+        &[
+            (0, Wanted::Enter(Handover::Previous)),
+            (4, Wanted::WithoutPlace(Motion::Up)),
+        ],
+        Some((6, Cause::Truncated)),
+    ),
+    (
+        b"\x1b%0B\x1b%1B",
+        &[(0, Wanted::Enter(Handover::Previous))],
+        Some((4, Cause::NotInProfile(Name::Pair(b'%', b'B')))),
+    ),
+    (
+        b"\x1b%0B\x1b%0A\x1b%0B\x1b*",
+        &[
+            (0, Wanted::Enter(Handover::Previous)),
+            (4, Wanted::Leave(Handover::Previous)),
+            (8, Wanted::Enter(Handover::Previous)),
+        ],
+        Some((12, Cause::NotInProfile(Name::Byte(b'*')))),
+    ),
+    (
+        b"\x1b%0BPD1,2\x1bE\x1b%",
+        &[
+            (0, Wanted::Enter(Handover::Previous)),
+            (4, Wanted::ToPlace(Motion::Down, 1, 2)),
+            (9, Wanted::Reset),
+        ],
+        Some((11, Cause::Truncated)),
+    ),
+];
+
 /// The items are those of the row.
 fn assert_items(rt: &impl Abort, items: &[(Place, OwnedItem)], wanted: &[(Place, Wanted)]) {
     assert!(rt; items.len() == wanted.len());
@@ -215,7 +517,7 @@ fn check_job(
 
 #[test]
 fn jobs_are_read_whole_and_byte_by_byte(rt: HostRuntime) -> Result<(), Fail> {
-    for (job, wanted, fault) in JOBS {
+    for (job, wanted, fault) in JOBS.iter().chain(FRAMES) {
         assert!(rt; job.len() <= 4096);
         let last = match *fault {
             Some((place, cause)) => Err(LexFault { place, cause }),
@@ -223,6 +525,80 @@ fn jobs_are_read_whole_and_byte_by_byte(rt: HostRuntime) -> Result<(), Fail> {
         };
         check_job(&rt, rt.alloc(), true, job, wanted, last)?;
         check_job(&rt, rt.alloc(), false, job, wanted, last)?;
+    }
+    Ok(())
+}
+
+/// Fronts of jobs: how many items they decide, and which fault. Each begins with the item that enters a frame.
+const FRONTS: &[(&[u8], usize, Option<(Place, Cause)>)] = &[
+    // Letters are decided by what ends the command, and not by white space.
+    (b"\x1b%0BIN", 1, None),
+    (b"\x1b%0BIN ", 1, None),
+    (b"\x1b%0BIN;", 2, None),
+    (b"\x1b%0BIN ;", 2, None),
+    (b"\x1b%0BINS", 2, None),
+    (b"\x1b%0BIN\x1b", 2, None),
+    (b"\x1b%0BIN5", 1, Some((4, Cause::BadNumber))),
+    (b"\x1b%0BIN,", 1, Some((4, Cause::Syntax))),
+    (b"\x1b%0BSP1", 1, None),
+    (b"\x1b%0BSP1 ", 1, None),
+    (b"\x1b%0BSP1,", 1, None),
+    (b"\x1b%0BSP1;", 2, None),
+    (b"\x1b%0BSP1-", 1, Some((4, Cause::BadNumber))),
+    // A pair is decided by the byte behind its second number, whatever it is.
+    (b"\x1b%0BPA1,2", 1, None),
+    (b"\x1b%0BPA1,2 ", 2, None),
+    (b"\x1b%0BPA1,2,", 2, None),
+    (b"\x1b%0BPA1,2;", 2, None),
+    (b"\x1b%0BPA1,2:", 2, Some((9, Cause::Syntax))),
+    (b"\x1b%0BPA1,2-", 2, None),
+    (b"\x1b%0BPA1 2P", 2, None),
+    (b"\x1b%0BPA1,2,3,4", 2, None),
+    // Faults are decided by the byte at which they stand first.
+    (b"\x1b%0BP", 1, None),
+    (b"\x1b%0BP1", 1, Some((4, Cause::Syntax))),
+    (b"\x1b%0BL", 1, None),
+    (
+        b"\x1b%0BLT",
+        1,
+        Some((4, Cause::NotInProfile(Name::Pair(b'L', b'T')))),
+    ),
+    (b"\x1b%0B;; ", 1, None),
+    (b"\x1b%0B;; 5", 1, Some((7, Cause::Syntax))),
+    (b"\x1b%0BPA1", 1, None),
+    (b"\x1b%0BPA1;", 1, Some((4, Cause::BadNumber))),
+    (b"\x1b%0BPA8388608", 1, None),
+    (b"\x1b%0BPA8388608,", 1, Some((4, Cause::BadNumber))),
+    (b"\x1b%0BPA0000000000000000", 1, None),
+    (
+        b"\x1b%0BPA00000000000000000",
+        1,
+        Some((4, Cause::BadNumber)),
+    ),
+    (b"\x1b%0B\x1b", 1, None),
+    (
+        b"\x1b%0B\x1b*",
+        1,
+        Some((4, Cause::NotInProfile(Name::Byte(b'*')))),
+    ),
+    (b"\x1b%0B\x1b%0", 1, None),
+    (b"\x1b%0B\x1b%0A", 2, None),
+    (b"\x1b%0B\x1b%0a", 1, Some((4, Cause::Syntax))),
+];
+
+#[test]
+fn fronts_of_frames_decide(rt: HostRuntime) -> Result<(), Fail> {
+    for (front, count, fault) in FRONTS {
+        assert!(rt; front.len() <= 4096);
+        let mut lexer = Lexer::new(rt.alloc());
+        lexer.feed(front)?;
+        let mut items = Vec::new(rt.alloc());
+        let answer = read_on(rt.alloc(), &mut lexer, &mut items)?;
+        let last = match *fault {
+            Some((place, cause)) => Err(LexFault { place, cause }),
+            None => Ok(Lexed::NeedMore),
+        };
+        assert_eq!(rt; (answer, items.len()), (last, *count), "{front:?}");
     }
     Ok(())
 }

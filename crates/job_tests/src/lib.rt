@@ -6,11 +6,17 @@ mod bodies;
 #[cfg(test)]
 mod checks;
 #[cfg(test)]
+mod events;
+#[cfg(test)]
 mod fakes;
 #[cfg(test)]
 mod file_texts;
 #[cfg(test)]
 mod fleets;
+#[cfg(test)]
+mod frame_faults;
+#[cfg(test)]
+mod frames;
 #[cfg(test)]
 mod items;
 #[cfg(test)]

@@ -16,6 +16,10 @@ const REASONS: &[(Reason, &[u8])] = &[
         b"FAIL at=24 profile=1 1 Syntax\n",
     ),
     (
+        Reason::Fault(Cause::EndInFrame),
+        b"FAIL at=24 profile=1 6 EndInFrame\n",
+    ),
+    (
         Reason::Finding(Finding::Unset(Field::Size)),
         b"FAIL at=24 profile=1 12 Unset(Size)\n",
     ),
@@ -26,6 +30,14 @@ const REASONS: &[(Reason, &[u8])] = &[
     (
         Reason::Finding(Finding::StackEmpty),
         b"FAIL at=24 profile=1 19 StackEmpty\n",
+    ),
+    (
+        Reason::Finding(Finding::NoPen),
+        b"FAIL at=24 profile=1 28 NoPen\n",
+    ),
+    (
+        Reason::Finding(Finding::OutsideFrame),
+        b"FAIL at=24 profile=1 29 OutsideFrame\n",
     ),
     (
         Reason::Finding(Finding::Inexact),
@@ -50,6 +62,10 @@ const NAMES: &[(Name, &[u8])] = &[
     (
         Name::Pair(b'*', b'z'),
         b"FAIL at=7 profile=0 3 NotInProfile(*z)\n",
+    ),
+    (
+        Name::Pair(b'L', b'T'),
+        b"FAIL at=7 profile=0 3 NotInProfile(LT)\n",
     ),
     (
         Name::Command(Group::Layout, b'P'),

@@ -1,5 +1,6 @@
 //! The machine, and copies of what it hands over.
 
+use crate::events::step;
 use crate::items::items_of;
 use device_profile::{Field, FontRequest, Sample, SymbolSet, sample_a};
 use page_env::Finding::Unset;
@@ -229,12 +230,13 @@ pub fn character(code: u8) -> Glyph {
 
 /// Carries out items up to the first that does not go.
 fn step_all(
+    rt: &impl Abort,
     machine: &mut Machine<'_>,
     items: &[(Place, OwnedItem)],
     sink: &mut Recorder,
 ) -> Result<(), Stop<Full>> {
     for (place, item) in items {
-        machine.step(*place, &item.as_item(), sink)?;
+        step(rt, machine, *place, &item.as_item(), sink)?;
     }
     Ok(())
 }
@@ -281,7 +283,7 @@ fn check_run(
     };
     for (bytes, answer, room) in run.steps {
         let items = items_of(rt, alloc, bytes)?;
-        let outcome = step_all(&mut machine, &items, &mut sink);
+        let outcome = step_all(rt, &mut machine, &items, &mut sink);
         assert!(rt;
             is_answer(outcome, *answer) && sink.room == *room,
             "{bytes:?}"
@@ -321,7 +323,7 @@ fn a_character_is_marked(rt: HostRuntime) -> Result<(), Fail> {
         page: None,
     };
     let items = items_of(&rt, rt.alloc(), b"\x1bEA ")?;
-    assert!(rt; step_all(&mut machine, &items, &mut sink).is_ok());
+    assert!(rt; step_all(&rt, &mut machine, &items, &mut sink).is_ok());
     assert!(rt; is_character(&sink.mark, b'A'));
     Ok(())
 }

@@ -8,10 +8,10 @@ use crate::rows::{
 };
 use device_profile::Field;
 use page_env::Finding::{
-    BadValue, DefinitionOpen, EmptyRectangle, InMacro, MacroDepth, MacroMemory, NoMacro,
-    NotOnDevice, RasterNotStarted, Unset,
+    BadValue, DefinitionOpen, EmptyRectangle, InMacro, MacroDepth, MacroMemory, NoMacro, NoPen,
+    NotOnDevice, OutsideFrame, RasterNotStarted, Unset,
 };
-use pcl_items::Cause::{NotInProfile, Truncated};
+use pcl_items::Cause::{BadNumber, EndInFrame, NotInProfile, Truncated};
 use pcl_items::Name;
 use preflight::{Watched, check_job};
 use std::test::Fail;
@@ -62,6 +62,27 @@ const DEFINITIONS: &[Row] = &[
     ),
     (b"\x1bE\x1b&f0X\x1b&l", Fault(7, Truncated)),
     (b"\x1bE\x1b&f0X\x1b&p5X\x1b&f1", Fault(7, Truncated)),
+    // Frames are stored, and nothing of them is checked but their bytes.
+    (
+        b"\x1bE\x1b&f0X\x1b%0BSP9;PW0;PU8388607,0PR1,0;PD\x1b%1A\x1b&f1X",
+        Pass(0, 0),
+    ),
+    (
+        b"\x1bE\x1b&f0X\x1b%0BSP1\x1b%0A\x1b&f1X\x1b%0BPD\x1b%0A",
+        Found(27, NoPen),
+    ),
+    (b"\x1bE\x1b&f1y0X\x1b%0BIN;", Fault(16, EndInFrame)),
+    (
+        b"\x1bE\x1b&f1y0X\x1b%0BIN;\x1b%0A",
+        Found(20, DefinitionOpen),
+    ),
+    (b"\x1bE\x1b&f0X\x1b%0B\x1bE", Found(11, DefinitionOpen)),
+    (b"\x1bE\x1b&f0X\x1b%0BPA1;", Fault(11, BadNumber)),
+    (
+        b"\x1bE\x1b&f0X\x1b%0B\x1b&f1X",
+        Fault(11, NotInProfile(Name::Byte(b'&'))),
+    ),
+    (b"\x1bE\x1b&f0X\x1b%0B\x1b%0A\x1b&f1X", Pass(0, 0)),
 ];
 
 /// Values of macro ids and of controls, and controls of macros that are not there.
@@ -148,6 +169,32 @@ const RUNS: &[Row] = &[
     // Pages that a body closes.
     (b"\x1bE\x1b&f0X\x0c\x0c\x1b&f1X\x1b&f2X", Pass(2, 0)),
     (b"\x1bE\x1b&f0XA\x0cB\x1b&f1X\x1b&f3x2X", Pass(3, 4)),
+    // Frames in bodies, and findings in them.
+    (
+        b"\x1bE\x1b&f1y0X\x1b%0BIN;SP1;PD;\x1b%0A\x1b&f1X\x1b&f1y2X",
+        Pass(1, 1),
+    ),
+    (
+        b"\x1bE\x1b&f0X\x1b%0BPD\x1b%0A\x1b&f1X\x1b%0BSP1\x1b%0A\x1b&f2X",
+        Pass(1, 1),
+    ),
+    (
+        b"\x1bE\x1b&f0X\x1b%0BPD\x1b%0A\x1b&f1X\x1b%0BSP1\x1b%0A\x1b&f2x3X",
+        Pass(1, 1),
+    ),
+    (
+        b"\x1bE\x1b&f0X\x1b%0BPD\x1b%0A\x1b&f1X\x1b&f2X",
+        Found(22, NoPen),
+    ),
+    (
+        b"\x1bE\x1b&f0X\x1b%0BSP1PD0,9,-1,0\x1b%0A\x1b&f1X\x1b&f3X",
+        Found(33, OutsideFrame),
+    ),
+    (b"\x1bE\x1b&f0X\x1b%1A\x1b&f1X\x1b&f2x3X", Pass(0, 0)),
+    (
+        b"\x1bE\x1b&f1y0X\x1b%0BSP1PD;\x1b%0A\x1b&f1X\x1b&f2y0X\x1b%0BSP1PU9,9\x1b%0A\x1b&f1y2X\x1b%0BPD;PA1,1\x1b%0A\x1b&f1X\x1b&f2y2X",
+        Pass(1, 2),
+    ),
     // A raster ends before a body and behind it.
     (
         b"\x1bE\x1b*r1A\x1b&f9X\x1b*b0W",
@@ -330,6 +377,36 @@ const MEMORY: &[Stored] = &[
         b"\x1b&f1X",
         Found(20, MacroMemory),
     ),
+    // Commands of frames end with a semicolon, and each pair of coordinates is one by itself: 22 bytes, and 20.
+    (
+        B,
+        b"\x1bE\x1b&f0X\x1b%0Bsp+1pu PW \x1b%0A\x1b&p72X",
+        72,
+        b"\x1b&f1X",
+        Pass(0, 0),
+    ),
+    (
+        B,
+        b"\x1bE\x1b&f0X\x1b%0Bsp+1pu PW \x1b%0A\x1b&p73X",
+        73,
+        b"\x1b&f1X",
+        Found(25, MacroMemory),
+    ),
+    (
+        B,
+        b"\x1bE\x1b&f0X\x1b%0BPD 1 2 3 4\x1b%0A\x1b&p74X",
+        74,
+        b"\x1b&f1X",
+        Pass(0, 0),
+    ),
+    (
+        B,
+        b"\x1bE\x1b&f0X\x1b%0BPD 1 2 3 4\x1b%0A\x1b&p75X",
+        75,
+        b"\x1b&f1X",
+        Found(25, MacroMemory),
+    ),
+    (B, b"\x1bE\x1b&f0X", 97, b"\x1b%0B", Found(104, MacroMemory)),
     // All bodies count, and not those that were deleted or defined anew.
     (
         B,

@@ -1,5 +1,6 @@
 //! Requests for memory that are refused.
 
+use crate::events::step;
 use crate::fleets::{RECTANGLE, TWO_PAGES};
 use crate::items::items_of;
 use crate::jobs::PAGE;
@@ -24,6 +25,12 @@ const EACH_COMMAND: &[u8] = b"\x1bE\x1b&l2a0o1x0s1h8c6d3e50f1L\x1b&u300D\x1b&k12
 /// A macro of two items, which is executed and then runs as an overlay.
 const MACRO: &[u8] = b"\x1bE\x1b&f0X\x1b*p300x300Y\x1b*c30a30b0P\x1b&f1X\x1b&f2x4X\x0c";
 
+/// Three lines in a frame.
+const FRAME: &[u8] = b"\x1bE\x1b%0Bin;sp1;pu0,0pd100,100,0,200\x1b%0A";
+
+/// A macro of one line in a frame, which is executed and then runs as an overlay.
+const MACRO_OF_FRAME: &[u8] = b"\x1bE\x1b&f0X\x1b%0BIN;SP1;PD;\x1b%0A\x1b&f1X\x1b&f2x4X\x0c";
+
 /// Printers, a job, what is expected of its check, and how many requests for memory the check makes at least: for the lexer's
 /// window, with several printers for the machines of the others and for the record of events, and on each printer with a macro
 /// for its entry and its items.
@@ -35,6 +42,9 @@ const ROWS: &[(&[Printer], &[u8], Expected, u64)] = &[
     (&[Printer::A, Printer::B], EACH_COMMAND, Pass(1, 1), 3),
     (&[Printer::B], MACRO, Pass(1, 2), 3),
     (&[Printer::B, Printer::B], MACRO, Pass(1, 2), 7),
+    (&[Printer::B], FRAME, Pass(1, 3), 1),
+    (&[Printer::B, Printer::B], FRAME, Pass(1, 3), 3),
+    (&[Printer::B, Printer::B], MACRO_OF_FRAME, Pass(1, 2), 7),
 ];
 
 /// How many requests for memory the check makes, each of which was refused in turn.
@@ -72,12 +82,13 @@ fn each_request_is_refused_in_turn(rt: HostRuntime) -> Result<(), Fail> {
 
 /// Carries out items up to the first that does not go.
 fn step_all<P: Allocator, A: Allocator + Copy>(
+    rt: &impl Abort,
     machine: &mut Machine<'_, P, A>,
     items: &[(Place, OwnedItem)],
     counts: &mut Counts,
 ) -> Result<(), Stop<Infallible>> {
     for (place, item) in items {
-        machine.step(*place, &item.as_item(), counts)?;
+        step(rt, machine, *place, &item.as_item(), counts)?;
     }
     Ok(())
 }
@@ -92,7 +103,7 @@ fn a_machine_stops_where_memory_is_refused(rt: HostRuntime) -> Result<(), Fail> 
         let heap = Refusing::new(rt.alloc(), requests);
         let mut machine = Machine::new(&heap, &profile, Start::Unknown);
         let mut counts = Counts::none();
-        match step_all(&mut machine, &items, &mut counts) {
+        match step_all(&rt, &mut machine, &items, &mut counts) {
             Ok(()) => {
                 // For the entry of the macro, and for its items.
                 assert!(rt; requests >= 2, "{requests} requests");
@@ -111,22 +122,26 @@ fn a_machine_stops_where_memory_is_refused(rt: HostRuntime) -> Result<(), Fail> 
 fn macros_run_without_memory(rt: HostRuntime) -> Result<(), Fail> {
     let profile = Sample::B.profile(rt.alloc())?;
     let definition = items_of(&rt, rt.alloc(), DEFINITION)?;
-    let runs = items_of(&rt, rt.alloc(), b"\x1b&f2x3x9x4XA\x0c\x1b&f5x8x6X\x1bEA")?;
+    let runs = items_of(
+        &rt,
+        rt.alloc(),
+        b"\x1b&f2x3x9x4XA\x0c\x1b%0BSP1PD5,5\x1b%0A\x1b&f5x8x6X\x1bEA",
+    )?;
     let heap = Refusing::new(rt.alloc(), 1000);
     let mut machine = Machine::new(&heap, &profile, Start::Unknown);
     let mut counts = Counts::none();
-    assert!(rt; step_all(&mut machine, &definition, &mut counts).is_ok());
+    assert!(rt; step_all(&rt, &mut machine, &definition, &mut counts).is_ok());
     let left = heap.left();
-    assert!(rt; step_all(&mut machine, &runs, &mut counts).is_ok());
+    assert!(rt; step_all(&rt, &mut machine, &runs, &mut counts).is_ok());
     assert!(rt; machine.finish(99, &mut counts).is_ok());
-    // Three characters each run, and two of the job.
+    // Three characters each run, and two characters and two lines of the job.
     assert_eq!(rt;
         (heap.left(), counts),
         (
             left,
             Counts {
-                pages: 2,
-                marks: 11
+                pages: 3,
+                marks: 13
             }
         )
     );

@@ -8,8 +8,8 @@ use crate::rows::Expected::{Differs, Found, FoundOn, Pass};
 use crate::rows::{Expected, PrinterRow, Row, check_printer_rows, check_rows};
 use device_profile::Field;
 use page_env::Finding::{
-    EmptyRectangle, InMacro, MacroDepth, MacroMemory, NoMacro, NotOnDevice, NotPrintable, OffPage,
-    RasterNotStarted, StackEmpty, Unset,
+    EmptyRectangle, InMacro, MacroDepth, MacroMemory, NoMacro, NoPen, NotOnDevice, NotPrintable,
+    OffPage, RasterNotStarted, StackEmpty, Unset,
 };
 use std::test::Fail;
 
@@ -36,6 +36,15 @@ const OVERLAYS: &[Row] = &[
     (
         b"\x1bE\x1b&f0XA\x1b&f1X\x1b&f4XB\x1b*p3100Y\x1b=",
         Pass(1, 2),
+    ),
+    // Also where the page is closed within a frame.
+    (
+        b"\x1bE\x1b&f0X\x1b*p300x300Y\x1b*c30a30b0P\x1b&f1X\x1b&f4X\x1b%0BSP1PD;\x1bE",
+        Pass(1, 2),
+    ),
+    (
+        b"\x1bE\x1b&f0X\x1b%0BSP1PD;\x1b%0A\x1b&f1X\x1b&f4X\x1b%0BSP1PU9,9PD;\x1bEA",
+        Pass(2, 3),
     ),
     // It is that of the id as it was enabled.
     (b"\x1bE\x1b&f1y0XA\x1b&f1X\x1b&f4x9Y\x0c", Pass(1, 1)),
@@ -121,6 +130,27 @@ const INSIDE: &[Row] = &[
     (
         b"\x1bE\x1b*c30a30B\x1b&f0X\x1b*c0P\x1b&f1X\x1b&f4X\x0c",
         Found(31, EmptyRectangle),
+    ),
+    // With a pen and a frame of its own, and in no frame; the job has its own again behind it.
+    (
+        b"\x1bE\x1b%0BSP1\x1b%0A\x1b&f0X\x1b%0BPD\x1b%0A\x1b&f1X\x1b&f4X\x0c",
+        Found(38, NoPen),
+    ),
+    (
+        b"\x1bE\x1b&f0X\x1b%0BSP1\x1b%0A\x1b&f1X\x1b&f4X\x0c\x1b%0BPD\x1b%0A",
+        Found(33, NoPen),
+    ),
+    (
+        b"\x1bE\x1b*c720X\x1b&f0X\x1b%0BSP1PU1017,0PD\x1b%0A\x1b&f1X\x1b&f4X\x0c",
+        Pass(1, 1),
+    ),
+    (
+        b"\x1bE\x1b&f0X\x1b*c720X\x1b&f1X\x1b&f4X\x0c\x1b%0BSP1PU1017,0PD\x1b%0A",
+        Pass(2, 1),
+    ),
+    (
+        b"\x1bE\x1b&f0X\x1b%1A\x1b&f1X\x1b&f4XA\x1b%0BPU-1,0\x1bE",
+        Pass(1, 1),
     ),
     // With the paper of the page: a line of 10 inches in landscape.
     (

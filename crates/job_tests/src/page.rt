@@ -3,13 +3,15 @@
 use crate::items::items_of;
 use device_profile::{Field, Panel, Profile, sample_a};
 use page_env::Finding::{
-    BadValue, Inexact, MarginIgnored, NotOnDevice, OffPage, StackEmpty, StackFull, Unset,
+    BadValue, Inexact, MarginIgnored, NoPen, NotOnDevice, OffPage, OutsideFrame, StackEmpty,
+    StackFull, Unset,
 };
 use page_env::{
-    Area, Bounds, Carried, Cell, Coordinate, Fill, Finding, Page, PageChange, PageEnd, carry_out,
-    change_page, fill_rectangle, fill_value, first_page, page_end, user_defaults, user_defaults_of,
+    Area, Bounds, Carried, Cell, Coordinate, Fill, Finding, Page, PageChange, PageEnd, PenLine,
+    carry_out, carry_out_motion, change_page, fill_rectangle, fill_value, first_page, motion_of,
+    move_pen, page_end, user_defaults, user_defaults_of,
 };
-use pcl_items::{Item, Number, OwnedItem, Place, Sign, SimpleItem};
+use pcl_items::{Coordinates, Item, Motion, Number, OwnedItem, Place, Sign, SimpleItem};
 use std::alloc::Global;
 use std::process::Abort;
 use std::test::Fail;
@@ -26,12 +28,16 @@ enum Comes {
     TopMargin(i64),
     /// A rectangle has these edges: left, top, right and bottom.
     Rectangle([i64; 4]),
+    /// The pen comes down at this place.
+    Dot(i64, i64),
+    /// It draws a line from one place to another.
+    Line([i64; 4]),
     /// A marked page is to be closed, with the cursor at home then.
     Closes,
     Found(Finding),
 }
 
-use Comes::{Closes, Found, Rectangle, RightMargin, To, TopMargin};
+use Comes::{Closes, Dot, Found, Line, Rectangle, RightMargin, To, TopMargin};
 
 const INCH: i64 = 36_576_000_000;
 
@@ -119,6 +125,43 @@ const PAGES: &[&[Step]] = &[
         (1, b"\x1b*p300X", To(INCH, Some(FIRST_LINE))),
         (1, b"\x1b&f1S", To(0, Some(FIRST_LINE))),
     ],
+    // A frame that is anchored at home, or entered there, makes home a number; one that is entered at its pen does not.
+    &[
+        (1, b"\x1b%0B\x1b%0A", To(0, None)),
+        (1, b"\x1b*c0T", To(0, Some(FIRST_LINE))),
+    ],
+    &[(1, b"\x1b%1B\x1b%0A", To(0, Some(FIRST_LINE)))],
+    // The default frame ends half an inch above the foot of the page; 1016 plotter units are an inch.
+    &[
+        (
+            1,
+            b"\x1b%0BPU1016,1016\x1b%1A",
+            To(INCH, Some(INCH / 2 * 19)),
+        ),
+        (1, b"\x1b%0BPR-1017,0\x1b%1A", Found(OffPage)),
+    ],
+    // In page coordinates it begins a quarter of an inch from the left.
+    &[
+        (1, b"\x1b%0BSP1\x1b%0A", To(0, None)),
+        (1, b"\x1b%0BPD\x1b%0A", Dot(9_144_000_000, 384_048_000_000)),
+        (
+            1,
+            b"\x1b%0BPA1016,2032\x1b%0A",
+            Line([
+                9_144_000_000,
+                384_048_000_000,
+                45_720_000_000,
+                310_896_000_000,
+            ]),
+        ),
+    ],
+    &[(1, b"\x1b%0BPD\x1b%0A", Found(NoPen))],
+    &[(1, b"\x1b%0BSP1PU8129,0PD\x1b%0A", Found(OutsideFrame))],
+    &[
+        (1, b"\x1b*c0X", Found(BadValue)),
+        (1, b"\x1b*c720x720Y", To(0, None)),
+        (1, b"\x1b%0BSP2\x1b%0A", Found(BadValue)),
+    ],
 ];
 
 /// The start of a job on letter paper in portrait, with 6 lines to the inch.
@@ -140,9 +183,32 @@ fn letter_page() -> Page {
 enum Did {
     Step(Carried),
     Fill(Area),
+    /// The line of the command's own step, or that of the move behind it.
+    Draw(PenLine),
+}
+
+/// Carries out the own step of a command that moves the pen, and the move to its place where it has one.
+fn move_by(
+    profile: &Profile,
+    page: &mut Page,
+    motion: Motion,
+    to: Option<Coordinates>,
+) -> Result<Did, Finding> {
+    let dot = carry_out_motion(profile, page, motion)?;
+    let line = match to {
+        Some(to) => move_pen(profile, page, to)?,
+        None => None,
+    };
+    match line.or(dot) {
+        Some(line) => Ok(Did::Draw(line)),
+        None => Ok(Did::Step(Carried::Stepped)),
+    }
 }
 
 fn carry_out_one(profile: &Profile, page: &mut Page, item: &SimpleItem) -> Result<Did, Finding> {
+    if let Some((motion, to)) = motion_of(item) {
+        return move_by(profile, page, motion, to);
+    }
     match fill_value(item) {
         Some(n) => Ok(Did::Fill(fill_rectangle(profile, page, n)?)),
         None => Ok(Did::Step(carry_out(profile, page, item)?)),
@@ -180,6 +246,19 @@ fn edges_of(bounds: Bounds) -> [i64; 4] {
     ]
 }
 
+/// Where a line begins and ends, in ticks, if it has the width that a pen has by default.
+fn ends_of(line: PenLine) -> Option<[i64; 4]> {
+    if line.width.ticks() != 504_000_000 {
+        return None;
+    }
+    Some([
+        line.x0.ticks(),
+        line.y0.ticks(),
+        line.x1.ticks(),
+        line.y1.ticks(),
+    ])
+}
+
 /// Whether the last item came to this.
 fn has_come_to(page: &Page, did: Result<Did, Finding>, comes: Comes) -> bool {
     let job = &page.env.job;
@@ -194,6 +273,8 @@ fn has_come_to(page: &Page, did: Result<Did, Finding>, comes: Comes) -> bool {
         (Ok(Did::Fill(area)), Rectangle(edges)) => {
             page.marked && area.fill == Fill::Solid && edges_of(area.bounds) == edges
         }
+        (Ok(Did::Draw(line)), Dot(x, y)) => page.marked && ends_of(line) == Some([x, y, x, y]),
+        (Ok(Did::Draw(line)), Line(ends)) => page.marked && ends_of(line) == Some(ends),
         (Ok(Did::Step(Carried::Closing(PageChange::Home))), Closes) => true,
         (Err(found), Found(finding)) => found == finding,
         _ => false,

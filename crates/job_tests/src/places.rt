@@ -24,6 +24,11 @@ const HOMES: &[Row] = &[
     (b"\x1bE\x1b&f0S\x1b&l16C", 1800, 4500),
     (b"\x1bE\x1b*p300X\r\x1b&l16C", 1800, 5400),
     (b"\x1bE\x1b&l16C\x1b&l4E", 1800, 11400),
+    // Nor does what enters a frame at its pen, or leaves it at the cursor; what enters at the cursor does, and so does an anchor.
+    (b"\x1bE\x1b*p300X\r\x1b%0B\x1b%0A\x1b&l16C", 1800, 5400),
+    (b"\x1bE\x1b%1B\x1b%0A\x1b&l16C", 1800, 4500),
+    (b"\x1bE\x1b*c0T\x1b&l16C", 1800, 4500),
+    (b"\x1bE\x1b*c720x720Y\x1b&l16C", 1800, 5400),
     // A pushed home is popped as a number.
     (b"\x1bE\x1b&f0S\x1b&l2A\x1b&l16C\x1b&f1S", 1800, 4500),
     (b"\x1bE\x1b*p300X\x1b&l0H", 1800, 4500),
@@ -117,6 +122,48 @@ const SECOND_PAGES: &[Row] = &[
     (b"\x1bE\x1b&k3G\x1b&a5L\x1b*p300X\x0c", 5400, 4500),
 ];
 
+/// Frames that are left with the cursor at the pen, or where it was.
+const FRAMES: &[Row] = &[
+    (b"\x1bE\x1b%0BPU1016,1016\x1b%1A", 9000, 68400),
+    (b"\x1bE\x1b%0BPU1016,1016\x1b%0A", 1800, 4500),
+    (b"\x1bE\x1b%0BPU1016,1016\x1b%0A\x1b%1A", 1800, 4500),
+    // The default frame ends half an inch above the foot of the page, whatever the margins.
+    (b"\x1bE\x1b%0B\x1b%1A", 1800, 75600),
+    (b"\x1bE\x1b%0B\x1b%1A\x1b&l16C", 1800, 75600),
+    (b"\x1bE\x1b&l12E\x1b%0B\x1b%1A", 1800, 75600),
+    // A frame with a height, with an anchor, and with both; a size of the page returns its defaults.
+    (b"\x1bE\x1b*c720Y\x1b%0B\x1b%1A", 1800, 10800),
+    (
+        b"\x1bE\x1b*p300x0Y\x1b*c0T\x1b*p0x0Y\x1b%0B\x1b%1A",
+        9000,
+        75600,
+    ),
+    (
+        b"\x1bE\x1b*p300x300Y\x1b*c0t720x720Y\x1b*p0x0Y\x1b%0B\x1b%1A",
+        9000,
+        18000,
+    ),
+    (b"\x1bE\x1b*c720Y\x1b&l2A\x1b%0B\x1b%1A", 1800, 75600),
+    (
+        b"\x1bE\x1b*p300x300Y\x1b*c0t720Y\x1b&l0O\x1b%0B\x1b%1A",
+        1800,
+        75600,
+    ),
+    // The place of the pen stays while no frame is entered, and with an entry at the cursor it is that of the cursor.
+    (
+        b"\x1bE\x1b%0BPU1016,1016\x1b%0A\x1b*p300x300Y\x1b%0B\x1b%1A",
+        9000,
+        68400,
+    ),
+    (
+        b"\x1bE\x1b%0BPU1016,1016\x1b%0A\x1b*p300x300Y\x1b%1B\x1b%1A",
+        9000,
+        10800,
+    ),
+    (b"\x1bE\x1b*p300x300Y\x1b%1BPR508,508\x1b%1A", 12600, 7200),
+    (b"\x1bE\x1b*p300x300Y\x1b%1BPR508,508\x1b%0A", 9000, 10800),
+];
+
 /// Places next to that of the square of a reset alone.
 const ELSEWHERE: &[Row] = &[
     (b"\x1bE", 1801, 4500),
@@ -174,6 +221,7 @@ fn squares_lie_where_they_print(rt: HostRuntime) -> Result<(), Fail> {
     squares_lie(&rt, alloc, BOTTOM_MARGINS, SQUARE, Pass(1, 1))?;
     squares_lie(&rt, alloc, MOVES, SQUARE, Pass(1, 1))?;
     squares_lie(&rt, alloc, SECOND_PAGES, SQUARE, Pass(2, 1))?;
+    squares_lie(&rt, alloc, FRAMES, SQUARE, Pass(1, 1))?;
     squares_lie(&rt, alloc, ELSEWHERE, SQUARE, Found(11, NotPrintable))?;
     squares_lie(&rt, alloc, UNITS, b"", Pass(1, 1))?;
     squares_lie(&rt, alloc, CLOSED_PAGES, b"", Pass(2, 2))

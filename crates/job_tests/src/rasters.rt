@@ -1,5 +1,6 @@
 //! The check of jobs with rasters, and the rows that they mark.
 
+use crate::events::step;
 use crate::items::items_of;
 use crate::printers::Printer::{A, B, C, Moved, Narrow};
 use crate::printers::{Printer, fleet_of};
@@ -118,6 +119,8 @@ const SIZES_FOR_B: &[Row] = &[
         b"\x1bE\x1b*r1T\x1b*r1A\x1b*b0W\x1b*rB\x1b*r1A\x1b*b0W",
         Pass(0, 0),
     ),
+    // What leaves no frame ends a raster, too.
+    (b"\x1bE\x1b*r1A\x1b%1A\x1b*b0W", Found(11, RasterNotStarted)),
     (b"\x1bE\x1b*r1A\x1b*t300R", Found(7, RasterLocked)),
     (b"\x1bE\x1b*r1a1A", Found(7, RasterLocked)),
     (b"\x1bE\x1b*r1a1S", Found(7, RasterLocked)),
@@ -199,6 +202,14 @@ const ENDS: &[&[u8]] = &[
     b"\x1b(s0B",
     b"\x1b*c1A",
     b"\x1b*p+0X",
+    b"\x1b*c0T",
+    b"\x1b*c720X",
+    b"\x1b*c720Y",
+    b"\x1b%0A",
+    b"\x1b%1A",
+    b"\x1b%0B\x1b%0A",
+    b"\x1b%1B\x1b%1A",
+    b"\x1b%0BIN;SP1;PD5,5;\x1b%0A",
     b"\x1b*rB",
     b"\x1b*rC",
 ];
@@ -276,7 +287,7 @@ fn run<S: MarkSink<Fault: Drop>>(
     let mut machine = Machine::new(alloc, &profile, Start::Unknown);
     let items = items_of(rt, alloc, job)?;
     for (place, item) in &items {
-        if machine.step(*place, &item.as_item(), sink).is_err() {
+        if step(rt, &mut machine, *place, &item.as_item(), sink).is_err() {
             return Ok(false);
         }
     }

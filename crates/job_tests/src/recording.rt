@@ -1,8 +1,8 @@
 //! Sinks that count, record and compare events.
 
 use crate::machine::{character, rectangle};
-use crate::recording::Event::{Character, Letter, Rect, Square};
-use page_env::{Area, Bounds, Fill, Mark, PageEnd};
+use crate::recording::Event::{Character, Letter, Line, Rect, Square};
+use page_env::{Area, Bounds, Fill, Mark, PageEnd, PenLine};
 use page_machine::MarkSink;
 use refusing::Refusing;
 use sinks::{Comparer, Counts, Recorder};
@@ -19,6 +19,8 @@ enum Event {
     Rect((u32, u32, u32, u32)),
     /// A character by its code.
     Character(u8),
+    /// A line of the pen: its width, and where it begins and ends, in 7200ths of an inch.
+    Line((u32, u32, u32, u32, u32)),
     /// So many copies of a page of letter paper in portrait.
     Letter(u32),
 }
@@ -33,6 +35,17 @@ fn square(side: u32) -> Mark<'static> {
             bottom: Length::of_7200ths(side),
         },
     })
+}
+
+/// A line of this width, from the first place to the second, in 7200ths of an inch.
+fn line((width, x0, y0, x1, y1): (u32, u32, u32, u32, u32)) -> PenLine {
+    PenLine {
+        width: Length::of_7200ths(width),
+        x0: Length::of_7200ths(x0),
+        y0: Length::of_7200ths(y0),
+        x1: Length::of_7200ths(x1),
+        y1: Length::of_7200ths(y1),
+    }
 }
 
 /// So many copies of a page of letter paper in portrait.
@@ -53,6 +66,7 @@ fn hand<S: MarkSink>(events: &[Event], sink: &mut S) -> Result<(), S::Fault> {
             Square(side) => sink.mark(&square(side)),
             Rect(edges) => sink.mark(&Mark::Rect(rectangle(edges))),
             Character(code) => sink.mark(&Mark::Character(character(code))),
+            Line(words) => sink.mark(&Mark::Line(line(words))),
             Letter(copies) => sink.page(letter(copies)),
         };
         match taken {
@@ -87,6 +101,16 @@ const ROWS: &[(&[Event], &[Event], bool)] = &[
     (&[Character(b'A')], &[Character(b'A')], false),
     (&[Character(b'A')], &[Character(b'B')], true),
     (&[Character(b'A')], &[Rect((1800, 3600, 2520, 4800))], true),
+    (&[Line((9, 1, 2, 3, 4))], &[Line((9, 1, 2, 3, 4))], false),
+    (&[Line((9, 1, 2, 3, 4))], &[Line((8, 1, 2, 3, 4))], true),
+    (&[Line((9, 1, 2, 3, 4))], &[Line((9, 0, 2, 3, 4))], true),
+    (&[Line((9, 1, 2, 3, 4))], &[Line((9, 1, 0, 3, 4))], true),
+    (&[Line((9, 1, 2, 3, 4))], &[Line((9, 1, 2, 0, 4))], true),
+    (&[Line((9, 1, 2, 3, 4))], &[Line((9, 1, 2, 3, 0))], true),
+    // A line from the one end to the other is not that from the other to the one, nor the area between them.
+    (&[Line((9, 1, 2, 3, 4))], &[Line((9, 3, 4, 1, 2))], true),
+    (&[Line((9, 1, 2, 3, 4))], &[Rect((1, 2, 3, 4))], true),
+    (&[Rect((1, 2, 3, 4))], &[Line((9, 1, 2, 3, 4))], true),
 ];
 
 /// Whether events differ from others that were recorded.

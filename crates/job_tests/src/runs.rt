@@ -1,5 +1,6 @@
 //! Runs of text, which a machine carries out at once.
 
+use crate::events::step;
 use crate::items::items_of;
 use device_profile::Sample;
 use page_env::glyph_count;
@@ -41,11 +42,14 @@ fn text_goes_in_runs(rt: HostRuntime) -> Result<(), Fail> {
     assert_eq!(rt; pass(&mut machine, b"A"), None);
     let items = items_of(&rt, rt.alloc(), b"\x1bEA")?;
     for (place, item) in &items {
-        assert!(rt;
-            machine
-                .step(*place, &item.as_item(), &mut Counts::none())
-                .is_ok()
+        let outcome = step(
+            &rt,
+            &mut machine,
+            *place,
+            &item.as_item(),
+            &mut Counts::none(),
         );
+        assert!(rt; outcome.is_ok(), "at {place}");
     }
     for (bytes, wanted) in RUNS {
         assert_eq!(rt; pass(&mut machine, bytes), *wanted, "{bytes:?}");
@@ -61,7 +65,13 @@ fn text_of_a_definition_goes_in_no_run(rt: HostRuntime) -> Result<(), Fail> {
     // Behind the text, the start of the definition and its end.
     let mut runs = [None; 4];
     for (run, (place, item)) in runs.iter_mut().zip(&items) {
-        let outcome = machine.step(*place, &item.as_item(), &mut Counts::none());
+        let outcome = step(
+            &rt,
+            &mut machine,
+            *place,
+            &item.as_item(),
+            &mut Counts::none(),
+        );
         assert!(rt; outcome.is_ok(), "at {place}");
         *run = pass(&mut machine, b"B");
     }

@@ -278,6 +278,15 @@ const TAKEN: &[&[u8]] = &[
     b"&a0M",
     b"&a-0M",
     b"&f-0S",
+    // The picture frame.
+    b"*c0T",
+    b"*c-0T",
+    b"*cT",
+    b"*c720X",
+    b"*c+0.0001X",
+    b"*c65535X",
+    b"*c720Y",
+    b"*c0.5Y",
 ];
 
 /// Values that commands do not take.
@@ -330,6 +339,16 @@ const REFUSED: &[&[u8]] = &[
     b"&f2S",
     b"&f-1S",
     b"&f0.5S",
+    // The picture frame.
+    b"*c1T",
+    b"*c-1T",
+    b"*c0.5T",
+    b"*c0X",
+    b"*cX",
+    b"*c-0X",
+    b"*c-720X",
+    b"*c0Y",
+    b"*c-0.0001Y",
 ];
 
 /// What sample B lacks: trays 9 and 3, another size and another orientation.

@@ -2,7 +2,7 @@
 
 use crate::items::items_of;
 use crate::rows::job_of;
-use pcl_items::{Mode, item_at, spell, spelled_len};
+use pcl_items::{Item, Mode, item_at, spell, spelled_len};
 use refusing::Refusing;
 use std::alloc::Global;
 use std::process::Abort;
@@ -16,7 +16,6 @@ const WITHOUT_NUMBERS: &[Spelled] = &[
     (b"\r", b"\r"),
     (b"\n", b"\n"),
     (b"\x0c", b"\x0c"),
-    (b"\x1bE", b"\x1bE"),
     (b"\x1b9", b"\x1b9"),
     (b"\x1b=", b"\x1b="),
     (b"\x1b(3@", b"\x1b(3@"),
@@ -91,37 +90,99 @@ const WITH_DATA: &[Spelled] = &[
     (b"\x1b*b0004.00W\0\xff\x80W", b"\x1b*b4W\0\xff\x80W"),
 ];
 
-/// Checks how an item is spelled, and that it is read from its spelling between other bytes.
-fn check_spelling(rt: &impl Abort, alloc: Global, (sent, canonical): Spelled) -> Result<(), Fail> {
-    let items = items_of(rt, alloc, sent)?;
-    let [(_, owned)] = items.as_slice() else {
-        assert!(rt; false, "not one item: {sent:?}");
-        return Ok(());
-    };
-    let item = owned.as_item();
+/// Items of frames, as they are sent between the bytes that enter and leave one.
+const OF_FRAMES: &[Spelled] = &[
+    (b"IN", b"IN;"),
+    (b" in ;", b"IN;"),
+    (b"SP", b"SP0;"),
+    (b"SP-0;", b"SP0;"),
+    (b"sp +1", b"SP1;"),
+    (b"SP0.50;", b"SP0.5;"),
+    (b"SP65535.0000", b"SP65535;"),
+    (b"PW;", b"PW0.35;"),
+    (b"PW0.350", b"PW0.35;"),
+    (b"PW.0001", b"PW0.0001;"),
+    (b"PW010.", b"PW10;"),
+    (b"PU", b"PU;"),
+    (b"pd;;", b"PD;"),
+    (b"pA\n", b"PA;"),
+    (b"Pr", b"PR;"),
+    (b"PU1,2", b"PU1,2;"),
+    (b"PD 1 2;", b"PD1,2;"),
+    (b"PA-0,+5", b"PA0,5;"),
+    (b"PA1.00000000,.0", b"PA1,0;"),
+    (b"PR-7-8", b"PR-7,-8;"),
+    (b"PU00300 , 020.", b"PU300,20;"),
+    (b"PD8388607,-8388607", b"PD8388607,-8388607;"),
+    (b"PR-8388607.0 8388607", b"PR-8388607,8388607;"),
+];
+
+/// A job that begins with an item, the spelling of the item, and the mode behind it in mode PCL and in a frame.
+type Switching = (&'static [u8], &'static [u8], Admitted);
+
+/// Items that end the mode of a frame, or begin it.
+const SWITCHES: &[Switching] = &[
+    (b"\x1bE", b"\x1bE", TO_PCL),
+    (b"\x1b%A", b"\x1b%0A", TO_PCL),
+    (b"\x1b%-0A", b"\x1b%0A", TO_PCL),
+    (b"\x1b%01.0A", b"\x1b%1A", TO_PCL),
+    (b"\x1b%B\x1b%0A", b"\x1b%0B", TO_FRAME),
+    (b"\x1b%+1B\x1b%0A", b"\x1b%1B", TO_FRAME),
+];
+
+/// The mode behind an item in mode PCL, and in a frame, where these admit it.
+type Admitted = (Option<Mode>, Option<Mode>);
+
+const IN_PCL: Admitted = (Some(Mode::Pcl), None);
+
+const IN_FRAME: Admitted = (None, Some(Mode::Frame));
+
+const TO_PCL: Admitted = (Some(Mode::Pcl), Some(Mode::Pcl));
+
+const TO_FRAME: Admitted = (Some(Mode::Frame), None);
+
+/// Checks how an item is spelled, which modes admit it, and that these read it from its spelling between other bytes.
+fn check_item(
+    rt: &impl Abort,
+    alloc: Global,
+    item: &Item<'_>,
+    canonical: &[u8],
+    (in_pcl, in_frame): Admitted,
+) -> Result<(), Fail> {
     let mut text = Vec::new(alloc);
-    spell(&item, &mut text)?;
-    spell(&item, &mut text)?;
+    spell(item, &mut text)?;
+    spell(item, &mut text)?;
     let twice = job_of(alloc, b"", 2, canonical, b"")?;
     assert_eq!(rt;
-        (&text, spelled_len(&item)),
+        (&text, spelled_len(item)),
         (&twice, canonical.len() as u64)
     );
-    assert_eq!(rt; item.follows(Mode::Pcl), Some(Mode::Pcl));
     let placed = job_of(alloc, b"\x1b", 1, canonical, b"7E")?;
-    assert!(rt; 1 <= placed.len());
-    let read = item_at(&placed, 1, Mode::Pcl);
-    assert_eq!(rt;
-        read,
-        Some((item, 1 + canonical.len(), Mode::Pcl)),
-        "{sent:?}"
-    );
+    for (mode, admitted) in [(Mode::Pcl, in_pcl), (Mode::Frame, in_frame)] {
+        assert_eq!(rt; item.follows(mode), admitted, "{canonical:?}");
+        let Some(behind) = admitted else {
+            continue;
+        };
+        assert!(rt; 1 <= placed.len());
+        let read = item_at(&placed, 1, mode);
+        assert_eq!(rt;
+            read,
+            Some((*item, 1 + canonical.len(), behind)),
+            "{canonical:?}"
+        );
+    }
     Ok(())
 }
 
+/// Checks items of mode PCL, each sent alone.
 fn check_spellings(rt: &impl Abort, alloc: Global, rows: &[Spelled]) -> Result<(), Fail> {
-    for row in rows {
-        check_spelling(rt, alloc, *row)?;
+    for (sent, canonical) in rows {
+        let items = items_of(rt, alloc, sent)?;
+        let [(_, item)] = items.as_slice() else {
+            assert!(rt; false, "not one item: {sent:?}");
+            return Ok(());
+        };
+        check_item(rt, alloc, &item.as_item(), canonical, IN_PCL)?;
     }
     Ok(())
 }
@@ -131,6 +192,33 @@ fn items_are_spelled_and_read_again(rt: HostRuntime) -> Result<(), Fail> {
     check_spellings(&rt, rt.alloc(), WITHOUT_NUMBERS)?;
     check_spellings(&rt, rt.alloc(), WITH_NUMBERS)?;
     check_spellings(&rt, rt.alloc(), WITH_DATA)
+}
+
+#[test]
+fn items_of_frames_are_spelled_and_read_again(rt: HostRuntime) -> Result<(), Fail> {
+    for (sent, canonical) in OF_FRAMES {
+        let job = job_of(rt.alloc(), b"\x1b%0B", 1, sent, b"\x1b%0A")?;
+        let items = items_of(&rt, rt.alloc(), &job)?;
+        let [_, (_, item), _] = items.as_slice() else {
+            assert!(rt; false, "not one item: {sent:?}");
+            return Ok(());
+        };
+        check_item(&rt, rt.alloc(), &item.as_item(), canonical, IN_FRAME)?;
+    }
+    Ok(())
+}
+
+#[test]
+fn items_that_switch_the_mode_are_spelled_and_read_again(rt: HostRuntime) -> Result<(), Fail> {
+    for (job, canonical, admitted) in SWITCHES {
+        let items = items_of(&rt, rt.alloc(), job)?;
+        let Some((_, item)) = items.first() else {
+            assert!(rt; false, "no item: {job:?}");
+            return Ok(());
+        };
+        check_item(&rt, rt.alloc(), &item.as_item(), canonical, *admitted)?;
+    }
+    Ok(())
 }
 
 /// Bytes with which no spelling begins.
@@ -174,6 +262,17 @@ const NOTHING: &[&[u8]] = &[
     b"\x1b(8X",
     b"\x1b(4@",
     b"\x1b&b0X",
+    // Other spellings of what enters and leaves a frame.
+    b"\x1b%",
+    b"\x1b%B",
+    b"\x1b%A",
+    b"\x1b%00B",
+    b"\x1b%+1B",
+    b"\x1b%-0A",
+    b"\x1b%1.0A",
+    b"\x1b%2A",
+    b"\x1b%0X",
+    b"\x1b%0",
     // Data with another count, and data that are cut off.
     b"\x1b*b03Wabc",
     b"\x1b*b+3Wabc",
@@ -188,12 +287,77 @@ const NOTHING: &[&[u8]] = &[
     b"\x1b&p03XA B",
 ];
 
+/// Bytes with which no spelling of an item of a frame begins.
+const NOTHING_IN_FRAMES: &[&[u8]] = &[
+    b"",
+    b";",
+    b" IN;",
+    b";IN;",
+    b"in;",
+    b"I",
+    b"IN",
+    b"IN ;",
+    b"IN,",
+    b"LT;",
+    b"A",
+    b"5",
+    b"\r",
+    // Other spellings of a number.
+    b"SP;",
+    b"SP1",
+    b"SP 1;",
+    b"SP01;",
+    b"SP+1;",
+    b"SP-0;",
+    b"SP1.0;",
+    b"SP1.",
+    b"SP65536;",
+    b"PW;",
+    b"PW.35;",
+    b"PW0.350;",
+    b"PW0.35 ;",
+    b"PW0.00001;",
+    // Other spellings of places, odd coordinates, and several pairs.
+    b"PA1;",
+    b"PA1,",
+    b"PA1,2",
+    b"PA1 2;",
+    b"PA1-2;",
+    b"PA1,2 ;",
+    b"PA1,2,;",
+    b"PA1,2,3,4;",
+    b"PA1,2-3,4;",
+    b"PA+1,2;",
+    b"PA-0,1;",
+    b"PA01,2;",
+    b"PA1.,2;",
+    b"PA1,2.0;",
+    b"PA8388608,0;",
+    b"PU 1,2;",
+    // Items of mode PCL, and other spellings of what leaves a frame.
+    b"\x1b9",
+    b"\x1b&l2A",
+    b"\x1b%0B",
+    b"\x1b%1B",
+    b"\x1b%A",
+    b"\x1b%00A",
+    b"\x1b%-0A",
+    b"\x1b%2A",
+    b"\x1b%0",
+    b"\x1b",
+];
+
 #[test]
 fn nothing_stands_there(rt: HostRuntime) {
     for bytes in NOTHING {
         assert_eq!(rt; item_at(bytes, 0, Mode::Pcl), None, "{bytes:?}");
         assert_eq!(rt; item_at(bytes, bytes.len(), Mode::Pcl), None, "{bytes:?}");
     }
+    for bytes in NOTHING_IN_FRAMES {
+        assert_eq!(rt; item_at(bytes, 0, Mode::Frame), None, "{bytes:?}");
+        assert_eq!(rt; item_at(bytes, bytes.len(), Mode::Frame), None, "{bytes:?}");
+    }
+    assert_eq!(rt; item_at(b"PA1,2,3,4;", 6, Mode::Frame), None);
     assert_eq!(rt; item_at(b"\x1b&l2a0O", 7, Mode::Pcl), None);
     assert_eq!(rt; item_at(b"A\t", 1, Mode::Pcl), None);
     assert_eq!(rt; item_at(b"AB\x1b*p.5X", 2, Mode::Pcl), None);

@@ -1,10 +1,11 @@
 //! The store of macros: what is stored, read again and taken out, its limit, and requests for memory that are refused.
 
-ghost use Rattle.std.specs.Prelude.{◌≡◌, None};
+ghost use Rattle.std.specs.Prelude.{◌≡◌, None, IfOk, OnErr};
+ghost use Rattle.page_machine.specs.Defining.{StandsIn};
 
 use crate::items::items_of;
 use macro_store::{MacroStore, Refusal};
-use pcl_items::{Command, Item, Number, OwnedItem, Place, Sign, SimpleItem};
+use pcl_items::{Command, Item, Mode, Number, OwnedItem, Place, Sign, SimpleItem};
 use refusing::Refusing;
 use std::alloc::{Allocator, Global};
 use std::process::Abort;
@@ -108,6 +109,7 @@ const CHANGES: &[(Change, u64, Macros)] = &[
 
 /// Defines a macro of one item.
 fn define<A: Allocator + Copy>(
+    rt: &impl Abort,
     store: &mut MacroStore<A>,
     id: u16,
     item: Stored,
@@ -117,19 +119,42 @@ fn define<A: Allocator + Copy>(
     if let Err(error) = store.begin(id) {
         return Err(Refusal::Memory(error));
     }
-    match store.append(&item.item()) {
-        Ok(()) => {
-            store.commit();
-            Ok(())
-        }
-        Err(refusal) => Err(refusal),
-    }
+    append(rt, store, Mode::Pcl, &item.item())?;
+    end_definition(rt, store);
+    Ok(())
+}
+
+/// Adds an item to the definition that has to be open in this mode, which has to admit it, and tells the mode behind it.
+#[tactic(auto, using(page_machine::proofs::Modes::admits_next, page_machine::proofs::Modes::appended_stands))]
+fn append<A: Allocator + Copy>(
+    rt: &impl Abort,
+    store: &mut MacroStore<A>,
+    mode: Mode,
+    item: &Item<'_>,
+) -> Result<Mode, Refusal>
+    requires { StandsIn store.old mode }
+    ensures ok { IfOk result (λ next. StandsIn store.new next) }
+    ensures err { OnErr result (store.new ≡ store.old) }
+{
+    assert!(rt; store.is_open());
+    let Some(next) = item.follows(mode) else {
+        assert!(rt; false, "no item of this mode");
+        return Ok(mode);
+    };
+    store.append(item)?;
+    Ok(next)
+}
+
+/// Ends the definition that has to be open.
+fn end_definition<A: Allocator + Copy>(rt: &impl Abort, store: &mut MacroStore<A>) {
+    assert!(rt; store.is_open());
+    store.commit();
 }
 
 fn change_store(rt: &impl Abort, store: &mut MacroStore, change: Change) -> Result<(), Refusal> {
     assert!(rt; !store.is_open());
     match change {
-        Define(id, item) => define(store, id, item),
+        Define(id, item) => define(rt, store, id, item),
         Delete(id) => {
             store.delete(id);
             Ok(())
@@ -169,21 +194,20 @@ fn bodies_move_down(rt: HostRuntime) -> Result<(), Fail> {
 #[test]
 fn the_limit_is_kept(rt: HostRuntime) -> Result<(), Fail> {
     let mut store = MacroStore::new(rt.alloc(), 8);
-    assert_eq!(rt; define(&mut store, 7, Stored::Move), Ok(()));
+    assert_eq!(rt; define(&rt, &mut store, 7, Stored::Move), Ok(()));
     assert!(rt; !store.is_open());
+    assert_eq!(rt; store.begin(8), Ok(()));
     assert_eq!(rt;
-        define(&mut store, 8, Stored::LineFeed),
+        append(&rt, &mut store, Mode::Pcl, &Stored::LineFeed.item()),
         Err(Refusal::MacroMemory)
     );
     // The definition stays open, and takes nothing more; the other macro is as before.
-    assert!(rt; store.is_open());
     assert_eq!(rt;
-        store.append(&Stored::FormFeed.item()),
+        append(&rt, &mut store, Mode::Pcl, &Stored::FormFeed.item()),
         Err(Refusal::MacroMemory)
     );
     assert!(rt; store.bytes() == 8 && is_kept(&store, 7, Some(Stored::Move)));
-    assert!(rt; store.is_open());
-    store.commit();
+    end_definition(&rt, &mut store);
     assert!(rt; store.bytes() == 8 && store.body(8).is_some());
     Ok(())
 }
@@ -192,7 +216,7 @@ fn the_limit_is_kept(rt: HostRuntime) -> Result<(), Fail> {
 fn define_all<A: Allocator + Copy>(rt: &impl Abort, store: &mut MacroStore<A>) -> u16 {
     for id in 0..1000 {
         assert!(rt; !store.is_open());
-        match define(store, id, Stored::Move) {
+        match define(rt, store, id, Stored::Move) {
             Ok(()) => {}
             Err(Refusal::MacroMemory) => assert!(rt; false, "at {id}"),
             Err(Refusal::Memory(_)) => {
@@ -230,7 +254,7 @@ fn is_begun(rt: &impl Abort, alloc: Global, requests: u64) -> bool {
         return false;
     }
     assert_eq!(rt;
-        store.append(&Stored::Move.item()),
+        append(rt, &mut store, Mode::Pcl, &Stored::Move.item()),
         Err(Refusal::MacroMemory)
     );
     true
@@ -251,16 +275,23 @@ const BODY: &[u8] =
     b"\x1b&l16C\x1b*p600x300Y\x1b&p3XA B\x1b*b2W\x1bE\x1b(10U\x1b(3@A\r\n\x0c\x1b9\x1b=\x1b*c+7.50A\
 \x1b&p0X\xff";
 
+/// Frames with each of their commands, between items of mode PCL.
+const BODY_OF_FRAMES: &[u8] =
+    b"A\x1b*c0t720x0.5Y\x1b%0BIN;SP1;sp;PW.50PW;PU;PD1,2,-3,4;PA;PA 8388607 -8388607\x1b%1A\
+IN;\x1b%1BPR+5-0PDPU7,8;\x1b%0A\x1b%0A\x1b%1A\r";
+
 /// Stores these items as the macro of this id.
 fn store_items(rt: &impl Abort, store: &mut MacroStore, id: u16, items: &[(Place, OwnedItem)]) {
     assert!(rt; !store.is_open());
     assert_eq!(rt; store.begin(id), Ok(()));
-    for (_, item) in items {
-        assert!(rt; store.is_open());
-        assert_eq!(rt; store.append(&item.as_item()), Ok(()));
+    let mut mode = Mode::Pcl;
+    for (place, item) in items {
+        match append(rt, store, mode, &item.as_item()) {
+            Ok(next) => mode = next,
+            Err(_) => assert!(rt; false, "at {place}"),
+        }
     }
-    assert!(rt; store.is_open());
-    store.commit();
+    end_definition(rt, store);
 }
 
 /// Checks that the body of a macro is these items, each of which can be copied.
@@ -290,12 +321,19 @@ fn check_items(
 #[test]
 fn a_body_has_the_items_that_were_stored(rt: HostRuntime) -> Result<(), Fail> {
     let items = items_of(&rt, rt.alloc(), BODY)?;
+    let frames = items_of(&rt, rt.alloc(), BODY_OF_FRAMES)?;
     let mut store = MacroStore::new(rt.alloc(), 1000);
-    for id in 1..4 {
-        store_items(&rt, &mut store, id, &items);
-    }
+    store_items(&rt, &mut store, 1, &frames);
+    store_items(&rt, &mut store, 2, &items);
+    store_items(&rt, &mut store, 3, &frames);
+    store_items(&rt, &mut store, 4, &items);
+    check_items(&rt, rt.alloc(), &store, 1, &frames)?;
     assert!(rt; !store.is_open());
     store.delete(1);
     check_items(&rt, rt.alloc(), &store, 2, &items)?;
-    check_items(&rt, rt.alloc(), &store, 3, &items)
+    check_items(&rt, rt.alloc(), &store, 3, &frames)?;
+    assert!(rt; !store.is_open());
+    store.delete(2);
+    check_items(&rt, rt.alloc(), &store, 3, &frames)?;
+    check_items(&rt, rt.alloc(), &store, 4, &items)
 }
