@@ -115,7 +115,7 @@ def line_of_list(number, line):
 
 
 def mix(number):
-    """A form that takes every command but those of text, of rasters and of macros."""
+    """A form that takes every command but those of text, of rasters, of frames and of macros."""
     yield from settings_of_form(number)
     for line in range(12):
         yield rectangle(600 + 10 * line, 2)
@@ -168,6 +168,34 @@ def row_of_raster(number, row):
     blank = length // 8 if row % 3 == 2 else 0
     bytes_between = bytes(1 + (number + 7 * row + 31 * i) % 255 for i in range(length - 2 * blank))
     return bytes(blank) + bytes_between + bytes(blank)
+
+
+def plot(number):
+    """Two drawings of a plot converter, a frame each, with lines through 1 to 40 places."""
+    for drawing in (2 * number, 2 * number + 1):
+        yield b"\x1b%0BIN;SP1;" + b"PW%s;" % (b"0.25", b"0.35", b"0.5")[drawing % 3]
+        for count in range(1, 41):
+            yield relative_line(drawing, count) if count % 3 == 0 else absolute_line(drawing, count)
+        yield b"PU;SP0;\x1b%0A"
+    yield FORM_FEED
+
+
+def absolute_line(drawing, count):
+    """A line through so many places, anywhere in the frame."""
+    places = ((31 * (drawing + 7 * i) % 8129, 71 * (count + 3 * i) % 10161) for i in range(count))
+    return b"PU%d,%d;" % (97 * count, 101 * (drawing % 90)) + b"PD" + coordinates(places) + b";"
+
+
+def relative_line(drawing, count):
+    """A line of so many steps, which stays near its begin: seven steps across, or five up, lead to where they began."""
+    steps = ((40 * (i % 7 - 3), 40 * (i % 5 - 2)) for i in range(count))
+    begin = b"PU%d,%d;" % (1000 + 53 * (drawing + count) % 6000, 1000 + 97 * (drawing + count) % 8000)
+    return begin + b"PR;PD" + coordinates(steps) + b";PA;"
+
+
+def coordinates(places):
+    """Pairs of coordinates, as one command has them."""
+    return b",".join(b"%d,%d" % place for place in places)
 
 
 def macro(number):
@@ -227,7 +255,7 @@ def to_cell(column, row):
     return b"\x1b&a%dc%dR" % (column, row)
 
 
-MAKERS = (rectangles, lines, text, raster, mix, macro, written_out, overlay)
+MAKERS = (rectangles, lines, text, raster, mix, plot, macro, written_out, overlay)
 KINDS = {maker.__name__: maker for maker in MAKERS}
 
 # The kinds that need macro memory, and the one that is measured beside one of them.
