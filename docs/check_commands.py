@@ -1,7 +1,7 @@
 #!/usr/bin/env python3
 """Compares the tables of DEFINITIONS.md with the code.
 
-The table of commands has exactly the commands that the lexer knows, each once; the table of macro
+The table of commands has exactly the commands that the lexer knows, those of frames among them, each once; the table of macro
 controls has exactly the values and names of the code's; the table of faults and findings has exactly
 the numbers and names that the program writes; and each finding that the tables of commands and of
 controls name is one of these. What differs is printed, and the status is 1.
@@ -16,12 +16,22 @@ ROOT = Path(__file__).resolve().parent.parent
 DOCUMENT = ROOT / "docs" / "DEFINITIONS.md"
 CODES = ROOT / "crates" / "pcl_items" / "src" / "code.rt"
 COMMANDS = ROOT / "crates" / "pcl_items" / "src" / "command.rt"
+FRAMES = ROOT / "crates" / "pcl_items" / "src" / "frame.rt"
 ITEMS = ROOT / "crates" / "pcl_items" / "src" / "item.rt"
 MACROS = ROOT / "crates" / "page_env" / "src" / "macros.rt"
 WORDS = ROOT / "crates" / "preflight" / "src" / "words.rt"
 
 # The kinds of items that stand in no table of bytes, as the table of commands writes them.
-OTHERS = {"Text": "`32` to `255`", "SymbolSet": "`ESC (#`letter", "DefaultFont": "`ESC (3@`"}
+OTHERS = {
+    "Text": "`32` to `255`",
+    "SymbolSet": "`ESC (#`letter",
+    "DefaultFont": "`ESC (3@`",
+    "EnterFrame": "`ESC %#B`",
+    "LeaveFrame": "`ESC %#A`",
+}
+
+# The kinds of items that stand in a table of their own: of commands, of data, of the commands of frames.
+TABLED = ("Parameterized", "Simple", "WithData", "Initialize", "Set", "Move")
 
 # The names of the control codes, by their bytes.
 CONTROL_NAMES = (
@@ -82,6 +92,8 @@ def commands_of_code():
         commands.append(f"`ESC {groups.get(group, '?')}#{chr(byte_of(letter))}`")
     for group, letter in arms(COMMANDS, "impl DataCommand", rf"\(Group::(\w+), {literal}\) => Some\(DataCommand::\w+\)"):
         commands.append(f"`ESC {groups.get(group, '?')}#{chr(byte_of(letter))}`")
+    for first, second in arms(FRAMES, "impl Mnemonic", rf"\({literal}, {literal}\) => Some\(Mnemonic::\w+"):
+        commands.append(f"`{chr(byte_of(first))}{chr(byte_of(second))}`")
     return commands + [others_of_code(kind) for kind in other_kinds()]
 
 
@@ -91,7 +103,7 @@ def other_kinds():
     for head in ("pub enum SimpleItem", "pub enum Item<'a>"):
         kinds += re.findall(r"^    (\w+)(?:\(.*\))?,$", block(ITEMS, head), re.MULTILINE)
     in_tables = re.findall(r"SimpleItem::(\w+)", CODES.read_text(encoding="utf-8"))
-    return [kind for kind in kinds if kind not in in_tables + ["Parameterized", "Simple", "WithData"]]
+    return [kind for kind in kinds if kind not in in_tables and kind not in TABLED]
 
 
 def others_of_code(kind):
