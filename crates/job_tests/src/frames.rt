@@ -1,14 +1,15 @@
 //! The check of jobs with HP-GL/2 frames, and the lines that they mark.
 
 use crate::events::{Worded, check_words};
-use crate::printers::Printer;
 use crate::printers::Printer::{A, B, C, Moved, Narrow, SomeCopies};
+use crate::printers::{Printer, fleet_of};
 use crate::rows::Expected::{Differs, Fault, Found, FoundOn, Pass};
-use crate::rows::{Expected, PrinterRow, Row, check_printer_rows, check_rows};
+use crate::rows::{Expected, PrinterRow, Row, check_printer_rows, check_rows, job_of};
 use device_profile::Field;
 use page_env::Finding::{BadValue, NoPen, NotPrintable, OffPage, OutsideFrame, Unset};
-use pcl_items::Cause::{EndInFrame, NotInProfile};
+use pcl_items::Cause::{EndInFrame, NotInProfile, Syntax, Truncated};
 use pcl_items::Name;
+use preflight::{Watched, check_job};
 use std::test::Fail;
 
 /// Frames that are entered, drawn in and left.
@@ -48,10 +49,20 @@ const EFFECTS: &[Row] = &[
     (b"\x1bE\x1b%0BPD\x1b%0A", Found(6, NoPen)),
     (b"\x1bE\x1b%0BPD", Found(6, NoPen)),
     (b"\x1bE\x1b%0BPU", Fault(8, EndInFrame)),
+    // What the end of the bytes ends is carried out, and what it does not end is not whole.
+    (b"\x1bE\x1b%0BSP1PD", Fault(11, EndInFrame)),
+    (b"\x1bE\x1b%0BSP2", Found(6, BadValue)),
+    (b"\x1bE\x1b%0BPW0 ", Found(6, BadValue)),
+    (b"\x1bE\x1b%0BSP1PD1,1", Fault(14, EndInFrame)),
+    (b"\x1bE\x1b%0BSP1PD-1,0", Found(9, OutsideFrame)),
+    (b"\x1bE\x1b%0BSP1PD0,0,-1", Fault(15, Truncated)),
+    (b"\x1bE\x1b%0BSP1PD0,0,-1,0", Found(15, OutsideFrame)),
     (b"\x1bE\x1b%0BSP1PD;SP0;PA1,1;\x1b%0A", Found(16, NoPen)),
     (b"\x1bE\x1b%0BSP1PD;SP0PD;\x1b%0A", Pass(1, 1)),
     (b"\x1bE\x1b%0BSP1PD;PD;PD;\x1b%0A", Pass(1, 1)),
     (b"\x1bE\x1b%0BSP1PD;IN;PA1,1;\x1b%0A", Pass(1, 1)),
+    (b"\x1bE\x1b%0BSP1PD;IN;PD;", Found(15, NoPen)),
+    (b"\x1bE\x1b%0BSP1PD5,5;IN;SP1PD;\x1b%0A", Pass(1, 3)),
     (b"\x1bE\x1b%0BSP1PD;PU;PA1,1;PD\x1b%0A", Pass(1, 2)),
     (b"\x1bE\x1b%0BSP1PDSP;PU;PA1,1;PD\x1b%0A", Found(23, NoPen)),
     (b"\x1bE\x1b%0BSP1PD1,1,2,2\x1b%0A", Pass(1, 3)),
@@ -114,6 +125,29 @@ const EFFECTS: &[Row] = &[
         Found(17, NotPrintable),
     ),
     (b"\x1bE\x1b%0BSP1PW25.4PU1000,1000PD;\x1b%0A", Pass(1, 1)),
+    (b"\x1bE\x1b%0BSP1PW4.2333PU8128,5080PD;\x1b%0A", Pass(1, 1)),
+    (
+        b"\x1bE\x1b%0BSP1PW4.2334PU8128,5080PD;\x1b%0A",
+        Found(28, NotPrintable),
+    ),
+    (b"\x1bE\x1b%0BSP1PW16.9333PU4064,0PD;\x1b%0A", Pass(1, 1)),
+    (
+        b"\x1bE\x1b%0BSP1PW16.9334PU4064,0PD;\x1b%0A",
+        Found(26, NotPrintable),
+    ),
+    (
+        b"\x1bE\x1b%0BSP1PW16.9333PU4064,10160PD;\x1b%0A",
+        Pass(1, 1),
+    ),
+    (
+        b"\x1bE\x1b%0BSP1PW16.9334PU4064,10160PD;\x1b%0A",
+        Found(30, NotPrintable),
+    ),
+    // The place where the line begins is in it, too.
+    (
+        b"\x1bE\x1b%0BSP1PD;PW4.2334;PA1000,1000;\x1b%0A",
+        Found(21, NotPrintable),
+    ),
     (
         b"\x1bE\x1b%0BSP1PW65535PU4000,5000PD;\x1b%0A",
         Found(27, NotPrintable),
@@ -145,6 +179,14 @@ const EFFECTS: &[Row] = &[
     (b"\x1bE\x1b*p100X\x1b%1BPR8388268,0\x1b%0A", Pass(0, 0)),
     // Relative and absolute.
     (b"\x1bE\x1b%0BPR8388607,0PA8388607,0;\x1b%0A", Pass(0, 0)),
+    (
+        b"\x1bE\x1b%0BPA8388607,0PR1,0;\x1b%0A",
+        Found(17, OutsideFrame),
+    ),
+    (
+        b"\x1bE\x1b%0BPR;\x1b%0A\x1b%0BPU8388607,0,1,0;\x1b%0A",
+        Found(29, OutsideFrame),
+    ),
     (
         b"\x1bE\x1b%0BPR;IN;PU8388607,0,8388607,0;\x1b%0A",
         Pass(0, 0),
@@ -203,6 +245,28 @@ const EFFECTS: &[Row] = &[
     (
         b"\x1bE\x1b%0BSP1PD;\x1b%0A\x1b&l2A\x1b%0BPA1,1\x1b%0A",
         Pass(2, 2),
+    ),
+    // The default frame of other pages: 7918.03 by 10861.04 plotter units, and in landscape 10769.6 by 7620.
+    (
+        b"\x1bE\x1b&l26A\x1b%0BSP1PU7918,10861PD;\x1b%0A",
+        Pass(1, 1),
+    ),
+    (
+        b"\x1bE\x1b&l26A\x1b%0BSP1PU7919,0PD;\x1b%0A",
+        Found(23, OutsideFrame),
+    ),
+    (
+        b"\x1bE\x1b&l26A\x1b%0BSP1PU0,10862PD;\x1b%0A",
+        Found(24, OutsideFrame),
+    ),
+    (b"\x1bE\x1b&l1O\x1b%0BSP1PU10769,7620PD;\x1b%0A", Pass(1, 1)),
+    (
+        b"\x1bE\x1b&l1O\x1b%0BSP1PU10770,0PD;\x1b%0A",
+        Found(23, OutsideFrame),
+    ),
+    (
+        b"\x1bE\x1b&l1O\x1b%0BSP1PU0,7621PD;\x1b%0A",
+        Found(22, OutsideFrame),
     ),
     // Entered and left with the pen and the cursor where they were, or with each at the place of the other.
     (b"\x1bE\x1b*p300X\x1b%0B\x1b%0A\x1b*p-300X", Pass(0, 0)),
@@ -359,9 +423,37 @@ const MARKED: &[Worded] = &[
         ],
     ),
     (
+        b"\x1bE\x1b%0BSP1PD5,5;IN;SP1PD;\x1b%0A",
+        &[
+            "line 504000000 9144000000 384048000000 9144000000 384048000000",
+            "line 504000000 9144000000 384048000000 9324000000 383868000000",
+            "line 504000000 9144000000 384048000000 9144000000 384048000000",
+            "page 1",
+        ],
+    ),
+    (
         b"\x1bE\x1b*p300x300Y\x1b*c0T\x1b*c720x720Y\x1b%0BSP1PW1PU9,9PR;IN;SP1PD;\x1b%0A",
         &[
             "line 504000000 45720000000 91440000000 45720000000 91440000000",
+            "page 1",
+        ],
+    ),
+    // Coordinates are relative from PR on, and absolute again from PA on.
+    (
+        b"\x1bE\x1b%0BSP1PU100,100PR100,0PD0,100;PA0,0;\x1b%0A",
+        &[
+            "line 504000000 16344000000 380448000000 16344000000 380448000000",
+            "line 504000000 16344000000 380448000000 16344000000 376848000000",
+            "line 504000000 16344000000 376848000000 9144000000 384048000000",
+            "page 1",
+        ],
+    ),
+    (
+        b"\x1bE\x1b%0BSP1PRPD5,5PAPD5,5;\x1b%0A",
+        &[
+            "line 504000000 9144000000 384048000000 9144000000 384048000000",
+            "line 504000000 9144000000 384048000000 9324000000 383868000000",
+            "line 504000000 9324000000 383868000000 9324000000 383868000000",
             "page 1",
         ],
     ),
@@ -511,6 +603,48 @@ const MARKED: &[Worded] = &[
     ),
 ];
 
+/// Commands of frames that are read in many pieces: a front, so many times a part, and an end.
+const REPEATED: &[(&[u8], u32, &[u8], &[u8], Expected)] = &[
+    // The second and the third piece of the job end within a pair.
+    (
+        b"\x1bE\x1b%0BSP1PD",
+        3000,
+        b"1,10,",
+        b"2,2\x1b%0A",
+        Pass(1, 3002),
+    ),
+    (
+        b"\x1bE\x1b%0BSP1PD",
+        3000,
+        b"1,10,",
+        b"-1,2",
+        Found(15_011, OutsideFrame),
+    ),
+    (
+        b"\x1bE\x1b%0BSP1PD",
+        3000,
+        b"1,10,",
+        b"2",
+        Fault(15_011, Truncated),
+    ),
+    // White space and semicolons are passed over, in a command and between commands.
+    (
+        b"\x1bE\x1b%0BSP1PD1",
+        10_000,
+        b" ",
+        b",2\x1b%0A",
+        Pass(1, 2),
+    ),
+    (
+        b"\x1bE\x1b%0BSP1PD1",
+        10_000,
+        b" ",
+        b",2:",
+        Fault(10_014, Syntax),
+    ),
+    (b"\x1bE\x1b%0B", 10_000, b"; ", b"5", Fault(20_006, Syntax)),
+];
+
 /// Lines that stand before a finding.
 const MARKED_BEFORE: &[Worded] = &[
     (
@@ -538,6 +672,17 @@ const MARKED_BEFORE: &[Worded] = &[
 fn frames_for_one_printer(rt: HostRuntime) -> Result<(), Fail> {
     check_rows(&rt, rt.alloc(), &[B], JOBS)?;
     check_rows(&rt, rt.alloc(), &[B], EFFECTS)
+}
+
+#[test]
+fn frames_of_many_reads(rt: HostRuntime) -> Result<(), Fail> {
+    let fleet = fleet_of(rt.alloc(), &[B])?;
+    for (front, times, part, end, expected) in REPEATED {
+        let job = job_of(rt.alloc(), front, *times, part, end)?;
+        let verdict = check_job(rt.alloc(), &mut Watched::new(job.as_slice()), &fleet)?;
+        assert_eq!(rt; verdict, expected.verdict(), "{times} times {part:?}");
+    }
+    Ok(())
 }
 
 #[test]

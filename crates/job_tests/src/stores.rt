@@ -1,7 +1,7 @@
 //! The store of macros: what is stored, read again and taken out, its limit, and requests for memory that are refused.
 
-ghost use Rattle.std.specs.Prelude.{◌≡◌, None, IfOk, OnErr};
-ghost use Rattle.page_machine.specs.Defining.{StandsIn};
+ghost use Rattle.std.specs.Prelude.{◌≡◌, None, Some, IfOk, OnErr};
+ghost use Rattle.macro_store.specs.Store.{mode_in};
 
 use crate::items::items_of;
 use macro_store::{MacroStore, Refusal};
@@ -124,16 +124,16 @@ fn define<A: Allocator + Copy>(
     Ok(())
 }
 
-/// Adds an item to the definition that has to be open in this mode, which has to admit it, and tells the mode behind it.
-#[tactic(auto, using(page_machine::proofs::Modes::admits_next, page_machine::proofs::Modes::appended_stands))]
+/// Adds an item to the definition that is open in this mode, which has to admit it, and tells the mode behind it.
+#[tactic(auto, using(crate::proofs::Definitions::admits_next, crate::proofs::Definitions::appended_in))]
 fn append<A: Allocator + Copy>(
     rt: &impl Abort,
     store: &mut MacroStore<A>,
     mode: Mode,
     item: &Item<'_>,
 ) -> Result<Mode, Refusal>
-    requires { StandsIn store.old mode }
-    ensures ok { IfOk result (λ next. StandsIn store.new next) }
+    requires { mode_in store.old.definition ≡ Some mode }
+    ensures ok { IfOk result (λ next. mode_in store.new.definition ≡ Some next) }
     ensures err { OnErr result (store.new ≡ store.old) }
 {
     assert!(rt; store.is_open());
