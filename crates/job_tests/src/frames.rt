@@ -23,6 +23,13 @@ const JOBS: &[Row] = &[
     (b"\x1b%-0B\x1b%-0A", Pass(0, 0)),
     (b"\x1b%+1.0B\x1b%01.A", Pass(0, 0)),
     (b"\x1b%B\x1b%A", Pass(0, 0)),
+    // So may numbers within a frame; white space within a command has no end.
+    (b"\x1b%0Bsp pw;SP+1PW0.350PA-0,+5\x1b%0A", Pass(0, 0)),
+    (b"\x1b%0BPA1.00000000,.0,2.,-0\x1b%0A", Pass(0, 0)),
+    (
+        b"\x1b%0Bpa                                        1\r\n,\t\t\t\t\t\t\t\t\t\t\t\t\t\t\t\t\t\t\t\t\t\t\t\t\t\t\t\t\t\t\t\t\t\t\t\t\t\t\t\t2 \x1b%0A",
+        Pass(0, 0),
+    ),
     // A reset leaves a frame, too, and a frame may be entered again.
     (b"\x1bE\x1b%0BSP1PD;\x1bE", Pass(1, 1)),
     (b"\x1bE\x1b%0B\x1bEA", Pass(1, 1)),
@@ -48,6 +55,7 @@ const EFFECTS: &[Row] = &[
     // The pen: which one, raised or lowered.
     (b"\x1bE\x1b%0BPD\x1b%0A", Found(6, NoPen)),
     (b"\x1bE\x1b%0BPD", Found(6, NoPen)),
+    (b"\x1b%0BPD", Found(4, NoPen)),
     (b"\x1bE\x1b%0BPU", Fault(8, EndInFrame)),
     // What the end of the bytes ends is carried out, and what it does not end is not whole.
     (b"\x1bE\x1b%0BSP1PD", Fault(11, EndInFrame)),
@@ -63,6 +71,11 @@ const EFFECTS: &[Row] = &[
     (b"\x1bE\x1b%0BSP1PD;IN;PA1,1;\x1b%0A", Pass(1, 1)),
     (b"\x1bE\x1b%0BSP1PD;IN;PD;", Found(15, NoPen)),
     (b"\x1bE\x1b%0BSP1PD5,5;IN;SP1PD;\x1b%0A", Pass(1, 3)),
+    (b"\x1bE\x1b%0BPR;IN;PU5,5,5,5SP1PD;\x1b%0A", Pass(1, 1)),
+    (
+        b"\x1bE\x1b*p300x300Y\x1b*c0T\x1b*c720x720Y\x1b%0BSP1PW1PU9,9PR;IN;SP1PD;\x1b%0A",
+        Pass(1, 1),
+    ),
     (b"\x1bE\x1b%0BSP1PD;PU;PA1,1;PD\x1b%0A", Pass(1, 2)),
     (b"\x1bE\x1b%0BSP1PDSP;PU;PA1,1;PD\x1b%0A", Found(23, NoPen)),
     (b"\x1bE\x1b%0BSP1PD1,1,2,2\x1b%0A", Pass(1, 3)),
@@ -72,9 +85,12 @@ const EFFECTS: &[Row] = &[
     (b"\x1bE\x1b%0BSP1PD\x1bE\x1b%0BPA1,1;PD;", Found(23, NoPen)),
     // Values that SP and PW do not take.
     (b"\x1bE\x1b%0BSP0.5;\x1b%0A", Found(6, BadValue)),
+    (b"\x1b%0BSP0.5;\x1b%0A", Found(4, BadValue)),
+    (b"\x1b%0BSP-0;SP0.5;\x1b%0A", Found(9, BadValue)),
     (b"\x1bE\x1b%0BSP2;", Found(6, BadValue)),
     (b"\x1bE\x1b%0BSP1.0;PD;\x1b%0A", Pass(1, 1)),
     (b"\x1bE\x1b%0BPW0;\x1b%0A", Found(6, BadValue)),
+    (b"\x1b%0BPW0;\x1b%0A", Found(4, BadValue)),
     (b"\x1bE\x1b%0BPW-0;\x1b%0A", Found(6, BadValue)),
     (b"\x1bE\x1b%0BPW0.0001;\x1b%0A", Pass(0, 0)),
     // Edges of the frame are in it.
@@ -89,6 +105,7 @@ const EFFECTS: &[Row] = &[
         Found(18, OutsideFrame),
     ),
     (b"\x1bE\x1b%0BSP1PU0,-1PD;\x1b%0A", Found(15, OutsideFrame)),
+    (b"\x1bE\x1b%0BSP1PD-1,0\x1b%0A", Found(9, OutsideFrame)),
     (
         b"\x1bE\x1b%0BSP1PU0,0PD-1,0\x1b%0A",
         Found(14, OutsideFrame),
@@ -112,6 +129,10 @@ const EFFECTS: &[Row] = &[
     // A line may begin where the pen entered; where that is outside the frame it is not drawn.
     (
         b"\x1bE\x1b%0BSP1PD;\x1b%0A\x1b*p1000x1000Y\x1b%1BPA1,1;\x1b%0A",
+        Pass(1, 2),
+    ),
+    (
+        b"\x1bE\x1b*p100x100Y\x1b%1BSP1PD;PR40,0;\x1b%0A",
         Pass(1, 2),
     ),
     (
@@ -304,6 +325,7 @@ const EFFECTS: &[Row] = &[
 const FIELDS: &[PrinterRow] = &[
     // Entering and leaving with the pen's former place and the cursor's reads nothing, nor does what marks nothing.
     (A, b"\x1bE\x1b%0B\x1b%0A\x1b%1A", Pass(0, 0)),
+    (A, b"\x1bE\x1b%1A", Pass(0, 0)),
     (
         A,
         b"\x1bE\x1b%0BIN;SP1;PW1;PU1,1;PA1,1;PR1,1;\x1b%0A",

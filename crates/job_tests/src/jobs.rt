@@ -1,11 +1,12 @@
 //! The check of jobs for one printer.
 
+use crate::fakes::FailingSource;
 use crate::printers::Printer::{A, B, C};
 use crate::printers::{Printer, fleet_of};
 use crate::rows::Expected::{Fault, Found, Pass};
 use crate::rows::{Expected, PAGE_LENGTH, Row, check_in_pieces, check_rows, job_of};
 use device_profile::Field;
-use page_env::Finding::{BadValue, EmptyRectangle, NotPrintable, OffPage, StackFull, Unset};
+use page_env::Finding::{BadValue, EmptyRectangle, NoPen, NotPrintable, OffPage, StackFull, Unset};
 use pcl_items::Cause::Truncated;
 use preflight::{Watched, check_job};
 use std::test::Fail;
@@ -126,5 +127,21 @@ fn a_job_of_many_reads(rt: HostRuntime) -> Result<(), Fail> {
     let mut source = Watched::new(job.as_slice());
     let verdict = check_job(rt.alloc(), &mut source, &fleet)?;
     assert_eq!(rt; verdict, Pass(1, 3000).verdict());
+    Ok(())
+}
+
+/// More white space within a command of a frame than the bytes that a lexer holds.
+#[test]
+fn a_command_of_many_reads(rt: HostRuntime) -> Result<(), Fail> {
+    let fleet = fleet_of(rt.alloc(), &[B])?;
+    let job = job_of(rt.alloc(), b"\x1b%0BPU1,", 40_000, b" ", b"2PD")?;
+    let expected = Ok(Found(40_009, NoPen).verdict());
+    let whole = check_job(rt.alloc(), &mut Watched::new(job.as_slice()), &fleet);
+    let bytes = check_job(
+        rt.alloc(),
+        &mut FailingSource::new(job.as_slice(), u64::MAX),
+        &fleet,
+    );
+    assert_eq!(rt; (whole, bytes), (expected, expected));
     Ok(())
 }

@@ -311,6 +311,16 @@ const FRAMES: &[Reading] = &[
         None,
     ),
     (
+        b"\x1b%0BSP-0;SP0.5;\x1b%0A",
+        &[
+            (0, Wanted::Enter(Handover::Previous)),
+            (4, Wanted::WithNumber(Setting::Pen, 0)),
+            (9, Wanted::WithNumber(Setting::Pen, 5_000)),
+            (15, Wanted::Leave(Handover::Previous)),
+        ],
+        None,
+    ),
+    (
         b"\x1b%0BPA1.00000000,.0,2.,-0\x1b%0A",
         &[
             (0, Wanted::Enter(Handover::Previous)),
@@ -529,6 +539,65 @@ fn jobs_are_read_whole_and_byte_by_byte(rt: HostRuntime) -> Result<(), Fail> {
     Ok(())
 }
 
+/// Feeds the bytes in two pieces.
+fn read_cut<A: Allocator, B: Allocator>(
+    kept: Global,
+    alloc: A,
+    bytes: &[u8],
+    place: usize,
+    items: &mut Vec<(Place, OwnedItem), B>,
+) -> Result<Last, AllocError>
+    requires place { place ≤ length bytes.now }
+    requires bytes { length bytes.now ≤ 4096 }
+{
+    let (first, second) = bytes.split_at(place);
+    let mut lexer = Lexer::new(alloc);
+    lexer.feed(first)?;
+    match read_on(kept, &mut lexer, items)? {
+        Ok(Lexed::NeedMore) => {}
+        other => return Ok(other),
+    }
+    lexer.feed(second)?;
+    match read_on(kept, &mut lexer, items)? {
+        Ok(Lexed::NeedMore) => {}
+        other => return Ok(other),
+    }
+    lexer.end_input();
+    read_on(kept, &mut lexer, items)
+}
+
+/// Reads a job that is cut at each place, which has to come to these items and to this answer behind them.
+fn check_cuts(
+    rt: &impl Abort,
+    alloc: Global,
+    job: &[u8],
+    wanted: &[(Place, Wanted)],
+    last: Last,
+) -> Result<(), AllocError>
+    requires { length job.now ≤ 4096 }
+{
+    for place in 0..job.len() {
+        let mut items = Vec::new(alloc);
+        let answer = read_cut(alloc, alloc, job, place, &mut items)?;
+        assert_eq!(rt; answer, last, "{job:?} cut at {place}");
+        assert_items(rt, &items, wanted);
+    }
+    Ok(())
+}
+
+#[test]
+fn jobs_are_read_cut_at_each_place(rt: HostRuntime) -> Result<(), Fail> {
+    for (job, wanted, fault) in JOBS.iter().chain(FRAMES) {
+        assert!(rt; job.len() <= 4096);
+        let last = match *fault {
+            Some((place, cause)) => Err(LexFault { place, cause }),
+            None => Ok(Lexed::End),
+        };
+        check_cuts(&rt, rt.alloc(), job, wanted, last)?;
+    }
+    Ok(())
+}
+
 /// Fronts of jobs: how many items they decide, and which fault. Each begins with the item that enters a frame.
 const FRONTS: &[(&[u8], usize, Option<(Place, Cause)>)] = &[
     // Letters are decided by what ends the command, and not by white space.
@@ -539,6 +608,7 @@ const FRONTS: &[(&[u8], usize, Option<(Place, Cause)>)] = &[
     (b"\x1b%0BINS", 2, None),
     (b"\x1b%0BIN\x1b", 2, None),
     (b"\x1b%0BIN5", 1, Some((4, Cause::BadNumber))),
+    (b"\x1b%0BIN.", 1, Some((4, Cause::BadNumber))),
     (b"\x1b%0BIN,", 1, Some((4, Cause::Syntax))),
     (b"\x1b%0BSP1", 1, None),
     (b"\x1b%0BSP1 ", 1, None),
@@ -584,6 +654,22 @@ const FRONTS: &[(&[u8], usize, Option<(Place, Cause)>)] = &[
     (b"\x1b%0B\x1b%0", 1, None),
     (b"\x1b%0B\x1b%0A", 2, None),
     (b"\x1b%0B\x1b%0a", 1, Some((4, Cause::Syntax))),
+    // Where the bytes may go on, their end is not decided.
+    (b"\x1b%0B;", 1, None),
+    (b"\x1b%0BSP+", 1, None),
+    (b"\x1b%0BSP70000", 1, None),
+    (b"\x1b%0BPA1,2,3", 2, None),
+    // In the other language each command of a combined sequence is decided by its letter, and the group stays.
+    (b"\x1b%0B\x1b%0A\x1b&l2", 2, None),
+    (b"\x1b%0B\x1b%0A\x1b&l2a", 3, None),
+    (b"\x1b%0B\x1b%0A\x1b&l2a0", 3, None),
+    (b"\x1b%0B\x1b%0A\x1b&l2a0O", 4, None),
+    (b"\x1b%0B\x1b%0A\x1b&l2a\x1b", 3, Some((13, Cause::Syntax))),
+    (
+        b"\x1b%0B\x1b%0A\x1b)",
+        2,
+        Some((8, Cause::NotInProfile(Name::Byte(b')')))),
+    ),
 ];
 
 #[test]

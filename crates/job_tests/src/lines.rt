@@ -51,17 +51,27 @@ const REASONS: &[(Reason, &[u8])] = &[
 
 /// What no profile has, and the line of a Fail at byte 7.
 const NAMES: &[(Name, &[u8])] = &[
+    (Name::Byte(0), b"FAIL at=7 profile=0 3 NotInProfile(x00)\n"),
     (Name::Byte(32), b"FAIL at=7 profile=0 3 NotInProfile(x20)\n"),
     (Name::Byte(14), b"FAIL at=7 profile=0 3 NotInProfile(x0e)\n"),
     (
         Name::Byte(255),
         b"FAIL at=7 profile=0 3 NotInProfile(xff)\n",
     ),
+    (
+        Name::Byte(127),
+        b"FAIL at=7 profile=0 3 NotInProfile(x7f)\n",
+    ),
+    (Name::Byte(b'&'), b"FAIL at=7 profile=0 3 NotInProfile(&)\n"),
     (Name::Byte(b'a'), b"FAIL at=7 profile=0 3 NotInProfile(a)\n"),
     (Name::Byte(b')'), b"FAIL at=7 profile=0 3 NotInProfile())\n"),
     (
         Name::Pair(b'*', b'z'),
         b"FAIL at=7 profile=0 3 NotInProfile(*z)\n",
+    ),
+    (
+        Name::Pair(b'%', b'A'),
+        b"FAIL at=7 profile=0 3 NotInProfile(%A)\n",
     ),
     (
         Name::Pair(b'L', b'T'),

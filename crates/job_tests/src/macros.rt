@@ -220,6 +220,15 @@ const RUNS: &[Row] = &[
         b"\x1bE\x1b&f0X\x1b*r1A\x1b*b0W\x1b&f1X\x1b&f2x3X",
         Pass(0, 0),
     ),
+    // Its settings stay behind an execution alone.
+    (
+        b"\x1bE\x1b&f0X\x1b*t300R\x1b*r0F\x1b&f1X\x1b&f3X\x1b*r1A\x1b*b1W\x80",
+        Pass(1, 1),
+    ),
+    (
+        b"\x1bE\x1b&f0X\x1b*t300R\x1b*r0F\x1b&f1X\x1b&f2X\x1b*r1A\x1b*b1W\x80",
+        Pass(1, 1),
+    ),
 ];
 
 /// What may not stand in a macro, and what may not in one that is called, nor below it.

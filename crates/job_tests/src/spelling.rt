@@ -111,6 +111,7 @@ const OF_FRAMES: &[Spelled] = &[
     (b"PD 1 2;", b"PD1,2;"),
     (b"PA-0,+5", b"PA0,5;"),
     (b"PA1.00000000,.0", b"PA1,0;"),
+    (b"PA2.,-0", b"PA2,0;"),
     (b"PR-7-8", b"PR-7,-8;"),
     (b"PU00300 , 020.", b"PU300,20;"),
     (b"PD8388607,-8388607", b"PD8388607,-8388607;"),
@@ -127,6 +128,7 @@ const SWITCHES: &[Switching] = &[
     (b"\x1b%-0A", b"\x1b%0A", TO_PCL),
     (b"\x1b%01.0A", b"\x1b%1A", TO_PCL),
     (b"\x1b%B\x1b%0A", b"\x1b%0B", TO_FRAME),
+    (b"\x1b%-0B\x1b%-0A", b"\x1b%0B", TO_FRAME),
     (b"\x1b%+1B\x1b%0A", b"\x1b%1B", TO_FRAME),
 ];
 

@@ -78,6 +78,8 @@ const JOBS_FOR_B: &[Row] = &[
     (b"\x1b&p0.5X", Fault(0, BadNumber)),
     (b"\x1b(8X", Fault(0, NotInProfile(Name::Pair(b'(', b'X')))),
     (b"\x1b(8u", Fault(0, Syntax)),
+    (b"\x1b)", Fault(0, NotInProfile(Name::Byte(b')')))),
+    (b"\x1b)A\x1bE\x0c", Fault(0, NotInProfile(Name::Byte(b')')))),
     (b"\x1b(-3@", Fault(0, NotInProfile(Name::Pair(b'(', b'@')))),
     (
         b"\x1b(s1X",
