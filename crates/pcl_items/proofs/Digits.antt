@@ -210,7 +210,7 @@ pub record IsFieldOf (l : List ℕ) (len : ℕ) (number : Option Amount) : Type 
 abbrev pub rest_from : List ℕ → ℕ → List ℕ
 rest_from l n = take (length l - n) (drop n l)
 
-rest_is : (l : List ℕ) (n : ℕ) → rest_from l n ≡ drop n l
+pub rest_is : (l : List ℕ) (n : ℕ) → rest_from l n ≡ drop n l
 rest_is l n = take_all (length l - n) (drop n l) (omega (arith, length-drop n l))
 
 -- the parts of a field that is read, without a point and with one

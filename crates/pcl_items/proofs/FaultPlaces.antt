@@ -1,12 +1,20 @@
 -- Where a fault is read it has a rule, and what has a rule is read as that fault.
-use Rattle.std.proofs.Common.{◌≡◌, ℕ, List, [], ◌∷◌, true, Some, refl, sym, ap, subst}
+use Rattle.std.proofs.Common.{◌≡◌, ◌≢◌, ℕ, List, [], ◌∷◌, true, Some, refl, sym, ap, subst, ◌∙◌}
+use Rattle.std.specs.Prelude.{◌==◌}
+use Rattle.std.proofs.lemmas.Bool.{eqb-true, eqb-false, cond_both}
 use Rattle.pcl_items.specs.declared.command.Group.{Group}
 use Rattle.pcl_items.specs.declared.fault.Cause.{Cause}
 use Rattle.pcl_items.specs.declared.fault.Cause.TheVariants.{Truncated}
 use Rattle.pcl_items.specs.declared.item.Mode.TheVariants as modes
-use Rattle.pcl_items.specs.Contexts.{Context, Pcl, Sequence, Frame, Letters, Numbered}
+use Rattle.pcl_items.specs.Contexts.{Context, Pcl, Sequence, Frame, Letters, Numbered, Pjl}
 use Rattle.pcl_items.specs.Firsts.{First, Open, Passes, Begins, Faulty}
-use Rattle.pcl_items.specs.Reader.{command_in, first_of}
+use Rattle.pcl_items.specs.Reader.{command_in, between_units, by_line, first_of}
+use Rattle.pcl_items.specs.LineText.{at_sign}
+use Rattle.pcl_items.specs.LineFirst as lines
+use Rattle.pcl_items.specs.LineUnits.{LineFault}
+use Rattle.pcl_items.proofs.LineLaws.{first_of_fault}
+use Rattle.pcl_items.proofs.LineUnits.{lines_by_rules}
+use Rattle.pcl_items.proofs.PjlHeads.{otherwise_read, line_begins}
 use Rattle.pcl_items.specs.Fault.{end_cause, IsFault}
 use Rattle.pcl_items.specs.FrameGrammar.{AtLetters, Word, Number}
 use Rattle.pcl_items.specs.FrameFaults.{FrameFault, PartFault}
@@ -16,9 +24,15 @@ use Rattle.pcl_items.proofs.FaultHeads.{TellsCommand, command_told, TellsUnit, u
 use Rattle.pcl_items.proofs.FaultRules.{command_causes, unit_causes, unit_byte}
 use Rattle.pcl_items.proofs.FrameHeads.{Motive, Closed, FaultIn, Tells, cut_cause, frame_told, letters_tell, numbers_tell}
 
+-- in mode PJL a line is wrong, or mode PCL has a fault there
+pub data PjlFault : List ℕ → Cause → Type 0 where
+  in_line : {bytes : List ℕ} {cause : Cause} → LineFault (at_sign ∷ bytes) cause → PjlFault (at_sign ∷ bytes) cause
+  in_pcl : {b : ℕ} {bytes : List ℕ} {cause : Cause} → b ≢ at_sign → UnitFault modes.Pcl (b ∷ bytes) cause → PjlFault (b ∷ bytes) cause
+
 abbrev pub HasRule : Context → List ℕ → Cause → Type 0
 HasRule Pcl bytes cause = UnitFault modes.Pcl bytes cause
 HasRule (Sequence g) bytes cause = CommandFault g bytes cause
+HasRule Pjl bytes cause = PjlFault bytes cause
 HasRule Frame bytes cause = FrameFault AtLetters 0 bytes cause
 HasRule (Letters m n) bytes cause = PartFault (Word m) bytes cause
 HasRule (Numbered x gap n) bytes cause = PartFault (Number x gap) bytes cause
@@ -51,6 +65,7 @@ anything = record {
   command = λ start place items begun whole ends h. tt;
   pair = λ start place items p h. tt;
   pairs = λ start place items begun none ends h. tt;
+  exits = λ place bytes items h. tt;
   leaves = λ place text bytes item items l h. tt;
 }
 
@@ -64,10 +79,34 @@ no_end : (cause : Cause) → IsFault true (first_of true Pcl []) Pcl [] cause �
 unfolding first_of
 no_end cause h = absurd cc
 
+-- in mode PJL
+line_rule : (bytes : List ℕ) (f : lines.FirstLine) (cause : Cause) → lines.at_line (at_sign ∷ bytes) ≡ f → IsFault true (by_line f) Pjl (at_sign ∷ bytes) cause → LineFault (at_sign ∷ bytes) cause
+line_rule bytes lines.Open cause e h = subst (LineFault (at_sign ∷ bytes)) (cut_cause cause h) ((lines_by_rules (at_sign ∷ bytes)).cut e)
+line_rule bytes (lines.Begins line len) cause e h = absurd h
+line_rule bytes (lines.Faulty other) cause e h = subst (LineFault (at_sign ∷ bytes)) (sym h) ((lines_by_rules (at_sign ∷ bytes)).fault other e)
+
+in_other_mode : (b : ℕ) (bytes : List ℕ) (f : First) (cause : Cause) → IsFault true f Pjl (b ∷ bytes) cause → IsFault true f Pcl (b ∷ bytes) cause
+in_other_mode b bytes Open cause h = h
+in_other_mode b bytes (Passes len next) cause h = h
+in_other_mode b bytes (Begins item len next) cause h = h
+in_other_mode b bytes (Faulty other) cause h = h
+
+abbrev FaultSays : ℕ → List ℕ → Cause → First → Type 0
+FaultSays b bytes cause f = IsFault true f Pjl (b ∷ bytes) cause → PjlFault (b ∷ bytes) cause
+
+pjl_has_rule : (bytes : List ℕ) (cause : Cause) → IsFault true (first_of true Pjl bytes) Pjl bytes cause → PjlFault bytes cause
+unfolding first_of
+pjl_has_rule [] cause h = absurd cc
+pjl_has_rule (b ∷ bytes) cause h =
+    cond_both (b == 64) _ _ (FaultSays b bytes cause)
+    (λ e. subst (λ (n : ℕ). FaultSays n bytes cause (by_line (lines.at_line (n ∷ bytes)))) (sym (eqb-true b 64 e)) (λ k. in_line (line_rule bytes (lines.at_line (at_sign ∷ bytes)) cause refl k)))
+    (λ e k. in_pcl (eqb-false b 64 e) (unit_rule b bytes (between_units b bytes) cause (unit_told b bytes) (in_other_mode b bytes (between_units b bytes) cause k))) h
+
 pub fault_has_rule : (c : Context) (bytes : List ℕ) (cause : Cause) → IsFault true (first_of true c bytes) c bytes cause → HasRule c bytes cause
 unfolding first_of
 fault_has_rule Pcl [] cause h = absurd (no_end cause h)
 fault_has_rule Pcl (b ∷ bytes) cause h = unit_rule b bytes (first_of true Pcl (b ∷ bytes)) cause (unit_told b bytes) h
+fault_has_rule Pjl bytes cause h = pjl_has_rule bytes cause h
 fault_has_rule (Sequence g) bytes cause h = command_rule g bytes (command_in g bytes) cause (command_told g bytes) h
 fault_has_rule Frame bytes cause h = tells_rule Frame bytes (first_of true Frame bytes) cause (frame_told Anything anything 0 bytes) h
 fault_has_rule (Letters m n) bytes cause h = tells_rule (Letters m n) bytes (first_of true (Letters m n) bytes) cause (letters_tell Anything anything m n 0 bytes) h
@@ -95,3 +134,21 @@ unit_rule_read bytes cause h = unit_fault bytes (first_of true Pcl bytes) cause 
 pub command_rule_read : (g : Group) (bytes : List ℕ) (cause : Cause) → CommandFault g bytes cause → IsFault true (first_of true (Sequence g) bytes) (Sequence g) bytes cause
 unfolding first_of
 command_rule_read g bytes cause h = command_fault g bytes (command_in g bytes) cause (command_causes g bytes cause h)
+
+-- ---- what has a rule of mode PJL is read
+
+pub by_pcl : (b : ℕ) (bytes : List ℕ) (f : First) (cause : Cause) → IsFault true f Pcl (b ∷ bytes) cause → IsFault true f Pjl (b ∷ bytes) cause
+by_pcl b bytes Open cause h = h
+by_pcl b bytes (Passes len next) cause h = h
+by_pcl b bytes (Begins item len next) cause h = h
+by_pcl b bytes (Faulty other) cause h = h
+
+-- a line that stops
+at_line_fault : (bytes : List ℕ) (f : lines.FirstLine) (cause : Cause) → f ≡ first_of_fault cause → LineFault (at_sign ∷ bytes) cause → IsFault true (by_line f) Pjl (at_sign ∷ bytes) cause
+at_line_fault bytes f Truncated e h = subst (λ (g : lines.FirstLine). IsFault true (by_line g) Pjl (at_sign ∷ bytes) Truncated) (sym e) refl
+at_line_fault bytes f cause e h = subst (λ (g : lines.FirstLine). IsFault true (by_line g) Pjl (at_sign ∷ bytes) cause) (sym e) refl
+
+pub line_rule_read : (bytes : List ℕ) (cause : Cause) → LineFault (at_sign ∷ bytes) cause → IsFault true (first_of true Pjl (at_sign ∷ bytes)) Pjl (at_sign ∷ bytes) cause
+line_rule_read bytes cause h =
+    subst (λ (f : First). IsFault true f Pjl (at_sign ∷ bytes) cause) (sym (line_begins true bytes))
+    (at_line_fault bytes (lines.at_line (at_sign ∷ bytes)) cause ((lines_by_rules (at_sign ∷ bytes)).fault_is_read cause h) h)

@@ -1,8 +1,8 @@
 -- What is read in a mode is admitted there, and what follows it is in the mode behind it.
-use Rattle.std.proofs.Common.{◌≡◌, ℕ, ◌+◌, ◌-◌, List, [], ◌∷◌, length, drop, Bool, Option, None, Some, refl, sym, ap, subst}
+use Rattle.std.proofs.Common.{◌≡◌, ℕ, ◌+◌, ◌-◌, List, [], ◌∷◌, length, drop, Bool, false, cond, Option, None, Some, refl, sym, ap, subst}
 use Rattle.std.specs.Prelude.{ℤ, nat_lt, nat_le, ◌==◌, ◌||◌, ◌&&◌}
 use Rattle.std.specs.Int.{is_in_range}
-use Rattle.std.proofs.lemmas.Bool.{cond_both}
+use Rattle.std.proofs.lemmas.Bool.{cond_both, cond-false}
 use Rattle.pcl_items.specs.declared.command.Group.{Group}
 use Rattle.pcl_items.specs.declared.command.Command.{Command}
 use Rattle.pcl_items.specs.declared.command.DataCommand.{DataCommand}
@@ -17,8 +17,11 @@ use Rattle.pcl_items.specs.declared.frame.Mnemonic.{Mnemonic}
 use Rattle.pcl_items.specs.declared.frame.Mnemonic.TheVariants as mnemonics
 use Rattle.pcl_items.specs.declared.frame.Gap.{Gap}
 use Rattle.pcl_items.specs.declared.frame.Gap.TheVariants as gaps
-use Rattle.pcl_items.specs.Contexts.{Context, Pcl, Sequence, Frame, Letters, Numbered, Numbers, Single, Odd, Even}
-use Rattle.pcl_items.specs.Modes.{follows, mode_of}
+use Rattle.pcl_items.specs.Contexts.{Context, Pcl, Sequence, Frame, Letters, Numbered, Pjl, Numbers, Single, Odd, Even}
+use Rattle.pcl_items.specs.Modes.{follows, mode_of, between, behind_line}
+use Rattle.pcl_items.specs.LineText.{Line, Bare, Remark, JobBegins, JobEnds, EnterPcl}
+use Rattle.pcl_items.specs.LineFirst as lines
+use Rattle.pcl_items.specs.Exit.{exit_field, begins_with}
 use Rattle.pcl_items.specs.Kinds.{kind_of, capital}
 use Rattle.pcl_items.specs.Mnemonics.{mnemonic_at}
 use Rattle.pcl_items.specs.Commands.{group_at, command_at, data_command_at}
@@ -30,7 +33,7 @@ use Rattle.pcl_items.specs.SetLetters.{is_set_letter}
 use Rattle.pcl_items.specs.Lone.{is_three, font_at, handover_of, leaving, entering, leave_at, language_at, lone_at, count_of}
 use Rattle.pcl_items.specs.FrameNumber.{coordinate_of, setting_of, Numeral, Cut, Wrong, Read, numeral_at}
 use Rattle.pcl_items.specs.FrameReader.{left_by, by_language, after_language_field, language_in, in_command, second_letter, after_letter, after_frame_escape, by_kind, at_frame, single, first_of_pair, second_of_pair, first_number, letters_by, after_letters, further, ended_by, ended, with_comma, by_figure, numbers_by, after_numbers}
-use Rattle.pcl_items.specs.Reader.{First, Open, Passes, Begins, Faulty, behind, named, with_data, by_last_letter, by_other_letter, by_last_byte, after_field, command_in, is_group_or_parameter, is_termination, behind_lone, lone, by_termination, after_lone_field, without_group, in_group, after_introducer, after_parenthesis, by_character, after_escape, by_code, first_of}
+use Rattle.pcl_items.specs.Reader.{First, Open, Passes, Begins, Faulty, behind, named, with_data, by_last_letter, by_other_letter, by_last_byte, after_field, command_in, is_group_or_parameter, is_termination, behind_lone, lone, by_termination, after_lone_field, without_group, in_group, after_introducer, after_parenthesis, by_character, after_escape, by_code, between_units, by_line, exit_or, first_of}
 
 -- what may stand first in a mode
 abbrev IsIn : Mode → First → Type 0
@@ -41,16 +44,32 @@ IsIn mode (Faulty cause) = Unit {0}
 
 -- ---- mode PCL
 
+-- mode PJL admits it too
 abbrev InPcl : First → Type 0
-InPcl first = IsIn modes.Pcl first
+InPcl Open = Unit {0}
+InPcl (Passes len next) = ⊥
+InPcl (Begins item len next) = (follows modes.Pcl item ≡ Some (mode_of next)) × (follows modes.Pjl item ≡ Some (mode_of next))
+InPcl (Faulty cause) = Unit {0}
+
+pcl_in : (f : First) → InPcl f → IsIn modes.Pcl f
+pcl_in Open h = tt
+pcl_in (Passes len next) h = absurd h
+pcl_in (Begins item len next) h = h.0
+pcl_in (Faulty cause) h = tt
+
+pjl_in : (f : First) → InPcl f → IsIn modes.Pjl f
+pjl_in Open h = tt
+pjl_in (Passes len next) h = absurd h
+pjl_in (Begins item len next) h = h.1
+pjl_in (Faulty cause) h = tt
 
 named_in : (o : Option Command) (g : Group) (c : ℕ) (a : Amount) (len : ℕ) (next : Context) → mode_of next ≡ modes.Pcl → InPcl (named o g c a len next)
 named_in None g c a len next h = tt
-named_in (Some command) g c a len next h = ap Some (sym h)
+named_in (Some command) g c a len next h = (ap Some (sym h), ap Some (sym h))
 
 with_data_in : (d : DataCommand) (o : Option ℕ) (len : ℕ) (bytes : List ℕ) → InPcl (with_data d o len bytes)
 with_data_in d None len bytes = tt
-with_data_in d (Some n) len bytes = cond_both (nat_lt (length bytes) n) _ _ InPcl (λ _. tt) (λ _. refl)
+with_data_in d (Some n) len bytes = cond_both (nat_lt (length bytes) n) _ _ InPcl (λ _. tt) (λ _. (refl, refl))
 
 last_letter_in : (o : Option DataCommand) (g : Group) (c : ℕ) (a : Amount) (len : ℕ) (bytes : List ℕ) → InPcl (by_last_letter o g c a len bytes)
 last_letter_in None g c a len bytes = named_in (command_at g c) g c a len Pcl refl
@@ -77,18 +96,18 @@ command_in_pcl g bytes = cond_both (nat_lt 16 (field_at bytes).len) _ _ InPcl (�
 -- the items without a group
 abbrev IsLoneIn : Option Entry → Type 0
 IsLoneIn None = Unit {0}
-IsLoneIn (Some item) = follows modes.Pcl item ≡ Some (mode_of (behind_lone item))
+IsLoneIn (Some item) = (follows modes.Pcl item ≡ Some (mode_of (behind_lone item))) × (follows modes.Pjl item ≡ Some (mode_of (behind_lone item)))
 
 font_in : (a : Amount) (c : ℕ) → IsLoneIn (font_at a c)
-font_in a c = cond_both (is_set_letter c) _ _ IsLoneIn (λ _. refl) (λ _. cond_both ((c == 64) && is_three a) _ _ IsLoneIn (λ _. refl) (λ _. tt))
+font_in a c = cond_both (is_set_letter c) _ _ IsLoneIn (λ _. (refl, refl)) (λ _. cond_both ((c == 64) && is_three a) _ _ IsLoneIn (λ _. (refl, refl)) (λ _. tt))
 
 leaving_in : (o : Option Handover) → IsLoneIn (leaving o)
 leaving_in None = tt
-leaving_in (Some handover) = refl
+leaving_in (Some handover) = (refl, refl)
 
 entering_in : (o : Option Handover) → IsLoneIn (entering o)
 entering_in None = tt
-entering_in (Some handover) = refl
+entering_in (Some handover) = (refl, refl)
 
 leave_in : (a : Amount) (c : ℕ) → IsLoneIn (leave_at a c)
 leave_in a c = cond_both (c == 65) _ _ IsLoneIn (λ _. leaving_in (handover_of a)) (λ _. tt)
@@ -135,29 +154,33 @@ unfolding after_parenthesis
 parenthesis_in [] = tt
 parenthesis_in (c ∷ bytes) = cond_both (is_group_or_parameter c) _ _ InPcl (λ _. group_in (group_at 40 c) 40 c bytes) (λ _. without_group_in 40 (c ∷ bytes))
 
+-- the universal exit, or something other
+exit_in : (f : First) (bytes : List ℕ) → InPcl f → InPcl (exit_or f bytes)
+exit_in f bytes h = cond_both (begins_with exit_field bytes) _ _ InPcl (λ _. (refl, refl)) (λ _. h)
+
 -- what mode PCL admits and stays behind
 abbrev IsPlain : Option Entry → Type 0
 IsPlain None = Unit {0}
-IsPlain (Some item) = follows modes.Pcl item ≡ Some modes.Pcl
+IsPlain (Some item) = (follows modes.Pcl item ≡ Some modes.Pcl) × (follows modes.Pjl item ≡ Some modes.Pcl)
 
 controls : (code : ℕ) → IsPlain (control_at code)
 controls code =
-    cond_both (code == 10) _ _ IsPlain (λ _. refl) (λ _.
-    cond_both (code == 12) _ _ IsPlain (λ _. refl) (λ _.
-    cond_both (code == 13) _ _ IsPlain (λ _. refl) (λ _. tt)))
+    cond_both (code == 10) _ _ IsPlain (λ _. (refl, refl)) (λ _.
+    cond_both (code == 12) _ _ IsPlain (λ _. (refl, refl)) (λ _.
+    cond_both (code == 13) _ _ IsPlain (λ _. (refl, refl)) (λ _. tt)))
 
 sequences : (character : ℕ) → IsPlain (sequence_at character)
 sequences character =
-    cond_both (character == 57) _ _ IsPlain (λ _. refl) (λ _.
-    cond_both (character == 61) _ _ IsPlain (λ _. refl) (λ _.
-    cond_both (character == 69) _ _ IsPlain (λ _. refl) (λ _. tt)))
+    cond_both (character == 57) _ _ IsPlain (λ _. (refl, refl)) (λ _.
+    cond_both (character == 61) _ _ IsPlain (λ _. (refl, refl)) (λ _.
+    cond_both (character == 69) _ _ IsPlain (λ _. (refl, refl)) (λ _. tt)))
 
 character_in : (o : Option Entry) (b : ℕ) (bytes : List ℕ) → IsPlain o → InPcl (by_character o b bytes)
 character_in (Some item) b bytes h = h
 character_in None b bytes h =
     cond_both ((b == 38) || (b == 42)) _ _ InPcl (λ _. introducer_in b bytes) (λ _.
     cond_both (b == 40) _ _ InPcl (λ _. parenthesis_in bytes) (λ _.
-    cond_both (b == 37) _ _ InPcl (λ _. without_group_in 37 bytes) (λ _.
+    cond_both (b == 37) _ _ InPcl (λ _. exit_in (without_group 37 bytes) bytes (without_group_in 37 bytes)) (λ _.
     cond_both (is_in_range 33 126 b) _ _ InPcl (λ _. tt) (λ _. tt))))
 
 escape_in : (bytes : List ℕ) → InPcl (after_escape bytes)
@@ -168,6 +191,24 @@ escape_in (b ∷ bytes) = character_in (sequence_at b) b bytes (sequences b)
 code_in : (o : Option Entry) (b : ℕ) (bytes : List ℕ) → IsPlain o → InPcl (by_code o b bytes)
 code_in (Some item) b bytes h = h
 code_in None b bytes h = cond_both (b == 27) _ _ InPcl (λ _. escape_in bytes) (λ _. tt)
+
+-- ---- mode PJL
+
+line_behind : (line : Line) → mode_of (between (behind_line line)) ≡ behind_line line
+line_behind Bare = refl
+line_behind (Remark text) = refl
+line_behind (JobBegins text) = refl
+line_behind (JobEnds text) = refl
+line_behind EnterPcl = refl
+
+line_in : (f : lines.FirstLine) → IsIn modes.Pjl (by_line f)
+line_in lines.Open = tt
+line_in (lines.Begins line len) = ap Some (sym (line_behind line))
+line_in (lines.Faulty cause) = tt
+
+otherwise_in : (b : ℕ) (bytes : List ℕ) → (b == 64) ≡ false → IsIn modes.Pjl (between_units b bytes)
+otherwise_in b bytes e =
+    cond_both (nat_le 32 b) _ _ (IsIn modes.Pjl) (λ _. cond-false (b == 64) None (Some modes.Pcl) e) (λ _. pjl_in (by_code (control_at b) b bytes) (code_in (control_at b) b bytes (controls b)))
 
 -- ---- a frame
 
@@ -222,7 +263,7 @@ letter_in a (b ∷ bytes) = second_letter_in (kind_of b) a b
 
 frame_escape_in : (bytes : List ℕ) → InFrame (after_frame_escape bytes)
 frame_escape_in [] = tt
-frame_escape_in (b ∷ bytes) = cond_both (b == 69) _ _ InFrame (λ _. refl) (λ _. cond_both (b == 37) _ _ InFrame (λ _. language_in_frame bytes) (λ _. tt))
+frame_escape_in (b ∷ bytes) = cond_both (b == 69) _ _ InFrame (λ _. refl) (λ _. cond_both (b == 37) _ _ InFrame (λ _. cond_both (begins_with exit_field bytes) _ _ InFrame (λ _. refl) (λ _. language_in_frame bytes)) (λ _. tt))
 
 kind_in : (k : Kind) (b : ℕ) (bytes : List ℕ) → InFrame (by_kind k b bytes)
 kind_in kinds.White b bytes = refl
@@ -317,14 +358,16 @@ numbers_in kinds.Other whole x gap n bytes = tt
 first_in_mode : (whole : Bool) (c : Context) (bytes : List ℕ) → IsIn (mode_of c) (first_of whole c bytes)
 unfolding first_of at_frame after_letters after_numbers
 first_in_mode whole Pcl [] = tt
-first_in_mode whole Pcl (b ∷ bytes) = cond_both (nat_le 32 b) _ _ InPcl (λ _. refl) (λ _. code_in (control_at b) b bytes (controls b))
-first_in_mode whole (Sequence g) bytes = command_in_pcl g bytes
+first_in_mode whole Pcl (b ∷ bytes) = cond_both (nat_le 32 b) _ _ (IsIn modes.Pcl) (λ _. refl) (λ _. pcl_in (by_code (control_at b) b bytes) (code_in (control_at b) b bytes (controls b)))
+first_in_mode whole (Sequence g) bytes = pcl_in (command_in g bytes) (command_in_pcl g bytes)
 first_in_mode whole Frame [] = tt
 first_in_mode whole Frame (b ∷ bytes) = kind_in (kind_of b) b bytes
 first_in_mode whole (Letters m n) [] = cond_both whole _ _ InFrame (λ _. bare_in m) (λ _. tt)
 first_in_mode whole (Letters m n) (b ∷ bytes) = letters_in (kind_of b) whole m n (b ∷ bytes)
 first_in_mode whole (Numbered x gap n) [] = cond_both whole _ _ InFrame (λ _. ended_in x gap) (λ _. tt)
 first_in_mode whole (Numbered x gap n) (b ∷ bytes) = numbers_in (kind_of b) whole x gap n (b ∷ bytes)
+first_in_mode whole Pjl [] = tt
+first_in_mode whole Pjl (b ∷ bytes) = cond_both (b == 64) _ _ (IsIn modes.Pjl) (λ _. line_in (lines.at_line (b ∷ bytes))) (λ e. otherwise_in b bytes e)
 
 pub begins_in_mode : (whole : Bool) (c : Context) (bytes : List ℕ) (item : Entry) (len : ℕ) (next : Context) → first_of whole c bytes ≡ Begins item len next → follows (mode_of c) item ≡ Some (mode_of next)
 begins_in_mode whole c bytes item len next e = subst (IsIn (mode_of c)) e (first_in_mode whole c bytes)

@@ -20,9 +20,11 @@ use Rattle.pcl_items.specs.declared.fault.Cause.TheVariants.{Syntax, Truncated, 
 use Rattle.pcl_items.specs.Kinds.{is_white, is_letter, kind_of, capital}
 use Rattle.pcl_items.specs.Mnemonics.{mnemonic_at}
 use Rattle.pcl_items.specs.NumberText.{IsCoordinate, IsSetting}
-use Rattle.pcl_items.specs.Items.{Entry, Placed, Reset, LeaveFrame, Set, Move, bare, at}
-use Rattle.pcl_items.specs.Contexts.{Context, Pcl, Sequence, Frame, Letters, Numbered, Numbers, Single, Odd, Even, item_place}
-use Rattle.pcl_items.specs.Firsts.{First, Open, Passes, Begins, Faulty}
+use Rattle.pcl_items.specs.Items.{Entry, Placed, Reset, LeaveFrame, Set, Move, ExitLanguage, bare, at}
+use Rattle.pcl_items.specs.Contexts.{Context, Pcl, Sequence, Frame, Letters, Numbered, Pjl, Numbers, Single, Odd, Even, item_place}
+use Rattle.pcl_items.specs.Firsts.{First, Open, Passes, Begins, Faulty, exit_or}
+use Rattle.pcl_items.specs.Exit.{exit_field, exit_text, BeginsExit, begins_with}
+use Rattle.pcl_items.proofs.Exits.{exit_there, not_exit}
 use Rattle.pcl_items.specs.FrameNumber.{coordinate_of, setting_of, Numeral, Cut, Wrong, Read, numeral_at}
 use Rattle.pcl_items.specs.FrameReader.{language_in, in_command, second_letter, after_letter, after_frame_escape, by_kind, at_frame, single, first_of_pair, second_of_pair, first_number, letters_by, after_letters, further, ended_by, ended, with_comma, by_figure, numbers_by, after_numbers}
 use Rattle.pcl_items.specs.Reader.{first_of}
@@ -37,9 +39,10 @@ use Rattle.pcl_items.proofs.Leaving.{HeadLeave, head, TellsLeave, leave_told}
 
 -- ---- a property of what is read
 
--- Where the bytes of a property stand: in mode PCL, between the commands of a frame, or behind a pair of a command.
+-- Where the bytes of a property stand: in mode PCL, in mode PJL, between the commands of a frame, or behind a pair of a command.
 pub data Stand : Type 0 where
   InPcl : Stand
+  InPjl : Stand
   In : (start : Start) → Stand
 
 abbrev pub Motive : Type 1
@@ -58,6 +61,7 @@ pub record Closed (Q : Motive) : Type 0 where
   pub pairs : (start : Start) (place : ℕ) {motion : Motion} {gap : Gap} {from : ℕ} {text bytes : List ℕ} (items : List Placed) →
       IsBegun start (Number (Even motion) gap) from text bytes → HasNoComma gap → EndsCommand bytes →
       Q (In AtLetters) (place + length text) bytes items → Q (In start) place (text ++ bytes) items
+  pub exits : (place : ℕ) (bytes : List ℕ) (items : List Placed) → Q InPjl (place + 9) bytes items → Q (In AtLetters) place (exit_text ++ bytes) (at place ExitLanguage ∷ items)
   pub leaves : (place : ℕ) (text bytes : List ℕ) (item : Entry) (items : List Placed) →
       LeavesFrame place text (at place item ∷ []) → Q InPcl (place + length text) bytes items → Q (In AtLetters) place (text ++ bytes) (at place item ∷ items)
 
@@ -71,6 +75,7 @@ Counts (Even motion) n from text = from ≡ length text
 abbrev pub Landing : Motive → Context → ℕ → List ℕ → List Placed → Type 0
 Landing Q Pcl place bytes items = Q InPcl place bytes items
 Landing Q (Sequence g) place bytes items = Unit {0}
+Landing Q Pjl place bytes items = Q InPjl place bytes items
 Landing Q Frame place bytes items = Q (In AtLetters) place bytes items
 Landing Q (Letters m n) place bytes items =
     (start : Start) (begin from : ℕ) (text : List ℕ) → IsBegun start (Word m) from text bytes → n + from ≡ length text → begin + length text ≡ place → Q (In start) begin (text ++ bytes) items
@@ -81,6 +86,7 @@ Landing Q (Numbered x gap n) place bytes items =
 abbrev pub FaultIn : Context → List ℕ → Cause → Type 0
 FaultIn Pcl bytes cause = Unit {0}
 FaultIn (Sequence g) bytes cause = Unit {0}
+FaultIn Pjl bytes cause = Unit {0}
 FaultIn Frame bytes cause = FrameFault AtLetters 0 bytes cause
 FaultIn (Letters m n) bytes cause = PartFault (Word m) bytes cause
 FaultIn (Numbered x gap n) bytes cause = PartFault (Number x gap) bytes cause
@@ -342,11 +348,19 @@ left_frame Q closed place _ _ _ _ items (head {field = field} {handover = handov
     subst (λ (l : List ℕ). Q (In AtLetters) place (escape ∷ 37 ∷ l) (at place (LeaveFrame handover) ∷ items)) (append_assoc field (65 ∷ []) rest)
     (closed.leaves place (escape ∷ 37 ∷ (field ++ 65 ∷ [])) rest (LeaveFrame handover) items (leave_frame f k) (at_place Q InPcl (place + (length field + 3)) (place + length (escape ∷ 37 ∷ (field ++ 65 ∷ []))) rest items behind left))
 
-leave_in_frame : (Q : Motive) → Closed Q → (place : ℕ) (bytes : List ℕ) (f : First) → TellsLeave bytes f → Tells Q Frame place (escape ∷ 37 ∷ bytes) f
-leave_in_frame Q closed place bytes Open h = λ cause e. in_language (subst (LeaveFault bytes) (cut_cause cause e) h)
-leave_in_frame Q closed place bytes (Passes len next) h = absurd h
-leave_in_frame Q closed place bytes (Begins item len next) h = λ items q. left_frame Q closed place bytes item len next items h q
-leave_in_frame Q closed place bytes (Faulty cause) h = in_language h
+leave_in_frame : (Q : Motive) → Closed Q → (place : ℕ) (bytes : List ℕ) (f : First) → (BeginsExit bytes → ⊥) → TellsLeave bytes f → Tells Q Frame place (escape ∷ 37 ∷ bytes) f
+leave_in_frame Q closed place bytes Open k h = λ cause e. in_language k (subst (LeaveFault bytes) (cut_cause cause e) h)
+leave_in_frame Q closed place bytes (Passes len next) k h = absurd h
+leave_in_frame Q closed place bytes (Begins item len next) k h = λ items q. left_frame Q closed place bytes item len next items h q
+leave_in_frame Q closed place bytes (Faulty cause) k h = in_language k h
+
+exit_in_frame : (Q : Motive) → Closed Q → (place : ℕ) (bytes : List ℕ) → BeginsExit bytes → Tells Q Frame place (escape ∷ 37 ∷ bytes) (Begins ExitLanguage 9 Pjl)
+exit_in_frame Q closed place bytes h = subst (λ (l : List ℕ). Tells Q Frame place (escape ∷ 37 ∷ l) (Begins ExitLanguage 9 Pjl)) (sym h.1) (λ items q. closed.exits place h.0 items q)
+
+percent_told : (Q : Motive) → Closed Q → (place : ℕ) (bytes : List ℕ) → Tells Q Frame place (escape ∷ 37 ∷ bytes) (exit_or (language_in bytes) bytes)
+percent_told Q closed place bytes =
+    cond_both (begins_with exit_field bytes) _ _ (Tells Q Frame place (escape ∷ 37 ∷ bytes)) (λ e. exit_in_frame Q closed place bytes (exit_there bytes e))
+    (λ e. leave_in_frame Q closed place bytes (language_in bytes) (not_exit bytes e) (leave_told bytes))
 
 escape_told : (Q : Motive) → Closed Q → (place : ℕ) (rest : List ℕ) → Tells Q Frame place (escape ∷ rest) (after_frame_escape rest)
 escape_told Q closed place [] = λ cause e. subst (FrameFault AtLetters 0 (escape ∷ [])) (cut_cause cause e) cut_frame_escape
@@ -354,7 +368,7 @@ escape_told Q closed place (b ∷ rest) =
     cond_both (b == 69) _ _ (Tells Q Frame place (escape ∷ b ∷ rest))
     (λ t. subst (λ (c : ℕ). Tells Q Frame place (escape ∷ c ∷ rest) (Begins Reset 2 Pcl)) (sym (eqb-true b 69 t)) (λ items q. closed.leaves place (escape ∷ 69 ∷ []) rest Reset items reset q)) (λ no_reset.
     cond_both (b == 37) _ _ (Tells Q Frame place (escape ∷ b ∷ rest))
-    (λ t. subst (λ (c : ℕ). Tells Q Frame place (escape ∷ c ∷ rest) (language_in rest)) (sym (eqb-true b 37 t)) (leave_in_frame Q closed place rest (language_in rest) (leave_told rest)))
+    (λ t. subst (λ (c : ℕ). Tells Q Frame place (escape ∷ c ∷ rest) (exit_or (language_in rest) rest)) (sym (eqb-true b 37 t)) (percent_told Q closed place rest))
     (λ no_percent. other_sequence (eqb-false b 69 no_reset) (eqb-false b 37 no_percent)))
 
 kind_told : (Q : Motive) → Closed Q → (k : Kind) (place b : ℕ) (rest : List ℕ) → kind_of b ≡ k → Tells Q Frame place (b ∷ rest) (by_kind k b rest)

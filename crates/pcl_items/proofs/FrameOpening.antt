@@ -16,22 +16,24 @@ use Rattle.pcl_items.specs.declared.frame.Gap.TheVariants as gaps
 use Rattle.pcl_items.specs.declared.fault.Name.TheVariants as names
 use Rattle.pcl_items.specs.declared.fault.Cause.{Cause}
 use Rattle.pcl_items.specs.declared.fault.Cause.TheVariants.{Syntax, NotInProfile, BadNumber}
-use Rattle.pcl_items.specs.declared.item.Mode.TheVariants as modes
-use Rattle.pcl_items.specs.Modes.{mode_of}
 use Rattle.pcl_items.specs.Kinds.{kind_of, capital}
 use Rattle.pcl_items.specs.Mnemonics.{mnemonic_at}
 use Rattle.pcl_items.specs.Value.{Amount}
 use Rattle.pcl_items.specs.ValueField.{sign_text, IsShape}
 use Rattle.pcl_items.specs.Field.{Field, field_at, amount_of}
-use Rattle.pcl_items.specs.Items.{Entry, Reset}
-use Rattle.pcl_items.specs.Contexts.{Context, Pcl, Sequence, Frame, Letters, Numbered, Numbers, Single, Odd, Even}
+use Rattle.pcl_items.specs.Items.{Entry, Reset, ExitLanguage}
+use Rattle.pcl_items.specs.Exit.{exit_field, begins_with}
+use Rattle.pcl_items.specs.Contexts.{Context, Pcl, Sequence, Frame, Letters, Numbered, Pjl, Numbers, Single, Odd, Even}
 use Rattle.pcl_items.specs.FrameNumber.{coordinate_of, setting_of, Numeral, Cut, Wrong, Read, has_digit, read_or, number_end, numeral_at}
 use Rattle.pcl_items.specs.Lone.{leave_at}
 use Rattle.pcl_items.specs.FrameReader.{by_language, after_language_field, language_in, left_by, in_command, second_letter, after_letter, after_frame_escape, by_kind, at_frame, single, first_of_pair, second_of_pair, first_number, letters_by, after_letters, further, ended_by, ended, with_comma, by_figure, numbers_by, after_numbers}
-use Rattle.pcl_items.specs.Reader.{First, Open, Passes, Begins, Faulty, is_termination, command_in, first_of}
+use Rattle.pcl_items.specs.Reader.{First, Open, Passes, Begins, Faulty, is_termination, command_in, exit_or, first_of}
 use Rattle.pcl_items.specs.Faults.{IsCut, cut}
 use Rattle.pcl_items.proofs.Shapes.{cut_goes_on, cut_shape, shape_len}
 use Rattle.pcl_items.proofs.ReadsTo.{same_between}
+use Rattle.pcl_items.proofs.Exits.{exit_open, no_more_exit}
+use Rattle.pcl_items.proofs.PjlHeads.{same_in_pjl}
+use Rattle.pcl_items.proofs.PjlOpening.{pjl_goes_on}
 use Rattle.pcl_items.proofs.Opening.{on, IsAtEnd, Decided, by_item, by_fault, GoesOn, between_goes_on, sequence_goes_on}
 
 -- a fault other than those of the end
@@ -51,10 +53,10 @@ IsEnding rest (Begins item len next) = drop len rest ≡ []
 IsEnding rest (Faulty cause) = ⊥
 
 -- Bytes with which what is open goes on to a fault at once, though the end of all bytes makes no fault of it; or bytes that
--- make an item of it, in mode PCL, where the end decides nothing.
+-- make an item of it, outside frames, where the end decides nothing.
 pub data Opened (c : Context) (rest : List ℕ) : Type 0 where
   refuses : (more : List ℕ) → Refuses (first_of true c (rest ++ more)) → IsEnding rest (first_of true c rest) → Opened c rest
-  completes : (more : List ℕ) (entry : Entry) (len : ℕ) (next : Context) → mode_of c ≡ modes.Pcl → first_of true c (rest ++ more) ≡ Begins entry len next → first_of true c rest ≡ Open → Opened c rest
+  completes : (more : List ℕ) (entry : Entry) (len : ℕ) (next : Context) → first_of true c (rest ++ more) ≡ Begins entry len next → first_of true c rest ≡ Open → Opened c rest
 
 -- ---- a number of a frame that is cut
 
@@ -294,6 +296,15 @@ numbers_end x gap n = refuses (95 ∷ []) (refused _ Syntax refl (λ h. h)) (num
 open_ending : (rest : List ℕ) (f : First) → f ≡ Open → IsEnding rest f
 open_ending rest f e = subst (IsEnding rest) (sym e) tt
 
+-- a byte more makes no universal exit
+exit_refuses : (rest : List ℕ) → exit_or (language_in rest) rest ≡ Open → Refuses (exit_or (language_in (on rest)) (on rest))
+exit_refuses rest e = go (begins_with exit_field rest) refl (begins_with exit_field (on rest)) refl e
+  where
+    go : (a : Bool) → begins_with exit_field rest ≡ a → (b : Bool) → begins_with exit_field (on rest) ≡ b → cond a (Begins ExitLanguage 9 Pjl) (language_in rest) ≡ Open → Refuses (cond b (Begins ExitLanguage 9 Pjl) (language_in (on rest)))
+    go true f b g e = absurd cc
+    go false f true g e = absurd (no_more_exit rest f g)
+    go false f false g e = language_refuses rest e
+
 after_letter_refuses : (a : ℕ) (rest : List ℕ) → after_letter a rest ≡ Open → Refuses (after_letter a (on rest))
 unfolding kind_of
 after_letter_refuses a [] e = refused _ Syntax refl (λ h. h)
@@ -317,9 +328,9 @@ frame_escape_refuses : (rest : List ℕ) → after_frame_escape rest ≡ Open �
 frame_escape_refuses [] e = refused _ (NotInProfile (names.Byte 95)) refl (λ h. h)
 frame_escape_refuses (b ∷ rest) e = go (b == 69) (b == 37) e
   where
-    go : (x y : Bool) → cond x (Begins Reset 2 Pcl) (cond y (language_in rest) (Faulty (NotInProfile (names.Byte b)))) ≡ Open → Refuses (cond x (Begins Reset 2 Pcl) (cond y (language_in (on rest)) (Faulty (NotInProfile (names.Byte b)))))
+    go : (x y : Bool) → cond x (Begins Reset 2 Pcl) (cond y (exit_or (language_in rest) rest) (Faulty (NotInProfile (names.Byte b)))) ≡ Open → Refuses (cond x (Begins Reset 2 Pcl) (cond y (exit_or (language_in (on rest)) (on rest)) (Faulty (NotInProfile (names.Byte b)))))
     go true y e = absurd cc
-    go false true e = language_refuses rest e
+    go false true e = exit_refuses rest e
     go false false e = absurd cc
 
 kind_refuses : (k : Kind) (b : ℕ) (rest : List ℕ) → by_kind k b rest ≡ Open → Refuses (by_kind k b (on rest))
@@ -332,18 +343,19 @@ kind_refuses kinds.Sign b rest e = absurd cc
 kind_refuses kinds.Figure b rest e = absurd cc
 kind_refuses kinds.Other b rest e = absurd cc
 
--- of mode PCL
-by_more : (c : Context) (rest : List ℕ) → mode_of c ≡ modes.Pcl → first_of true c rest ≡ Open → GoesOn c rest → Opened c rest
-by_more c rest pcl e g = go g.decided
+-- outside frames
+by_more : (c : Context) (rest : List ℕ) → first_of true c rest ≡ Open → GoesOn c rest → Opened c rest
+by_more c rest e g = go g.decided
   where
     go : Decided (first_of true c (rest ++ g.more)) → Opened c rest
-    go (by_item entry len next h) = completes g.more entry len next pcl h e
+    go (by_item entry len next h) = completes g.more entry len next h e
     go (by_fault cause h other) = refuses g.more (refused _ cause h other) (subst (IsEnding rest) (sym e) tt)
 
 pub opened : (c : Context) (rest : List ℕ) → first_of false c rest ≡ Open → Opened c rest
 unfolding first_of at_frame after_letters after_numbers kind_of
-opened Pcl rest e = by_more Pcl rest refl (sym (same_between false rest) ∙ e) (between_goes_on rest e)
-opened (Sequence g) rest e = by_more (Sequence g) rest refl e (sequence_goes_on g rest e)
+opened Pcl rest e = by_more Pcl rest (sym (same_between false rest) ∙ e) (between_goes_on rest e)
+opened (Sequence g) rest e = by_more (Sequence g) rest e (sequence_goes_on g rest e)
+opened Pjl rest e = by_more Pjl rest (sym (same_in_pjl false rest) ∙ e) (pjl_goes_on rest e)
 opened Frame [] e = refuses (95 ∷ []) (refused _ Syntax refl (λ h. h)) tt
 opened Frame (b ∷ rest) e = refuses (95 ∷ []) (kind_refuses (kind_of b) b rest e) (open_ending (b ∷ rest) _ e)
 opened (Letters m n) [] e = letters_end m n
@@ -356,6 +368,7 @@ pub end_ending : (c : Context) → IsEnding [] (first_of true c [])
 unfolding first_of at_frame after_letters after_numbers command_in field_at
 end_ending Pcl = tt
 end_ending (Sequence g) = tt
+end_ending Pjl = tt
 end_ending Frame = tt
 end_ending (Letters m n) = refl
 end_ending (Numbered x gap n) = numbers_ending x gap

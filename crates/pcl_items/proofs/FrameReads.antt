@@ -18,9 +18,9 @@ use Rattle.pcl_items.specs.declared.fault.Cause.TheVariants.{Syntax, Truncated, 
 use Rattle.pcl_items.specs.Kinds.{kind_of, capital}
 use Rattle.pcl_items.specs.Mnemonics.{mnemonic_at}
 use Rattle.pcl_items.specs.NumberText.{EndsBefore, IsCoordinate, IsSetting}
-use Rattle.pcl_items.specs.Items.{Entry, Placed, Reset, LeaveFrame, Set, Move, bare, at}
-use Rattle.pcl_items.specs.Contexts.{Context, Pcl, Frame, Letters, Numbered, Numbers, Single, Odd, Even, item_place, spaced}
-use Rattle.pcl_items.specs.Firsts.{First, Open, Passes, Begins, Faulty}
+use Rattle.pcl_items.specs.Items.{Entry, Placed, Reset, LeaveFrame, Set, Move, ExitLanguage, bare, at}
+use Rattle.pcl_items.specs.Contexts.{Context, Pcl, Pjl, Frame, Letters, Numbered, Numbers, Single, Odd, Even, item_place, spaced}
+use Rattle.pcl_items.specs.Firsts.{First, Open, Passes, Begins, Faulty, exit_or}
 use Rattle.pcl_items.specs.FrameNumber.{coordinate_of, setting_of, Numeral, Cut, Wrong, Read, numeral_at}
 use Rattle.pcl_items.specs.FrameReader as reader
 use Rattle.pcl_items.specs.FrameReader.{language_in, second_letter, by_kind, at_frame, single, first_of_pair, second_of_pair, first_number, letters_by, after_letters, further, ended_by, ended, with_comma, by_figure, numbers_by, after_numbers}
@@ -36,6 +36,8 @@ use Rattle.pcl_items.proofs.Numerals.{IsDecided, numeral_read, CausesNumeral, nu
 use Rattle.pcl_items.proofs.NumberStarts.{IsStart, IsLed, led, setting_led, coordinate_led}
 use Rattle.pcl_items.proofs.Causes.{Causes}
 use Rattle.pcl_items.proofs.Leaving.{leave_read, leave_causes}
+use Rattle.pcl_items.proofs.Exits.{no_exit, no_exit_field}
+use Rattle.pcl_items.specs.Exit.{exit_field, exit_text, BeginsExit, begins_with}
 use Rattle.pcl_items.proofs.FrameHeads.{Counts, counts_byte, counts_more, drop_field}
 
 -- what stands before what is written of a command, and where the reader stands within it
@@ -53,7 +55,7 @@ Counted (Number x gap) n from text = Counts x n from text
 
 -- ---- a number that is due
 
-letters_number : (whole : Bool) (k : Kind) (m : Mnemonic) (n : ℕ) (l : List ℕ) → IsStart k → letters_by k whole m n l ≡ first_number whole m n l
+pub letters_number : (whole : Bool) (k : Kind) (m : Mnemonic) (n : ℕ) (l : List ℕ) → IsStart k → letters_by k whole m n l ≡ first_number whole m n l
 letters_number whole kinds.Sign m n l h = refl
 letters_number whole kinds.Figure m n l h = refl
 letters_number whole kinds.White m n l h = absurd h
@@ -68,7 +70,7 @@ figure_number whole x gaps.Straight l h = absurd (h refl)
 figure_number whole x gaps.Spaced l h = refl
 figure_number whole x gaps.Comma l h = refl
 
-numbers_number : (whole : Bool) (k : Kind) (x : Numbers) (gap : Gap) (n : ℕ) (l : List ℕ) → IsStart k → (gap ≡ gaps.Straight → k ≡ kinds.Sign) → numbers_by k whole x gap n l ≡ further whole x l
+pub numbers_number : (whole : Bool) (k : Kind) (x : Numbers) (gap : Gap) (n : ℕ) (l : List ℕ) → IsStart k → (gap ≡ gaps.Straight → k ≡ kinds.Sign) → numbers_by k whole x gap n l ≡ further whole x l
 numbers_number whole kinds.Sign x gap n l h f = refl
 numbers_number whole kinds.Figure x gap n l h f = figure_number whole x gap l (λ e. let no = f e in absurd cc)
 numbers_number whole kinds.White x gap n l h f = absurd h
@@ -104,14 +106,14 @@ record BegunRead (whole : Bool) (from_start : Start) (part : Part) (from : ℕ) 
   reads : ReadsTo whole (before from_start) start (text ++ rest) [] (context_of part n) (start + length text) rest
   counts : Counted part n from text
 
-decided_behind : (whole : Bool) (b : ℕ) (rest : List ℕ) → IsDecided whole (b ∷ rest)
+pub decided_behind : (whole : Bool) (b : ℕ) (rest : List ℕ) → IsDecided whole (b ∷ rest)
 decided_behind true b rest = tt
 decided_behind false b rest = tt
 
 number_decided : (whole : Bool) (number rest : List ℕ) → IsLed number → IsDecided whole (number ++ rest)
 number_decided whole _ rest (led {b = b} text h) = decided_behind whole b (text ++ rest)
 
-letters_read : (whole : Bool) (a b : ℕ) (rest : List ℕ) (m : Mnemonic) → kind_of a ≡ kinds.Letter → kind_of b ≡ kinds.Letter → mnemonic_at (capital a) (capital b) ≡ Some m → first_of whole Frame (a ∷ b ∷ rest) ≡ Passes 2 (Letters m 2)
+pub letters_read : (whole : Bool) (a b : ℕ) (rest : List ℕ) (m : Mnemonic) → kind_of a ≡ kinds.Letter → kind_of b ≡ kinds.Letter → mnemonic_at (capital a) (capital b) ≡ Some m → first_of whole Frame (a ∷ b ∷ rest) ≡ Passes 2 (Letters m 2)
 unfolding first_of at_frame
 letters_read whole a b rest m e f h = ap (λ k. by_kind k a (b ∷ rest)) e ∙ ap (λ k. second_letter k a b) f ∙ ap (λ o. reader.in_command o (capital a) (capital b)) h
 
@@ -128,7 +130,7 @@ comma_read x gaps.Straight n h = refl
 comma_read x gaps.Spaced n h = refl
 comma_read x gaps.Comma n h = absurd h
 
-number_comma : (whole : Bool) (x : Numbers) (gap : Gap) (n b : ℕ) (rest : List ℕ) → kind_of b ≡ kinds.Comma → HasNoComma gap → first_of whole (Numbered x gap n) (b ∷ rest) ≡ Passes 1 (Numbered x gaps.Comma (n + 1))
+pub number_comma : (whole : Bool) (x : Numbers) (gap : Gap) (n b : ℕ) (rest : List ℕ) → kind_of b ≡ kinds.Comma → HasNoComma gap → first_of whole (Numbered x gap n) (b ∷ rest) ≡ Passes 1 (Numbered x gaps.Comma (n + 1))
 unfolding first_of after_numbers
 number_comma whole x gap n b rest e h = ap (λ k. numbers_by k whole x gap n (b ∷ rest)) e ∙ comma_read x gap n h
 
@@ -215,7 +217,7 @@ whole_read false _ _ n [] d w ends = absurd d
 whole_read whole _ _ n (b ∷ rest) d (without_number {mnemonic = m}) ends = letters_end whole (kind_of b) m n (b ∷ rest) ends
 whole_read whole _ _ n (b ∷ rest) d (with_number {setting = s} {amount = a} {gap = gap} h) ends = numbers_end whole (kind_of b) (Single s a) gap n (b ∷ rest) ends ∙ (single_ended s a gap h).0
 
-pairs_end : (whole : Bool) (motion : Motion) (gap : Gap) (n : ℕ) (rest : List ℕ) → IsDecided whole rest → HasNoComma gap → EndsCommand rest → first_of whole (Numbered (Even motion) gap n) rest ≡ Passes 0 Frame
+pub pairs_end : (whole : Bool) (motion : Motion) (gap : Gap) (n : ℕ) (rest : List ℕ) → IsDecided whole rest → HasNoComma gap → EndsCommand rest → first_of whole (Numbered (Even motion) gap n) rest ≡ Passes 0 Frame
 unfolding first_of after_numbers
 pairs_end true motion gap n [] d h ends = (even_ended motion gap h).1
 pairs_end false motion gap n [] d h ends = absurd d
@@ -258,7 +260,7 @@ command_reads whole d (behind_pairs {motion = motion} {gap = gap} {place = place
     let r = begun_read whole place d begun in
     ReadsTo-append r.reads (passes 0 Frame (pairs_end whole motion gap r.n rest d h ends) (ReadsTo-at (omega arith) refl refl here))
 
-separator_read : (whole : Bool) (b : ℕ) (rest : List ℕ) → (kind_of b ≡ kinds.White) ⊎ (kind_of b ≡ kinds.Semicolon) → first_of whole Frame (b ∷ rest) ≡ Passes 1 Frame
+pub separator_read : (whole : Bool) (b : ℕ) (rest : List ℕ) → (kind_of b ≡ kinds.White) ⊎ (kind_of b ≡ kinds.Semicolon) → first_of whole Frame (b ∷ rest) ≡ Passes 1 Frame
 unfolding first_of at_frame
 separator_read whole b rest (inl e) = ap (λ k. by_kind k b rest) e
 separator_read whole b rest (inr e) = ap (λ k. by_kind k b rest) e
@@ -287,16 +289,26 @@ reset_read : (whole : Bool) (rest : List ℕ) → first_of whole Frame (escape �
 unfolding first_of at_frame kind_of
 reset_read whole rest = refl
 
-percent_read : (whole : Bool) (bytes : List ℕ) → first_of whole Frame (escape ∷ 37 ∷ bytes) ≡ language_in bytes
+percent_read : (whole : Bool) (bytes : List ℕ) → first_of whole Frame (escape ∷ 37 ∷ bytes) ≡ exit_or (language_in bytes) bytes
 unfolding first_of at_frame kind_of
 percent_read whole bytes = refl
+
+language_read : (whole : Bool) (bytes : List ℕ) → (BeginsExit bytes → ⊥) → first_of whole Frame (escape ∷ 37 ∷ bytes) ≡ language_in bytes
+language_read whole bytes h = percent_read whole bytes ∙ cond-false (begins_with exit_field bytes) _ _ (no_exit bytes h)
+
+exit_read : (whole : Bool) (rest : List ℕ) → first_of whole Frame (exit_text ++ rest) ≡ Begins ExitLanguage 9 Pjl
+unfolding first_of at_frame kind_of
+exit_read whole rest = refl
+
+pub exit_reads : {place : ℕ} (whole : Bool) (rest : List ℕ) → ReadsTo whole Frame place (exit_text ++ rest) (at place ExitLanguage ∷ []) Pjl (place + length exit_text) rest
+exit_reads whole rest = begins ExitLanguage 9 Pjl (exit_read whole rest) here
 
 pub leaves_reads : {place : ℕ} {text : List ℕ} {items : List Placed} (whole : Bool) (rest : List ℕ) → LeavesFrame place text items → ReadsTo whole Frame place (text ++ rest) items Pcl (place + length text) rest
 leaves_reads whole rest reset = begins Reset 2 Pcl (reset_read whole rest) here
 leaves_reads whole rest (leave_frame {place = place} {field = field} {amount = amount} {handover = handover} f h) =
     let size : place + (length field + 3) ≡ place + length (escape ∷ 37 ∷ (field ++ 65 ∷ [])) = omega (arith, length-append field (65 ∷ [])) in
     ReadsTo-at refl (sym (ap (λ l. escape ∷ 37 ∷ l) (append_assoc field (65 ∷ []) rest))) refl
-    (begins (LeaveFrame handover) (length field + 3) Pcl (percent_read whole (field ++ 65 ∷ rest) ∙ leave_read field amount rest handover f h)
+    (begins (LeaveFrame handover) (length field + 3) Pcl (language_read whole (field ++ 65 ∷ rest) (no_exit_field field amount 65 rest f (omega arith) (λ e. absurd (omega (arith, e)))) ∙ leave_read field amount rest handover f h)
     (ReadsTo-at refl (sym (drop_field field 65 rest)) size here))
 
 -- ---- faults
@@ -492,8 +504,8 @@ fault_read place (unknown_letters {a = a} {b = b} {rest = rest} e f h) =
 fault_read place cut_frame_escape = at_once place (escape ∷ []) Truncated refl
 fault_read place (other_sequence {b = b} {rest = rest} h k) =
     at_once place (escape ∷ b ∷ rest) (NotInProfile (names.Byte b)) (causes_at Frame (escape ∷ b ∷ rest) _ _ (cond-false (b == 69) _ _ (by_test (b == 69) (λ t. h (eqb-true b 69 t))) ∙ cond-false (b == 37) _ _ (by_test (b == 37) (λ t. k (eqb-true b 37 t)))))
-fault_read place (in_language {bytes = bytes} {cause = cause} h) =
-    at_once place (escape ∷ 37 ∷ bytes) cause (subst (λ (f : First). IsFault true f Frame (escape ∷ 37 ∷ bytes) cause) (sym (percent_read true bytes)) (leave_fault bytes (language_in bytes) cause (leave_causes bytes cause h)))
+fault_read place (in_language {bytes = bytes} {cause = cause} k h) =
+    at_once place (escape ∷ 37 ∷ bytes) cause (subst (λ (f : First). IsFault true f Frame (escape ∷ 37 ∷ bytes) cause) (sym (language_read true bytes k)) (leave_fault bytes (language_in bytes) cause (leave_causes bytes cause h)))
 fault_read place (faults.in_command {part = part} {from = from} {text = text} {bytes = rest} {cause = cause} begun h) =
     let r = begun_read true place tt begun in
     record { context = context_of part r.n; end = place + length text; rest = rest; reads = r.reads; stands = part_place part r.n from place text r.counts; fault = part_fault part r.n rest cause h }

@@ -13,7 +13,7 @@ use Rattle.pcl_items.specs.declared.ahead.Ahead.{Ahead}
 use Rattle.pcl_items.specs.declared.item.Mode.{Mode}
 use Rattle.pcl_items.specs.declared.item.Mode.TheVariants as modes
 use Rattle.pcl_items.specs.declared.item.Item.{Item}
-use Rattle.pcl_items.specs.Items.{Entry, Placed, at, view, Reset, LeaveFrame, Initialize, Set, Move, WithData}
+use Rattle.pcl_items.specs.Items.{Entry, Placed, at, view, Reset, LeaveFrame, Initialize, Set, Move, WithData, ExitLanguage}
 use Rattle.pcl_items.specs.Canon.{magnitude_text, canon, IsItem, data_of}
 use Rattle.pcl_items.specs.Contexts.{Context, Frame}
 use Rattle.pcl_items.specs.Modes.{follows, between, mode_of}
@@ -36,6 +36,7 @@ canon_short Reset next h e = omega arith
 canon_short (LeaveFrame Previous) next h e = omega arith
 canon_short (LeaveFrame Current) next h e = omega arith
 canon_short Initialize next h e = omega arith
+canon_short ExitLanguage next h e = omega arith
 canon_short (Set setting n) next h e =
     let number : List ℕ = magnitude_text n in
     let short : length number ≤ 16 = (setting_spelled n h).field.short in
@@ -102,7 +103,7 @@ stands_ahead bytes n ahead item end next size h s =
 
 -- ---- the item that was read
 
-ahead_mode : (front : List ℕ) (ahead : Ahead) → StandsAhead true Frame 0 front ahead → mode_of (context_view ahead.context) ≡ modes.Frame
+pub ahead_mode : (front : List ℕ) (ahead : Ahead) → StandsAhead true Frame 0 front ahead → mode_of (context_view ahead.context) ≡ modes.Frame
 ahead_mode front ahead h = let behind : Some modes.Frame ≡ Some (mode_of (context_view ahead.context)) = reads_mode (h.reads 0) in cc
 
 no_data : (item : Entry) (next : Mode) → follows modes.Frame item ≡ Some next → data_of item ≡ []

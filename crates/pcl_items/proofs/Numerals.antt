@@ -48,7 +48,7 @@ pub ends_before : (text : List ℕ) (s : Sign) (w : List ℕ) (o : Option (List 
 ends_before text s w o [] h e = ends_at_end s w o
 ends_before text s w o (c ∷ rest) h e = ends_in text s w o c rest h e
 
-positive_digit : (n : ℕ) → 0 < n → not (n == 0) ≡ true
+pub positive_digit : (n : ℕ) → 0 < n → not (n == 0) ≡ true
 positive_digit zero h = absurd (omega arith)
 positive_digit (suc n) h = let e : (suc n == 0) ≡ false = grind arith in ap not e
 

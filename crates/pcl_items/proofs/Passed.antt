@@ -4,7 +4,7 @@ use Rattle.std.proofs.lemmas.Bool.{le-leb}
 use Rattle.std.proofs.lemmas.List.{length-drop, length-take-le, drop-drop, take-append-drop}
 use Rattle.std.proofs.lemmas.Bool.{cond-true}
 use Rattle.std.specs.Prelude.{nat_le}
-use Rattle.pcl_items.specs.Contexts.{Context, Pcl, Sequence, Frame, Letters, Numbered}
+use Rattle.pcl_items.specs.Contexts.{Context, Pcl, Sequence, Frame, Letters, Numbered, Pjl}
 use Rattle.pcl_items.specs.Items.{at, Text}
 use Rattle.pcl_items.specs.Reader.{first_of, Begins}
 use Rattle.pcl_items.specs.Reading.{ReadsTo, here, begins}
@@ -35,6 +35,7 @@ Passing n old new = 1 ≤ n → n ≤ length (ahead_of old) → AreText (take n 
 pub passed : (window : List ℕ) (at dropped : ℕ) (context : Context) (ended : Bool) (held n : ℕ) →
     Passing n (standing window at dropped context ended held) (standing window (at + n) dropped context ended held)
 passed window at dropped (Sequence group) ended held n some short h = absurd (omega (arith, short, some))
+passed window at dropped Pjl ended held n some short h = absurd (omega (arith, short, some))
 passed window at dropped Frame ended held n some short h = absurd (omega (arith, short, some))
 passed window at dropped (Letters mnemonic k) ended held n some short h = absurd (omega (arith, short, some))
 passed window at dropped (Numbered numbers gap k) ended held n some short h = absurd (omega (arith, short, some))

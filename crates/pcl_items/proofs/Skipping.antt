@@ -7,7 +7,7 @@ use Rattle.pcl_items.specs.declared.first.First.TheVariants as firsts
 use Rattle.pcl_items.specs.declared.first.Context as code_context
 use Rattle.pcl_items.specs.Contexts.{Context, counted}
 use Rattle.pcl_items.specs.Reader.{Passes, first_of}
-use Rattle.pcl_items.specs.FirstView.{context_view, first_view, Within, len_of, counted_after}
+use Rattle.pcl_items.specs.FirstView.{context_view, first_view, Within, FirstHasLine, len_of, counted_after}
 use Rattle.pcl_items.specs.Reading.{ReadsTo, here, passes, left}
 use Rattle.pcl_items.specs.Ahead.{StandsAhead}
 use Rattle.pcl_items.proofs.ReadsTo.{ReadsTo-at, ReadsTo-append}
@@ -22,7 +22,7 @@ pub record PassesTo (whole : Bool) (context : Context) (start : ℕ) (window : L
 pub stays_here : (whole : Bool) (context : Context) (start : ℕ) (window : List ℕ) → start ≤ length window → PassesTo whole context start window context start
 stays_here whole context start window h = record { reads = λ dropped. here; inside = h; counts = omega arith }
 
-one_pass : (whole : Bool) (c next : Context) (window : List ℕ) (start dropped len : ℕ) → first_of whole c (drop start window) ≡ Passes len next →
+pub one_pass : (whole : Bool) (c next : Context) (window : List ℕ) (start dropped len : ℕ) → first_of whole c (drop start window) ≡ Passes len next →
     ReadsTo whole c (dropped + start) (drop start window) [] next (dropped + (start + len)) (drop (start + len) window)
 one_pass whole c next window start dropped len e =
     let place : dropped + start + len ≡ dropped + (start + len) = omega arith in
@@ -68,15 +68,17 @@ no_pass bytes (firsts.Faulty cause) h len next e = absurd cc
 pub stands_ahead : (whole : Bool) (context : Context) (start : ℕ) (window : List ℕ) (ahead : Ahead) → PassesTo whole context start window (context_view ahead.context) ahead.start →
     first_view (drop ahead.start window) ahead.first ≡ first_of whole (context_view ahead.context) (drop ahead.start window) →
     Within (length (drop ahead.start window)) ahead.first →
+    FirstHasLine (drop ahead.start window) ahead.first →
     counted_after (first_view (drop ahead.start window) ahead.first) ≤ counted (context_view ahead.context) + len_of (first_view (drop ahead.start window) ahead.first) →
     ((len : ℕ) (next : code_context.Context) → ahead.first ≡ firsts.Passes len next → ⊥) →
     StandsAhead whole context start window ahead
-stands_ahead whole context start window ahead h e w k n = record {
+stands_ahead whole context start window ahead h e w l k n = record {
   reads = h.reads;
   inside = h.inside;
   counts = h.counts;
   first_is = e;
   stops = no_pass (drop ahead.start window) ahead.first n;
   within = w;
+  line = l;
   after = k;
 }

@@ -1,7 +1,7 @@
 -- Items by their spellings, and read again.
 use Rattle.std.proofs.Common.{◌≡◌, ℕ, suc, ◌+◌, ◌-◌, ◌≤◌, Bool, true, List, [], ◌∷◌, ◌++◌, length, take, drop, Option, None, Some, refl, sym, ap, subst, ◌∙◌, append_assoc, arith}
 use Rattle.std.proofs.Math.Seq.{take-append_seam}
-use Rattle.std.proofs.lemmas.List.{length-take-le, take-append-drop, append_cancel_right}
+use Rattle.std.proofs.lemmas.List.{length-append, length-take-le, take-append-drop, append_cancel_right}
 use Rattle.pcl_items.specs.declared.fault.Cause.{Cause}
 use Rattle.pcl_items.specs.declared.frame.Handover.TheVariants.{Previous, Current}
 use Rattle.pcl_items.specs.declared.first.First.TheVariants as codes
@@ -13,12 +13,13 @@ use Rattle.pcl_items.specs.declared.item.Item.{Item}
 use Rattle.pcl_items.specs.declared.item.Item.TheVariants as items
 use Rattle.pcl_items.specs.declared.item.SimpleItem.{SimpleItem}
 use Rattle.pcl_items.specs.declared.item.SimpleItem.TheVariants as simple
-use Rattle.pcl_items.specs.Items.{Entry, Placed, at, view, simple_view, Text, EnterFrame}
+use Rattle.pcl_items.specs.Items.{Entry, Placed, at, view, simple_view, Text, EnterFrame, ExitLanguage, PjlLine}
+use Rattle.pcl_items.specs.LineCanon.{parts_of, by_parts}
 use Rattle.pcl_items.specs.Canon.{canon, IsItem, data_of}
-use Rattle.pcl_items.specs.Contexts.{Context, Pcl, Sequence, Frame, Letters, Numbered}
+use Rattle.pcl_items.specs.Contexts.{Context, Pcl, Sequence, Frame, Letters, Numbered, Pjl, MayEndAt}
 use Rattle.pcl_items.specs.Modes.{follows, between, mode_of}
 use Rattle.pcl_items.specs.FrameReader.{at_frame}
-use Rattle.pcl_items.specs.Reader.{Open, Passes, Begins, Faulty, first_of}
+use Rattle.pcl_items.specs.Reader.{Open, Passes, Begins, Faulty, after_escape, first_of}
 use Rattle.pcl_items.specs.FirstView.{context_view, first_view, head_view}
 use Rattle.pcl_items.specs.Reading.{ReadsTo, here, passes, begins, Reading, Whole, Stopped, IsReadFrom, items_of, left, read_on}
 use Rattle.pcl_items.specs.Spelled.{StandsAt, NothingStands, spelled, mode_after, mode_behind, AreAdmitted, none, some, IsSpelled, entries, items_in}
@@ -35,6 +36,7 @@ use Rattle.pcl_items.proofs.Canons.{has_canon}
 -- no spelling is empty
 pub canon-some : (item : Entry) → 1 ≤ length (canon item)
 canon-some (Text code) = omega arith
+canon-some (PjlLine line) = omega (arith, length-append (by_parts (parts_of line)) (10 ∷ []))
 canon-some _ = omega arith
 
 pub spelled-append : (items others : List Entry) → spelled (items ++ others) ≡ spelled items ++ spelled others
@@ -54,6 +56,7 @@ pub item_known : (item : Item) → IsItem (view item)
 item_known (items.Text byte) = byte.printing
 item_known (items.Simple item) = simple_known item
 item_known (items.WithData command «data») = «data».within
+item_known (items.PjlLine spelled) = spelled.spelled
 
 -- ---- the mode behind items
 
@@ -98,6 +101,7 @@ reads_mode (begins {whole = w} {context = c} {bytes = bytes} {items = items} ent
 mode_between : (mode : Mode) → mode_of (between mode) ≡ mode
 mode_between modes.Pcl = refl
 mode_between modes.Frame = refl
+mode_between modes.Pjl = refl
 
 -- a mode admits the items that are one unit of it
 pub one_unit_admitted : (mode mode2 : Mode) (item : Entry) → IsOneUnit mode item mode2 → follows mode item ≡ Some mode2
@@ -140,6 +144,7 @@ no_step : (w : Bool) (c : Context) (bytes : List ℕ) (len : ℕ) (next : Contex
 no_step w Pcl bytes len next m e = no_passing w bytes len next e
 no_step w (Sequence g) bytes len next m e = no_passing_in w g bytes len next e
 no_step w Frame bytes len next m e = absurd cc
+no_step w Pjl bytes len next m e = absurd cc
 no_step w (Letters mnemonic n) bytes len next m e = absurd cc
 no_step w (Numbered x gap n) bytes len next m e = absurd cc
 
@@ -175,9 +180,15 @@ enters_first (EnterFrame Previous) e rest = lone_first true (48 ∷ []) rest zer
 enters_first (EnterFrame Current) e rest = lone_first true (49 ∷ []) rest one_spelled (enter_frame (current refl (λ e. absurd cc)))
 enters_first _ e rest = absurd cc
 
+exits_first : (item : Entry) → follows modes.Pcl item ≡ Some modes.Pjl → (rest : List ℕ) → first_of true Pcl (canon item ++ rest) ≡ Begins item (length (canon item)) Pjl
+unfolding first_of after_escape
+exits_first ExitLanguage e rest = refl
+exits_first _ e rest = absurd cc
+
 pub canon_first : (item : Entry) (next : Mode) → IsItem item → follows modes.Pcl item ≡ Some next → (rest : List ℕ) → first_of true Pcl (canon item ++ rest) ≡ Begins item (length (canon item)) (between next)
 canon_first item modes.Pcl h e rest = stays_first item h e rest
 canon_first item modes.Frame h e rest = enters_first item e rest
+canon_first item modes.Pjl h e rest = exits_first item e rest
 
 -- ---- what is read of spellings
 
@@ -205,12 +216,13 @@ unfolding first_of at_frame
 frame_last = record { last = λ g. g }
 
 last_between : (mode : Mode) → IsLast true (between mode) []
-last_between modes.Pcl = end_last
+last_between modes.Pcl = end_last Pcl tt
 last_between modes.Frame = frame_last
+last_between modes.Pjl = end_last Pjl tt
 
 -- no other items are read
 items_are : {c : Context} {p q : ℕ} {bytes : List ℕ} {items : List Placed} (next : Mode) (r : Reading) → ReadsTo true c p bytes items (between next) q [] → IsReadFrom c p bytes r → items_of r ≡ items
-items_are next (Whole ys end) h k = (same_end h (last_between next) k end_last).items
+items_are next (Whole ys end) h k = (same_end h (last_between next) k.2 (end_last k.0 k.1)).items
 items_are next (Stopped ys stop cause) h k = (same_end h (last_between next) k.reads (fault_last k.last k.rest cause k.fault)).items
 
 -- spellings are read as the items that they spell

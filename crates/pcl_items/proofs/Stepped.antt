@@ -10,9 +10,11 @@ use Rattle.pcl_items.specs.declared.item.Item.TheVariants as items
 use Rattle.pcl_items.specs.declared.item.Mode.{Mode}
 use Rattle.pcl_items.specs.declared.item.SimpleItem.TheVariants as simple
 use Rattle.pcl_items.specs.declared.parameterized.ReadCommand.{ReadCommand}
+use Rattle.pcl_items.specs.declared.pair.ReadPair.{ReadPair}
 use Rattle.pcl_items.specs.declared.command.Command.{Command}
+use Rattle.pcl_items.specs.declared.frame.Gap.TheVariants.{Straight}
 use Rattle.pcl_items.specs.Value.{Amount}
-use Rattle.pcl_items.specs.Contexts.{Context, Pcl, Sequence, Frame, Letters, Numbered, counted, item_place}
+use Rattle.pcl_items.specs.Contexts.{Context, Pcl, Sequence, Frame, Letters, Numbered, Even, Pjl, counted, item_place}
 use Rattle.pcl_items.specs.Modes.{follows, mode_of}
 use Rattle.pcl_items.specs.Items.{Entry, Parameterized, view, amount}
 use Rattle.pcl_items.specs.Items as entries
@@ -24,6 +26,7 @@ use Rattle.pcl_items.specs.Ahead.{IsByte, StandsAhead, IsUndecided}
 use Rattle.pcl_items.specs.LexerState.{LexerState}
 use Rattle.pcl_items.specs.Answers.{GoesOn, Answers}
 use Rattle.pcl_items.specs.ReadCommands.{IsAhead}
+use Rattle.pcl_items.specs.Pairs.{IsPairAhead}
 use Rattle.pcl_items.proofs.ReadsTo.{ReadsTo-at, ReadsTo-append}
 use Rattle.pcl_items.proofs.Spans.{begins-taken}
 use Rattle.pcl_items.proofs.FirstModes.{begins_in_mode}
@@ -34,7 +37,7 @@ abbrev pub standing : List ℕ → ℕ → ℕ → Context → Bool → ℕ → 
 standing window start dropped context ended held = record { rest = drop start window; place = dropped + start; context = context; ended = ended; held = held }
 
 -- over an item that stands first
-one_item : (ended : Bool) (c next : Context) (window : List ℕ) (start dropped len : ℕ) (entry : Entry) → first_of ended c (drop start window) ≡ Begins entry len next →
+pub one_item : (ended : Bool) (c next : Context) (window : List ℕ) (start dropped len : ℕ) (entry : Entry) → first_of ended c (drop start window) ≡ Begins entry len next →
     ReadsTo ended c (dropped + start) (drop start window) (entries.at (item_place c (dropped + start)) entry ∷ []) next (dropped + (start + len)) (drop (start + len) window)
 one_item ended c next window start dropped len entry e =
     let place : dropped + start + len ≡ dropped + (start + len) = omega arith in
@@ -51,6 +54,7 @@ byte_is_answer window start dropped ended held item t =
 command_place : (c : Context) (place : ℕ) (command : Command) (a : Amount) (m : Mode) → follows (mode_of c) (Parameterized command a) ≡ Some m → item_place c place ≡ place
 command_place Pcl place command a m e = refl
 command_place (Sequence g) place command a m e = refl
+command_place Pjl place command a m e = refl
 command_place Frame place command a m e = refl
 command_place (Letters mnemonic n) place command a m e = absurd cc
 command_place (Numbered numbers gap n) place command a m e = absurd cc
@@ -65,7 +69,20 @@ command_is_answer window start dropped context ended held read t =
     subst (λ (place : ℕ). GoesOn (standing window start dropped context ended held) (entries.at place entry ∷ []) new) there
     (record { reads = one_item ended context (context_view read.next) window start dropped read.len entry (t.0 ended); ended = refl; held = refl })
 
--- what is counted behind it
+-- the answer to a pair of coordinates
+pub pair_is_answer : (window : List ℕ) (start dropped : ℕ) (context : Context) (ended : Bool) (held : ℕ) (read : ReadPair) → IsPairAhead read context (dropped + start) (drop start window) →
+    Answers (standing window start dropped context ended held) (Ok (answers.Item read.place (items.Simple (simple.Move read.motion (Some read.to))))) (standing window (start + read.len) dropped (Numbered (Even read.motion) Straight 0) ended held)
+pair_is_answer window start dropped context ended held read t =
+    let entry : Entry = view (items.Simple (simple.Move read.motion (Some read.to))) in
+    let place : dropped + start + read.len ≡ dropped + (start + read.len) = omega arith in
+    record {
+      reads = subst (λ (l : List ℕ). ReadsTo ended context (dropped + start) (drop start window) (entries.at read.place entry ∷ []) (Numbered (Even read.motion) Straight 0) (dropped + (start + read.len)) l) (drop-drop read.len start window)
+          (ReadsTo-at refl refl place (t.reads ended));
+      ended = refl;
+      held = refl;
+    }
+
+-- what is counted behind a command
 pub command_counts : (context : Context) (bytes : List ℕ) (read : ReadCommand) → IsAhead read context bytes → counted (context_view read.next) ≤ counted context + read.len
 command_counts context bytes read t =
     (begins-taken true context bytes (Parameterized read.command (amount read.number)) read.len (context_view read.next) (t.0 true)).counts

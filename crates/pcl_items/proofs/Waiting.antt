@@ -16,6 +16,7 @@ use Rattle.pcl_items.specs.Contexts.{Numbers, Single, Odd, Even}
 use Rattle.pcl_items.specs.FrameNumber.{coordinate_of, setting_of, Numeral, Cut, Wrong, Read, numeral_at}
 use Rattle.pcl_items.specs.FrameReader.{language_in, in_command, second_letter, after_letter, after_frame_escape, by_kind, at_frame, single, first_of_pair, second_of_pair, first_number, letters_by, after_letters, further, by_figure, numbers_by, after_numbers}
 use Rattle.pcl_items.specs.Reader.{First, Open}
+use Rattle.pcl_items.proofs.Exits.{exit_open}
 use Rattle.pcl_items.proofs.FrameOpening.{IsCutNumber, cut_number, language_cut, ended_open, comma_open}
 
 -- where nothing is decided, there are at most 19 bytes
@@ -91,7 +92,7 @@ frame_escape_short a [] = λ e. omega arith
 frame_escape_short a (b ∷ bytes) =
     let n : ℕ = length (a ∷ b ∷ bytes) in
     cond_both (b == 69) _ _ (IsShort n) (λ _ e. absurd cc) (λ _.
-    cond_both (b == 37) _ _ (IsShort n) (λ _ e. omega (arith, language_short bytes e)) (λ _ e. absurd cc))
+    cond_both (b == 37) _ _ (IsShort n) (λ _ e. omega (arith, language_short bytes (exit_open (language_in bytes) bytes e))) (λ _ e. absurd cc))
 
 letter_short : (a : ℕ) (bytes : List ℕ) → IsShort (length (a ∷ bytes)) (after_letter a bytes)
 letter_short a [] = λ e. omega arith

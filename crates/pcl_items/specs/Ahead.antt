@@ -3,7 +3,7 @@ use Rattle.std.specs.Prelude.{◌≡◌, ℕ, ◌+◌, ◌≤◌, List, [], leng
 use Rattle.pcl_items.specs.declared.fault.LexFault.{LexFault}
 use Rattle.pcl_items.specs.declared.ahead.Ahead.{Ahead}
 use Rattle.pcl_items.specs.Contexts.{Context, Pcl, counted}
-use Rattle.pcl_items.specs.FirstView.{context_view, first_view, Within, len_of, counted_after}
+use Rattle.pcl_items.specs.FirstView.{context_view, first_view, Within, FirstHasLine, len_of, counted_after}
 use Rattle.pcl_items.specs.Reading.{ReadsTo}
 use Rattle.pcl_items.specs.declared.item.Item.{Item}
 use Rattle.pcl_items.specs.declared.lexer.Lexed.{Lexed}
@@ -24,6 +24,7 @@ pub record StandsAhead (whole : Bool) (context : Context) (start : ℕ) (window 
   pub first_is : first_view (drop ahead.start window) ahead.first ≡ first_of whole (context_view ahead.context) (drop ahead.start window)
   pub stops : (len : ℕ) (next : Context) → first_view (drop ahead.start window) ahead.first ≡ Passes len next → ⊥
   pub within : Within (length (drop ahead.start window)) ahead.first
+  pub line : FirstHasLine (drop ahead.start window) ahead.first
   pub after : counted_after (first_view (drop ahead.start window) ahead.first) ≤ counted (context_view ahead.context) + len_of (first_view (drop ahead.start window) ahead.first)
 
 -- the answer where the bytes that are left decide nothing

@@ -20,6 +20,7 @@ use Rattle.pcl_items.specs.NumeralFaults.{NumeralFault, IsSomeSetting, IsSomeCoo
 use Rattle.pcl_items.specs.CommandParts.{Single, Odd, Even}
 use Rattle.pcl_items.specs.FieldFaults.{NumberFault, IsCut, IsCapital}
 use Rattle.pcl_items.specs.Items.{Placed, Move, at}
+use Rattle.pcl_items.specs.Exit.{BeginsExit}
 use Rattle.pcl_items.specs.FrameGrammar.{escape, Start, AtLetters, BehindPair, Part, Word, Number, HasNoComma, IsBegun, IsEnd, EndsPair, HandsOver}
 
 -- ---- behind what is written of a command
@@ -114,7 +115,7 @@ pub data FrameFault : Start → ℕ → List ℕ → Cause → Type 0 where
       FrameFault AtLetters 0 (a ∷ b ∷ rest) (NotInProfile (names.Pair (capital a) (capital b)))
   cut_frame_escape : FrameFault AtLetters 0 (escape ∷ []) Truncated
   other_sequence : {b : ℕ} {rest : List ℕ} → b ≢ 69 → b ≢ 37 → FrameFault AtLetters 0 (escape ∷ b ∷ rest) (NotInProfile (names.Byte b))
-  in_language : {bytes : List ℕ} {cause : Cause} → LeaveFault bytes cause → FrameFault AtLetters 0 (escape ∷ 37 ∷ bytes) cause
+  in_language : {bytes : List ℕ} {cause : Cause} → (BeginsExit bytes → ⊥) → LeaveFault bytes cause → FrameFault AtLetters 0 (escape ∷ 37 ∷ bytes) cause
   in_command : {start : Start} {part : Part} {from : ℕ} {text bytes : List ℕ} {cause : Cause} →
       IsBegun start part from text bytes → PartFault part bytes cause → FrameFault start from (text ++ bytes) cause
 

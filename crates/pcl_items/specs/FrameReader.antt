@@ -13,7 +13,7 @@ use Rattle.pcl_items.specs.Kinds.{kind_of, capital}
 use Rattle.pcl_items.specs.Mnemonics.{mnemonic_at}
 use Rattle.pcl_items.specs.Lone.{leave_at}
 use Rattle.pcl_items.specs.Contexts.{Pcl, Frame, Letters, Numbered, Numbers, Single, Odd, Even, spaced}
-use Rattle.pcl_items.specs.Firsts.{First, Open, Passes, Begins, Faulty, is_termination}
+use Rattle.pcl_items.specs.Firsts.{First, Open, Passes, Begins, Faulty, is_termination, exit_or}
 use Rattle.pcl_items.specs.Value.{Amount}
 use Rattle.pcl_items.specs.Field.{Field, field_at, amount_of}
 use Rattle.pcl_items.specs.FrameNumber.{coordinate_of, setting_of, Numeral, Cut, Wrong, Read, numeral_at}
@@ -54,7 +54,7 @@ after_letter a (b ∷ bytes) = second_letter (kind_of b) a b
 abbrev pub after_frame_escape : List ℕ → First
 after_frame_escape [] = Open
 after_frame_escape (b ∷ bytes) =
-    if b == 69 then Begins Reset 2 Pcl else if b == 37 then language_in bytes else Faulty (NotInProfile (names.Byte b))
+    if b == 69 then Begins Reset 2 Pcl else if b == 37 then exit_or (language_in bytes) bytes else Faulty (NotInProfile (names.Byte b))
 
 abbrev pub by_kind : Kind → ℕ → List ℕ → First
 by_kind kinds.White b bytes = Passes 1 Frame

@@ -1,21 +1,26 @@
 //! What stands ahead in a lexer's window, and what is lent of it.
 
 ghost use Rattle.std.specs.Prelude.{◌≡◌, ◌+◌, ◌<◌, ◌≤◌, ◌-◌, ◌^◌, ◌++◌, length, take, drop, IfSome};
-ghost use Rattle.pcl_items.specs.Items.{view};
+ghost use Rattle.pcl_items.specs.Items.{Entry, view};
 ghost use Rattle.pcl_items.specs.Canon.{canon, data_of};
 ghost use Rattle.pcl_items.specs.Reader.{first_of};
 ghost use Rattle.pcl_items.specs.Contexts.{counted};
-ghost use Rattle.pcl_items.specs.FirstView.{context_view, data_len, head_view, first_view, Within, len_of, counted_after};
+ghost use Rattle.pcl_items.specs.FirstView.{context_view, data_len, head_view, HasLine, first_view, Within, FirstHasLine, len_of, counted_after};
+ghost use Rattle.pcl_items.specs.declared.first.Head.TheVariants.{Line};
+ghost use Rattle.pcl_items.specs.LineView.{line_view};
 ghost use Rattle.pcl_items.specs.Ahead.{IsByte, StandsAhead, IsUndecided};
 ghost use Rattle.pcl_items.specs.ReadCommands.{IsAhead};
+ghost use Rattle.pcl_items.specs.Pairs.{IsPairAhead};
 ghost use Rattle.pcl_items.specs.Passing.{ahead_in};
 
 use crate::code::control_at;
 use crate::fault::LexFault;
 use crate::first::{Context, First, Head, first_in};
-use crate::item::{Data, Item, Place, TextByte};
+use crate::item::{Data, Item, PjlLine, Place, TextByte};
 use crate::lexer::Lexed;
+use crate::line::line_of;
 use crate::number::DataCount;
+use crate::pair::{ReadPair, pair_in};
 use crate::parameterized::{ReadCommand, parameterized_in};
 
 /// The item of the byte at `start` of the window, where it is one by itself between units: text, or a control code.
@@ -65,6 +70,16 @@ pub fn command_ahead(context: Context, start: usize, window: &[u8]) -> Option<Re
     parameterized_in(context, &window[start..])
 }
 
+/// The pair of coordinates at `start` of the window, which stands at this place of the job, unless something else does.
+#[inline(always)]
+pub fn pair_ahead(context: Context, place: Place, start: usize, window: &[u8]) -> Option<ReadPair>
+    requires inside { start ≤ length window.now }
+    requires total { place + length (drop start window.now) ≤ 2 ^ 62 }
+    ensures { IfSome result (λ read. IsPairAhead read (context_view context) place (drop start window.now)) }
+{
+    pair_in(context, place, &window[start..])
+}
+
 /// What stands first in a window behind bytes that end no item.
 #[derive(Clone, Copy)]
 pub struct Ahead {
@@ -110,6 +125,7 @@ fn first_ahead(whole: bool, context: Context, start: usize, window: &[u8]) -> Fi
     requires counts { counted (context_view context) + length (drop start window.now) ≤ 2 ^ 62 }
     ensures first { first_view (drop start window.now) result ≡ first_of whole (context_view context) (drop start window.now) }
     ensures within { Within (length (drop start window.now)) result }
+    ensures line { FirstHasLine (drop start window.now) result }
     ensures counted { counted_after (first_view (drop start window.now) result) ≤ counted (context_view context) + len_of (first_view (drop start window.now) result) }
 {
     first_in(whole, context, &window[start..])
@@ -126,11 +142,25 @@ pub fn data_before(count: DataCount, end: usize, window: &[u8]) -> Data<'_>
     }
 }
 
+/// The line that so many bytes in front spell with their newline.
+pub fn line_before(len: usize, bytes: &[u8]) -> PjlLine<'_>
+    requires inside { len ≤ length bytes.now }
+    requires newline { 1 ≤ len }
+    requires line { HasLine Line len bytes.now }
+    ensures { Entry.PjlLine (line_view result.line) ≡ head_view Line len bytes.now }
+{
+    let Some(line) = line_of(&bytes[..len - 1]) else {
+        unreachable!()
+    };
+    PjlLine { line }
+}
+
 /// The item of so many bytes in front.
 #[inline(always)]
 pub fn with_its_data(head: Head, len: usize, bytes: &[u8]) -> Item<'_>
     requires inside { len ≤ length bytes.now }
     requires there { data_len head ≤ len }
+    requires line { HasLine head len bytes.now }
     ensures item { view result ≡ head_view head len bytes.now }
     ensures within { length (data_of (view result)) ≤ len }
     ensures last { take (len - length (data_of (view result))) bytes.now ++ data_of (view result) ≡ take len bytes.now }
@@ -139,6 +169,7 @@ pub fn with_its_data(head: Head, len: usize, bytes: &[u8]) -> Item<'_>
         Head::Text(byte) => Item::Text(byte),
         Head::Simple(item) => Item::Simple(item),
         Head::WithData(command, count) => Item::WithData(command, data_before(count, len, bytes)),
+        Head::Line => Item::PjlLine(line_before(len, bytes)),
     }
 }
 
@@ -148,6 +179,7 @@ pub fn item_ahead(head: Head, len: usize, start: usize, window: &[u8]) -> Item<'
     requires start { start ≤ length window.now }
     requires inside { len ≤ length (drop start window.now) }
     requires there { data_len head ≤ len }
+    requires line { HasLine head len (drop start window.now) }
     ensures { view result ≡ head_view head len (drop start window.now) }
 {
     with_its_data(head, len, &window[start..])

@@ -12,7 +12,7 @@ ghost use Rattle.pcl_items.specs.NumeralView.{numeral_view, numeral_len};
 use crate::counting::handover_of;
 use crate::fault::{Cause, Name};
 use crate::field::{MOST_CHARACTERS, longest_field};
-use crate::first::{Context, First, Head, Numbers};
+use crate::first::{Context, EXIT, First, Head, Numbers, begins_exit};
 use crate::frame::{Coordinate, Coordinates, Gap, Kind, Mnemonic, Motion, Setting, capital};
 use crate::frame_number::{Numeral, coordinate_in, setting_in};
 use crate::item::SimpleItem;
@@ -61,6 +61,7 @@ fn escaped_in_frame(bytes: &[u8]) -> First
     match bytes {
         [] => First::Open,
         [b'E', ..] => First::Begins(2, Head::Simple(SimpleItem::Reset), Context::Pcl),
+        [b'%', rest @ ..] if begins_exit(rest) => EXIT,
         [b'%', rest @ ..] => language(rest),
         [byte, ..] => First::Faulty(Cause::NotInProfile(Name::Byte(*byte))),
     }

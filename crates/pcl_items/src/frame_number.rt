@@ -14,7 +14,7 @@ use crate::frame::Coordinate;
 use crate::number::{Magnitude, Number, Sign};
 
 /// A number past the limit of a coordinate, which stands for every such number.
-const PAST_COORDINATES: u32 = 8_388_608;
+pub const PAST_COORDINATES: u32 = 8_388_608;
 
 /// A field by what a coordinate needs of it: how many characters it has, its sign, its whole part, past the limit for one
 /// that is past it, whether it has a digit, and whether its decimals are all 0.

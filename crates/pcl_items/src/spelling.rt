@@ -3,18 +3,22 @@
 ghost use Rattle.std.specs.Prelude.{◌≡◌, ◌≤◌, ◌+◌, ◌-◌, ◌%◌, List, ◌++◌, ◌∷◌, [], ℕ, take, length, decimal, MatchOption, OnOk, OnErr};
 ghost use Rattle.std.specs.Fmt.{signed_decimal};
 ghost use Rattle.arrayvec.specs.ArrayVec.{array_vec_len};
-ghost use Rattle.pcl_items.specs.declared.item.Mode.TheVariants.{Pcl, Frame};
+ghost use Rattle.pcl_items.specs.declared.item.Mode.TheVariants.{Pcl, Frame, Pjl};
 ghost use Rattle.pcl_items.specs.Items.{Entry, view, simple_view, amount, pair};
-ghost use Rattle.pcl_items.specs.Canon.{canon, data_of, amount_text, magnitude_text, with_point, without_zeros, four_decimals};
+ghost use Rattle.pcl_items.specs.LineText.{BeginsLine};
+ghost use Rattle.pcl_items.specs.LineView.{line_view};
+ghost use Rattle.pcl_items.specs.LineCanon.{behind_space, canon_line};
+ghost use Rattle.pcl_items.specs.Canon.{canon, IsNoLine, data_of, amount_text, magnitude_text, with_point, without_zeros, four_decimals};
 ghost use Rattle.pcl_items.specs.Mnemonics.{letters_of};
 ghost use Rattle.pcl_items.specs.ValueField.{sign_text};
 ghost use Rattle.pcl_items.specs.Spelled.{StandsAt, NothingStands, IsSpelled};
 
 use crate::ahead::{byte_in, next_ahead, with_its_data};
 use crate::command::{Command, DataCommand};
-use crate::first::{Context, First, first_between};
+use crate::first::{Context, First, begins_line, first_between};
 use crate::frame::{Coordinate, Coordinates, Handover, Mnemonic, Motion, Setting};
-use crate::item::{Item, Mode, SetLetter, SimpleItem};
+use crate::item::{Item, Mode, PjlLine, SetLetter, SimpleItem};
+use crate::line::{FirstLine, Line, first_line};
 use crate::number::{Magnitude, Number, Sign};
 use crate::parameterized::parameterized_in;
 use arrayvec::ArrayVec;
@@ -27,8 +31,14 @@ const LONGEST: usize = 26;
 /// No spelling of an item of a frame has more bytes.
 const MOST_IN_FRAME: usize = 64;
 
+/// No line has more bytes.
+const MOST_IN_LINE: usize = 1024;
+
 /// A spelling but for the data that end it.
 type HeadText = ArrayVec<u8, LONGEST>;
+
+/// The spelling of a line.
+type LineText = ArrayVec<u8, MOST_IN_LINE>;
 
 /// Appends bytes that have room.
 fn append(text: &mut HeadText, bytes: &[u8])
@@ -233,17 +243,20 @@ fn simple_text(item: &SimpleItem) -> HeadText
         SimpleItem::Initialize => fixed(b"IN;"),
         SimpleItem::Set(setting, magnitude) => setting_text(*setting, *magnitude),
         SimpleItem::Move(motion, to) => motion_text(*motion, *to),
+        SimpleItem::ExitLanguage => fixed(b"\x1b%-12345X"),
     }
 }
 
-/// The spelling of an item but for its data.
+/// The spelling of an item that is no line, but for its data.
 fn head_text(item: &Item<'_>) -> HeadText
+    requires { IsNoLine (view item.now) }
     ensures { result.items ++ data_of (view item.now) ≡ canon (view item.now) }
 {
     match item {
         Item::Text(byte) => fixed(&[byte.code]),
         Item::Simple(item) => simple_text(item),
         Item::WithData(command, data) => counting_text(*command, data.bytes.len() as u16),
+        Item::PjlLine(_) => unreachable!(),
     }
 }
 
@@ -256,13 +269,53 @@ fn data_of<'a>(item: &Item<'a>) -> &'a [u8]
         Item::Text(_) => &[],
         Item::Simple(_) => &[],
         Item::WithData(_, data) => data.bytes,
+        Item::PjlLine(_) => &[],
     }
 }
 
-/// Appends the spelling of an item.
-///
-/// An error means that memory was refused; the bytes then stand as before.
-pub fn spell<A: Allocator>(item: &Item<'_>, bytes: &mut Vec<u8, A>) -> Result<(), AllocError>
+/// What stands in front of a line in its spelling, up to its word, and the text behind the word.
+fn line_parts<'a>(spelled: &PjlLine<'a>) -> (&'static [u8], &'a [u8])
+    ensures text { canon_line (line_view spelled.now.line) ≡ result.0.now ++ (behind_space result.1.now ++ 10 ∷ []) }
+    ensures room { length result.0.now + length result.1.now + 2 ≤ 1024 }
+{
+    match spelled.line {
+        Line::Bare => (b"@PJL", &[]),
+        Line::Remark(text) => (b"@PJL COMMENT", text),
+        Line::JobBegins(text) => (b"@PJL JOB", text),
+        Line::JobEnds(text) => (b"@PJL EOJ", text),
+        Line::EnterPcl => (b"@PJL ENTER LANGUAGE=PCL", &[]),
+    }
+}
+
+/// Appends bytes that have room.
+fn append_to_line(line: &mut LineText, bytes: &[u8])
+    requires { array_vec_len line.old + length bytes.now ≤ 1024 }
+    ensures text { line.new.items ≡ line.old.items ++ bytes.now }
+    ensures len { array_vec_len line.new ≡ array_vec_len line.old + length bytes.now }
+{
+    let Ok(()) = line.try_extend_from_slice(bytes) else {
+        unreachable!()
+    };
+}
+
+/// The spelling of a line.
+fn line_text(spelled: &PjlLine<'_>) -> LineText
+    ensures { result.items ≡ canon_line (line_view spelled.now.line) }
+{
+    let (front, text) = line_parts(spelled);
+    let mut all = ArrayVec::new();
+    append_to_line(&mut all, front);
+    if !text.is_empty() {
+        all.push(b' ');
+        append_to_line(&mut all, text);
+    }
+    all.push(b'\n');
+    all
+}
+
+/// Appends the spelling of an item that is no line.
+fn spell_command<A: Allocator>(item: &Item<'_>, bytes: &mut Vec<u8, A>) -> Result<(), AllocError>
+    requires { IsNoLine (view item.now) }
     ensures ok { OnOk result (bytes.new.items ≡ bytes.old.items ++ canon (view item.now)) }
     ensures err { OnErr result (bytes.new.items ≡ bytes.old.items) }
 {
@@ -274,12 +327,28 @@ pub fn spell<A: Allocator>(item: &Item<'_>, bytes: &mut Vec<u8, A>) -> Result<()
     bytes.extend_from_slice(data)
 }
 
+/// Appends the spelling of an item.
+///
+/// An error means that memory was refused; the bytes then stand as before.
+pub fn spell<A: Allocator>(item: &Item<'_>, bytes: &mut Vec<u8, A>) -> Result<(), AllocError>
+    ensures ok { OnOk result (bytes.new.items ≡ bytes.old.items ++ canon (view item.now)) }
+    ensures err { OnErr result (bytes.new.items ≡ bytes.old.items) }
+{
+    match item {
+        Item::PjlLine(spelled) => bytes.extend_from_slice(&line_text(spelled)),
+        _ => spell_command(item, bytes),
+    }
+}
+
 /// The number of bytes of the spelling of an item.
 pub fn spelled_len(item: &Item<'_>) -> u64
     ensures len { result ≡ length (canon (view item.now)) }
     ensures short { result ≤ 65536 }
 {
-    (head_text(item).len() + data_of(item).len()) as u64
+    match item {
+        Item::PjlLine(spelled) => line_text(spelled).len() as u64,
+        _ => (head_text(item).len() + data_of(item).len()) as u64,
+    }
 }
 
 /// The item whose spelling stands first in bytes of mode PCL, how many bytes it takes, and the mode behind it.
@@ -321,6 +390,38 @@ fn first_of_frame(bytes: &[u8]) -> Option<(Item<'_>, usize, Mode)>
     }
 }
 
+/// The line whose spelling stands first in bytes that begin with `@`, as an item of mode PJL, how many bytes it takes, and
+/// the mode behind it.
+fn first_spelled_line(bytes: &[u8]) -> Option<(Item<'_>, usize, Mode)>
+    requires { BeginsLine bytes.now }
+    ensures { MatchOption result (NothingStands Pjl bytes.now 0) (λ found. StandsAt Pjl bytes.now 0 (view found.0) found.1 found.2) }
+{
+    let FirstLine::Begins(spelled, _) = first_line(bytes) else {
+        return None;
+    };
+    let spelling = line_text(&spelled);
+    if bytes.starts_with(spelling.as_slice()) {
+        Some((
+            Item::PjlLine(spelled),
+            spelling.len(),
+            spelled.line.mode_behind(),
+        ))
+    } else {
+        None
+    }
+}
+
+/// The item whose spelling stands first in bytes of mode PJL, how many bytes it takes, and the mode behind it.
+fn first_in_pjl(bytes: &[u8]) -> Option<(Item<'_>, usize, Mode)>
+    ensures { MatchOption result (NothingStands Pjl bytes.now 0) (λ found. StandsAt Pjl bytes.now 0 (view found.0) found.1 found.2) }
+{
+    if begins_line(bytes) {
+        first_spelled_line(bytes)
+    } else {
+        first_item(bytes)
+    }
+}
+
 /// The first item of bytes of mode PCL that are the spellings of items.
 fn first_spelled_between(bytes: &[u8]) -> Option<(Item<'_>, usize, Mode)>
     requires { IsSpelled Pcl bytes.now }
@@ -350,6 +451,7 @@ pub fn first_spelled(bytes: &[u8], mode: Mode) -> Option<(Item<'_>, usize, Mode)
     match mode {
         Mode::Pcl => first_spelled_between(bytes),
         Mode::Frame => first_of_frame(bytes),
+        Mode::Pjl => first_in_pjl(bytes),
     }
 }
 
@@ -360,6 +462,7 @@ fn first_of_mode(bytes: &[u8], mode: Mode) -> Option<(Item<'_>, usize, Mode)>
     match mode {
         Mode::Pcl => first_item(bytes),
         Mode::Frame => first_of_frame(bytes),
+        Mode::Pjl => first_in_pjl(bytes),
     }
 }
 

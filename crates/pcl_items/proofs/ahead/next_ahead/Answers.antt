@@ -22,4 +22,4 @@ first_ahead-requires-clause-inside c = c.loop-len.invariant.inside
 
 pub returns-in_default : goal.returns-in_default
 returns-in_default c =
-    stands_ahead c.args.whole (context_view c.args.context) c.args.start c.args.window.now _ c.loop-len.invariant c.first_ahead.ensures.first c.first_ahead.ensures.within c.first_ahead.ensures.counted c.in_default.not-Passes
+    stands_ahead c.args.whole (context_view c.args.context) c.args.start c.args.window.now _ c.loop-len.invariant c.first_ahead.ensures.first c.first_ahead.ensures.within c.first_ahead.ensures.line c.first_ahead.ensures.counted c.in_default.not-Passes

@@ -5,7 +5,9 @@ use Rattle.std.proofs.lemmas.Slice.Eq.{slice_eq-Decides}
 use Rattle.pcl_items.specs.declared.item.Mode.{Mode}
 use Rattle.pcl_items.specs.declared.item.Mode.TheVariants.{Pcl}
 use Rattle.pcl_items.specs.Items.{view}
-use Rattle.pcl_items.specs.FirstView.{context_view}
+use Rattle.pcl_items.specs.FirstView.{context_view, first_view}
+use Rattle.pcl_items.specs.Reader.{Begins}
+use Rattle.pcl_items.proofs.PjlSpellings.{no_line_read}
 use Rattle.pcl_items.specs.Spelled.{StandsAt}
 use Rattle.pcl_items.proofs.Spellings.{byte_stands, no_item, read_as, spelling_stands, no_spelling}
 use Rattle.pcl_items.proofs.spelling.first_item.Goals as goal
@@ -36,3 +38,9 @@ returns-else-eq c =
     no_spelling bytes c.head_text-text.result.items (view item.result) len (context_view c.in-Begins.next)
     (read_as bytes c.head_text-text.result.items item.result c.first_between.result c.in-Begins.head len c.in-Begins.next (c.first_between.ensures.first true) c.in-Begins.is item.ensures.item c.in-Begins.ensures.within.0 item.ensures.last c.head_text-text.ensures)
     (λ same. both_ways c.eq.result c.if-eq.false (test.1 (ap (λ d. take (len - length d) bytes) c.data_of.ensures.data ∙ same ∙ sym c.as_slice.ensures.value)))
+
+pub head_text-text-requires : goal.head_text-text-requires
+head_text-text-requires c =
+    let b = c.in-Begins in
+    no_line_read c.args.bytes.now (view c.with_its_data-item.result) b.len (context_view b.next)
+    (sym (c.first_between.ensures.first true) ∙ ap (first_view c.args.bytes.now) b.is ∙ ap (λ x. Begins x b.len (context_view b.next)) (sym c.with_its_data-item.ensures.item))

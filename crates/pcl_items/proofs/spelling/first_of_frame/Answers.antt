@@ -9,6 +9,7 @@ use Rattle.pcl_items.specs.Items.{view}
 use Rattle.pcl_items.specs.FirstView.{context_view, head_view}
 use Rattle.pcl_items.specs.Spelled.{StandsAt}
 use Rattle.pcl_items.proofs.FrameSpellings.{front_size, ahead_as, ahead_stands, ahead_differs, nothing_ahead}
+use Rattle.pcl_items.proofs.PjlSpellings.{no_line_ahead}
 use Rattle.pcl_items.proofs.spelling.first_of_frame.Goals as goal
 
 pub returns-in_default : goal.returns-in_default
@@ -38,3 +39,10 @@ returns-else-starts_with c =
     let starts = starts_is unsigned_Decides bytes c.as_slice.result.now c.starts_with.result c.starts_with.ensures.value in
     ahead_differs bytes c.min.result text (view item.result) c.next_ahead-ahead.result (context_view c.in-Begins.next) (front_size (length bytes) c.min.result c.min.ensures) c.next_ahead-ahead.ensures read
     (λ rest e. both_ways c.starts_with.result c.if-starts_with.false (starts.1 rest (e ∙ ap (λ t. t ++ rest) (sym c.as_slice.ensures.value))))
+
+pub head_text-text-requires : goal.head_text-text-requires
+head_text-text-requires c =
+    let front : List ℕ = take c.min.result c.args.bytes.now in
+    let item = c.with_its_data-item in
+    let item_is = item.ensures.item ∙ ap (head_view c.in-Begins.head c.in-Begins.len) (take_rest front c.next_ahead-ahead.result.start) in
+    no_line_ahead front item.result c.next_ahead-ahead.result c.in-Begins.head c.in-Begins.len c.in-Begins.next c.next_ahead-ahead.ensures c.in-Begins.is item_is

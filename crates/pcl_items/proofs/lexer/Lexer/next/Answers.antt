@@ -1,8 +1,9 @@
-use Rattle.std.proofs.Common.{◌+◌, ℕ, List, drop, Ok, subst, refl, sym, ap, arith}
+use Rattle.std.proofs.Common.{◌+◌, ℕ, List, drop, Some, Ok, subst, refl, sym, ap, arith}
 use Rattle.std.specs.Prelude.{vec_len}
 use Rattle.std.proofs.lemmas.List.{length-drop}
-use Rattle.pcl_items.specs.Contexts.{Context}
+use Rattle.pcl_items.specs.Contexts.{Context, Numbered, Even}
 use Rattle.pcl_items.specs.FirstView.{context_view}
+use Rattle.pcl_items.specs.declared.frame.Gap.TheVariants.{Straight}
 use Rattle.pcl_items.specs.declared.item.Item.TheVariants as items
 use Rattle.pcl_items.specs.declared.item.SimpleItem.TheVariants as simple
 use Rattle.pcl_items.specs.declared.lexer.Lexed.TheVariants as answers
@@ -10,7 +11,8 @@ use Rattle.pcl_items.specs.Ahead.{IsByte}
 use Rattle.pcl_items.specs.LexerState.{LexerState}
 use Rattle.pcl_items.specs.Answers.{Answers}
 use Rattle.pcl_items.specs.ReadCommands.{IsAhead}
-use Rattle.pcl_items.proofs.Stepped.{standing, byte_is_answer, command_is_answer, command_counts}
+use Rattle.pcl_items.specs.Pairs.{IsPairAhead}
+use Rattle.pcl_items.proofs.Stepped.{standing, byte_is_answer, command_is_answer, command_counts, pair_is_answer}
 use Rattle.pcl_items.proofs.Steps.{is_next}
 use Rattle.pcl_items.proofs.lexer.Lexer.next.Goals as goal
 
@@ -39,6 +41,20 @@ returns-in-Some-command_ahead g c =
     let exact : Answers c.args.self.now result (standing window (l.at + read.len) l.dropped (context_view read.next) l.ended held) =
     subst (λ (old : LexerState). Answers old result (standing window (l.at + read.len) l.dropped (context_view read.next) l.ended held)) c.self.view_is
     (command_is_answer window l.at l.dropped (context_view l.context) l.ended held read first) in
+    ((refl, λ _. tt, is_next _ _ _ exact), tt)
+
+pub returns-in-Some-pair_ahead : goal.returns-in-Some-pair_ahead
+returns-in-Some-pair_ahead g c =
+    let l = c.self.inside in
+    let read = c.in-Some-pair_ahead.read in
+    let window : List ℕ = l.window.items in
+    let held = vec_len l.window in
+    let result = Ok (answers.Item read.place (items.Simple (simple.Move read.motion (Some read.to)))) in
+    let first : IsPairAhead read (context_view l.context) (l.dropped + l.at) (drop l.at window) =
+    subst (λ (bytes : List ℕ). IsPairAhead read (context_view l.context) (l.dropped + l.at) (drop l.at bytes)) c.deref-3.ensures.value c.in-Some-pair_ahead.ensures in
+    let exact : Answers c.args.self.now result (standing window (l.at + read.len) l.dropped (Numbered (Even read.motion) Straight 0) l.ended held) =
+    subst (λ (old : LexerState). Answers old result (standing window (l.at + read.len) l.dropped (Numbered (Even read.motion) Straight 0) l.ended held)) c.self.view_is
+    (pair_is_answer window l.at l.dropped (context_view l.context) l.ended held read first) in
     ((refl, λ _. tt, is_next _ _ _ exact), tt)
 
 pub invariant_of-self-in-Some-command_ahead : goal.invariant_of-self-in-Some-command_ahead
