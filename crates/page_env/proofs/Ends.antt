@@ -1,9 +1,13 @@
--- The ends of a line, and places of two parts.
-use Rattle.std.proofs.Common.{arith, ◌≡◌, ℕ, ℤ, pos, Bool, true, false, not, ◌&&◌, ◌||◌, cond, Some, None, refl, ap, ◌∙◌}
+-- The ends of a line, the start of a row, and places of two parts.
+use Rattle.std.proofs.Common.{arith, ◌≡◌, ℕ, ◌+◌, ◌*◌, ◌^◌, ◌≤◌, ℤ, pos, Bool, true, false, not, ◌&&◌, ◌||◌, cond, Some, None, refl, ap, ◌∙◌}
 use Rattle.std.specs.Prelude.{◌+ℤ◌, ◌-ℤ◌, int_lt}
 use Rattle.std.specs.Int.{int_min, int_max}
 use Rattle.std.proofs.lemmas.Int.{ints}
 use Rattle.tick_length.specs.Length.{IsInRange}
+use Rattle.page_env.specs.declared.page.Resolution.{Resolution}
+use Rattle.page_env.specs.declared.page.Resolution.TheVariants.{Dots75, Dots100, Dots150, Dots200, Dots300, Dots600}
+use Rattle.page_env.specs.Numbers.{IsWithin}
+use Rattle.page_env.specs.Mark.{pixel_of}
 use Rattle.page_env.specs.Places.{is_between}
 use Rattle.page_env.proofs.TextJudging.{taken_is}
 
@@ -30,6 +34,26 @@ ends_in_range low high a b half l h e =
     (neither (int_lt (int_min a b -ℤ pos half) low) (int_lt high (int_min a b -ℤ pos half)) parts.0).0
     (neither (int_lt (int_max a b +ℤ pos half) low) (int_lt high (int_max a b +ℤ pos half)) parts.1).1
 
+-- ---- where the first black pixel of a row lies between two lengths, the row begins at a coordinate
+
+few_pixels : (white : ℕ) (resolution : Resolution) → white ≤ 8 → white * pixel_of resolution ≤ 2 ^ 50
+few_pixels white Dots75 few = omega arith
+few_pixels white Dots100 few = omega arith
+few_pixels white Dots150 few = omega arith
+few_pixels white Dots200 few = omega arith
+few_pixels white Dots300 few = omega arith
+few_pixels white Dots600 few = omega arith
+
+near : (low high left : ℤ) (by : ℕ) → IsInRange low → IsInRange high → by ≤ 2 ^ 50 → int_lt (left +ℤ pos by) low ≡ false → int_lt high (left +ℤ pos by) ≡ false → IsWithin (2 ^ 60 + 2 ^ 50) left
+near low high left by l h short p q = (first_of (omega (arith, ints), grind (arith, ints)), first_of (omega (arith, ints), grind (arith, ints)))
+
+pub start_in_range : (low high left : ℤ) (white : ℕ) (resolution : Resolution) → white ≤ 8 → IsInRange low → IsInRange high → is_between low high (left +ℤ pos (white * pixel_of resolution)) ≡ true → IsWithin (2 ^ 60 + 2 ^ 50) left
+unfolding is_between
+start_in_range low high left white resolution few l h e =
+    let by : ℕ = white * pixel_of resolution in
+    let parts = neither (int_lt (left +ℤ pos by) low) (int_lt high (left +ℤ pos by)) e in
+    near low high left by l h (few_pixels white resolution few) parts.0 parts.1
+
 -- ---- what is made of two parts, each of which may be missing
 
 pub both_taken : {X Y Z : Type 0} (b c : Bool) (make : X → Y → Z) (x taken_x : X) (y taken_y : Y) → Some taken_x ≡ cond b (Some x) None → Some taken_y ≡ cond c (Some y) None → Some (make taken_x taken_y) ≡ cond (b && c) (Some (make x y)) None
@@ -42,3 +66,9 @@ pub second_missing : {X Y Z : Type 0} (b c : Bool) (x taken_x : X) (y : Y) (z : 
 second_missing true true x taken_x y z e f = absurd cc
 second_missing true false x taken_x y z e f = refl
 second_missing false c x taken_x y z e f = absurd cc
+
+-- of a box whose right edge lies past a bound
+pub right_missing : {X : Type 0} (b c d : Bool) (x : X) → c ≡ false → None ≡ cond ((b && c) && d) (Some x) None
+right_missing true true d x e = absurd cc
+right_missing true false d x e = refl
+right_missing false c d x e = refl

@@ -3,7 +3,7 @@ use Rattle.std.proofs.Common.{refl}
 use Rattle.pcl_items.specs.declared.command.Command.{Command}
 use Rattle.pcl_items.specs.declared.command.Command.TheVariants.{LeftMargin, RightMargin, Column, Row, HorizontalDecipoints, VerticalDecipoints, CursorStack, MacroId, MacroControl, HorizontalMotionIndex, LineTermination, PageSize, Orientation, Copies, Sides, Source, VerticalMotionIndex, LineSpacing, TopMargin, TextLength, PerforationSkip, UnitOfMeasure, RectangleWidth, RectangleHeight, FillRectangle, RectangleWidthDecipoints, RectangleHeightDecipoints, FillId, PictureFrameAnchor, PictureFrameWidth, PictureFrameHeight, RasterResolution, StartRaster, RasterWidth, RasterHeight, RasterPresentation, EndRaster, EndRasterAndMethod, CompressionMethod, RasterOffset, HorizontalUnits, VerticalUnits, FontSpacing, FontPitch, FontHeight, FontStyle, FontWeight, FontTypeface}
 use Rattle.pcl_items.specs.declared.command.DataCommand.TheVariants.{TransparentText, RasterRow}
-use Rattle.pcl_items.specs.Items.{Entry, Text, CarriageReturn, LineFeed, FormFeed, Reset, ClearMargins, HalfLineFeed, Parameterized, SymbolSet, DefaultFont, EnterFrame, LeaveFrame, Initialize, Set, Move, WithData}
+use Rattle.pcl_items.specs.Items.{Entry, Text, CarriageReturn, LineFeed, FormFeed, Reset, ClearMargins, HalfLineFeed, Parameterized, SymbolSet, DefaultFont, EnterFrame, LeaveFrame, Initialize, Set, Move, WithData, ExitLanguage, PjlLine}
 use Rattle.pcl_items.specs.Value.{Amount}
 use Rattle.device_profile.specs.Printer.{Printer}
 use Rattle.page_env.specs.Settings.{Settings, State}
@@ -80,6 +80,7 @@ item_is_sound printer defaults CarriageReturn = λ s. return_is_sound printer de
 item_is_sound printer defaults LineFeed = λ s. line_feed_is_sound printer defaults s
 item_is_sound printer defaults FormFeed = λ s. form_feed_is_sound printer defaults s
 item_is_sound printer defaults Reset = λ s. reset_is_sound printer defaults s
+item_is_sound printer defaults ExitLanguage = λ s. reset_is_sound printer defaults s
 item_is_sound printer defaults ClearMargins = λ s. clearing_is_sound printer s
 item_is_sound printer defaults HalfLineFeed = λ s. half_line_feed_is_sound printer defaults s
 item_is_sound printer defaults (Parameterized command n) = λ s. command_is_sound printer defaults command n s
@@ -92,3 +93,4 @@ item_is_sound printer defaults (Set setting n) = λ s. pens.setting_is_sound pri
 item_is_sound printer defaults (Move motion to) = λ s. pens.motion_is_sound printer s motion
 item_is_sound printer defaults (WithData TransparentText bytes) = λ s. quiet refl refl refl refl refl refl refl refl
 item_is_sound printer defaults (WithData RasterRow bytes) = λ s. rasters.row_is_sound printer s bytes
+item_is_sound printer defaults (PjlLine line) = λ s. quiet refl refl refl refl refl refl refl refl

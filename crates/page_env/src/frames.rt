@@ -1,7 +1,7 @@
 //! HP-GL/2 frames: the picture frame, and where it is entered and left.
 #![tactic(auto, unfolding(crate::specs::Answers::Marks))]
 
-ghost use Rattle.std.specs.Prelude.{◌≡◌, ◌^◌, ◌+ℤ◌, ◌-ℤ◌, cond, Some, None};
+ghost use Rattle.std.specs.Prelude.{◌≡◌, ◌+◌, ◌^◌, ◌+ℤ◌, ◌-ℤ◌, cond, Some, None};
 ghost use Rattle.pcl_items.specs.Items.{amount};
 ghost use Rattle.page_env.specs.Settings.{default_frame};
 ghost use Rattle.page_env.specs.Numbers.{IsWithin};
@@ -20,13 +20,14 @@ use pcl_items::{Handover, Number};
 use std::alloc::Allocator;
 use tick_length::{Length, Unit};
 
-/// Where a picture frame lies on the logical page, in ticks.
+/// Where a picture frame lies on the logical page.
 #[derive(Clone, Copy, Debug)]
 pub struct Frame {
-    pub left: i64,
-    pub top: i64,
-    pub width: i64,
-    pub height: i64,
+    pub left: Length,
+    pub top: Coordinate,
+    pub width: Length,
+    /// It may be less than 0 where none is set: the page may have no inch for the margins.
+    pub height: Coordinate,
 }
 
 /// The picture frame where none of its parts is set.
@@ -54,10 +55,10 @@ pub(crate) fn frame_on(geometry: &Geometry, frame: &PictureFrame) -> Frame
         None => geometry.logical_height.ticks() - half_inch().ticks() - half_inch().ticks(),
     };
     Frame {
-        left: frame.left.ticks(),
-        top: frame.top.ticks(),
-        width: width.ticks(),
-        height,
+        left: frame.left,
+        top: frame.top,
+        width,
+        height: Coordinate::from_ticks(height),
     }
 }
 
@@ -118,26 +119,26 @@ pub(crate) fn set_frame_height(page: &mut Page, n: Number) -> Result<(), Finding
 }
 
 /// How far down the foot of a frame lies on the logical page.
-pub(crate) fn foot_of(frame: &Frame) -> i128
+pub(crate) fn foot_of(frame: &Frame) -> i64
     ensures value { result ≡ frame.now.top +ℤ frame.now.height }
-    ensures near { IsWithin (2 ^ 64) result }
+    ensures near { IsWithin (2 ^ 61 + 2 ^ 51) result }
 {
-    i128::from(frame.top) + i128::from(frame.height)
+    frame.top.ticks() + frame.height.ticks()
 }
 
 /// How far a place of the logical page is from the left edge of a frame.
-fn from_left(left: i64, x: Length) -> PenCoordinate
+fn from_left(left: Length, x: Length) -> PenCoordinate
     ensures { result ≡ x -ℤ left }
 {
-    PenCoordinate::from_ticks(i128::from(x.ticks()) - i128::from(left))
+    PenCoordinate::from_ticks(x.ticks() - left.ticks())
 }
 
 /// How far a place of the logical page is above the foot of a frame.
-fn from_foot(foot: i128, y: Coordinate) -> PenCoordinate
-    requires { IsWithin (2 ^ 64) foot }
+fn from_foot(foot: i64, y: Coordinate) -> PenCoordinate
+    requires { IsWithin (2 ^ 61 + 2 ^ 51) foot }
     ensures { result ≡ foot -ℤ y }
 {
-    PenCoordinate::from_ticks(foot - i128::from(y.ticks()))
+    PenCoordinate::from_ticks(foot - y.ticks())
 }
 
 /// A place of the logical page, as the pen sees it.
@@ -193,15 +194,15 @@ fn leave_at_cursor(page: &mut Page) -> Result<(), Finding>
 }
 
 /// Where a place of the pen lies on the logical page, to the right.
-fn x_on_page(left: i64, x: PenCoordinate) -> i128
+fn x_on_page(left: Length, x: PenCoordinate) -> i64
     ensures { result ≡ left +ℤ x }
 {
-    i128::from(left) + x.ticks()
+    left.ticks() + x.ticks()
 }
 
 /// Where a place of the pen lies on the logical page, down.
-fn y_on_page(foot: i128, y: PenCoordinate) -> i128
-    requires { IsWithin (2 ^ 64) foot }
+fn y_on_page(foot: i64, y: PenCoordinate) -> i64
+    requires { IsWithin (2 ^ 61 + 2 ^ 51) foot }
     ensures { result ≡ foot -ℤ y }
 {
     foot - y.ticks()
@@ -213,8 +214,8 @@ fn cursor_at(geometry: &Geometry, frame: &Frame, place: PenPlace) -> Option<Curs
         let y = y_on_page frame.now place.y in
         result ≡ cond (is_on_page geometry.now x y) (Some (record { x = x; y = Some y })) None }
 {
-    let across = x_on_page(frame.left, place.x);
-    let down = y_on_page(foot_of(frame), place.y);
+    let across = i128::from(x_on_page(frame.left, place.x));
+    let down = i128::from(y_on_page(foot_of(frame), place.y));
     let x = place_between(Length::ZERO, geometry.logical_width, across)?;
     let y = place_between(Length::ZERO, geometry.logical_height, down)?;
     Some(Cursor {

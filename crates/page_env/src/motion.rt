@@ -1,7 +1,7 @@
 //! Motion and line ends: VMI, line spacing, HMI, line termination, and the control codes.
 #![tactic(auto, unfolding(crate::specs::Answers::CarriesOut, crate::specs::Answers::Marks))]
 
-ghost use Rattle.std.specs.Prelude.{◌≡◌, ◌^◌, ◌/◌, ◌==◌, ◌&&◌, ℤ, pos, neg_ℤ, ◌≤ℤ◌, ◌+ℤ◌, ◌-ℤ◌, int_lt, cond, unwrap_or, Some, None, Ok, Err};
+ghost use Rattle.std.specs.Prelude.{◌≡◌, ◌+◌, ◌^◌, ◌/◌, ◌==◌, ◌&&◌, ℤ, pos, neg_ℤ, ◌≤ℤ◌, ◌+ℤ◌, ◌-ℤ◌, int_lt, cond, unwrap_or, Some, None, Ok, Err};
 ghost use Rattle.std.specs.List.{list_any};
 ghost use Rattle.pcl_items.specs.Items.{amount};
 ghost use Rattle.page_env.specs.Numbers.{is_whole_from, whole_of};
@@ -107,7 +107,8 @@ fn distance_of(feed: Feed, line: u64) -> u64
 
 /// How far down a feed may lead, in ticks: to the bottom margin, or to the foot of the page where the perforation is not skipped.
 fn feed_limit(page: &Page, geometry: &Geometry) -> i64
-    ensures { result ≡ cond page.now.env.job.skips_perforation
+    ensures near { result ≤ℤ pos (2 ^ 60) }
+    ensures value { result ≡ cond page.now.env.job.skips_perforation
         (unwrap_or page.now.env.job.bottom_margin (geometry.now.logical_height -ℤ half_inch)) geometry.now.logical_height }
 {
     if page.env.job.skips_perforation {
@@ -121,7 +122,7 @@ fn feed_limit(page: &Page, geometry: &Geometry) -> i64
 fn fed_to(page: &Page, vmi: u32, feed: Feed) -> i128
     ensures value { result ≡ unwrap_or page.now.cursor.y (first_line page.now.env.job.top_margin vmi)
         +ℤ pos (distance_of feed (ticks_in Unit.FortyEighthInch vmi)) }
-    ensures low { neg_ℤ (pos (2 ^ 63)) ≤ℤ result }
+    ensures low { neg_ℤ (pos (2 ^ 60 + 2 ^ 50)) ≤ℤ result }
 {
     let by = distance_of(feed, ticks_in(Unit::FortyEighthInch, vmi));
     i128::from(vertical_with(page, vmi).ticks()) + i128::from(by)
@@ -129,7 +130,8 @@ fn fed_to(page: &Page, vmi: u32, feed: Feed) -> i128
 
 /// A place, unless it lies past a limit.
 pub(crate) fn up_to(limit: i64, y: i128) -> Option<Coordinate>
-    requires { neg_ℤ (pos (2 ^ 63)) ≤ℤ y }
+    requires limit { limit ≤ℤ pos (2 ^ 60) }
+    requires low { neg_ℤ (pos (2 ^ 60 + 2 ^ 50)) ≤ℤ y }
     ensures { result ≡ cond (int_lt limit y) None (Some y) }
 {
     if i128::from(limit) < y {

@@ -1,7 +1,7 @@
 //! The pen of an HP-GL/2 frame.
 #![tactic(auto, unfolding(crate::specs::Answers::Marks))]
 
-ghost use Rattle.std.specs.Prelude.{◌≡◌, ◌^◌, pos, cond, ◌&&◌, ◌+ℤ◌, ◌-ℤ◌, Some, None, MatchResult};
+ghost use Rattle.std.specs.Prelude.{◌≡◌, ◌≤◌, ◌+◌, ◌*◌, ◌^◌, pos, cond, ◌&&◌, ◌+ℤ◌, ◌-ℤ◌, Some, None, MatchResult};
 ghost use Rattle.std.specs.Int.{int_min, int_max};
 ghost use Rattle.page_env.specs.Numbers.{IsWithin};
 ghost use Rattle.page_env.specs.Settings.{default_pen, origin};
@@ -24,7 +24,7 @@ use std::alloc::Allocator;
 use tick_length::{Length, Unit};
 
 /// How far the pen may be from the origin along an axis: 8,388,607 plotter units.
-const FURTHEST: u128 = 8_388_607 * 36_000_000;
+const FURTHEST: u64 = 8_388_607 * 36_000_000;
 
 /// The lower left corner of the picture frame.
 pub(crate) fn origin() -> PenPlace
@@ -91,11 +91,11 @@ pub(crate) fn set_pen(page: &mut Page, setting: Setting, n: Magnitude) -> Result
 }
 
 /// Where so many plotter units lead along an axis.
-fn reached(is_relative: bool, here: PenCoordinate, units: i32) -> i128
+fn reached(is_relative: bool, here: PenCoordinate, units: i32) -> i64
     ensures value { result ≡ reached is_relative here units }
-    ensures near { IsWithin (2 ^ 67) result }
+    ensures near { IsWithin (2 ^ 62 + 2 ^ 57) result }
 {
-    let by = i128::from(i64::from(units) * 36_000_000);
+    let by = i64::from(units) * 36_000_000;
     if is_relative { here.ticks() + by } else { by }
 }
 
@@ -136,7 +136,7 @@ fn place_at(to: Target) -> Option<PenPlace>
 fn is_in_frame(frame: &Frame, place: Target) -> bool
     ensures { result ≡ is_in_frame frame.now (place_of place) }
 {
-    lies_between(0, frame.width, place.x) && lies_between(0, frame.height, place.y)
+    lies_between(0, frame.width.ticks(), place.x) && lies_between(0, frame.height.ticks(), place.y)
 }
 
 /// The pen's place at the end of a line, if both ends lie in a frame and it is not too far.
@@ -151,46 +151,49 @@ fn place_within(frame: &Frame, start: Target, end: Target) -> Option<PenPlace>
 }
 
 /// A place so far to the right of two edges.
-fn right_of(edge: i64, left: i64, x: i128) -> i128
-    requires { IsWithin (2 ^ 67) x }
+fn right_of(edge: Length, left: Length, x: i64) -> i64
+    requires { IsWithin (2 ^ 62 + 2 ^ 57) x }
     ensures value { result ≡ edge +ℤ (left +ℤ x) }
-    ensures near { IsWithin (2 ^ 100) result }
+    ensures near { IsWithin (15 * 2 ^ 59) result }
 {
-    i128::from(edge) + (i128::from(left) + x)
+    edge.ticks() + (left.ticks() + x)
 }
 
 /// A place so far above the foot of a frame.
-fn above(edge: i64, foot: i128, y: i128) -> i128
-    requires foot { IsWithin (2 ^ 64) foot }
-    requires place { IsWithin (2 ^ 67) y }
+fn above(edge: Length, foot: i64, y: i64) -> i64
+    requires foot { IsWithin (2 ^ 61 + 2 ^ 51) foot }
+    requires place { IsWithin (2 ^ 62 + 2 ^ 57) y }
     ensures value { result ≡ edge +ℤ (foot -ℤ y) }
-    ensures near { IsWithin (2 ^ 100) result }
+    ensures near { IsWithin (15 * 2 ^ 59) result }
 {
-    i128::from(edge) + (foot - y)
+    edge.ticks() + (foot - y)
 }
 
 /// Half a width below the lower of two places.
-fn low_end(a: i128, b: i128, half: u64) -> i128
-    requires first { IsWithin (2 ^ 100) a }
-    requires second { IsWithin (2 ^ 100) b }
+fn low_end(a: i64, b: i64, half: u64) -> i64
+    requires first { IsWithin (15 * 2 ^ 59) a }
+    requires second { IsWithin (15 * 2 ^ 59) b }
+    requires half { half ≤ 2 ^ 50 }
     ensures { result ≡ int_min a b -ℤ pos half }
 {
-    a.min(b) - i128::from(half)
+    a.min(b) - half as i64
 }
 
 /// Half a width above the higher of two places.
-fn high_end(a: i128, b: i128, half: u64) -> i128
-    requires first { IsWithin (2 ^ 100) a }
-    requires second { IsWithin (2 ^ 100) b }
+fn high_end(a: i64, b: i64, half: u64) -> i64
+    requires first { IsWithin (15 * 2 ^ 59) a }
+    requires second { IsWithin (15 * 2 ^ 59) b }
+    requires half { half ≤ 2 ^ 50 }
     ensures { result ≡ int_max a b +ℤ pos half }
 {
-    a.max(b) + i128::from(half)
+    a.max(b) + half as i64
 }
 
 /// Whether two places, with half a width about them, lie between two bounds.
-fn fit_between(low: i64, high: i64, half: u64, a: i128, b: i128) -> bool
-    requires first { IsWithin (2 ^ 100) a }
-    requires second { IsWithin (2 ^ 100) b }
+fn fit_between(low: i64, high: i64, half: u64, a: i64, b: i64) -> bool
+    requires first { IsWithin (15 * 2 ^ 59) a }
+    requires second { IsWithin (15 * 2 ^ 59) b }
+    requires half { half ≤ 2 ^ 50 }
     ensures { result ≡ (is_between low high (int_min a b -ℤ pos half) && is_between low high (int_max a b +ℤ pos half)) }
 {
     let least = low_end(a, b, half);
@@ -200,14 +203,15 @@ fn fit_between(low: i64, high: i64, half: u64, a: i128, b: i128) -> bool
 
 /// Both ends of a line along an axis, if they lie so far within two bounds.
 #[tactic(auto, using(crate::proofs::Ends::ends_in_range))]
-fn ends_between(low: Length, high: Length, half: u64, a: i128, b: i128) -> Option<(Length, Length)>
-    requires first { IsWithin (2 ^ 100) a }
-    requires second { IsWithin (2 ^ 100) b }
+fn ends_between(low: Length, high: Length, half: u64, a: i64, b: i64) -> Option<(Length, Length)>
+    requires first { IsWithin (15 * 2 ^ 59) a }
+    requires second { IsWithin (15 * 2 ^ 59) b }
+    requires half { half ≤ 2 ^ 50 }
     ensures { result ≡ cond (is_between low high (int_min a b -ℤ pos half) && is_between low high (int_max a b +ℤ pos half)) (Some (a, b)) None }
 {
     let fit = fit_between(low.ticks(), high.ticks(), half, a, b);
     if fit {
-        Some((length_at(a), length_at(b)))
+        Some((length_at(i128::from(a)), length_at(i128::from(b))))
     } else {
         None
     }
@@ -218,17 +222,18 @@ fn ends_across(
     geometry: &Geometry,
     frame: &Frame,
     half: u64,
-    start: i128,
-    end: i128,
+    start: i64,
+    end: i64,
 ) -> Option<(Length, Length)>
-    requires start { IsWithin (2 ^ 67) start }
-    requires end { IsWithin (2 ^ 67) end }
+    requires half { half ≤ 2 ^ 50 }
+    requires start { IsWithin (2 ^ 62 + 2 ^ 57) start }
+    requires end { IsWithin (2 ^ 62 + 2 ^ 57) end }
     ensures { let g = geometry.now in
         let a = g.logical_left +ℤ x_on_page frame.now start in
         let b = g.logical_left +ℤ x_on_page frame.now end in
         result ≡ cond (is_between g.printable_left g.printable_right (int_min a b -ℤ pos half) && is_between g.printable_left g.printable_right (int_max a b +ℤ pos half)) (Some (a, b)) None }
 {
-    let edge = geometry.logical_left.ticks();
+    let edge = geometry.logical_left;
     let (a, b) = (
         right_of(edge, frame.left, start),
         right_of(edge, frame.left, end),
@@ -242,17 +247,18 @@ fn ends_down(
     geometry: &Geometry,
     frame: &Frame,
     half: u64,
-    start: i128,
-    end: i128,
+    start: i64,
+    end: i64,
 ) -> Option<(Length, Length)>
-    requires start { IsWithin (2 ^ 67) start }
-    requires end { IsWithin (2 ^ 67) end }
+    requires half { half ≤ 2 ^ 50 }
+    requires start { IsWithin (2 ^ 62 + 2 ^ 57) start }
+    requires end { IsWithin (2 ^ 62 + 2 ^ 57) end }
     ensures { let g = geometry.now in
         let a = g.logical_top +ℤ y_on_page frame.now start in
         let b = g.logical_top +ℤ y_on_page frame.now end in
         result ≡ cond (is_between g.printable_top g.printable_bottom (int_min a b -ℤ pos half) && is_between g.printable_top g.printable_bottom (int_max a b +ℤ pos half)) (Some (a, b)) None }
 {
-    let edge = geometry.logical_top.ticks();
+    let edge = geometry.logical_top;
     let foot = foot_of(frame);
     let (a, b) = (above(edge, foot, start), above(edge, foot, end));
     let (low, high) = (geometry.printable_top, geometry.printable_bottom);

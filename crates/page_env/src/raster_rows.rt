@@ -1,10 +1,11 @@
 //! Rows of rasters, and rows that are skipped.
 #![tactic(auto, unfolding(crate::specs::Answers::Marks))]
 
-ghost use Rattle.std.specs.Prelude.{◌≡◌, ◌≤◌, ◌<◌, ◌*◌, ◌^◌, length, reverse, cond, is_some, IfSome, pos, neg_ℤ, ◌+ℤ◌, ◌≤ℤ◌, ◌&&◌, int_lt, Some, None, MatchResult};
+ghost use Rattle.std.specs.Prelude.{◌≡◌, ◌≤◌, ◌<◌, ◌+◌, ◌*◌, ◌^◌, length, reverse, cond, is_some, IfSome, pos, neg_ℤ, ◌+ℤ◌, ◌≤ℤ◌, ◌&&◌, int_lt, Some, None, MatchResult};
 ghost use Rattle.std.specs.List.{position};
 ghost use Rattle.std.specs.Option.{option_map};
 ghost use Rattle.pcl_items.specs.Items.{amount};
+ghost use Rattle.page_env.specs.Numbers.{IsWithin};
 ghost use Rattle.page_env.specs.Mark.{pixel_of, white_ahead, black_end, row_bounds, row_of, shapes_of, is_inside};
 ghost use Rattle.page_env.specs.Places.{is_between};
 ghost use Rattle.page_env.specs.Rasters.{passes_height, raster_behind, place_behind, skip_rows, up_to_black, is_black, blank_ahead, has_black, passes_width, row_from, row_checks, place_checks, marks_of, print_row};
@@ -49,6 +50,15 @@ fn raster_behind(rows: u32, raster: StartedRaster) -> Option<StartedRaster>
     }
 }
 
+/// How far down the place so many rows below another lies, in ticks.
+fn rows_below(y: Coordinate, rows: u32, resolution: Resolution) -> i128
+    ensures value { result ≡ y +ℤ pos (rows * pixel_of resolution) }
+    ensures low { neg_ℤ (pos (2 ^ 60 + 2 ^ 50)) ≤ℤ result }
+{
+    let by = u64::from(rows) * u64::from(pixel_of(resolution));
+    i128::from(y.ticks()) + i128::from(by)
+}
+
 /// The place so many rows below another, unless it lies past a limit.
 fn place_behind(
     y: Coordinate,
@@ -59,8 +69,7 @@ fn place_behind(
     ensures { let place = y +ℤ pos (rows * pixel_of resolution) in
         result ≡ cond (int_lt limit place) None (Some place) }
 {
-    let by = u64::from(rows) * u64::from(pixel_of(resolution));
-    up_to(limit.ticks(), i128::from(y.ticks()) + i128::from(by))
+    up_to(limit.ticks(), rows_below(y, rows, resolution))
 }
 
 /// `*b#Y`: leaves so many rows white.
@@ -160,48 +169,59 @@ fn width_of(pixels: u32, resolution: Resolution) -> Length
     length_at(i128::from(u64::from(pixels) * u64::from(pixel_of(resolution))))
 }
 
-/// A place of the logical page, which begins so far from the edge of the physical one.
-fn place_on_paper(edge: Length, place: Length) -> Coordinate
-    ensures value { result ≡ edge +ℤ place }
-    ensures low { neg_ℤ (pos (2 ^ 61)) ≤ℤ result }
-    ensures high { result ≤ℤ pos (2 ^ 61) }
-{
-    Coordinate::from_ticks(edge.ticks() + place.ticks())
-}
-
-/// A place so far behind another.
-fn behind(place: Coordinate, by: Length) -> Coordinate
-    requires low { neg_ℤ (pos (2 ^ 61)) ≤ℤ place }
-    requires high { place ≤ℤ pos (2 ^ 61) }
-    ensures { result ≡ place +ℤ by }
-{
-    Coordinate::from_ticks(place.ticks() + by.ticks())
-}
-
 /// Where the first byte with a black pixel begins, where so many come before it.
-fn first_byte(left: Length, x: Length, blank: usize, resolution: Resolution) -> Coordinate
+fn first_byte(left: Length, x: Length, blank: usize, resolution: Resolution) -> i64
     requires { blank ≤ 32767 }
-    ensures { result ≡ (left +ℤ x) +ℤ pos (8 * blank * pixel_of resolution) }
+    ensures value { result ≡ (left +ℤ x) +ℤ pos (8 * blank * pixel_of resolution) }
+    ensures near { IsWithin (2 ^ 62) result }
 {
-    behind(
-        place_on_paper(left, x),
-        width_of(8 * blank as u32, resolution),
-    )
+    let ahead = width_of(8 * blank as u32, resolution);
+    left.ticks() + x.ticks() + ahead.ticks()
+}
+
+/// The place so many pixels behind another, in ticks.
+fn pixels_behind(x: i64, pixels: u32, resolution: Resolution) -> i64
+    requires place { IsWithin (2 ^ 62) x }
+    requires pixels { pixels ≤ 262136 }
+    ensures { result ≡ x +ℤ pos (pixels * pixel_of resolution) }
+{
+    x + width_of(pixels, resolution).ticks()
 }
 
 /// Whether the place so many pixels behind another lies between two bounds.
 fn pixel_lies_between(
-    x: Coordinate,
+    x: i64,
     pixels: u32,
     resolution: Resolution,
     low: Length,
     high: Length,
 ) -> bool
+    requires place { IsWithin (2 ^ 62) x }
+    requires pixels { pixels ≤ 262136 }
     ensures { result ≡ is_between low high (x +ℤ pos (pixels * pixel_of resolution)) }
 {
-    let by = u64::from(pixels) * u64::from(pixel_of(resolution));
-    let place = i128::from(x.ticks()) + i128::from(by);
+    let place = pixels_behind(x, pixels, resolution);
     lies_between(low.ticks(), high.ticks(), place)
+}
+
+/// Where a row begins, if its first black pixel, which so many white ones come before, lies between two bounds.
+fn row_start(
+    left: i64,
+    white: u32,
+    resolution: Resolution,
+    low: Length,
+    high: Length,
+) -> Option<Coordinate>
+    requires left { IsWithin (2 ^ 62) left }
+    requires white { white ≤ 8 }
+    ensures { result ≡ cond (is_between low high (left +ℤ pos (white * pixel_of resolution))) (Some left) None }
+{
+    let fits = pixel_lies_between(left, white, resolution, low, high);
+    if fits {
+        Some(Coordinate::from_ticks(left))
+    } else {
+        None
+    }
 }
 
 /// The upper edge of a row at a place of the logical page, if the row lies between two bounds.
@@ -240,9 +260,9 @@ fn row_inside<'a>(
     let bytes = &black[blank..];
     let left = first_byte(geometry.logical_left, x, blank, resolution);
     let (low, high) = (geometry.printable_left, geometry.printable_right);
-    if !pixel_lies_between(left, white_ahead(bytes), resolution, low, high) {
+    let Some(x) = row_start(left, white_ahead(bytes), resolution, low, high) else {
         return None;
-    }
+    };
     if !pixel_lies_between(left, black_end(bytes), resolution, low, high) {
         return None;
     }
@@ -251,7 +271,7 @@ fn row_inside<'a>(
         None => None,
         Some(y) => Some(RasterRow {
             resolution,
-            x: left,
+            x,
             y,
             bytes,
         }),

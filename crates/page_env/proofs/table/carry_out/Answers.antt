@@ -13,6 +13,9 @@ returns-in-FormFeed g c = rw c.in-FormFeed.is c.form_feed.ensures
 pub returns-in-Reset : goal.returns-in-Reset
 returns-in-Reset g c = rw c.in-Reset.is c.reset.ensures
 
+pub returns-in-ExitLanguage : goal.returns-in-ExitLanguage
+returns-in-ExitLanguage g c = rw c.in-ExitLanguage.is c.reset-in-ExitLanguage.ensures
+
 pub returns-in-ClearMargins : goal.returns-in-ClearMargins
 returns-in-ClearMargins g c = rw (c.in-ClearMargins.is, c.stepped.ensures) (as_step _ _ _ _ c.clear_margins.ensures)
 

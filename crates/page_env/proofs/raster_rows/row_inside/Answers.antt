@@ -1,0 +1,27 @@
+use Rattle.std.proofs.Common.{rules, arith, ◌≡◌, ◌∙◌, ap, sym, ◌*◌, pos, drop, ◌&&◌, false}
+use Rattle.std.specs.Prelude.{◌+ℤ◌}
+use Rattle.std.proofs.lemmas.Int.{to_z-of_z}
+use Rattle.std.proofs.lemmas.List.{take_rest}
+use Rattle.page_env.specs.declared.mark.Bounds.{Bounds}
+use Rattle.page_env.specs.Mark.{PixelRow, pixel_of, black_end, row_bounds, is_inside}
+use Rattle.page_env.specs.Places.{is_between}
+use Rattle.page_env.specs.Rasters.{row_from}
+use Rattle.page_env.proofs.Ends.{right_missing}
+use Rattle.page_env.proofs.raster_rows.row_inside.Goals as goal
+
+pub returns-then-not-pixel_lies_between : goal.returns-then-not-pixel_lies_between
+unfolding is_inside
+returns-then-not-pixel_lies_between c =
+    let g = c.args.geometry.now in
+    let pixel = pixel_of c.args.resolution in
+    let row : PixelRow = row_from g c.args.resolution c.args.x c.args.y c.args.black.now in
+    let box : Bounds = row_bounds row in
+    let no : c.pixel_lies_between.result ≡ false = search rules in
+    let judged : c.pixel_lies_between.result ≡ is_between g.printable_left g.printable_right (c.first_byte-left.result +ℤ pos (c.black_end.result * pixel)) = first_of (search rules, grind (arith, to_z-of_z)) in
+    let start : c.first_byte-left.result ≡ row.x = c.first_byte-left.ensures.value ∙ ap (λ n. (g.logical_left +ℤ c.args.x) +ℤ pos (8 * n * pixel)) c.requires.blank in
+    let end : c.black_end.result ≡ black_end row.bytes = c.black_end.ensures.value ∙ ap black_end (take_rest c.args.black.now c.args.blank) ∙ ap (λ n. black_end (drop n c.args.black.now)) c.requires.blank in
+    let at : c.pixel_lies_between.result ≡ is_between g.printable_left g.printable_right box.right =
+    judged ∙ ap (λ x. is_between g.printable_left g.printable_right (x +ℤ pos (c.black_end.result * pixel))) start
+    ∙ ap (λ n. is_between g.printable_left g.printable_right (row.x +ℤ pos (n * pixel))) end in
+    right_missing (is_between g.printable_left g.printable_right box.left) (is_between g.printable_left g.printable_right box.right)
+    (is_between g.printable_top g.printable_bottom box.top && is_between g.printable_top g.printable_bottom box.bottom) row (sym at ∙ no)
