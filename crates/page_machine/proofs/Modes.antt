@@ -1,16 +1,16 @@
 -- In which mode an open definition stands.
-use Rattle.std.proofs.Common.{◌≡◌, ℕ, List, [], ◌∷◌, ◌++◌, Option, Some, None, is_some, true, refl, sym, ap, subst, ◌∙◌}
+use Rattle.std.proofs.Common.{◌≡◌, ℕ, List, Option, Some, None, is_some, refl, sym, ap, subst, ◌∙◌}
 use Rattle.std.specs.Option.{IsSome, option_and_then}
 use Rattle.pcl_items.specs.declared.command.Command.TheVariants.{MacroControl}
 use Rattle.pcl_items.specs.declared.item.Mode.{Mode}
-use Rattle.pcl_items.specs.declared.item.Mode.TheVariants.{Pcl, Frame}
+use Rattle.pcl_items.specs.declared.item.Mode.TheVariants.{Pcl, Frame, Pjl}
 use Rattle.pcl_items.specs.Grammar.{follows}
-use Rattle.pcl_items.specs.Items.{Entry, Reset, Parameterized}
+use Rattle.pcl_items.specs.Items.{Entry, Reset, Parameterized, ExitLanguage}
 use Rattle.pcl_items.specs.Value.{Amount}
 use Rattle.macro_store.specs.Store.{Store, mode_in, IsAdmittedIn, Admits, with_item, appended, committed}
 use Rattle.macro_store.proofs.Modes.{mode_after-more}
 use Rattle.page_env.specs.declared.macros.Control.{Control}
-use Rattle.page_env.specs.declared.macros.Control.TheVariants.{Begin, DeleteAll, Delete}
+use Rattle.page_env.specs.declared.macros.Control.TheVariants.{Begin}
 use Rattle.page_env.specs.Macros.{control_of}
 use Rattle.page_machine.specs.Defining.{StandsIn, controlled_after, carried_after}
 
@@ -43,6 +43,7 @@ module _ (macros : Store) (none : macros.definition ≡ None) where
   begun_in : (n : Amount) (mode next : Mode) → follows mode (Parameterized MacroControl n) ≡ Some next → Some Pcl ≡ Some next
   begun_in n Pcl next e = e
   begun_in n Frame next e = absurd cc
+  begun_in n Pjl next e = e
 
   control_stands : (id : ℕ) (n : Amount) (mode next : Mode) → follows mode (Parameterized MacroControl n) ≡ Some next → (control : Option Control) → StandsIn (controlled_after id control macros) next
   control_stands id n mode next e (Some Begin) = λ opened. begun_in n mode next e
@@ -50,5 +51,6 @@ module _ (macros : Store) (none : macros.definition ≡ None) where
 
   pub carried_stands : (id : ℕ) (item : Entry) (mode next : Mode) → follows mode item ≡ Some next → StandsIn (carried_after id item macros) next
   carried_stands id Reset mode next e = unopened_stands next
+  carried_stands id ExitLanguage mode next e = unopened_stands next
   carried_stands id (Parameterized MacroControl n) mode next e = control_stands id n mode next e (control_of n)
   carried_stands id _ mode next e = unopened_stands next

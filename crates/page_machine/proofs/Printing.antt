@@ -7,19 +7,20 @@ use Rattle.pcl_items.specs.Items.{simple_view}
 use Rattle.device_profile.specs.Printer.{Printer}
 use Rattle.page_env.specs.declared.page.Page.{Page}
 use Rattle.page_env.specs.Settings.{State}
-use Rattle.page_env.specs.Table.{is_motion}
+use Rattle.page_machine.specs.Machine.{may_mark}
 use Rattle.page_machine.specs.declared.steps.Halt.{Halt}
 use Rattle.page_machine.specs.Event.{Event}
 use Rattle.page_machine.specs.Run.{Run, followed_by, Conditions, byte_run, printing, move_run, drawing, own_run, begun_run}
 use Rattle.page_machine.specs.Follows.{Follows}
 use Rattle.page_machine.proofs.Composed.{Follows-stopped}
 
--- an item that is neither text nor has data nor moves the pen is its own step
-pub simple_run : (printer : Printer) (conditions : Conditions) (item : SimpleItem) (s : State) → is_motion (simple_view item) ≡ false → begun_run printer conditions (simple_view item) s ≡ own_run printer conditions (simple_view item) s
+-- an item that marks nothing is its own step
+pub simple_run : (printer : Printer) (conditions : Conditions) (item : SimpleItem) (s : State) → may_mark (simple_view item) ≡ false → begun_run printer conditions (simple_view item) s ≡ own_run printer conditions (simple_view item) s
 simple_run printer conditions simple.CarriageReturn s h = refl
 simple_run printer conditions simple.LineFeed s h = refl
 simple_run printer conditions simple.FormFeed s h = refl
 simple_run printer conditions simple.Reset s h = refl
+simple_run printer conditions simple.ExitLanguage s h = refl
 simple_run printer conditions simple.ClearMargins s h = refl
 simple_run printer conditions simple.HalfLineFeed s h = refl
 simple_run printer conditions (simple.Parameterized command number) s h = refl

@@ -39,12 +39,15 @@ fn control_in(item: &Item<'_>) -> Option<Control>
     }
 }
 
-/// Whether an item is a reset.
+/// Whether an item is a reset: the universal exit is one, too.
 #[inline(always)]
 fn is_reset(item: &Item<'_>) -> bool
     ensures { result ≡ is_reset (view item.now) }
 {
-    matches!(item, Item::Simple(SimpleItem::Reset))
+    matches!(
+        item,
+        Item::Simple(SimpleItem::Reset | SimpleItem::ExitLanguage)
+    )
 }
 
 /// What a control does to the definition that is open.

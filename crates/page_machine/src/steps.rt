@@ -1,18 +1,19 @@
 //! Steps: what carries out an item or a part of one without the closing of a page and without a macro.
 
-ghost use Rattle.std.specs.Prelude.{ℤ, Option, ◌≡◌, ◌≤◌, [], true, length, MatchOption};
+ghost use Rattle.std.specs.Prelude.{ℤ, Option, Ok, ◌≡◌, ◌≤◌, [], true, false, length, MatchOption};
 ghost use Rattle.device_profile.specs.declared.panel.Panel.{Panel};
-ghost use Rattle.page_env.specs.Answers.{marked_at};
+ghost use Rattle.page_env.specs.Answers.{effect_at, marked_at};
 ghost use Rattle.page_env.specs.Effect.{Effect, Goes};
 ghost use Rattle.page_env.specs.Mark.{characters_of, lines_of, shapes_of};
 ghost use Rattle.page_env.specs.Settings.{state_at};
 ghost use Rattle.page_env.specs.Table.{is_step, page_end_of};
 ghost use Rattle.pcl_items.specs.declared.command.DataCommand.TheVariants.{RasterRow as RasterRowCommand};
 ghost use Rattle.pcl_items.specs.declared.command.Command.TheVariants.{FillRectangle};
-ghost use Rattle.pcl_items.specs.Items.{Move, Parameterized, Text, WithData, amount, pair, simple_view, view};
+ghost use Rattle.pcl_items.specs.Items.{Move, Parameterized, Text, WithData, amount, pair, view};
 ghost use Rattle.page_machine.specs.Run.{unmoved, effect_run, Conditions, byte_run, printing, move_run, own_run, begun_run, item_run};
 ghost use Rattle.page_machine.specs.Macros.{ended};
-ghost use Rattle.page_machine.specs.Machine.{RunsAlone, nothing_left};
+ghost use Rattle.page_machine.specs.Defining.{LeavesMacros};
+ghost use Rattle.page_machine.specs.Machine.{may_mark};
 ghost use Rattle.page_machine.specs.Follows.{Follows};
 
 use crate::sink::MarkSink;
@@ -22,7 +23,7 @@ use page_env::{
     carry_out_step, fill_rectangle, fill_value, motion_of, move_pen, print_byte, print_row,
     print_transparent, step_of,
 };
-use pcl_items::{Command, Coordinates, Data, DataCommand, Item, Motion, Number, SimpleItem};
+use pcl_items::{Command, Coordinates, Data, DataCommand, Item, Motion, Number};
 use std::alloc::Allocator;
 
 /// Why an item was not carried out to its end.
@@ -238,6 +239,8 @@ fn run_move<S: MarkSink, A: Allocator>(
 }
 
 /// Carries out a command that moves the pen: its own step, and then the move to its coordinates.
+// A call of its own, as `run_text` is.
+#[inline(never)]
 fn run_motion<S: MarkSink, A: Allocator>(
     profile: &Profile<A>,
     motion: Motion,
@@ -319,76 +322,63 @@ fn run_data<S: MarkSink, A: Allocator>(
     }
 }
 
-/// Nothing is left of what ran to its end, or was halted.
+/// Carries out an item that is one step, or that may mark. `None`: it is another one, and nothing is done.
+// Most items are these, so nothing is put together for them that only others need.
 #[inline(always)]
-fn nothing_left<F>(ran: Result<(), Halt<F>>) -> Result<Option<Carried>, Halt<F>>
-    ensures { result ≡ nothing_left ran }
-{
-    match ran {
-        Ok(()) => Ok(None),
-        Err(halt) => Err(halt),
-    }
-}
-
-/// What is left of an item that came to this.
-#[inline(always)]
-fn left_of(carried: Carried) -> Option<Carried>
-    ensures { MatchOption result (carried ≡ Carried.Stepped) (λ left. left ≡ carried) }
-{
-    match carried {
-        Carried::Stepped => None,
-        Carried::Closing(_) | Carried::Ending | Carried::Controlling(_) => Some(carried),
-    }
-}
-
-/// Carries out an item that is neither text nor has data, once it has begun: all of it but the closing of a page and a macro, which are
-/// left.
-// Steps come first: most items are these, and their answer stays in registers.
-#[inline(always)]
-fn run_simple<S: MarkSink, A: Allocator>(
-    profile: &Profile<A>,
-    item: &SimpleItem,
-    page: &mut Page,
-    sink: &mut S,
-) -> Result<Option<Carried>, Halt<S::Fault>>
-    ensures { RunsAlone S.takes S.refuses (simple_view item.now)
-        (λ conditions panel. begun_run profile.now conditions (simple_view item.now) (state_at panel page.old))
-        sink.old sink.new page.new result }
-{
-    if let Some((command, n)) = step_of(item) {
-        return nothing_left(run_step(profile, command, n, page, sink));
-    }
-    if let Some(n) = fill_value(item) {
-        return nothing_left(run_fill(profile, n, page, sink));
-    }
-    if let Some((motion, to)) = motion_of(item) {
-        return nothing_left(run_motion(profile, motion, to, page, sink));
-    }
-    match carry_out(profile, page, item) {
-        Err(finding) => Err(Halt::Found(finding)),
-        Ok(carried) => Ok(left_of(carried)),
-    }
-}
-
-/// Carries out one item: all of it but the closing of a page and a macro, which are left.
-// Of most items nothing is left, so nothing is put together for them that only others need.
-#[inline(always)]
-pub(crate) fn run_alone<S: MarkSink, A: Allocator>(
+pub(crate) fn run_at_once<S: MarkSink, A: Allocator>(
     profile: &Profile<A>,
     item: &Item<'_>,
     page: &mut Page,
     sink: &mut S,
-) -> Result<Option<Carried>, Halt<S::Fault>>
-    ensures { RunsAlone S.takes S.refuses (view item.now)
-        (λ conditions panel. item_run profile.now conditions (view item.now) (state_at panel page.old))
-        sink.old sink.new page.new result }
+) -> Option<Result<(), Halt<S::Fault>>>
+    ensures { MatchOption result
+        ((page.new ≡ page.old) × (sink.new ≡ sink.old) × (may_mark (view item.now) ≡ false))
+        (λ ran. LeavesMacros (view item.now) × ((conditions : Panel → Conditions) → Follows S.takes S.refuses
+        (λ panel. item_run profile.now (conditions panel) (view item.now) (state_at panel page.old))
+        sink.old sink.new page.new ran)) }
+{
+    match item {
+        Item::Simple(simple) => {
+            if let Some((command, n)) = step_of(simple) {
+                begin_item(page, item);
+                return Some(run_step(profile, command, n, page, sink));
+            }
+            if let Some(n) = fill_value(simple) {
+                begin_item(page, item);
+                return Some(run_fill(profile, n, page, sink));
+            }
+            let (motion, to) = motion_of(simple)?;
+            begin_item(page, item);
+            Some(run_motion(profile, motion, to, page, sink))
+        }
+        Item::Text(byte) => {
+            begin_item(page, item);
+            Some(run_text(profile, byte.code, page, sink))
+        }
+        Item::WithData(command, data) => {
+            begin_item(page, item);
+            Some(run_data(profile, *command, data, page, sink))
+        }
+        Item::PjlLine(_) => None,
+    }
+}
+
+/// Carries out the own step of an item that marks nothing; what is left of the item is the closing of a page or a macro control.
+#[inline(always)]
+pub(crate) fn run_own_step<A: Allocator>(
+    profile: &Profile<A>,
+    item: &Item<'_>,
+    page: &mut Page,
+) -> Result<Carried, Finding>
+    requires { may_mark (view item.now) ≡ false }
+    ensures runs { (conditions : Conditions) (panel : Panel) → item_run profile.now conditions (view item.now) (state_at panel page.old)
+        ≡ effect_run conditions (effect_at panel conditions.defaults page.new result) }
+    ensures leaves { result ≡ Ok Carried.Stepped → LeavesMacros (view item.now) }
 {
     begin_item(page, item);
     match item {
-        Item::Simple(item) => run_simple(profile, item, page, sink),
-        Item::Text(byte) => nothing_left(run_text(profile, byte.code, page, sink)),
-        Item::WithData(command, data) => {
-            nothing_left(run_data(profile, *command, data, page, sink))
-        }
+        Item::Simple(item) => carry_out(profile, page, item),
+        Item::PjlLine(_) => Ok(Carried::Stepped),
+        Item::Text(_) | Item::WithData(_, _) => unreachable!(),
     }
 }

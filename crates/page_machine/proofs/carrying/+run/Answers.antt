@@ -1,4 +1,4 @@
-use Rattle.std.proofs.Common.{[], None, Some, Ok, ap, sym, ◌∙◌, refl, cond, is_some, ◌<◌, suc, arith}
+use Rattle.std.proofs.Common.{[], None, Some, ap, sym, ◌∙◌, refl, cond, is_some, ◌<◌, suc, arith}
 use Rattle.device_profile.specs.declared.panel.Panel.{Panel}
 use Rattle.pcl_items.specs.Items.{view, amount}
 use Rattle.page_env.specs.declared.finding.Finding.TheVariants.{InMacro}
@@ -9,7 +9,7 @@ use Rattle.page_machine.specs.Run.{Run, just, Done, Halts, goes, peaks_of, marke
 use Rattle.page_machine.specs.Macros.{put_back, give_up, refused, at_level, raster_ended, ended, overlay_run, body_run, control_body, close_in}
 use Rattle.page_machine.specs.Machine.{context_with, conditions_with}
 use Rattle.page_machine.proofs.Cases.{page_close-deep, page_close-unset, page_close-passes, overlay_run-unknown, overlay_run-found, marked_close-marked, marked_close-unmarked, control_run-found, control_run-goes, execute-is, call-is, no_body, executed_body, called_body, body_run-none, body_run-some, entries_run-end, entries_run-next}
-use Rattle.page_machine.proofs.Composed.{TakesUpTo-none, TakesUpTo-is, TakesUpTo-rest, TakesUpTo-first, TakesUpTo-after, TakesUpTo-done, Follows-done, Follows-found, Follows-is, Follows-step, Follows-onward, Follows-stopped, Follows-took, Follows-after, Follows-put_back, Follows-call_stopped, Follows-give_up}
+use Rattle.page_machine.proofs.Composed.{TakesUpTo-none, TakesUpTo-is, TakesUpTo-rest, TakesUpTo-first, TakesUpTo-after, TakesUpTo-done, Follows-done, Follows-found, Follows-is, Follows-step, Follows-stepped, Follows-onward, Follows-stopped, Follows-took, Follows-after, Follows-put_back, Follows-call_stopped, Follows-give_up}
 use Rattle.page_machine.proofs.carrying.+run.Goals as goal
 
 -- ---- closing a page
@@ -151,7 +151,7 @@ run_control-returns-in-Ok g t c = λ level.
     let next : Panel → State → Run = λ panel. control_body c.args.around.now.macros.now (body_run (context_with c.args.around.now panel) (close_in (context_with c.args.around.now panel) c.args.around.now.nesting) c.args.around.now.left level) c.args.around.now.nesting c.control_of-control.result in
     Follows-is _ _ _ _ _ _ _ _ _ (λ panel. control_run-goes c.args.around.now.macros.now (body_run (context_with c.args.around.now panel) (close_in (context_with c.args.around.now panel) c.args.around.now.nesting) c.args.around.now.left level) c.args.around.now.nesting (amount c.args.n) (state_at panel c.args.page.now) c.is_some-known.result c.is_macro.result c.control_of-control.result (c.is_some-known.ensures ∙ ap (λ o. is_some o) c.body.ensures) c.is_macro.ensures c.control_of-control.ensures (state_at panel c.carry_out_control.new.page) (c.in-Ok.ensures panel))
     (Follows-onward _ _ _ _ _ _ c.carry_out_control.new.page _ (λ panel. goes (state_at panel c.carry_out_control.new.page) []) next _ _
-    (Follows-step _ _ _ _ _ _ (λ panel. just [] (Done (state_at panel c.carry_out_control.new.page))) (λ panel. peaks_of (state_at panel c.carry_out_control.new.page)) _ (Follows-done _ _ _ _ c.carry_out_control.new.page (λ panel. just [] (Done (state_at panel c.carry_out_control.new.page))) _ (λ panel. refl)))
+    (Follows-stepped _ _ _ _ c.carry_out_control.new.page _)
     (c.run_controlled.ensures level))
 
 -- ---- what is left of an item
@@ -162,9 +162,8 @@ go_on-returns-in-Err g t c = λ level effect is.
 
 pub go_on-returns-in-Stepped : goal.go_on-returns-in-Stepped
 go_on-returns-in-Stepped g t c = λ level effect is.
-    let here : Panel → State = λ panel. state_at panel c.args.page.now in
     Follows-is _ _ _ _ _ _ _ _ _ (λ panel. ap (effect_run (conditions_with c.args.around.now level panel)) (rw (c.in-Ok.is, c.in-Stepped.is) at is panel))
-    (Follows-step _ _ _ _ _ _ (λ panel. just [] (Done (here panel))) (λ panel. peaks_of (here panel)) _ (Follows-done _ _ _ _ c.args.page.now (λ panel. just [] (Done (here panel))) _ (λ panel. refl)))
+    (Follows-stepped _ _ _ _ c.args.page.now _)
 
 pub go_on-returns-in-Closing : goal.go_on-returns-in-Closing
 go_on-returns-in-Closing g t c = λ level effect is.
@@ -201,19 +200,16 @@ close_and_change-returns-in-Ok g t c = λ level.
 
 -- ---- items
 
-pub run_next-returns-in-Err : goal.run_next-returns-in-Err
-run_next-returns-in-Err g t c = λ level. c.in-Err.ensures (conditions_with c.args.around.now level)
-
-pub run_next-returns-in-None : goal.run_next-returns-in-None
-run_next-returns-in-None g t c = λ level.
-    Follows-took _ _ _ _ _ _ _ _ ((rw c.in-None.is at c.in-Ok.ensures).1 (conditions_with c.args.around.now level))
+pub run_other-returns : goal.run_other-returns
+run_other-returns g t c = λ level.
+    Follows-is _ _ _ _ _ _ _ _ _ (λ panel. c.run_own_step-carried.ensures.runs (conditions_with c.args.around.now level panel) panel)
+    (c.go_on.ensures level (λ panel. effect_at panel (settings_at panel c.args.around.now.defaults.now) c.run_own_step-carried.new.page c.run_own_step-carried.result) (λ panel. refl))
 
 pub run_next-returns-in-Some : goal.run_next-returns-in-Some
-run_next-returns-in-Some g t c = λ level.
-    let left = rw c.in-Some.is at c.in-Ok.ensures in
-    rw (sym left.0)
-    (Follows-is _ _ _ _ _ _ _ _ _ (λ panel. left.1 (conditions_with c.args.around.now level panel) panel)
-    (c.go_on.ensures level (λ panel. effect_at panel (settings_at panel c.args.around.now.defaults.now) c.run_alone.new.page (Ok c.in-Some.left)) (λ panel. refl)))
+run_next-returns-in-Some g t c = λ level. c.in-Some.ensures.1 (conditions_with c.args.around.now level)
+
+pub run_next-returns-in-None : goal.run_next-returns-in-None
+run_next-returns-in-None g t c = λ level. rw (c.in-None.ensures.0, c.in-None.ensures.1) at c.run_other.ensures level
 
 pub run_overlay-returns-in_default : goal.run_overlay-returns-in_default
 run_overlay-returns-in_default g t c = λ begins.

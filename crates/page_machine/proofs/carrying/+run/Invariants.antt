@@ -12,6 +12,9 @@ decreases-run_items g l = 16 * (levels_left l.around.now.profile.now.depth l.aro
 abbrev pub decreases-run_next : goal.decreases-run_next
 decreases-run_next g l = 16 * (levels_left l.around.now.profile.now.depth l.around.now.left l.around.now.nesting) + 14
 
+abbrev pub decreases-run_other : goal.decreases-run_other
+decreases-run_other g l = 16 * (levels_left l.around.now.profile.now.depth l.around.now.left l.around.now.nesting) + 13
+
 abbrev pub decreases-go_on : goal.decreases-go_on
 decreases-go_on g l = 16 * (levels_left l.around.now.profile.now.depth l.around.now.left l.around.now.nesting) + 10
 

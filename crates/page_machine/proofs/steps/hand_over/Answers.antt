@@ -4,7 +4,7 @@ use Rattle.page_env.specs.Mark.{Character}
 use Rattle.page_env.specs.Settings.{State, state_at}
 use Rattle.page_machine.specs.Event.{Marked}
 use Rattle.page_machine.specs.Run.{Run, just, Done, peaks_of, effect_run}
-use Rattle.page_machine.proofs.Composed.{Follows-found, Follows-is, Follows-step, Follows-done, Follows-taken, Follows-refused}
+use Rattle.page_machine.proofs.Composed.{Follows-found, Follows-is, Follows-step, Follows-stepped, Follows-taken, Follows-refused}
 use Rattle.page_machine.proofs.steps.hand_over.Goals as goal
 
 pub returns-in-Err : goal.returns-in-Err
@@ -13,9 +13,8 @@ returns-in-Err g c = λ conditions effect is.
 
 pub returns-in-Ok-None : goal.returns-in-Ok-None
 returns-in-Ok-None g c = λ conditions effect is.
-    let here : Panel → State = λ panel. state_at panel c.args.page.now in
     Follows-is _ _ _ _ _ _ _ _ _ (λ panel. ap (effect_run (conditions panel)) (rw (c.in-Ok-None.is, c.in-Ok-None.field-0-is) at is panel))
-    (Follows-step _ _ _ _ _ _ (λ panel. just [] (Done (here panel))) (λ panel. peaks_of (here panel)) _ (Follows-done _ _ _ _ c.args.page.now (λ panel. just [] (Done (here panel))) _ (λ panel. refl)))
+    (Follows-stepped _ _ _ _ c.args.page.now _)
 
 pub returns-in-Err-mark : goal.returns-in-Err-mark
 returns-in-Err-mark g c = λ conditions effect is.

@@ -4,14 +4,13 @@ use Rattle.page_env.specs.Mark.{shape_of}
 use Rattle.page_env.specs.Settings.{State, state_at}
 use Rattle.page_machine.specs.Event.{Marked}
 use Rattle.page_machine.specs.Run.{Run, just, Done, peaks_of, effect_run}
-use Rattle.page_machine.proofs.Composed.{Follows-is, Follows-step, Follows-done, Follows-taken, Follows-refused}
+use Rattle.page_machine.proofs.Composed.{Follows-is, Follows-step, Follows-stepped, Follows-taken, Follows-refused}
 use Rattle.page_machine.proofs.steps.hand_over_mark.Goals as goal
 
 pub returns-in-None : goal.returns-in-None
 returns-in-None g c = λ conditions effect is.
-    let here : Panel → State = λ panel. state_at panel c.args.page.now in
     Follows-is _ _ _ _ _ _ _ _ _ (λ panel. ap (effect_run (conditions panel)) (rw c.in-None.is at is panel))
-    (Follows-step _ _ _ _ _ _ (λ panel. just [] (Done (here panel))) (λ panel. peaks_of (here panel)) _ (Follows-done _ _ _ _ c.args.page.now (λ panel. just [] (Done (here panel))) _ (λ panel. refl)))
+    (Follows-stepped _ _ _ _ c.args.page.now _)
 
 pub returns-in-Err : goal.returns-in-Err
 returns-in-Err g c = λ conditions effect is.
