@@ -1,16 +1,16 @@
 -- A Pass tells that the end was read: bytes that may go on may go on, or end, with a fault.
-use Rattle.std.proofs.Common.{◌≡◌, ℕ, zero, suc, ◌+◌, ◌<◌, List, [], ◌∷◌, ◌++◌, length, drop, Bool, true, false, Option, None, Some, refl, ap, sym, ◌∙◌, subst, append-nil, arith, inl, inr}
+use Rattle.std.proofs.Common.{◌≡◌, ℕ, zero, suc, ◌+◌, ◌<◌, List, [], ◌∷◌, ◌++◌, drop, true, false, Option, None, Some, refl, ap, sym, ◌∙◌, subst, append-nil, arith, inl, inr}
 use Rattle.pcl_items.specs.declared.fault.Cause.{Cause}
 use Rattle.pcl_items.specs.declared.fault.Cause.TheVariants.{NotInProfile}
 use Rattle.pcl_items.specs.declared.fault.Name.TheVariants as names
 use Rattle.pcl_items.specs.Contexts.{Context, Pcl, item_place}
-use Rattle.pcl_items.specs.Items.{Entry, Placed, at}
+use Rattle.pcl_items.specs.Items.{Placed, at}
 use Rattle.pcl_items.specs.Reader.{First, Open, Passes, Begins, Faulty, first_of}
 use Rattle.pcl_items.specs.Fault.{end_cause, IsFault}
-use Rattle.pcl_items.specs.Reading.{Reading, Whole, Stopped, IsReading, ReadsTo, here, passes, begins, left}
+use Rattle.pcl_items.specs.Reading.{Reading, Stopped, IsReading, ReadsTo, here, passes, begins, left}
 use Rattle.pcl_items.specs.Laws.{HasOneReading}
 use Rattle.pcl_items.proofs.Decided.{stays_decided}
-use Rattle.pcl_items.proofs.FrameOpening.{Refuses, Opened, refuses, completes, opened}
+use Rattle.pcl_items.proofs.FrameOpening.{Opened, refuses, completes, opened}
 use Rattle.pcl_items.proofs.Readings.{whole_end}
 use Rattle.pcl_items.proofs.ReadsTo.{grows}
 use Rattle.pcl_items.proofs.Spans.{begins-taken, passes-taken}
@@ -23,7 +23,7 @@ use Rattle.preflight.specs.Pieces.{ByReads, HasEnd}
 use Rattle.preflight.specs.Wrong.{Wrong, first_run, first_wrong}
 use Rattle.preflight.specs.Verdict.{IsExact, verdict_by, verdict_of, runs_of}
 use Rattle.preflight.proofs.PieceLemmas.{ended_or_open}
-use Rattle.preflight.proofs.StillOpen.{byte_0, between_items}
+use Rattle.preflight.proofs.StillOpen.{byte_0, behind_whole}
 
 -- ---- how far bytes are read that may go on
 
@@ -93,12 +93,12 @@ module _ (fleet : List Printer) (bytes : List ℕ) (pages marks : ℕ) (one : (j
       no_fault [] cause (subst (λ (l : List ℕ). IsFault true (first_of true so_far.context l) so_far.context l cause) (sym (append-nil so_far.rest)) ends)
   end_fails None at_end e =
       let whole = whole_end so_far.context so_far.rest at_end in
-      no_fault (0 ∷ []) (NotInProfile (names.Byte 0)) (between_items so_far.context so_far.rest (0 ∷ []) (NotInProfile (names.Byte 0)) whole.0 whole.1 byte_0)
+      no_fault (0 ∷ []) (NotInProfile (names.Byte 0)) (behind_whole so_far.context so_far.rest (0 ∷ []) (NotInProfile (names.Byte 0)) whole.1 (byte_0 so_far.context whole.0))
 
   opened_fails : Opened so_far.context so_far.rest → ⊥
   opened_fails (refuses more r ending) =
       no_fault more r.cause (subst (λ (f : First). IsFault true f so_far.context (so_far.rest ++ more) r.cause) (sym r.is) refl)
-  opened_fails (completes more entry len next pcl e is_open) = end_fails (end_cause so_far.context so_far.rest) refl is_open
+  opened_fails (completes more entry len next e is_open) = end_fails (end_cause so_far.context so_far.rest) refl is_open
 
   still_fails : (f : First) → first_of false so_far.context so_far.rest ≡ f → IsStill f → ⊥
   still_fails Open e h = opened_fails (opened so_far.context so_far.rest e)

@@ -3,10 +3,8 @@ use Rattle.std.proofs.Common.{◌≡◌, ◌+◌, ◌≤◌, ◌<◌, ℕ, Bool,
 use Rattle.pcl_items.specs.declared.fault.Cause.{Cause}
 use Rattle.pcl_items.specs.declared.fault.Cause.TheVariants.{NotInProfile}
 use Rattle.pcl_items.specs.declared.fault.Name.TheVariants as names
-use Rattle.pcl_items.specs.declared.item.Mode.TheVariants as modes
-use Rattle.pcl_items.specs.Contexts.{Context, Pcl, Sequence, Frame, Letters, Numbered, Single, Odd, Even, counted, item_place}
+use Rattle.pcl_items.specs.Contexts.{Context, Pcl, Sequence, Frame, Letters, Numbered, Pjl, Single, Odd, Even, counted, item_place, MayEndAt}
 use Rattle.pcl_items.specs.Items.{Entry, Placed}
-use Rattle.pcl_items.specs.Modes.{mode_of}
 use Rattle.pcl_items.specs.Reader.{First, Open, Begins, first_of}
 use Rattle.pcl_items.specs.Fault.{end_cause, IsFault}
 use Rattle.pcl_items.specs.Laws.{HasOneReading}
@@ -16,7 +14,7 @@ use Rattle.pcl_items.specs.Reading.{Reading, Stopped, IsReading, items_of, Reads
 use Rattle.pcl_items.proofs.FrameOpening.{Refuses, IsEnding, Opened, refuses, completes, opened}
 use Rattle.pcl_items.proofs.Readings.{one_only, one_reading, fault_last, whole_end}
 use Rattle.pcl_items.proofs.ReadsTo.{ReadsTo-append, closes, grows, behind_front}
-use Rattle.pcl_items.proofs.Spans.{begins-taken, passes-taken, pcl_item, pcl_item_in}
+use Rattle.pcl_items.proofs.Spans.{begins-taken, passes-taken}
 use Rattle.pcl_items.proofs.Steps.{open_end, with_items, read_behind, behind_end}
 use Rattle.pcl_items.proofs.Stopping.{read_by_rules}
 use Rattle.device_profile.specs.Printer.{Printer}
@@ -29,6 +27,7 @@ use Rattle.preflight.specs.Pieces.{MayBeBy, Spell}
 use Rattle.preflight.specs.Verdict.{IsExact, LeavesOpen, NeedsEachRead, verdict_of}
 use Rattle.preflight.specs.Carriers.Checking.{HasCarriedOut, IsUnderWay}
 use Rattle.preflight.proofs.Answered.{is_all}
+use Rattle.preflight.proofs.Completed.{item_takes}
 use Rattle.preflight.proofs.FaultVerdicts.{stops_there}
 use Rattle.preflight.proofs.Fleets.{bytes_faulty}
 use Rattle.preflight.proofs.PieceLemmas.{given_more}
@@ -50,29 +49,14 @@ counted_back (Letters m n) q = omega arith
 counted_back (Numbered (Single s a) gap n) q = omega arith
 counted_back (Numbered (Odd motion x) gap n) q = omega arith
 counted_back (Numbered (Even motion) gap n) q = omega arith
+counted_back Pjl q = omega arith
 
--- an item of mode PCL has a byte at least
-record TakesBytes (c : Context) (len : ℕ) (next : Context) : Type 0 where
-  some : 0 < len
-  none_counted : counted next ≡ 0
-  here_is : (place : ℕ) → item_place c place ≡ place
-
-pcl_takes : (c : Context) → mode_of c ≡ modes.Pcl → (bytes : List ℕ) (entry : Entry) (len : ℕ) (next : Context) → first_of true c bytes ≡ Begins entry len next → TakesBytes c len next
-pcl_takes Pcl pcl bytes entry len next e =
-    let k = pcl_item true bytes entry len next e in record { some = k.0; none_counted = k.1; here_is = λ place. refl }
-pcl_takes (Sequence g) pcl bytes entry len next e =
-    let k = pcl_item_in true g bytes entry len next e in record { some = k.0; none_counted = k.1; here_is = λ place. refl }
-pcl_takes Frame pcl bytes entry len next e = absurd cc
-pcl_takes (Letters m n) pcl bytes entry len next e = absurd cc
-pcl_takes (Numbered x gap n) pcl bytes entry len next e = absurd cc
-
--- where such an item begins the bytes do not stop
-no_stop : (bytes : List ℕ) (items more_items : List Placed) (c : Context) (place : ℕ) (rest : List ℕ) (entry : Entry) (len : ℕ) (next : Context) (cause : Cause) → mode_of c ≡ modes.Pcl → ReadsTo true Pcl 0 bytes items c place rest → first_of true c rest ≡ Begins entry len next → IsReadFrom Pcl 0 bytes (Stopped more_items (item_place c place) cause) → ⊥
-no_stop bytes items more_items c place rest entry len next cause pcl reads e stops =
+-- where an item begins that takes more bytes than are counted behind it, the bytes do not stop
+no_stop : (bytes : List ℕ) (items more_items : List Placed) (c : Context) (place : ℕ) (rest : List ℕ) (entry : Entry) (len : ℕ) (next : Context) (cause : Cause) → item_place c place + counted next < place + len → ReadsTo true Pcl 0 bytes items c place rest → first_of true c rest ≡ Begins entry len next → IsReadFrom Pcl 0 bytes (Stopped more_items (item_place c place) cause) → ⊥
+no_stop bytes items more_items c place rest entry len next cause takes reads e stops =
     let front = ReadsTo-append reads (begins entry len next e here) in
     let behind = behind_front front stops.reads (fault_last stops.last stops.rest cause stops.fault) in
-    let takes = pcl_takes c pcl rest entry len next e in
-    absurd (omega (arith, ahead behind.reads, counted_back stops.last stops.end, takes.some, takes.none_counted, takes.here_is place, stops.at_end))
+    absurd (omega (arith, ahead behind.reads, counted_back stops.last stops.end, takes, stops.at_end))
 
 -- ---- verdicts
 
@@ -88,20 +72,28 @@ one_cause place a b e = cc
 one_byte : (a b : ℕ) → NotInProfile (names.Byte a) ≡ NotInProfile (names.Byte b) → a ≡ b
 one_byte a b e = cc
 
--- two bytes that are no items
-pub byte_0 : IsFault true (first_of true Pcl (0 ∷ [])) Pcl (0 ∷ []) (NotInProfile (names.Byte 0))
+-- two bytes that are no items where a job may end
+pub byte_0 : (c : Context) → MayEndAt c → IsFault true (first_of true c (0 ∷ [])) c (0 ∷ []) (NotInProfile (names.Byte 0))
 unfolding first_of
-byte_0 = refl
+byte_0 Pcl ends = refl
+byte_0 Pjl ends = refl
+byte_0 (Sequence g) ends = absurd ends
+byte_0 Frame ends = absurd ends
+byte_0 (Letters m n) ends = absurd ends
+byte_0 (Numbered x gap n) ends = absurd ends
 
-byte_1 : IsFault true (first_of true Pcl (1 ∷ [])) Pcl (1 ∷ []) (NotInProfile (names.Byte 1))
+byte_1 : (c : Context) → MayEndAt c → IsFault true (first_of true c (1 ∷ [])) c (1 ∷ []) (NotInProfile (names.Byte 1))
 unfolding first_of
-byte_1 = refl
+byte_1 Pcl ends = refl
+byte_1 Pjl ends = refl
+byte_1 (Sequence g) ends = absurd ends
+byte_1 Frame ends = absurd ends
+byte_1 (Letters m n) ends = absurd ends
+byte_1 (Numbered x gap n) ends = absurd ends
 
 -- behind whole items
-pub between_items : (c : Context) (rest more : List ℕ) (cause : Cause) → c ≡ Pcl → rest ≡ [] → IsFault true (first_of true Pcl more) Pcl more cause → IsFault true (first_of true c (rest ++ more)) c (rest ++ more) cause
-between_items c rest more cause e f h =
-    subst (λ (x : Context). IsFault true (first_of true x (rest ++ more)) x (rest ++ more) cause) (sym e)
-    (subst (λ (l : List ℕ). IsFault true (first_of true Pcl (l ++ more)) Pcl (l ++ more) cause) (sym f) h)
+pub behind_whole : (c : Context) (rest more : List ℕ) (cause : Cause) → rest ≡ [] → IsFault true (first_of true c more) c more cause → IsFault true (first_of true c (rest ++ more)) c (rest ++ more) cause
+behind_whole c rest more cause f h = subst (λ (l : List ℕ). IsFault true (first_of true c (l ++ more)) c (l ++ more) cause) (sym f) h
 
 module _ (fleet : List Printer) (bytes : List ℕ) (lexer : LexerState) (machines : List MachineState) (counts : Counts) (carried : HasCarriedOut fleet bytes lexer machines counts) (goes_on : lexer.ended ≡ false) where
   abbrev place_here : ℕ
@@ -146,24 +138,24 @@ module _ (fleet : List Printer) (bytes : List ℕ) (lexer : LexerState) (machine
         r.other (behind_end carried.items end.reading end.at_end stops.0 place_here r.cause last)
 
     -- they may go on to an item, and end with a fault there, or with none, and then with this or that byte
-    not_completed : (more : List ℕ) (entry : Entry) (len : ℕ) (next : Context) → mode_of lexer.context ≡ modes.Pcl → first_of true lexer.context (lexer.rest ++ more) ≡ Begins entry len next → first_of true lexer.context lexer.rest ≡ Open → ⊥
-    not_completed more entry len next pcl e is_open = by_end (end_cause lexer.context lexer.rest) refl
+    not_completed : (more : List ℕ) (entry : Entry) (len : ℕ) (next : Context) → first_of true lexer.context (lexer.rest ++ more) ≡ Begins entry len next → first_of true lexer.context lexer.rest ≡ Open → ⊥
+    not_completed more entry len next e is_open = by_end (end_cause lexer.context lexer.rest) refl
       where
         by_end : (o : Option Cause) → end_cause lexer.context lexer.rest ≡ o → ⊥
         by_end (Some cause) at_end =
             let ends : IsFault true (first_of true lexer.context lexer.rest) lexer.context lexer.rest cause = subst (λ (f : First). IsFault true f lexer.context lexer.rest cause) (sym is_open) at_end in
             let fault = subst (λ (l : List ℕ). IsFault true (first_of true lexer.context l) lexer.context l cause) (sym (append-nil lexer.rest)) ends in
             let stops = stops_here cause (is_fault [] cause fault) (bytes ++ more) (known more) in
-            no_stop (bytes ++ more) carried.items stops.0 lexer.context lexer.place (lexer.rest ++ more) entry len next cause pcl (grows true more goes_on carried.reads.reads) e stops.1
+            no_stop (bytes ++ more) carried.items stops.0 lexer.context lexer.place (lexer.rest ++ more) entry len next cause (item_takes lexer.context lexer.rest more entry len next is_open e lexer.place) (grows true more goes_on carried.reads.reads) e stops.1
         by_end None at_end =
             let whole = whole_end lexer.context lexer.rest at_end in
-            let by_0 = is_fault (0 ∷ []) (NotInProfile (names.Byte 0)) (between_items lexer.context lexer.rest (0 ∷ []) (NotInProfile (names.Byte 0)) whole.0 whole.1 byte_0) in
-            let by_1 = is_fault (1 ∷ []) (NotInProfile (names.Byte 1)) (between_items lexer.context lexer.rest (1 ∷ []) (NotInProfile (names.Byte 1)) whole.0 whole.1 byte_1) in
+            let by_0 = is_fault (0 ∷ []) (NotInProfile (names.Byte 0)) (behind_whole lexer.context lexer.rest (0 ∷ []) (NotInProfile (names.Byte 0)) whole.1 (byte_0 lexer.context whole.0)) in
+            let by_1 = is_fault (1 ∷ []) (NotInProfile (names.Byte 1)) (behind_whole lexer.context lexer.rest (1 ∷ []) (NotInProfile (names.Byte 1)) whole.1 (byte_1 lexer.context whole.0)) in
             absurd (omega (arith, one_byte 0 1 (one_cause place_here (NotInProfile (names.Byte 0)) (NotInProfile (names.Byte 1)) (sym by_0 ∙ by_1))))
 
     not_opened : Opened lexer.context lexer.rest → ⊥
     not_opened (refuses more r ending) = not_refused more r ending
-    not_opened (completes more entry len next pcl e is_open) = not_completed more entry len next pcl e is_open
+    not_opened (completes more entry len next e is_open) = not_completed more entry len next e is_open
 
   leaves_open : (pieces : List (List ℕ)) → Spell pieces bytes → WantsMore lexer → LeavesOpen fleet pieces
   leaves_open pieces spelled wanted verdict exact =

@@ -4,13 +4,13 @@ use Rattle.std.specs.List.{AllByRecursion}
 use Rattle.std.proofs.lemmas.List.{take_more, take_more_set, drop_more, drop-set-lt, drop-drop, take_all, take-take, length-set}
 use Rattle.pcl_items.specs.declared.item.Mode.{Mode}
 use Rattle.pcl_items.specs.declared.item.Mode.TheVariants as modes
-use Rattle.pcl_items.specs.Contexts.{pending}
+use Rattle.pcl_items.specs.Contexts.{Context, Pcl, Sequence, Frame, Letters, Numbered, Pjl, pending}
 use Rattle.pcl_items.specs.Grammar.{follows}
 use Rattle.pcl_items.specs.Items.{Text, at, Placed}
 use Rattle.pcl_items.specs.Modes.{mode_of}
 use Rattle.pcl_items.specs.Reading.{left}
 use Rattle.pcl_items.specs.LexerState.{LexerState}
-use Rattle.pcl_items.specs.Passing.{AreText, text_items, Passes}
+use Rattle.pcl_items.specs.Passing.{ahead_in, ahead_of, AreText, text_items, Passes}
 use Rattle.device_profile.specs.declared.font.CodeRange.{CodeRange}
 use Rattle.device_profile.specs.Printer.{Printer}
 use Rattle.page_env.specs.declared.mark.Glyph.{Glyph}
@@ -62,21 +62,20 @@ nothing_done look [] (m ∷ new) h = absurd h
 nothing_done look (m ∷ old) [] h = absurd h
 nothing_done look (m ∷ old) (n ∷ new) h = λ i. h.0 i ∷ nothing_done look old new h.1 i
 
--- text leaves the mode
-text_mode : (mode : Mode) (code : ℕ) → unwrap_or (follows mode (Text code)) mode ≡ mode
-text_mode modes.Pcl code = refl
-text_mode modes.Frame code = refl
+-- text leaves mode PCL
+text_mode : (mode : Mode) (code : ℕ) → mode ≡ modes.Pcl → unwrap_or (follows mode (Text code)) mode ≡ mode
+text_mode mode code e = subst (λ m. unwrap_or (follows m (Text code)) m ≡ m) (sym e) refl
 
-each_does : (look : Look) (code : ℕ) (codes : List ℕ) (old new : List MachineState) → AreRunning old → Each (PrintsText look (code ∷ codes)) old new → Each (Does (Execute (Text code)) (glyph_events look code)) old (map (machine_behind look code) old)
-each_does look code codes [] new running h = tt
-each_does look code codes (m ∷ old) [] running h = absurd h
-each_does look code codes (m ∷ old) (n ∷ new) running h = (
+each_does : (look : Look) (code : ℕ) (codes : List ℕ) (old new : List MachineState) → AreRunning old → AreIn modes.Pcl old → Each (PrintsText look (code ∷ codes)) old new → Each (Does (Execute (Text code)) (glyph_events look code)) old (map (machine_behind look code) old)
+each_does look code codes [] new running in_pcl h = tt
+each_does look code codes (m ∷ old) [] running in_pcl h = absurd h
+each_does look code codes (m ∷ old) (n ∷ new) running in_pcl h = (
   record {
-    is = λ i. record m { page = page_behind look code m.page; macros = sym h.0.1 i; mode = sym (text_mode m.mode code) i; stopped = running.0 i };
+    is = λ i. record m { page = page_behind look code m.page; macros = sym h.0.1 i; mode = sym (text_mode m.mode code in_pcl.0) i; stopped = running.0 i };
     peaks = λ panel. peaks_of (state_at panel (page_behind look code m.page));
     run = h.0.0;
   },
-  each_does look code codes old new running.1 h.1,
+  each_does look code codes old new running.1 in_pcl.1 h.1,
 )
 
 each_prints : (look : Look) (code : ℕ) (codes : List ℕ) (old new : List MachineState) → Each (PrintsText look (code ∷ codes)) old new → Each (PrintsText (look_behind look) codes) (map (machine_behind look code) old) new
@@ -89,16 +88,20 @@ still_running : (look : Look) (code : ℕ) (old : List MachineState) → AreRunn
 still_running look code [] running = tt
 still_running look code (m ∷ old) running = (running.0, still_running look code old running.1)
 
-pub print_in_step : (codes : List ℕ) (look : Look) (old new : List MachineState) (counts : Counts) → AreRunning old → Each (PrintsText look codes) old new → PrintInStep codes old new counts (counts_after (map Marked (shapes_of look codes)) counts)
-print_in_step [] look old new counts running h = (nothing_done look old new h, refl)
-print_in_step (code ∷ codes) look old new counts running h =
+still_in_pcl : (look : Look) (code : ℕ) (old : List MachineState) → AreIn modes.Pcl old → AreIn modes.Pcl (map (machine_behind look code) old)
+still_in_pcl look code [] in_pcl = tt
+still_in_pcl look code (m ∷ old) in_pcl = (in_pcl.0, still_in_pcl look code old in_pcl.1)
+
+pub print_in_step : (codes : List ℕ) (look : Look) (old new : List MachineState) (counts : Counts) → AreRunning old → AreIn modes.Pcl old → Each (PrintsText look codes) old new → PrintInStep codes old new counts (counts_after (map Marked (shapes_of look codes)) counts)
+print_in_step [] look old new counts running in_pcl h = (nothing_done look old new h, refl)
+print_in_step (code ∷ codes) look old new counts running in_pcl h =
     let mid = map (machine_behind look code) old in
     let between = counts_after (glyph_events look code) counts in (
       mid,
       between,
-      (glyph_events look code, each_does look code codes old new running h, refl),
+      (glyph_events look code, each_does look code codes old new running in_pcl h, refl),
       subst (λ c. PrintInStep codes mid new between c) (count_one (glyph_in look code) (shapes_of (look_behind look) codes) counts)
-          (print_in_step codes (look_behind look) mid new between (still_running look code old running) (each_prints look code codes old new h)),
+          (print_in_step codes (look_behind look) mid new between (still_running look code old running) (still_in_pcl look code old in_pcl) (each_prints look code codes old new h)),
     )
 
 pub text_of : (printer : Printer) (codes : List ℕ) (look : Look) (page : Page) → AllGo printer look page codes → AreText codes
@@ -219,6 +222,18 @@ text_in_pcl : (codes : List ℕ) (machines machines' : List MachineState) (count
 text_in_pcl [] machines machines' counts counts' step in_pcl = subst (AreIn modes.Pcl) (sym step.0) in_pcl
 text_in_pcl (code ∷ codes) machines machines' counts counts' step in_pcl =
     text_in_pcl codes step.0 machines' step.1 counts' step.3 (in_next modes.Pcl modes.Pcl (Text code) step.2.0 machines step.0 refl step.2.1 in_pcl)
+
+-- text stands ahead in mode PCL alone
+ahead_in_pcl : (c : Context) (rest : List ℕ) (machines : List MachineState) → AreIn (mode_of c) machines → 0 < length (ahead_in c rest) → AreIn modes.Pcl machines
+ahead_in_pcl Pcl rest machines in_mode some = in_mode
+ahead_in_pcl (Sequence g) rest machines in_mode some = in_mode
+ahead_in_pcl Frame rest machines in_mode some = absurd (omega (arith, some))
+ahead_in_pcl (Letters m n) rest machines in_mode some = absurd (omega (arith, some))
+ahead_in_pcl (Numbered x gap n) rest machines in_mode some = absurd (omega (arith, some))
+ahead_in_pcl Pjl rest machines in_mode some = absurd (omega (arith, some))
+
+pub text_ahead_in_pcl : (lexer : LexerState) (machines : List MachineState) → AreIn (mode_of lexer.context) machines → 0 < length (ahead_of lexer) → AreIn modes.Pcl machines
+text_ahead_in_pcl lexer machines in_mode some = ahead_in_pcl lexer.context lexer.rest machines in_mode some
 
 module _ (codes : List ℕ) (old new : LexerState) (passes : Passes old codes new) where
   pub text_modes : (machines machines' : List MachineState) (counts counts' : Counts) → PrintInStep codes machines machines' counts counts' → AreIn (mode_of old.context) machines → AreIn (mode_of new.context) machines'

@@ -4,3 +4,6 @@ pub mod Each
 pub mod Lockstep
 pub mod TextInStep
 pub mod Checking
+pub mod Feeding
+pub mod Telling
+pub mod PageTelling

@@ -1,10 +1,14 @@
-use Rattle.std.proofs.Common.{◌≡◌, length, subst, take, ◌∙◌, ap, sym, arith}
+use Rattle.std.proofs.Common.{◌≡◌, ◌<◌, length, subst, take, ap, arith}
 use Rattle.std.proofs.lemmas.List.{length-take-le}
 use Rattle.pcl_items.specs.Passing.{ahead_of}
 use Rattle.preflight.specs.Carriers.Lockstep.{machines_of, counts_of}
 use Rattle.preflight.specs.Carriers.TextInStep.{PrintInStep}
-use Rattle.preflight.proofs.TextInStep.{text_done, text_less, text_modes, still_run}
+use Rattle.preflight.proofs.TextInStep.{text_ahead_in_pcl, text_done, text_less, text_modes, still_run}
 use Rattle.preflight.proofs.check.carry_out_text.Goals as goal
+
+pub carry_out_text-passed-requires-clause-modes : goal.carry_out_text-passed-requires-clause-modes
+carry_out_text-passed-requires-clause-modes g c = λ some.
+    text_ahead_in_pcl c.args.lexer.now (machines_of c.args.machines.now) c.requires.modes (subst (λ ahead. 0 < length ahead) c.ahead.ensures some)
 
 pub returns-clause-running : goal.returns-clause-running
 returns-clause-running g c = still_run _ _ _ _ _ c.carry_out_text-passed.ensures.step c.requires.running

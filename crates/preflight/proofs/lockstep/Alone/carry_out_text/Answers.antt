@@ -16,4 +16,4 @@ returns-clause-step g c =
     let machines = before.machine ∷ [] in
     let after = c.pass_text.new.self ∷ [] in
     subst (λ counts. PrintInStep text machines after before.counts counts) (sym (c.add_marks.ensures (shapes_of look text) (shape_count text look ∙ sym c.glyph_count-glyphs.ensures ∙ sym c.from.ensures)))
-    (print_in_step text look machines after before.counts (c.requires, tt) (c.pass_text.ensures, tt))
+    (print_in_step text look machines after before.counts (c.requires.running, tt) (c.requires.mode, tt) (c.pass_text.ensures, tt))

@@ -23,4 +23,4 @@ returns-clause-step g c =
     let each = subst (λ ms. Each (PrintsText look text) ms others) c.deref_mut.ensures.value c.pass_text_on_each.ensures in
     subst (λ ms. PrintInStep text (before.first ∷ before.others.items) (c.pass_text.new.self ∷ ms) before.recorder.counts c.add_marks.new.self.counts) (sym whole)
     (subst (λ counts. PrintInStep text (before.first ∷ before.others.items) (c.pass_text.new.self ∷ others) before.recorder.counts counts) (sym counted)
-    (print_in_step text look (before.first ∷ before.others.items) (c.pass_text.new.self ∷ others) before.recorder.counts c.requires (c.pass_text.ensures, each)))
+    (print_in_step text look (before.first ∷ before.others.items) (c.pass_text.new.self ∷ others) before.recorder.counts c.requires.running c.requires.modes (c.pass_text.ensures, each)))

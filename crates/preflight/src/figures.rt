@@ -1,0 +1,153 @@
+//! Numbers and bytes as they stand in lines of text.
+ghost use Rattle.std.specs.Prelude.{◌≡◌, ◌++◌, ◌∷◌, [], ◌+◌, ◌%◌, ◌≤◌, ◌<◌, ℕ, OnOk, decimal, flat_map, take};
+ghost use Rattle.std.specs.Fmt.{signed_decimal};
+ghost use Rattle.pcl_items.specs.Canon.{magnitude_text, with_point, without_zeros, four_decimals};
+ghost use Rattle.preflight.specs.PageTexts.{hex_byte, length_word, number_word, signed_word, value_word};
+ghost use Rattle.preflight.specs.Texts.{escaped_byte};
+
+use crate::words::hex_digit;
+use itoa::Buffer;
+use std::alloc::{AllocError, Allocator};
+use tick_length::Length;
+
+/// Appends a number.
+pub fn push_number<A: Allocator>(text: &mut Vec<u8, A>, number: u64) -> Result<(), AllocError>
+    ensures { OnOk result (text.new.items ≡ text.old.items ++ decimal number) }
+{
+    let mut digits = Buffer::new();
+    text.extend_from_slice(digits.format(number).as_bytes())
+}
+
+/// Appends a space and a number.
+pub fn push_number_word<A: Allocator>(text: &mut Vec<u8, A>, number: u64) -> Result<(), AllocError>
+    ensures { OnOk result (text.new.items ≡ text.old.items ++ number_word number) }
+{
+    text.push(b' ')?;
+    push_number(text, number)
+}
+
+/// Appends a space and a number of ticks.
+pub fn push_ticks_word<A: Allocator>(text: &mut Vec<u8, A>, ticks: i64) -> Result<(), AllocError>
+    ensures { OnOk result (text.new.items ≡ text.old.items ++ length_word ticks) }
+{
+    let mut digits = Buffer::new();
+    text.push(b' ')?;
+    text.extend_from_slice(digits.format(ticks).as_bytes())
+}
+
+/// Appends a space and a length in ticks.
+pub fn push_length_word<A: Allocator>(
+    text: &mut Vec<u8, A>,
+    length: Length,
+) -> Result<(), AllocError>
+    ensures { OnOk result (text.new.items ≡ text.old.items ++ length_word length) }
+{
+    push_ticks_word(text, length.ticks())
+}
+
+/// The last decimal digit of a number.
+fn last_digit(n: u32) -> u8
+    ensures { result ≡ 48 + n % 10 }
+{
+    b'0' + (n % 10) as u8
+}
+
+/// How much is shown of a point and four decimals: no zeros at the end, and no point that is last.
+fn shown(text: &[u8; 5]) -> usize
+    ensures within { result ≤ 5 }
+    ensures shown { (a b c d : ℕ) → text.now ≡ 46 ∷ a ∷ b ∷ c ∷ d ∷ [] → take result text.now ≡ with_point (without_zeros (a ∷ b ∷ c ∷ d ∷ [])) }
+{
+    let [_, tenth, hundredth, thousandth, last] = *text;
+    if last != b'0' {
+        5
+    } else if thousandth != b'0' {
+        4
+    } else if hundredth != b'0' {
+        3
+    } else if tenth != b'0' {
+        2
+    } else {
+        0
+    }
+}
+
+/// Appends a point and the decimals of so many ten-thousandths, where there are some.
+fn push_decimals<A: Allocator>(text: &mut Vec<u8, A>, n: u32) -> Result<(), AllocError>
+    ensures { OnOk result (text.new.items ≡ text.old.items ++ with_point (without_zeros (four_decimals n))) }
+{
+    let all = [
+        b'.',
+        last_digit(n / 1000),
+        last_digit(n / 100),
+        last_digit(n / 10),
+        last_digit(n),
+    ];
+    text.extend_from_slice(&all[..shown(&all)])
+}
+
+/// Appends a value of so many ten-thousandths.
+fn push_value<A: Allocator>(text: &mut Vec<u8, A>, n: u32) -> Result<(), AllocError>
+    ensures { OnOk result (text.new.items ≡ text.old.items ++ magnitude_text n) }
+{
+    push_number(text, u64::from(n / 10_000))?;
+    push_decimals(text, n)
+}
+
+/// Appends a space and a value of so many ten-thousandths.
+#[tactic(auto, unfolding(crate::specs::PageTexts::value_word))]
+pub fn push_value_word<A: Allocator>(text: &mut Vec<u8, A>, n: u32) -> Result<(), AllocError>
+    ensures { OnOk result (text.new.items ≡ text.old.items ++ value_word n) }
+{
+    text.push(b' ')?;
+    push_value(text, n)
+}
+
+/// Appends a space and a value of so many ten-thousandths, which may be less than 0.
+#[tactic(auto, unfolding(crate::specs::PageTexts::signed_word, crate::specs::PageTexts::value_word))]
+pub fn push_signed_word<A: Allocator>(text: &mut Vec<u8, A>, n: i32) -> Result<(), AllocError>
+    ensures { OnOk result (text.new.items ≡ text.old.items ++ signed_word n) }
+{
+    text.push(b' ')?;
+    if n < 0 {
+        text.push(b'-')?;
+    }
+    push_value(text, n.unsigned_abs())
+}
+
+/// Appends a byte as two hexadecimal digits.
+fn push_hex_byte<A: Allocator>(text: &mut Vec<u8, A>, byte: u8) -> Result<(), AllocError>
+    ensures { OnOk result (text.new.items ≡ text.old.items ++ hex_byte byte) }
+{
+    text.extend_from_slice(&[hex_digit(byte / 16), hex_digit(byte % 16)])
+}
+
+/// Appends bytes as two hexadecimal digits each.
+pub fn push_hex<A: Allocator>(text: &mut Vec<u8, A>, bytes: &[u8]) -> Result<(), AllocError>
+    ensures { OnOk result (text.new.items ≡ text.old.items ++ flat_map hex_byte bytes.now) }
+{
+    for byte in bytes {
+        push_hex_byte(text, *byte)?;
+    }
+    Ok(())
+}
+
+/// Appends a byte as itself; one that shows nothing, or a backslash, as `\x` and two hexadecimal digits.
+fn push_escaped_byte<A: Allocator>(text: &mut Vec<u8, A>, byte: u8) -> Result<(), AllocError>
+    ensures { OnOk result (text.new.items ≡ text.old.items ++ escaped_byte byte) }
+{
+    if 33 <= byte && byte <= 126 && byte != b'\\' {
+        text.push(byte)?;
+        return Ok(());
+    }
+    text.extend_from_slice(&[b'\\', b'x', hex_digit(byte / 16), hex_digit(byte % 16)])
+}
+
+/// Appends bytes, and those that show nothing by their digits.
+pub fn push_escaped<A: Allocator>(text: &mut Vec<u8, A>, bytes: &[u8]) -> Result<(), AllocError>
+    ensures { OnOk result (text.new.items ≡ text.old.items ++ flat_map escaped_byte bytes.now) }
+{
+    for byte in bytes {
+        push_escaped_byte(text, *byte)?;
+    }
+    Ok(())
+}

@@ -1,0 +1,44 @@
+//! Text that is kept until there is enough of it to be written.
+ghost use Rattle.std.specs.Prelude.{◌≡◌, [], IfErr, IsFalse, is_err};
+ghost use Rattle.preflight.specs.Carriers.Telling.{Passes};
+ghost use Rattle.preflight.specs.Outlet.{Writes};
+ghost use Rattle.preflight.specs.declared.error.Error.TheVariants.{Write};
+
+use crate::error::Error;
+use crate::outlet::{Outlet, write_text};
+use std::alloc::Allocator;
+
+/// So many bytes of text are written at once.
+const ENOUGH: usize = 8192;
+
+/// Writes the text that is kept.
+pub fn write_kept<W: Outlet, A: Allocator>(
+    outlet: &mut W,
+    kept: &mut Vec<u8, A>,
+) -> Result<(), Error>
+    requires { IsFalse (W.failed outlet.old) }
+    ensures text { Writes (W.failed outlet.new) (W.written outlet.old) (W.written outlet.new) kept.old.items }
+    ensures kept { IsFalse (W.failed outlet.new) → kept.new.items ≡ [] }
+    ensures err { IfErr result (λ error. error ≡ Write) }
+    ensures status { W.failed outlet.new ≡ is_err result }
+{
+    write_text(outlet, kept.as_slice())?;
+    kept.clear();
+    Ok(())
+}
+
+/// Writes the text that is kept, where there is enough of it.
+pub fn write_enough<W: Outlet, A: Allocator>(
+    outlet: &mut W,
+    kept: &mut Vec<u8, A>,
+) -> Result<(), Error>
+    requires { IsFalse (W.failed outlet.old) }
+    ensures text { Passes (W.written outlet.old) (W.written outlet.new) kept.old.items kept.new.items result }
+    ensures err { IfErr result (λ error. error ≡ Write) }
+    ensures status { W.failed outlet.new ≡ is_err result }
+{
+    if kept.len() < ENOUGH {
+        return Ok(());
+    }
+    write_kept(outlet, kept)
+}
