@@ -4,11 +4,15 @@ use Rattle.preflight.specs.declared.error.Error.TheVariants.{Memory, Write}
 use Rattle.subcommands.specs.declared.status.Status.{Status}
 use Rattle.subcommands.specs.declared.status.Status.TheVariants.{Help, Words, Stopped}
 use Rattle.command_line.specs.declared.words.Request.{Request}
-use Rattle.command_line.specs.declared.words.Request.TheVariants.{Check}
+use Rattle.command_line.specs.declared.words.Request.TheVariants.{Check, List, Pages, Plain, Explain}
 
--- one printer at least is named
+-- a check names one printer at least
 abbrev pub NamesSome : Request → Type 0
 NamesSome (Check job profiles) = profiles.items ≢ []
+NamesSome (List job) = ⊤
+NamesSome (Pages job profile) = ⊤
+NamesSome (Plain job out) = ⊤
+NamesSome (Explain code) = ⊤
 
 -- help or the version, bad words, no memory, or a text that could not be written
 abbrev pub IsEndOfWords : Status → Type 0

@@ -1,6 +1,7 @@
 //! What the words of the command line ask for.
 #![tactic(auto)]
 
+mod text_commands;
 mod words;
 
 pub use words::{Request, read_words};

@@ -1,9 +1,10 @@
 //! The words that the program is started with.
-ghost use Rattle.std.specs.Prelude.{◌≡◌, IsFalse, OnOk, IfOk, IfErr};
+ghost use Rattle.std.specs.Prelude.{◌≡◌, IsFalse, OnOk, IfOk, IfErr, IfSome};
 ghost use Rattle.command_line.specs.Words.{IsEndOfWords, NamesSome};
 
+use crate::text_commands::{list_command, pages_command, plain_command, text_request};
 use clap::error::ErrorKind;
-use clap::{Arg, ArgAction, Command};
+use clap::{Arg, ArgAction, ArgMatches, Command};
 use preflight::{Error, Outlet, write_text};
 use std::alloc::{AllocError, Global};
 use subcommands::{Status, tell};
@@ -16,13 +17,32 @@ pub enum Request<'a> {
         job: &'a str,
         profiles: Vec<&'a str>,
     },
+    /// The items of the job at a path.
+    List {
+        job: &'a str,
+    },
+    /// The pages of the job at a path, on the printer that a word names.
+    Pages {
+        job: &'a str,
+        profile: &'a str,
+    },
+    /// The items of the job at a path, each in its one spelling, in a file at a path.
+    Plain {
+        job: &'a str,
+        out: &'a str,
+    },
+    /// What a fault or a finding means, by its number or its name; without a code, what all mean.
+    Explain {
+        code: Option<&'a str>,
+    },
 }
 
 const VERSION: &str = "0.1.0";
 
-const EXPLANATION: &str = "Output, one line:
+const EXPLANATION: &str = "Output of check, one line:
   PASS pages=N marks=N         the job prints alike on every printer, however its panel was set
-  FAIL at=N profile=N FINDING  the first thing that is wrong, by its number and its name
+  FAIL at=N profile=N FINDING  the first thing that is wrong, by its number and its name;
+                               'pclcheck explain NUMBER' tells what it means
 
   at=       the number of bytes before the command
   profile=  the printer's number among the words, from 1;
@@ -35,7 +55,7 @@ Samples, small made-up printers for trying out:
   @D  as @B, but its first font is narrower
 
 Exit status:
-  0  the job passes, or help or the version was asked for
+  0  the job passes, or an explanation, help or the version was asked for
   1  the job fails
   2  usage error, or a profile that is refused
   3  a read or a write failed, memory ran out, or no end after 2^40 reads";
@@ -58,12 +78,22 @@ fn command<'a>(alloc: Global) -> Result<Command<'a>, AllocError> {
         .after_help(EXPLANATION)
         .arg(job)?
         .arg(profiles)?;
+    let code = Arg::new(alloc, "CODE").action(ArgAction::Set).help(
+        "The fault or finding, by its number or its name; without it, all",
+    );
+    let explain = Command::new(alloc, "explain")
+        .about("Tells when a fault or finding comes, and what to change in the job or the profile")
+        .arg(code)?;
     Command::new(alloc, "pclcheck")
         .version(VERSION)
         .about("A preflight checker for PCL 5 print jobs")
         .after_help(EXPLANATION)
         .subcommand_required(true)
-        .subcommand(check)
+        .subcommand(check)?
+        .subcommand(list_command(alloc)?)?
+        .subcommand(pages_command(alloc)?)?
+        .subcommand(plain_command(alloc)?)?
+        .subcommand(explain)
 }
 
 /// What the words ask for; the first is the program's own name. Where they ask for help or for the
@@ -90,20 +120,46 @@ pub fn read_words<'a, O: Outlet, E: Outlet>(
         Ok(matches) => matches,
         Err(error) => return Err(refuse(alloc, &error, stdout, stderr)),
     };
-    let Some(found) = matches.subcommand_matches("check") else {
-        return Err(Status::Words);
-    };
+    match request_of(alloc, &matches) {
+        Ok(Some(request)) => Ok(request),
+        Ok(None) => Err(Status::Words),
+        Err(_) => Err(tell(Status::Stopped(Error::Memory), stderr)),
+    }
+}
+
+/// The request of words that are right.
+fn request_of<'a>(
+    alloc: Global,
+    matches: &ArgMatches<'a>,
+) -> Result<Option<Request<'a>>, AllocError>
+    ensures { IfOk result (λ request. IfSome request NamesSome) }
+{
+    if let Some(found) = matches.subcommand_matches("check") {
+        return check_request(alloc, found);
+    }
+    if let Some(found) = matches.subcommand_matches("explain") {
+        let code = found.get_str("CODE");
+        return Ok(Some(Request::Explain { code }));
+    }
+    Ok(text_request(matches))
+}
+
+/// The request of the words behind `check`.
+fn check_request<'a>(
+    alloc: Global,
+    found: &ArgMatches<'a>,
+) -> Result<Option<Request<'a>>, AllocError>
+    ensures { IfOk result (λ request. IfSome request NamesSome) }
+{
     let (Some(job), Some(words)) = (found.get_str("JOB"), found.get_strs("PROFILE")) else {
-        return Err(Status::Words);
+        return Ok(None);
     };
     if words.is_empty() {
-        return Err(Status::Words);
+        return Ok(None);
     }
     let mut profiles = Vec::new(alloc);
-    if profiles.extend_from_slice(words).is_err() {
-        return Err(tell(Status::Stopped(Error::Memory), stderr));
-    }
-    Ok(Request::Check { job, profiles })
+    profiles.extend_from_slice(words)?;
+    Ok(Some(Request::Check { job, profiles }))
 }
 
 /// Writes why the words were refused, or the help or the version that they asked for.

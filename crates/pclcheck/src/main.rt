@@ -8,7 +8,9 @@ use preflight::{Error, Outlet, Watched, write_text};
 use std::process::ExitCode;
 use std::rt::{Env, Files};
 use std::{env, io};
-use subcommands::{FileSource, FileTexts, Status, check, tell};
+use subcommands::{
+    FileOutlet, FileSource, FileTexts, Status, check, explain, list, pages, plain, tell,
+};
 
 fn main(rt: HostRuntime) -> ExitCode {
     let mut stdout = Watched::new(rt.stdout());
@@ -58,6 +60,21 @@ fn run<R: Files + AllocGlobal, O: Outlet, E: Outlet>(
             let profiles = profiles.as_slice();
             check(rt.alloc(), &mut job, &mut texts, profiles, stdout, stderr)
         }
+        Ok(Request::List { job }) => {
+            let mut job = FileSource::new(rt, job);
+            list(rt.alloc(), &mut job, stdout, stderr)
+        }
+        Ok(Request::Pages { job, profile }) => {
+            let mut job = FileSource::new(rt, job);
+            let mut texts = FileTexts::new(rt);
+            pages(rt.alloc(), &mut job, &mut texts, profile, stdout, stderr)
+        }
+        Ok(Request::Plain { job, out }) => {
+            let mut job = FileSource::new(rt, job);
+            let mut out = FileOutlet::new(rt, out);
+            plain(rt.alloc(), &mut job, &mut out, stdout, stderr)
+        }
+        Ok(Request::Explain { code }) => explain(code, stdout, stderr),
         Err(status) => status,
     }
 }

@@ -48,6 +48,12 @@ status_line Words = []
 status_line (Profile number line cause) = refusal_line number line cause
 status_line (Stopped error) = error_line error
 
+-- the job was gone through, and passes or fails
+abbrev pub is_answer : Status → Bool
+is_answer Pass = true
+is_answer Fail = true
+is_answer _ = false
+
 -- a profile is refused
 abbrev pub is_refusal : Status → Bool
 is_refusal (Profile number line cause) = true

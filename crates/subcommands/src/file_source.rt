@@ -1,7 +1,8 @@
 //! A file as a source of bytes.
-ghost use Rattle.std.specs.Prelude.{◌≡◌, [], None, false};
+ghost use Rattle.std.specs.Prelude.{◌≡◌, [], None, false, IsTrue, OnOk};
 ghost use Rattle.std.specs.Io.{ReadsAtMost};
 
+use crate::opening::Open;
 use given::Given;
 use preflight::Source;
 use std::io::Read;
@@ -9,8 +10,8 @@ use std::marker::Model;
 use std::rt::Files;
 use std::{fs, io};
 
-/// A file that is opened at its first read, so that what is wrong with the words before it is told
-/// before it is touched.
+/// A file that is opened at its first read, or by `open` before it, so that what is wrong with the
+/// words before it is told before it is touched.
 #[derive(Drop)]
 pub struct FileSource<'a, R: Files> {
     files: &'a R,
@@ -21,11 +22,12 @@ pub struct FileSource<'a, R: Files> {
 }
 
 impl<'a, R: Files> Model for FileSource<'a, R> {
-    ghost use Rattle.subcommands.specs.FileState.{FileState};
+    ghost use Rattle.std.specs.Prelude.{is_some};
+    ghost use Rattle.subcommands.specs.FileState.{SourceState};
 
-    ghost Value = { FileState };
+    ghost Value = { SourceState };
 
-    ghost view = { λ file. record { given = file.given.pieces; has_failed = file.has_failed } };
+    ghost view = { λ file. record { given = file.given.pieces; has_failed = file.has_failed; is_open = is_some file.opened } };
 }
 
 impl<'a, R: Files> FileSource<'a, R> {
@@ -47,15 +49,23 @@ impl<'a, R: Files> FileSource<'a, R> {
         ensures bound { ReadsAtMost result buf.new }
         ensures given { self.new.given ≡ self.old.given }
     {
+        self.open_once()?;
         match &mut self.opened {
             Some(file) => file.read(buf),
-            None => {
-                let mut file = fs::open(self.files, self.path)?;
-                let result = file.read(buf);
-                self.opened = Some(file);
-                result
-            }
+            None => Err(io::Error::from(io::ErrorKind::NotFound)),
         }
+    }
+
+    /// Opens the file, where it is not open yet.
+    fn open_once(&mut self) -> io::Result<()>
+        ensures opened { OnOk result (IsTrue self.new.is_open) }
+        ensures given { self.new.given ≡ self.old.given }
+        ensures failed { self.new.has_failed ≡ self.old.has_failed }
+    {
+        if self.opened.is_none() {
+            self.opened = Some(fs::open(self.files, self.path)?);
+        }
+        Ok(())
     }
 }
 
@@ -77,5 +87,15 @@ impl<R: Files> Source for FileSource<'_, R> {
 
     fn has_failed(&self) -> bool {
         self.has_failed
+    }
+}
+
+impl<R: Files> Open for FileSource<'_, R> {
+    ghost opens = { λ _ file. IsTrue file.is_open };
+
+    fn open(&mut self) -> io::Result<()> {
+        let result = self.open_once();
+        self.has_failed = result.is_err();
+        result
     }
 }

@@ -36,7 +36,7 @@ pub fn read_fleet<T: ProfileTexts, A: Allocator + Copy>(
 }
 
 /// The profile that a word names, the one of this number among the words.
-fn read_profile<T: ProfileTexts, A: Allocator + Copy>(
+pub fn read_profile<T: ProfileTexts, A: Allocator + Copy>(
     alloc: A,
     texts: &mut T,
     word: &str,

@@ -2,18 +2,33 @@
 #![tactic(auto)]
 
 mod checking;
+mod explaining;
+mod explanations;
+mod file_outlet;
 mod file_source;
 mod file_texts;
 mod fleet;
 mod front;
 mod lines;
+mod listing;
+mod opening;
+mod outcome;
+mod paging;
+mod spelling;
 mod status;
 mod texts;
 
 pub use checking::check;
+pub use explaining::explain;
+pub use explanations::EXPLANATIONS;
+pub use file_outlet::FileOutlet;
 pub use file_source::FileSource;
 pub use file_texts::FileTexts;
 pub use front::read_front;
 pub use lines::line_of;
+pub use listing::list;
+pub use opening::{Create, Open};
+pub use paging::pages;
+pub use spelling::plain;
 pub use status::{Status, tell};
 pub use texts::{MOST_OF_TEXT, ProfileTexts};

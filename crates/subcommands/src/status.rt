@@ -132,7 +132,7 @@ fn cause_name(cause: Cause) -> &'static [u8]
 }
 
 /// Writes pieces of a text one after the other.
-fn write_pieces<E: Outlet>(outlet: &mut E, pieces: &[&[u8]]) -> Result<(), Error>
+pub fn write_pieces<E: Outlet>(outlet: &mut E, pieces: &[&[u8]]) -> Result<(), Error>
     requires { IsFalse (E.failed outlet.old) }
     ensures { Writes (E.failed outlet.new) (E.written outlet.old) (E.written outlet.new) (concat (map (λ piece. piece.now) pieces.now)) }
 {

@@ -1,0 +1,112 @@
+//! The commands that write a text of a job: `list`, `pages` and `plain`.
+ghost use Rattle.std.specs.Prelude.{IfSome};
+ghost use Rattle.command_line.specs.Words.{NamesSome};
+
+use crate::words::Request;
+use clap::{Arg, ArgAction, ArgMatches, Command};
+use std::alloc::{AllocError, Global};
+
+const LIST_EXPLANATION: &str = "Output, a line for each item:
+  PLACE SPELLING           the number of bytes before the item, and its one spelling, in which
+                           each byte that shows nothing, and the backslash, is \\x and two digits
+  PLACE FAULT NUMBER NAME  the last line, where the bytes are wrong from there on
+
+Exit status:
+  0  the bytes are items to their end, or help was asked for
+  1  the bytes are wrong, as the last line tells
+  2  usage error
+  3  a read or a write failed, memory ran out, or no end after 2^40 reads";
+
+const PAGES_EXPLANATION: &str =
+    "Output, a line for each mark, and one for the end of each page; lengths and places are ticks of
+1/36576000000 inch, and places run right and down from the upper left corner of the page:
+  glyph CODE SET PITCH HEIGHT STYLE WEIGHT TYPEFACE Y LEFT TOP RIGHT BOTTOM
+  rect FILL ID LEFT TOP RIGHT BOTTOM
+  row RESOLUTION X Y HEX
+  line WIDTH X Y X Y
+  page N size=N orientation=N sides=N tray=N copies=N
+  FAIL at=N profile=N FINDING    the last line, where the job fails
+
+Exit status:
+  0  the job is printed to its end, or help was asked for
+  1  the job fails, as the last line tells
+  2  usage error, or the profile is refused
+  3  a read or a write failed, memory ran out, or no end after 2^40 reads";
+
+const PLAIN_EXPLANATION: &str =
+    "OUT is created once JOB is open; what it held before is lost. Jobs that differ in spelling alone give
+the same bytes.
+
+Output, where the bytes are wrong; OUT then has the items before that place:
+  FAIL at=N profile=0 FINDING
+
+Exit status:
+  0  all of the job was written, or help was asked for
+  1  the bytes are wrong
+  2  usage error
+  3  a read or a write failed, memory ran out, or no end after 2^40 reads";
+
+fn required<'a>(alloc: Global, name: &'a str, help: &'a str) -> Arg<'a> {
+    Arg::new(alloc, name)
+        .required(true)
+        .action(ArgAction::Set)
+        .help(help)
+}
+
+fn job<'a>(alloc: Global) -> Arg<'a> {
+    required(alloc, "JOB", "The path of the print job")
+}
+
+/// The words of the command `list`.
+pub fn list_command<'a>(alloc: Global) -> Result<Command<'a>, AllocError> {
+    Command::new(alloc, "list")
+        .about("Lists the items of a job: each command, control code and byte of text")
+        .after_help(LIST_EXPLANATION)
+        .arg(job(alloc))
+}
+
+/// The words of the command `pages`.
+pub fn pages_command<'a>(alloc: Global) -> Result<Command<'a>, AllocError> {
+    let profile = required(
+        alloc,
+        "PROFILE",
+        "The printer: the path of its profile, or @A, @B, @C or @D for a built-in sample",
+    );
+    Command::new(alloc, "pages")
+        .about("Writes what a job marks on its pages, from the first panel setting of a printer")
+        .after_help(PAGES_EXPLANATION)
+        .arg(job(alloc))?
+        .arg(profile)
+}
+
+/// The words of the command `plain`.
+pub fn plain_command<'a>(alloc: Global) -> Result<Command<'a>, AllocError> {
+    let out = required(alloc, "OUT", "The path of the file to write");
+    Command::new(alloc, "plain")
+        .about("Writes a job again, with each item in its one spelling")
+        .after_help(PLAIN_EXPLANATION)
+        .arg(job(alloc))?
+        .arg(out)
+}
+
+/// What the words ask for, where they name one of these commands.
+pub fn text_request<'a>(matches: &ArgMatches<'a>) -> Option<Request<'a>>
+    ensures { IfSome result NamesSome }
+{
+    if let Some(found) = matches.subcommand_matches("list") {
+        return Some(Request::List {
+            job: found.get_str("JOB")?,
+        });
+    }
+    if let Some(found) = matches.subcommand_matches("pages") {
+        return Some(Request::Pages {
+            job: found.get_str("JOB")?,
+            profile: found.get_str("PROFILE")?,
+        });
+    }
+    let found = matches.subcommand_matches("plain")?;
+    Some(Request::Plain {
+        job: found.get_str("JOB")?,
+        out: found.get_str("OUT")?,
+    })
+}

@@ -1,0 +1,86 @@
+-- Lemmas on what is left of a text of a job.
+use Rattle.std.proofs.Common.{◌≡◌, ◌≢◌, ◌⊎◌, inl, inr, ℕ, List, [], Option, None, Some, refl, sym, subst, append-nil}
+use Rattle.std.specs.Io.KnownBytes.{Consumes}
+use Rattle.pcl_items.specs.declared.item.Mode.TheVariants.{Pcl}
+use Rattle.pcl_items.specs.Grammar.{here}
+use Rattle.pcl_items.specs.Reading.{IsReading, Whole}
+use Rattle.device_profile.specs.Printer.{Printer}
+use Rattle.preflight.specs.declared.error.Error.{Error}
+use Rattle.preflight.specs.declared.error.Error.TheVariants.{Memory, Read, Write, Turns, NoProfile}
+use Rattle.preflight.specs.declared.outcome.Outcome.{Outcome}
+use Rattle.preflight.specs.declared.outcome.Outcome.TheVariants.{Done, Fail as FailsOf}
+use Rattle.preflight.specs.Due.{Telling, WritesFront}
+use Rattle.preflight.specs.Outlet.{Written}
+use Rattle.preflight.proofs.OutletLemmas.{Adds-none}
+use Rattle.subcommands.specs.declared.status.Status.{Status}
+use Rattle.subcommands.specs.declared.status.Status.TheVariants.{Pass, Fail, Help, Words, Profile, Stopped}
+use Rattle.subcommands.specs.JobTexts.{Reads, Stands, StandsInFront, LeavesAtStopBeside, LeavesLine, LeavesPages, LeavesPagesOf, LeavesTextAndLine}
+use Rattle.subcommands.proofs.LeavesLemmas.{Stays-none}
+
+nothing_spelled : IsReading [] (Whole [] 0)
+nothing_spelled = (Pcl, tt, (0, here), refl)
+
+Consumes-nothing : (a : Option (List ℕ)) → Consumes a a []
+Consumes-nothing None = tt
+Consumes-nothing (Some xs) = refl
+
+-- of a job of which nothing was read nothing need stand there
+WritesFront-none : (telling : Telling) (given : List (List ℕ)) (remaining : Option (List ℕ)) (a : Written) → WritesFront telling given given remaining remaining a a
+WritesFront-none telling given remaining a = record {
+  pieces = [];
+  given_is = sym (append-nil given);
+  consumed = Consumes-nothing remaining;
+  reading = Whole [] 0;
+  spelled = nothing_spelled;
+  front = ([], telling.text (Whole [] 0), refl, Adds-none a);
+}
+
+-- the job could not be opened, or nothing could be created
+pub stopped_at_read : (telling : Telling) (given given' : List (List ℕ)) (remaining remaining' : Option (List ℕ)) (old start : Written) → given' ≡ given → remaining' ≡ remaining →
+    LeavesAtStopBeside Read telling (record { before = given; after = given'; remaining = remaining; left = remaining' }) old old start start
+stopped_at_read telling given given' remaining remaining' old start e f =
+    subst (λ g. LeavesAtStopBeside Read telling (record { before = given; after = g; remaining = remaining; left = remaining' }) old old start start) (sym e)
+    (subst (λ r. LeavesAtStopBeside Read telling (record { before = given; after = given; remaining = remaining; left = r }) old old start start) (sym f)
+    (WritesFront-none telling given remaining old, Stays-none start))
+
+pub stopped_at_write : (telling : Telling) (given given' : List (List ℕ)) (remaining remaining' : Option (List ℕ)) (old new start : Written) → given' ≡ given → remaining' ≡ remaining → new ≡ old →
+    LeavesAtStopBeside Write telling (record { before = given; after = given'; remaining = remaining; left = remaining' }) old new start start
+stopped_at_write telling given given' remaining remaining' old new start e f k =
+    subst (λ w. LeavesAtStopBeside Write telling (record { before = given; after = given'; remaining = remaining; left = remaining' }) old w start start) (sym k)
+    (inl (stopped_at_read telling given given' remaining remaining' old start e f))
+
+-- work on the job stopped
+pub stopped_within : (error : Error) (telling : Telling) (job : Reads) (old new start : Written) → error ≢ NoProfile → StandsInFront telling job old new → LeavesAtStopBeside error telling job old new start start
+stopped_within Memory telling job old new start known front = inl (front, Stays-none start)
+stopped_within Read telling job old new start known front = (front, Stays-none start)
+stopped_within Write telling job old new start known front = inl (front, Stays-none start)
+stopped_within Turns telling job old new start known front = (front, Stays-none start)
+stopped_within NoProfile telling job old new start known front = absurd (known refl)
+
+-- the whole text stands there, and its outcome was told
+pub told : (outcome : Outcome) (status : Status) (telling : Telling) (job : Reads) (old new start end : Written) → Stands telling job old new outcome → LeavesLine outcome status start end → LeavesTextAndLine status telling job old new start end
+told Done Pass telling job old new start end stands line = (stands, line)
+told Done Fail telling job old new start end stands line = absurd line
+told Done Help telling job old new start end stands line = absurd line
+told Done Words telling job old new start end stands line = absurd line
+told Done (Profile number row cause) telling job old new start end stands line = absurd line
+told Done (Stopped error) telling job old new start end stands line = absurd line
+told (FailsOf place profile finding) Pass telling job old new start end stands line = absurd line
+told (FailsOf place profile finding) Fail telling job old new start end stands line = (place, profile, finding, stands, line)
+told (FailsOf place profile finding) Help telling job old new start end stands line = absurd line
+told (FailsOf place profile finding) Words telling job old new start end stands line = absurd line
+told (FailsOf place profile finding) (Profile number row cause) telling job old new start end stands line = absurd line
+told (FailsOf place profile finding) (Stopped Memory) telling job old new start end stands line = inr (place, profile, finding, stands, line)
+told (FailsOf place profile finding) (Stopped Read) telling job old new start end stands line = absurd line
+told (FailsOf place profile finding) (Stopped Write) telling job old new start end stands line = inr (place, profile, finding, stands, line)
+told (FailsOf place profile finding) (Stopped Turns) telling job old new start end stands line = absurd line
+told (FailsOf place profile finding) (Stopped NoProfile) telling job old new start end stands line = absurd line
+
+-- what was left for a printer was left where the job was read
+pub pages_left : (status : Status) (IsPrinter : Printer → Type 0) (job : Reads) (old new : Written) → LeavesPagesOf status IsPrinter job old new → LeavesPages status IsPrinter job old new
+pages_left Pass IsPrinter job old new left = left
+pages_left Fail IsPrinter job old new left = left
+pages_left Help IsPrinter job old new left = left
+pages_left Words IsPrinter job old new left = left
+pages_left (Profile number line cause) IsPrinter job old new left = absurd left.3
+pages_left (Stopped error) IsPrinter job old new left = inr left

@@ -1,0 +1,98 @@
+-- What the subcommands leave that write a text of a job.
+use Rattle.std.specs.Prelude.{◌≡◌, ◌≢◌, ◌⊎◌, ℕ, List, [], ◌∷◌, Option, ⊤}
+use Rattle.device_profile.specs.Printer.{Printer, first_panel}
+use Rattle.preflight.specs.declared.error.Error.{Error}
+use Rattle.preflight.specs.declared.error.Error.TheVariants.{Memory, Read, Write, Turns, NoProfile}
+use Rattle.preflight.specs.declared.outcome.Outcome.{Outcome}
+use Rattle.preflight.specs.declared.outcome.Outcome.TheVariants.{Done, Fail as FailsOf}
+use Rattle.preflight.specs.declared.verdict.Reason.{Reason}
+use Rattle.preflight.specs.declared.verdict.Verdict.TheVariants.{Fail as FailOf}
+use Rattle.preflight.specs.Due.{Telling, WritesDue, WritesFront, pages_telling}
+use Rattle.preflight.specs.Outlet.{Written, Adds, AddsFront, Stays}
+use Rattle.subcommands.specs.declared.status.Status.{Status}
+use Rattle.subcommands.specs.declared.status.Status.TheVariants.{Pass, Fail, Help, Words, Profile, Stopped}
+use Rattle.subcommands.specs.Fleet.{DescribeBy, Describes, IsRefused}
+use Rattle.subcommands.specs.Lines.{verdict_line}
+
+-- what a job is read from: what its reads gave before and after, and the bytes left before and after, where these are known
+pub record Reads : Type 0 where
+  pub before : List (List ℕ)
+  pub after : List (List ℕ)
+  pub remaining : Option (List ℕ)
+  pub left : Option (List ℕ)
+
+abbrev pub reads_by : List (List ℕ) → List (List ℕ) → Option (List ℕ) → Option (List ℕ) → Reads
+reads_by before after remaining left = record { before = before; after = after; remaining = remaining; left = left }
+
+-- the whole text of the job stands there, and this came of it
+abbrev pub Stands : Telling → Reads → Written → Written → Outcome → Type 0
+Stands telling job old new outcome = WritesDue telling job.before job.after job.remaining old new outcome
+
+-- a front stands there of the text of the bytes that were read, taken as a whole job
+abbrev pub StandsInFront : Telling → Reads → Written → Written → Type 0
+StandsInFront telling job old new = WritesFront telling job.before job.after job.remaining job.left old new
+
+-- the whole text of a job that fails stands there, and of the line of this failure the fact holds
+abbrev pub StandsUpToFailure : Telling → Reads → Written → Written → (List ℕ → Type 0) → Type 0
+StandsUpToFailure telling job old new P = (place : ℕ) × (profile : ℕ) × (finding : Reason) × Stands telling job old new (FailsOf place profile finding) × P (verdict_line (FailOf place profile finding))
+
+-- what a subcommand that ends by this status leaves of a text alone
+abbrev pub LeavesText : Status → Telling → Reads → Written → Written → Type 0
+LeavesText Pass telling job old new = Stands telling job old new Done
+LeavesText Fail telling job old new = (place : ℕ) × (profile : ℕ) × (finding : Reason) × Stands telling job old new (FailsOf place profile finding)
+LeavesText Help telling job old new = ⊥
+LeavesText Words telling job old new = ⊥
+LeavesText (Profile number line cause) telling job old new = ⊥
+LeavesText (Stopped error) telling job old new = (error ≢ NoProfile) × StandsInFront telling job old new
+
+-- What is left where work stopped, of a text and, apart from it, of the line of its failure: a front of the text and no line; or
+-- the whole text and of the line nothing or, where a write failed, a front.
+abbrev pub LeavesAtStopBeside : Error → Telling → Reads → Written → Written → Written → Written → Type 0
+LeavesAtStopBeside Memory telling job old new start end = (StandsInFront telling job old new × Stays start end) ⊎ StandsUpToFailure telling job old new (λ line. Stays start end)
+LeavesAtStopBeside Read telling job old new start end = StandsInFront telling job old new × Stays start end
+LeavesAtStopBeside Write telling job old new start end = (StandsInFront telling job old new × Stays start end) ⊎ StandsUpToFailure telling job old new (AddsFront start end)
+LeavesAtStopBeside Turns telling job old new start end = StandsInFront telling job old new × Stays start end
+LeavesAtStopBeside NoProfile telling job old new start end = ⊥
+
+-- what a subcommand that ends by this status leaves of a text between old and new, and of the line of its failure, where it
+-- has one, between start and end
+abbrev pub LeavesTextAndLine : Status → Telling → Reads → Written → Written → Written → Written → Type 0
+LeavesTextAndLine Pass telling job old new start end = Stands telling job old new Done × Stays start end
+LeavesTextAndLine Fail telling job old new start end = StandsUpToFailure telling job old new (Adds start end)
+LeavesTextAndLine Help telling job old new start end = ⊥
+LeavesTextAndLine Words telling job old new start end = ⊥
+LeavesTextAndLine (Profile number line cause) telling job old new start end = ⊥
+LeavesTextAndLine (Stopped error) telling job old new start end = LeavesAtStopBeside error telling job old new start end
+
+-- what is left of the line of an outcome, where the program then ends by this status
+abbrev pub LeavesLine : Outcome → Status → Written → Written → Type 0
+LeavesLine Done Pass start end = Stays start end
+LeavesLine (FailsOf place profile finding) Fail start end = Adds start end (verdict_line (FailOf place profile finding))
+LeavesLine (FailsOf place profile finding) (Stopped Memory) start end = Stays start end
+LeavesLine (FailsOf place profile finding) (Stopped Write) start end = AddsFront start end (verdict_line (FailOf place profile finding))
+LeavesLine _ _ start end = ⊥
+
+-- ---- pages
+
+-- the printer is the one of this text, where that is known, and of the text that was read
+abbrev pub IsNamed : Option (List ℕ) → List (List ℕ) → List (List ℕ) → Printer → Type 0
+IsNamed text before after printer = Describes text printer × DescribeBy before after (printer ∷ [])
+
+-- nothing was read of the job, and nothing written
+abbrev pub IsUntouched : Reads → Written → Written → Type 0
+IsUntouched job old new = (job.after ≡ job.before) × Stays old new
+
+-- what `pages` leaves for a printer with this fact: the pages from the first panel of it, and behind them the line of the failure
+abbrev pub LeavesPagesOf : Status → (Printer → Type 0) → Reads → Written → Written → Type 0
+LeavesPagesOf status IsPrinter job old new = (printer : Printer) × IsPrinter printer × (behind : Written) × LeavesTextAndLine status (pages_telling printer (first_panel printer)) job old behind behind new
+
+-- what `pages` leaves on standard output where it ends by this status
+abbrev pub LeavesPages : Status → (Printer → Type 0) → Reads → Written → Written → Type 0
+LeavesPages (Profile number line cause) IsPrinter job old new = IsUntouched job old new
+LeavesPages (Stopped error) IsPrinter job old new = IsUntouched job old new ⊎ LeavesPagesOf (Stopped error) IsPrinter job old new
+LeavesPages status IsPrinter job old new = LeavesPagesOf status IsPrinter job old new
+
+-- where the profile is refused, it is the first one, and that is what is wrong with it
+abbrev pub RefusesOne : Option (List ℕ) → Status → Type 0
+RefusesOne text (Profile number line cause) = (number ≡ 1) × IsRefused line cause text
+RefusesOne text _ = ⊤

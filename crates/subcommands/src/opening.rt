@@ -1,0 +1,51 @@
+//! Sources that are opened, and outlets that are created, apart from what is read and written.
+ghost use Rattle.std.specs.Prelude.{◌≡◌, IsFalse, OnOk, is_err};
+
+use preflight::{Outlet, Source, Watched};
+use std::io;
+use std::io::{Read, Write};
+
+/// A source that can be opened before its first read.
+pub trait Open: Source {
+    // How it was before it was opened, and how it is behind that.
+    ghost opens: { Self → Self → Type 0 };
+
+    /// Opens the source, of which nothing is read yet.
+    fn open(&mut self) -> io::Result<()>
+        requires { IsFalse (Self.failed self.old) }
+        ensures opened { OnOk result (opens self.old self.new) }
+        ensures remaining { Self.remaining self.new ≡ Self.remaining self.old }
+        ensures given { Self.given self.new ≡ Self.given self.old }
+        ensures status { Self.failed self.new ≡ is_err result };
+}
+
+/// An outlet that can be created before its first write.
+pub trait Create: Outlet {
+    // How it was before it was created, and how it is behind that.
+    ghost creates: { Self → Self → Type 0 };
+
+    /// Creates the outlet, to which nothing is written yet.
+    fn create(&mut self) -> io::Result<()>
+        requires { IsFalse (Self.failed self.old) }
+        ensures created { OnOk result (creates self.old self.new) }
+        ensures written { Self.written self.new ≡ Self.written self.old }
+        ensures status { Self.failed self.new ≡ is_err result };
+}
+
+impl<T: Read> Open for Watched<T> {
+    ghost opens = { λ old new. new ≡ old };
+
+    /// What is watched is open from the start.
+    fn open(&mut self) -> io::Result<()> {
+        Ok(())
+    }
+}
+
+impl<T: Write> Create for Watched<T> {
+    ghost creates = { λ old new. new ≡ old };
+
+    /// What is watched is there from the start.
+    fn create(&mut self) -> io::Result<()> {
+        Ok(())
+    }
+}
