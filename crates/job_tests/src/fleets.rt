@@ -1,7 +1,7 @@
 //! The check of jobs for several printers.
 
 use crate::printers::Printer;
-use crate::printers::Printer::{B, EightLines, Moved, Narrow, OtherPanel};
+use crate::printers::Printer::{B, EightLines, Moved, Narrow, OtherPanel, OtherTray};
 use crate::rows::Expected::{Differs, Fault, Found, FoundOn, Pass};
 use crate::rows::{Expected, PAGE_LENGTH, check_rows};
 use page_env::Finding::{EmptyRectangle, NotPrintable, OffPage};
@@ -88,6 +88,11 @@ const ROWS: &[(&[Printer], &[u8], Expected)] = &[
         b"\x1bE\x1b&l3X\x1b&l2S\x1b&l2H\x1bE\x1bE",
         Pass(0, 0),
     ),
+    // Pages that another item closes, from another tray.
+    (&[B, OtherTray], b"\x1bEA\x0c", Differs(3, 2)),
+    (&[B, OtherTray], b"\x1bEA\x1bE", Differs(3, 2)),
+    (&[B, OtherTray], b"\x1bEA", Differs(3, 2)),
+    (&[B, OtherTray], b"\x1bE", Pass(0, 0)),
 ];
 
 #[test]

@@ -3,8 +3,9 @@
 ghost use Rattle.std.specs.Prelude.{◌≤◌, length};
 
 use crate::items::{Last, read_bytes, read_on, read_whole};
+use crate::line_readings::{FRONTS_OF_LINES, LINES};
 use pcl_items::{
-    Cause, Command, DataCommand, Group, Handover, Item, LexFault, Lexed, Lexer, Motion, Name,
+    Cause, Command, DataCommand, Group, Handover, Item, LexFault, Lexed, Lexer, Line, Motion, Name,
     Number, OwnedItem, Place, Setting, Sign, SimpleItem,
 };
 use refusing::Refusing;
@@ -14,7 +15,7 @@ use std::test::Fail;
 
 /// An item of a row.
 #[derive(Clone, Copy)]
-enum Wanted {
+pub enum Wanted {
     CarriageReturn,
     LineFeed,
     FormFeed,
@@ -39,6 +40,8 @@ enum Wanted {
     WithoutPlace(Motion),
     /// The same with a place in plotter units.
     ToPlace(Motion, i32, i32),
+    Exit,
+    Line(Line<'static>),
 }
 
 impl Wanted {
@@ -62,6 +65,8 @@ impl Wanted {
             (Wanted::Data(bytes), Item::WithData(DataCommand::TransparentText, data)) => {
                 data.bytes == bytes
             }
+            (Wanted::Exit, Item::Simple(SimpleItem::ExitLanguage)) => true,
+            (Wanted::Line(line), Item::PjlLine(spelled)) => spelled.line == line,
             (wanted, Item::Simple(item)) => wanted.is_of_frame(item),
             _ => false,
         }
@@ -97,7 +102,7 @@ const PLAIN: Sign = Sign::Absent;
 const LETTER: Wanted = Wanted::Sent(Command::PageSize, PLAIN, 2);
 
 /// A job, its items with their places, and the fault behind them, if there is one.
-type Reading = (
+pub type Reading = (
     &'static [u8],
     &'static [(Place, Wanted)],
     Option<(Place, Cause)>,
@@ -527,7 +532,7 @@ fn check_job(
 
 #[test]
 fn jobs_are_read_whole_and_byte_by_byte(rt: HostRuntime) -> Result<(), Fail> {
-    for (job, wanted, fault) in JOBS.iter().chain(FRAMES) {
+    for (job, wanted, fault) in JOBS.iter().chain(FRAMES).chain(LINES) {
         assert!(rt; job.len() <= 4096);
         let last = match *fault {
             Some((place, cause)) => Err(LexFault { place, cause }),
@@ -587,7 +592,7 @@ fn check_cuts(
 
 #[test]
 fn jobs_are_read_cut_at_each_place(rt: HostRuntime) -> Result<(), Fail> {
-    for (job, wanted, fault) in JOBS.iter().chain(FRAMES) {
+    for (job, wanted, fault) in JOBS.iter().chain(FRAMES).chain(LINES) {
         assert!(rt; job.len() <= 4096);
         let last = match *fault {
             Some((place, cause)) => Err(LexFault { place, cause }),
@@ -598,8 +603,11 @@ fn jobs_are_read_cut_at_each_place(rt: HostRuntime) -> Result<(), Fail> {
     Ok(())
 }
 
-/// Fronts of jobs: how many items they decide, and which fault. Each begins with the item that enters a frame.
-const FRONTS: &[(&[u8], usize, Option<(Place, Cause)>)] = &[
+/// A front of a job, how many items it decides, and which fault.
+pub type Front = (&'static [u8], usize, Option<(Place, Cause)>);
+
+/// Fronts of jobs that begin with the item that enters a frame.
+const FRONTS: &[Front] = &[
     // Letters are decided by what ends the command, and not by white space.
     (b"\x1b%0BIN", 1, None),
     (b"\x1b%0BIN ", 1, None),
@@ -673,8 +681,8 @@ const FRONTS: &[(&[u8], usize, Option<(Place, Cause)>)] = &[
 ];
 
 #[test]
-fn fronts_of_frames_decide(rt: HostRuntime) -> Result<(), Fail> {
-    for (front, count, fault) in FRONTS {
+fn fronts_decide(rt: HostRuntime) -> Result<(), Fail> {
+    for (front, count, fault) in FRONTS.iter().chain(FRONTS_OF_LINES) {
         assert!(rt; front.len() <= 4096);
         let mut lexer = Lexer::new(rt.alloc());
         lexer.feed(front)?;

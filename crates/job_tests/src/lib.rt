@@ -6,9 +6,17 @@ mod bodies;
 #[cfg(test)]
 mod checks;
 #[cfg(test)]
+mod commands;
+#[cfg(test)]
+mod cut_texts;
+#[cfg(test)]
 mod events;
 #[cfg(test)]
+mod explanations;
+#[cfg(test)]
 mod fakes;
+#[cfg(test)]
+mod faults;
 #[cfg(test)]
 mod file_texts;
 #[cfg(test)]
@@ -20,6 +28,8 @@ mod frames;
 #[cfg(test)]
 mod items;
 #[cfg(test)]
+mod job_language;
+#[cfg(test)]
 mod jobs;
 #[cfg(test)]
 mod kept_texts;
@@ -28,7 +38,11 @@ mod lengths;
 #[cfg(test)]
 mod lexer;
 #[cfg(test)]
+mod line_readings;
+#[cfg(test)]
 mod lines;
+#[cfg(test)]
+mod listings;
 #[cfg(test)]
 mod machine;
 #[cfg(test)]
@@ -40,7 +54,11 @@ mod overlays;
 #[cfg(test)]
 mod page;
 #[cfg(test)]
+mod page_texts;
+#[cfg(test)]
 mod places;
+#[cfg(test)]
+mod plain_jobs;
 #[cfg(test)]
 mod printers;
 #[cfg(test)]
@@ -56,6 +74,8 @@ mod rows;
 #[cfg(test)]
 mod runs;
 #[cfg(test)]
+mod sessions;
+#[cfg(test)]
 mod settings;
 #[cfg(test)]
 mod sources;
@@ -65,5 +85,7 @@ mod spelling;
 mod stores;
 #[cfg(test)]
 mod text;
+#[cfg(test)]
+mod texts;
 #[cfg(test)]
 mod words;

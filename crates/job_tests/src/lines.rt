@@ -15,6 +15,7 @@ const REASONS: &[(Reason, &[u8])] = &[
         Reason::Fault(Cause::Syntax),
         b"FAIL at=24 profile=1 1 Syntax\n",
     ),
+    (Reason::Fault(Cause::Pjl), b"FAIL at=24 profile=1 5 Pjl\n"),
     (
         Reason::Fault(Cause::EndInFrame),
         b"FAIL at=24 profile=1 6 EndInFrame\n",

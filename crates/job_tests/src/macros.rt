@@ -229,6 +229,9 @@ const RUNS: &[Row] = &[
         b"\x1bE\x1b&f0X\x1b*t300R\x1b*r0F\x1b&f1X\x1b&f2X\x1b*r1A\x1b*b1W\x80",
         Pass(1, 1),
     ),
+    // A called body leaves the stack as it made it, and may set the copies.
+    (b"\x1bE\x1b&f0X\x1b&f0S\x1b&f1X\x1b&f3X\x1b&f1S", Pass(0, 0)),
+    (b"\x1bE\x1b&f0X\x1b&l3X\x1b&f1X\x1b&f3X", Pass(0, 0)),
 ];
 
 /// What may not stand in a macro, and what may not in one that is called, nor below it.
@@ -355,6 +358,21 @@ const MEMORY: &[Stored] = &[
         Pass(0, 0),
     ),
     (B, b"\x1bE\x1b&f1y0X", 100, b"\x1b&f1X", Pass(0, 0)),
+    // A sign is kept, and counts.
+    (
+        B,
+        b"\x1bE\x1b&f1y0X\x1b&f9X\x1b&p89X",
+        89,
+        b"\x1b&f1X",
+        Pass(0, 0),
+    ),
+    (
+        B,
+        b"\x1bE\x1b&f1y0X\x1b&f+9X\x1b&p89X",
+        89,
+        b"\x1b&f1X",
+        Found(15, MacroMemory),
+    ),
     (B, b"\x1bE\x1b&f1y0X", 100, b"A", Found(109, MacroMemory)),
     (B, b"\x1bE\x1b&f1y0X", 100, b"\r", Found(109, MacroMemory)),
     // A sign is a part of a spelling; leading zeros and the zeros of decimals are not.
@@ -549,6 +567,11 @@ const FIELDS: &[PrinterRow] = &[
     ),
     // What is stored reads nothing.
     (A, b"\x1bE\x1b&f0X\x0c\x1b&f1X", Pass(0, 0)),
+    (
+        C,
+        b"\x1bE\x1b&f1y0X\x1b&l0O\x1b&f1X\x1b&f1y2X\x1b&f0S",
+        Found(26, Unset(Field::Vmi)),
+    ),
 ];
 
 #[test]

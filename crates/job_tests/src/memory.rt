@@ -31,6 +31,10 @@ const FRAME: &[u8] = b"\x1bE\x1b%0Bin;sp1;pu0,0pd100,100,0,200\x1b%0A";
 /// A macro of one line in a frame, which is executed and then runs as an overlay.
 const MACRO_OF_FRAME: &[u8] = b"\x1bE\x1b&f0X\x1b%0BIN;SP1;PD;\x1b%0A\x1b&f1X\x1b&f2x4X\x0c";
 
+/// A character between lines of the job language.
+pub const WRAPPED: &[u8] =
+    b"\x1b%-12345X@PJL JOB NAME=\"x\"\n@PJL ENTER LANGUAGE=PCL\n\x1bEA\x1b%-12345X@PJL EOJ\n\x1b%-12345X";
+
 /// Printers, a job, what is expected of its check, and how many requests for memory the check makes at least: for the lexer's
 /// window, with several printers for the machines of the others and for the record of events, and on each printer with a macro
 /// for its entry and its items.
@@ -45,6 +49,8 @@ const ROWS: &[(&[Printer], &[u8], Expected, u64)] = &[
     (&[Printer::B], FRAME, Pass(1, 3), 1),
     (&[Printer::B, Printer::B], FRAME, Pass(1, 3), 3),
     (&[Printer::B, Printer::B], MACRO_OF_FRAME, Pass(1, 2), 7),
+    (&[Printer::B], WRAPPED, Pass(1, 1), 1),
+    (&[Printer::B, Printer::B], WRAPPED, Pass(1, 1), 3),
 ];
 
 /// How many requests for memory the check makes, each of which was refused in turn.

@@ -28,6 +28,8 @@ pub enum Printer {
     SomeCopies,
     /// Sample B with two copies of two sides from tray 2.
     OtherPanel,
+    /// Sample B with paper from tray 2.
+    OtherTray,
     /// Sample B without memory for macros.
     NoMemory,
     /// Sample B with the most memory for macros.
@@ -96,7 +98,7 @@ fn sample_a_with(alloc: Global, depth: &[u8]) -> Result<Profile, Fail> {
 const DEPTH_LINE: usize = 12;
 
 /// The profile of a printer.
-fn profile_of(alloc: Global, printer: Printer) -> Result<Profile, Fail> {
+pub fn profile_of(alloc: Global, printer: Printer) -> Result<Profile, Fail> {
     let (panel, page): (&[u8], &[u8]) = match printer {
         Printer::A => return Ok(Sample::A.profile(alloc)?),
         Printer::B => return Ok(Sample::B.profile(alloc)?),
@@ -108,6 +110,7 @@ fn profile_of(alloc: Global, printer: Printer) -> Result<Profile, Fail> {
         Printer::OneSided => (b"vmi 8\ncopies 1\nsides 0\ntray 1\nduplex 0\n", PAGE),
         Printer::SomeCopies => (b"vmi 8\ncopies 1 2\nsides 0\ntray 1\nduplex 1\n", PAGE),
         Printer::OtherPanel => (b"vmi 8\ncopies 2\nsides 1\ntray 2\nduplex 1\n", PAGE),
+        Printer::OtherTray => (b"vmi 8\ncopies 1\nsides 0\ntray 2\nduplex 1\n", PAGE),
         Printer::NoMemory => return printer_with(alloc, b"depth 2\nmemory 0\n"),
         Printer::MostMemory => return printer_with(alloc, b"depth 2\nmemory 1048576\n"),
         Printer::NoLevels => return printer_with(alloc, b"depth 0\nmemory 100\n"),

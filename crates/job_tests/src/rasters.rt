@@ -81,6 +81,16 @@ const ROWS_FOR_B: &[Row] = &[
         b"\x1bE\x1b&l335C\x1b&l1E\x1b&l335C\x1b*r1A\x1b*b0Y",
         Found(26, OffPage),
     ),
+    // Text, a control code, transparent data and a rectangle end a raster.
+    (
+        b"\x1bE\x1b*r1A\x1b*c1A\x1b*b0W",
+        Found(12, RasterNotStarted),
+    ),
+    (
+        b"\x1bE\x1b*r1A\x1b&p0X\x1b*b0W",
+        Found(12, RasterNotStarted),
+    ),
+    (b"\x1bE\x1b*r1A\r\x1b*b0W", Found(8, RasterNotStarted)),
 ];
 
 /// Width and height, and what is locked while a raster is started.

@@ -1,13 +1,13 @@
 //! Rows of jobs with the verdicts on them.
 
-ghost use Rattle.std.specs.Prelude.{◌≤◌, length};
+ghost use Rattle.std.specs.Prelude.{◌≤◌, ◌<◌, length};
 
 use crate::fakes::{CutSource, FailingSource};
 use crate::printers::{Printer, fleet_of};
 use device_profile::Profile;
 use page_env::Finding;
 use pcl_items::{Cause, Group, Name};
-use preflight::{Error, Reason, Verdict, Watched, check_job};
+use preflight::{Error, Reason, Session, Verdict, Watched, check_job};
 use std::alloc::{AllocError, Global};
 use std::process::Abort;
 use std::test::Fail;
@@ -54,7 +54,8 @@ impl Expected {
     }
 }
 
-/// Checks a job whole, byte by byte, and in two pieces that are cut at each place.
+/// Checks a job whole, byte by byte, and in two pieces that are cut at each place; and feeds a session of it in pieces of each
+/// length, and in two pieces that are cut at each place.
 pub fn check_in_pieces(
     rt: &impl Abort,
     alloc: Global,
@@ -71,8 +72,15 @@ pub fn check_in_pieces(
         "{job:?} whole and byte by byte"
     );
     for place in 0..job.len() {
-        let answer = check_cut(alloc, fleet, job, place);
-        assert_eq!(rt; answer, verdict, "{job:?} cut at {place}");
+        let answers = (
+            check_cut(alloc, fleet, job, place),
+            feed_cut(alloc, fleet, job, place),
+        );
+        assert_eq!(rt; answers, (verdict, verdict), "{job:?} cut at {place}");
+    }
+    for size in 1..=job.len() {
+        let answer = feed_pieces(alloc, fleet, job, size);
+        assert_eq!(rt; answer, verdict, "{job:?} in pieces of {size} bytes");
     }
 }
 
@@ -81,6 +89,53 @@ fn check_cut(alloc: Global, fleet: &[Profile], job: &[u8], place: usize) -> Resu
 {
     let (first, second) = job.split_at(place);
     check_job(alloc, &mut CutSource::new(first, second), fleet)
+}
+
+/// The verdict of a session that is fed two pieces.
+fn feed_cut(alloc: Global, fleet: &[Profile], job: &[u8], place: usize) -> Result<Verdict, Error>
+    requires { place ≤ length job.now }
+{
+    let (first, second) = job.split_at(place);
+    let mut session = Session::new(alloc, fleet)?;
+    session.feed(first)?;
+    session.feed(second)?;
+    session.end()
+}
+
+/// The verdict of a session that is fed pieces of so many bytes.
+pub fn feed_pieces(
+    alloc: Global,
+    fleet: &[Profile],
+    job: &[u8],
+    size: usize,
+) -> Result<Verdict, Error>
+    requires { 0 < size }
+{
+    let mut session = Session::new(alloc, fleet)?;
+    for piece in job.chunks(size) {
+        session.feed(piece)?;
+    }
+    session.end()
+}
+
+/// Checks a long job whole and byte by byte, and feeds a session of it in pieces of these lengths.
+pub fn check_in_sizes(
+    rt: &impl Abort,
+    alloc: Global,
+    fleet: &[Profile],
+    job: &[u8],
+    expected: Expected,
+    sizes: &[usize],
+) {
+    let verdict = Ok(expected.verdict());
+    let whole = check_job(alloc, &mut Watched::new(job), fleet);
+    let bytes = check_job(alloc, &mut FailingSource::new(job, u64::MAX), fleet);
+    assert_eq!(rt; (whole, bytes), (verdict, verdict));
+    for size in sizes {
+        assert!(rt; 0 < *size);
+        let answer = feed_pieces(alloc, fleet, job, *size);
+        assert_eq!(rt; answer, verdict, "pieces of {size} bytes");
+    }
 }
 
 /// Checks jobs for a fleet.

@@ -189,6 +189,8 @@ const CLOSINGS: &[Row] = &[
         b"\x1bE\x1b*c30a30b0P\r\n\x1b=\x1b9\x1b&a3l5m4c4r400h40V\x1b&f0s1S\x1b*c0P",
         Pass(1, 2),
     ),
+    // The source 0 closes a marked page, too.
+    (b"\x1bEA\x1b&l0HA", Pass(2, 2)),
 ];
 
 /// For a printer whose panel chooses the copies.

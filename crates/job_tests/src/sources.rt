@@ -3,6 +3,7 @@
 use crate::fakes::{FailingOutlet, FailingSource};
 use crate::fleets::{RECTANGLE, TWO_PAGES};
 use crate::jobs::PAGE;
+use crate::memory::WRAPPED;
 use crate::printers::{Printer, fleet_of};
 use crate::rows::Expected;
 use crate::rows::Expected::{Differs, Found, Pass};
@@ -23,6 +24,7 @@ const READS: &[(&[Printer], &[u8], u64, Expected)] = &[
         TWO_PAGES.len() as u64 + 1,
         Pass(2, 2),
     ),
+    (&[Printer::B], WRAPPED, WRAPPED.len() as u64 + 1, Pass(1, 1)),
     // Nothing is read after the byte that decides a Fail.
     (
         &[Printer::A],

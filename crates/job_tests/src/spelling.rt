@@ -2,7 +2,7 @@
 
 use crate::items::items_of;
 use crate::rows::job_of;
-use pcl_items::{Item, Mode, item_at, spell, spelled_len};
+use pcl_items::{Item, Mode, OwnedItem, item_at, spell, spelled_len};
 use refusing::Refusing;
 use std::alloc::Global;
 use std::process::Abort;
@@ -118,11 +118,13 @@ const OF_FRAMES: &[Spelled] = &[
     (b"PR-8388607.0 8388607", b"PR-8388607,8388607;"),
 ];
 
-/// A job that begins with an item, the spelling of the item, and the mode behind it in mode PCL and in a frame.
+/// A job that begins with an item, the spelling of the item, and the mode behind it in each mode.
 type Switching = (&'static [u8], &'static [u8], Admitted);
 
-/// Items that end the mode of a frame, or begin it.
+/// Items that lead from a mode to another, and one that begins lines in mode PJL.
 const SWITCHES: &[Switching] = &[
+    (b"\x1b%-12345X", b"\x1b%-12345X", TO_PJL),
+    (b"@", b"@", AT_SIGN),
     (b"\x1bE", b"\x1bE", TO_PCL),
     (b"\x1b%A", b"\x1b%0A", TO_PCL),
     (b"\x1b%-0A", b"\x1b%0A", TO_PCL),
@@ -132,16 +134,20 @@ const SWITCHES: &[Switching] = &[
     (b"\x1b%+1B\x1b%0A", b"\x1b%1B", TO_FRAME),
 ];
 
-/// The mode behind an item in mode PCL, and in a frame, where these admit it.
-type Admitted = (Option<Mode>, Option<Mode>);
+/// The mode behind an item in mode PCL, in a frame and in mode PJL, where these admit it.
+type Admitted = (Option<Mode>, Option<Mode>, Option<Mode>);
 
-const IN_PCL: Admitted = (Some(Mode::Pcl), None);
+const IN_PCL: Admitted = (Some(Mode::Pcl), None, Some(Mode::Pcl));
 
-const IN_FRAME: Admitted = (None, Some(Mode::Frame));
+const IN_FRAME: Admitted = (None, Some(Mode::Frame), None);
 
-const TO_PCL: Admitted = (Some(Mode::Pcl), Some(Mode::Pcl));
+const TO_PCL: Admitted = (Some(Mode::Pcl), Some(Mode::Pcl), Some(Mode::Pcl));
 
-const TO_FRAME: Admitted = (Some(Mode::Frame), None);
+const TO_FRAME: Admitted = (Some(Mode::Frame), None, Some(Mode::Frame));
+
+const TO_PJL: Admitted = (Some(Mode::Pjl), Some(Mode::Pjl), Some(Mode::Pjl));
+
+const AT_SIGN: Admitted = (Some(Mode::Pcl), None, None);
 
 /// Checks how an item is spelled, which modes admit it, and that these read it from its spelling between other bytes.
 fn check_item(
@@ -149,7 +155,7 @@ fn check_item(
     alloc: Global,
     item: &Item<'_>,
     canonical: &[u8],
-    (in_pcl, in_frame): Admitted,
+    (in_pcl, in_frame, in_pjl): Admitted,
 ) -> Result<(), Fail> {
     let mut text = Vec::new(alloc);
     spell(item, &mut text)?;
@@ -160,7 +166,12 @@ fn check_item(
         (&twice, canonical.len() as u64)
     );
     let placed = job_of(alloc, b"\x1b", 1, canonical, b"7E")?;
-    for (mode, admitted) in [(Mode::Pcl, in_pcl), (Mode::Frame, in_frame)] {
+    let admissions = [
+        (Mode::Pcl, in_pcl),
+        (Mode::Frame, in_frame),
+        (Mode::Pjl, in_pjl),
+    ];
+    for (mode, admitted) in admissions {
         assert_eq!(rt; item.follows(mode), admitted, "{canonical:?}");
         let Some(behind) = admitted else {
             continue;
@@ -206,6 +217,65 @@ fn items_of_frames_are_spelled_and_read_again(rt: HostRuntime) -> Result<(), Fai
             return Ok(());
         };
         check_item(&rt, rt.alloc(), &item.as_item(), canonical, IN_FRAME)?;
+    }
+    Ok(())
+}
+
+/// Lines behind the universal exit, their spelling, and the mode behind them.
+const LINES: &[(&[u8], &[u8], Mode)] = &[
+    (b"@PJL\n", b"@PJL\n", Mode::Pjl),
+    (b"@PJL \t\r\n", b"@PJL\n", Mode::Pjl),
+    (b"@PJL comment\n", b"@PJL COMMENT\n", Mode::Pjl),
+    (b"@PJL\tComment \t\r\n", b"@PJL COMMENT\n", Mode::Pjl),
+    (
+        b"@PJL Comment  a  b \r\n",
+        b"@PJL COMMENT a  b\n",
+        Mode::Pjl,
+    ),
+    (
+        b"@PJL COMMENT \x1bE\0\xff\"\n",
+        b"@PJL COMMENT \x1bE\0\xff\"\n",
+        Mode::Pjl,
+    ),
+    (b"@PJL job\n", b"@PJL JOB\n", Mode::Pjl),
+    (
+        b"@PJL  job name = \"x\"   Display=\"y\" \r\n",
+        b"@PJL JOB name = \"x\"   Display=\"y\"\n",
+        Mode::Pjl,
+    ),
+    (b"@PJL EOJ \n", b"@PJL EOJ\n", Mode::Pjl),
+    (
+        b"@PJL eoj  Name=\"x\" \n",
+        b"@PJL EOJ Name=\"x\"\n",
+        Mode::Pjl,
+    ),
+    (
+        b"@PJL enter\tlanguage = pcl\n",
+        b"@PJL ENTER LANGUAGE=PCL\n",
+        Mode::Pcl,
+    ),
+];
+
+#[test]
+fn lines_are_spelled_and_read_again(rt: HostRuntime) -> Result<(), Fail> {
+    for (sent, canonical, behind) in LINES {
+        let job = job_of(rt.alloc(), b"\x1b%-12345X", 1, sent, b"")?;
+        let items = items_of(&rt, rt.alloc(), &job)?;
+        let [_, (_, item)] = items.as_slice() else {
+            assert!(rt; false, "not one line: {sent:?}");
+            return Ok(());
+        };
+        let item = item.as_item();
+        if let Item::PjlLine(spelled) = item {
+            assert_eq!(rt; spelled.line.mode_behind(), *behind, "{sent:?}");
+        }
+        check_item(
+            &rt,
+            rt.alloc(),
+            &item,
+            canonical,
+            (None, None, Some(*behind)),
+        )?;
     }
     Ok(())
 }
@@ -275,6 +345,12 @@ const NOTHING: &[&[u8]] = &[
     b"\x1b%2A",
     b"\x1b%0X",
     b"\x1b%0",
+    // Other spellings of the universal exit.
+    b"\x1b%-12345",
+    b"\x1b%-12345x",
+    b"\x1b%-12345.0X",
+    b"\x1b%-012345X",
+    b"\x1b%12345X",
     // Data with another count, and data that are cut off.
     b"\x1b*b03Wabc",
     b"\x1b*b+3Wabc",
@@ -336,7 +412,10 @@ const NOTHING_IN_FRAMES: &[&[u8]] = &[
     b"PA1,2.0;",
     b"PA8388608,0;",
     b"PU 1,2;",
-    // Items of mode PCL, and other spellings of what leaves a frame.
+    // Lines, items of mode PCL, and other spellings of what leaves a frame.
+    b"@PJL\n",
+    b"\x1b%-12345",
+    b"\x1b%-12345.0X",
     b"\x1b9",
     b"\x1b&l2A",
     b"\x1b%0B",
@@ -349,8 +428,44 @@ const NOTHING_IN_FRAMES: &[&[u8]] = &[
     b"\x1b",
 ];
 
+/// Bytes with which no spelling begins in mode PJL.
+const NOTHING_IN_PJL: &[&[u8]] = &[
+    b"",
+    b"\t",
+    b"\x1b",
+    b"\x1b&l2a0O",
+    b"\x1b%-12345",
+    b"@",
+    b"@PJL",
+    b"@pjl\n",
+    b"@XYZ\n",
+    b"@PJL SET COPIES=2\n",
+    // Other spellings of lines.
+    b"@PJL \n",
+    b"@PJL\r\n",
+    b"@PJL\tEOJ\n",
+    b"@PJL  EOJ\n",
+    b"@PJL eoj\n",
+    b"@PJL EOJ \n",
+    b"@PJL EOJ  NAME=\"x\"\n",
+    b"@PJL EOJ\tNAME=\"x\"\n",
+    b"@PJL EOJ NAME=\"x\" \n",
+    b"@PJL EOJ NAME=\"x\"\r\n",
+    b"@PJL COMMENT \n",
+    b"@PJL COMMENT a\r\n",
+    b"@PJL Job NAME=\"x\"\n",
+    b"@PJL ENTER LANGUAGE = PCL\n",
+    b"@PJL ENTER LANGUAGE=pcl\n",
+    b"@PJL ENTER LANGUAGE=PCL\r\n",
+    b"@PJL ENTER LANGUAGE=PCL",
+];
+
 #[test]
 fn nothing_stands_there(rt: HostRuntime) {
+    for bytes in NOTHING_IN_PJL {
+        assert_eq!(rt; item_at(bytes, 0, Mode::Pjl), None, "{bytes:?}");
+        assert_eq!(rt; item_at(bytes, bytes.len(), Mode::Pjl), None, "{bytes:?}");
+    }
     for bytes in NOTHING {
         assert_eq!(rt; item_at(bytes, 0, Mode::Pcl), None, "{bytes:?}");
         assert_eq!(rt; item_at(bytes, bytes.len(), Mode::Pcl), None, "{bytes:?}");
@@ -370,7 +485,7 @@ fn a_refused_spelling_leaves_the_bytes(rt: HostRuntime) -> Result<(), Fail> {
     let items = items_of(
         &rt,
         rt.alloc(),
-        b"\x1b&p40X0123456789012345678901234567890123456789",
+        b"\x1b&p40X0123456789012345678901234567890123456789\x1b%-12345X@PJL COMMENT longer than the room\n",
     )?;
     for (_, item) in &items {
         let heap = Refusing::new(rt.alloc(), 1);
@@ -378,6 +493,21 @@ fn a_refused_spelling_leaves_the_bytes(rt: HostRuntime) -> Result<(), Fail> {
         bytes.push(b'A')?;
         let is_refused = spell(&item.as_item(), &mut bytes).is_err();
         assert!(rt; is_refused && bytes.as_slice() == b"A".as_slice());
+    }
+    Ok(())
+}
+
+#[test]
+fn a_copy_of_a_line_is_refused(rt: HostRuntime) -> Result<(), Fail> {
+    let items = items_of(
+        &rt,
+        rt.alloc(),
+        b"\x1b%-12345X@PJL\n@PJL COMMENT a\n@PJL EOJ NAME=\"x\"\n",
+    )?;
+    for ((_, item), has_text) in items.iter().zip([false, false, true, true]) {
+        let heap = Refusing::new(rt.alloc(), 0);
+        let is_refused = OwnedItem::copy_of(&heap, &item.as_item()).is_err();
+        assert_eq!(rt; is_refused, has_text);
     }
     Ok(())
 }

@@ -85,6 +85,7 @@ const JOBS_FOR_B: &[Row] = &[
         b"\x1b(s1X",
         Fault(0, NotInProfile(Name::Command(Group::Font, b'X'))),
     ),
+    (b"\x1b(-0U", Pass(0, 0)),
 ];
 
 /// The panel chooses the spacing of lines and the font.
@@ -105,6 +106,11 @@ const JOBS_FOR_C: &[Row] = &[
     (b"\x1bE\x1b&l8C\x1b&k12H ", Pass(0, 0)),
     (b"\x1bE\x1b&l8C\x1b&k12H\x1b&p1X ", Found(13, UNSET_FONT)),
     (b"\x1bE\x1b&a1L", Found(2, UNSET_FONT)),
+    // Everything that the panel has, chosen by the job.
+    (
+        b"\x1bE\x1b&l2A\x1b&l0O\x1b&l1X\x1b&l0S\x1b&l1H\x1b&l6C\x1b(10U\x1b(s0P\x1b(s10H\x1b(s12V\x1b(s0S\x1b(s0B\x1b(s3T\x1b&k0GA",
+        Pass(1, 1),
+    ),
 ];
 
 #[test]

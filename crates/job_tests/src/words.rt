@@ -23,6 +23,36 @@ const ENDS: &[(&[&str], Status, &[&str])] = &[
     (&["pclcheck", "check"], Status::Words, &[]),
     (&["pclcheck", "check", "job.pcl"], Status::Words, &[]),
     (
+        &["pclcheck", "list", "--help"],
+        Status::Help,
+        &["FAULT", "JOB"],
+    ),
+    (
+        &["pclcheck", "pages", "--help"],
+        Status::Help,
+        &["glyph", "JOB", "PROFILE"],
+    ),
+    (
+        &["pclcheck", "plain", "--help"],
+        Status::Help,
+        &["JOB", "OUT"],
+    ),
+    (&["pclcheck", "explain", "12", "13"], Status::Words, &[]),
+    (&["pclcheck", "list"], Status::Words, &[]),
+    (&["pclcheck", "list", "job.pcl", "@A"], Status::Words, &[]),
+    (&["pclcheck", "pages", "job.pcl"], Status::Words, &[]),
+    (
+        &["pclcheck", "pages", "job.pcl", "@A", "@B"],
+        Status::Words,
+        &[],
+    ),
+    (&["pclcheck", "plain", "job.pcl"], Status::Words, &[]),
+    (
+        &["pclcheck", "plain", "job.pcl", "out.pcl", "@A"],
+        Status::Words,
+        &[],
+    ),
+    (
         &["pclcheck", "check", "--fast", "job.pcl", "@A"],
         Status::Words,
         &[],
@@ -49,7 +79,7 @@ fn words_that_ask_for_no_check(rt: HostRuntime) -> Result<(), Fail> {
         let mut stdout = Watched::new(Vec::new(rt.alloc()));
         let mut stderr = Watched::new(Vec::new(rt.alloc()));
         match read_words(rt.alloc(), words.as_slice(), &mut stdout, &mut stderr) {
-            Ok(Request::Check { .. }) => assert!(rt; false),
+            Ok(_) => assert!(rt; false),
             Err(answer) => assert_eq!(rt; answer, *status),
         }
         let text = str::from_utf8(stdout.get_ref().as_slice()).unwrap_or("");
@@ -88,8 +118,39 @@ fn words_that_ask_for_a_check(rt: HostRuntime) -> Result<(), Fail> {
                 assert_eq!(rt; job, "job.pcl");
                 assert_eq!(rt; profiles.as_slice(), &all[3..count]);
             }
-            Err(_) => assert!(rt; false),
+            Ok(_) | Err(_) => assert!(rt; false),
         }
+    }
+    Ok(())
+}
+
+/// Words that ask for a text, the command, and what they name: the job, and what its text is for or where it goes, or a code.
+const TEXTS: &[(&[&str], (&str, &str, &str))] = &[
+    (&["pclcheck", "list", "job.pcl"], ("list", "job.pcl", "")),
+    (&["pclcheck", "pages", "a/b", "@C"], ("pages", "a/b", "@C")),
+    (
+        &["pclcheck", "plain", "job.pcl", "out.pcl"],
+        ("plain", "job.pcl", "out.pcl"),
+    ),
+    (&["pclcheck", "explain"], ("explain", "all", "")),
+    (&["pclcheck", "explain", "12"], ("explain", "12", "")),
+];
+
+#[test]
+fn words_that_ask_for_a_text(rt: HostRuntime) -> Result<(), Fail> {
+    for (words, wanted) in TEXTS {
+        let words = strings(rt.alloc(), words)?;
+        let mut stdout = Watched::new(Vec::new(rt.alloc()));
+        let mut stderr = Watched::new(Vec::new(rt.alloc()));
+        let answer = read_words(rt.alloc(), words.as_slice(), &mut stdout, &mut stderr);
+        let found = match &answer {
+            Ok(Request::List { job }) => ("list", *job, ""),
+            Ok(Request::Pages { job, profile }) => ("pages", *job, *profile),
+            Ok(Request::Plain { job, out }) => ("plain", *job, *out),
+            Ok(Request::Explain { code }) => ("explain", (*code).unwrap_or("all"), ""),
+            Ok(_) | Err(_) => ("", "", ""),
+        };
+        assert_eq!(rt; found, *wanted);
     }
     Ok(())
 }
