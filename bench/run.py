@@ -1,7 +1,8 @@
 #!/usr/bin/env python3
 """Measures the built program on jobs that this script makes.
 
-    python3 bench/run.py                     every kind of job, as a table
+    python3 bench/run.py                     every kind of job, and the commands, as tables
+    python3 bench/run.py --commands          the commands alone
     python3 bench/run.py --only lines        one kind; the option may come often
     python3 bench/run.py --size 32           jobs of 32 MiB
     python3 bench/run.py --program PATH      another build of the program
@@ -18,10 +19,14 @@ stops where one does not.
   many pages: so the rows of the two are of equal pages, and their numbers may be compared.
 - A further printer: how many of these instructions come with each printer after the first.
 - Peak memory: what the system says of the program while it runs.
+- The commands are run on one kind of job, for one printer. What they write is thrown away: standard
+  output, and the OUT of `plain`. To check: by how many times their instructions a byte are those of
+  `check`. Their peak memory is that on a job of an eighth of the size, and on one of the whole size.
 """
 
 import argparse
 import itertools
+import os
 import re
 import shutil
 import subprocess
@@ -65,10 +70,15 @@ MEBIBYTE = 1 << 20
 # The sizes of the two jobs whose instructions are compared.
 COUNTED_SIZES = (MEBIBYTE // 4, MEBIBYTE // 2)
 
+# The commands of the program, and the kind of job on which they are compared.
+COMMANDS = ("check", "list", "plain", "pages")
+KIND_OF_COMMANDS = "mix"
+
 # So many functions of a profile are printed.
 PROFILE_ROWS = 20
 
 RESET = b"\x1bE"
+EXIT = b"\x1b%-12345X"
 CR_LF = b"\r\n"
 HALF_LINE_FEED = b"\x1b="
 FORM_FEED = b"\f"
@@ -138,6 +148,18 @@ def settings_of_form(number):
     yield b"\x1b&u%dD" % (300 + 300 * (number % 2))
     yield b"\x1b&l0l1l%s4e50F" % (b"8c", b"6d", b"8d")[number % 3]
     yield b"\x1b&k12h%dG\x1b&a5l74M" % (number % 4)
+
+
+def wrapped(number):
+    """The pages of that form in jobs of four, each wrapped as a spooler does it."""
+    job = b'JOB NAME="form %d" DISPLAY="%d of the queue"' % (number // 4, number // 4)
+    if number % 4 == 0:
+        for line in (job, b"COMMENT Queue: forms. Host: works", b"ENTER LANGUAGE = PCL"):
+            yield (EXIT if line is job else b"") + b"@PJL " + line + CR_LF
+        yield RESET
+    yield from mix(number)
+    if number % 4 == 3:
+        yield RESET + EXIT + b'@PJL EOJ NAME="form %d"' % (number // 4) + CR_LF
 
 
 def text(number):
@@ -255,7 +277,7 @@ def to_cell(column, row):
     return b"\x1b&a%dc%dR" % (column, row)
 
 
-MAKERS = (rectangles, lines, text, raster, mix, plot, macro, written_out, overlay)
+MAKERS = (rectangles, lines, text, raster, mix, wrapped, plot, macro, written_out, overlay)
 KINDS = {maker.__name__: maker for maker in MAKERS}
 
 # The kinds that need macro memory, and the one that is measured beside one of them.
@@ -302,74 +324,93 @@ def printer_of(folder, kind):
 
 
 @dataclass(frozen=True)
+class Run:
+    """A command on a job, for a fleet of so many printers where it is `check`."""
+
+    job: Job
+    printers: int = 1
+    command: str = "check"
+
+    def words(self):
+        """The words behind the program's name."""
+        behind = {
+            "check": [self.job.printer] * self.printers,
+            "list": [],
+            "plain": [os.devnull],
+            "pages": [self.job.printer],
+        }
+        return [self.command, str(self.job.path), *behind[self.command]]
+
+    def stdout(self):
+        """Where standard output goes: a verdict is read, a text is thrown away."""
+        return subprocess.PIPE if self.command == "check" else subprocess.DEVNULL
+
+    def require_pass(self, status, output):
+        """Fails where the job does not pass."""
+        if status == 0 and (self.command != "check" or output.startswith(b"PASS ")):
+            return
+        line = (output or b"").decode("utf-8", "replace").strip()
+        raise BenchError(
+            f"a job of kind {self.job.kind} does not pass {self.command}, printers {self.printers}:"
+            f" status {status}, {line or 'no line'}"
+        )
+
+
+@dataclass(frozen=True)
 class Program:
     """The program that is measured."""
 
     path: Path
 
-    def words(self, job, printers):
-        """The words that check a job for a fleet of so many printers."""
-        return [str(self.path), "check", str(job.path)] + [job.printer] * printers
+    def run(self, run, under=()):
+        """Runs the program, under another one where its words are given."""
+        words = [*under, str(self.path), *run.words()]
+        done = subprocess.run(words, stdout=run.stdout(), stderr=subprocess.PIPE, check=False)
+        run.require_pass(done.returncode, done.stdout)
 
-    def run(self, job, printers, under=()):
-        """Checks a job, under another program where its words are given."""
-        words = [*under, *self.words(job, printers)]
-        done = subprocess.run(words, stdout=subprocess.PIPE, stderr=subprocess.PIPE, check=False)
-        require_pass(job, printers, done.returncode, done.stdout)
-
-    def best_seconds(self, job, printers):
+    def best_seconds(self, run):
         """The wall clock's time of the fastest of some runs."""
         times = []
         for _ in range(RUNS):
             start = time.perf_counter()
-            self.run(job, printers)
+            self.run(run)
             times.append(time.perf_counter() - start)
         return min(times)
 
-    def peak_memory(self, job, printers):
-        """The most memory that the program was seen to have, in KiB.
+    def peak_memory(self, run):
+        """The most memory that the program was seen to have, in MiB.
 
         The system's account of a program that has ended also counts what Python had when it
         started the program, so the program is watched while it runs.
         """
         peak = 0
-        words = self.words(job, printers)
-        with subprocess.Popen(words, stdout=subprocess.PIPE) as process:
+        words = [str(self.path), *run.words()]
+        with subprocess.Popen(words, stdout=run.stdout()) as process:
             while process.poll() is None:
                 peak = max(peak, high_water(process.pid))
                 time.sleep(0.001)
-            require_pass(job, printers, process.returncode, process.stdout.read())
-        return peak
+            output = process.stdout.read() if process.stdout else None
+            run.require_pass(process.returncode, output)
+        return peak / 1024
 
-    def run_counted(self, job, printers):
-        """Checks a job under callgrind, and gives the file of what that counted."""
-        counts = job.path.with_suffix(".counts")
-        self.run(job, printers, ("valgrind", "--tool=callgrind", f"--callgrind-out-file={counts}"))
+    def run_counted(self, run):
+        """Runs the program under callgrind, and gives the file of what that counted."""
+        counts = run.job.path.with_suffix(".counts")
+        self.run(run, ("valgrind", "--tool=callgrind", f"--callgrind-out-file={counts}"))
         return counts
 
-    def instructions(self, job, printers):
-        """How many instructions the program takes for a job."""
-        text = self.run_counted(job, printers).read_text(encoding="utf-8", errors="replace")
+    def instructions(self, run):
+        """How many instructions the program takes."""
+        text = self.run_counted(run).read_text(encoding="utf-8", errors="replace")
         found = re.search(r"^(?:summary|totals): (\d+)", text, re.MULTILINE)
         if found is None:
             raise BenchError("callgrind wrote no total")
         return int(found.group(1))
 
-    def instructions_a_byte(self, jobs, printers):
-        """What the longer of two jobs takes more, for each byte that it has more."""
-        short, long = jobs
-        more = self.instructions(long, printers) - self.instructions(short, printers)
-        return more / (long.size - short.size)
-
-
-def require_pass(job, printers, status, output):
-    """Fails where a job does not pass."""
-    if status != 0 or not output.startswith(b"PASS "):
-        line = output.decode("utf-8", "replace").strip()
-        raise BenchError(
-            f"a job of kind {job.kind} does not pass for a fleet of {printers}:"
-            f" status {status}, {line or 'no line'}"
-        )
+    def instructions_a_byte(self, short, long):
+        """What the longer of two runs takes more, for each byte that its job has more."""
+        more = self.instructions(long) - self.instructions(short)
+        return more / (long.job.size - short.job.size)
 
 
 def high_water(pid):
@@ -392,7 +433,7 @@ def processor():
     return found.group(1) if found else "unknown"
 
 
-# The columns of the table, and to which side and how wide they are written.
+# The columns of the tables, and to which side and how wide they are written.
 COLUMNS = {
     "Job": "<11",
     "Printers": ">8",
@@ -402,19 +443,31 @@ COLUMNS = {
     "A further printer": ">17",
     "Peak memory": ">11",
 }
+COLUMNS_OF_COMMANDS = {
+    "Command": "<7",
+    "MB/s": ">6",
+    "Instructions a byte": ">19",
+    "To check": ">8",
+    "Peak memory, an eighth": ">22",
+    "Peak memory": ">11",
+}
 
 
-def print_row(cells):
-    """Prints a row of the table."""
-    written = (f"{cell:{form}}" for cell, form in zip(cells, COLUMNS.values()))
+def print_head(columns):
+    """Prints the head of a table."""
+    print_row(columns, columns)
+    print_row(columns, ["---"] + ["--:"] * (len(columns) - 1))
+
+
+def print_row(columns, cells):
+    """Prints a row of a table."""
+    written = (f"{cell:{form}}" for cell, form in zip(cells, columns.values()))
     print("|", " | ".join(written), "|", flush=True)
 
 
 def print_table(program, folder, kinds, size):
     """Prints what each kind of job costs for each fleet."""
-    print(f"Processor: {processor()}\n")
-    print_row(COLUMNS)
-    print_row(["---"] + ["--:"] * (len(COLUMNS) - 1))
+    print_head(COLUMNS)
     for kind in kinds:
         print_rows_of_kind(program, folder, kind, size)
 
@@ -425,17 +478,36 @@ def print_rows_of_kind(program, folder, kind, size):
     counted = [write_job(folder, kind, count) for count in COUNTED_SIZES]
     alone = None
     for printers in FLEETS:
-        speed = job.size / 1e6 / program.best_seconds(job, printers)
-        memory = program.peak_memory(job, printers) / 1024
+        speed = job.size / 1e6 / program.best_seconds(Run(job, printers))
+        memory = program.peak_memory(Run(job, printers))
         cost, further = None, None
         if shutil.which("valgrind"):
-            cost = program.instructions_a_byte(counted, printers)
+            cost = program.instructions_a_byte(*(Run(part, printers) for part in counted))
             if printers == 1:
                 alone = cost
             else:
                 further = (cost - alone) / (printers - 1)
-        numbers = [tenths(speed), tenths(cost), tenths(further), f"{tenths(memory)} MiB"]
-        print_row([kind, printers, job.size, *numbers])
+        numbers = [tenths(speed), tenths(cost), tenths(further), mebibytes(memory)]
+        print_row(COLUMNS, [kind, printers, job.size, *numbers])
+
+
+def print_commands(program, folder, size):
+    """Prints what each command costs on one kind of job."""
+    print_head(COLUMNS_OF_COMMANDS)
+    jobs = [write_job(folder, KIND_OF_COMMANDS, part) for part in (size // 8, size)]
+    counted = [write_job(folder, KIND_OF_COMMANDS, count) for count in COUNTED_SIZES]
+    check = None
+    for command in COMMANDS:
+        small, large = (Run(job, command=command) for job in jobs)
+        speed = large.job.size / 1e6 / program.best_seconds(large)
+        cost, ratio = None, None
+        if shutil.which("valgrind"):
+            cost = program.instructions_a_byte(*(Run(job, command=command) for job in counted))
+            check = check or cost
+            ratio = cost / check
+        memories = (mebibytes(program.peak_memory(run)) for run in (small, large))
+        numbers = [tenths(speed), tenths(cost), hundredths(ratio), *memories]
+        print_row(COLUMNS_OF_COMMANDS, [command, *numbers])
 
 
 def tenths(number):
@@ -443,12 +515,22 @@ def tenths(number):
     return "-" if number is None else f"{number:.1f}"
 
 
+def hundredths(number):
+    """A number with two decimals; a dash where there is none."""
+    return "-" if number is None else f"{number:.2f}"
+
+
+def mebibytes(number):
+    """A number of MiB with one decimal."""
+    return f"{number:.1f} MiB"
+
+
 def print_profile(program, folder, kind):
     """Prints the functions that take most instructions themselves, for one printer."""
     if not shutil.which("valgrind"):
         raise BenchError("a profile needs valgrind, which is not installed")
     job = write_job(folder, kind, COUNTED_SIZES[-1])
-    counts = program.run_counted(job, 1)
+    counts = program.run_counted(Run(job))
     words = ["callgrind_annotate", "--auto=no", "--threshold=100", str(counts)]
     done = subprocess.run(words, stdout=subprocess.PIPE, check=True)
     text = done.stdout.decode("utf-8", "replace")
@@ -476,23 +558,35 @@ def arguments():
     parser.add_argument("--program", type=Path, default=PROGRAM, help="the built program")
     parser.add_argument("--only", action="append", choices=KINDS, help="a kind of job")
     parser.add_argument("--size", type=float, default=8, help="the size of a job in MiB")
+    parser.add_argument("--commands", action="store_true", help="the commands alone")
     parser.add_argument("--profile", action="store_true", help="the functions that cost most")
     return parser.parse_args()
 
 
+def print_all(program, folder, words):
+    """Prints what the words ask for."""
+    kinds = words.only or list(KINDS)
+    size = int(words.size * MEBIBYTE)
+    if words.profile:
+        for kind in kinds:
+            print_profile(program, folder, kind)
+        return
+    print(f"Processor: {processor()}\n")
+    if not words.commands:
+        print_table(program, folder, kinds, size)
+    if not words.commands and not words.only:
+        print()
+    if words.commands or not words.only:
+        print_commands(program, folder, size)
+
+
 def main():
     words = arguments()
-    kinds = words.only or list(KINDS)
     try:
         if not words.program.is_file():
             raise BenchError(f"there is no program at {words.program}; build it: {BUILD}")
-        program = Program(words.program.resolve())
         with tempfile.TemporaryDirectory() as folder:
-            if words.profile:
-                for kind in kinds:
-                    print_profile(program, folder, kind)
-            else:
-                print_table(program, folder, kinds, int(words.size * MEBIBYTE))
+            print_all(Program(words.program.resolve()), folder, words)
     except (BenchError, OSError, subprocess.CalledProcessError) as error:
         print(f"bench: {error}", file=sys.stderr)
         return 1
