@@ -3,8 +3,9 @@
 
 The table of commands has exactly the commands that the lexer knows, those of frames among them, each once; the table of macro
 controls has exactly the values and names of the code's; the table of faults and findings has exactly
-the numbers and names that the program writes; and each finding that the tables of commands and of
-controls name is one of these. What differs is printed, and the status is 1.
+the numbers and names that the program writes, and the sentences of what the command `explain` writes
+of each; and each finding that the tables of commands and of controls name is one of these. What differs
+is printed, and the status is 1.
 """
 
 import re
@@ -20,6 +21,7 @@ FRAMES = ROOT / "crates" / "pcl_items" / "src" / "frame.rt"
 ITEMS = ROOT / "crates" / "pcl_items" / "src" / "item.rt"
 MACROS = ROOT / "crates" / "page_env" / "src" / "macros.rt"
 WORDS = ROOT / "crates" / "preflight" / "src" / "words.rt"
+EXPLANATIONS = ROOT / "crates" / "subcommands" / "src" / "explanations.rt"
 
 # The kinds of items that stand in no table of bytes, as the table of commands writes them.
 OTHERS = {
@@ -28,6 +30,8 @@ OTHERS = {
     "DefaultFont": "`ESC (3@`",
     "EnterFrame": "`ESC %#B`",
     "LeaveFrame": "`ESC %#A`",
+    "ExitLanguage": "`ESC %-12345X`",
+    "PjlLine": "`@PJL` line",
 }
 
 # The kinds of items that stand in a table of their own: of commands, of data, of the commands of frames.
@@ -127,6 +131,31 @@ def findings_of_code():
     return found
 
 
+def explanations_of_code():
+    """What `explain` writes of each fault and finding: its number and name, and three texts."""
+    table = re.search(r"EXPLANATIONS: \[&str; (\d+)\] = \[\n(.*)\];", EXPLANATIONS.read_text(encoding="utf-8"), re.DOTALL)
+    found = re.findall(
+        r'^    "\\\n(\d+ \w+)\n  When: +(.*?)\n  Change: +(.*?)\n  Manual: +(.*?)\n",$',
+        table.group(2) if table else "",
+        re.MULTILINE | re.DOTALL,
+    )
+    if not found or len(found) != int(table.group(1)):
+        raise Unreadable(f"{EXPLANATIONS.relative_to(ROOT)} has no explanations in the form that is read")
+    return [(title, *(" ".join(text.replace(r'\"', '"').split()) for text in texts)) for title, *texts in found]
+
+
+def text_differences(explanations, rows):
+    """The sentences of an explanation that are not those of its row, which has code between backticks."""
+    columns = ("When", "What to change", "The manual")
+    of_document = {row[0]: [cell.replace("`", "") for cell in row[1:]] for row in rows}
+    return [
+        f"the column `{column}` of {title} is not what `explain` writes of it"
+        for title, *texts in explanations
+        for column, text, cell in zip(columns, texts, of_document.get(title, texts))
+        if text != cell
+    ]
+
+
 def table_behind(heading):
     """The rows of the first table behind a heading of the document, without its head."""
     text = DOCUMENT.read_text(encoding="utf-8")
@@ -166,11 +195,15 @@ def main():
     try:
         commands = table_behind("Commands")
         controls = table_behind("Macros")
-        findings = [row[0] for row in table_behind("Faults and findings")]
+        findings = table_behind("Faults and findings")
+        titles = [row[0] for row in findings]
+        explanations = explanations_of_code()
         known = findings_of_code()
         lines = differences("the command", commands_of_code(), [row[0] for row in commands])
         lines += differences("the macro control", controls_of_code(), [f"{row[0]} {row[1]}" for row in controls])
-        lines += differences("the finding", known, findings)
+        lines += differences("the finding", known, titles)
+        lines += differences("the explanation of", [title for title, *_ in explanations], titles)
+        lines += text_differences(explanations, findings)
         lines += unknown_findings(commands, 4, known)
         lines += unknown_findings(controls, 3, known)
     except (OSError, Unreadable) as fault:
