@@ -381,16 +381,18 @@ class Program:
         """The most memory that the program was seen to have, in MiB.
 
         The system's account of a program that has ended also counts what Python had when it
-        started the program, so the program is watched while it runs.
+        started the program, so the program is watched while it runs. One that ends before it was
+        seen is started again.
         """
         peak = 0
         words = [str(self.path), *run.words()]
-        with subprocess.Popen(words, stdout=run.stdout()) as process:
-            while process.poll() is None:
-                peak = max(peak, high_water(process.pid))
-                time.sleep(0.001)
-            output = process.stdout.read() if process.stdout else None
-            run.require_pass(process.returncode, output)
+        while peak == 0:
+            with subprocess.Popen(words, stdout=run.stdout()) as process:
+                while process.poll() is None:
+                    peak = max(peak, high_water(process.pid))
+                    time.sleep(0.001)
+                output = process.stdout.read() if process.stdout else None
+                run.require_pass(process.returncode, output)
         return peak / 1024
 
     def run_counted(self, run):
