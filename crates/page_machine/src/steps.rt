@@ -308,17 +308,17 @@ fn run_step<S: MarkSink, A: Allocator>(
 fn run_data<S: MarkSink, A: Allocator>(
     profile: &Profile<A>,
     command: DataCommand,
-    data: &Data<'_>,
+    item_data: &Data<'_>,
     page: &mut Page,
     sink: &mut S,
 ) -> Result<(), Halt<S::Fault>>
     ensures { (conditions : Panel → Conditions) → Follows S.takes S.refuses
-        (λ panel. begun_run profile.now (conditions panel) (WithData command data.now.bytes.now) (state_at panel page.old))
+        (λ panel. begun_run profile.now (conditions panel) (WithData command item_data.now.bytes.now) (state_at panel page.old))
         sink.old sink.new page.new result }
 {
     match command {
-        DataCommand::TransparentText => run_bytes(profile, data.bytes, page, sink),
-        DataCommand::RasterRow => run_row(profile, data.bytes, page, sink),
+        DataCommand::TransparentText => run_bytes(profile, item_data.bytes, page, sink),
+        DataCommand::RasterRow => run_row(profile, item_data.bytes, page, sink),
     }
 }
 
