@@ -1,0 +1,155 @@
+//! For the tests: a reader and a writer that fail when they are told to, and a reader of two pieces.
+#![tactic(auto)]
+
+ghost use Rattle.std.specs.Prelude.{◌≡◌, Some, None, false};
+
+use given::Given;
+use preflight::{Outlet, Source};
+use std::alloc::Global;
+use std::io;
+
+/// Gives its bytes one at a time, and fails at a read of the caller's choice.
+#[derive(Drop)]
+pub struct FailingSource<'a> {
+    rest: &'a [u8],
+    given: Given,
+    reads_left: u64,
+    has_failed: bool,
+}
+
+impl<'a> FailingSource<'a> {
+    pub fn new(bytes: &'a [u8], reads: u64) -> FailingSource<'a>
+        ensures working { result.has_failed ≡ false }
+    {
+        FailingSource {
+            rest: bytes,
+            given: Given::new(),
+            reads_left: reads,
+            has_failed: false,
+        }
+    }
+}
+
+impl Source for FailingSource<'_> {
+    ghost remaining = { λ source. Some source.rest.now };
+
+    ghost given = { λ source. source.given.pieces };
+
+    ghost failed = { λ source. source.has_failed };
+
+    fn read(&mut self, buf: &mut [u8]) -> io::Result<usize> {
+        if self.reads_left == 0 {
+            self.has_failed = true;
+            return Err(io::Error::other("no more reads"));
+        }
+        self.reads_left -= 1;
+        match (self.rest.split_first(), buf.first_mut()) {
+            (Some((byte, rest)), Some(place)) => {
+                *place = *byte;
+                self.rest = rest;
+                self.given = self.given.and(&buf[..1]);
+                Ok(1)
+            }
+            _ => {
+                self.given = self.given.and(&[]);
+                Ok(0)
+            }
+        }
+    }
+
+    fn has_failed(&self) -> bool {
+        self.has_failed
+    }
+}
+
+/// Takes 7 bytes a call, and fails at a write of the caller's choice.
+#[derive(Drop)]
+pub struct FailingOutlet {
+    taken: Vec<u8>,
+    writes_left: u64,
+    has_failed: bool,
+}
+
+impl FailingOutlet {
+    pub fn new(alloc: Global, writes: u64) -> FailingOutlet
+        ensures working { result.has_failed ≡ false }
+    {
+        FailingOutlet {
+            taken: Vec::new(alloc),
+            writes_left: writes,
+            has_failed: false,
+        }
+    }
+
+    pub fn taken(&self) -> &[u8] {
+        self.taken.as_slice()
+    }
+}
+
+const MOST_TAKEN: usize = 7;
+
+impl Outlet for FailingOutlet {
+    ghost written = { λ outlet. record { taken = outlet.taken.items; contents = Some outlet.taken.items } };
+
+    ghost failed = { λ outlet. outlet.has_failed };
+
+    fn write(&mut self, piece: &[u8]) -> io::Result<usize> {
+        if self.writes_left == 0 {
+            self.has_failed = true;
+            return Err(io::Error::other("no more writes"));
+        }
+        self.writes_left -= 1;
+        let count = piece.len().min(MOST_TAKEN);
+        let result = self.taken.extend_from_slice(&piece[..count]);
+        self.has_failed = result.is_err() || (count == 0 && !piece.is_empty());
+        result?;
+        Ok(count)
+    }
+
+    fn has_failed(&self) -> bool {
+        self.has_failed
+    }
+}
+
+/// Gives its bytes in two pieces.
+#[derive(Drop)]
+pub struct CutSource<'a> {
+    first: &'a [u8],
+    second: &'a [u8],
+    given: Given,
+}
+
+impl<'a> CutSource<'a> {
+    pub fn new(first: &'a [u8], second: &'a [u8]) -> CutSource<'a> {
+        CutSource {
+            first,
+            second,
+            given: Given::new(),
+        }
+    }
+}
+
+impl Source for CutSource<'_> {
+    ghost remaining = { λ _. None };
+
+    ghost given = { λ source. source.given.pieces };
+
+    ghost failed = { λ _. false };
+
+    fn read(&mut self, buf: &mut [u8]) -> io::Result<usize> {
+        if self.first.is_empty() {
+            self.first = self.second;
+            self.second = &[];
+        }
+        let count = self.first.len().min(buf.len());
+        let (front, rest) = self.first.split_at(count);
+        buf[..count].copy_from_slice(front);
+        self.first = rest;
+        self.given = self.given.and(&buf[..count]);
+        Ok(count)
+    }
+
+    fn has_failed(&self) -> bool {
+        false
+    }
+}

@@ -1,0 +1,153 @@
+//! For the tests: printers and fleets, and texts of profiles with another line.
+#![tactic(auto)]
+
+use device_profile::{Profile, Sample};
+use std::alloc::{AllocError, Global};
+use std::test::Fail;
+
+/// A printer of a row.
+#[derive(Clone, Copy)]
+pub enum Printer {
+    /// Sample A.
+    A,
+    /// Sample B.
+    B,
+    /// Sample C.
+    C,
+    /// Sample D.
+    D,
+    /// Sample B with a logical page that begins 1/120 inch further right.
+    Moved,
+    /// Sample B with a printable area that ends 10000/7200 inch from the left edge of the page.
+    Narrow,
+    /// Sample B with 8 lines to the inch.
+    EightLines,
+    /// Sample B that prints on one side alone.
+    OneSided,
+    /// Sample B with one copy or two.
+    SomeCopies,
+    /// Sample B with two copies of two sides from tray 2.
+    OtherPanel,
+    /// Sample B with paper from tray 2.
+    OtherTray,
+    /// Sample B without memory for macros.
+    NoMemory,
+    /// Sample B with the most memory for macros.
+    MostMemory,
+    /// Sample B that runs no macro.
+    NoLevels,
+    /// Sample B that runs macros in eight levels.
+    EightLevels,
+    /// Sample A that runs no macro.
+    NoLevelsOfA,
+}
+
+/// The lines of sample B, but for those of its macros, its duplex, its page, and its panel that follow.
+const FRONT: &[u8] = b"\
+pclprofile 1
+name B
+size 2
+orientation 0
+font 1
+trays 1 2
+face 1 10U 10 12 0 0 3 720 900 300 33-126
+";
+
+/// The other lines of sample B for its panel, and its duplex.
+const PANEL: &[u8] = b"vmi 8\ncopies 1\nsides 0\ntray 1\nduplex 1\n";
+
+/// The lines of sample B for macros.
+const MACROS: &[u8] = b"depth 2\nmemory 100\n";
+
+/// Letter paper in portrait, up to the logical page.
+const LETTER: &[u8] = b"geometry 2 0 61200 79200 ";
+
+/// The logical page and the printable area of sample B.
+const PAGE: &[u8] = b"1800 0 57600 79200 1200 1200 60000 78000";
+
+/// The text of a printer like sample B, with one page and one face.
+fn text_of(alloc: Global, macros: &[u8], panel: &[u8], page: &[u8]) -> Result<Vec<u8>, Fail> {
+    let mut text = Vec::new(alloc);
+    for part in [FRONT, macros, panel, LETTER, page, b"\n"] {
+        text.extend_from_slice(part)?;
+    }
+    Ok(text)
+}
+
+/// The text of sample B, with one page and one face.
+pub fn text_of_one_page(alloc: Global) -> Result<Vec<u8>, Fail> {
+    text_of(alloc, MACROS, PANEL, PAGE)
+}
+
+fn printer_of(alloc: Global, panel: &[u8], page: &[u8]) -> Result<Profile, Fail> {
+    Ok(Profile::read(alloc, &text_of(alloc, MACROS, panel, page)?)?)
+}
+
+/// A printer like sample B with these lines for macros.
+fn printer_with(alloc: Global, macros: &[u8]) -> Result<Profile, Fail> {
+    Ok(Profile::read(alloc, &text_of(alloc, macros, PANEL, PAGE)?)?)
+}
+
+/// A text with this line in place of the one of that number, or behind the last one.
+pub fn with_line(
+    alloc: Global,
+    old_text: &[u8],
+    number: usize,
+    line: &[u8],
+) -> Result<Vec<u8>, AllocError> {
+    let mut text = Vec::new(alloc);
+    for (i, old) in old_text.split(|byte| *byte == b'\n').enumerate() {
+        let is_here = number.checked_sub(1) == Some(i);
+        text.extend_from_slice(if is_here { line } else { old })?;
+        text.push(b'\n')?;
+    }
+    Ok(text)
+}
+
+/// Sample A with another line for the levels of its macros.
+fn sample_a_with(alloc: Global, depth: &[u8]) -> Result<Profile, Fail> {
+    let text = with_line(alloc, Sample::A.text(), DEPTH_LINE, depth)?;
+    Ok(Profile::read(alloc, &text)?)
+}
+
+/// Which line of sample A says how deep its macros go.
+const DEPTH_LINE: usize = 12;
+
+/// The profile of a printer.
+pub fn profile_of(alloc: Global, printer: Printer) -> Result<Profile, Fail> {
+    let (panel, page): (&[u8], &[u8]) = match printer {
+        Printer::A => return Ok(Sample::A.profile(alloc)?),
+        Printer::B => return Ok(Sample::B.profile(alloc)?),
+        Printer::C => return Ok(Sample::C.profile(alloc)?),
+        Printer::D => return Ok(Sample::D.profile(alloc)?),
+        Printer::Moved => (PANEL, b"1860 0 57600 79200 1200 1200 60000 78000"),
+        Printer::Narrow => (PANEL, b"1800 0 57600 79200 1200 1200 10000 78000"),
+        Printer::EightLines => (b"vmi 6\ncopies 1\nsides 0\ntray 1\nduplex 1\n", PAGE),
+        Printer::OneSided => (b"vmi 8\ncopies 1\nsides 0\ntray 1\nduplex 0\n", PAGE),
+        Printer::SomeCopies => (b"vmi 8\ncopies 1 2\nsides 0\ntray 1\nduplex 1\n", PAGE),
+        Printer::OtherPanel => (b"vmi 8\ncopies 2\nsides 1\ntray 2\nduplex 1\n", PAGE),
+        Printer::OtherTray => (b"vmi 8\ncopies 1\nsides 0\ntray 2\nduplex 1\n", PAGE),
+        Printer::NoMemory => return printer_with(alloc, b"depth 2\nmemory 0\n"),
+        Printer::MostMemory => return printer_with(alloc, b"depth 2\nmemory 1048576\n"),
+        Printer::NoLevels => return printer_with(alloc, b"depth 0\nmemory 100\n"),
+        Printer::EightLevels => return printer_with(alloc, b"depth 8\nmemory 100\n"),
+        Printer::NoLevelsOfA => return sample_a_with(alloc, b"depth 0"),
+    };
+    printer_of(alloc, panel, page)
+}
+
+/// The profiles of a fleet.
+pub fn fleet_of(alloc: Global, printers: &[Printer]) -> Result<Vec<Profile>, Fail> {
+    let mut fleet = Vec::new(alloc);
+    for printer in printers {
+        fleet.push(profile_of(alloc, *printer)?)?;
+    }
+    Ok(fleet)
+}
+
+/// A printer like sample B whose printable area is a square of a tenth of an inch that begins here, in 7200ths of an inch.
+pub fn with_square(alloc: Global, left: u32, top: u32) -> Result<Profile, Fail> {
+    let (right, bottom) = (u64::from(left) + 720, u64::from(top) + 720);
+    let page = format!(in alloc; "1800 0 57600 79200 {left} {top} {right} {bottom}")?;
+    printer_of(alloc, PANEL, page.as_bytes())
+}

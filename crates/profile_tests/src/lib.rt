@@ -1,0 +1,7 @@
+//! The tests of profiles, over their public calls.
+#![tactic(auto)]
+
+#[cfg(test)]
+mod profile_texts;
+#[cfg(test)]
+mod profiles;

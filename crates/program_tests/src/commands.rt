@@ -1,0 +1,364 @@
+//! The subcommands `list`, `pages` and `plain`: their exit statuses, and what they write.
+ghost use Rattle.std.specs.Prelude.{◌≡◌, false, IsFalse};
+
+use crate::files::File;
+use crate::kept_texts::{KeptTexts, Named};
+use device_profile::Sample;
+use fakes::{FailingOutlet, FailingSource};
+use preflight::{Outlet, Source, Watched};
+use refusing::Refusing;
+use std::alloc::Allocator;
+use std::process::Abort;
+use std::test::Fail;
+use subcommands::{Create, FileOutlet, FileSource, Open, Status, list, pages, plain};
+
+/// A subcommand.
+#[derive(Clone, Copy, Debug)]
+enum Command {
+    List,
+    /// For the printer that a word names.
+    Pages(&'static str),
+    Plain,
+}
+
+/// Texts of printers. No text is named `none`.
+fn texts() -> [Named<'static>; 4] {
+    [
+        ("a", Sample::A.text()),
+        ("b", Sample::B.text()),
+        ("version", b"pclprofile 2\n"),
+        ("range", b"pclprofile 1\n# none\ncopies 0\n"),
+    ]
+}
+
+/// Runs a subcommand.
+fn status_of<H: Allocator + Copy, J: Open, W: Create, O: Outlet, E: Outlet>(
+    command: Command,
+    heap: H,
+    job: &mut J,
+    out: &mut W,
+    stdout: &mut O,
+    stderr: &mut E,
+) -> Status
+    requires job { IsFalse (J.failed job.old) }
+    requires out { IsFalse (W.failed out.old) }
+    requires stdout { IsFalse (O.failed stdout.old) }
+    requires stderr { IsFalse (E.failed stderr.old) }
+{
+    match command {
+        Command::List => list(heap, job, stdout, stderr),
+        Command::Pages(word) => {
+            let named = texts();
+            let mut texts = KeptTexts::new(&named);
+            pages(heap, job, &mut texts, word, stdout, stderr)
+        }
+        Command::Plain => plain(heap, job, out, stdout, stderr),
+    }
+}
+
+/// A file of a row.
+#[derive(Clone, Copy, Debug)]
+enum Device {
+    /// One that cannot be opened, nor created.
+    Missing,
+    /// One of which so many reads or writes succeed.
+    Works(u64),
+}
+
+/// One that does not fail.
+const SOUND: Device = Device::Works(u64::MAX);
+
+/// A subcommand, and its job with what this is read from.
+type Run = (Command, &'static [u8], Device);
+
+/// An exit status, and what is written on standard output and on standard error.
+type Answer = (u8, &'static [u8], &'static [u8]);
+
+const READ: &[u8] = b"ERROR read\n";
+
+const WRITE: &[u8] = b"ERROR write\n";
+
+const GLYPH: &[u8] =
+    b"glyph 65 10U 10 12 0 0 3 22860000000 9144000000 18288000000 12801600000 24384000000\n";
+
+const RUNS: &[(Run, Answer)] = &[
+    ((Command::List, b"", SOUND), (0, b"", b"")),
+    (
+        (Command::List, b"\x1bE\x1b&l2a0O\x0c", SOUND),
+        (0, b"0 \\x1bE\n2 \\x1b&l2A\n7 \\x1b&l0O\n9 \\x0c\n", b""),
+    ),
+    (
+        (Command::List, b"\x1bE\x1b&l2a66P", SOUND),
+        (
+            1,
+            b"0 \\x1bE\n2 \\x1b&l2A\n7 FAULT 3 NotInProfile(&lP)\n",
+            b"",
+        ),
+    ),
+    // What was read is listed before a read that fails.
+    ((Command::List, b"", Device::Works(0)), (3, b"", READ)),
+    (
+        (Command::List, b"\x1bEA\x1bE", Device::Works(3)),
+        (3, b"0 \\x1bE\n2 A\n", READ),
+    ),
+    ((Command::Pages("b"), b"\x1bE", SOUND), (0, b"", b"")),
+    (
+        (Command::Pages("a"), b"\x1bE\x0c", SOUND),
+        (
+            0,
+            b"page 1 size=2 orientation=0 sides=0 tray=1 copies=1\n",
+            b"",
+        ),
+    ),
+    (
+        (Command::Pages("b"), b"\x1bEA\x1b)", SOUND),
+        (
+            1,
+            b"glyph 65 10U 10 12 0 0 3 22860000000 9144000000 18288000000 12801600000 24384000000\nFAIL at=3 profile=0 3 NotInProfile())\n",
+            b"",
+        ),
+    ),
+    (
+        (Command::Pages("b"), b"\x1bE\x1b&p2XA\r", SOUND),
+        (
+            1,
+            b"glyph 65 10U 10 12 0 0 3 22860000000 9144000000 18288000000 12801600000 24384000000\nFAIL at=2 profile=1 14 NoGlyph\n",
+            b"",
+        ),
+    ),
+    (
+        (Command::Pages("b"), b"\x1bEA\x0c", Device::Works(3)),
+        (3, GLYPH, READ),
+    ),
+    // The profile is read and judged before the job.
+    (
+        (Command::Pages("version"), b"", Device::Works(0)),
+        (2, b"", b"ERROR profile 1 1 Version\n"),
+    ),
+    (
+        (Command::Pages("range"), b"", Device::Works(0)),
+        (2, b"", b"ERROR profile 1 3 Range\n"),
+    ),
+    ((Command::Pages("none"), b"", SOUND), (3, b"", READ)),
+    ((Command::Pages("b"), b"", Device::Works(0)), (3, b"", READ)),
+];
+
+/// Runs a subcommand, and compares what it did.
+fn assert_run(rt: &(impl Abort + AllocGlobal), run: Run, answer: Answer) {
+    let (command, bytes, device) = run;
+    let mut job = match device {
+        Device::Missing => File::missing(FailingSource::new(bytes, 0)),
+        Device::Works(reads) => File::new(FailingSource::new(bytes, reads)),
+    };
+    let mut out = File::missing(FailingOutlet::new(rt.alloc(), 0));
+    let mut stdout = Watched::new(Vec::new(rt.alloc()));
+    let mut stderr = Watched::new(Vec::new(rt.alloc()));
+    let status = status_of(
+        command,
+        rt.alloc(),
+        &mut job,
+        &mut out,
+        &mut stdout,
+        &mut stderr,
+    );
+    let written = (stdout.get_ref().as_slice(), stderr.get_ref().as_slice());
+    let (code, output, error) = answer;
+    assert_eq!(rt;
+        (status.code(), written),
+        (code, (output, error)),
+        "{command:?} of {bytes:?}"
+    );
+    assert!(rt; !out.has_failed(), "{command:?} of {bytes:?}");
+}
+
+#[test]
+fn lists_and_pages_come_to_this(rt: HostRuntime) {
+    for (run, answer) in RUNS {
+        assert_run(&rt, *run, *answer);
+    }
+}
+
+/// A job with what it is read from, and what OUT is.
+type Copying = (&'static [u8], Device, Device);
+
+/// Jobs that are written to OUT, an exit status with what stands on standard output and on standard error, and what OUT has.
+const PLAINS: &[(Copying, Answer, &[u8])] = &[
+    ((b"", SOUND, SOUND), (0, b"", b""), b""),
+    (
+        (b"\x1b&l02a.0O", SOUND, SOUND),
+        (0, b"", b""),
+        b"\x1b&l2A\x1b&l0O",
+    ),
+    (
+        (b"\x1b&l02A\x1b)", SOUND, SOUND),
+        (1, b"FAIL at=6 profile=0 3 NotInProfile())\n", b""),
+        b"\x1b&l2A",
+    ),
+    (
+        (b"\x1b%-12345X@PJL set\n", SOUND, SOUND),
+        (1, b"FAIL at=9 profile=0 5 Pjl\n", b""),
+        b"\x1b%-12345X",
+    ),
+    // The job is opened before OUT is created, and OUT is created before the job is read.
+    ((b"", Device::Missing, Device::Missing), (3, b"", READ), b""),
+    ((b"", Device::Missing, SOUND), (3, b"", READ), b""),
+    ((b"", SOUND, Device::Missing), (3, b"", WRITE), b""),
+    (
+        (b"", Device::Works(0), Device::Missing),
+        (3, b"", WRITE),
+        b"",
+    ),
+    ((b"", Device::Works(0), SOUND), (3, b"", READ), b""),
+    ((b"ABC", Device::Works(2), SOUND), (3, b"", READ), b"AB"),
+    ((b"ABC", SOUND, Device::Works(2)), (3, b"", WRITE), b"AB"),
+];
+
+/// Runs `plain`, and compares what it did.
+fn assert_plain(rt: &(impl Abort + AllocGlobal), copying: Copying, answer: Answer, taken: &[u8]) {
+    let (bytes, from, to) = copying;
+    let mut job = match from {
+        Device::Missing => File::missing(FailingSource::new(bytes, 0)),
+        Device::Works(reads) => File::new(FailingSource::new(bytes, reads)),
+    };
+    let mut out = match to {
+        Device::Missing => File::missing(FailingOutlet::new(rt.alloc(), 0)),
+        Device::Works(writes) => File::new(FailingOutlet::new(rt.alloc(), writes)),
+    };
+    let mut stdout = Watched::new(Vec::new(rt.alloc()));
+    let mut stderr = Watched::new(Vec::new(rt.alloc()));
+    let status = status_of(
+        Command::Plain,
+        rt.alloc(),
+        &mut job,
+        &mut out,
+        &mut stdout,
+        &mut stderr,
+    );
+    let written = (stdout.get_ref().as_slice(), stderr.get_ref().as_slice());
+    let (code, output, error) = answer;
+    assert_eq!(rt;
+        (status.code(), written),
+        (code, (output, error)),
+        "{copying:?}"
+    );
+    assert_eq!(rt; out.get_ref().taken(), taken, "{copying:?}");
+    assert_eq!(rt;
+        (job.has_failed(), out.has_failed()),
+        (error == READ, error == WRITE)
+    );
+}
+
+#[test]
+fn plain_jobs_come_to_this(rt: HostRuntime) {
+    for (copying, answer, taken) in PLAINS {
+        assert_plain(&rt, *copying, *answer, taken);
+    }
+}
+
+/// Subcommands whose standard output fails at each write in turn, how many of its writes of 7 bytes succeed, and what it has then.
+const FAILING: &[(Command, &[u8], u64, &[u8])] = &[
+    (Command::List, b"\x1bE\x0c", 2, b"0 \\x1bE\n2 \\x0c\n"),
+    (
+        Command::Pages("b"),
+        b"\x1b)",
+        6,
+        b"FAIL at=0 profile=0 3 NotInProfile())\n",
+    ),
+    (
+        Command::Plain,
+        b"A\x1b)",
+        6,
+        b"FAIL at=1 profile=0 3 NotInProfile())\n",
+    ),
+];
+
+#[test]
+fn each_write_of_standard_output_fails_in_turn(rt: HostRuntime) {
+    for (command, bytes, enough, output) in FAILING {
+        for writes in 0..*enough {
+            let mut job = Watched::new(*bytes);
+            let mut out = Watched::new(Vec::new(rt.alloc()));
+            let mut stdout = FailingOutlet::new(rt.alloc(), writes);
+            let mut stderr = Watched::new(Vec::new(rt.alloc()));
+            let status = status_of(
+                *command,
+                rt.alloc(),
+                &mut job,
+                &mut out,
+                &mut stdout,
+                &mut stderr,
+            );
+            assert_eq!(rt;
+                (status.code(), stderr.get_ref().as_slice()),
+                (3, WRITE),
+                "{command:?} at {writes}"
+            );
+            assert!(rt; output.starts_with(stdout.taken()));
+            assert_eq!(rt; stdout.taken().len() as u64 / 7, writes);
+        }
+    }
+}
+
+/// Subcommands of a job with a fault, each of whose requests for memory is refused in turn.
+const COMMANDS: &[Command] = &[Command::List, Command::Pages("b"), Command::Plain];
+
+/// How many requests for memory a subcommand makes, each of which was refused in turn.
+fn requests_of(rt: &(impl Abort + AllocGlobal), command: Command) -> u64 {
+    for requests in 0..1000 {
+        let heap = Refusing::new(rt.alloc(), requests);
+        let mut job = Watched::new(b"A\x1b)".as_slice());
+        let mut out = Watched::new(Vec::new(rt.alloc()));
+        let mut stdout = Watched::new(Vec::new(rt.alloc()));
+        let mut stderr = Watched::new(Vec::new(rt.alloc()));
+        let status = status_of(command, &heap, &mut job, &mut out, &mut stdout, &mut stderr);
+        if status == Status::Fail {
+            return requests;
+        }
+        let written = (status.code(), stderr.get_ref().as_slice());
+        assert_eq!(rt; written, (3, b"ERROR memory\n".as_slice()), "{command:?}");
+        assert!(rt;
+            !stdout.get_ref().as_slice().starts_with(b"FAIL"),
+            "{command:?}"
+        );
+    }
+    assert!(rt; false, "more than 1000 requests");
+    0
+}
+
+#[test]
+fn each_request_for_memory_is_refused_in_turn(rt: HostRuntime) {
+    for command in COMMANDS {
+        let requests = requests_of(&rt, *command);
+        assert!(rt; requests >= 2, "{requests} requests");
+    }
+}
+
+/// Files of this machine: one without bytes, one that is full, and none.
+#[test]
+fn files_are_opened_and_created(rt: HostRuntime) -> Result<(), Fail> {
+    let rows: &[(&str, &str, u8, &[u8])] = &[
+        ("/dev/null", "/dev/null", 0, b""),
+        ("/dev/null", "no such folder/out.pcl", 3, WRITE),
+        ("no such folder/job.pcl", "/dev/null", 3, READ),
+        ("no such folder/job.pcl", "no such folder/out.pcl", 3, READ),
+    ];
+    for (from, to, code, error) in rows {
+        let mut job = FileSource::new(&rt, from);
+        let mut out = FileOutlet::new(&rt, to);
+        let mut stdout = Watched::new(Vec::new(rt.alloc()));
+        let mut stderr = Watched::new(Vec::new(rt.alloc()));
+        let status = plain(rt.alloc(), &mut job, &mut out, &mut stdout, &mut stderr);
+        assert_eq!(rt;
+            (status.code(), stderr.get_ref().as_slice()),
+            (*code, *error),
+            "{from} to {to}"
+        );
+    }
+    let mut job = Watched::new(b"A".as_slice());
+    let mut out = FileOutlet::new(&rt, "/dev/full");
+    let mut stdout = Watched::new(Vec::new(rt.alloc()));
+    let mut stderr = Watched::new(Vec::new(rt.alloc()));
+    let status = plain(rt.alloc(), &mut job, &mut out, &mut stdout, &mut stderr);
+    assert_eq!(rt; (status.code(), stderr.get_ref().as_slice()), (3, WRITE));
+    Ok(())
+}
