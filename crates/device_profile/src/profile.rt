@@ -1,5 +1,6 @@
 //! A printer's profile, and what is looked up in it.
 ghost use Rattle.std.specs.Prelude.{◌≡◌};
+ghost use Rattle.std.specs.Option.{option_copied};
 ghost use Rattle.device_profile.specs.Printer.{row_at};
 
 use crate::field::Field;
@@ -50,9 +51,9 @@ impl<A: Allocator> Profile<A> {
     ghost use Rattle.device_profile.specs.Faces.{face_at, face_for, has_metrics};
 
     /// The page of a size and an orientation.
-    pub fn geometry(&self, size: u32, orientation: u32) -> Option<Geometry>
-        ensures row { result ≡ row_at self.now.geometries size orientation }
-        ensures fits { IfSome result (λ page. IsTrue (fits_page page)) }
+    pub fn geometry(&self, size: u32, orientation: u32) -> Option<&Geometry>
+        ensures row { option_copied result ≡ row_at self.now.geometries size orientation }
+        ensures fits { IfSome (row_at self.now.geometries size orientation) (λ page. IsTrue (fits_page page)) }
         // Each panel that the printer may have leads to a page.
         ensures allowed { HasPages self.now }
     {
@@ -60,12 +61,14 @@ impl<A: Allocator> Profile<A> {
     }
 
     /// The page of a size and an orientation, or a page of no size.
+    // Inlined, so that of a row only what the caller reads is read.
+    #[inline(always)]
     #[tactic(auto, unfolding(crate::specs::Printer::geometry_at))]
     pub fn page_geometry(&self, size: u32, orientation: u32) -> Geometry
         ensures { result ≡ geometry_at self.now.geometries size orientation }
     {
         match self.geometry(size, orientation) {
-            Some(row) => row,
+            Some(row) => *row,
             None => Geometry::NO_PAGE,
         }
     }
@@ -172,10 +175,9 @@ impl<A: Allocator> Profile<A> {
 }
 
 #[tactic(auto, unfolding(crate::specs::Printer::row_at))]
-fn row_at_pair(rows: &[Geometry], size: u32, orientation: u32) -> Option<Geometry>
-    ensures { result ≡ row_at rows.now size orientation }
+fn row_at_pair(rows: &[Geometry], size: u32, orientation: u32) -> Option<&Geometry>
+    ensures { option_copied result ≡ row_at rows.now size orientation }
 {
     rows.iter()
-        .copied()
         .find(|row| row.size == size && row.orientation == orientation)
 }

@@ -97,6 +97,7 @@ pub(crate) fn move_columns<A: Allocator>(
 }
 
 /// The page in force, and the vertical place from which a move goes: the top margin where it has no sign, else the cursor.
+#[inline(always)]
 fn geometry_and_origin<A: Allocator>(
     profile: &Profile<A>,
     page: &Page,

@@ -43,6 +43,7 @@ pub(crate) fn default_frame() -> PictureFrame
 }
 
 /// Where a picture frame lies on a page.
+#[inline(always)]
 pub(crate) fn frame_on(geometry: &Geometry, frame: &PictureFrame) -> Frame
     ensures { result ≡ frame_on geometry.now frame.now }
 {

@@ -202,6 +202,8 @@ fn fit_between(low: i64, high: i64, half: u64, a: i64, b: i64) -> bool
 }
 
 /// Both ends of a line along an axis, if they lie so far within two bounds.
+// Inlined, as all that judges a line is, so that a line is put together once.
+#[inline(always)]
 #[tactic(auto, using(crate::proofs::Ends::ends_in_range))]
 fn ends_between(low: Length, high: Length, half: u64, a: i64, b: i64) -> Option<(Length, Length)>
     requires first { IsWithin (15 * 2 ^ 59) a }
@@ -218,6 +220,7 @@ fn ends_between(low: Length, high: Length, half: u64, a: i64, b: i64) -> Option<
 }
 
 /// How far to the right a line begins and ends in page coordinates, if it lies in the printable area along this axis.
+#[inline(always)]
 fn ends_across(
     geometry: &Geometry,
     frame: &Frame,
@@ -243,6 +246,7 @@ fn ends_across(
 }
 
 /// How far down a line begins and ends in page coordinates, if it lies in the printable area along this axis.
+#[inline(always)]
 fn ends_down(
     geometry: &Geometry,
     frame: &Frame,
@@ -266,6 +270,7 @@ fn ends_down(
 }
 
 /// A line between two places of a frame, its width in ten-thousandths of a millimetre, if it lies in the printable area.
+#[inline(always)]
 #[tactic(auto, unfolding(crate::specs::Mark::is_inside))]
 fn line_inside(
     geometry: &Geometry,
@@ -290,6 +295,7 @@ fn line_inside(
 }
 
 /// A line from the pen to a place, and the pen's place at its end.
+#[inline(always)]
 fn judged(
     geometry: &Geometry,
     job: &JobSettings,

@@ -73,7 +73,10 @@ fn sample_a_has_its_pages(rt: HostRuntime) -> Result<(), Fail> {
         profile.page_geometry(3, 0).page_width.ticks(),
     ];
     assert_eq!(rt; ticks, [84_168 * TICKS, 1_416 * TICKS, 58_320 * TICKS, 0]);
-    let found = (profile.geometry(26, 1), profile.geometry(3, 0));
+    let found = (
+        profile.geometry(26, 1).copied(),
+        profile.geometry(3, 0).copied(),
+    );
     assert_eq!(rt; found, (Some(page), None));
     Ok(())
 }
