@@ -320,6 +320,7 @@ fn judged(
 }
 
 /// Draws a line to a place, with the pen down.
+#[inline(always)]
 fn draw<A: Allocator>(
     profile: &Profile<A>,
     page: &mut Page,
@@ -342,6 +343,16 @@ fn draw<A: Allocator>(
     }
 }
 
+/// Draws a dot where the pen is.
+// A call of its own: most lines begin where the last one ended.
+#[inline(never)]
+fn draw_dot<A: Allocator>(profile: &Profile<A>, page: &mut Page) -> Result<Option<PenLine>, Finding>
+    ensures { Marks lines_of (λ s. draw profile.now s s.settings.job.pen.place) page.old page.new result }
+{
+    let here = own_place(page.env.job.pen.place);
+    draw(profile, page, here)
+}
+
 /// `PD`: lowers the pen. A raised one marks a dot.
 fn lower_pen<A: Allocator>(
     profile: &Profile<A>,
@@ -352,8 +363,7 @@ fn lower_pen<A: Allocator>(
     if page.env.job.pen.is_down {
         return Ok(None);
     }
-    let here = own_place(page.env.job.pen.place);
-    draw(profile, page, here)
+    draw_dot(profile, page)
 }
 
 /// The own step of a command that moves the pen.
@@ -387,6 +397,7 @@ fn carry_pen(page: &mut Page, to: Target) -> Result<Option<PenLine>, Finding>
 }
 
 /// Moves the pen to a pair of coordinates, behind the own step of its command. With the pen down it draws.
+#[inline(always)]
 pub fn move_pen<A: Allocator>(
     profile: &Profile<A>,
     page: &mut Page,

@@ -166,6 +166,8 @@ fn hand_over_row<S: MarkSink>(
 }
 
 /// Prints a row of a raster.
+// A call of its own, as `run_text` is.
+#[inline(never)]
 fn run_row<S: MarkSink, A: Allocator>(
     profile: &Profile<A>,
     bytes: &[u8],
@@ -181,16 +183,6 @@ fn run_row<S: MarkSink, A: Allocator>(
     hand_over_row(&printed, page, sink)
 }
 
-/// The mark of a line, if there is one.
-fn line_mark(line: Option<PenLine>) -> Option<Mark<'static>>
-    ensures { shapes_of result ≡ lines_of line }
-{
-    match line {
-        None => None,
-        Some(line) => Some(Mark::Line(line)),
-    }
-}
-
 /// Hands over what a step of the pen drew.
 fn hand_over_line<S: MarkSink>(
     drawn: Result<Option<PenLine>, Finding>,
@@ -204,7 +196,11 @@ fn hand_over_line<S: MarkSink>(
 {
     match drawn {
         Err(finding) => Err(Halt::Found(finding)),
-        Ok(line) => hand_over_mark(&line_mark(line), page, sink),
+        Ok(None) => Ok(()),
+        Ok(Some(line)) => match sink.mark(&Mark::Line(line)) {
+            Err(fault) => Err(Halt::Refused(fault)),
+            Ok(()) => Ok(()),
+        },
     }
 }
 
@@ -262,7 +258,8 @@ fn run_motion<S: MarkSink, A: Allocator>(
 }
 
 /// Fills a rectangle.
-#[inline(always)]
+// A call of its own, as `run_text` is, into which the mark's sink is inlined.
+#[inline(never)]
 fn run_fill<S: MarkSink, A: Allocator>(
     profile: &Profile<A>,
     n: Number,

@@ -52,6 +52,8 @@ impl<A: Allocator> MarkSink for Comparer<'_, A> {
 
     ghost refuses = { λ old event new. ⊥ };
 
+    // Inlined, so that of what is compared only the case of the caller's mark is left.
+    #[inline(always)]
     fn mark(&mut self, mark: &Mark<'_>) -> Result<(), Infallible> {
         self.expected = match self.expected {
             Some([first, rest @ ..]) if first.is_marked(mark) => Some(rest),

@@ -90,6 +90,7 @@ impl<A: Allocator + Copy> Recorder<A> {
     }
 
     /// A copy of the mark, which takes the room where it is a row.
+    #[inline(always)]
     fn copy_of(&mut self, mark: &Mark<'_>) -> Result<OwnedMark<A>, AllocError>
         ensures copy { IfOk result (λ copy. shape_of_owned copy ≡ shape_of mark.now) }
         ensures same { self.new ≡ self.old }
@@ -112,6 +113,8 @@ impl<A: Allocator + Copy> MarkSink for Recorder<A> {
 
     ghost refuses = { λ old event new. new ≡ old };
 
+    // Inlined, so that the caller's mark is put together where the event is kept.
+    #[inline(always)]
     fn mark(&mut self, mark: &Mark<'_>) -> Result<(), AllocError> {
         let copy = self.copy_of(mark)?;
         self.events.push(OwnedEvent::Marked(copy))?;
