@@ -78,11 +78,16 @@ fn shown(text: &[u8; 5]) -> usize
 }
 
 /// Appends a point and the decimals of a number, where it has some.
+#[tactic(auto, using(crate::proofs::WholeNumbers::no_decimals))]
 fn append_decimals(text: &mut HeadText, n: u32)
     requires { array_vec_len text.old ≤ 10 }
     ensures text { text.new.items ≡ text.old.items ++ with_point (without_zeros (four_decimals n)) }
     ensures len { array_vec_len text.new ≤ array_vec_len text.old + 5 }
 {
+    // Most numbers are whole.
+    if n % 10_000 == 0 {
+        return;
+    }
     let all = [
         b'.',
         last_digit(n / 1000),
@@ -94,11 +99,17 @@ fn append_decimals(text: &mut HeadText, n: u32)
 }
 
 /// Appends a whole number.
+#[tactic(auto, using(std::proofs::lemmas::Fmt::decimal_digit))]
 fn append_whole(text: &mut HeadText, n: u16)
     requires { array_vec_len text.old ≤ 10 }
     ensures text { text.new.items ≡ text.old.items ++ decimal n }
     ensures len { array_vec_len text.new ≤ array_vec_len text.old + 5 }
 {
+    // A number of one digit, as most are, needs no division.
+    if n < 10 {
+        text.push(b'0' + n as u8);
+        return;
+    }
     let mut digits = Buffer::new();
     append(text, digits.format(n).as_bytes());
 }
@@ -147,68 +158,93 @@ fn append_coordinate(text: &mut HeadText, x: Coordinate)
     append(text, digits.format(x.units).as_bytes());
 }
 
-/// A spelling that no number enters.
-fn fixed(bytes: &[u8]) -> HeadText
-    requires { length bytes.now ≤ 26 }
-    ensures text { result.items ≡ bytes.now }
-    ensures len { array_vec_len result ≡ length bytes.now }
-{
-    let mut text = ArrayVec::new();
-    append(&mut text, bytes);
-    text
-}
-
-/// A command with its number.
-fn command_text(command: Command, n: Number) -> HeadText
-    ensures { result.items ≡ canon (Entry.Parameterized command (amount n)) }
+/// Appends a command with its number.
+fn append_command(text: &mut HeadText, command: Command, n: Number)
+    requires { array_vec_len text.old ≡ 0 }
+    ensures { text.new.items ≡ text.old.items ++ canon (Entry.Parameterized command (amount n)) }
 {
     let group = command.group();
-    let mut text = fixed(&[b'\x1b', group.introducer(), group.character()]);
-    append_number(&mut text, n);
+    append(text, &[b'\x1b', group.introducer(), group.character()]);
+    append_number(text, n);
     text.push(command.letter());
-    text
 }
 
-/// The two letters of a command of a frame.
-fn letters_text(mnemonic: Mnemonic) -> HeadText
-    ensures text { result.items ≡ (letters_of mnemonic).0 ∷ (letters_of mnemonic).1 ∷ [] }
-    ensures len { array_vec_len result ≡ 2 }
+/// Appends the two letters of a command of a frame.
+fn append_letters(text: &mut HeadText, mnemonic: Mnemonic)
+    requires { array_vec_len text.old ≡ 0 }
+    ensures text { text.new.items ≡ text.old.items ++ (letters_of mnemonic).0 ∷ (letters_of mnemonic).1 ∷ [] }
+    ensures len { array_vec_len text.new ≡ 2 }
 {
     let (first, second) = mnemonic.letters();
-    fixed(&[first, second])
+    append(text, &[first, second]);
 }
 
-/// A command of a frame with its number.
-fn setting_text(setting: Setting, magnitude: Magnitude) -> HeadText
-    ensures { result.items ≡ canon (Entry.Set setting magnitude.ten_thousandths) }
+/// Appends a command of a frame with its number.
+fn append_setting(text: &mut HeadText, setting: Setting, magnitude: Magnitude)
+    requires { array_vec_len text.old ≡ 0 }
+    ensures { text.new.items ≡ text.old.items ++ canon (Entry.Set setting magnitude.ten_thousandths) }
 {
-    let mut text = letters_text(Mnemonic::Sets(setting));
-    append_magnitude(&mut text, magnitude.ten_thousandths);
+    append_letters(text, Mnemonic::Sets(setting));
+    append_magnitude(text, magnitude.ten_thousandths);
     text.push(b';');
-    text
 }
 
-/// A command of a frame with a pair of coordinates, or none.
-fn motion_text(motion: Motion, to: Option<Coordinates>) -> HeadText
-    ensures { result.items ≡ canon (Entry.Move motion (pair to)) }
+/// Appends a command of a frame with a pair of coordinates, or none.
+fn append_motion(text: &mut HeadText, motion: Motion, to: Option<Coordinates>)
+    requires { array_vec_len text.old ≡ 0 }
+    ensures { text.new.items ≡ text.old.items ++ canon (Entry.Move motion (pair to)) }
 {
-    let mut text = letters_text(Mnemonic::Moves(motion));
+    append_letters(text, Mnemonic::Moves(motion));
     if let Some(place) = to {
-        append_coordinate(&mut text, place.x);
+        append_coordinate(text, place.x);
         text.push(b',');
-        append_coordinate(&mut text, place.y);
+        append_coordinate(text, place.y);
     }
     text.push(b';');
-    text
 }
 
-/// A symbol set with its number.
-fn symbol_set_text(letter: SetLetter, n: Number) -> HeadText
-    ensures { result.items ≡ canon (Entry.SymbolSet (amount n) letter.code) }
+/// Appends a symbol set with its number.
+fn append_symbol_set(text: &mut HeadText, letter: SetLetter, n: Number)
+    requires { array_vec_len text.old ≡ 0 }
+    ensures { text.new.items ≡ text.old.items ++ canon (Entry.SymbolSet (amount n) letter.code) }
 {
-    let mut text = fixed(b"\x1b(");
-    append_number(&mut text, n);
+    append(text, b"\x1b(");
+    append_number(text, n);
     text.push(letter.code);
+}
+
+/// Appends an item that has no data.
+fn append_simple(text: &mut HeadText, item: &SimpleItem)
+    requires { array_vec_len text.old ≡ 0 }
+    ensures { text.new.items ≡ text.old.items ++ canon (simple_view item.now) }
+{
+    match item {
+        SimpleItem::CarriageReturn => append(text, b"\r"),
+        SimpleItem::LineFeed => append(text, b"\n"),
+        SimpleItem::FormFeed => append(text, b"\x0c"),
+        SimpleItem::Reset => append(text, b"\x1bE"),
+        SimpleItem::ClearMargins => append(text, b"\x1b9"),
+        SimpleItem::HalfLineFeed => append(text, b"\x1b="),
+        SimpleItem::Parameterized(command, n) => append_command(text, *command, *n),
+        SimpleItem::SymbolSet(letter, n) => append_symbol_set(text, *letter, *n),
+        SimpleItem::DefaultFont => append(text, b"\x1b(3@"),
+        SimpleItem::EnterFrame(Handover::Previous) => append(text, b"\x1b%0B"),
+        SimpleItem::EnterFrame(Handover::Current) => append(text, b"\x1b%1B"),
+        SimpleItem::LeaveFrame(Handover::Previous) => append(text, b"\x1b%0A"),
+        SimpleItem::LeaveFrame(Handover::Current) => append(text, b"\x1b%1A"),
+        SimpleItem::Initialize => append(text, b"IN;"),
+        SimpleItem::Set(setting, magnitude) => append_setting(text, *setting, *magnitude),
+        SimpleItem::Move(motion, to) => append_motion(text, *motion, *to),
+        SimpleItem::ExitLanguage => append(text, b"\x1b%-12345X"),
+    }
+}
+
+/// The spelling of an item that has no data.
+fn simple_text(item: &SimpleItem) -> HeadText
+    ensures { result.items ≡ canon (simple_view item.now) }
+{
+    let mut text = ArrayVec::new();
+    append_simple(&mut text, item);
     text
 }
 
@@ -217,34 +253,20 @@ fn counting_text(command: DataCommand, count: u16) -> HeadText
     ensures { (bytes : List ℕ) → length bytes ≡ count → result.items ++ bytes ≡ canon (Entry.WithData command bytes) }
 {
     let group = command.group();
-    let mut text = fixed(&[b'\x1b', group.introducer(), group.character()]);
+    let mut text = ArrayVec::new();
+    append(&mut text, &[b'\x1b', group.introducer(), group.character()]);
     append_whole(&mut text, count);
     text.push(command.letter());
     text
 }
 
-fn simple_text(item: &SimpleItem) -> HeadText
-    ensures { result.items ≡ canon (simple_view item.now) }
+/// A byte of text.
+fn byte_text(code: u8) -> HeadText
+    ensures { result.items ≡ code ∷ [] }
 {
-    match item {
-        SimpleItem::CarriageReturn => fixed(b"\r"),
-        SimpleItem::LineFeed => fixed(b"\n"),
-        SimpleItem::FormFeed => fixed(b"\x0c"),
-        SimpleItem::Reset => fixed(b"\x1bE"),
-        SimpleItem::ClearMargins => fixed(b"\x1b9"),
-        SimpleItem::HalfLineFeed => fixed(b"\x1b="),
-        SimpleItem::Parameterized(command, n) => command_text(*command, *n),
-        SimpleItem::SymbolSet(letter, n) => symbol_set_text(*letter, *n),
-        SimpleItem::DefaultFont => fixed(b"\x1b(3@"),
-        SimpleItem::EnterFrame(Handover::Previous) => fixed(b"\x1b%0B"),
-        SimpleItem::EnterFrame(Handover::Current) => fixed(b"\x1b%1B"),
-        SimpleItem::LeaveFrame(Handover::Previous) => fixed(b"\x1b%0A"),
-        SimpleItem::LeaveFrame(Handover::Current) => fixed(b"\x1b%1A"),
-        SimpleItem::Initialize => fixed(b"IN;"),
-        SimpleItem::Set(setting, magnitude) => setting_text(*setting, *magnitude),
-        SimpleItem::Move(motion, to) => motion_text(*motion, *to),
-        SimpleItem::ExitLanguage => fixed(b"\x1b%-12345X"),
-    }
+    let mut text = ArrayVec::new();
+    text.push(code);
+    text
 }
 
 /// The spelling of an item that is no line, but for its data.
@@ -253,7 +275,7 @@ fn head_text(item: &Item<'_>) -> HeadText
     ensures { result.items ++ data_of (view item.now) ≡ canon (view item.now) }
 {
     match item {
-        Item::Text(byte) => fixed(&[byte.code]),
+        Item::Text(byte) => byte_text(byte.code),
         Item::Simple(item) => simple_text(item),
         Item::WithData(command, data) => counting_text(*command, data.bytes.len() as u16),
         Item::PjlLine(_) => unreachable!(),
@@ -313,14 +335,17 @@ fn line_text(spelled: &PjlLine<'_>) -> LineText
     all
 }
 
-/// Appends the spelling of an item that is no line.
-fn spell_command<A: Allocator>(item: &Item<'_>, bytes: &mut Vec<u8, A>) -> Result<(), AllocError>
-    requires { IsNoLine (view item.now) }
-    ensures ok { OnOk result (bytes.new.items ≡ bytes.old.items ++ canon (view item.now)) }
+/// Appends the spelling of a command with its data.
+fn spell_with_data<A: Allocator>(
+    command: DataCommand,
+    data: &[u8],
+    bytes: &mut Vec<u8, A>,
+) -> Result<(), AllocError>
+    requires { length «data».now ≤ 32767 }
+    ensures ok { OnOk result (bytes.new.items ≡ bytes.old.items ++ canon (Entry.WithData command «data».now)) }
     ensures err { OnErr result (bytes.new.items ≡ bytes.old.items) }
 {
-    let head = head_text(item);
-    let data = data_of(item);
+    let head = counting_text(command, data.len() as u16);
     // There is room for both before the first is appended, so that no part of a spelling is left behind.
     bytes.reserve(head.len() + data.len())?;
     bytes.extend_from_slice(&head)?;
@@ -335,8 +360,13 @@ pub fn spell<A: Allocator>(item: &Item<'_>, bytes: &mut Vec<u8, A>) -> Result<()
     ensures err { OnErr result (bytes.new.items ≡ bytes.old.items) }
 {
     match item {
+        Item::Text(byte) => {
+            bytes.push(byte.code)?;
+            Ok(())
+        }
+        Item::Simple(item) => bytes.extend_from_slice(&simple_text(item)),
+        Item::WithData(command, data) => spell_with_data(*command, data.bytes, bytes),
         Item::PjlLine(spelled) => bytes.extend_from_slice(&line_text(spelled)),
-        _ => spell_command(item, bytes),
     }
 }
 

@@ -41,7 +41,8 @@ impl<B: Allocator> Listing<B> {
         push_number(text, place)?;
         text.push(b' ')?;
         push_escaped(text, self.spelling.as_slice())?;
-        text.extend_from_slice(b"\n")
+        text.push(b'\n')?;
+        Ok(())
     }
 }
 
