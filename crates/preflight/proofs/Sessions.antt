@@ -1,9 +1,8 @@
 -- What a piece makes of a session.
-use Rattle.std.proofs.Common.{◌≡◌, ◌+◌, ◌-◌, ℕ, Bool, true, false, List, [], ◌++◌, length, take, drop, refl, ap, sym, ◌∙◌, subst, append_assoc, append-nil, length-append, take-append-drop, length-drop, ◌≤◌, arith}
+use Rattle.std.proofs.Common.{◌≡◌, ◌+◌, ◌-◌, ℕ, false, List, [], ◌++◌, length, take, drop, refl, ap, sym, ◌∙◌, subst, append_assoc, append-nil, length-append, take-append-drop, length-drop, ◌≤◌, arith}
 use Rattle.std.proofs.lemmas.List.{take_rest, length-take-le}
-use Rattle.pcl_items.specs.Items.{Placed}
 use Rattle.pcl_items.specs.LexerState.{LexerState}
-use Rattle.pcl_items.specs.Lexing.{HasRead, MayBe}
+use Rattle.pcl_items.specs.Lexing.{MayBe}
 use Rattle.device_profile.specs.Printer.{Printer}
 use Rattle.page_machine.specs.MachineState.{MachineState}
 use Rattle.sinks.specs.declared.counts.Counts.{Counts}
@@ -14,7 +13,6 @@ use Rattle.preflight.specs.Session.{SessionState, ChecksTo, HasChecked}
 use Rattle.preflight.specs.Verdict.{IsExact, KeepsPromise}
 use Rattle.preflight.specs.declared.verdict.Verdict.{Verdict}
 use Rattle.preflight.specs.Carriers.Checking.{HasCarriedOut}
-use Rattle.preflight.proofs.UnderWay.{carried_fed}
 
 -- ---- a piece, part by part
 
@@ -45,44 +43,39 @@ part_split : (front rest piece : List ℕ) (n : ℕ) → piece ≡ front ++ rest
 part_split front rest piece n e =
     e ∙ (ap (λ l. front ++ l) (sym (take-append-drop n rest)) ∙ (sym (append_assoc front (take n rest) (drop n rest)) ∙ ap (λ l. (front ++ take n rest) ++ l) (sym (take_rest rest n))))
 
-module _ (lexer : LexerState) (machines : List MachineState) (counts : Counts) (old : LexerState) (machines_mid : List MachineState) (counts_mid : Counts) (piece rest : List ℕ) (before : CarriesBefore lexer machines counts old machines_mid counts_mid piece rest) (n : ℕ) (fed : LexerState) (reads : (bytes : List ℕ) (items : List Placed) → HasRead old bytes items → HasRead fed (bytes ++ take n rest) items) where
-  -- one more part is fed
-  part_fed : (fleet : List Printer) (bytes : List ℕ) → HasCarriedOut fleet bytes lexer machines counts → HasCarriedOut fleet ((bytes ++ before.front) ++ take n rest) fed machines_mid counts_mid
-  part_fed fleet bytes carried = carried_fed fleet (bytes ++ before.front) (take n rest) old fed machines_mid counts_mid reads (before.carries fleet bytes carried)
-
-  -- what it decides is carried out
-  pub carries_more : (new : LexerState) (machines' : List MachineState) (counts' : Counts) → ((fleet : List Printer) (bytes : List ℕ) → HasCarriedOut fleet bytes fed machines_mid counts_mid → HasCarriedOut fleet bytes new machines' counts') → CarriesBefore lexer machines counts new machines' counts' piece (take (length rest - n) (drop n rest))
-  carries_more new machines' counts' came = record {
+module _ (lexer : LexerState) (machines : List MachineState) (counts : Counts) (old : LexerState) (machines_mid : List MachineState) (counts_mid : Counts) (piece rest : List ℕ) (before : CarriesBefore lexer machines counts old machines_mid counts_mid piece rest) (n : ℕ) where
+  -- one more part is carried out
+  pub carries_more : (new : LexerState) (machines' : List MachineState) (counts' : Counts) → CarriesFront old machines_mid counts_mid new machines' counts' (take n rest) → CarriesBefore lexer machines counts new machines' counts' piece (take (length rest - n) (drop n rest))
+  carries_more new machines' counts' carries = record {
     front = before.front ++ take n rest;
     split = part_split before.front rest piece n before.split;
     carries = λ fleet bytes carried.
-        subst (λ l. HasCarriedOut fleet l new machines' counts') (append_assoc bytes before.front (take n rest)) (came fleet ((bytes ++ before.front) ++ take n rest) (part_fed fleet bytes carried));
+        subst (λ l. HasCarriedOut fleet l new machines' counts') (append_assoc bytes before.front (take n rest)) (carries fleet (bytes ++ before.front) (before.carries fleet bytes carried));
   }
 
   -- or the job fails, whatever follows
-  pub part_fails : (ended : Bool) (verdict : Verdict) → ended ≡ false → ((fleet : List Printer) (bytes : List ℕ) → HasCarriedOut fleet bytes fed machines_mid counts_mid → (job : List ℕ) → MayBe ended bytes job → IsExact fleet job verdict)
+  pub part_fails : (verdict : Verdict) → ((fleet : List Printer) (bytes : List ℕ) → HasCarriedOut fleet bytes old machines_mid counts_mid → (job : List ℕ) → MayBe false (bytes ++ take n rest) job → IsExact fleet job verdict)
       → (fleet : List Printer) (bytes : List ℕ) → HasCarriedOut fleet bytes lexer machines counts → (job : List ℕ) → MayBe false (bytes ++ piece) job → IsExact fleet job verdict
-  part_fails ended verdict more came fleet bytes carried job may =
+  part_fails verdict fails fleet bytes carried job may =
       let part : List ℕ = take n rest in
       let later : List ℕ = take (length rest - n) (drop n rest) in
       let all : bytes ++ piece ≡ ((bytes ++ before.front) ++ part) ++ later =
       ap (λ l. bytes ++ l) (part_split before.front rest piece n before.split)
       ∙ (sym (append_assoc bytes (before.front ++ part) later)
       ∙ ap (λ l. l ++ later) (sym (append_assoc bytes before.front part))) in
-      came fleet ((bytes ++ before.front) ++ part) (part_fed fleet bytes carried) job (
+      fails fleet (bytes ++ before.front) (before.carries fleet bytes carried) job (
         later ++ may.0,
         may.1 ∙ (ap (λ l. l ++ may.0) all ∙ append_assoc ((bytes ++ before.front) ++ part) later may.0),
-        λ e. let both : true ≡ false = sym e ∙ more in absurd cc,
+        λ e. absurd cc,
       )
 
 -- the places before and behind a part
-pub part_place : (old fed new : LexerState) (rest : List ℕ) (n held total : ℕ) → n ≤ length rest → fed ≡ record old { rest = old.rest ++ take n rest; held = held } → new.place + length new.rest ≡ fed.place + length fed.rest → old.place + length old.rest + length rest ≡ total
+pub part_place : (old new : LexerState) (rest : List ℕ) (n total : ℕ) → n ≤ length rest → new.place + length new.rest ≡ old.place + length old.rest + length (take n rest) → old.place + length old.rest + length rest ≡ total
     → new.place + length new.rest + length (take (length rest - n) (drop n rest)) ≡ total
-part_place old fed new rest n held total few fed_is same so_far =
-    let place : fed.place + length fed.rest ≡ old.place + length (old.rest ++ take n rest) = ap (λ (s : LexerState). s.place + length s.rest) fed_is in
+part_place old new rest n total few place so_far =
     let part : length (take n rest) ≡ n = length-take-le n rest few in
     let later : length (take (length rest - n) (drop n rest)) ≡ length rest - n = ap length (take_rest rest n) ∙ length-drop n rest in
-    omega (arith, few, same, so_far, place, part, later, length-append old.rest (take n rest))
+    omega (arith, few, so_far, place, part, later)
 
 -- ---- the session
 

@@ -10,7 +10,7 @@ ghost use Rattle.preflight.specs.Verdict.{IsExact, KeepsPromise};
 ghost use Rattle.preflight.specs.Carriers.Checking.{CameTo, GoesOn, HasCarriedOut};
 ghost use Rattle.preflight.specs.Carriers.Lockstep.{AreIn, AreRunning, counts_of, machines_of};
 
-use crate::check::{Progress, carry_out_decided, finish};
+use crate::check::{Progress, carry_out_piece, finish};
 use crate::error::Error;
 use crate::lockstep::Lockstep;
 use crate::source::PIECE;
@@ -95,8 +95,7 @@ fn feed_parts<A: Allocator + Copy, P: Allocator>(
     let mut rest = piece;
     while !rest.is_empty() {
         let count = rest.len().min(PIECE);
-        lexer.feed(&rest[..count])?;
-        let progress = carry_out_decided(lexer, machines)?;
+        let progress = carry_out_piece(lexer, machines, &rest[..count])?;
         match progress {
             Progress::NeedMore => rest = &rest[count..],
             Progress::Failed { .. } => return Ok(progress),

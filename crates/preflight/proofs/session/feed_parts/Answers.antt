@@ -1,5 +1,4 @@
-use Rattle.std.proofs.Common.{◌++◌, ◌≤◌, length, false, ap, sym, ◌∙◌, subst, rules}
-use Rattle.pcl_items.specs.LexerState.{LexerState}
+use Rattle.std.proofs.Common.{◌++◌, ◌≤◌, length, false, sym, subst, rules}
 use Rattle.preflight.specs.Carriers.Checking.{CameTo}
 use Rattle.preflight.specs.Carriers.Lockstep.{machines_of, counts_of}
 use Rattle.preflight.specs.declared.verdict.Verdict.TheVariants.{Fail}
@@ -13,16 +12,17 @@ loop-rest-preserved g c =
     let rest = c.loop-rest.rest.now in
     let n = c.min-count.result in
     let went = c.in_ok-progress.ensures in
-    let machines = machines_of c.carry_out_decided.new.machines in
-    let counts = counts_of c.carry_out_decided.new.machines in
-    let goes_on = goes_on_from c.feed.new.self.ended c.carry_out_decided.new.lexer machines c.in_ok-progress.progress c.in-NeedMore.is went.goes_on in
+    let new = c.carry_out_piece.new in
+    let machines = machines_of new.machines in
+    let counts = counts_of new.machines in
+    let goes_on = goes_on_from false new.lexer machines c.in_ok-progress.progress c.in-NeedMore.is went.goes_on in
     let few : n ≤ length rest = search rules in
     record {
-      before = carries_more c.args.lexer.now (machines_of c.args.machines.now) (counts_of c.args.machines.now) c.loop-rest.lexer (machines_of c.loop-rest.machines) (counts_of c.loop-rest.machines) c.args.piece.now rest so_far.before n c.feed.new.self c.in_ok-feed.ensures.reads
-          c.carry_out_decided.new.lexer machines counts
-          (λ fleet bytes carried. came_on fleet bytes c.feed.new.self.ended c.carry_out_decided.new.lexer machines counts c.in_ok-progress.progress c.in-NeedMore.is (went.came fleet bytes carried));
-      place = part_place c.loop-rest.lexer c.feed.new.self c.carry_out_decided.new.lexer rest n _ _ few c.in_ok-feed.ensures.ok went.place so_far.place;
-      ended = went.ended ∙ goes_on.0;
+      before = carries_more c.args.lexer.now (machines_of c.args.machines.now) (counts_of c.args.machines.now) c.loop-rest.lexer (machines_of c.loop-rest.machines) (counts_of c.loop-rest.machines) c.args.piece.now rest so_far.before n
+          new.lexer machines counts
+          (λ fleet bytes carried. came_on fleet _ false new.lexer machines counts c.in_ok-progress.progress c.in-NeedMore.is (went.came fleet bytes carried));
+      place = part_place c.loop-rest.lexer new.lexer rest n _ few went.place so_far.place;
+      ended = went.ended;
       wants_more = goes_on.1;
       running = goes_on.2;
       modes = goes_on.3;
@@ -31,11 +31,11 @@ loop-rest-preserved g c =
 pub returns-in-Failed-clause-came : goal.returns-in-Failed-clause-came
 returns-in-Failed-clause-came g c = λ fleet bytes carried.
     let so_far = c.loop-rest.invariant in
-    let machines = machines_of c.carry_out_decided.new.machines in
-    let counts = counts_of c.carry_out_decided.new.machines in
-    let open_input = ap (λ (s : LexerState). s.ended) c.in_ok-feed.ensures.ok ∙ so_far.ended in
-    subst (λ p. CameTo fleet (bytes ++ c.args.piece.now) false p c.carry_out_decided.new.lexer machines counts) (sym c.in-Failed.is)
-    (part_fails c.args.lexer.now (machines_of c.args.machines.now) (counts_of c.args.machines.now) c.loop-rest.lexer (machines_of c.loop-rest.machines) (counts_of c.loop-rest.machines) c.args.piece.now c.loop-rest.rest.now so_far.before c.min-count.result c.feed.new.self c.in_ok-feed.ensures.reads
-    c.feed.new.self.ended (Fail c.in-Failed.place c.in-Failed.profile c.in-Failed.finding) open_input
-    (λ fleet bytes carried. came_to_fail fleet bytes c.feed.new.self.ended c.carry_out_decided.new.lexer machines counts c.in_ok-progress.progress c.in-Failed.place c.in-Failed.profile c.in-Failed.finding c.in-Failed.is (c.in_ok-progress.ensures.came fleet bytes carried))
+    let new = c.carry_out_piece.new in
+    let machines = machines_of new.machines in
+    let counts = counts_of new.machines in
+    subst (λ p. CameTo fleet (bytes ++ c.args.piece.now) false p new.lexer machines counts) (sym c.in-Failed.is)
+    (part_fails c.args.lexer.now (machines_of c.args.machines.now) (counts_of c.args.machines.now) c.loop-rest.lexer (machines_of c.loop-rest.machines) (counts_of c.loop-rest.machines) c.args.piece.now c.loop-rest.rest.now so_far.before c.min-count.result
+    (Fail c.in-Failed.place c.in-Failed.profile c.in-Failed.finding)
+    (λ fleet bytes carried. came_to_fail fleet _ false new.lexer machines counts c.in_ok-progress.progress c.in-Failed.place c.in-Failed.profile c.in-Failed.finding c.in-Failed.is (c.in_ok-progress.ensures.came fleet bytes carried))
     fleet bytes carried)
