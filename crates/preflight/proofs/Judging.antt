@@ -15,8 +15,13 @@ use Rattle.preflight.specs.declared.verdict.Verdict.{Verdict}
 use Rattle.preflight.specs.declared.verdict.Verdict.TheVariants.{Fail}
 use Rattle.preflight.specs.Pieces.{Spell}
 use Rattle.preflight.specs.Verdict.{IsExact, KeepsPromise}
-use Rattle.preflight.specs.Carriers.Lockstep.{AreRunning, AreIn}
-use Rattle.preflight.specs.Carriers.Checking.{CameTo, GoesOn, HasCarriedOut, IsCertain, IsUnderWay, Judges, failure_of}
+use Rattle.preflight.specs.declared.error.Error.{Error}
+use Rattle.preflight.specs.declared.error.Error.TheVariants.{Memory, Read, Write, Turns, NoProfile}
+use Rattle.preflight.specs.declared.lockstep.Lockstep.{Lockstep}
+use Rattle.preflight.specs.declared.lockstep.Lockstep.TheVariants.{One, Several}
+use Rattle.preflight.specs.Carriers.Each.{Each}
+use Rattle.preflight.specs.Carriers.Lockstep.{AreRunning, AreIn, IsFresh, machines_of}
+use Rattle.preflight.specs.Carriers.Checking.{CameTo, GoesOn, HasCarriedOut, IsCertain, IsErrorOfCheck, IsErrorOfPiece, IsUnderWay, Judges, failure_of, printers_of}
 use Rattle.preflight.proofs.PieceLemmas.{all_read, by_end, by_front, given_more, spell_more}
 use Rattle.preflight.proofs.StillOpen.{needs_read}
 
@@ -87,3 +92,24 @@ module _ (fleet : List Printer) (failed : Bool) (given_before given_after : List
 
   pub judged_certain : (verdict : Verdict) → came ≡ Some verdict → IsCertain fleet given_before given_after before verdict
   judged_certain verdict is = subst (Judges fleet failed given_before given_after before after reads total lexer machines counts) is judges
+
+-- ---- before the first read
+
+-- a fleet has a printer
+pub some_printer : {A P : Type 0} (machines : Lockstep A P) → 0 < length (printers_of (machines_of machines))
+some_printer (One alone) = omega arith
+some_printer (Several machines) = omega arith
+
+pub fresh_printers : (fleet : List Printer) (machines : List MachineState) → Each IsFresh fleet machines → printers_of machines ≡ fleet
+fresh_printers [] [] h = refl
+fresh_printers [] (m ∷ ms) h = absurd h
+fresh_printers (p ∷ ps) [] h = absurd h
+fresh_printers (p ∷ ps) (m ∷ ms) h = λ i. h.0.new.printer_is i ∷ fresh_printers ps ms h.1 i
+
+-- an error of one piece is one of a check
+pub piece_errors : (error : Error) → IsErrorOfPiece error → IsErrorOfCheck error
+piece_errors Memory h = tt
+piece_errors Read h = tt
+piece_errors Write h = absurd h
+piece_errors Turns h = absurd h
+piece_errors NoProfile h = absurd h

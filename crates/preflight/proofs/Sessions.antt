@@ -1,11 +1,13 @@
 -- What a piece makes of a session.
-use Rattle.std.proofs.Common.{◌≡◌, ◌+◌, ◌-◌, ℕ, false, List, [], ◌++◌, length, take, drop, refl, ap, sym, ◌∙◌, subst, append_assoc, append-nil, length-append, take-append-drop, length-drop, ◌≤◌, arith}
+use Rattle.std.proofs.Common.{◌≡◌, ◌+◌, ◌-◌, ℕ, false, List, [], ◌++◌, length, take, drop, refl, ap, sym, ◌∙◌, subst, append_assoc, append-nil, length-append, take-append-drop, length-drop, ◌≤◌, Result, IfOk, arith}
 use Rattle.std.proofs.lemmas.List.{take_rest, length-take-le}
+use Rattle.std.proofs.lemmas.Result.{IfOk-weaker}
 use Rattle.pcl_items.specs.LexerState.{LexerState}
 use Rattle.pcl_items.specs.Lexing.{MayBe}
 use Rattle.device_profile.specs.Printer.{Printer}
 use Rattle.page_machine.specs.MachineState.{MachineState}
 use Rattle.sinks.specs.declared.counts.Counts.{Counts}
+use Rattle.preflight.specs.declared.error.Error.{Error}
 use Rattle.preflight.specs.declared.session.Standing.TheVariants.{Open, Fails}
 use Rattle.preflight.specs.declared.verdict.Reason.{Reason}
 use Rattle.preflight.specs.declared.verdict.Verdict.TheVariants.{Fail}
@@ -111,6 +113,23 @@ session_ends session verdict is finishes fleet bytes checked =
 pub session_ended : (session : SessionState) (place profile : ℕ) (finding : Reason) → session.standing ≡ Fails place profile finding → (fleet : List Printer) (bytes : List ℕ) → HasChecked fleet bytes session → IsExact fleet bytes (Fail place profile finding)
 session_ended session place profile finding is fleet bytes checked =
     subst (λ s. ChecksTo s fleet bytes session) is checked bytes ([], sym (append-nil bytes), λ e. refl)
+
+-- the end of a session under another name
+module _ (inside entry : SessionState) (same : inside ≡ entry) (r : Result Verdict Error) (h : IfOk r (λ verdict. (fleet : List Printer) (bytes : List ℕ) → HasChecked fleet bytes inside → IsExact fleet bytes verdict × KeepsPromise fleet bytes verdict)) where
+  ended_so : IfOk r (λ verdict. (fleet : List Printer) (bytes : List ℕ) → HasChecked fleet bytes entry → IsExact fleet bytes verdict × KeepsPromise fleet bytes verdict)
+  ended_so = subst (λ s. IfOk r (λ verdict. (fleet : List Printer) (bytes : List ℕ) → HasChecked fleet bytes s → IsExact fleet bytes verdict × KeepsPromise fleet bytes verdict)) same h
+
+  pub ended_exact : IfOk r (λ verdict. (fleet : List Printer) (bytes : List ℕ) → HasChecked fleet bytes entry → IsExact fleet bytes verdict)
+  ended_exact =
+      IfOk-weaker r (λ verdict. (fleet : List Printer) (bytes : List ℕ) → HasChecked fleet bytes entry → IsExact fleet bytes verdict × KeepsPromise fleet bytes verdict)
+      (λ verdict. (fleet : List Printer) (bytes : List ℕ) → HasChecked fleet bytes entry → IsExact fleet bytes verdict)
+      (λ verdict ended fleet bytes checked. (ended fleet bytes checked).0) ended_so
+
+  pub ended_keeping : IfOk r (λ verdict. (fleet : List Printer) (bytes : List ℕ) → HasChecked fleet bytes entry → KeepsPromise fleet bytes verdict)
+  ended_keeping =
+      IfOk-weaker r (λ verdict. (fleet : List Printer) (bytes : List ℕ) → HasChecked fleet bytes entry → IsExact fleet bytes verdict × KeepsPromise fleet bytes verdict)
+      (λ verdict. (fleet : List Printer) (bytes : List ℕ) → HasChecked fleet bytes entry → KeepsPromise fleet bytes verdict)
+      (λ verdict ended fleet bytes checked. (ended fleet bytes checked).1) ended_so
 
 -- a session that was begun
 pub session_begun : (session : SessionState) (fleet : List Printer) → session.standing ≡ Open → session.total ≡ 0 → HasCarriedOut fleet [] session.lexer session.machines session.counts → HasChecked fleet [] session

@@ -6,4 +6,5 @@ pub mod TextInStep
 pub mod Checking
 pub mod Feeding
 pub mod Telling
+pub mod ToldReads
 pub mod PageTelling

@@ -1,5 +1,5 @@
 //! Tells the items of a job one after another, as they are read.
-ghost use Rattle.std.specs.Prelude.{◌≡◌, ◌+◌, ◌^◌, ◌≤◌, ℕ, List, [], length, Some, None, Ok, IfOk, IfErr, IsErrOf, IsFalse, true, false};
+ghost use Rattle.std.specs.Prelude.{◌≡◌, ◌+◌, ◌^◌, ◌≤◌, ℕ, List, Option, [], length, Some, None, Ok, IfOk, IfErr, IsErrOf, IsFalse, true, false};
 ghost use Rattle.pcl_items.specs.declared.item.Mode.{Mode};
 ghost use Rattle.pcl_items.specs.declared.item.Mode.TheVariants.{Pcl};
 ghost use Rattle.pcl_items.specs.Items.{at, view};
@@ -11,6 +11,7 @@ ghost use Rattle.preflight.specs.Outlet.{Written, is_err_of_write};
 ghost use Rattle.preflight.specs.Pieces.{ByReads};
 ghost use Rattle.preflight.specs.Source.{is_err_of_read};
 ghost use Rattle.preflight.specs.Carriers.Telling.{Admits, CameTo, Ended, Follows, HasTold, IsErrorOfTelling, IsErrorOfText, Tells};
+ghost use Rattle.preflight.specs.Carriers.ToldReads.{IsErrorOfRead, IsToldSoFar, TellsRead};
 
 use crate::error::Error;
 use crate::kept::write_kept;
@@ -137,6 +138,54 @@ fn tell_decided<R: Report, W: Outlet, A: Allocator>(
     Ok(came)
 }
 
+/// A job that is read and told.
+#[derive(Drop)]
+struct Told<A: Allocator> {
+    lexer: Lexer<A>,
+    /// Text that is to be written before the next read.
+    kept: Vec<u8, A>,
+    /// How many bytes were fed.
+    total: u64,
+}
+
+/// Reads a piece, and tells and writes what it decides. None means that more may come.
+fn tell_piece<S: Source, R: Report, W: Outlet, A: Allocator>(
+    told: &mut Told<A>,
+    reader: &mut S,
+    piece: &mut [u8; PIECE],
+    report: &mut R,
+    outlet: &mut W,
+) -> Result<Option<Outcome>, Error>
+    requires reading { IsFalse (S.failed reader.old) }
+    requires writing { IsFalse (W.failed outlet.old) }
+    requires mode { R.is_in report.old (mode_of told.old.lexer.context) }
+    requires kept { told.old.kept.items ≡ [] }
+    requires open_input { told.old.lexer.ended ≡ false }
+    requires wants_more { WantsMore told.old.lexer }
+    requires fed { told.old.lexer.place + length told.old.lexer.rest ≡ told.old.total }
+    requires room { told.old.total + 4096 ≤ 2 ^ 62 }
+    ensures came { (first : Telling) (start : Written) (given : List (List ℕ)) (before : Option (List ℕ)) (reads : ℕ) →
+        IsToldSoFar first start (S.failed reader.old) given (S.given reader.old) before (S.remaining reader.old) reads told.old.total told.old.lexer (R.telling report.old) (W.written outlet.old) →
+        TellsRead first start (S.failed reader.new) given (S.given reader.new) before (S.remaining reader.new) (reads + 1) told.new.total told.new.lexer (R.telling report.new) (W.written outlet.new) result }
+    ensures kept { IfOk result (λ _. told.new.kept.items ≡ []) }
+    ensures goes_on { result ≡ Ok None → R.is_in report.new (mode_of told.new.lexer.context) }
+    ensures read { S.failed reader.new ≡ is_err_of_read result }
+    ensures write { W.failed outlet.new ≡ is_err_of_write result }
+    ensures errors { IfErr result IsErrorOfRead }
+{
+    let count = match reader.read(piece) {
+        Ok(count) => count,
+        Err(_) => return Err(Error::Read),
+    };
+    if count == 0 {
+        told.lexer.end_input();
+        return tell_decided(&mut told.lexer, report, outlet, &mut told.kept, told.total);
+    }
+    told.lexer.feed(&piece[..count])?;
+    told.total += count as u64;
+    tell_decided(&mut told.lexer, report, outlet, &mut told.kept, told.total)
+}
+
 /// Reads a job to its end, and tells its items as they are read. What is told is written before the next read.
 pub fn tell_job<S: Source, R: Report, W: Outlet, A: Allocator + Copy>(
     alloc: A,
@@ -156,24 +205,14 @@ pub fn tell_job<S: Source, R: Report, W: Outlet, A: Allocator + Copy>(
     ensures long { IsErrOf result Error.Turns → ByReads (S.given reader.old) (S.given reader.new) (S.remaining reader.old) (λ job. 2 ^ 40 ≤ length job) }
     ensures errors { IfErr result IsErrorOfText }
 {
-    let mut lexer = Lexer::new(alloc);
-    let mut kept = Vec::new(alloc);
-    let mut total: u64 = 0;
+    let mut told = Told {
+        lexer: Lexer::new(alloc),
+        kept: Vec::new(alloc),
+        total: 0,
+    };
     let mut piece = [0u8; PIECE];
     for _ in 0..MOST_READS {
-        let count = match reader.read(&mut piece) {
-            Ok(count) => count,
-            Err(_) => return Err(Error::Read),
-        };
-        if count == 0 {
-            lexer.end_input();
-            let last = tell_decided(&mut lexer, report, writer, &mut kept, total)?;
-            let Some(outcome) = last else { unreachable!() };
-            return Ok(outcome);
-        }
-        lexer.feed(&piece[..count])?;
-        total += count as u64;
-        let came = tell_decided(&mut lexer, report, writer, &mut kept, total)?;
+        let came = tell_piece(&mut told, reader, &mut piece, report, writer)?;
         match came {
             None => {}
             Some(outcome) => return Ok(outcome),

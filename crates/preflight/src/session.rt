@@ -105,6 +105,41 @@ fn feed_parts<A: Allocator + Copy, P: Allocator>(
     Ok(Progress::NeedMore)
 }
 
+/// The verdict on what was fed, where no piece follows.
+// It only borrows what it works on, so that the proof of each way out need not free it.
+fn end_of<A: Allocator + Copy, P: Allocator>(
+    standing: Standing,
+    lexer: &mut Lexer<A>,
+    machines: &mut Lockstep<'_, A, P>,
+    total: u64,
+) -> Result<Verdict, Error>
+    requires running { standing ≡ Standing.Open → AreRunning (machines_of machines.old) }
+    requires modes { standing ≡ Standing.Open → AreIn (mode_of lexer.old.context) (machines_of machines.old) }
+    ensures ended { IfOk result (λ verdict. (fleet : List Printer) (bytes : List ℕ) →
+        HasChecked fleet bytes (record { lexer = lexer.old; machines = machines_of machines.old; counts = counts_of machines.old; total = total; standing = standing }) →
+        IsExact fleet bytes verdict × KeepsPromise fleet bytes verdict) }
+    ensures fails { (place profile : ℕ) (finding : Reason) → standing ≡ Standing.Fails place profile finding → result ≡ Ok (Verdict.Fail place profile finding) }
+    ensures stopped { (error : Error) → standing ≡ Standing.Stopped error → result ≡ Err error }
+    ensures errors { standing ≡ Standing.Open → IfErr result (λ error. error ≡ Error.Memory) }
+{
+    match standing {
+        Standing::Open => {
+            let verdict = finish(lexer, machines, total)?;
+            Ok(verdict)
+        }
+        Standing::Fails {
+            place,
+            profile,
+            finding,
+        } => Ok(Verdict::Fail {
+            place,
+            profile,
+            finding,
+        }),
+        Standing::Stopped(error) => Err(error),
+    }
+}
+
 impl<'p, A: Allocator + Copy, P: Allocator> Session<'p, A, P> {
     ghost use Rattle.preflight.specs.declared.session.Standing.TheVariants as standings;
 
@@ -194,27 +229,11 @@ impl<'p, A: Allocator + Copy, P: Allocator> Session<'p, A, P> {
         ensures errors { self.entry.standing ≡ standings.Open → IfErr result (λ error. error ≡ Error.Memory) }
     {
         let Session {
-            lexer,
-            machines,
+            mut lexer,
+            mut machines,
             total,
             standing,
         } = self;
-        match standing {
-            Standing::Open => {
-                let (mut lexer, mut machines) = (lexer, machines);
-                let verdict = finish(&mut lexer, &mut machines, total)?;
-                Ok(verdict)
-            }
-            Standing::Fails {
-                place,
-                profile,
-                finding,
-            } => Ok(Verdict::Fail {
-                place,
-                profile,
-                finding,
-            }),
-            Standing::Stopped(error) => Err(error),
-        }
+        end_of(standing, &mut lexer, &mut machines, total)
     }
 }

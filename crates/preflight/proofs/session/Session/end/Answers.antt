@@ -1,23 +1,20 @@
-use Rattle.std.proofs.Common.{sym, subst}
+use Rattle.std.proofs.Common.{ap, ◌∙◌}
 use Rattle.preflight.specs.Carriers.Lockstep.{machines_of, counts_of}
-use Rattle.preflight.specs.Session.{HasChecked, SessionState}
-use Rattle.preflight.proofs.Sessions.{session_ended, session_ends}
+use Rattle.preflight.specs.Session.{SessionState}
+use Rattle.preflight.proofs.Sessions.{ended_exact, ended_keeping}
 use Rattle.preflight.proofs.session.Session.end.Goals as goal
 
-pub returns-in_ok-verdict-in-Open-clause-exact : goal.returns-in_ok-verdict-in-Open-clause-exact
-returns-in_ok-verdict-in-Open-clause-exact g c = λ fleet bytes checked.
-    let inside = c.self.inside in
-    let session : SessionState = record { lexer = inside.lexer; machines = machines_of inside.machines; counts = counts_of inside.machines; total = inside.total; standing = inside.standing } in
-    (session_ends session c.in_ok-verdict-in-Open.verdict c.in-Open.is c.in_ok-verdict-in-Open.ensures fleet bytes (subst (HasChecked fleet bytes) (sym c.self.view_is) checked)).0
+pub returns-clause-exact : goal.returns-clause-exact
+returns-clause-exact g c = ended_exact _ _ c.self.view_is c.end_of.result c.end_of.ensures.ended
 
-pub returns-in_ok-verdict-in-Open-clause-headline : goal.returns-in_ok-verdict-in-Open-clause-headline
-returns-in_ok-verdict-in-Open-clause-headline g c = λ fleet bytes checked.
-    let inside = c.self.inside in
-    let session : SessionState = record { lexer = inside.lexer; machines = machines_of inside.machines; counts = counts_of inside.machines; total = inside.total; standing = inside.standing } in
-    (session_ends session c.in_ok-verdict-in-Open.verdict c.in-Open.is c.in_ok-verdict-in-Open.ensures fleet bytes (subst (HasChecked fleet bytes) (sym c.self.view_is) checked)).1
+pub returns-clause-headline : goal.returns-clause-headline
+returns-clause-headline g c = ended_keeping _ _ c.self.view_is c.end_of.result c.end_of.ensures.ended
 
-pub returns-in-Fails-clause-exact : goal.returns-in-Fails-clause-exact
-returns-in-Fails-clause-exact g c = λ fleet bytes checked.
-    let inside = c.self.inside in
-    let session : SessionState = record { lexer = inside.lexer; machines = machines_of inside.machines; counts = counts_of inside.machines; total = inside.total; standing = inside.standing } in
-    session_ended session c.in-Fails.place c.in-Fails.profile c.in-Fails.finding c.in-Fails.is fleet bytes (subst (HasChecked fleet bytes) (sym c.self.view_is) checked)
+pub returns-clause-after_fail : goal.returns-clause-after_fail
+returns-clause-after_fail g c = λ place profile finding is. c.end_of.ensures.fails place profile finding (ap (λ (s : SessionState). s.standing) c.self.view_is ∙ is)
+
+pub returns-clause-after_error : goal.returns-clause-after_error
+returns-clause-after_error g c = λ error is. c.end_of.ensures.stopped error (ap (λ (s : SessionState). s.standing) c.self.view_is ∙ is)
+
+pub returns-clause-errors : goal.returns-clause-errors
+returns-clause-errors g c = λ is. c.end_of.ensures.errors (ap (λ (s : SessionState). s.standing) c.self.view_is ∙ is)
