@@ -1,5 +1,5 @@
 -- What one more read makes of a job that is told as it is read.
-use Rattle.std.proofs.Common.{◌≡◌, ◌+◌, ◌<◌, ◌≤◌, ℕ, Bool, true, false, List, [], ◌∷◌, ◌++◌, length, take, refl, sym, ◌∙◌, subst, Option, None, Some, IsFalse, IsErr, Result, Ok, Err, IfErr, arith}
+use Rattle.std.proofs.Common.{◌≡◌, ◌+◌, ◌<◌, ◌≤◌, ℕ, Bool, true, false, List, [], ◌∷◌, ◌++◌, length, take, refl, sym, ◌∙◌, subst, Option, None, Some, IsFalse, IsErr, IsErrAnd, Result, Ok, Err, IfErr, arith}
 use Rattle.std.specs.Io.KnownBytes.{Consumes, Keeps, IsAtEnd}
 use Rattle.pcl_items.specs.LexerState.{LexerState, WantsMore}
 use Rattle.preflight.specs.declared.error.Error.{Error}
@@ -15,6 +15,10 @@ use Rattle.preflight.proofs.WrittenTexts.{decided_unread, due_at_end, due_before
 -- an error of the telling is none of the reads
 no_read : (e : Error) → IsErrorOfTelling e → e ≡ Read → {P : Type 0} → P
 no_read e h is = absurd (subst IsErrorOfTelling is h)
+
+-- an error that is handed on
+pub same_read : (r : Result Outcome Error) (e : Error) → IsErrAnd r (λ y. y ≡ e) → r ≡ Err Read → e ≡ Read
+same_read r e h is = sym (subst (λ r. IsErrAnd r (λ y. y ≡ e)) is h)
 
 module _ (first : Telling) (start : Written) (failed : Bool) (given given_mid given_after : List (List ℕ)) (before mid after : Option (List ℕ)) (reads total : ℕ) (old : LexerState) (telling : Telling) (written : Written) (way : IsToldSoFar first start failed given given_mid before mid reads total old telling written) where
   -- a read failed

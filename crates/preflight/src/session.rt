@@ -107,7 +107,7 @@ fn feed_parts<A: Allocator + Copy, P: Allocator>(
 
 /// The verdict on what was fed, where no piece follows.
 // It only borrows what it works on, so that the proof of each way out need not free it.
-fn end_of<A: Allocator + Copy, P: Allocator>(
+fn verdict_at_end<A: Allocator + Copy, P: Allocator>(
     standing: Standing,
     lexer: &mut Lexer<A>,
     machines: &mut Lockstep<'_, A, P>,
@@ -234,6 +234,6 @@ impl<'p, A: Allocator + Copy, P: Allocator> Session<'p, A, P> {
             total,
             standing,
         } = self;
-        end_of(standing, &mut lexer, &mut machines, total)
+        verdict_at_end(standing, &mut lexer, &mut machines, total)
     }
 }

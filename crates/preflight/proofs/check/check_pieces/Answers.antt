@@ -1,4 +1,5 @@
-use Rattle.std.proofs.Common.{rules, arith}
+use Rattle.std.proofs.Common.{arith}
+use Rattle.std.proofs.lemmas.Result.{err_from_is_err_and}
 use Rattle.preflight.specs.Carriers.Checking.{printers_of}
 use Rattle.preflight.specs.Carriers.Lockstep.{machines_of}
 use Rattle.preflight.proofs.Judging.{judged_certain, judged_open, piece_errors, some_printer}
@@ -23,7 +24,9 @@ returns-in-Some-clause-certain g c =
     judged_certain fleet _ _ _ _ _ _ _ _ _ _ c.in_ok-came.came (c.in_ok-came.ensures.came fleet _ _ _ c.loop.invariant) c.in-Some.verdict c.in-Some.is
 
 pub returns-in_err-came-clause-errors : goal.returns-in_err-came-clause-errors
-returns-in_err-came-clause-errors g c = let h = piece_errors _ c.in_err-came.ensures.errors in search rules
+returns-in_err-came-clause-errors g c =
+    let p = err_from_is_err_and c.from_residual.result c.from_residual.ensures.1 in
+    rw (p.1, p.2) (piece_errors c.in_err-came.field-0.0 c.in_err-came.ensures.errors)
 
 pub returns-clause-long : goal.returns-clause-long
 returns-clause-long g c =

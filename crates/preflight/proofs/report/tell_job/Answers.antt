@@ -1,10 +1,10 @@
-use Rattle.std.proofs.Common.{[], ap, sym, subst, Ok, rules, arith}
+use Rattle.std.proofs.Common.{[], ap, sym, subst, Ok, arith}
 use Rattle.pcl_items.specs.Modes.{mode_of}
 use Rattle.pcl_items.specs.LexerState.{LexerState}
 use Rattle.preflight.proofs.Feeding.{fed_none}
 use Rattle.preflight.proofs.PieceLemmas.{by_length}
 use Rattle.preflight.proofs.Tellings.{nothing_decided, told_none}
-use Rattle.preflight.proofs.ToldReads.{told_on, told_over, told_so_far}
+use Rattle.preflight.proofs.ToldReads.{same_read, told_on, told_over, told_so_far}
 use Rattle.preflight.proofs.WrittenTexts.{if_err}
 use Rattle.preflight.proofs.report.tell_job.Goals as goal
 
@@ -35,7 +35,7 @@ pub returns-in_err-came-clause-front : goal.returns-in_err-came-clause-front
 returns-in_err-came-clause-front g c = if_err c.from_residual.result (c.in_err-came.ensures.came _ _ _ _ _ c.loop.invariant.way).0
 
 pub returns-in_err-came-clause-decided : goal.returns-in_err-came-clause-decided
-returns-in_err-came-clause-decided g c = λ is. (c.in_err-came.ensures.came _ _ _ _ _ c.loop.invariant.way).1 (search rules)
+returns-in_err-came-clause-decided g c = λ is. (c.in_err-came.ensures.came _ _ _ _ _ c.loop.invariant.way).1 (same_read c.from_residual.result c.in_err-came.field-0.0 c.from_residual.ensures.1 is)
 
 pub returns-in-Some-clause-written : goal.returns-in-Some-clause-written
 returns-in-Some-clause-written g c =

@@ -35,7 +35,7 @@ returns-clause-came g c = λ first start given before reads way.
     let piece = take c.in-Ok.count c.read.new.buf in
     let count_is : c.in-Ok.count ≡ length piece = search rules in
     let told = subst (HasTold first start (way.fed.bytes ++ piece) fed telling written) (sym c.requires.kept) (told_fed first start way.fed.bytes lexer telling written [] way.told fed piece c.in_ok-feed.ensures.reads) in
-    let went = c.tell_decided in
+    let went = c.tell_decided-2 in
     told_piece first start _ given _ _ before _ _ reads _ lexer _ _ way piece c.in-Ok.ensures.given c.in-Ok.ensures.bytes.0 fed c.in_ok-feed.ensures.ok c.in-Ok.count count_is (search rules) (search rules)
     _ went.new.lexer (g.R.Report.telling went.new.report) (g.W.Outlet.written went.new.outlet) went.result (search rules) went.ensures.ended went.ensures.place (λ is. (went.ensures.goes_on is).1) went.ensures.err
     (went.ensures.came first start (way.fed.bytes ++ piece) told (total_more way.fed.bytes piece c.args.told.now.total c.in-Ok.count way.fed.total_is count_is))

@@ -1,7 +1,7 @@
 use Rattle.preflight.specs.Carriers.Lockstep.{machines_of, counts_of}
 use Rattle.preflight.specs.Session.{SessionState}
 use Rattle.preflight.proofs.Sessions.{session_ended, session_ends}
-use Rattle.preflight.proofs.session.end_of.Goals as goal
+use Rattle.preflight.proofs.session.verdict_at_end.Goals as goal
 
 pub returns-in_ok-verdict-in-Open-clause-ended : goal.returns-in_ok-verdict-in-Open-clause-ended
 returns-in_ok-verdict-in-Open-clause-ended g c =
