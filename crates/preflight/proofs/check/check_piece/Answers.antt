@@ -1,4 +1,4 @@
-use Rattle.std.proofs.Common.{◌+◌, ◌<◌, length, take, sym, subst, rules}
+use Rattle.std.proofs.Common.{◌+◌, take, sym, subst, rules}
 use Rattle.preflight.specs.Carriers.Checking.{Judges}
 use Rattle.preflight.specs.Carriers.Lockstep.{machines_of, counts_of}
 use Rattle.preflight.proofs.Judging.{judged_at_end, judged_by_piece}

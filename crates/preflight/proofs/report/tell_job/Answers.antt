@@ -1,4 +1,4 @@
-use Rattle.std.proofs.Common.{[], ap, sym, subst, Ok, arith}
+use Rattle.std.proofs.Common.{ap, sym, subst, Ok, arith}
 use Rattle.pcl_items.specs.Modes.{mode_of}
 use Rattle.pcl_items.specs.LexerState.{LexerState}
 use Rattle.preflight.proofs.Feeding.{fed_none}

@@ -1,4 +1,4 @@
-use Rattle.std.proofs.Common.{◌≡◌, ◌+◌, [], ◌++◌, length, take, sym, subst, rules}
+use Rattle.std.proofs.Common.{◌≡◌, [], ◌++◌, length, take, sym, subst, rules}
 use Rattle.preflight.specs.Carriers.Telling.{HasTold}
 use Rattle.preflight.proofs.Tellings.{told_fed, told_to_end}
 use Rattle.preflight.proofs.ToldReads.{told_end, told_err, told_piece, told_unfed, told_unread}

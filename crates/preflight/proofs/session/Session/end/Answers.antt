@@ -1,5 +1,4 @@
 use Rattle.std.proofs.Common.{ap, ◌∙◌}
-use Rattle.preflight.specs.Carriers.Lockstep.{machines_of, counts_of}
 use Rattle.preflight.specs.Session.{SessionState}
 use Rattle.preflight.proofs.Sessions.{ended_exact, ended_keeping}
 use Rattle.preflight.proofs.session.Session.end.Goals as goal
