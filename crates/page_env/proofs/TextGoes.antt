@@ -1,15 +1,17 @@
 -- A byte of text where the measure is known.
-use Rattle.std.proofs.Common.{◌≡◌, ℕ, ℤ, pos, suc, ◌+◌, ◌*◌, ◌≤◌, ◌<◌, ◌==◌, List, [], ◌∷◌, ◌++◌, length, take, get_or, Bool, true, false, not, ◌&&◌, ◌||◌, cond, Option, None, Some, refl, sym, ap, subst, ◌∙◌, arith}
+use Rattle.std.proofs.Common.{◌≡◌, ℕ, ℤ, pos, zero, suc, ◌+◌, ◌-◌, ◌*◌, ◌≤◌, ◌<◌, ◌==◌, List, [], ◌∷◌, ◌++◌, length, take, drop, get_or, Bool, true, false, not, ◌&&◌, ◌||◌, cond, Option, None, Some, refl, sym, ap, subst, ◌∙◌, arith}
 use Rattle.std.specs.Prelude.{◌+ℤ◌, int_lt, nat_le, is_none, unwrap_or}
 use Rattle.std.specs.Option.{option_map_or}
 use Rattle.std.proofs.Math.Nat.{suc-mul}
+use Rattle.std.proofs.Math.Seq.{take-add}
 use Rattle.std.proofs.lemmas.Int.{ints}
 use Rattle.std.proofs.lemmas.Bool.{and_parts, leb-true}
 use Rattle.std.proofs.lemmas.Bool.Decides.{nat_tests}
-use Rattle.std.proofs.lemmas.List.{take_more, length-take-le}
+use Rattle.std.proofs.lemmas.List.{take_more, take_rest, length-take-le}
 use Rattle.tick_length.specs.Length.{IsInRange}
 use Rattle.device_profile.specs.declared.field.Field.{Field}
 use Rattle.device_profile.specs.declared.panel.Panel.{Panel}
+use Rattle.device_profile.specs.declared.font.CodeRange.{CodeRange}
 use Rattle.device_profile.specs.Faces.{Face, has_code, is_text_of}
 use Rattle.device_profile.specs.Printer.{Printer}
 use Rattle.page_env.specs.declared.finding.Finding.{Finding}
@@ -198,11 +200,38 @@ count_snoc (c ∷ codes) code = omega (arith, count_snoc codes code)
 pub count_more : (codes : List ℕ) (i d : ℕ) → i < length codes → glyph_count (take (i + 1) codes) ≡ glyph_count (take i codes) + cond (get_or codes i d == 32) 0 1
 count_more codes i d inside = ap glyph_count (take_more codes i d inside) ∙ count_snoc (take i codes) (get_or codes i d)
 
--- ---- bytes that the face has
+-- ---- bytes that the face has, and those that its first range has, or that are spaces
 
-of_face_snoc : (face : Face) (codes : List ℕ) (code : ℕ) → CanGoIn face.codes codes → is_text_of face.codes code ≡ true → CanGoIn face.codes (codes ++ code ∷ [])
-of_face_snoc face [] code h k = (k, tt)
-of_face_snoc face (c ∷ codes) code h k = (h.0, of_face_snoc face codes code h.1 k)
+all_of : (a b c d e : Bool) → (a ≡ true → e ≡ true) → (b ≡ true → e ≡ true) → (a || (b && c)) ≡ true → (e && (a || ((b && c) || d))) ≡ true
+all_of true b c d e h k p = ap (λ x. x && true) (h refl)
+all_of false true true d e h k p = ap (λ x. x && true) (k refl)
+all_of false true false d e h k p = absurd cc
+all_of false false c d e h k p = absurd cc
 
-pub of_face_more : (face : Face) (i d : ℕ) (bytes : List ℕ) → i < length bytes → CanGoIn face.codes (take i bytes) → is_text_of face.codes (get_or bytes i d) ≡ true → CanGoIn face.codes (take (i + 1) bytes)
-of_face_more face i d bytes inside h k = subst (λ l. CanGoIn face.codes l) (sym (take_more bytes i d inside)) (of_face_snoc face (take i bytes) (get_or bytes i d) h k)
+pub space_or_in : (range : CodeRange) (others : List CodeRange) (code : ℕ) → 32 ≤ range.first → (code == 32 || (nat_le range.first code && nat_le code range.last)) ≡ true → is_text_of (range ∷ others) code ≡ true
+space_or_in range others code least h =
+    all_of (code == 32) (nat_le range.first code) (nat_le code range.last) (has_code others code) (nat_le 32 code)
+    (λ e. grind (arith, nat_tests, e)) (λ e. grind (arith, nat_tests, e)) h
+
+can_go_in_both : (ranges : List CodeRange) (first second : List ℕ) → CanGoIn ranges first → CanGoIn ranges second → CanGoIn ranges (first ++ second)
+can_go_in_both ranges [] second h k = k
+can_go_in_both ranges (code ∷ first) second h k = (h.0, can_go_in_both ranges first second h.1 k)
+
+pub go_further : (ranges : List CodeRange) (bytes : List ℕ) (n m : ℕ) → CanGoIn ranges (take n bytes) → CanGoIn ranges (take m (drop n bytes)) → CanGoIn ranges (take (n + m) bytes)
+go_further ranges bytes n m h k = subst (λ l. CanGoIn ranges l) (sym (take-add n m bytes)) (can_go_in_both ranges (take n bytes) (take m (drop n bytes)) h k)
+
+pub of_ranges_more : (ranges : List CodeRange) (i d : ℕ) (bytes : List ℕ) → i < length bytes → CanGoIn ranges (take i bytes) → is_text_of ranges (get_or bytes i d) ≡ true → CanGoIn ranges (take (i + 1) bytes)
+of_ranges_more ranges i d bytes inside h k = subst (λ l. CanGoIn ranges l) (sym (take_more bytes i d inside)) (can_go_in_both ranges (take i bytes) (get_or bytes i d ∷ []) h (k, tt))
+
+pub all_bytes : (ranges : List CodeRange) (bytes : List ℕ) (i : ℕ) → length bytes ≤ i → CanGoIn ranges (take i bytes) → CanGoIn ranges bytes
+all_bytes ranges [] i h k = tt
+all_bytes ranges (code ∷ bytes) zero h k = absurd omega arith
+all_bytes ranges (code ∷ bytes) (suc i) h k = (k.0, all_bytes ranges bytes i (omega arith) k.1)
+
+pub go_further_in_rest : (ranges : List CodeRange) (bytes : List ℕ) (n m : ℕ) → CanGoIn ranges (take n bytes) → CanGoIn ranges (take m (take (length bytes - n) (drop n bytes))) → CanGoIn ranges (take (n + m) bytes)
+go_further_in_rest ranges bytes n m h k =
+    go_further ranges bytes n m h (subst (λ rest. CanGoIn ranges (take m rest)) (take_rest bytes n) k)
+
+pub of_first : (codes : List CodeRange) (first : CodeRange) (bytes : List ℕ) → 1 ≤ length codes → ((others : List CodeRange) → CanGoIn (get_or codes 0 first ∷ others) bytes) → CanGoIn codes bytes
+of_first [] first bytes some h = absurd omega arith
+of_first (range ∷ others) first bytes some h = h others

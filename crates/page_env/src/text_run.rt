@@ -1,7 +1,9 @@
 //! Runs of text: bytes that go one after another, so that what they read is read once.
 
-ghost use Rattle.std.specs.Prelude.{◌≡◌, ◌↔◌, ◌≤◌, ◌*◌, ℕ, pos, true, ◌+ℤ◌, ◌-ℤ◌, ◌≤ℤ◌, length, take, IfSome, IsTrue};
+ghost use Rattle.std.specs.Prelude.{◌≡◌, ◌↔◌, ◌≤◌, ◌*◌, ℕ, List, ◌∷◌, pos, true, ◌+ℤ◌, ◌-ℤ◌, ◌≤ℤ◌, length, take, IfSome, IsTrue};
 ghost use Rattle.tick_length.specs.Length.{IsInRange};
+ghost use Rattle.device_profile.specs.declared.font.CodeRange.{CodeRange};
+ghost use Rattle.device_profile.specs.Faces.{is_text_of};
 ghost use Rattle.device_profile.specs.Printer.{Printer};
 ghost use Rattle.page_env.specs.Mark.{is_inside};
 ghost use Rattle.page_env.specs.TextRun.{AllGo, CanGoIn, GoFirst, IsRun, page_behind_all, glyph_count};
@@ -165,10 +167,59 @@ fn columns_ahead<A: Allocator>(measure: &TextMeasure<'_, A>, x: Length) -> u64
     columns_up_to(measure.column, x, edge, last)
 }
 
-/// How many of the first bytes can go in a face.
-// A function of its own, so that its loop keeps all in registers.
-#[inline(never)]
-fn text_of_face<A: Allocator>(face: &FontRow<A>, bytes: &[u8]) -> usize
+/// Whether a byte is a space, or in a range.
+#[inline(always)]
+#[tactic(auto, using(crate::proofs::TextGoes::space_or_in))]
+fn is_space_or_in(range: CodeRange, code: u8) -> bool
+    requires { 32 ≤ range.first }
+    ensures { (others : List CodeRange) → IsTrue result → is_text_of (range ∷ others) code ≡ true }
+{
+    code == b' ' || (range.first <= code && code <= range.last)
+}
+
+/// Whether all bytes are spaces or in a range.
+// None is left out when one is not, so that many bytes are looked at at once.
+#[inline(always)]
+fn are_spaces_or_in(range: CodeRange, bytes: &[u8]) -> bool
+    requires { 32 ≤ range.first }
+    ensures { (others : List CodeRange) → IsTrue result → CanGoIn (range ∷ others) bytes.now }
+{
+    let mut are = true;
+    for code in bytes {
+        are = are & is_space_or_in(range, *code);
+    }
+    are
+}
+
+/// So many bytes are looked at at once.
+const AT_ONCE: usize = 16;
+
+/// How many of the first bytes are spaces or in the first range of a face's codes, as most text is, counted in sixteens.
+#[inline(always)]
+fn text_of_first_range<A: Allocator>(face: &FontRow<A>, bytes: &[u8]) -> usize
+    ensures short { result ≤ length bytes.now }
+    ensures known { CanGoIn face.now.codes (take result bytes.now) }
+{
+    let [range, ..] = face.codes() else {
+        return 0;
+    };
+    if range.first < b' ' {
+        return 0;
+    }
+    let mut known = 0;
+    for _ in 0..MOST_AT_ONCE / AT_ONCE {
+        let rest = &bytes[known..];
+        if rest.len() < AT_ONCE || !are_spaces_or_in(*range, &rest[..AT_ONCE]) {
+            return known;
+        }
+        known += AT_ONCE;
+    }
+    known
+}
+
+/// How many of the first bytes can go in a face, looked up one by one.
+#[inline(always)]
+fn text_by_code<A: Allocator>(face: &FontRow<A>, bytes: &[u8]) -> usize
     ensures short { result ≤ length bytes.now }
     ensures known { CanGoIn face.now.codes (take result bytes.now) }
 {
@@ -178,6 +229,17 @@ fn text_of_face<A: Allocator>(face: &FontRow<A>, bytes: &[u8]) -> usize
         }
     }
     bytes.len()
+}
+
+/// How many of the first bytes can go in a face.
+// A function of its own, so that its loops keep all in registers.
+#[inline(never)]
+fn text_of_face<A: Allocator>(face: &FontRow<A>, bytes: &[u8]) -> usize
+    ensures short { result ≤ length bytes.now }
+    ensures known { CanGoIn face.now.codes (take result bytes.now) }
+{
+    let known = text_of_first_range(face, bytes);
+    known + text_by_code(face, &bytes[known..])
 }
 
 /// The first bytes that go one after another from a place, if it is known that one goes.

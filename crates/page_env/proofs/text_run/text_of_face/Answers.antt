@@ -1,6 +1,5 @@
-use Rattle.std.proofs.Common.{sym, ◌∙◌}
-use Rattle.page_env.proofs.TextGoes.{of_face_more}
+use Rattle.page_env.proofs.TextGoes.{go_further_in_rest}
 use Rattle.page_env.proofs.text_run.text_of_face.Goals as goal
 
-pub loop-count-preserved : goal.loop-count-preserved
-loop-count-preserved g c = of_face_more c.args.face.now c.loop-count.count _ c.args.bytes.now c.loop-count-test.true c.loop-count.invariant (sym c.is_text.ensures ∙ c.if-not-is_text.false)
+pub returns-clause-known : goal.returns-clause-known
+returns-clause-known g c = go_further_in_rest _ _ _ _ c.text_of_first_range-known.ensures.known c.text_by_code.ensures.known
