@@ -1,12 +1,12 @@
 -- Bytes that begin with those of the universal exit.
-use Rattle.std.proofs.Common.{◌≡◌, ℕ, zero, suc, ◌+◌, ◌<◌, ◌≤◌, List, [], ◌∷◌, ◌++◌, length, take, drop, Bool, true, false, refl, sym, ap, subst, ◌∙◌, arith}
+use Rattle.std.proofs.Common.{◌≡◌, ℕ, zero, suc, ◌<◌, ◌≤◌, List, [], ◌∷◌, ◌++◌, length, take, drop, Bool, true, false, refl, sym, ap, ◌∙◌, arith}
 use Rattle.std.specs.Prelude.{◌==◌, ◌&&◌}
 use Rattle.std.proofs.lemmas.Bool.{eqb-true, eq-eqb, and_from, cond_both}
 use Rattle.std.proofs.Math.Seq.{drop-append_seam}
 use Rattle.pcl_items.specs.Value.{Amount}
 use Rattle.pcl_items.specs.ValueField.{IsField}
 use Rattle.pcl_items.specs.Exit.{exit_field, BeginsExit, begins_with}
-use Rattle.pcl_items.specs.Field.{field_at, amount_of}
+use Rattle.pcl_items.specs.Field.{field_at}
 use Rattle.pcl_items.specs.FrameReader.{language_in}
 use Rattle.pcl_items.specs.Reader.{First, Open, exit_or, without_group}
 use Rattle.pcl_items.proofs.Fields.{ends_at_letter, field_read}

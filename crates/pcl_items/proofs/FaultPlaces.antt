@@ -1,5 +1,5 @@
 -- Where a fault is read it has a rule, and what has a rule is read as that fault.
-use Rattle.std.proofs.Common.{◌≡◌, ◌≢◌, ℕ, List, [], ◌∷◌, true, Some, refl, sym, ap, subst, ◌∙◌}
+use Rattle.std.proofs.Common.{◌≡◌, ◌≢◌, ℕ, List, [], ◌∷◌, true, Some, refl, sym, ap, subst}
 use Rattle.std.specs.Prelude.{◌==◌}
 use Rattle.std.proofs.lemmas.Bool.{eqb-true, eqb-false, cond_both}
 use Rattle.pcl_items.specs.declared.command.Group.{Group}
@@ -14,7 +14,7 @@ use Rattle.pcl_items.specs.LineFirst as lines
 use Rattle.pcl_items.specs.LineUnits.{LineFault}
 use Rattle.pcl_items.proofs.LineLaws.{first_of_fault}
 use Rattle.pcl_items.proofs.LineUnits.{lines_by_rules}
-use Rattle.pcl_items.proofs.PjlHeads.{otherwise_read, line_begins}
+use Rattle.pcl_items.proofs.PjlHeads.{line_begins}
 use Rattle.pcl_items.specs.Fault.{end_cause, IsFault}
 use Rattle.pcl_items.specs.FrameGrammar.{AtLetters, Word, Number}
 use Rattle.pcl_items.specs.FrameFaults.{FrameFault, PartFault}

@@ -1,5 +1,5 @@
 -- What is read in a mode is admitted there, and what follows it is in the mode behind it.
-use Rattle.std.proofs.Common.{◌≡◌, ℕ, ◌+◌, ◌-◌, List, [], ◌∷◌, length, drop, Bool, false, cond, Option, None, Some, refl, sym, ap, subst}
+use Rattle.std.proofs.Common.{◌≡◌, ℕ, ◌+◌, ◌-◌, List, [], ◌∷◌, length, drop, Bool, false, Option, None, Some, refl, sym, ap, subst}
 use Rattle.std.specs.Prelude.{ℤ, nat_lt, nat_le, ◌==◌, ◌||◌, ◌&&◌}
 use Rattle.std.specs.Int.{is_in_range}
 use Rattle.std.proofs.lemmas.Bool.{cond_both, cond-false}

@@ -31,7 +31,7 @@ use Rattle.pcl_items.specs.Reader.{First, Open, Passes, Begins, Faulty, is_termi
 use Rattle.pcl_items.specs.Faults.{IsCut, cut}
 use Rattle.pcl_items.proofs.Shapes.{cut_goes_on, cut_shape, shape_len}
 use Rattle.pcl_items.proofs.ReadsTo.{same_between}
-use Rattle.pcl_items.proofs.Exits.{exit_open, no_more_exit}
+use Rattle.pcl_items.proofs.Exits.{no_more_exit}
 use Rattle.pcl_items.proofs.PjlHeads.{same_in_pjl}
 use Rattle.pcl_items.proofs.PjlOpening.{pjl_goes_on}
 use Rattle.pcl_items.proofs.Opening.{on, IsAtEnd, Decided, by_item, by_fault, GoesOn, between_goes_on, sequence_goes_on}

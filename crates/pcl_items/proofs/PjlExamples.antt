@@ -5,10 +5,10 @@ use Rattle.pcl_items.specs.declared.fault.Name.TheVariants as names
 use Rattle.pcl_items.specs.declared.fault.Cause.{Cause}
 use Rattle.pcl_items.specs.declared.fault.Cause.TheVariants as causes
 use Rattle.pcl_items.specs.Exit.{exit_text}
-use Rattle.pcl_items.specs.Items.{Entry, Placed, Text, CarriageReturn, Reset, EnterFrame, Initialize, ExitLanguage, PjlLine, at}
+use Rattle.pcl_items.specs.Items.{Text, CarriageReturn, Reset, EnterFrame, Initialize, ExitLanguage, PjlLine, at}
 use Rattle.pcl_items.specs.Field.{field_at, amount_of}
 use Rattle.pcl_items.specs.Kinds.{kind_of}
-use Rattle.pcl_items.specs.LineText.{Bare, Remark, JobBegins, JobEnds, EnterPcl}
+use Rattle.pcl_items.specs.LineText.{Bare, JobBegins, JobEnds, EnterPcl}
 use Rattle.pcl_items.specs.LineReader.{trimmed, is_word, past_part, parts_behind, is_language, in_words, line_of}
 use Rattle.pcl_items.specs.LineFirst.{at_line}
 use Rattle.pcl_items.specs.FrameReader.{at_frame, after_letters}

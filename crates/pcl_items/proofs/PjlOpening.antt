@@ -1,11 +1,11 @@
 -- What is begun in mode PJL and not decided goes on to an item or a fault: a line to its 1024th byte.
-use Rattle.std.proofs.Common.{◌≡◌, ◌≢◌, ℕ, zero, suc, ◌+◌, ◌-◌, ◌<◌, List, [], ◌∷◌, ◌++◌, length, replicate, true, false, refl, sym, ap, subst, ◌∙◌, arith}
+use Rattle.std.proofs.Common.{◌≡◌, ◌≢◌, ℕ, zero, suc, ◌-◌, List, [], ◌∷◌, ◌++◌, length, replicate, true, false, refl, sym, ap, subst, ◌∙◌, arith}
 use Rattle.std.specs.Prelude.{◌==◌}
 use Rattle.std.proofs.lemmas.Bool.{eqb-true, eqb-false, cond_both}
 use Rattle.std.proofs.lemmas.List.{append-nil, length-append, length-replicate}
 use Rattle.pcl_items.specs.declared.fault.Cause.{Cause}
 use Rattle.pcl_items.specs.declared.fault.Cause.TheVariants as causes
-use Rattle.pcl_items.specs.Contexts.{Context, Pcl, Pjl}
+use Rattle.pcl_items.specs.Contexts.{Pcl, Pjl}
 use Rattle.pcl_items.specs.Items.{Text}
 use Rattle.pcl_items.specs.LineText.{at_sign, is_inside}
 use Rattle.pcl_items.specs.LineSyntax.{Each}

@@ -1,5 +1,5 @@
 -- The spelling of an item that stands first in bytes of mode PJL.
-use Rattle.std.proofs.Common.{◌≡◌, ◌≢◌, ℕ, ◌+◌, Bool, true, false, cond, List, [], ◌∷◌, ◌++◌, length, drop, None, Some, refl, sym, ap, subst, ◌∙◌}
+use Rattle.std.proofs.Common.{◌≡◌, ◌≢◌, ℕ, true, false, List, [], ◌∷◌, ◌++◌, length, drop, None, Some, refl, sym, ap, ◌∙◌}
 use Rattle.std.specs.Prelude.{◌==◌, Option, MatchOption}
 use Rattle.pcl_items.specs.declared.ahead.Ahead.{Ahead}
 use Rattle.pcl_items.specs.declared.first.Head.{Head}
@@ -22,10 +22,9 @@ use Rattle.pcl_items.specs.Items.{Entry, Text, PjlLine, view, simple_view}
 use Rattle.pcl_items.specs.LineText.{at_sign, BeginsLine, Line, Bare, Remark, JobBegins, JobEnds, EnterPcl}
 use Rattle.pcl_items.specs.LineFirst as lines
 use Rattle.pcl_items.specs.LineCanon.{canon_line, IsSpelledLine}
-use Rattle.pcl_items.specs.LineView.{line_view}
 use Rattle.pcl_items.specs.FirstLineView.{first_line_view}
 use Rattle.pcl_items.specs.Modes.{follows, mode_of, behind_line}
-use Rattle.pcl_items.specs.Canon.{canon, IsItem, IsNoLine}
+use Rattle.pcl_items.specs.Canon.{canon, IsNoLine}
 use Rattle.pcl_items.specs.Contexts.{Context, Pcl, Frame}
 use Rattle.pcl_items.specs.Reader.{Begins, first_of}
 use Rattle.pcl_items.specs.Spelled.{StandsAt, NothingStands}

@@ -1,17 +1,18 @@
 -- Parameterized commands that stand first.
-use Rattle.std.proofs.Common.{◌≡◌, ℕ, ◌+◌, ◌≤◌, ◌<◌, ◌-◌, List, [], ◌∷◌, length, get_or, take, drop, Bool, true, false, Option, None, Some, sym, ap, subst, ◌∙◌, arith}
-use Rattle.std.specs.Prelude.{IfSome, nat_le}
+use Rattle.std.proofs.Common.{◌≡◌, ℕ, ◌+◌, ◌≤◌, ◌<◌, ◌-◌, List, [], ◌∷◌, length, get_or, take, drop, Bool, true, false, None, Some, sym, ap, subst, ◌∙◌, arith}
+use Rattle.std.specs.Prelude.{nat_le}
 use Rattle.std.proofs.lemmas.Bool.{cond-true, cond-false, and_from, le-leb}
 use Rattle.pcl_items.specs.declared.command.Group.{Group}
 use Rattle.pcl_items.specs.declared.command.Command.{Command}
 use Rattle.pcl_items.specs.Contexts.{Pcl, Sequence}
 use Rattle.pcl_items.specs.Commands.{introducer_of, group_of, group_at, command_at, data_command_at}
-use Rattle.pcl_items.specs.Items.{Parameterized}
+use Rattle.pcl_items.specs.Items.{Parameterized, WithData}
 use Rattle.pcl_items.specs.Reader.{Begins, behind, named, by_last_letter, by_other_letter, by_last_byte, command_in, is_group_or_parameter, is_termination, first_of}
 use Rattle.pcl_items.specs.Value.{Amount}
-use Rattle.pcl_items.specs.declared.parameterized.ReadCommand.{ReadCommand}
-use Rattle.pcl_items.specs.ReadCommands.{IsAhead}
-use Rattle.std.proofs.lemmas.List.{take_all}
+use Rattle.pcl_items.specs.FirstView.{context_view}
+use Rattle.pcl_items.specs.declared.command_with_data.ReadWithData.{ReadWithData}
+use Rattle.pcl_items.specs.ReadCommands.{first_with_data}
+use Rattle.std.proofs.lemmas.List.{take_all, drop-drop}
 use Rattle.pcl_items.proofs.Heads.{group_read}
 use Rattle.pcl_items.proofs.ReadsTo.{same_between}
 use Rattle.pcl_items.proofs.Tables.{group_found, command_found, capital_letter, no_data}
@@ -72,11 +73,24 @@ behind_characters whole g (i ∷ c ∷ bytes) two e =
     let all : take (length (i ∷ c ∷ bytes) - 2) bytes ≡ bytes = ap (λ n. take n bytes) count ∙ take_all (length bytes) bytes (omega arith) in
     behind_group whole i c g bytes e ∙ ap (λ l. behind 3 (command_in g l)) (sym all)
 
--- what stands behind an escape character
-pub behind_escape : (bytes : List ℕ) (result : Option ReadCommand) → 1 ≤ length bytes → get_or bytes 0 0 ≡ 27 →
-    IfSome result (λ read. IsAhead read Pcl (27 ∷ take (length bytes - 1) (drop 1 bytes))) → IfSome result (λ read. IsAhead read Pcl bytes)
-behind_escape [] result one e h = absurd (omega (arith, one))
-behind_escape (b ∷ bytes) result one e h =
+-- bytes behind an escape character
+pub behind_escape : (bytes : List ℕ) → 1 ≤ length bytes → get_or bytes 0 0 ≡ 27 → 27 ∷ take (length bytes - 1) (drop 1 bytes) ≡ bytes
+behind_escape [] one e = absurd (omega (arith, one))
+behind_escape (b ∷ bytes) one e =
     let count : length (b ∷ bytes) - 1 ≡ length bytes = omega arith in
     let all : take (length (b ∷ bytes) - 1) bytes ≡ bytes = ap (λ n. take n bytes) count ∙ take_all (length bytes) bytes (omega arith) in
-    subst (λ (n : ℕ). IfSome result (λ read. IsAhead read Pcl (n ∷ bytes))) (sym e) (subst (λ (l : List ℕ). IfSome result (λ read. IsAhead read Pcl (27 ∷ l))) all h)
+    ap (λ n. n ∷ take (length (b ∷ bytes) - 1) bytes) (sym e) ∙ ap (λ l. b ∷ l) all
+
+-- the data of a command, where the three bytes before its field stand too
+pub with_data_behind : (read : ReadWithData) (bytes : List ℕ) → 2 ≤ length bytes → read.count.bytes ≤ read.len →
+    behind 3 (first_with_data read (take (length bytes - 2) (drop 2 bytes))) ≡ first_with_data (record read { len = 3 + read.len }) (27 ∷ bytes)
+with_data_behind read [] two h = absurd (omega (arith, two))
+with_data_behind read (i ∷ []) two h = absurd (omega (arith, two))
+with_data_behind read (i ∷ c ∷ bytes) two h =
+    let size : length (i ∷ c ∷ bytes) - 2 ≡ length bytes = omega arith in
+    let all : take (length (i ∷ c ∷ bytes) - 2) bytes ≡ bytes = ap (λ n. take n bytes) size ∙ take_all (length bytes) bytes (omega arith) in
+    let n = read.count.bytes in
+    let before : 3 + (read.len - n) ≡ 3 + read.len - n = omega (arith, h) in
+    let same : drop (read.len - n) bytes ≡ drop (3 + read.len - n) (27 ∷ i ∷ c ∷ bytes) = drop-drop (read.len - n) 3 (27 ∷ i ∷ c ∷ bytes) ∙ ap (λ m. drop m (27 ∷ i ∷ c ∷ bytes)) before in
+    ap (λ l. behind 3 (first_with_data read l)) all
+    ∙ ap (λ l. Begins (WithData read.command (take n l)) (3 + read.len) (context_view read.next)) same

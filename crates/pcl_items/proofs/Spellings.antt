@@ -16,7 +16,7 @@ use Rattle.pcl_items.specs.declared.item.SimpleItem.TheVariants as simple
 use Rattle.pcl_items.specs.Items.{Entry, Placed, at, view, simple_view, Text, EnterFrame, ExitLanguage, PjlLine}
 use Rattle.pcl_items.specs.LineCanon.{parts_of, by_parts}
 use Rattle.pcl_items.specs.Canon.{canon, IsItem, data_of}
-use Rattle.pcl_items.specs.Contexts.{Context, Pcl, Sequence, Frame, Letters, Numbered, Pjl, MayEndAt}
+use Rattle.pcl_items.specs.Contexts.{Context, Pcl, Sequence, Frame, Letters, Numbered, Pjl}
 use Rattle.pcl_items.specs.Modes.{follows, between, mode_of}
 use Rattle.pcl_items.specs.FrameReader.{at_frame}
 use Rattle.pcl_items.specs.Reader.{Open, Passes, Begins, Faulty, after_escape, first_of}

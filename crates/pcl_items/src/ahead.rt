@@ -14,6 +14,7 @@ ghost use Rattle.pcl_items.specs.Pairs.{IsPairAhead};
 ghost use Rattle.pcl_items.specs.Passing.{ahead_in};
 
 use crate::code::control_at;
+use crate::command_with_data::with_data_in;
 use crate::fault::LexFault;
 use crate::first::{Context, First, Head, first_in};
 use crate::item::{Data, Item, PjlLine, Place, TextByte};
@@ -120,6 +121,7 @@ pub fn next_ahead(whole: bool, context: Context, start: usize, window: &[u8]) ->
 
 /// What stands first at `start` of the window.
 #[inline(always)]
+#[tactic(auto, using(crate::proofs::Spans::first_counted))]
 fn first_ahead(whole: bool, context: Context, start: usize, window: &[u8]) -> First
     requires inside { start ≤ length window.now }
     requires counts { counted (context_view context) + length (drop start window.now) ≤ 2 ^ 62 }
@@ -128,7 +130,15 @@ fn first_ahead(whole: bool, context: Context, start: usize, window: &[u8]) -> Fi
     ensures line { FirstHasLine (drop start window.now) result }
     ensures counted { counted_after (first_view (drop start window.now) result) ≤ counted (context_view context) + len_of (first_view (drop start window.now) result) }
 {
-    first_in(whole, context, &window[start..])
+    let bytes = &window[start..];
+    // Most of these are rows.
+    match with_data_in(context, bytes) {
+        Some(read) => {
+            let head = Head::WithData(read.command, read.count);
+            First::Begins(read.len, head, read.next)
+        }
+        None => first_in(whole, context, bytes),
+    }
 }
 
 /// So many bytes of the window, up to `end`.

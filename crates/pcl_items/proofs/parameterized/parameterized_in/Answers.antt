@@ -1,6 +1,6 @@
-use Rattle.std.proofs.Common.{◌≡◌, subst, sym, ap, get_or, arith}
+use Rattle.std.proofs.Common.{◌≡◌, ℕ, List, subst, sym, ap, get_or, arith}
 use Rattle.std.specs.Prelude.{IfSome}
-use Rattle.pcl_items.specs.Contexts.{Context}
+use Rattle.pcl_items.specs.Contexts.{Context, Pcl}
 use Rattle.pcl_items.specs.FirstView.{context_view}
 use Rattle.pcl_items.specs.ReadCommands.{IsAhead}
 use Rattle.pcl_items.proofs.ReadCommands.{behind_escape}
@@ -11,4 +11,4 @@ returns-in-27 c =
     let bytes = c.args.bytes.now in
     let is_escape : get_or bytes 0 0 ≡ 27 = omega arith in
     subst (λ (context : Context). IfSome c.escaped.result (λ read. IsAhead read context bytes)) (sym (ap context_view c.in-Pcl.is))
-    (behind_escape bytes c.escaped.result c.in-27.len_at_least is_escape c.escaped.ensures)
+    (subst (λ (l : List ℕ). IfSome c.escaped.result (λ read. IsAhead read Pcl l)) (behind_escape bytes c.in-27.len_at_least is_escape) c.escaped.ensures)
