@@ -235,3 +235,9 @@ go_further_in_rest ranges bytes n m h k =
 pub of_first : (codes : List CodeRange) (first : CodeRange) (bytes : List ℕ) → 1 ≤ length codes → ((others : List CodeRange) → CanGoIn (get_or codes 0 first ∷ others) bytes) → CanGoIn codes bytes
 of_first [] first bytes some h = absurd omega arith
 of_first (range ∷ others) first bytes some h = h others
+
+-- the same of the bytes behind some that go, where these are the codes of a face
+pub further_in_first : (codes its : List CodeRange) (first : CodeRange) (bytes : List ℕ) (known count : ℕ) → its ≡ codes → 1 ≤ length its → CanGoIn codes (take known bytes) →
+    ((others : List CodeRange) → CanGoIn (get_or its 0 first ∷ others) (take count (take (length bytes - known) (drop known bytes)))) → CanGoIn codes (take (known + count) bytes)
+further_in_first codes its first bytes known count e some h k =
+    go_further_in_rest codes bytes known count h (subst (λ l. CanGoIn l (take count (take (length bytes - known) (drop known bytes)))) e (of_first its first (take count (take (length bytes - known) (drop known bytes))) some k))

@@ -38,7 +38,7 @@ fn space_place<A: Allocator>(
 /// The page in force, the vertical place of the cursor, and the font request.
 #[inline(always)]
 #[tactic(auto, unfolding(crate::specs::Text::text_reads))]
-pub(crate) fn character_place<A: Allocator>(
+fn character_place<A: Allocator>(
     profile: &Profile<A>,
     page: &Page,
 ) -> Result<(Geometry, Coordinate, FontRequest), Field>

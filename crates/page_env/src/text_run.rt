@@ -1,21 +1,29 @@
 //! Runs of text: bytes that go one after another, so that what they read is read once.
 
-ghost use Rattle.std.specs.Prelude.{◌≡◌, ◌↔◌, ◌≤◌, ◌*◌, ℕ, List, ◌∷◌, pos, true, ◌+ℤ◌, ◌-ℤ◌, ◌≤ℤ◌, length, take, IfSome, IsTrue};
+ghost use Rattle.std.specs.Prelude.{◌≡◌, ◌↔◌, ◌≤◌, ◌*◌, ℕ, List, [], ◌∷◌, None, pos, true, ◌+ℤ◌, ◌-ℤ◌, ◌≤ℤ◌, length, take, IfSome, IsTrue};
 ghost use Rattle.tick_length.specs.Length.{IsInRange};
 ghost use Rattle.device_profile.specs.declared.font.CodeRange.{CodeRange};
 ghost use Rattle.device_profile.specs.Faces.{is_text_of};
 ghost use Rattle.device_profile.specs.Printer.{Printer};
+ghost use Rattle.device_profile.specs.declared.panel.Panel.{Panel};
+ghost use Rattle.page_env.specs.Settings.{state_at};
+ghost use Rattle.page_env.specs.Effect.{first_unset};
+ghost use Rattle.page_env.specs.FontInForce.{font_reads, request_of};
+ghost use Rattle.page_env.specs.Places.{geometry_of};
 ghost use Rattle.page_env.specs.Mark.{is_inside};
+ghost use Rattle.page_env.specs.Lanes.{first_set};
 ghost use Rattle.page_env.specs.TextRun.{AllGo, CanGoIn, GoFirst, IsRun, page_behind_all, glyph_count};
 ghost use Rattle.page_env.specs.TextMeasure.{HasMeasure, HasColumns, GoLike, IsMeasuredRun, box_at, edge_from, look_at};
 
+use crate::font_in_force::font_request;
 use crate::mark::Bounds;
 use crate::page::{Coordinate, Page};
 use crate::places::{column_width, length_at, right_margin};
-use crate::text::{character_place, glyph_inside};
-use device_profile::{CodeRange, FontRequest, FontRow, Geometry, Profile, are_same_ranges};
+use crate::text::glyph_inside;
+use device_profile::{CodeRange, Field, FontRequest, FontRow, Geometry, Profile, are_same_ranges};
 use std::alloc::Allocator;
 use std::marker::Model;
+use std::simd::prelude::*;
 use tick_length::Length;
 
 /// How the characters of a run look: what they share, and the box of one in the first column.
@@ -48,7 +56,7 @@ struct TextMeasure<'p, A: Allocator> {
     request: FontRequest,
     column: u64,
     right: Length,
-    geometry: Geometry,
+    geometry: &'p Geometry,
     y: Coordinate,
 }
 
@@ -62,9 +70,32 @@ impl<'p, A: Allocator> Model for TextMeasure<'p, A> {
       request = m.request;
       column = m.column;
       right = m.right;
-      geometry = m.geometry;
+      geometry = m.geometry.now;
       y = m.y;
     } };
+}
+
+/// The page in force, lent, and the font request, where both are known whatever the panel.
+#[inline(always)]
+fn page_and_request<'p, A: Allocator>(
+    profile: &'p Profile<A>,
+    page: &Page,
+) -> Option<(&'p Geometry, FontRequest)>
+    ensures { IfSome result (λ known. (panel : Panel) → let state = state_at panel page.now in
+        (first_unset state.settings (Field.Size ∷ Field.Orientation ∷ font_reads page.now.env.job.font) ≡ None)
+        × (geometry_of profile.now state ≡ known.0.now) × (request_of profile.now state ≡ known.1)) }
+{
+    let fields = &page.env.fields;
+    let (Ok(size), Ok(orientation)) = (
+        fields.size.known(Field::Size),
+        fields.orientation.known(Field::Orientation),
+    ) else {
+        return None;
+    };
+    let Ok(request) = font_request(profile, page) else {
+        return None;
+    };
+    Some((profile.geometry(size, orientation)?, request))
 }
 
 /// What text takes from the settings, where it is known, a face answers the font request and no raster is started.
@@ -78,12 +109,10 @@ fn text_measure<'p, A: Allocator>(
         return None;
     }
     let y = page.cursor.y?;
-    let Ok((geometry, _, request)) = character_place(profile, page) else {
-        return None;
-    };
+    let (geometry, request) = page_and_request(profile, page)?;
     let face = profile.font(&request)?;
     let column = column_width(&page.env.job, face);
-    let right = right_margin(&page.env.job, &geometry);
+    let right = right_margin(&page.env.job, geometry);
     Some(TextMeasure {
         face,
         request,
@@ -98,8 +127,8 @@ fn text_measure<'p, A: Allocator>(
 fn look_from<A: Allocator>(measure: &TextMeasure<'_, A>, x: Length) -> Option<Look>
     ensures { IfSome result (λ look. (look ≡ look_at measure.now x) × (is_inside measure.now.geometry (box_at measure.now x) ≡ true)) }
 {
-    let (geometry, request) = (&measure.geometry, measure.request);
-    let space = glyph_inside(geometry, measure.face, x, measure.y, b' ', request)?;
+    let request = measure.request;
+    let space = glyph_inside(measure.geometry, measure.face, x, measure.y, b' ', request)?;
     Some(Look {
         request,
         y: space.y,
@@ -160,41 +189,44 @@ fn columns_ahead<A: Allocator>(measure: &TextMeasure<'_, A>, x: Length) -> u64
     requires { is_inside measure.now.geometry (box_at measure.now x) ≡ true }
     ensures { (n : ℕ) → n ≤ result → HasColumns measure.now x n }
 {
-    let Some(last) = last_place(&measure.geometry, measure.face) else {
+    let Some(last) = last_place(measure.geometry, measure.face) else {
         return 0;
     };
     let edge = edge_from(measure, x);
     columns_up_to(measure.column, x, edge, last)
 }
 
-/// Whether a byte is a space, or in a range.
-#[inline(always)]
-#[tactic(auto, using(crate::proofs::TextGoes::space_or_in))]
-fn is_space_or_in(range: CodeRange, code: u8) -> bool
-    requires { 32 ≤ range.first }
-    ensures { (others : List CodeRange) → IsTrue result → is_text_of (range ∷ others) code ≡ true }
-{
-    code == b' ' || (range.first <= code && code <= range.last)
-}
-
-/// Whether all bytes are spaces or in a range.
-// None is left out when one is not, so that many bytes are looked at at once.
-#[inline(always)]
-fn are_spaces_or_in(range: CodeRange, bytes: &[u8]) -> bool
-    requires { 32 ≤ range.first }
-    ensures { (others : List CodeRange) → IsTrue result → CanGoIn (range ∷ others) bytes.now }
-{
-    let mut are = true;
-    for code in bytes {
-        are = are & is_space_or_in(range, *code);
-    }
-    are
-}
-
 /// So many bytes are looked at at once.
-const AT_ONCE: usize = 16;
+const LANES: usize = 32;
 
-/// How many of the first bytes are spaces or in the first range of a face's codes, as most text is, counted in sixteens.
+/// Where the lowest bit that is set stands, or how many lanes there are where none is.
+#[inline(always)]
+fn first_set(mask: u64) -> usize
+    ensures { result ≡ first_set mask LANES }
+{
+    if mask == 0 {
+        LANES
+    } else {
+        mask.trailing_zeros() as usize
+    }
+}
+
+/// How many of the first 32 bytes come before the first that is neither a space nor in a range.
+#[inline(always)]
+fn text_of_range(range: CodeRange, bytes: &[u8]) -> usize
+    requires text { 32 ≤ range.first }
+    requires room { LANES ≤ length bytes.now }
+    ensures short { result ≤ LANES }
+    ensures known { (others : List CodeRange) → CanGoIn (range ∷ others) (take result bytes.now) }
+{
+    let lanes = u8x32::from_slice(bytes);
+    let outside = lanes.simd_lt(u8x32::splat(range.first))
+        | lanes.simd_gt(u8x32::splat(range.last));
+    let others = outside & lanes.simd_ne(u8x32::splat(b' '));
+    first_set(others.to_bitmask())
+}
+
+/// How many of the first bytes are spaces or in the first range of a face's codes, as most text is, counted in lanes.
 #[inline(always)]
 fn text_of_first_range<A: Allocator>(face: &FontRow<A>, bytes: &[u8]) -> usize
     ensures short { result ≤ length bytes.now }
@@ -207,12 +239,16 @@ fn text_of_first_range<A: Allocator>(face: &FontRow<A>, bytes: &[u8]) -> usize
         return 0;
     }
     let mut known = 0;
-    for _ in 0..MOST_AT_ONCE / AT_ONCE {
+    for _ in 0..MOST_AT_ONCE / LANES {
         let rest = &bytes[known..];
-        if rest.len() < AT_ONCE || !are_spaces_or_in(*range, &rest[..AT_ONCE]) {
+        if rest.len() < LANES {
             return known;
         }
-        known += AT_ONCE;
+        let count = text_of_range(*range, rest);
+        known += count;
+        if count < LANES {
+            return known;
+        }
     }
     known
 }
