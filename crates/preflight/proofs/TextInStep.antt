@@ -130,14 +130,19 @@ one_more look codes [] m h go = (go, tt)
 one_more look codes (n ∷ machines) m h go = (h.0, one_more look codes machines m h.1 go)
 
 -- as many as go on one machine more
-pub more_go : (look : Look) (k count : ℕ) (bytes : List ℕ) (first : MachineState) (others : List MachineState) (i : ℕ) (m : MachineState) → i < length others → k ≤ count →
-    m ≡ get_or others i m → GoOnAll look (take count bytes) (first ∷ take i others) → AllGo m.printer look m.page (take k (take count bytes)) × (m.macros.definition ≡ None) → GoOnAll look (take k bytes) (first ∷ take (i + 1) others)
-more_go look k count bytes first others i m inside most is h go =
+pub more_go : (look : Look) (k count : ℕ) (bytes : List ℕ) (machines : List MachineState) (i : ℕ) (m : MachineState) → i < length machines → k ≤ count →
+    m ≡ get_or machines i m → GoOnAll look (take count bytes) (take i machines) → AllGo m.printer look m.page (take k (take count bytes)) × (m.macros.definition ≡ None) → GoOnAll look (take k bytes) (take (i + 1) machines)
+more_go look k count bytes machines i m inside most is h go =
     let same : take k (take count bytes) ≡ take k bytes = take-take k count bytes most in
-    let front : take (i + 1) others ≡ take i others ++ m ∷ [] = take_more others i m inside ∙ ap (λ (n : MachineState). take i others ++ n ∷ []) (sym is) in
-    subst (λ (ms : List MachineState). GoOnAll look (take k bytes) (first ∷ ms)) (sym front)
-    (subst (λ (codes : List ℕ). GoOnAll look codes (first ∷ (take i others ++ m ∷ []))) same
-    (one_more look (take k (take count bytes)) (first ∷ take i others) m (fewer_go look k (take count bytes) (first ∷ take i others) h) go))
+    let front : take (i + 1) machines ≡ take i machines ++ m ∷ [] = take_more machines i m inside ∙ ap (λ (n : MachineState). take i machines ++ n ∷ []) (sym is) in
+    subst (λ (ms : List MachineState). GoOnAll look (take k bytes) ms) (sym front)
+    (subst (λ (codes : List ℕ). GoOnAll look codes (take i machines ++ m ∷ [])) same
+    (one_more look (take k (take count bytes)) (take i machines) m (fewer_go look k (take count bytes) (take i machines) h) go))
+
+-- as many as go on the others go on the first
+pub first_goes : (printer : Printer) (look : Look) (page : Page) (k count : ℕ) (bytes : List ℕ) → k ≤ count → AllGo printer look page (take count bytes) → AllGo printer look page (take k bytes)
+first_goes printer look page k count bytes most h =
+    subst (λ (codes : List ℕ). AllGo printer look page codes) (take-take k count bytes most) (front_goes printer k (take count bytes) look page h)
 
 pub goes_at : (look : Look) (codes : List ℕ) (machines : List MachineState) (i : ℕ) (d : MachineState) → i < length machines → GoOnAll look codes machines → AllGo (get_or machines i d).printer look (get_or machines i d).page codes × ((get_or machines i d).macros.definition ≡ None)
 goes_at look codes [] i d inside h = absurd (omega (arith, inside))

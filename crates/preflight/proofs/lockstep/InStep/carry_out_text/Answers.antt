@@ -4,17 +4,25 @@ use Rattle.sinks.specs.Recorder.{Recorded}
 use Rattle.preflight.specs.Carriers.Each.{Each}
 use Rattle.preflight.specs.Carriers.TextInStep.{PrintInStep}
 use Rattle.preflight.proofs.Carrying.{written_back}
-use Rattle.preflight.proofs.TextInStep.{shapes_of, shape_count, print_in_step, text_of}
+use Rattle.preflight.proofs.TextInStep.{shapes_of, shape_count, print_in_step, text_of, first_goes}
 use Rattle.preflight.proofs.lockstep.InStep.carry_out_text.Goals as goal
+
+pub pass_text-requires-clause-go : goal.pass_text-requires-clause-go
+pass_text-requires-clause-go g c =
+    let first = c.args.self.now.first in
+    let run = c.in-Some.run' in
+    first_goes first.printer run.look first.page c.in-Some-text_on_others.count run.count c.args.bytes.now c.in-Some-text_on_others.ensures.short c.in-Some.ensures.0.go.go
 
 pub returns-clause-text : goal.returns-clause-text
 returns-clause-text g c =
     let first = c.args.self.now.first in
-    text_of first.printer (take c.in-Some.run'.count c.args.bytes.now) c.in-Some.run'.look first.page c.in-Some.ensures.2.0.0
+    let count = c.in-Some-text_on_others.count in
+    let run = c.in-Some.run' in
+    text_of first.printer (take count c.args.bytes.now) run.look first.page (first_goes first.printer run.look first.page count run.count c.args.bytes.now c.in-Some-text_on_others.ensures.short c.in-Some.ensures.0.go.go)
 
 pub returns-clause-step : goal.returns-clause-step
 returns-clause-step g c =
-    let text = take c.in-Some.run'.count c.args.bytes.now in
+    let text = take c.in-Some-text_on_others.count c.args.bytes.now in
     let look = c.in-Some.run'.look in
     let before = c.args.self.now in
     let others = c.pass_text_on_each.new.machines in

@@ -2,13 +2,13 @@ use Rattle.std.proofs.Common.{◌≤◌, take, subst, arith}
 use Rattle.std.proofs.lemmas.List.{length-take-le, take-take}
 use Rattle.page_env.specs.TextRun.{CanGoIn}
 use Rattle.preflight.proofs.TextInStep.{more_go, fewer_can_go}
-use Rattle.preflight.proofs.lockstep.text_on_all.Goals as goal
+use Rattle.preflight.proofs.lockstep.text_on_others.Goals as goal
 
 pub loop-machine-preserved : goal.loop-machine-preserved
 loop-machine-preserved g c =
     let bytes = c.args.bytes.now in
     let h = c.loop-machine.invariant in
-    let run = c.in-Some.run' in
+    let run = c.args.run.now in
     let count = c.in_ok-count.count in
     let far = c.in_ok-count.ensures.0 in
     let most : count ≤ c.loop-machine.count = omega (arith, far.short, length-take-le c.loop-machine.count bytes h.1) in
@@ -16,5 +16,5 @@ loop-machine-preserved g c =
       omega (arith, most, h.0),
       omega (arith, most, h.1),
       can,
-      more_go run.look count c.loop-machine.count bytes c.args.first.now c.args.others.now c.loop-machine.machine-index c.machine-item.result c.loop-machine-test.true most c.machine-item.is h.3 (far.go, c.in_ok-count.ensures.1),
+      more_go run.look count c.loop-machine.count bytes c.args.machines.now c.loop-machine.machine-index c.machine-item.result c.loop-machine-test.true most c.machine-item.is h.3 (far.go, c.in_ok-count.ensures.1),
     )
