@@ -6,6 +6,7 @@ use device_profile::{Profile, Sample};
 use event_rows::step_all;
 use job_items::{RECTANGLE, items_of};
 use page_machine::{Machine, Start, Stop};
+use pcl_items::{OwnedItem, Place};
 use preflight::{Error, Watched, check_job};
 use printers::{Printer, fleet_of};
 use refusing::Refusing;
@@ -86,55 +87,74 @@ fn each_request_is_refused_in_turn(rt: HostRuntime) -> Result<(), Fail> {
 
 const DEFINITION: &[u8] = b"\x1bE\x1b&f0XA\x1b&p2XBC\x1b&f1X";
 
+/// Whether a machine carries all items out with so many requests for memory. One that does not is stopped.
+fn go_with(
+    rt: &impl Abort,
+    alloc: Global,
+    profile: &Profile,
+    items: &[(Place, OwnedItem)],
+    requests: u64,
+) -> Result<bool, Fail> {
+    let heap = Refusing::new(alloc, requests);
+    let mut machine = Machine::new(&heap, profile, Start::Unknown);
+    let mut counts = Counts::none();
+    let Err(stop) = step_all(&mut machine, items, &mut counts)? else {
+        return Ok(true);
+    };
+    assert!(rt; matches!(stop, Stop::Memory(_)), "{requests} requests");
+    let end = machine.finish(DEFINITION.len() as u64, &mut counts);
+    assert!(rt; matches!(end, Err(Stop::Stopped)), "{requests} requests");
+    Ok(false)
+}
+
 #[test]
 fn a_machine_stops_where_memory_is_refused(rt: HostRuntime) -> Result<(), Fail> {
     let profile = Sample::B.profile(rt.alloc())?;
     let items = items_of(rt.alloc(), DEFINITION)?;
     for requests in 0..1000 {
-        let heap = Refusing::new(rt.alloc(), requests);
-        let mut machine = Machine::new(&heap, &profile, Start::Unknown);
-        let mut counts = Counts::none();
-        match step_all(&mut machine, &items, &mut counts)? {
-            Ok(()) => {
-                // For the entry of the macro, and for its items.
-                assert!(rt; requests >= 2, "{requests} requests");
-                return Ok(());
-            }
-            Err(stop) => assert!(rt; matches!(stop, Stop::Memory(_)), "{requests} requests"),
+        if go_with(&rt, rt.alloc(), &profile, &items, requests)? {
+            // For the entry of the macro, and for its items.
+            assert!(rt; requests >= 2, "{requests} requests");
+            return Ok(());
         }
-        let end = machine.finish(DEFINITION.len() as u64, &mut counts);
-        assert!(rt; matches!(end, Err(Stop::Stopped)), "{requests} requests");
     }
     assert!(rt; false, "more than 1000 requests");
     Ok(())
 }
 
+/// Items that run the macro of the definition.
+const RUNS: &[u8] = b"\x1b&f2x3x9x4XA\x0c\x1b%0BSP1PD5,5\x1b%0A\x1b&f5x8x6X\x1bEA";
+
+/// Defines a macro and runs it, which takes memory for the definition alone, and tells what it counts.
+fn counts_of(
+    rt: &impl Abort,
+    alloc: Global,
+    profile: &Profile,
+    definition: &[(Place, OwnedItem)],
+    runs: &[(Place, OwnedItem)],
+) -> Result<Counts, Fail> {
+    let heap = Refusing::new(alloc, 1000);
+    let mut machine = Machine::new(&heap, profile, Start::Unknown);
+    let mut counts = Counts::none();
+    assert!(rt; step_all(&mut machine, definition, &mut counts)?.is_ok());
+    let left = heap.left();
+    assert!(rt; step_all(&mut machine, runs, &mut counts)?.is_ok());
+    assert!(rt; machine.finish(99, &mut counts).is_ok());
+    assert!(rt; left < 1000 && heap.left() == left);
+    Ok(counts)
+}
+
 #[test]
 fn macros_run_without_memory(rt: HostRuntime) -> Result<(), Fail> {
-    let profile = Sample::B.profile(rt.alloc())?;
     let definition = items_of(rt.alloc(), DEFINITION)?;
-    let runs = items_of(
-        rt.alloc(),
-        b"\x1b&f2x3x9x4XA\x0c\x1b%0BSP1PD5,5\x1b%0A\x1b&f5x8x6X\x1bEA",
-    )?;
-    let heap = Refusing::new(rt.alloc(), 1000);
-    let mut machine = Machine::new(&heap, &profile, Start::Unknown);
-    let mut counts = Counts::none();
-    assert!(rt; step_all(&mut machine, &definition, &mut counts)?.is_ok());
-    let left = heap.left();
-    assert!(rt; step_all(&mut machine, &runs, &mut counts)?.is_ok());
-    assert!(rt; machine.finish(99, &mut counts).is_ok());
+    let runs = items_of(rt.alloc(), RUNS)?;
+    let profile = Sample::B.profile(rt.alloc())?;
+    let counts = counts_of(&rt, rt.alloc(), &profile, &definition, &runs)?;
     // Three characters each run, and two characters and two lines of the job.
-    assert_eq!(rt;
-        (heap.left(), counts),
-        (
-            left,
-            Counts {
-                pages: 3,
-                marks: 13
-            }
-        )
-    );
-    assert!(rt; left < 1000);
+    let wanted = Counts {
+        pages: 3,
+        marks: 13,
+    };
+    assert_eq!(rt; counts, wanted);
     Ok(())
 }

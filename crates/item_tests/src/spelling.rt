@@ -150,13 +150,12 @@ const TO_PJL: Admitted = (Some(Mode::Pjl), Some(Mode::Pjl), Some(Mode::Pjl));
 
 const AT_SIGN: Admitted = (Some(Mode::Pcl), None, None);
 
-/// Checks how an item is spelled, which modes admit it, and that these read it from its spelling between other bytes.
-fn check_item(
+/// Checks how an item is spelled, twice one behind the other.
+fn check_spelled(
     rt: &impl Abort,
     alloc: Global,
     item: &Item<'_>,
     canonical: &[u8],
-    (in_pcl, in_frame, in_pjl): Admitted,
 ) -> Result<(), Fail> {
     let mut text = Vec::new(alloc);
     spell(item, &mut text)?;
@@ -166,6 +165,18 @@ fn check_item(
         (&text, spelled_len(item)),
         (&twice, canonical.len() as u64)
     );
+    Ok(())
+}
+
+/// Checks how an item is spelled, which modes admit it, and that these read it from its spelling between other bytes.
+fn check_item(
+    rt: &impl Abort,
+    alloc: Global,
+    item: &Item<'_>,
+    canonical: &[u8],
+    (in_pcl, in_frame, in_pjl): Admitted,
+) -> Result<(), Fail> {
+    check_spelled(rt, alloc, item, canonical)?;
     let placed = job_of(alloc, b"\x1b", 1, canonical, b"7E")?;
     let admissions = [
         (Mode::Pcl, in_pcl),

@@ -71,11 +71,13 @@ enum Answer {
 
 use Answer::{Found, Goes, Refused, Stopped};
 
+/// Bytes, what the machine answers on their last item, and for how many events there is room then.
+type Step = (&'static [u8], Answer, u32);
+
 /// The run of a machine whose sink has room for some events.
 struct Run {
     room: u32,
-    /// Bytes, what the machine answers on their last item, and for how many events there is room then.
-    steps: &'static [(&'static [u8], Answer, u32)],
+    steps: &'static [Step],
     /// The last mark, in 7200ths of an inch: its left, upper, right and lower edge.
     mark: Option<(u32, u32, u32, u32)>,
     /// What it answers on the end of the bytes, for how many events there is room then, and the last page.
@@ -256,6 +258,24 @@ fn is_last(kept: &Option<OwnedMark>, edges: Option<(u32, u32, u32, u32)>) -> boo
     }
 }
 
+fn check_steps(
+    rt: &impl Abort,
+    alloc: Global,
+    machine: &mut Machine<'_>,
+    steps: &[Step],
+    sink: &mut Recorder,
+) -> Result<(), Fail> {
+    for (bytes, answer, room) in steps {
+        let items = items_of(alloc, bytes)?;
+        let outcome = step_all(machine, &items, sink)?;
+        assert!(rt;
+            is_answer(outcome, *answer) && sink.room == *room,
+            "{bytes:?}"
+        );
+    }
+    Ok(())
+}
+
 fn check_run(
     rt: &impl Abort,
     alloc: Global,
@@ -268,14 +288,7 @@ fn check_run(
         mark: None,
         page: None,
     };
-    for (bytes, answer, room) in run.steps {
-        let items = items_of(alloc, bytes)?;
-        let outcome = step_all(&mut machine, &items, &mut sink)?;
-        assert!(rt;
-            is_answer(outcome, *answer) && sink.room == *room,
-            "{bytes:?}"
-        );
-    }
+    check_steps(rt, alloc, &mut machine, run.steps, &mut sink)?;
     let (answer, room, page) = run.end;
     assert!(rt; is_answer(machine.finish(99, &mut sink), answer));
     assert!(rt; is_last(&sink.mark, run.mark));
@@ -301,6 +314,7 @@ fn machines_run(rt: HostRuntime) -> Result<(), Fail> {
 
 #[test]
 fn a_character_is_marked(rt: HostRuntime) -> Result<(), Fail> {
+    let items = items_of(rt.alloc(), b"\x1bEA ")?;
     let profile = Sample::B.profile(rt.alloc())?;
     let mut machine = Machine::new(rt.alloc(), &profile, Start::Unknown);
     let mut sink = Recorder {
@@ -309,7 +323,6 @@ fn a_character_is_marked(rt: HostRuntime) -> Result<(), Fail> {
         mark: None,
         page: None,
     };
-    let items = items_of(rt.alloc(), b"\x1bEA ")?;
     assert!(rt; step_all(&mut machine, &items, &mut sink)?.is_ok());
     assert!(rt; is_character(&sink.mark, b'A'));
     Ok(())

@@ -36,11 +36,11 @@ const RUNS: &[(&[u8], Option<(usize, u8)>)] = &[
 
 #[test]
 fn text_goes_in_runs(rt: HostRuntime) -> Result<(), Fail> {
+    let items = items_of(rt.alloc(), b"\x1bEA")?;
     let profile = Sample::B.profile(rt.alloc())?;
     let mut machine = Machine::new(rt.alloc(), &profile, Start::Unknown);
     // While the cursor is at home its place is not known.
     assert_eq!(rt; pass(&mut machine, b"A"), None);
-    let items = items_of(rt.alloc(), b"\x1bEA")?;
     let outcome = step_all(&mut machine, &items, &mut Counts::none())?;
     assert!(rt; outcome.is_ok());
     for (bytes, wanted) in RUNS {
@@ -51,9 +51,9 @@ fn text_goes_in_runs(rt: HostRuntime) -> Result<(), Fail> {
 
 #[test]
 fn text_of_a_definition_goes_in_no_run(rt: HostRuntime) -> Result<(), Fail> {
+    let items = items_of(rt.alloc(), b"\x1bEA\x1b&f0X\x1b&f1X")?;
     let profile = Sample::B.profile(rt.alloc())?;
     let mut machine = Machine::new(rt.alloc(), &profile, Start::Unknown);
-    let items = items_of(rt.alloc(), b"\x1bEA\x1b&f0X\x1b&f1X")?;
     // Behind the text, the start of the definition and its end.
     let mut runs = [None; 4];
     for (run, (place, item)) in runs.iter_mut().zip(&items) {
