@@ -99,6 +99,7 @@ fn page_and_request<'p, A: Allocator>(
 }
 
 /// What text takes from the settings, where it is known, a face answers the font request and no raster is started.
+#[inline(always)]
 fn text_measure<'p, A: Allocator>(
     profile: &'p Profile<A>,
     page: &Page,
@@ -350,6 +351,8 @@ fn alike_from<A: Allocator>(
 }
 
 /// How many of the first bytes of another page's run go on this page, too, with the same marks, if it is known that one does.
+// A call of its own, as `text_ahead` is by its caller: its answer stays in registers.
+#[inline(never)]
 pub fn text_alike<A: Allocator>(
     profile: &Profile<A>,
     page: &Page,
