@@ -279,6 +279,15 @@ fn run_fill<S: MarkSink, A: Allocator>(
     }
 }
 
+/// Why a step that found something was not carried out.
+// The call is rare, and keeps LLVM from choosing an answer for each step that found nothing.
+#[inline(never)]
+fn halted<F>(finding: Finding) -> Halt<F>
+    ensures { result ≡ Halt.Found finding }
+{
+    Halt::Found(finding)
+}
+
 /// Carries out a command that is one step without a mark.
 // Most items are these, and nothing is left of them but a finding.
 #[inline(always)]
@@ -296,7 +305,7 @@ fn run_step<S: MarkSink, A: Allocator>(
 {
     match carry_out_step(profile, page, command, n) {
         Ok(()) => Ok(()),
-        Err(finding) => Err(Halt::Found(finding)),
+        Err(finding) => Err(halted(finding)),
     }
 }
 

@@ -71,6 +71,7 @@ impl<A: Allocator + Copy> Recorder<A> {
     }
 
     /// Forgets the events; the counts go on.
+    #[inline(always)]
     pub fn clear(&mut self)
         ensures { self.new ≡ record self.old { events = [] } }
     {
@@ -81,6 +82,7 @@ impl<A: Allocator + Copy> Recorder<A> {
     }
 
     /// Takes back the room of the last event, if that is a row.
+    #[inline(never)]
     fn keep_room(&mut self)
         ensures { self.new.counts ≡ self.old.counts }
     {

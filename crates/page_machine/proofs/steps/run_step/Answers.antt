@@ -13,4 +13,5 @@ returns-in-Ok g c = λ conditions.
 pub returns-in-Err : goal.returns-in-Err
 unfolding CarriesOut
 returns-in-Err g c = λ conditions.
-    Follows-found _ _ _ _ _ _ _ (λ panel. ap (effect_run (conditions panel)) (c.in-Err.ensures panel (conditions panel).defaults))
+    rw c.halted.ensures
+    (Follows-found _ _ _ _ _ _ _ (λ panel. ap (effect_run (conditions panel)) (c.in-Err.ensures panel (conditions panel).defaults)))
