@@ -229,8 +229,8 @@ pub const EXPLANATIONS: [&str; 31] = [
     "\
 25 RasterNotStarted
   When:    A row ESC *b#W or a skip ESC *b#Y comes where no raster is started.
-           All items but those of ESC *t, ESC *r and ESC *b end a raster, text
-           and control codes too.
+           All items but those of ESC *t, ESC *r and ESC *b end a raster: text,
+           control codes and cursor moves, too.
   Change:  Start a raster by ESC *r0A or ESC *r1A before the row, and send
            nothing else between its rows.
   Manual:  \"Raster Graphics\", Start Raster Graphics, Transfer Raster Data by
