@@ -46,6 +46,10 @@ fn escaped(bytes: &[u8]) -> Option<ReadCommand>
     match bytes {
         [introducer, character, rest @ ..] => {
             let group = Group::of(*introducer, *character)?;
+            // Most commands of rows have data, which is known only behind the number.
+            if let Group::RasterData = group {
+                return None;
+            }
             let read = command(group, rest)?;
             Some(ReadCommand {
                 len: 3 + read.len,

@@ -18,7 +18,7 @@ returns-clause-command g c =
     let window : List ℕ = l.window.items in
     let held = vec_len l.window in
     let given : PlacedCommand = record { place = l.dropped + l.at; command = read.command; number = read.number } in
-    let first : IsAhead read (context_view l.context) (drop l.at window) = subst (λ (bytes : List ℕ). IsAhead read (context_view l.context) (drop l.at bytes)) c.deref-2.ensures.value c.in-Some.ensures in
+    let first : IsAhead read (context_view l.context) (drop l.at window) = subst (λ (bytes : List ℕ). IsAhead read (context_view l.context) (drop l.at bytes)) c.deref.ensures.value c.in-Some.ensures in
     let exact : Answers c.args.self.now (answer_of given) (standing window (l.at + read.len) l.dropped (context_view read.next) l.ended held) =
     subst (λ (old : LexerState). Answers old (answer_of given) (standing window (l.at + read.len) l.dropped (context_view read.next) l.ended held)) c.self.view_is
     (command_is_answer window l.at l.dropped (context_view l.context) l.ended held read first) in
@@ -28,9 +28,9 @@ pub invariant_of-self : goal.invariant_of-self
 invariant_of-self g c =
     let l = c.self.inside in
     let read = c.in-Some.read in
-    let bytes : List ℕ = c.deref-2.result.now in
+    let bytes : List ℕ = c.deref.result.now in
     let ahead : IsAhead read (context_view l.context) (drop l.at bytes) = c.in-Some.ensures in
     let counts = command_counts (context_view l.context) (drop l.at bytes) read ahead in
     let before = c.self.invariant in
-    let whole = c.deref-2.ensures.len in
+    let whole = c.deref.ensures.len in
     (omega (arith, ahead.1, length-drop l.at bytes, whole, before.0), before.1, before.2, omega (arith, counts, before.3))
