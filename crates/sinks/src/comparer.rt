@@ -1,6 +1,6 @@
 //! Compares the events of a run with recorded ones.
 
-ghost use Rattle.std.specs.Prelude.{◌≡◌, ◌↔◌, Some, [], map, IsFalse};
+ghost use Rattle.std.specs.Prelude.{◌≡◌, ◌↔◌, None, Some, [], map, IsFalse};
 ghost use Rattle.page_machine.specs.Owned.{event_of};
 ghost use Rattle.sinks.specs.Comparer.{Compares};
 
@@ -43,6 +43,15 @@ impl<'a, A: Allocator> Comparer<'a, A> {
     {
         !matches!(self.expected, Some([]))
     }
+
+    /// Expects nothing any more: an event came that differs.
+    // The call is rare, and keeps LLVM from choosing what is expected at each word that is compared.
+    #[inline(never)]
+    fn differ(&mut self)
+        ensures { self.new ≡ None }
+    {
+        self.expected = None;
+    }
 }
 
 impl<A: Allocator> MarkSink for Comparer<'_, A> {
@@ -55,18 +64,18 @@ impl<A: Allocator> MarkSink for Comparer<'_, A> {
     // Inlined, so that of what is compared only the case of the caller's mark is left.
     #[inline(always)]
     fn mark(&mut self, mark: &Mark<'_>) -> Result<(), Infallible> {
-        self.expected = match self.expected {
-            Some([first, rest @ ..]) if first.is_marked(mark) => Some(rest),
-            _ => None,
-        };
+        match self.expected {
+            Some([first, rest @ ..]) if first.is_marked(mark) => self.expected = Some(rest),
+            _ => self.differ(),
+        }
         Ok(())
     }
 
     fn page(&mut self, page: PageEnd) -> Result<(), Infallible> {
-        self.expected = match self.expected {
-            Some([first, rest @ ..]) if first.is_ended(&page) => Some(rest),
-            _ => None,
-        };
+        match self.expected {
+            Some([first, rest @ ..]) if first.is_ended(&page) => self.expected = Some(rest),
+            _ => self.differ(),
+        }
         Ok(())
     }
 }
