@@ -1,12 +1,14 @@
 //! Numbers and bytes as they stand in lines of text.
 ghost use Rattle.std.specs.Prelude.{◌≡◌, ◌++◌, ◌∷◌, [], ◌+◌, ◌%◌, ◌≤◌, ◌<◌, ℕ, OnOk, decimal, flat_map, take};
 ghost use Rattle.std.specs.Fmt.{signed_decimal};
-ghost use Rattle.pcl_items.specs.Canon.{magnitude_text, with_point, without_zeros, four_decimals};
+ghost use Rattle.pcl_items.specs.Canon.{amount_text, magnitude_text, with_point, without_zeros, four_decimals};
+ghost use Rattle.pcl_items.specs.Items.{amount};
 ghost use Rattle.preflight.specs.PageTexts.{hex_byte, length_word, number_word, signed_word, value_word};
 ghost use Rattle.preflight.specs.Texts.{escaped_byte};
 
 use crate::words::hex_digit;
 use itoa::Buffer;
+use pcl_items::{Number, Sign};
 use std::alloc::{AllocError, Allocator};
 use tick_length::Length;
 
@@ -72,9 +74,14 @@ fn shown(text: &[u8; 5]) -> usize
 }
 
 /// Appends a point and the decimals of so many ten-thousandths, where there are some.
+#[tactic(auto, using(pcl_items::proofs::WholeNumbers::no_decimals))]
 fn push_decimals<A: Allocator>(text: &mut Vec<u8, A>, n: u32) -> Result<(), AllocError>
     ensures { OnOk result (text.new.items ≡ text.old.items ++ with_point (without_zeros (four_decimals n))) }
 {
+    // Most numbers are whole.
+    if n % 10_000 == 0 {
+        return Ok(());
+    }
     let all = [
         b'.',
         last_digit(n / 1000),
@@ -85,11 +92,24 @@ fn push_decimals<A: Allocator>(text: &mut Vec<u8, A>, n: u32) -> Result<(), Allo
     text.extend_from_slice(&all[..shown(&all)])
 }
 
+/// Appends a whole number.
+#[tactic(auto, using(std::proofs::lemmas::Fmt::decimal_digit))]
+fn push_whole<A: Allocator>(text: &mut Vec<u8, A>, n: u32) -> Result<(), AllocError>
+    ensures { OnOk result (text.new.items ≡ text.old.items ++ decimal n) }
+{
+    // A number of one digit, as most are, needs no division.
+    if n < 10 {
+        text.push(b'0' + n as u8)?;
+        return Ok(());
+    }
+    push_number(text, u64::from(n))
+}
+
 /// Appends a value of so many ten-thousandths.
 fn push_value<A: Allocator>(text: &mut Vec<u8, A>, n: u32) -> Result<(), AllocError>
     ensures { OnOk result (text.new.items ≡ text.old.items ++ magnitude_text n) }
 {
-    push_number(text, u64::from(n / 10_000))?;
+    push_whole(text, n / 10_000)?;
     push_decimals(text, n)
 }
 
@@ -112,6 +132,18 @@ pub fn push_signed_word<A: Allocator>(text: &mut Vec<u8, A>, n: i32) -> Result<(
         text.push(b'-')?;
     }
     push_value(text, n.unsigned_abs())
+}
+
+/// Appends a number of an item: its sign, and its value.
+pub fn push_amount<A: Allocator>(text: &mut Vec<u8, A>, number: Number) -> Result<(), AllocError>
+    ensures { OnOk result (text.new.items ≡ text.old.items ++ amount_text (amount number)) }
+{
+    match number.sign {
+        Sign::Absent => {}
+        Sign::Plus => text.push(b'+')?,
+        Sign::Minus => text.push(b'-')?,
+    }
+    push_value(text, number.ten_thousandths)
 }
 
 /// Appends a byte as two hexadecimal digits.

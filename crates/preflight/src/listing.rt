@@ -1,6 +1,6 @@
 //! The list of a job's items.
 ghost use Rattle.std.specs.Prelude.{◌≡◌, ◌≢◌, ◌+◌, ◌++◌, ◌^◌, ◌≤◌, length, IfOk, IfErr, IsErrOf, IsFalse, OnOk};
-ghost use Rattle.pcl_items.specs.Items.{at, view};
+ghost use Rattle.pcl_items.specs.Items.{Entry, amount, at, view};
 ghost use Rattle.preflight.specs.Due.{WritesDecided, WritesDue, WritesFront, list_telling};
 ghost use Rattle.preflight.specs.Outlet.{is_err_of_write};
 ghost use Rattle.preflight.specs.Pieces.{ByReads};
@@ -8,7 +8,7 @@ ghost use Rattle.preflight.specs.Source.{is_err_of_read};
 ghost use Rattle.preflight.specs.Texts.{item_line, fault_line};
 
 use crate::error::Error;
-use crate::figures::{push_escaped, push_number};
+use crate::figures::{push_amount, push_escaped, push_number};
 use crate::kept::write_enough;
 use crate::outcome::Outcome;
 use crate::outlet::Outlet;
@@ -16,7 +16,7 @@ use crate::report::{Report, tell_job};
 use crate::source::Source;
 use crate::verdict::Reason;
 use crate::words::push_cause;
-use pcl_items::{Item, LexFault, Place, spell};
+use pcl_items::{Command, Item, LexFault, Number, Place, SimpleItem, spell};
 use std::alloc::{AllocError, Allocator};
 
 /// Writes a line for each item.
@@ -36,6 +36,9 @@ impl<B: Allocator> Listing<B> {
     ) -> Result<(), AllocError>
         ensures { OnOk result (text.new.items ≡ text.old.items ++ item_line (at place (view item.now))) }
     {
+        if let Item::Simple(SimpleItem::Parameterized(command, number)) = item {
+            return push_command(text, place, *command, *number);
+        }
         self.spelling.clear();
         spell(item, &mut self.spelling)?;
         push_number(text, place)?;
@@ -44,6 +47,31 @@ impl<B: Allocator> Listing<B> {
         text.push(b'\n')?;
         Ok(())
     }
+}
+
+/// Appends the line of a parameterized command, as most items are. Of its spelling only the escape character shows nothing.
+fn push_command<A: Allocator>(
+    text: &mut Vec<u8, A>,
+    place: Place,
+    command: Command,
+    number: Number,
+) -> Result<(), AllocError>
+    ensures { OnOk result (text.new.items ≡ text.old.items ++ item_line (at place (Entry.Parameterized command (amount number)))) }
+{
+    let group = command.group();
+    push_number(text, place)?;
+    let front = [
+        b' ',
+        b'\\',
+        b'x',
+        b'1',
+        b'b',
+        group.introducer(),
+        group.character(),
+    ];
+    text.extend_from_slice(&front)?;
+    push_amount(text, number)?;
+    text.extend_from_slice(&[command.letter(), b'\n'])
 }
 
 /// Appends the line of a fault.

@@ -1,0 +1,10 @@
+use Rattle.std.proofs.Common.{arith}
+use Rattle.std.proofs.lemmas.Grind.{common_steps}
+use Rattle.pcl_items.specs.Items.{amount}
+use Rattle.preflight.proofs.CommandLines.{line_is_pushed}
+use Rattle.preflight.proofs.listing.push_command.Goals as goal
+
+pub returns : goal.returns
+returns g c =
+    line_is_pushed c.args.place c.args.command (amount c.args.number) c.args.text.now.items c.extend_from_slice-2.new.self.items c.extend_from_slice-2.result c.args.number.within
+    (grind (arith, common_steps))
