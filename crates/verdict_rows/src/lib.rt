@@ -102,12 +102,33 @@ pub fn check_in_pieces(
     expected: Expected,
 ) -> Result<(), Fail> {
     check_reads(alloc, fleet, job, expected)?;
+    check_cuts(alloc, fleet, job, expected)?;
+    check_pieces(alloc, fleet, job, expected)
+}
+
+/// Checks a job that is read, and one that is fed, in two pieces that are cut at each place.
+fn check_cuts(
+    alloc: Global,
+    fleet: &[Profile],
+    job: &[u8],
+    expected: Expected,
+) -> Result<(), Fail> {
     for place in 0..job.len() {
         let read = check_cut(alloc, fleet, job, place);
         compare(read, expected, job, Way::CutAt(place))?;
         let fed = feed_cut(alloc, fleet, job, place);
         compare(fed, expected, job, Way::FedCutAt(place))?;
     }
+    Ok(())
+}
+
+/// Checks a job that is fed in pieces of each length.
+fn check_pieces(
+    alloc: Global,
+    fleet: &[Profile],
+    job: &[u8],
+    expected: Expected,
+) -> Result<(), Fail> {
     for size in 1..=job.len() {
         let fed = feed_pieces(alloc, fleet, job, size);
         compare(fed, expected, job, Way::FedInPieces(size))?;
