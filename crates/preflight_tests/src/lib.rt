@@ -1,8 +1,10 @@
-//! The tests of checks: jobs of the command language, macros and overlays, frames, the job language, and memory and reads that fail.
+//! The tests of checks, of the texts of jobs, and of sessions.
 #![tactic(auto)]
 
 #[cfg(test)]
 mod bodies;
+#[cfg(test)]
+mod cut_texts;
 #[cfg(test)]
 mod faults;
 #[cfg(test)]
@@ -16,18 +18,28 @@ mod job_language;
 #[cfg(test)]
 mod jobs;
 #[cfg(test)]
+mod listings;
+#[cfg(test)]
 mod macros;
 #[cfg(test)]
 mod memory;
 #[cfg(test)]
 mod overlays;
 #[cfg(test)]
+mod page_texts;
+#[cfg(test)]
 mod places;
 #[cfg(test)]
+mod plain_jobs;
+#[cfg(test)]
 mod rasters;
+#[cfg(test)]
+mod sessions;
 #[cfg(test)]
 mod settings;
 #[cfg(test)]
 mod sources;
 #[cfg(test)]
 mod text;
+#[cfg(test)]
+mod texts;
