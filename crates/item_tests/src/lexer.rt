@@ -530,17 +530,32 @@ fn check_job(
     Ok(())
 }
 
+/// The answer behind the items of a job with this fault.
+fn last_of(fault: Option<(Place, Cause)>) -> Last {
+    match fault {
+        Some((place, cause)) => Err(LexFault { place, cause }),
+        None => Ok(Lexed::End),
+    }
+}
+
+fn check_whole_and_byte_by_byte(
+    rt: &impl Abort,
+    alloc: Global,
+    jobs: &[Reading],
+) -> Result<(), AllocError> {
+    for (job, wanted, fault) in jobs {
+        assert!(rt; job.len() <= 4096);
+        check_job(rt, alloc, true, job, wanted, last_of(*fault))?;
+        check_job(rt, alloc, false, job, wanted, last_of(*fault))?;
+    }
+    Ok(())
+}
+
 #[test]
 fn jobs_are_read_whole_and_byte_by_byte(rt: HostRuntime) -> Result<(), Fail> {
-    for (job, wanted, fault) in JOBS.iter().chain(FRAMES).chain(LINES) {
-        assert!(rt; job.len() <= 4096);
-        let last = match *fault {
-            Some((place, cause)) => Err(LexFault { place, cause }),
-            None => Ok(Lexed::End),
-        };
-        check_job(&rt, rt.alloc(), true, job, wanted, last)?;
-        check_job(&rt, rt.alloc(), false, job, wanted, last)?;
-    }
+    check_whole_and_byte_by_byte(&rt, rt.alloc(), JOBS)?;
+    check_whole_and_byte_by_byte(&rt, rt.alloc(), FRAMES)?;
+    check_whole_and_byte_by_byte(&rt, rt.alloc(), LINES)?;
     Ok(())
 }
 
@@ -572,7 +587,7 @@ fn read_cut<A: Allocator, B: Allocator>(
 }
 
 /// Reads a job that is cut at each place, which has to come to these items and to this answer behind them.
-fn check_cuts(
+fn check_cuts_of(
     rt: &impl Abort,
     alloc: Global,
     job: &[u8],
@@ -590,16 +605,19 @@ fn check_cuts(
     Ok(())
 }
 
+fn check_cuts(rt: &impl Abort, alloc: Global, jobs: &[Reading]) -> Result<(), AllocError> {
+    for (job, wanted, fault) in jobs {
+        assert!(rt; job.len() <= 4096);
+        check_cuts_of(rt, alloc, job, wanted, last_of(*fault))?;
+    }
+    Ok(())
+}
+
 #[test]
 fn jobs_are_read_cut_at_each_place(rt: HostRuntime) -> Result<(), Fail> {
-    for (job, wanted, fault) in JOBS.iter().chain(FRAMES).chain(LINES) {
-        assert!(rt; job.len() <= 4096);
-        let last = match *fault {
-            Some((place, cause)) => Err(LexFault { place, cause }),
-            None => Ok(Lexed::End),
-        };
-        check_cuts(&rt, rt.alloc(), job, wanted, last)?;
-    }
+    check_cuts(&rt, rt.alloc(), JOBS)?;
+    check_cuts(&rt, rt.alloc(), FRAMES)?;
+    check_cuts(&rt, rt.alloc(), LINES)?;
     Ok(())
 }
 
@@ -680,20 +698,26 @@ const FRONTS: &[Front] = &[
     ),
 ];
 
-#[test]
-fn fronts_decide(rt: HostRuntime) -> Result<(), Fail> {
-    for (front, count, fault) in FRONTS.iter().chain(FRONTS_OF_LINES) {
+fn check_fronts(rt: &impl Abort, alloc: Global, fronts: &[Front]) -> Result<(), AllocError> {
+    for (front, count, fault) in fronts {
         assert!(rt; front.len() <= 4096);
-        let mut lexer = Lexer::new(rt.alloc());
+        let mut lexer = Lexer::new(alloc);
         lexer.feed(front)?;
-        let mut items = Vec::new(rt.alloc());
-        let answer = read_on(rt.alloc(), &mut lexer, &mut items)?;
+        let mut items = Vec::new(alloc);
+        let answer = read_on(alloc, &mut lexer, &mut items)?;
         let last = match *fault {
             Some((place, cause)) => Err(LexFault { place, cause }),
             None => Ok(Lexed::NeedMore),
         };
         assert_eq!(rt; (answer, items.len()), (last, *count), "{front:?}");
     }
+    Ok(())
+}
+
+#[test]
+fn fronts_decide(rt: HostRuntime) -> Result<(), Fail> {
+    check_fronts(&rt, rt.alloc(), FRONTS)?;
+    check_fronts(&rt, rt.alloc(), FRONTS_OF_LINES)?;
     Ok(())
 }
 

@@ -1,6 +1,7 @@
 //! What stands ahead in a lexer's window, and what is lent of it.
 
 ghost use Rattle.std.specs.Prelude.{◌≡◌, ◌+◌, ◌<◌, ◌≤◌, ◌-◌, ◌^◌, ◌++◌, length, take, drop, IfSome};
+ghost use Rattle.pcl_items.specs.declared.item.Item.TheVariants.{Simple};
 ghost use Rattle.pcl_items.specs.Items.{Entry, view};
 ghost use Rattle.pcl_items.specs.Canon.{canon, data_of};
 ghost use Rattle.pcl_items.specs.Reader.{first_of};
@@ -17,7 +18,7 @@ use crate::code::control_at;
 use crate::command_with_data::with_data_in;
 use crate::fault::LexFault;
 use crate::first::{Context, First, Head, first_in};
-use crate::item::{Data, Item, PjlLine, Place, TextByte};
+use crate::item::{Data, Item, PjlLine, Place, SimpleItem, TextByte};
 use crate::lexer::Lexed;
 use crate::line::line_of;
 use crate::number::DataCount;
@@ -47,6 +48,27 @@ pub fn byte_in(bytes: &[u8]) -> Option<Item<'static>>
             None => None,
         },
         [] => None,
+    }
+}
+
+/// The item of the control code at `start` of the window, between units, unless another byte stands there.
+#[inline(always)]
+pub fn control_ahead(start: usize, window: &[u8]) -> Option<SimpleItem>
+    requires { start ≤ length window.now }
+    ensures { IfSome result (λ item. IsByte (Simple item) (drop start window.now)) }
+{
+    control_in(&window[start..])
+}
+
+/// The item of the first byte, where that is a control code.
+#[inline(always)]
+#[tactic(auto, unfolding(crate::specs::Reader::first_of))]
+fn control_in(bytes: &[u8]) -> Option<SimpleItem>
+    ensures { IfSome result (λ item. IsByte (Simple item) bytes.now) }
+{
+    match bytes {
+        [32..=255, ..] | [] => None,
+        [code, ..] => control_at(*code),
     }
 }
 

@@ -16,7 +16,7 @@ use pcl_items::{Item, LexFault, Place, spell};
 use std::alloc::Allocator;
 
 /// Writes each item in its one spelling.
-#[derive(Clone, Copy, Debug)]
+#[derive(Clone, Copy)]
 struct Plain;
 
 impl Report for Plain {

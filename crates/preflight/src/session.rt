@@ -24,7 +24,7 @@ use std::marker::Model;
 const MOST_BYTES: u64 = 1 << 62;
 
 /// How far a session has come.
-#[derive(Clone, Copy, Debug)]
+#[derive(Clone, Copy)]
 pub enum Standing {
     /// Nothing is wrong so far.
     Open,

@@ -1,46 +1,50 @@
-use Rattle.std.proofs.Common.{refl, arith, ◌∙◌}
-use Rattle.pcl_items.specs.Items.{view}
-use Rattle.pcl_items.specs.declared.item.Item.{Item}
-use Rattle.pcl_items.specs.declared.item.Item.TheVariants as items
-use Rattle.pcl_items.specs.declared.item.SimpleItem.TheVariants as simple
-use Rattle.preflight.specs.Carriers.Lockstep.{Execute}
-use Rattle.preflight.proofs.Answered.{item_takes, item_admitted, item_done, item_fails, all_admit, in_next, running_on, alike, wrong_outcome}
+use Rattle.std.proofs.Common.{◌≡◌, None, Option, sym, subst}
+use Rattle.pcl_items.specs.LexerState.{LexerState}
+use Rattle.pcl_items.specs.Lexing.{IsNext, answer_of}
+use Rattle.preflight.specs.declared.check.Progress.{Progress}
+use Rattle.preflight.specs.Carriers.Lockstep.{machines_of, counts_of}
+use Rattle.preflight.proofs.Answered.{ComesOn, comes_on}
+use Rattle.preflight.proofs.check.carry_out_commands.Goals.{in-Some+in_ok-failed, in_default+in-Some-next_control+in_ok-failed-2}
 use Rattle.preflight.proofs.check.carry_out_commands.Goals as goal
+
+-- where two ways meet
+met : {X Y Z : Type 0} (P : X → Y → Z → Type 0) (x x' : X) (y y' : Y) (z z' : Z) → x ≡ x' → y ≡ y' → z ≡ z' → P x' y' z' → P x y z
+met P x x' y y' z z' ex ey ez h = subst (λ x. P x y z) (sym ex) (subst (λ y. P x' y z) (sym ey) (subst (λ z. P x' y' z) (sym ez) h))
+
+pub returns-in-Some-failed-clause-came : goal.returns-in-Some-failed-clause-came
+returns-in-Some-failed-clause-came g c =
+    let so_far = c.loop-read.invariant in
+    let before : ComesOn None c.args.lexer.now c.loop-read.lexer (machines_of c.args.machines.now) (machines_of c.loop-read.machines) (counts_of c.args.machines.now) (counts_of c.loop-read.machines) =
+    record { came = so_far.through; ended = so_far.ended; place = so_far.place; no_more = so_far.no_more } in
+    let Came : Option Progress → LexerState → _ → Type 0 =
+    λ failed lexer machines. ComesOn failed c.args.lexer.now lexer (machines_of c.args.machines.now) (machines_of machines) (counts_of c.args.machines.now) (counts_of machines) in
+    let one : Came c.match-next_command.failed c.match-next_command.lexer c.match-next_command.machines = elim c.match-next_command.branch [
+      | in-Some+in_ok-failed w ↦
+          let next = w.in-Some.ensures.command in
+          met Came _ _ _ _ _ _ w.failed-is w.lexer-is w.machines-is
+          (comes_on _ _ _ _ _ _ _ _ _ _ w.in-Some.read before next (w.in_ok-failed.ensures _ _ next so_far.through.modes))
+      | in_default+in-Some-next_control+in_ok-failed-2 w ↦
+          let next = subst (λ old. IsNext old (answer_of w.in-Some-next_control.read) w.next_control.new.self) w.in_default.ensures.none w.in-Some-next_control.ensures.control in
+          met Came _ _ _ _ _ _ w.failed-is w.lexer-is w.machines-is
+          (comes_on _ _ _ _ _ _ _ _ _ _ w.in-Some-next_control.read before next (w.in_ok-failed-2.ensures _ _ next so_far.through.modes))
+    ] in
+    one.came
 
 pub loop-read-preserved : goal.loop-read-preserved
 loop-read-preserved g c =
-    let next = c.in-Some.ensures.command in
     let so_far = c.loop-read.invariant in
-    let item : Item = items.Simple (simple.Parameterized c.in-Some.read.command c.in-Some.read.number) in
-    let action = Execute (view item) in
-    let done = alike action _ _ _ _ _ c.in_default-outcome.is c.in_ok-outcome.ensures in
-    record {
-      through = record {
-        running = running_on action done.0 _ _ refl done.1;
-        modes = in_next _ _ (view item) done.0 _ _ (item_admitted _ _ _ next _ _ refl) done.1 so_far.through.modes;
-        carried = λ fleet bytes carried. item_done _ _ _ next _ _ refl action (λ m. refl) fleet bytes _ _ _ _ done.0 done.1 done.2 (so_far.through.carried fleet bytes carried);
-      };
-      ended = next.ended ∙ so_far.ended;
-      place = next.total ∙ so_far.place;
-      no_more = omega (arith, item_takes _ _ _ next _ _ refl, so_far.no_more);
-    }
-
-pub loop-read-smaller : goal.loop-read-smaller
-loop-read-smaller g c = item_takes _ _ _ c.in-Some.ensures.command _ _ refl
-
-pub carry_out_command-requires-clause-admitted : goal.carry_out_command-requires-clause-admitted
-carry_out_command-requires-clause-admitted g c =
-    let item : Item = items.Simple (simple.Parameterized c.in-Some.read.command c.in-Some.read.number) in
-    all_admit _ _ (view item) _ (item_admitted _ _ _ c.in-Some.ensures.command _ _ refl) c.loop-read.invariant.through.modes
-
-pub returns-in-Wrong-clause-came : goal.returns-in-Wrong-clause-came
-returns-in-Wrong-clause-came g c =
-    let next = c.in-Some.ensures.command in
-    let so_far = c.loop-read.invariant in
-    let item : Item = items.Simple (simple.Parameterized c.in-Some.read.command c.in-Some.read.number) in
-    let action = Execute (view item) in
-    let wrong = wrong_outcome action _ _ _ _ _ c.in-Wrong.profile c.in-Wrong.finding c.in-Wrong.is c.in_ok-outcome.ensures in
-    record {
-      goes_on = tt;
-      came = λ fleet bytes carried job may_be. item_fails _ _ _ next _ _ refl action (λ m. refl) c.one_reading.ensures fleet bytes _ _ _ _ _ so_far.ended wrong (so_far.through.carried fleet bytes carried) job may_be;
-    }
+    let before : ComesOn None c.args.lexer.now c.loop-read.lexer (machines_of c.args.machines.now) (machines_of c.loop-read.machines) (counts_of c.args.machines.now) (counts_of c.loop-read.machines) =
+    record { came = so_far.through; ended = so_far.ended; place = so_far.place; no_more = so_far.no_more } in
+    let Came : Option Progress → LexerState → _ → Type 0 =
+    λ failed lexer machines. ComesOn failed c.args.lexer.now lexer (machines_of c.args.machines.now) (machines_of machines) (counts_of c.args.machines.now) (counts_of machines) in
+    let one : Came c.match-next_command.failed c.match-next_command.lexer c.match-next_command.machines = elim c.match-next_command.branch [
+      | in-Some+in_ok-failed w ↦
+          let next = w.in-Some.ensures.command in
+          met Came _ _ _ _ _ _ w.failed-is w.lexer-is w.machines-is
+          (comes_on _ _ _ _ _ _ _ _ _ _ w.in-Some.read before next (w.in_ok-failed.ensures _ _ next so_far.through.modes))
+      | in_default+in-Some-next_control+in_ok-failed-2 w ↦
+          let next = subst (λ old. IsNext old (answer_of w.in-Some-next_control.read) w.next_control.new.self) w.in_default.ensures.none w.in-Some-next_control.ensures.control in
+          met Came _ _ _ _ _ _ w.failed-is w.lexer-is w.machines-is
+          (comes_on _ _ _ _ _ _ _ _ _ _ w.in-Some-next_control.read before next (w.in_ok-failed-2.ensures _ _ next so_far.through.modes))
+    ] in
+    record { through = rw c.in-None.is at one.came; ended = one.ended; place = one.place; no_more = one.no_more }

@@ -2,11 +2,12 @@ use Rattle.std.proofs.Common.{◌+◌, ℕ, List, drop, subst, arith}
 use Rattle.std.specs.Prelude.{vec_len}
 use Rattle.std.proofs.lemmas.List.{length-drop}
 use Rattle.pcl_items.specs.FirstView.{context_view}
+use Rattle.pcl_items.specs.declared.item.SimpleItem.TheVariants as simple
 use Rattle.pcl_items.specs.LexerState.{LexerState}
 use Rattle.pcl_items.specs.Lexing.{answer_of}
 use Rattle.pcl_items.specs.Answers.{Answers}
 use Rattle.pcl_items.specs.ReadCommands.{IsAhead}
-use Rattle.pcl_items.specs.declared.lexer.PlacedCommand.{PlacedCommand}
+use Rattle.pcl_items.specs.declared.lexer.PlacedItem.{PlacedItem}
 use Rattle.pcl_items.proofs.Stepped.{standing, command_is_answer, command_counts}
 use Rattle.pcl_items.proofs.Steps.{is_next}
 use Rattle.pcl_items.proofs.lexer.Lexer.next_command.Goals as goal
@@ -17,7 +18,7 @@ returns-clause-command g c =
     let read = c.in-Some.read in
     let window : List ℕ = l.window.items in
     let held = vec_len l.window in
-    let given : PlacedCommand = record { place = l.dropped + l.at; command = read.command; number = read.number } in
+    let given : PlacedItem = record { place = l.dropped + l.at; item = simple.Parameterized read.command read.number } in
     let first : IsAhead read (context_view l.context) (drop l.at window) = subst (λ (bytes : List ℕ). IsAhead read (context_view l.context) (drop l.at bytes)) c.deref.ensures.value c.in-Some.ensures in
     let exact : Answers c.args.self.now (answer_of given) (standing window (l.at + read.len) l.dropped (context_view read.next) l.ended held) =
     subst (λ (old : LexerState). Answers old (answer_of given) (standing window (l.at + read.len) l.dropped (context_view read.next) l.ended held)) c.self.view_is
