@@ -1,10 +1,10 @@
-use Rattle.std.proofs.Common.{◌≡◌, None, Option, sym, subst}
+use Rattle.std.proofs.Common.{◌≡◌, ◌∙◌, None, Option, sym, subst}
 use Rattle.pcl_items.specs.LexerState.{LexerState}
 use Rattle.pcl_items.specs.Lexing.{IsNext, answer_of}
 use Rattle.preflight.specs.declared.check.Progress.{Progress}
 use Rattle.preflight.specs.Carriers.Lockstep.{machines_of, counts_of}
 use Rattle.preflight.proofs.Answered.{ComesOn, comes_on}
-use Rattle.preflight.proofs.check.carry_out_commands.Goals.{in-Some+in_ok-failed, in_default+in-Some-next_control+in_ok-failed-2}
+use Rattle.preflight.proofs.check.carry_out_commands.Goals.{in-Some+in_ok-failed, in_default+in-Some-next_control+in_ok-failed-2, in_default+in_default-next_control+in-Some-next_pair+in_ok-failed-3}
 use Rattle.preflight.proofs.check.carry_out_commands.Goals as goal
 
 -- where two ways meet
@@ -27,6 +27,10 @@ returns-in-Some-failed-clause-came g c =
           let next = subst (λ old. IsNext old (answer_of w.in-Some-next_control.read) w.next_control.new.self) w.in_default.ensures.none w.in-Some-next_control.ensures.control in
           met Came _ _ _ _ _ _ w.failed-is w.lexer-is w.machines-is
           (comes_on _ _ _ _ _ _ _ _ _ _ w.in-Some-next_control.read before next (w.in_ok-failed-2.ensures _ _ next so_far.through.modes))
+      | in_default+in_default-next_control+in-Some-next_pair+in_ok-failed-3 w ↦
+          let next = subst (λ old. IsNext old (answer_of w.in-Some-next_pair.read) w.next_pair.new.self) (w.in_default-next_control.ensures.none ∙ w.in_default.ensures.none) w.in-Some-next_pair.ensures.pair in
+          met Came _ _ _ _ _ _ w.failed-is w.lexer-is w.machines-is
+          (comes_on _ _ _ _ _ _ _ _ _ _ w.in-Some-next_pair.read before next (w.in_ok-failed-3.ensures _ _ next so_far.through.modes))
     ] in
     one.came
 
@@ -46,5 +50,9 @@ loop-read-preserved g c =
           let next = subst (λ old. IsNext old (answer_of w.in-Some-next_control.read) w.next_control.new.self) w.in_default.ensures.none w.in-Some-next_control.ensures.control in
           met Came _ _ _ _ _ _ w.failed-is w.lexer-is w.machines-is
           (comes_on _ _ _ _ _ _ _ _ _ _ w.in-Some-next_control.read before next (w.in_ok-failed-2.ensures _ _ next so_far.through.modes))
+      | in_default+in_default-next_control+in-Some-next_pair+in_ok-failed-3 w ↦
+          let next = subst (λ old. IsNext old (answer_of w.in-Some-next_pair.read) w.next_pair.new.self) (w.in_default-next_control.ensures.none ∙ w.in_default.ensures.none) w.in-Some-next_pair.ensures.pair in
+          met Came _ _ _ _ _ _ w.failed-is w.lexer-is w.machines-is
+          (comes_on _ _ _ _ _ _ _ _ _ _ w.in-Some-next_pair.read before next (w.in_ok-failed-3.ensures _ _ next so_far.through.modes))
     ] in
     record { through = rw c.in-None.is at one.came; ended = one.ended; place = one.place; no_more = one.no_more }
