@@ -542,7 +542,7 @@ fn check_whole_and_byte_by_byte(
     rt: &impl Abort,
     alloc: Global,
     jobs: &[Reading],
-) -> Result<(), AllocError> {
+) -> Result<(), Fail> {
     for (job, wanted, fault) in jobs {
         assert!(rt; job.len() <= 4096);
         check_job(rt, alloc, true, job, wanted, last_of(*fault))?;
@@ -553,10 +553,17 @@ fn check_whole_and_byte_by_byte(
 
 #[test]
 fn jobs_are_read_whole_and_byte_by_byte(rt: HostRuntime) -> Result<(), Fail> {
-    check_whole_and_byte_by_byte(&rt, rt.alloc(), JOBS)?;
-    check_whole_and_byte_by_byte(&rt, rt.alloc(), FRAMES)?;
-    check_whole_and_byte_by_byte(&rt, rt.alloc(), LINES)?;
-    Ok(())
+    check_whole_and_byte_by_byte(&rt, rt.alloc(), JOBS)
+}
+
+#[test]
+fn frames_are_read_whole_and_byte_by_byte(rt: HostRuntime) -> Result<(), Fail> {
+    check_whole_and_byte_by_byte(&rt, rt.alloc(), FRAMES)
+}
+
+#[test]
+fn lines_are_read_whole_and_byte_by_byte(rt: HostRuntime) -> Result<(), Fail> {
+    check_whole_and_byte_by_byte(&rt, rt.alloc(), LINES)
 }
 
 /// Feeds the bytes in two pieces.
@@ -605,7 +612,7 @@ fn check_cuts_of(
     Ok(())
 }
 
-fn check_cuts(rt: &impl Abort, alloc: Global, jobs: &[Reading]) -> Result<(), AllocError> {
+fn check_cuts(rt: &impl Abort, alloc: Global, jobs: &[Reading]) -> Result<(), Fail> {
     for (job, wanted, fault) in jobs {
         assert!(rt; job.len() <= 4096);
         check_cuts_of(rt, alloc, job, wanted, last_of(*fault))?;
@@ -615,10 +622,17 @@ fn check_cuts(rt: &impl Abort, alloc: Global, jobs: &[Reading]) -> Result<(), Al
 
 #[test]
 fn jobs_are_read_cut_at_each_place(rt: HostRuntime) -> Result<(), Fail> {
-    check_cuts(&rt, rt.alloc(), JOBS)?;
-    check_cuts(&rt, rt.alloc(), FRAMES)?;
-    check_cuts(&rt, rt.alloc(), LINES)?;
-    Ok(())
+    check_cuts(&rt, rt.alloc(), JOBS)
+}
+
+#[test]
+fn frames_are_read_cut_at_each_place(rt: HostRuntime) -> Result<(), Fail> {
+    check_cuts(&rt, rt.alloc(), FRAMES)
+}
+
+#[test]
+fn lines_are_read_cut_at_each_place(rt: HostRuntime) -> Result<(), Fail> {
+    check_cuts(&rt, rt.alloc(), LINES)
 }
 
 /// A front of a job, how many items it decides, and which fault.
@@ -698,7 +712,7 @@ const FRONTS: &[Front] = &[
     ),
 ];
 
-fn check_fronts(rt: &impl Abort, alloc: Global, fronts: &[Front]) -> Result<(), AllocError> {
+fn check_fronts(rt: &impl Abort, alloc: Global, fronts: &[Front]) -> Result<(), Fail> {
     for (front, count, fault) in fronts {
         assert!(rt; front.len() <= 4096);
         let mut lexer = Lexer::new(alloc);
@@ -715,10 +729,13 @@ fn check_fronts(rt: &impl Abort, alloc: Global, fronts: &[Front]) -> Result<(), 
 }
 
 #[test]
-fn fronts_decide(rt: HostRuntime) -> Result<(), Fail> {
-    check_fronts(&rt, rt.alloc(), FRONTS)?;
-    check_fronts(&rt, rt.alloc(), FRONTS_OF_LINES)?;
-    Ok(())
+fn fronts_of_frames_decide(rt: HostRuntime) -> Result<(), Fail> {
+    check_fronts(&rt, rt.alloc(), FRONTS)
+}
+
+#[test]
+fn fronts_of_lines_decide(rt: HostRuntime) -> Result<(), Fail> {
+    check_fronts(&rt, rt.alloc(), FRONTS_OF_LINES)
 }
 
 /// Feeds an item, and then a large piece, which is refused: the job ends without it.

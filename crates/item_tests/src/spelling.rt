@@ -27,8 +27,8 @@ const WITHOUT_NUMBERS: &[Spelled] = &[
     (b"\xff", b"\xff"),
 ];
 
-/// Each command, with numbers of all kinds.
-const WITH_NUMBERS: &[Spelled] = &[
+/// Commands behind `ESC &`, of pages, lines, columns and macros, with numbers of all kinds.
+const NUMBERS_OF_PAGES: &[Spelled] = &[
     (b"\x1b&a+7.50L", b"\x1b&a+7.5L"),
     (b"\x1b&a-0M", b"\x1b&a-0M"),
     (b"\x1b&a.5C", b"\x1b&a0.5C"),
@@ -51,6 +51,10 @@ const WITH_NUMBERS: &[Spelled] = &[
     (b"\x1b&l9.87650F", b"\x1b&l9.8765F"),
     (b"\x1b&l1L", b"\x1b&l1L"),
     (b"\x1b&u300D", b"\x1b&u300D"),
+];
+
+/// Commands behind `ESC *` and `ESC (`, of marks, moves in units and fonts, with numbers of all kinds.
+const NUMBERS_OF_MARKS: &[Spelled] = &[
     (b"\x1b*c10A", b"\x1b*c10A"),
     (b"\x1b*c0.50B", b"\x1b*c0.5B"),
     (b"\x1b*c100P", b"\x1b*c100P"),
@@ -213,24 +217,42 @@ fn check_spellings(rt: &impl Abort, alloc: Global, rows: &[Spelled]) -> Result<(
 }
 
 #[test]
-fn items_are_spelled_and_read_again(rt: HostRuntime) -> Result<(), Fail> {
-    check_spellings(&rt, rt.alloc(), WITHOUT_NUMBERS)?;
-    check_spellings(&rt, rt.alloc(), WITH_NUMBERS)?;
-    check_spellings(&rt, rt.alloc(), WITH_DATA)
+fn items_without_numbers_are_spelled_and_read_again(rt: HostRuntime) -> Result<(), Fail> {
+    check_spellings(&rt, rt.alloc(), WITHOUT_NUMBERS)
 }
 
 #[test]
-fn items_of_frames_are_spelled_and_read_again(rt: HostRuntime) -> Result<(), Fail> {
-    for (sent, canonical) in OF_FRAMES {
-        let job = job_of(rt.alloc(), b"\x1b%0B", 1, sent, b"\x1b%0A")?;
-        let items = items_of(rt.alloc(), &job)?;
+fn numbers_of_pages_are_spelled_and_read_again(rt: HostRuntime) -> Result<(), Fail> {
+    check_spellings(&rt, rt.alloc(), NUMBERS_OF_PAGES)
+}
+
+#[test]
+fn numbers_of_marks_are_spelled_and_read_again(rt: HostRuntime) -> Result<(), Fail> {
+    check_spellings(&rt, rt.alloc(), NUMBERS_OF_MARKS)
+}
+
+#[test]
+fn items_with_data_are_spelled_and_read_again(rt: HostRuntime) -> Result<(), Fail> {
+    check_spellings(&rt, rt.alloc(), WITH_DATA)
+}
+
+/// Checks items of frames, each sent alone between the bytes that enter and leave one.
+fn check_spellings_in_frames(rt: &impl Abort, alloc: Global, rows: &[Spelled]) -> Result<(), Fail> {
+    for (sent, canonical) in rows {
+        let job = job_of(alloc, b"\x1b%0B", 1, sent, b"\x1b%0A")?;
+        let items = items_of(alloc, &job)?;
         let [_, (_, item), _] = items.as_slice() else {
             assert!(rt; false, "not one item: {sent:?}");
             return Ok(());
         };
-        check_item(&rt, rt.alloc(), &item.as_item(), canonical, IN_FRAME)?;
+        check_item(rt, alloc, &item.as_item(), canonical, IN_FRAME)?;
     }
     Ok(())
+}
+
+#[test]
+fn items_of_frames_are_spelled_and_read_again(rt: HostRuntime) -> Result<(), Fail> {
+    check_spellings_in_frames(&rt, rt.alloc(), OF_FRAMES)
 }
 
 /// Lines behind the universal exit, their spelling, and the mode behind them.
@@ -305,8 +327,8 @@ fn items_that_switch_the_mode_are_spelled_and_read_again(rt: HostRuntime) -> Res
     Ok(())
 }
 
-/// Bytes with which no spelling begins.
-const NOTHING: &[&[u8]] = &[
+/// Bytes with which no spelling of text, of a control code or of a command begins.
+const NO_COMMANDS: &[&[u8]] = &[
     b"",
     b"\0",
     b"\t",
@@ -346,6 +368,10 @@ const NOTHING: &[&[u8]] = &[
     b"\x1b(8X",
     b"\x1b(4@",
     b"\x1b&b0X",
+];
+
+/// Bytes with which no spelling begins of what switches the mode, nor of an item with data.
+const NO_SWITCHES_AND_DATA: &[&[u8]] = &[
     // Other spellings of what enters and leaves a frame.
     b"\x1b%",
     b"\x1b%B",
@@ -486,18 +512,36 @@ fn assert_nothing(rt: &impl Abort, bytes: &[u8], place: usize, mode: Mode)
     assert_eq!(rt; item_at(bytes, place, mode), None, "{bytes:?} at {place}");
 }
 
-#[test]
-fn nothing_stands_there(rt: HostRuntime) {
-    for (mode, rows) in [
-        (Mode::Pjl, NOTHING_IN_PJL),
-        (Mode::Pcl, NOTHING),
-        (Mode::Frame, NOTHING_IN_FRAMES),
-    ] {
-        for bytes in rows {
-            assert_nothing(&rt, bytes, 0, mode);
-            assert_nothing(&rt, bytes, bytes.len(), mode);
-        }
+/// Checks that in this mode no spelling begins at the front of these bytes, nor at their end.
+fn check_nothing(rt: &impl Abort, mode: Mode, rows: &[&[u8]]) {
+    for bytes in rows {
+        assert_nothing(rt, bytes, 0, mode);
+        assert_nothing(rt, bytes, bytes.len(), mode);
     }
+}
+
+#[test]
+fn no_lines_stand_there(rt: HostRuntime) {
+    check_nothing(&rt, Mode::Pjl, NOTHING_IN_PJL);
+}
+
+#[test]
+fn no_commands_stand_there(rt: HostRuntime) {
+    check_nothing(&rt, Mode::Pcl, NO_COMMANDS);
+}
+
+#[test]
+fn no_switches_and_no_data_stand_there(rt: HostRuntime) {
+    check_nothing(&rt, Mode::Pcl, NO_SWITCHES_AND_DATA);
+}
+
+#[test]
+fn no_items_of_frames_stand_there(rt: HostRuntime) {
+    check_nothing(&rt, Mode::Frame, NOTHING_IN_FRAMES);
+}
+
+#[test]
+fn nothing_stands_within(rt: HostRuntime) {
     for (bytes, place, mode) in NOTHING_WITHIN {
         assert!(rt; *place <= bytes.len());
         assert_nothing(&rt, bytes, *place, *mode);

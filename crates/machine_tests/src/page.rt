@@ -47,8 +47,8 @@ const FIRST_LINE: i64 = INCH / 8 * 5;
 /// Bytes, so many times, and what they come to.
 type Step = (u32, &'static [u8], Comes);
 
-/// Pages of letter paper in portrait, each from its start.
-const PAGES: &[&[Step]] = &[
+/// Moves, margins and units on pages of letter paper in portrait, each from its start.
+const MOVES_AND_MARGINS: &[&[Step]] = &[
     // 300 units are an inch, and the top margin is half an inch.
     &[
         (1, b"", To(0, None)),
@@ -106,6 +106,10 @@ const PAGES: &[&[Step]] = &[
         (1, b"\x1b&k0.0001H", To(0, None)),
         (1, b"\x1b&a0.0001C", Found(Inexact)),
     ],
+];
+
+/// Line feeds, the stack and frames on pages of letter paper in portrait, each from its start.
+const FEEDS_AND_FRAMES: &[&[Step]] = &[
     // 60 lines lie above the bottom margin.
     &[
         (59, b"\n", To(0, Some(FIRST_LINE + INCH / 6 * 59))),
@@ -297,13 +301,22 @@ fn check_page(
     Ok(())
 }
 
-#[test]
-fn pages_come_to_this(rt: HostRuntime) -> Result<(), Fail> {
-    let profile = sample_a(rt.alloc())?;
-    for steps in PAGES {
-        check_page(&rt, rt.alloc(), &profile, steps)?;
+fn check_pages(rt: &impl Abort, alloc: Global, pages: &[&[Step]]) -> Result<(), Fail> {
+    let profile = sample_a(alloc)?;
+    for steps in pages {
+        check_page(rt, alloc, &profile, steps)?;
     }
     Ok(())
+}
+
+#[test]
+fn moves_and_margins_come_to_this(rt: HostRuntime) -> Result<(), Fail> {
+    check_pages(&rt, rt.alloc(), MOVES_AND_MARGINS)
+}
+
+#[test]
+fn feeds_and_frames_come_to_this(rt: HostRuntime) -> Result<(), Fail> {
+    check_pages(&rt, rt.alloc(), FEEDS_AND_FRAMES)
 }
 
 /// A whole number without a sign.

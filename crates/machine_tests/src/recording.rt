@@ -8,6 +8,7 @@ use page_machine::MarkSink;
 use refusing::Refusing;
 use sinks::{Comparer, Counts, Recorder};
 use std::alloc::{AllocError, Global};
+use std::process::Abort;
 use std::test::Fail;
 use tick_length::Length;
 
@@ -114,13 +115,21 @@ fn differs(alloc: Global, recorded: &[Event], events: &[Event]) -> Result<bool, 
     }
 }
 
-#[test]
-fn events_are_compared_in_order(rt: HostRuntime) -> Result<(), Fail> {
-    for (recorded, events, differ) in ROWS {
-        let answer = differs(rt.alloc(), recorded, events)?;
+fn check_differences(
+    rt: &impl Abort,
+    alloc: Global,
+    rows: &[(&[Event], &[Event], bool)],
+) -> Result<(), Fail> {
+    for (recorded, events, differ) in rows {
+        let answer = differs(alloc, recorded, events)?;
         assert_eq!(rt; answer, *differ, "{recorded:?} and {events:?}");
     }
     Ok(())
+}
+
+#[test]
+fn events_are_compared_in_order(rt: HostRuntime) -> Result<(), Fail> {
+    check_differences(&rt, rt.alloc(), ROWS)
 }
 
 #[test]

@@ -114,17 +114,24 @@ fn check_bodies(rt: &impl Abort, alloc: Global, rows: &[Row], ends: &[&[u8]]) ->
 
 #[test]
 fn bodies_run_as_they_are_written_out(rt: HostRuntime) -> Result<(), Fail> {
-    let alloc = rt.alloc();
-    check_bodies(&rt, alloc, ON_A_PAGE, &[EXECUTED, CALLED, OVERLAID])?;
-    check_bodies(&rt, alloc, WITH_PAGES, &[EXECUTED, CALLED])?;
-    check_bodies(&rt, alloc, WITH_PAPER, &[EXECUTED])
+    check_bodies(&rt, rt.alloc(), ON_A_PAGE, &[EXECUTED, CALLED, OVERLAID])
+}
+
+#[test]
+fn bodies_with_pages_run_as_they_are_written_out(rt: HostRuntime) -> Result<(), Fail> {
+    check_bodies(&rt, rt.alloc(), WITH_PAGES, &[EXECUTED, CALLED])
+}
+
+#[test]
+fn bodies_with_paper_run_as_they_are_written_out(rt: HostRuntime) -> Result<(), Fail> {
+    check_bodies(&rt, rt.alloc(), WITH_PAPER, &[EXECUTED])
 }
 
 /// A printer; what a job sends before a macro, in it and behind it; and what is expected where the macro is executed, and called.
 type Returned = (Printer, [&'static [u8]; 3], Expected, Expected);
 
-/// What an execution keeps and a call returns.
-const RETURNED: &[Returned] = &[
+/// What an execution keeps and a call returns of fonts, margins, line ends and units.
+const FONTS_AND_MARGINS: &[Returned] = &[
     // Fonts, and the motion index, which a font ends.
     (B, [b"", b"\x1b(8U", b"A"], Found(21, NoFont), Pass(1, 1)),
     (
@@ -214,6 +221,10 @@ const RETURNED: &[Returned] = &[
         Pass(0, 0),
         Found(24, OffPage),
     ),
+];
+
+/// What an execution keeps and a call returns of rectangles, rasters and copies.
+const RECTANGLES_AND_RASTERS: &[Returned] = &[
     // Rectangles.
     (
         B,
@@ -271,6 +282,10 @@ const RETURNED: &[Returned] = &[
         Pass(1, 0),
         Pass(1, 0),
     ),
+];
+
+/// What an execution keeps and a call returns of the pen and the frame; and what stays behind a call, too.
+const PENS_AND_FRAMES: &[Returned] = &[
     // The pen: its number, its width, its place, whether it is down, and how it moves.
     (
         B,
@@ -392,16 +407,31 @@ fn running(alloc: Global, [front, body, end]: [&[u8]; 3], control: &[u8]) -> Res
     Ok(job)
 }
 
-#[test]
-fn a_call_returns_what_an_execution_keeps(rt: HostRuntime) -> Result<(), Fail> {
-    for (printer, parts, kept, returned) in RETURNED {
-        let fleet = fleet_of(rt.alloc(), &[*printer])?;
-        let executed = running(rt.alloc(), *parts, b"\x1b&f2X")?;
-        check_in_pieces(rt.alloc(), &fleet, &executed, *kept)?;
-        let called = running(rt.alloc(), *parts, b"\x1b&f3X")?;
-        check_in_pieces(rt.alloc(), &fleet, &called, *returned)?;
+/// Checks jobs whose macro is executed, and the same jobs where it is called.
+fn check_returned(alloc: Global, rows: &[Returned]) -> Result<(), Fail> {
+    for (printer, parts, kept, returned) in rows {
+        let fleet = fleet_of(alloc, &[*printer])?;
+        let executed = running(alloc, *parts, b"\x1b&f2X")?;
+        check_in_pieces(alloc, &fleet, &executed, *kept)?;
+        let called = running(alloc, *parts, b"\x1b&f3X")?;
+        check_in_pieces(alloc, &fleet, &called, *returned)?;
     }
     Ok(())
+}
+
+#[test]
+fn a_call_returns_fonts_and_margins(rt: HostRuntime) -> Result<(), Fail> {
+    check_returned(rt.alloc(), FONTS_AND_MARGINS)
+}
+
+#[test]
+fn a_call_returns_rectangles_and_rasters(rt: HostRuntime) -> Result<(), Fail> {
+    check_returned(rt.alloc(), RECTANGLES_AND_RASTERS)
+}
+
+#[test]
+fn a_call_returns_the_pen_and_the_frame(rt: HostRuntime) -> Result<(), Fail> {
+    check_returned(rt.alloc(), PENS_AND_FRAMES)
 }
 
 /// A square of a tenth of an inch at home, and one an inch from the left and an inch below the top margin.

@@ -7,8 +7,8 @@ use std::test::Fail;
 use verdict_rows::Expected::Fault;
 use verdict_rows::{Row, check_rows};
 
-/// Bytes that are no command of a frame, and where the fault stands.
-const FAULTS: &[Row] = &[
+/// Bytes that end in a frame, and where the fault stands.
+const ENDS: &[Row] = &[
     // The end of the bytes between commands, and within one.
     (b"\x1b%0BIN;", Fault(7, EndInFrame)),
     (b"\x1b%0B", Fault(4, EndInFrame)),
@@ -49,6 +49,10 @@ const FAULTS: &[Row] = &[
     (b"\x1bE\x1b%0BPA1", Fault(6, Truncated)),
     (b"\x1bE\x1b%0BPA1,2,", Fault(12, Truncated)),
     (b"\x1bE\x1b%0BPU1,8388608", Fault(6, Truncated)),
+];
+
+/// Sequences and letters that are no command of a frame, and other bytes with which none begins.
+const NO_COMMANDS: &[Row] = &[
     // What stands behind ESC in a frame.
     (b"\x1b%0B\x1b&l2A", Fault(4, NotInProfile(Name::Byte(b'&')))),
     (b"\x1b%0B\x1b9", Fault(4, NotInProfile(Name::Byte(b'9')))),
@@ -128,6 +132,10 @@ const FAULTS: &[Row] = &[
     (b"\x1b%0B\x0c", Fault(4, Syntax)),
     (b"\x1b%0B\xff", Fault(4, Syntax)),
     (b"\x1b%0B;; :", Fault(7, Syntax)),
+];
+
+/// Numbers of which there are too many or too few, and commas.
+const COUNTS_OF_NUMBERS: &[Row] = &[
     // Numbers too many, which their first character tells.
     (b"\x1b%0BIN 5", Fault(4, BadNumber)),
     (b"\x1b%0BIN+", Fault(4, BadNumber)),
@@ -163,6 +171,10 @@ const FAULTS: &[Row] = &[
     (b"\x1b%0BPA1,2 ,\t;", Fault(12, Syntax)),
     (b"\x1b%0BPA1,2,\x1b%0A", Fault(10, Syntax)),
     (b"\x1bE\x1b%0BPA1,2,;", Fault(12, Syntax)),
+];
+
+/// The characters of numbers, and their limits.
+const NUMBERS: &[Row] = &[
     // Points, signs and other bytes about numbers.
     (b"\x1b%0BPA1,2 *", Fault(10, Syntax)),
     (b"\x1b%0BPA1,2*", Fault(9, Syntax)),
@@ -198,6 +210,21 @@ const FAULTS: &[Row] = &[
 ];
 
 #[test]
-fn bytes_of_frames_that_are_no_items(rt: HostRuntime) -> Result<(), Fail> {
-    check_rows(rt.alloc(), &[B], FAULTS)
+fn bytes_that_end_in_a_frame(rt: HostRuntime) -> Result<(), Fail> {
+    check_rows(rt.alloc(), &[B], ENDS)
+}
+
+#[test]
+fn bytes_of_frames_that_are_no_commands(rt: HostRuntime) -> Result<(), Fail> {
+    check_rows(rt.alloc(), &[B], NO_COMMANDS)
+}
+
+#[test]
+fn numbers_that_are_too_many_or_too_few(rt: HostRuntime) -> Result<(), Fail> {
+    check_rows(rt.alloc(), &[B], COUNTS_OF_NUMBERS)
+}
+
+#[test]
+fn characters_and_limits_of_numbers(rt: HostRuntime) -> Result<(), Fail> {
+    check_rows(rt.alloc(), &[B], NUMBERS)
 }

@@ -53,8 +53,8 @@ const JOBS: &[Row] = &[
     ),
 ];
 
-/// What the commands of a frame do on letter paper, whose default frame is 8128 plotter units wide and 10160 high.
-const EFFECTS: &[Row] = &[
+/// What pens mark, raised and lowered, and the values that choose a pen and its width.
+const PENS: &[Row] = &[
     // The pen: which one, raised or lowered.
     (b"\x1bE\x1b%0BPD\x1b%0A", Found(6, NoPen)),
     (b"\x1bE\x1b%0BPD", Found(6, NoPen)),
@@ -96,6 +96,10 @@ const EFFECTS: &[Row] = &[
     (b"\x1b%0BPW0;\x1b%0A", Found(4, BadValue)),
     (b"\x1bE\x1b%0BPW-0;\x1b%0A", Found(6, BadValue)),
     (b"\x1bE\x1b%0BPW0.0001;\x1b%0A", Pass(0, 0)),
+];
+
+/// Where lines may lie on letter paper, whose default frame is 8128 plotter units wide and 10160 high, and on other pages.
+const LINES_IN_FRAMES: &[Row] = &[
     // Edges of the frame are in it.
     (b"\x1bE\x1b%0BSP1PU8128,0PD;\x1b%0A", Pass(1, 1)),
     (
@@ -128,6 +132,28 @@ const EFFECTS: &[Row] = &[
     (
         b"\x1bE\x1b*c720x720Y\x1b%0BSP1PU0,1017PD;\x1b%0A",
         Found(28, OutsideFrame),
+    ),
+    // The default frame of other pages: 7918.03 by 10861.04 plotter units, and in landscape 10769.6 by 7620.
+    (
+        b"\x1bE\x1b&l26A\x1b%0BSP1PU7918,10861PD;\x1b%0A",
+        Pass(1, 1),
+    ),
+    (
+        b"\x1bE\x1b&l26A\x1b%0BSP1PU7919,0PD;\x1b%0A",
+        Found(23, OutsideFrame),
+    ),
+    (
+        b"\x1bE\x1b&l26A\x1b%0BSP1PU0,10862PD;\x1b%0A",
+        Found(24, OutsideFrame),
+    ),
+    (b"\x1bE\x1b&l1O\x1b%0BSP1PU10769,7620PD;\x1b%0A", Pass(1, 1)),
+    (
+        b"\x1bE\x1b&l1O\x1b%0BSP1PU10770,0PD;\x1b%0A",
+        Found(23, OutsideFrame),
+    ),
+    (
+        b"\x1bE\x1b&l1O\x1b%0BSP1PU0,7621PD;\x1b%0A",
+        Found(22, OutsideFrame),
     ),
     // A line may begin where the pen entered; where that is outside the frame it is not drawn.
     (
@@ -183,6 +209,10 @@ const EFFECTS: &[Row] = &[
         Found(12, NotPrintable),
     ),
     (b"\x1bE\x1b%0BSP1PD;SP0;PD-1500,0\x1b%0A", Found(16, NoPen)),
+];
+
+/// How far pens go, what returns them and the frame, and the places of the cursor behind frames, on letter paper.
+const PLACES_OF_PENS: &[Row] = &[
     // How far the pen may go.
     (
         b"\x1bE\x1b%0BPR8388607,0,1,0\x1b%0A",
@@ -269,28 +299,6 @@ const EFFECTS: &[Row] = &[
     (
         b"\x1bE\x1b%0BSP1PD;\x1b%0A\x1b&l2A\x1b%0BPA1,1\x1b%0A",
         Pass(2, 2),
-    ),
-    // The default frame of other pages: 7918.03 by 10861.04 plotter units, and in landscape 10769.6 by 7620.
-    (
-        b"\x1bE\x1b&l26A\x1b%0BSP1PU7918,10861PD;\x1b%0A",
-        Pass(1, 1),
-    ),
-    (
-        b"\x1bE\x1b&l26A\x1b%0BSP1PU7919,0PD;\x1b%0A",
-        Found(23, OutsideFrame),
-    ),
-    (
-        b"\x1bE\x1b&l26A\x1b%0BSP1PU0,10862PD;\x1b%0A",
-        Found(24, OutsideFrame),
-    ),
-    (b"\x1bE\x1b&l1O\x1b%0BSP1PU10769,7620PD;\x1b%0A", Pass(1, 1)),
-    (
-        b"\x1bE\x1b&l1O\x1b%0BSP1PU10770,0PD;\x1b%0A",
-        Found(23, OutsideFrame),
-    ),
-    (
-        b"\x1bE\x1b&l1O\x1b%0BSP1PU0,7621PD;\x1b%0A",
-        Found(22, OutsideFrame),
     ),
     // Entered and left with the pen and the cursor where they were, or with each at the place of the other.
     (b"\x1bE\x1b*p300X\x1b%0B\x1b%0A\x1b*p-300X", Pass(0, 0)),
@@ -421,8 +429,8 @@ const FLEETS: &[FleetRow] = &[
     ),
 ];
 
-/// The lines of jobs, and the places of the cursor behind frames.
-const MARKED: &[Worded] = &[
+/// The lines of jobs by the moves of their pens, and the place of the cursor behind a frame.
+const LINES_BY_MOVES: &[Worded] = &[
     (
         b"\x1bE\x1b%0Bin;sp1;pu0,0pd100,100,0,200\x1b%0A",
         &[
@@ -499,6 +507,10 @@ const MARKED: &[Worded] = &[
             "page 1",
         ],
     ),
+];
+
+/// The lines of jobs by the width of the pen and by the frame, and marks of both languages on one page.
+const LINES_BY_FRAMES: &[Worded] = &[
     // The width of the pen, also in a frame that is entered again.
     (
         b"\x1bE\x1b%0BSP1PW1PD;\x1b%0A\x1b%0BPW.5PD10,0;PWPD10,10;\x1b%0A",
@@ -572,6 +584,10 @@ const MARKED: &[Worded] = &[
             "page 1",
         ],
     ),
+];
+
+/// The marks of jobs whose pen and cursor take each other's place, and of pens in calls and overlays.
+const MARKS_BETWEEN_FRAMES: &[Worded] = &[
     // Left with the cursor at the pen, and entered with the pen at the cursor.
     (
         b"\x1bE\x1b*p300x300Y\x1b%1BPU0,0\x1b%0A\x1b*c30a30b0P",
@@ -694,9 +710,23 @@ const MARKED_BEFORE: &[Worded] = &[
 ];
 
 #[test]
-fn frames_for_one_printer(rt: HostRuntime) -> Result<(), Fail> {
-    check_rows(rt.alloc(), &[B], JOBS)?;
-    check_rows(rt.alloc(), &[B], EFFECTS)
+fn frames_are_entered_and_left(rt: HostRuntime) -> Result<(), Fail> {
+    check_rows(rt.alloc(), &[B], JOBS)
+}
+
+#[test]
+fn pens_are_chosen_raised_and_lowered(rt: HostRuntime) -> Result<(), Fail> {
+    check_rows(rt.alloc(), &[B], PENS)
+}
+
+#[test]
+fn lines_lie_in_their_frame(rt: HostRuntime) -> Result<(), Fail> {
+    check_rows(rt.alloc(), &[B], LINES_IN_FRAMES)
+}
+
+#[test]
+fn pens_go_to_their_places(rt: HostRuntime) -> Result<(), Fail> {
+    check_rows(rt.alloc(), &[B], PLACES_OF_PENS)
 }
 
 #[test]
@@ -721,7 +751,21 @@ fn frames_for_fleets(rt: HostRuntime) -> Result<(), Fail> {
 }
 
 #[test]
-fn lines_are_marked(rt: HostRuntime) -> Result<(), Fail> {
-    check_words(rt.alloc(), MARKED, true)?;
+fn lines_are_marked_by_the_moves_of_pens(rt: HostRuntime) -> Result<(), Fail> {
+    check_words(rt.alloc(), LINES_BY_MOVES, true)
+}
+
+#[test]
+fn lines_are_marked_by_their_frame(rt: HostRuntime) -> Result<(), Fail> {
+    check_words(rt.alloc(), LINES_BY_FRAMES, true)
+}
+
+#[test]
+fn marks_between_frames(rt: HostRuntime) -> Result<(), Fail> {
+    check_words(rt.alloc(), MARKS_BETWEEN_FRAMES, true)
+}
+
+#[test]
+fn lines_are_marked_before_a_finding(rt: HostRuntime) -> Result<(), Fail> {
     check_words(rt.alloc(), MARKED_BEFORE, false)
 }

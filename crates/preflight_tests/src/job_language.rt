@@ -13,8 +13,8 @@ use std::test::Fail;
 use verdict_rows::Expected::{Differs, Fault, Found, Pass};
 use verdict_rows::{Expected, FleetRow, Row, check_fleet_rows, check_in_sizes, check_rows};
 
-/// Bytes that are no universal exit, and lines that are none.
-const FAULTS: &[Row] = &[
+/// Bytes that are no universal exit.
+const NO_EXITS: &[Row] = &[
     // Other spellings of the number are no universal exit, nor is a sequence that is cut short.
     (
         b"\x1b%-12345.0X",
@@ -56,6 +56,10 @@ const FAULTS: &[Row] = &[
     ),
     (b"\x1b&l2a\x1b%-12345X", Fault(5, Syntax)),
     (b"\x1b&l\x1b%-12345X", Fault(0, Syntax)),
+];
+
+/// Lines that are not whole, and lines that are none.
+const NO_LINES: &[Row] = &[
     // A line that the bytes end is not whole.
     (b"\x1b%-12345X@", Fault(9, Truncated)),
     (b"\x1b%-12345X@P", Fault(9, Truncated)),
@@ -247,9 +251,22 @@ const JOBS_FOR_A: &[Row] = &[
 ];
 
 #[test]
+fn bytes_that_are_no_universal_exit(rt: HostRuntime) -> Result<(), Fail> {
+    check_rows(rt.alloc(), &[B], NO_EXITS)
+}
+
+#[test]
+fn lines_that_are_not_whole_or_none(rt: HostRuntime) -> Result<(), Fail> {
+    check_rows(rt.alloc(), &[B], NO_LINES)
+}
+
+#[test]
 fn jobs_in_both_languages(rt: HostRuntime) -> Result<(), Fail> {
-    check_rows(rt.alloc(), &[B], FAULTS)?;
-    check_rows(rt.alloc(), &[B], JOBS)?;
+    check_rows(rt.alloc(), &[B], JOBS)
+}
+
+#[test]
+fn jobs_in_both_languages_read_the_panel(rt: HostRuntime) -> Result<(), Fail> {
     check_rows(rt.alloc(), &[A], JOBS_FOR_A)
 }
 

@@ -9,6 +9,8 @@ use pcl_items::{Group, Name};
 use preflight::{Outcome, Watched, list_job};
 use printers::Printer::B;
 use printers::profile_of;
+use std::alloc::Global;
+use std::process::Abort;
 use std::test::Fail;
 
 /// Jobs, and the lines of their items.
@@ -130,13 +132,17 @@ const LISTS: &[TextRow<'static>] = &[
     ),
 ];
 
-#[test]
-fn items_are_listed(rt: HostRuntime) -> Result<(), Fail> {
-    let profile = profile_of(rt.alloc(), B)?;
-    for row in LISTS {
-        check_text(&rt, rt.alloc(), List, &profile, *row);
+fn check_lists(rt: &impl Abort, alloc: Global, rows: &[TextRow]) -> Result<(), Fail> {
+    let profile = profile_of(alloc, B)?;
+    for row in rows {
+        check_text(rt, alloc, List, &profile, *row);
     }
     Ok(())
+}
+
+#[test]
+fn items_are_listed(rt: HostRuntime) -> Result<(), Fail> {
+    check_lists(&rt, rt.alloc(), LISTS)
 }
 
 /// The longest data, each byte of which takes four in the list.

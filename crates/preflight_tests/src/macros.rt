@@ -11,6 +11,7 @@ use pcl_items::Name;
 use preflight::{Watched, check_job};
 use printers::Printer::{A, B, C, EightLevels, MostMemory, NoLevels, NoMemory, SomeCopies};
 use printers::{Printer, fleet_of};
+use std::alloc::Global;
 use std::test::Fail;
 use verdict_rows::Expected::{Fault, Found, Pass};
 use verdict_rows::{Expected, PrinterRow, Row, check_in_pieces, check_printer_rows, check_rows};
@@ -574,27 +575,48 @@ const FIELDS: &[PrinterRow] = &[
 ];
 
 #[test]
-fn macros_for_one_printer(rt: HostRuntime) -> Result<(), Fail> {
-    check_rows(rt.alloc(), &[B], DEFINITIONS)?;
-    check_rows(rt.alloc(), &[B], CONTROLS)?;
-    check_rows(rt.alloc(), &[B], RUNS)?;
+fn what_stands_in_a_definition(rt: HostRuntime) -> Result<(), Fail> {
+    check_rows(rt.alloc(), &[B], DEFINITIONS)
+}
+
+#[test]
+fn controls_of_macros(rt: HostRuntime) -> Result<(), Fail> {
+    check_rows(rt.alloc(), &[B], CONTROLS)
+}
+
+#[test]
+fn macros_are_executed_and_called(rt: HostRuntime) -> Result<(), Fail> {
+    check_rows(rt.alloc(), &[B], RUNS)
+}
+
+#[test]
+fn what_may_not_stand_in_a_macro(rt: HostRuntime) -> Result<(), Fail> {
     check_rows(rt.alloc(), &[B], REFUSED)
 }
 
 #[test]
-fn levels_and_fields_of_macros(rt: HostRuntime) -> Result<(), Fail> {
-    check_printer_rows(rt.alloc(), LEVELS)?;
+fn levels_of_macros(rt: HostRuntime) -> Result<(), Fail> {
+    check_printer_rows(rt.alloc(), LEVELS)
+}
+
+#[test]
+fn macros_read_the_panel(rt: HostRuntime) -> Result<(), Fail> {
     check_printer_rows(rt.alloc(), FIELDS)
+}
+
+/// Checks jobs, each with its bytes of text and for its printer.
+fn check_stored(alloc: Global, rows: &[Stored]) -> Result<(), Fail> {
+    for (printer, front, times, end, expected) in rows {
+        let fleet = fleet_of(alloc, &[*printer])?;
+        let job = job_of(alloc, front, *times, b"A", end)?;
+        check_in_pieces(alloc, &fleet, &job, *expected)?;
+    }
+    Ok(())
 }
 
 #[test]
 fn memory_of_macros(rt: HostRuntime) -> Result<(), Fail> {
-    for (printer, front, times, end, expected) in MEMORY {
-        let fleet = fleet_of(rt.alloc(), &[*printer])?;
-        let job = job_of(rt.alloc(), front, *times, b"A", end)?;
-        check_in_pieces(rt.alloc(), &fleet, &job, *expected)?;
-    }
-    Ok(())
+    check_stored(rt.alloc(), MEMORY)
 }
 
 #[test]

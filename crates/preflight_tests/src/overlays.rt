@@ -490,8 +490,12 @@ const FLEETS: &[FleetRow] = &[
 ];
 
 #[test]
-fn overlays_for_one_printer(rt: HostRuntime) -> Result<(), Fail> {
-    check_rows(rt.alloc(), &[B], OVERLAYS)?;
+fn overlays_run_until_they_are_disabled(rt: HostRuntime) -> Result<(), Fail> {
+    check_rows(rt.alloc(), &[B], OVERLAYS)
+}
+
+#[test]
+fn where_an_overlay_begins(rt: HostRuntime) -> Result<(), Fail> {
     check_rows(rt.alloc(), &[B], INSIDE)
 }
 

@@ -206,19 +206,33 @@ fn squares_lie(alloc: Global, rows: &[Row], end: &[u8], expected: Expected) -> R
 }
 
 #[test]
-fn squares_lie_where_they_print(rt: HostRuntime) -> Result<(), Fail> {
+fn squares_lie_at_home(rt: HostRuntime) -> Result<(), Fail> {
     let alloc = rt.alloc();
     squares_lie(alloc, HOMES, SQUARE, Pass(1, 1))?;
     squares_lie(alloc, SIZES_AND_ORIENTATIONS, SQUARE, Pass(1, 1))?;
+    squares_lie(alloc, ELSEWHERE, SQUARE, Found(11, NotPrintable))
+}
+
+#[test]
+fn squares_lie_behind_line_ends_and_margins(rt: HostRuntime) -> Result<(), Fail> {
+    let alloc = rt.alloc();
     squares_lie(alloc, LINE_ENDS, SQUARE, Pass(1, 1))?;
     squares_lie(alloc, SIDE_MARGINS, SQUARE, Pass(1, 1))?;
-    squares_lie(alloc, BOTTOM_MARGINS, SQUARE, Pass(1, 1))?;
+    squares_lie(alloc, BOTTOM_MARGINS, SQUARE, Pass(1, 1))
+}
+
+#[test]
+fn squares_lie_behind_moves_and_pages(rt: HostRuntime) -> Result<(), Fail> {
+    let alloc = rt.alloc();
     squares_lie(alloc, MOVES, SQUARE, Pass(1, 1))?;
-    squares_lie(alloc, SECOND_PAGES, SQUARE, Pass(2, 1))?;
-    squares_lie(alloc, FRAMES, SQUARE, Pass(1, 1))?;
-    squares_lie(alloc, ELSEWHERE, SQUARE, Found(11, NotPrintable))?;
     squares_lie(alloc, UNITS, b"", Pass(1, 1))?;
+    squares_lie(alloc, SECOND_PAGES, SQUARE, Pass(2, 1))?;
     squares_lie(alloc, CLOSED_PAGES, b"", Pass(2, 2))
+}
+
+#[test]
+fn squares_lie_behind_frames(rt: HostRuntime) -> Result<(), Fail> {
+    squares_lie(rt.alloc(), FRAMES, SQUARE, Pass(1, 1))
 }
 
 /// Line feeds from the first line of a page, and where a square then lies: 60 lines have room above the bottom margin.

@@ -128,18 +128,22 @@ const PLAINS: &[TextRow<'static>] = &[
     ),
 ];
 
-#[test]
-fn jobs_are_spelled_plainly(rt: HostRuntime) -> Result<(), Fail> {
-    let profile = profile_of(rt.alloc(), B)?;
-    for row in PLAINS {
-        check_text(&rt, rt.alloc(), Plain, &profile, *row);
+fn check_plains(rt: &impl Abort, alloc: Global, rows: &[TextRow]) -> Result<(), Fail> {
+    let profile = profile_of(alloc, B)?;
+    for row in rows {
+        check_text(rt, alloc, Plain, &profile, *row);
         let (_, plain, ending) = *row;
         // The plain text of a whole job is its own.
         if let Done = ending {
-            check_text(&rt, rt.alloc(), Plain, &profile, (plain, plain, Done));
+            check_text(rt, alloc, Plain, &profile, (plain, plain, Done));
         }
     }
     Ok(())
+}
+
+#[test]
+fn jobs_are_spelled_plainly(rt: HostRuntime) -> Result<(), Fail> {
+    check_plains(&rt, rt.alloc(), PLAINS)
 }
 
 /// The items of jobs, spelled plainly, and other jobs of the same items.

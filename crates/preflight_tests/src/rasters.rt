@@ -253,9 +253,17 @@ const FLEETS: &[FleetRow] = &[
 ];
 
 #[test]
-fn rasters_for_one_printer(rt: HostRuntime) -> Result<(), Fail> {
-    check_rows(rt.alloc(), &[B], ROWS_FOR_B)?;
-    check_rows(rt.alloc(), &[B], SIZES_FOR_B)?;
+fn rows_of_rasters(rt: HostRuntime) -> Result<(), Fail> {
+    check_rows(rt.alloc(), &[B], ROWS_FOR_B)
+}
+
+#[test]
+fn sizes_of_rasters(rt: HostRuntime) -> Result<(), Fail> {
+    check_rows(rt.alloc(), &[B], SIZES_FOR_B)
+}
+
+#[test]
+fn values_of_rasters(rt: HostRuntime) -> Result<(), Fail> {
     check_rows(rt.alloc(), &[B], VALUES_FOR_B)
 }
 

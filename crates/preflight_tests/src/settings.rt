@@ -216,17 +216,48 @@ const ONE_SIDE_ALONE: &[Row] = &[
 ];
 
 #[test]
-fn settings_and_moves(rt: HostRuntime) -> Result<(), Fail> {
-    let alloc = rt.alloc();
-    check_rows(alloc, &[Printer::A], PLACES_READ_THE_PAGE)?;
-    check_rows(alloc, &[Printer::C], LINES_READ_THE_VMI)?;
-    check_rows(alloc, &[Printer::C], COLUMNS_READ_THE_FONT)?;
-    check_rows(alloc, &[Printer::B], STACK)?;
-    check_rows(alloc, &[Printer::B], MARGINS)?;
-    check_rows(alloc, &[Printer::B], MOVES)?;
-    check_rows(alloc, &[Printer::B], CLOSINGS)?;
-    check_rows(alloc, &[Printer::SomeCopies], CLOSINGS_READ_THE_PAGE)?;
-    check_rows(alloc, &[Printer::OneSided], ONE_SIDE_ALONE)
+fn places_read_the_page(rt: HostRuntime) -> Result<(), Fail> {
+    check_rows(rt.alloc(), &[Printer::A], PLACES_READ_THE_PAGE)
+}
+
+#[test]
+fn lines_read_the_vmi(rt: HostRuntime) -> Result<(), Fail> {
+    check_rows(rt.alloc(), &[Printer::C], LINES_READ_THE_VMI)
+}
+
+#[test]
+fn columns_read_the_font(rt: HostRuntime) -> Result<(), Fail> {
+    check_rows(rt.alloc(), &[Printer::C], COLUMNS_READ_THE_FONT)
+}
+
+#[test]
+fn the_stack_of_cursors(rt: HostRuntime) -> Result<(), Fail> {
+    check_rows(rt.alloc(), &[Printer::B], STACK)
+}
+
+#[test]
+fn margins_that_are_set_and_ignored(rt: HostRuntime) -> Result<(), Fail> {
+    check_rows(rt.alloc(), &[Printer::B], MARGINS)
+}
+
+#[test]
+fn moves_end_on_the_page(rt: HostRuntime) -> Result<(), Fail> {
+    check_rows(rt.alloc(), &[Printer::B], MOVES)
+}
+
+#[test]
+fn what_closes_a_page(rt: HostRuntime) -> Result<(), Fail> {
+    check_rows(rt.alloc(), &[Printer::B], CLOSINGS)
+}
+
+#[test]
+fn closings_read_the_page(rt: HostRuntime) -> Result<(), Fail> {
+    check_rows(rt.alloc(), &[Printer::SomeCopies], CLOSINGS_READ_THE_PAGE)
+}
+
+#[test]
+fn one_side_alone(rt: HostRuntime) -> Result<(), Fail> {
+    check_rows(rt.alloc(), &[Printer::OneSided], ONE_SIDE_ALONE)
 }
 
 /// Values that commands take, each without its ESC.
@@ -367,8 +398,16 @@ fn check_each(alloc: Global, commands: &[&[u8]], expected: Expected) -> Result<(
 }
 
 #[test]
-fn values_of_commands(rt: HostRuntime) -> Result<(), Fail> {
-    check_each(rt.alloc(), TAKEN, Pass(0, 0))?;
-    check_each(rt.alloc(), REFUSED, Found(2, BadValue))?;
+fn values_that_commands_take(rt: HostRuntime) -> Result<(), Fail> {
+    check_each(rt.alloc(), TAKEN, Pass(0, 0))
+}
+
+#[test]
+fn values_that_commands_do_not_take(rt: HostRuntime) -> Result<(), Fail> {
+    check_each(rt.alloc(), REFUSED, Found(2, BadValue))
+}
+
+#[test]
+fn values_that_are_not_on_the_device(rt: HostRuntime) -> Result<(), Fail> {
     check_each(rt.alloc(), NOT_ON_DEVICE, Found(2, NotOnDevice))
 }

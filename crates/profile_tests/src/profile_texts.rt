@@ -188,12 +188,7 @@ fn check_text(rt: &impl Abort, alloc: Global, text: &[u8], bytes: &[u8], wrong: 
 }
 
 /// Checks a text with each of these lines in turn.
-fn check_lines(
-    rt: &impl Abort,
-    alloc: Global,
-    text: &[u8],
-    rows: &[Row],
-) -> Result<(), AllocError> {
+fn check_lines(rt: &impl Abort, alloc: Global, text: &[u8], rows: &[Row]) -> Result<(), Fail> {
     for (number, line, wrong) in rows {
         let changed = with_line(alloc, text, *number, line)?;
         check_text(rt, alloc, &changed, line, *wrong);
@@ -225,13 +220,19 @@ fn check_words(
 }
 
 #[test]
-fn lines_in_place_of_others(rt: HostRuntime) -> Result<(), Fail> {
-    let alloc = rt.alloc();
-    check_lines(&rt, alloc, Sample::B.text(), LINES_OF_B)?;
-    check_lines(&rt, alloc, Sample::A.text(), LINES_OF_A)?;
-    let two_sides = with_line(alloc, Sample::B.text(), 8, b"sides 1")?;
-    check_lines(&rt, alloc, &two_sides, DUPLEX_OF_TWO_SIDES)?;
-    Ok(())
+fn lines_of_b_in_place_of_others(rt: HostRuntime) -> Result<(), Fail> {
+    check_lines(&rt, rt.alloc(), Sample::B.text(), LINES_OF_B)
+}
+
+#[test]
+fn lines_of_a_in_place_of_others(rt: HostRuntime) -> Result<(), Fail> {
+    check_lines(&rt, rt.alloc(), Sample::A.text(), LINES_OF_A)
+}
+
+#[test]
+fn two_sides_want_duplex(rt: HostRuntime) -> Result<(), Fail> {
+    let two_sides = with_line(rt.alloc(), Sample::B.text(), 8, b"sides 1")?;
+    check_lines(&rt, rt.alloc(), &two_sides, DUPLEX_OF_TWO_SIDES)
 }
 
 #[test]

@@ -57,8 +57,11 @@ const MOVE: Job = (b"\x1bE\x1b*p300X", 10);
 
 const NOTHING: &[u8] = b"PASS pages=0 marks=0\n";
 
-const ROWS: &[(&[&str], Job, Answer)] = &[
-    // Profiles are judged in order and before the job.
+/// Words that name texts, a job, and what `check` does with them.
+type Row = (&'static [&'static str], Job, Answer);
+
+/// Profiles are judged in order and before the job.
+const JUDGED: &[Row] = &[
     (
         &["version"],
         UNREADABLE,
@@ -101,7 +104,10 @@ const ROWS: &[(&[&str], Job, Answer)] = &[
         (3, b"ERROR read\n", 2),
     ),
     (&["a"], UNREADABLE, (3, b"ERROR read\n", 1)),
-    // A job is checked for each printer.
+];
+
+/// A job is checked for each printer.
+const CHECKED: &[Row] = &[
     (&["a"], EMPTY, (0, NOTHING, 1)),
     (&["b", "a", "b"], EMPTY, (0, NOTHING, 3)),
     (&["b"], MOVE, (0, NOTHING, 1)),
@@ -189,15 +195,28 @@ fn assert_answer(
     );
 }
 
-#[test]
-fn words_come_to_this(rt: HostRuntime) -> Result<(), Fail> {
+/// Runs `check` with the words and the job of each row, and compares what it did.
+fn check_answers(rt: &(impl Abort + AllocGlobal), rows: &[Row]) -> Result<(), Fail> {
     let moved = with_line(rt.alloc(), &text_of_one_page(rt.alloc())?, 15, MOVED)?;
     let sizeless = with_line(rt.alloc(), Sample::B.text(), 3, b"size 3")?;
     let texts = texts(&moved, &sizeless);
-    for (words, job, answer) in ROWS {
-        assert_answer(&rt, &texts, words, *job, *answer);
+    for (words, job, answer) in rows {
+        if words.is_empty() {
+            return Err(Fail::new("no words"));
+        }
+        assert_answer(rt, &texts, words, *job, *answer);
     }
     Ok(())
+}
+
+#[test]
+fn profiles_are_judged_before_the_job(rt: HostRuntime) -> Result<(), Fail> {
+    check_answers(&rt, JUDGED)
+}
+
+#[test]
+fn jobs_are_checked_for_each_printer(rt: HostRuntime) -> Result<(), Fail> {
+    check_answers(&rt, CHECKED)
 }
 
 #[test]

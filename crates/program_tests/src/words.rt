@@ -3,6 +3,7 @@
 use command_line::{Request, read_words};
 use preflight::Watched;
 use std::alloc::{AllocError, Global};
+use std::process::Abort;
 use std::test::Fail;
 use subcommands::Status;
 
@@ -15,13 +16,12 @@ fn strings(alloc: Global, words: &[&str]) -> Result<Vec<String>, AllocError> {
 }
 
 /// Words that ask for no check, how they end the program, and parts of what is then written on standard output.
-const ENDS: &[(&[&str], Status, &[&str])] = &[
+type Ended = (&'static [&'static str], Status, &'static [&'static str]);
+
+/// Words that ask for help.
+const HELPS: &[Ended] = &[
     (&["pclcheck", "--help"], Status::Help, HELP),
     (&["pclcheck", "check", "--help"], Status::Help, HELP),
-    (&["pclcheck"], Status::Words, &[]),
-    (&["pclcheck", "frob"], Status::Words, &[]),
-    (&["pclcheck", "check"], Status::Words, &[]),
-    (&["pclcheck", "check", "job.pcl"], Status::Words, &[]),
     (
         &["pclcheck", "list", "--help"],
         Status::Help,
@@ -37,6 +37,23 @@ const ENDS: &[(&[&str], Status, &[&str])] = &[
         Status::Help,
         &["JOB", "OUT"],
     ),
+];
+
+/// Words that name no subcommand, and words that are wrong for a check.
+const WRONG_FOR_CHECKS: &[Ended] = &[
+    (&["pclcheck"], Status::Words, &[]),
+    (&["pclcheck", "frob"], Status::Words, &[]),
+    (&["pclcheck", "check"], Status::Words, &[]),
+    (&["pclcheck", "check", "job.pcl"], Status::Words, &[]),
+    (
+        &["pclcheck", "check", "--fast", "job.pcl", "@A"],
+        Status::Words,
+        &[],
+    ),
+];
+
+/// Words that are wrong for a text.
+const WRONG_FOR_TEXTS: &[Ended] = &[
     (&["pclcheck", "explain", "12", "13"], Status::Words, &[]),
     (&["pclcheck", "list"], Status::Words, &[]),
     (&["pclcheck", "list", "job.pcl", "@A"], Status::Words, &[]),
@@ -49,11 +66,6 @@ const ENDS: &[(&[&str], Status, &[&str])] = &[
     (&["pclcheck", "plain", "job.pcl"], Status::Words, &[]),
     (
         &["pclcheck", "plain", "job.pcl", "out.pcl", "@A"],
-        Status::Words,
-        &[],
-    ),
-    (
-        &["pclcheck", "check", "--fast", "job.pcl", "@A"],
         Status::Words,
         &[],
     ),
@@ -72,13 +84,12 @@ const HELP: &[&str] = &[
     "@D  ",
 ];
 
-#[test]
-fn words_that_ask_for_no_check(rt: HostRuntime) -> Result<(), Fail> {
-    for (words, status, parts) in ENDS {
-        let words = strings(rt.alloc(), words)?;
-        let mut stdout = Watched::new(Vec::new(rt.alloc()));
-        let mut stderr = Watched::new(Vec::new(rt.alloc()));
-        match read_words(rt.alloc(), words.as_slice(), &mut stdout, &mut stderr) {
+fn check_ended(rt: &impl Abort, alloc: Global, rows: &[Ended]) -> Result<(), Fail> {
+    for (words, status, parts) in rows {
+        let words = strings(alloc, words)?;
+        let mut stdout = Watched::new(Vec::new(alloc));
+        let mut stderr = Watched::new(Vec::new(alloc));
+        match read_words(alloc, words.as_slice(), &mut stdout, &mut stderr) {
             Ok(_) => assert!(rt; false),
             Err(answer) => assert_eq!(rt; answer, *status),
         }
@@ -90,6 +101,21 @@ fn words_that_ask_for_no_check(rt: HostRuntime) -> Result<(), Fail> {
         assert_eq!(rt; stderr.get_ref().is_empty(), *status == Status::Help);
     }
     Ok(())
+}
+
+#[test]
+fn words_that_ask_for_help(rt: HostRuntime) -> Result<(), Fail> {
+    check_ended(&rt, rt.alloc(), HELPS)
+}
+
+#[test]
+fn words_that_are_wrong_for_a_check(rt: HostRuntime) -> Result<(), Fail> {
+    check_ended(&rt, rt.alloc(), WRONG_FOR_CHECKS)
+}
+
+#[test]
+fn words_that_are_wrong_for_a_text(rt: HostRuntime) -> Result<(), Fail> {
+    check_ended(&rt, rt.alloc(), WRONG_FOR_TEXTS)
 }
 
 #[test]
