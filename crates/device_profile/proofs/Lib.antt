@@ -5,7 +5,6 @@ pub mod AmountLemmas
 pub mod CodeRanges
 pub mod Examples
 pub mod Finished
-pub mod Keys
 pub mod LineParts
 pub mod Order
 pub mod Parts

@@ -1,5 +1,7 @@
 //! The keys of a profile's text.
-ghost use Rattle.std.specs.Prelude.{◌≡◌};
+ghost use Rattle.std.specs.Prelude.{◌≡◌, find, option_map};
+ghost use Rattle.std.specs.Str.{bytes_eq};
+ghost use Rattle.device_profile.specs.Draft.{keys};
 
 use crate::field::Field;
 
@@ -24,30 +26,42 @@ pub(crate) enum Key {
     Face,
 }
 
+/// The keys and their words.
+const KEYS: &[(&[u8], Key)] = &[
+    (b"name", Key::Name),
+    (b"size", Key::Choice(Field::Size)),
+    (b"orientation", Key::Choice(Field::Orientation)),
+    (b"vmi", Key::Choice(Field::Vmi)),
+    (b"font", Key::Choice(Field::Font)),
+    (b"copies", Key::Choice(Field::Copies)),
+    (b"sides", Key::Choice(Field::Sides)),
+    (b"tray", Key::Choice(Field::Tray)),
+    (b"trays", Key::Trays),
+    (b"duplex", Key::Duplex),
+    (b"depth", Key::Depth),
+    (b"memory", Key::Memory),
+    (b"geometry", Key::Page),
+    (b"face", Key::Face),
+];
+
+/// The row of a word that is a key.
+fn row_of(word: &[u8]) -> Option<&'static (&'static [u8], Key)>
+    ensures { option_map (λ row. (row.now.0.now, row.now.1)) result ≡ find (λ row. bytes_eq row.0 word.now) keys }
+{
+    KEYS.iter().find(|(name, _)| *name == word)
+}
+
 impl Key {
     ghost use Rattle.device_profile.specs.Draft.{key_of};
 
     /// The key that a word is.
-    #[tactic(auto, using(crate::proofs::Keys::no_key), unfolding(crate::specs::Draft::key_of))]
+    #[tactic(auto, unfolding(crate::specs::Draft::key_of))]
     pub(crate) fn of(word: &[u8]) -> Option<Key>
         ensures { result ≡ key_of word.now }
     {
-        match word {
-            b"name" => Some(Key::Name),
-            b"size" => Some(Key::Choice(Field::Size)),
-            b"orientation" => Some(Key::Choice(Field::Orientation)),
-            b"vmi" => Some(Key::Choice(Field::Vmi)),
-            b"font" => Some(Key::Choice(Field::Font)),
-            b"copies" => Some(Key::Choice(Field::Copies)),
-            b"sides" => Some(Key::Choice(Field::Sides)),
-            b"tray" => Some(Key::Choice(Field::Tray)),
-            b"trays" => Some(Key::Trays),
-            b"duplex" => Some(Key::Duplex),
-            b"depth" => Some(Key::Depth),
-            b"memory" => Some(Key::Memory),
-            b"geometry" => Some(Key::Page),
-            b"face" => Some(Key::Face),
-            _ => None,
+        match row_of(word) {
+            Some((_, key)) => Some(*key),
+            None => None,
         }
     }
 }
