@@ -1,77 +1,18 @@
-//! The check of jobs for one printer.
+//! Jobs that repeat a part, and jobs of many reads.
 
 use device_profile::Field;
 use fakes::FailingSource;
 use job_items::job_of;
-use page_env::Finding::{BadValue, EmptyRectangle, NoPen, NotPrintable, OffPage, StackFull, Unset};
-use pcl_items::Cause::Truncated;
+use page_env::Finding::{NoPen, OffPage, StackFull, Unset};
 use preflight::{Watched, check_job};
 use printers::Printer::{A, B, C};
 use printers::{Printer, fleet_of};
 use std::test::Fail;
-use verdict_rows::Expected::{Fault, Found, Pass};
-use verdict_rows::{Expected, PAGE_LENGTH, Row, check_in_pieces, check_rows};
+use verdict_rows::Expected::{Found, Pass};
+use verdict_rows::{Expected, check_in_pieces};
 
 /// A page with one rectangle, whose size and orientation the job sets.
 pub const PAGE: &[u8] = b"\x1bE\x1b&l2a0O\x1b*p300x300Y\x1b*c100a50b0P\x0c";
-
-const JOBS_FOR_A: &[Row] = &[
-    (b"", Pass(0, 0)),
-    (PAGE, Pass(1, 1)),
-    // A move reads the size, and a form feed the page.
-    (b"\x1bE\x1b*p300X", Found(2, Unset(Field::Size))),
-    (b"\x1bE\x0c", Found(2, Unset(Field::Size))),
-    (b"\x1bE\x1b&l2A\x0c", Found(7, Unset(Field::Orientation))),
-    (b"\x1bE\x1b&l2a0O\x1b*c0P", Found(9, EmptyRectangle)),
-    // A fill id that does not fit comes before an empty rectangle, and both before an unset field.
-    (b"\x1bE\x1b*c2P", Found(2, BadValue)),
-    (b"\x1bE\x1b*c0P", Found(2, EmptyRectangle)),
-    (b"\x1bE\x1b*c5g30a30b3P", Found(13, Unset(Field::Size))),
-    // The logical page is 8 inches wide.
-    (b"\x1bE\x1b&l2a0O\x1b*p2401X", Found(9, OffPage)),
-    // The mark ends at the printable edge, and past it.
-    (b"\x1bE\x1b&l2a0O\x1b*p2300x300Y\x1b*c125a50b0P", Pass(1, 1)),
-    (
-        b"\x1bE\x1b&l2a0O\x1b*p2300x300Y\x1b*c126a50b0P",
-        Found(31, NotPrintable),
-    ),
-    (b"\x1bE\x1b&l2a", Fault(7, Truncated)),
-    (b"\x1bE\x1b&l2a66P", Fault(7, PAGE_LENGTH)),
-    // A finding stands before a later fault.
-    (b"\x1bE\x0c\x1b)", Found(2, Unset(Field::Size))),
-];
-
-const JOBS_FOR_B: &[Row] = &[
-    (b"\x1bE\x1b*p300X", Pass(0, 0)),
-    (b"\x1bE\x1b*p2300x300Y\x1b*c125a50b0P", Pass(1, 1)),
-    (
-        b"\x1bE\x1b*p2300x300Y\x1b*c126a50b0P",
-        Found(24, NotPrintable),
-    ),
-    // Black and white whatever the fill id; shades of 1 to 100 percent; patterns 1 to 6.
-    (b"\x1bE\x1b*c30a30b2P", Found(11, BadValue)),
-    (b"\x1bE\x1b*c50g30a30b2P", Pass(1, 1)),
-    (b"\x1bE\x1b*c101g30a30b0p1P", Pass(1, 2)),
-    (b"\x1bE\x1b*c100g30a30b2p101g2P", Found(21, BadValue)),
-    (b"\x1bE\x1b*c6g30a30b3p7g3P", Found(17, BadValue)),
-    (b"\x1bE\x1b*c30a30b4P", Found(11, BadValue)),
-    (b"\x1bE\x1b*c-1G", Found(2, BadValue)),
-    (b"\x1bE\x1b*c1.5G", Found(2, BadValue)),
-    // Sizes in decipoints, 720 to the inch; the last size counts.
-    (b"\x1bE\x1b*c5820h72v0P", Pass(1, 1)),
-    (b"\x1bE\x1b*c5821h72v0P", Found(13, NotPrintable)),
-    (b"\x1bE\x1b*c5821h72v30a0P", Pass(1, 1)),
-    (b"\x1bE\x1b*c-1H", Found(2, BadValue)),
-    (b"\x1bE\x1b*p+0X", Pass(0, 0)),
-    (b"\x1bE\x1b*p-1X", Found(2, OffPage)),
-    (b"\x1bE\x1b*c0P", Found(2, EmptyRectangle)),
-];
-
-#[test]
-fn jobs_for_one_printer(rt: HostRuntime) -> Result<(), Fail> {
-    check_rows(rt.alloc(), &[A], JOBS_FOR_A)?;
-    check_rows(rt.alloc(), &[B], JOBS_FOR_B)
-}
 
 /// A printer, and a job of a front, so many times a part, and an end.
 type Repeated = (

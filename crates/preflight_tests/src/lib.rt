@@ -6,12 +6,6 @@ mod bodies;
 #[cfg(test)]
 mod cut_texts;
 #[cfg(test)]
-mod faults;
-#[cfg(test)]
-mod fleets;
-#[cfg(test)]
-mod frame_faults;
-#[cfg(test)]
 mod frames;
 #[cfg(test)]
 mod job_language;
@@ -24,8 +18,6 @@ mod macros;
 #[cfg(test)]
 mod memory;
 #[cfg(test)]
-mod overlays;
-#[cfg(test)]
 mod page_texts;
 #[cfg(test)]
 mod places;
@@ -35,8 +27,6 @@ mod plain_jobs;
 mod rasters;
 #[cfg(test)]
 mod sessions;
-#[cfg(test)]
-mod settings;
 #[cfg(test)]
 mod sources;
 #[cfg(test)]

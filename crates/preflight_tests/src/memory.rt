@@ -1,6 +1,5 @@
 //! Requests for memory that are refused.
 
-use crate::fleets::TWO_PAGES;
 use crate::jobs::PAGE;
 use device_profile::{Profile, Sample};
 use event_rows::step_all;
@@ -16,6 +15,10 @@ use std::process::Abort;
 use std::test::Fail;
 use verdict_rows::Expected::{Differs, Pass};
 use verdict_rows::{Expected, check_in_pieces};
+
+/// Two pages, with one rectangle each.
+pub const TWO_PAGES: &[u8] =
+    b"\x1bE\x1b*p300x300Y\x1b*c100a50b0P\x0c\x1b*p300X\x1b*p300Y\x1b*c0P\x0c";
 
 /// A job with each control code and each command that sets pages, margins or lines, or moves the cursor, and a rectangle.
 const EACH_COMMAND: &[u8] = b"\x1bE\x1b&l2a0o1x0s1h8c6d3e50f1L\x1b&u300D\x1b&k12h3G\

@@ -1,8 +1,7 @@
 //! Readers and writers, those that fail among them, and a fleet of no printer.
 
-use crate::fleets::TWO_PAGES;
 use crate::jobs::PAGE;
-use crate::memory::WRAPPED;
+use crate::memory::{TWO_PAGES, WRAPPED};
 use device_profile::{Field, Profile};
 use fakes::{FailingOutlet, FailingSource};
 use job_items::RECTANGLE;

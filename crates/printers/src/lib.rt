@@ -1,9 +1,8 @@
 //! For the tests: printers and fleets, and texts of profiles with another line.
 #![tactic(auto)]
 
-use device_profile::{Profile, Sample};
+use device_profile::{Profile, ProfileFault, Sample};
 use std::alloc::{AllocError, Global};
-use std::test::Fail;
 
 /// A printer of a row.
 #[derive(Clone, Copy)]
@@ -42,6 +41,36 @@ pub enum Printer {
     NoLevelsOfA,
 }
 
+/// The names of printers in files of rows.
+const NAMES: &[(&str, Printer)] = &[
+    ("A", Printer::A),
+    ("B", Printer::B),
+    ("C", Printer::C),
+    ("D", Printer::D),
+    ("Moved", Printer::Moved),
+    ("Narrow", Printer::Narrow),
+    ("EightLines", Printer::EightLines),
+    ("OneSided", Printer::OneSided),
+    ("SomeCopies", Printer::SomeCopies),
+    ("OtherPanel", Printer::OtherPanel),
+    ("OtherTray", Printer::OtherTray),
+    ("NoMemory", Printer::NoMemory),
+    ("MostMemory", Printer::MostMemory),
+    ("NoLevels", Printer::NoLevels),
+    ("EightLevels", Printer::EightLevels),
+    ("NoLevelsOfA", Printer::NoLevelsOfA),
+];
+
+/// The printer of this name.
+pub fn printer_named(wanted: &str) -> Option<Printer> {
+    for (name, printer) in NAMES {
+        if *name == wanted {
+            return Some(*printer);
+        }
+    }
+    None
+}
+
 /// The lines of sample B, but for those of its macros, its duplex, its page, and its panel that follow.
 const FRONT: &[u8] = b"\
 pclprofile 1
@@ -66,7 +95,7 @@ const LETTER: &[u8] = b"geometry 2 0 61200 79200 ";
 const PAGE: &[u8] = b"1800 0 57600 79200 1200 1200 60000 78000";
 
 /// The text of a printer like sample B, with one page and one face.
-fn text_of(alloc: Global, macros: &[u8], panel: &[u8], page: &[u8]) -> Result<Vec<u8>, Fail> {
+fn text_of(alloc: Global, macros: &[u8], panel: &[u8], page: &[u8]) -> Result<Vec<u8>, AllocError> {
     let mut text = Vec::new(alloc);
     for part in [FRONT, macros, panel, LETTER, page, b"\n"] {
         text.extend_from_slice(part)?;
@@ -75,17 +104,17 @@ fn text_of(alloc: Global, macros: &[u8], panel: &[u8], page: &[u8]) -> Result<Ve
 }
 
 /// The text of sample B, with one page and one face.
-pub fn text_of_one_page(alloc: Global) -> Result<Vec<u8>, Fail> {
+pub fn text_of_one_page(alloc: Global) -> Result<Vec<u8>, AllocError> {
     text_of(alloc, MACROS, PANEL, PAGE)
 }
 
-fn printer_of(alloc: Global, panel: &[u8], page: &[u8]) -> Result<Profile, Fail> {
-    Ok(Profile::read(alloc, &text_of(alloc, MACROS, panel, page)?)?)
+fn printer_of(alloc: Global, panel: &[u8], page: &[u8]) -> Result<Profile, ProfileFault> {
+    Profile::read(alloc, &text_of(alloc, MACROS, panel, page)?)
 }
 
 /// A printer like sample B with these lines for macros.
-fn printer_with(alloc: Global, macros: &[u8]) -> Result<Profile, Fail> {
-    Ok(Profile::read(alloc, &text_of(alloc, macros, PANEL, PAGE)?)?)
+fn printer_with(alloc: Global, macros: &[u8]) -> Result<Profile, ProfileFault> {
+    Profile::read(alloc, &text_of(alloc, macros, PANEL, PAGE)?)
 }
 
 /// A text with this line in place of the one of that number, or behind the last one.
@@ -105,16 +134,16 @@ pub fn with_line(
 }
 
 /// Sample A with another line for the levels of its macros.
-fn sample_a_with(alloc: Global, depth: &[u8]) -> Result<Profile, Fail> {
+fn sample_a_with(alloc: Global, depth: &[u8]) -> Result<Profile, ProfileFault> {
     let text = with_line(alloc, Sample::A.text(), DEPTH_LINE, depth)?;
-    Ok(Profile::read(alloc, &text)?)
+    Profile::read(alloc, &text)
 }
 
 /// Which line of sample A says how deep its macros go.
 const DEPTH_LINE: usize = 12;
 
 /// The profile of a printer.
-pub fn profile_of(alloc: Global, printer: Printer) -> Result<Profile, Fail> {
+pub fn profile_of(alloc: Global, printer: Printer) -> Result<Profile, ProfileFault> {
     let (panel, page): (&[u8], &[u8]) = match printer {
         Printer::A => return Ok(Sample::A.profile(alloc)?),
         Printer::B => return Ok(Sample::B.profile(alloc)?),
@@ -137,16 +166,17 @@ pub fn profile_of(alloc: Global, printer: Printer) -> Result<Profile, Fail> {
 }
 
 /// The profiles of a fleet.
-pub fn fleet_of(alloc: Global, printers: &[Printer]) -> Result<Vec<Profile>, Fail> {
+pub fn fleet_of(alloc: Global, printers: &[Printer]) -> Result<Vec<Profile>, ProfileFault> {
     let mut fleet = Vec::new(alloc);
     for printer in printers {
-        fleet.push(profile_of(alloc, *printer)?)?;
+        let profile = profile_of(alloc, *printer)?;
+        fleet.push(profile).map_err(AllocError::from)?;
     }
     Ok(fleet)
 }
 
 /// A printer like sample B whose printable area is a square of a tenth of an inch that begins here, in 7200ths of an inch.
-pub fn with_square(alloc: Global, left: u32, top: u32) -> Result<Profile, Fail> {
+pub fn with_square(alloc: Global, left: u32, top: u32) -> Result<Profile, ProfileFault> {
     let (right, bottom) = (u64::from(left) + 720, u64::from(top) + 720);
     let page = format!(in alloc; "1800 0 57600 79200 {left} {top} {right} {bottom}")?;
     printer_of(alloc, PANEL, page.as_bytes())

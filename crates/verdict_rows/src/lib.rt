@@ -1,4 +1,4 @@
-//! For the tests: rows of jobs with the verdicts on them.
+//! For the tests and for files of rows: verdicts that are expected, and what checks them.
 #![tactic(auto)]
 
 ghost use Rattle.std.specs.Prelude.{◌≤◌, ◌<◌, length};
@@ -6,10 +6,10 @@ ghost use Rattle.std.specs.Prelude.{◌≤◌, ◌<◌, length};
 use device_profile::Profile;
 use fakes::{CutSource, FailingSource};
 use page_env::Finding;
-use pcl_items::{Cause, Group, Name};
+use pcl_items::Cause;
 use preflight::{Error, Reason, Session, Verdict, Watched, check_job};
-use printers::{Printer, fleet_of};
 use std::alloc::Global;
+use std::fmt;
 use std::test::Fail;
 
 /// What a row expects of a check.
@@ -21,14 +21,9 @@ pub enum Expected {
     Fault(u64, Cause),
     /// A finding at the place, on the first printer.
     Found(u64, Finding),
-    /// A finding at the place, on the printer of this number.
-    FoundOn(u64, u64, Finding),
     /// Other marks or pages at the place, on the printer of this number.
     Differs(u64, u64),
 }
-
-/// What the bytes of the command `&l#P` are a fault for: it is no part of the profile.
-pub const PAGE_LENGTH: Cause = Cause::NotInProfile(Name::Command(Group::Layout, b'P'));
 
 /// A job and what is expected of its check.
 pub type Row = (&'static [u8], Expected);
@@ -39,11 +34,6 @@ impl Expected {
             Expected::Pass(pages, marks) => return Verdict::Pass { pages, marks },
             Expected::Fault(place, cause) => (place, 0, Reason::Fault(cause)),
             Expected::Found(place, finding) => (place, 1, Reason::Finding(finding)),
-            Expected::FoundOn(place, profile, finding) => (
-                place,
-                profile,
-                Reason::Finding(finding),
-            ),
             Expected::Differs(place, profile) => (place, profile, Reason::Differs),
         };
         Verdict::Fail {
@@ -56,7 +46,7 @@ impl Expected {
 
 /// How the bytes of a job come.
 #[derive(Clone, Copy, Debug)]
-enum Way {
+pub enum Way {
     Whole,
     ByteByByte,
     /// In two reads that are cut at the place.
@@ -67,57 +57,66 @@ enum Way {
     FedInPieces(usize),
 }
 
-/// What comes of a job has to be what its row expects.
-fn compare(
-    answer: Result<Verdict, Error>,
-    expected: Expected,
-    job: &[u8],
-    way: Way,
-) -> Result<(), Fail> {
-    if answer == Ok(expected.verdict()) {
+impl fmt::Display for Way {
+    fn fmt<W: fmt::Write>(&self, f: &mut fmt::Formatter<W>) -> fmt::Result {
+        match self {
+            Way::Whole => write!(f, "read whole"),
+            Way::ByteByByte => write!(f, "read byte by byte"),
+            Way::CutAt(place) => write!(f, "read in two pieces, cut at {place}"),
+            Way::FedCutAt(place) => write!(f, "fed in two pieces, cut at {place}"),
+            Way::FedInPieces(size) => write!(f, "fed in pieces of {size}"),
+        }
+    }
+}
+
+/// What came of a job in place of the verdict that was wanted, and how its bytes came.
+#[derive(Clone, Copy, Debug)]
+pub struct Other {
+    pub answer: Result<Verdict, Error>,
+    pub way: Way,
+}
+
+/// What comes of a job has to be the verdict that is wanted.
+fn compare(answer: Result<Verdict, Error>, wanted: Verdict, way: Way) -> Result<(), Other> {
+    if answer == Ok(wanted) {
         return Ok(());
     }
-    Err(Fail::new(format_args!("{answer:?} {way:?} on {job:?}")))
+    Err(Other { answer, way })
+}
+
+/// The verdict on a job that is read whole.
+pub fn verdict_on(alloc: Global, fleet: &[Profile], job: &[u8]) -> Result<Verdict, Error> {
+    check_job(alloc, &mut Watched::new(job), fleet)
 }
 
 /// Checks a job whole and byte by byte.
-fn check_reads(
-    alloc: Global,
-    fleet: &[Profile],
-    job: &[u8],
-    expected: Expected,
-) -> Result<(), Fail> {
-    let whole = check_job(alloc, &mut Watched::new(job), fleet);
-    compare(whole, expected, job, Way::Whole)?;
+fn check_reads(alloc: Global, fleet: &[Profile], job: &[u8], wanted: Verdict) -> Result<(), Other> {
+    let whole = verdict_on(alloc, fleet, job);
+    compare(whole, wanted, Way::Whole)?;
     let bytes = check_job(alloc, &mut FailingSource::new(job, u64::MAX), fleet);
-    compare(bytes, expected, job, Way::ByteByByte)
+    compare(bytes, wanted, Way::ByteByByte)
 }
 
 /// Checks a job whole, byte by byte, and in two pieces that are cut at each place; and feeds a session of it in pieces of each
 /// length, and in two pieces that are cut at each place.
-pub fn check_in_pieces(
+pub fn check_each_way(
     alloc: Global,
     fleet: &[Profile],
     job: &[u8],
-    expected: Expected,
-) -> Result<(), Fail> {
-    check_reads(alloc, fleet, job, expected)?;
-    check_cuts(alloc, fleet, job, expected)?;
-    check_pieces(alloc, fleet, job, expected)
+    wanted: Verdict,
+) -> Result<(), Other> {
+    check_reads(alloc, fleet, job, wanted)?;
+    check_cuts(alloc, fleet, job, wanted)?;
+    check_pieces(alloc, fleet, job, wanted)
 }
 
 /// Checks a job that is read, and one that is fed, in two pieces that are cut at each place.
-fn check_cuts(
-    alloc: Global,
-    fleet: &[Profile],
-    job: &[u8],
-    expected: Expected,
-) -> Result<(), Fail> {
+fn check_cuts(alloc: Global, fleet: &[Profile], job: &[u8], wanted: Verdict) -> Result<(), Other> {
     for place in 0..job.len() {
         let read = check_cut(alloc, fleet, job, place);
-        compare(read, expected, job, Way::CutAt(place))?;
+        compare(read, wanted, Way::CutAt(place))?;
         let fed = feed_cut(alloc, fleet, job, place);
-        compare(fed, expected, job, Way::FedCutAt(place))?;
+        compare(fed, wanted, Way::FedCutAt(place))?;
     }
     Ok(())
 }
@@ -127,11 +126,11 @@ fn check_pieces(
     alloc: Global,
     fleet: &[Profile],
     job: &[u8],
-    expected: Expected,
-) -> Result<(), Fail> {
+    wanted: Verdict,
+) -> Result<(), Other> {
     for size in 1..=job.len() {
         let fed = feed_pieces(alloc, fleet, job, size);
-        compare(fed, expected, job, Way::FedInPieces(size))?;
+        compare(fed, wanted, Way::FedInPieces(size))?;
     }
     Ok(())
 }
@@ -170,6 +169,25 @@ pub fn feed_pieces(
     session.end()
 }
 
+/// What a test says of another verdict on a job.
+fn fail_of(other: Other, job: &[u8]) -> Fail {
+    let Other { answer, way } = other;
+    Fail::new(format_args!("{answer:?}, {way}, on {job:?}"))
+}
+
+/// Checks for a test that a job has the verdict of its row, however its bytes come.
+pub fn check_in_pieces(
+    alloc: Global,
+    fleet: &[Profile],
+    job: &[u8],
+    expected: Expected,
+) -> Result<(), Fail> {
+    match check_each_way(alloc, fleet, job, expected.verdict()) {
+        Ok(()) => Ok(()),
+        Err(other) => Err(fail_of(other, job)),
+    }
+}
+
 /// Checks a long job whole and byte by byte, and feeds a session of it in pieces of these lengths.
 pub fn check_in_sizes(
     alloc: Global,
@@ -178,44 +196,18 @@ pub fn check_in_sizes(
     expected: Expected,
     sizes: &[usize],
 ) -> Result<(), Fail> {
-    check_reads(alloc, fleet, job, expected)?;
+    let wanted = expected.verdict();
+    if let Err(other) = check_reads(alloc, fleet, job, wanted) {
+        return Err(fail_of(other, job));
+    }
     for size in sizes {
         if *size == 0 {
             return Err(Fail::new("pieces of no byte"));
         }
         let fed = feed_pieces(alloc, fleet, job, *size);
-        compare(fed, expected, job, Way::FedInPieces(*size))?;
-    }
-    Ok(())
-}
-
-/// Checks jobs for a fleet.
-pub fn check_rows(alloc: Global, printers: &[Printer], rows: &[Row]) -> Result<(), Fail> {
-    let fleet = fleet_of(alloc, printers)?;
-    for (job, expected) in rows {
-        check_in_pieces(alloc, &fleet, job, *expected)?;
-    }
-    Ok(())
-}
-
-/// A printer, a job and what is expected of its check.
-pub type PrinterRow = (Printer, &'static [u8], Expected);
-
-/// Checks jobs, each for its printer.
-pub fn check_printer_rows(alloc: Global, rows: &[PrinterRow]) -> Result<(), Fail> {
-    for (printer, job, expected) in rows {
-        check_rows(alloc, &[*printer], &[(*job, *expected)])?;
-    }
-    Ok(())
-}
-
-/// Printers, a job and what is expected of its check for them.
-pub type FleetRow = (&'static [Printer], &'static [u8], Expected);
-
-/// Checks jobs, each for its fleet.
-pub fn check_fleet_rows(alloc: Global, rows: &[FleetRow]) -> Result<(), Fail> {
-    for (printers, job, expected) in rows {
-        check_rows(alloc, printers, &[(*job, *expected)])?;
+        if let Err(other) = compare(fed, wanted, Way::FedInPieces(*size)) {
+            return Err(fail_of(other, job));
+        }
     }
     Ok(())
 }
