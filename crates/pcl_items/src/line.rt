@@ -80,14 +80,17 @@ fn solid_len(bytes: &[u8]) -> usize
     bytes.iter().take_while(|b| !is_blank(**b)).count()
 }
 
+fn is_name_byte(byte: u8) -> bool
+    ensures { result ≡ is_name_byte byte }
+{
+    !(is_blank(byte) || byte == b'=')
+}
+
 fn name_len(bytes: &[u8]) -> usize
     ensures length { result ≡ prefix_len is_name_byte bytes.now }
     ensures within { result ≤ length bytes.now }
 {
-    bytes
-        .iter()
-        .take_while(|b| !(is_blank(**b) || **b == b'='))
-        .count()
+    bytes.iter().take_while(|b| is_name_byte(**b)).count()
 }
 
 fn quotable_len(bytes: &[u8]) -> usize
