@@ -312,9 +312,48 @@ fn check_items(
             return Ok(());
         };
         let copy = OwnedItem::copy_of(alloc, &read)?;
-        assert_eq!(rt; (read, copy.as_item()), (item.as_item(), item.as_item()));
+        let are_same = read == item.as_item() && copy.as_item() == item.as_item();
+        assert!(rt; are_same, "at {place} of macro {id}");
     }
     assert!(rt; body.next().is_none());
+    Ok(())
+}
+
+/// The macros of the test below: frames under odd ids, other items under even ones.
+const LAST_MACRO: u16 = 4;
+
+/// Stores frames and other items in turn, and deletes one macro after the other: each that is left has its items, wherever its
+/// body has moved.
+fn check_bodies(
+    rt: &impl Abort,
+    alloc: Global,
+    items: &[(Place, OwnedItem)],
+    frames: &[(Place, OwnedItem)],
+) -> Result<(), Fail> {
+    let mut store = MacroStore::new(alloc, 1000);
+    for id in 1..=LAST_MACRO {
+        store_items(rt, &mut store, id, if id % 2 == 0 { items } else { frames });
+    }
+    for first in 1..=LAST_MACRO {
+        check_from(rt, alloc, &store, first, [items, frames])?;
+        assert!(rt; !store.is_open());
+        store.delete(first);
+    }
+    Ok(())
+}
+
+/// Checks the bodies of the macros from this one on, whose items are the first list under even ids and the second under odd ones.
+fn check_from(
+    rt: &impl Abort,
+    alloc: Global,
+    store: &MacroStore,
+    first: u16,
+    lists: [&[(Place, OwnedItem)]; 2],
+) -> Result<(), Fail> {
+    let [even, odd] = lists;
+    for id in first..=LAST_MACRO {
+        check_items(rt, alloc, store, id, if id % 2 == 0 { even } else { odd })?;
+    }
     Ok(())
 }
 
@@ -322,18 +361,5 @@ fn check_items(
 fn a_body_has_the_items_that_were_stored(rt: HostRuntime) -> Result<(), Fail> {
     let items = items_of(rt.alloc(), BODY)?;
     let frames = items_of(rt.alloc(), BODY_OF_FRAMES)?;
-    let mut store = MacroStore::new(rt.alloc(), 1000);
-    store_items(&rt, &mut store, 1, &frames);
-    store_items(&rt, &mut store, 2, &items);
-    store_items(&rt, &mut store, 3, &frames);
-    store_items(&rt, &mut store, 4, &items);
-    check_items(&rt, rt.alloc(), &store, 1, &frames)?;
-    assert!(rt; !store.is_open());
-    store.delete(1);
-    check_items(&rt, rt.alloc(), &store, 2, &items)?;
-    check_items(&rt, rt.alloc(), &store, 3, &frames)?;
-    assert!(rt; !store.is_open());
-    store.delete(2);
-    check_items(&rt, rt.alloc(), &store, 3, &frames)?;
-    check_items(&rt, rt.alloc(), &store, 4, &items)
+    check_bodies(&rt, rt.alloc(), &items, &frames)
 }
