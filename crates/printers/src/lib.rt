@@ -39,6 +39,8 @@ pub enum Printer {
     EightLevels,
     /// Sample A that runs no macro.
     NoLevelsOfA,
+    /// Sample B whose first face has the codes from 66 alone, so no `A`.
+    NoLetterA,
 }
 
 /// The names of printers in files of rows.
@@ -59,6 +61,7 @@ const NAMES: &[(&str, Printer)] = &[
     ("NoLevels", Printer::NoLevels),
     ("EightLevels", Printer::EightLevels),
     ("NoLevelsOfA", Printer::NoLevelsOfA),
+    ("NoLetterA", Printer::NoLetterA),
 ];
 
 /// The printer of this name.
@@ -133,14 +136,25 @@ pub fn with_line(
     Ok(text)
 }
 
-/// Sample A with another line for the levels of its macros.
-fn sample_a_with(alloc: Global, depth: &[u8]) -> Result<Profile, ProfileFault> {
-    let text = with_line(alloc, Sample::A.text(), DEPTH_LINE, depth)?;
+/// A sample with another line in place of the one of that number.
+fn sample_with(
+    alloc: Global,
+    sample: Sample,
+    number: usize,
+    line: &[u8],
+) -> Result<Profile, ProfileFault> {
+    let text = with_line(alloc, sample.text(), number, line)?;
     Profile::read(alloc, &text)
 }
 
-/// Which line of sample A says how deep its macros go.
+/// Which line of a sample says how deep its macros go.
 const DEPTH_LINE: usize = 12;
+
+/// Which line of a sample is that of its first face.
+const FACE_LINE: usize = 18;
+
+/// The first face of sample B without the codes up to that of `A`.
+const NO_LETTER_A: &[u8] = b"face 1 10U 10 12 0 0 3 720 900 300 66-126";
 
 /// The profile of a printer.
 pub fn profile_of(alloc: Global, printer: Printer) -> Result<Profile, ProfileFault> {
@@ -160,7 +174,8 @@ pub fn profile_of(alloc: Global, printer: Printer) -> Result<Profile, ProfileFau
         Printer::MostMemory => return printer_with(alloc, b"depth 2\nmemory 1048576\n"),
         Printer::NoLevels => return printer_with(alloc, b"depth 0\nmemory 100\n"),
         Printer::EightLevels => return printer_with(alloc, b"depth 8\nmemory 100\n"),
-        Printer::NoLevelsOfA => return sample_a_with(alloc, b"depth 0"),
+        Printer::NoLevelsOfA => return sample_with(alloc, Sample::A, DEPTH_LINE, b"depth 0"),
+        Printer::NoLetterA => return sample_with(alloc, Sample::B, FACE_LINE, NO_LETTER_A),
     };
     printer_of(alloc, panel, page)
 }
