@@ -183,7 +183,7 @@ fn letter_page() -> Page {
 }
 
 /// What an item did.
-#[derive(Clone, Copy, Debug)]
+#[derive(Clone, Copy)]
 enum Did {
     Step(Carried),
     Fill(Area),
@@ -296,7 +296,7 @@ fn check_page(
     for (times, bytes, comes) in steps {
         let items = items_of(alloc, bytes)?;
         let did = carry_out_all(profile, &mut page, *times, &items);
-        assert!(rt; has_come_to(&page, did, *comes), "{did:?} at {bytes:?}");
+        assert!(rt; has_come_to(&page, did, *comes), "{bytes:?}");
     }
     Ok(())
 }

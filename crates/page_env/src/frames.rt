@@ -21,7 +21,7 @@ use std::alloc::Allocator;
 use tick_length::{Length, Unit};
 
 /// Where a picture frame lies on the logical page.
-#[derive(Clone, Copy, Debug)]
+#[derive(Clone, Copy)]
 pub struct Frame {
     pub left: Length,
     pub top: Coordinate,

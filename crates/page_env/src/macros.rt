@@ -17,7 +17,7 @@ use crate::stack::CursorStack;
 use pcl_items::Number;
 
 /// What a macro control does with the macro of the id in force (the manual's "Macro Control").
-#[derive(Clone, Copy, Debug, PartialEq, Eq)]
+#[derive(Clone, Copy, PartialEq, Eq)]
 pub enum Control {
     /// 0: begins its definition.
     Begin,

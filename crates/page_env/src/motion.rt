@@ -22,7 +22,7 @@ use std::alloc::Allocator;
 use tick_length::Unit;
 
 /// How far a feed goes.
-#[derive(Clone, Copy, Debug, PartialEq, Eq)]
+#[derive(Clone, Copy, PartialEq, Eq)]
 pub enum Feed {
     /// A line.
     Line,

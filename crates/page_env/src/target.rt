@@ -4,7 +4,7 @@ ghost use Rattle.std.specs.Prelude.{◌+◌, ◌^◌};
 ghost use Rattle.page_env.specs.Numbers.{IsWithin};
 
 /// Where the pen is to go, in ticks from the origin, be that too far or not.
-#[derive(Clone, Copy, Debug)]
+#[derive(Clone, Copy)]
 pub struct Target {
     pub x: i64,
     pub y: i64,

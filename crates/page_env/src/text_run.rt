@@ -27,7 +27,7 @@ use std::simd::prelude::*;
 use tick_length::Length;
 
 /// How the characters of a run look: what they share, and the box of one in the first column.
-#[derive(Clone, Copy, Debug, PartialEq, Eq)]
+#[derive(Clone, Copy, PartialEq, Eq)]
 pub struct Look {
     pub request: FontRequest,
     /// Where the baseline lies, down from the upper edge of the physical page.
@@ -41,7 +41,7 @@ pub struct Look {
 const MOST_AT_ONCE: usize = 255;
 
 /// The first bytes of text, as many as are known to go one after another, from 1 to 255.
-#[derive(Clone, Copy, Debug)]
+#[derive(Clone, Copy)]
 pub struct TextRun<'p> {
     pub look: Look,
     pub count: usize,

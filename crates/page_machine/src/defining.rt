@@ -15,7 +15,7 @@ use pcl_items::{Command, Item, Place, SimpleItem};
 use std::alloc::{AllocError, Allocator};
 
 /// What an item does to the definition that is open.
-#[derive(Clone, Copy, Debug, PartialEq, Eq)]
+#[derive(Clone, Copy, PartialEq, Eq)]
 pub enum Defining {
     /// It may not stand in a definition.
     Refused,

@@ -10,7 +10,7 @@ use page_env::{Env, PageChange};
 use std::alloc::Allocator;
 
 /// In what an item stands. What an executed body executes in turn stands in what it stands in itself.
-#[derive(Clone, Copy, Debug, PartialEq, Eq)]
+#[derive(Clone, Copy, PartialEq, Eq)]
 pub enum Nesting {
     /// The job.
     Job,
