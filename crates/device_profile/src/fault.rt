@@ -43,7 +43,7 @@ impl From<AllocError> for ProfileFault {
 }
 
 /// Why a line gives nothing.
-#[derive(Clone, Copy, Debug, PartialEq, Eq)]
+#[derive(Clone, Copy, PartialEq, Eq)]
 pub(crate) enum LineFault {
     /// The line is wrong.
     Wrong(Cause),

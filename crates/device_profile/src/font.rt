@@ -36,7 +36,7 @@ pub struct FontRequest {
 }
 
 /// Codes from the first to the last, both with it.
-#[derive(Clone, Copy, Debug, PartialEq, Eq)]
+#[derive(Clone, Copy, PartialEq, Eq)]
 pub struct CodeRange {
     /// The first code.
     pub first: u8,

@@ -6,7 +6,7 @@ ghost use Rattle.device_profile.specs.Draft.{keys};
 use crate::field::Field;
 
 /// What a line of a profile's text tells of.
-#[derive(Clone, Copy, Debug, PartialEq, Eq)]
+#[derive(Clone, Copy, PartialEq, Eq)]
 pub(crate) enum Key {
     /// The printer's name.
     Name,

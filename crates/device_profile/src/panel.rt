@@ -1,7 +1,7 @@
 //! The settings of a printer's control panel.
 
 /// One value for each field of the control panel.
-#[derive(Clone, Copy, Debug, PartialEq, Eq)]
+#[derive(Clone, Copy, PartialEq, Eq)]
 pub struct Panel {
     /// The page size, as `ESC &l#A` numbers it.
     pub size: u32,

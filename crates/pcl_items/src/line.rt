@@ -44,7 +44,7 @@ impl<'a> Line<'a> {
 }
 
 /// The words of lines.
-#[derive(Clone, Copy, Debug, PartialEq, Eq)]
+#[derive(Clone, Copy, PartialEq, Eq)]
 pub enum Word {
     /// `COMMENT`
     Comment,
