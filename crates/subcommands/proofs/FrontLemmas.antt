@@ -24,6 +24,11 @@ ended_after a b c front piece n most first second none end few =
     let same : front ++ take n piece ≡ front = ap (λ m. front ++ take m piece) none ∙ append-nil front in
     all_given a c front most (subst (Consumes a c) same (Consumes-trans a b c front (take n piece) first second)) end few
 
+-- what was not read took nothing
+pub Consumes-nothing : (a : Option (List ℕ)) → Consumes a a []
+Consumes-nothing None = tt
+Consumes-nothing (Some x) = refl
+
 -- a read that gave none took none
 pub Consumes-none : (a b c : Option (List ℕ)) (front piece : List ℕ) (n : ℕ) → Consumes a b front → Consumes b c (take n piece) → n ≡ 0 → Consumes a c front
 Consumes-none a b c front piece n first second none =

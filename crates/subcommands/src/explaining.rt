@@ -19,12 +19,30 @@ pub fn explain<O: Outlet, E: Outlet>(code: Option<&str>, stdout: &mut O, stderr:
     ensures status { result ≡ end_of_explain (is_unknown (map (λ text. text.now) EXPLANATIONS) (option_map (λ word. word.now) code.entry)) (O.failed stdout.new) }
     ensures error { Writes (E.failed stderr.new) (E.written stderr.old) (E.written stderr.new) (complaint result (option_map (λ word. word.now) code.entry)) }
 {
+    explain_from(&EXPLANATIONS, code, stdout, stderr)
+}
+
+/// Writes the explanation of a code, or of all, out of these.
+fn explain_from<O: Outlet, E: Outlet>(
+    explanations: &[&str],
+    code: Option<&str>,
+    stdout: &mut O,
+    stderr: &mut E,
+) -> Status
+    requires stdout { IsFalse (O.failed stdout.old) }
+    requires stderr { IsFalse (E.failed stderr.old) }
+    ensures text { IsFalse (is_unknown (map (λ text. text.now) explanations.now) (option_map (λ word. word.now) code.entry)) →
+        Writes (O.failed stdout.new) (O.written stdout.old) (O.written stdout.new) (explanation (map (λ text. text.now) explanations.now) (option_map (λ word. word.now) code.entry)) }
+    ensures untouched { IsTrue (is_unknown (map (λ text. text.now) explanations.now) (option_map (λ word. word.now) code.entry)) → stdout.new ≡ stdout.old }
+    ensures status { result ≡ end_of_explain (is_unknown (map (λ text. text.now) explanations.now) (option_map (λ word. word.now) code.entry)) (O.failed stdout.new) }
+    ensures error { Writes (E.failed stderr.new) (E.written stderr.old) (E.written stderr.new) (complaint result (option_map (λ word. word.now) code.entry)) }
+{
     if let Some(word) = code {
-        if !is_known(&EXPLANATIONS, word) {
+        if !is_known(explanations, word) {
             return refuse(word, stderr);
         }
     }
-    match write_asked(&EXPLANATIONS, code, stdout) {
+    match write_asked(explanations, code, stdout) {
         Ok(()) => Status::Help,
         Err(error) => tell(Status::Stopped(error), stderr),
     }

@@ -1,4 +1,4 @@
-use Rattle.std.proofs.Common.{◌≡◌, ◌∙◌, None, Option, sym, subst}
+use Rattle.std.proofs.Common.{◌≡◌, ◌∙◌, None, Option, refl, sym, subst, arith}
 use Rattle.pcl_items.specs.LexerState.{LexerState}
 use Rattle.pcl_items.specs.Lexing.{IsNext, answer_of}
 use Rattle.preflight.specs.declared.check.Progress.{Progress}
@@ -10,6 +10,14 @@ use Rattle.preflight.proofs.check.carry_out_commands.Goals as goal
 -- where two ways meet
 met : {X Y Z : Type 0} (P : X → Y → Z → Type 0) (x x' : X) (y y' : Y) (z z' : Z) → x ≡ x' → y ≡ y' → z ≡ z' → P x' y' z' → P x y z
 met P x x' y y' z z' ex ey ez h = subst (λ x. P x y z) (sym ex) (subst (λ y. P x' y z) (sym ey) (subst (λ z. P x' y' z) (sym ez) h))
+
+pub loop-read-init : goal.loop-read-init
+loop-read-init g c = record {
+  through = record { running = c.requires.running; modes = c.requires.modes; carried = λ fleet bytes h. h };
+  ended = refl;
+  place = refl;
+  no_more = omega arith;
+}
 
 pub returns-in-Some-failed-clause-came : goal.returns-in-Some-failed-clause-came
 returns-in-Some-failed-clause-came g c =

@@ -1,8 +1,11 @@
-use Rattle.std.proofs.Common.{◌≡◌, None, ◌<◌, length, subst, sym, arith}
+use Rattle.std.proofs.Common.{◌≡◌, None, ◌<◌, length, refl, subst, sym, arith}
 use Rattle.page_env.specs.TextRun.{AllGo}
 use Rattle.page_machine.specs.TextRun.{PrintsText}
 use Rattle.preflight.proofs.TextInStep.{goes_at, unchanged_at, changed_more, changed_all}
 use Rattle.preflight.proofs.lockstep.pass_text_on_each.Goals as goal
+
+pub loop-machine-init : goal.loop-machine-init
+loop-machine-init g c = (refl, refl, tt)
 
 pub pass_text-requires-clause-go : goal.pass_text-requires-clause-go
 pass_text-requires-clause-go g c =

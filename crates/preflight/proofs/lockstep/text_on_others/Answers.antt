@@ -1,8 +1,15 @@
 use Rattle.std.proofs.Common.{◌≤◌, take, subst, arith}
-use Rattle.std.proofs.lemmas.List.{length-take-le, take-take}
+use Rattle.std.proofs.lemmas.List.{length-take-le, take-take, take_all}
 use Rattle.page_env.specs.TextRun.{CanGoIn}
+use Rattle.preflight.specs.Carriers.TextInStep.{GoOnAll}
 use Rattle.preflight.proofs.TextInStep.{more_go, fewer_can_go}
 use Rattle.preflight.proofs.lockstep.text_on_others.Goals as goal
+
+pub loop-machine-init : goal.loop-machine-init
+loop-machine-init g c = (omega arith, c.requires.short, c.requires.in_face, tt)
+
+pub text_alike-requires : goal.text_alike-requires
+text_alike-requires g c = c.loop-machine.invariant.2
 
 pub loop-machine-preserved : goal.loop-machine-preserved
 loop-machine-preserved g c =
@@ -18,3 +25,11 @@ loop-machine-preserved g c =
       can,
       more_go run.look count c.loop-machine.count bytes c.args.machines.now c.loop-machine.machine-index c.machine-item.result c.loop-machine-test.true most c.machine-item.is h.3 (far.go, c.in_ok-count.ensures.1),
     )
+
+pub returns-clause-short : goal.returns-clause-short
+returns-clause-short g c = c.loop-machine.invariant.0
+
+pub returns-clause-go : goal.returns-clause-go
+returns-clause-go g c =
+    let text = take c.loop-machine.count c.args.bytes.now in
+    subst (λ ms. GoOnAll c.args.run.now.look text ms) (take_all c.loop-machine.machine-index c.args.machines.now c.loop-machine-test.false) c.loop-machine.invariant.3

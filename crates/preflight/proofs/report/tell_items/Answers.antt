@@ -7,6 +7,9 @@ use Rattle.preflight.proofs.Answered.{item_admitted}
 use Rattle.preflight.proofs.Tellings.{came_err, end_there, fault_there, follows_on, item_there, tells_on, tells_over, told_all, told_ended, told_failed, told_item}
 use Rattle.preflight.proofs.report.tell_items.Goals as goal
 
+pub loop-place-init : goal.loop-place-init
+loop-place-init g c = record { working = c.requires.working; ended = refl; place = refl; mode = c.requires.mode; told = λ first start bytes h. h }
+
 pub returns-in_err-told-in-Ok-Item-clause-came : goal.returns-in_err-told-in-Ok-Item-clause-came
 returns-in_err-told-in-Ok-Item-clause-came g c = λ first start bytes h total.
     let so_far = c.loop-place.invariant in

@@ -1,8 +1,18 @@
-use Rattle.std.proofs.Common.{◌≡◌, ◌++◌, ◌≤◌, rules, length, take, drop}
+use Rattle.std.proofs.Common.{◌≡◌, ◌++◌, ◌≤◌, rules, arith, length, take, drop, sym, subst}
 use Rattle.std.proofs.KnownBytes.{Consumes-trans}
 use Rattle.std.proofs.lemmas.List.{take-append-le}
-use Rattle.subcommands.proofs.FrontLemmas.{HasGiven-more, front_by_length}
+use Rattle.std.specs.Io.KnownBytes.{Consumes}
+use Rattle.subcommands.proofs.FrontLemmas.{HasGiven, HasGiven-none, HasGiven-more, Consumes-nothing, front_by_length}
 use Rattle.subcommands.proofs.front.read_front.Goals as goal
+
+pub loop-piece-init : goal.loop-piece-init
+loop-piece-init g c =
+    let before = c.args.source.now in (
+      c.requires,
+      subst (Consumes (g.S.Source.remaining before) (g.S.Source.remaining before)) (sym c.new-front.ensures.items) (Consumes-nothing (g.S.Source.remaining before)),
+      omega (arith, c.new-front.ensures.len),
+      subst (HasGiven (g.S.Source.given before) (g.S.Source.given before)) (sym c.new-front.ensures.items) (HasGiven-none (g.S.Source.given before)),
+    )
 
 pub loop-piece-preserved : goal.loop-piece-preserved
 loop-piece-preserved g c =

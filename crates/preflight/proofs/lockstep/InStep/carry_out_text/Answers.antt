@@ -2,16 +2,33 @@ use Rattle.std.proofs.Common.{◌∷◌, take, ap, sym, subst, ◌∙◌, arith}
 use Rattle.page_machine.specs.TextRun.{PrintsText}
 use Rattle.sinks.specs.Recorder.{Recorded}
 use Rattle.preflight.specs.Carriers.Each.{Each}
-use Rattle.preflight.specs.Carriers.TextInStep.{PrintInStep}
+use Rattle.preflight.specs.Carriers.TextInStep.{PrintInStep, GoOnAll}
 use Rattle.preflight.proofs.Carrying.{written_back}
 use Rattle.preflight.proofs.TextInStep.{shapes_of, shape_count, print_in_step, text_of, first_goes}
 use Rattle.preflight.proofs.lockstep.InStep.carry_out_text.Goals as goal
+
+pub text_on_others-requires-clause-short : goal.text_on_others-requires-clause-short
+text_on_others-requires-clause-short g c = c.in-Some.ensures.0.go.short
+
+pub text_on_others-requires-clause-in_face : goal.text_on_others-requires-clause-in_face
+text_on_others-requires-clause-in_face g c = c.in-Some.ensures.0.in_face
 
 pub pass_text-requires-clause-go : goal.pass_text-requires-clause-go
 pass_text-requires-clause-go g c =
     let first = c.args.self.now.first in
     let run = c.in-Some.run' in
     first_goes first.printer run.look first.page c.in-Some-text_on_others.count run.count c.args.bytes.now c.in-Some-text_on_others.ensures.short c.in-Some.ensures.0.go.go
+
+pub pass_text-requires-clause-glyphs : goal.pass_text-requires-clause-glyphs
+pass_text-requires-clause-glyphs g c = c.glyph_count-glyphs.ensures
+
+pub pass_text_on_each-requires-clause-go : goal.pass_text_on_each-requires-clause-go
+pass_text_on_each-requires-clause-go g c =
+    let text = take c.in-Some-text_on_others.count c.args.bytes.now in
+    subst (λ ms. GoOnAll c.in-Some.run'.look text ms) (c.deref.ensures.value ∙ sym c.deref_mut.ensures.value) c.in-Some-text_on_others.ensures.go
+
+pub pass_text_on_each-requires-clause-glyphs : goal.pass_text_on_each-requires-clause-glyphs
+pass_text_on_each-requires-clause-glyphs g c = c.glyph_count-glyphs.ensures
 
 pub returns-clause-text : goal.returns-clause-text
 returns-clause-text g c =

@@ -1,5 +1,5 @@
 use Rattle.subcommands.proofs.ExplainLemmas.{told_unknown, told_stop}
-use Rattle.subcommands.proofs.explaining.explain.Goals as goal
+use Rattle.subcommands.proofs.explaining.explain_from.Goals as goal
 
 pub returns-then-not-is_known-clause-error : goal.returns-then-not-is_known-clause-error
 returns-then-not-is_known-clause-error g c = told_unknown _ _ _ c.args.code c.in-Some.word c.refuse.result c.in-Some.is c.refuse.ensures.status c.refuse.ensures.line
