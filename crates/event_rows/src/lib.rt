@@ -44,7 +44,7 @@ pub fn letter(copies: u32) -> PageEnd {
 pub type Outcome<F> = Result<(), Stop<F>>;
 
 /// Carries out an item, which the mode of the items before it has to admit.
-pub fn step<P: Allocator, A: Allocator + Copy, S: MarkSink>(
+fn step<P: Allocator, A: Allocator + Copy, S: MarkSink>(
     machine: &mut Machine<'_, P, A>,
     place: Place,
     item: &Item<'_>,

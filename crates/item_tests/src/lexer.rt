@@ -538,34 +538,6 @@ fn last_of(fault: Option<(Place, Cause)>) -> Last {
     }
 }
 
-fn check_whole_and_byte_by_byte(
-    rt: &impl Abort,
-    alloc: Global,
-    jobs: &[Reading],
-) -> Result<(), Fail> {
-    for (job, wanted, fault) in jobs {
-        assert!(rt; job.len() <= 4096);
-        check_job(rt, alloc, true, job, wanted, last_of(*fault))?;
-        check_job(rt, alloc, false, job, wanted, last_of(*fault))?;
-    }
-    Ok(())
-}
-
-#[test]
-fn jobs_are_read_whole_and_byte_by_byte(rt: HostRuntime) -> Result<(), Fail> {
-    check_whole_and_byte_by_byte(&rt, rt.alloc(), JOBS)
-}
-
-#[test]
-fn frames_are_read_whole_and_byte_by_byte(rt: HostRuntime) -> Result<(), Fail> {
-    check_whole_and_byte_by_byte(&rt, rt.alloc(), FRAMES)
-}
-
-#[test]
-fn lines_are_read_whole_and_byte_by_byte(rt: HostRuntime) -> Result<(), Fail> {
-    check_whole_and_byte_by_byte(&rt, rt.alloc(), LINES)
-}
-
 /// Feeds the bytes in two pieces.
 fn read_cut<A: Allocator, B: Allocator>(
     kept: Global,
@@ -612,27 +584,31 @@ fn check_cuts_of(
     Ok(())
 }
 
-fn check_cuts(rt: &impl Abort, alloc: Global, jobs: &[Reading]) -> Result<(), Fail> {
+/// Reads jobs whole, byte by byte, and cut at each place.
+fn check_readings(rt: &impl Abort, alloc: Global, jobs: &[Reading]) -> Result<(), Fail> {
     for (job, wanted, fault) in jobs {
         assert!(rt; job.len() <= 4096);
-        check_cuts_of(rt, alloc, job, wanted, last_of(*fault))?;
+        let last = last_of(*fault);
+        check_job(rt, alloc, true, job, wanted, last)?;
+        check_job(rt, alloc, false, job, wanted, last)?;
+        check_cuts_of(rt, alloc, job, wanted, last)?;
     }
     Ok(())
 }
 
 #[test]
-fn jobs_are_read_cut_at_each_place(rt: HostRuntime) -> Result<(), Fail> {
-    check_cuts(&rt, rt.alloc(), JOBS)
+fn jobs_are_read(rt: HostRuntime) -> Result<(), Fail> {
+    check_readings(&rt, rt.alloc(), JOBS)
 }
 
 #[test]
-fn frames_are_read_cut_at_each_place(rt: HostRuntime) -> Result<(), Fail> {
-    check_cuts(&rt, rt.alloc(), FRAMES)
+fn frames_are_read(rt: HostRuntime) -> Result<(), Fail> {
+    check_readings(&rt, rt.alloc(), FRAMES)
 }
 
 #[test]
-fn lines_are_read_cut_at_each_place(rt: HostRuntime) -> Result<(), Fail> {
-    check_cuts(&rt, rt.alloc(), LINES)
+fn lines_are_read(rt: HostRuntime) -> Result<(), Fail> {
+    check_readings(&rt, rt.alloc(), LINES)
 }
 
 /// A front of a job, how many items it decides, and which fault.
@@ -712,18 +688,26 @@ const FRONTS: &[Front] = &[
     ),
 ];
 
+/// How many items a front of a job decides, and the answer behind them.
+fn decided_by(alloc: Global, front: &[u8]) -> Result<(usize, Last), AllocError>
+    requires { length front.now ≤ 4096 }
+{
+    let mut lexer = Lexer::new(alloc);
+    lexer.feed(front)?;
+    let mut items = Vec::new(alloc);
+    let answer = read_on(alloc, &mut lexer, &mut items)?;
+    Ok((items.len(), answer))
+}
+
 fn check_fronts(rt: &impl Abort, alloc: Global, fronts: &[Front]) -> Result<(), Fail> {
     for (front, count, fault) in fronts {
         assert!(rt; front.len() <= 4096);
-        let mut lexer = Lexer::new(alloc);
-        lexer.feed(front)?;
-        let mut items = Vec::new(alloc);
-        let answer = read_on(alloc, &mut lexer, &mut items)?;
         let last = match *fault {
             Some((place, cause)) => Err(LexFault { place, cause }),
             None => Ok(Lexed::NeedMore),
         };
-        assert_eq!(rt; (answer, items.len()), (last, *count), "{front:?}");
+        let decided = decided_by(alloc, front)?;
+        assert!(rt; decided == (*count, last), "{front:?}: {decided:?}");
     }
     Ok(())
 }

@@ -7,7 +7,7 @@ use job_items::items_of;
 use macro_store::{MacroStore, Refusal};
 use pcl_items::{Command, Item, Mode, Number, OwnedItem, Place, Sign, SimpleItem};
 use refusing::Refusing;
-use std::alloc::{Allocator, Global};
+use std::alloc::{AllocError, Allocator, Global};
 use std::process::Abort;
 use std::test::Fail;
 
@@ -191,21 +191,23 @@ fn bodies_move_down(rt: HostRuntime) -> Result<(), Fail> {
     Ok(())
 }
 
+/// The limit of memory admits no more of this item in the definition that is open, which stays as it is.
+fn assert_past_limit<A: Allocator + Copy>(rt: &impl Abort, store: &mut MacroStore<A>, item: Stored)
+    requires { mode_in store.old.definition ≡ Some Mode.Pcl }
+    ensures { store.new ≡ store.old }
+{
+    let answer = append(rt, store, Mode::Pcl, &item.item());
+    assert!(rt; answer == Err(Refusal::MacroMemory));
+}
+
 #[test]
 fn the_limit_is_kept(rt: HostRuntime) -> Result<(), Fail> {
     let mut store = MacroStore::new(rt.alloc(), 8);
-    assert_eq!(rt; define(&rt, &mut store, 7, Stored::Move), Ok(()));
-    assert!(rt; !store.is_open());
-    assert_eq!(rt; store.begin(8), Ok(()));
-    assert_eq!(rt;
-        append(&rt, &mut store, Mode::Pcl, &Stored::LineFeed.item()),
-        Err(Refusal::MacroMemory)
-    );
+    assert!(rt; define(&rt, &mut store, 7, Stored::Move).is_ok() && !store.is_open());
+    assert!(rt; store.begin(8).is_ok());
+    assert_past_limit(&rt, &mut store, Stored::LineFeed);
     // The definition stays open, and takes nothing more; the other macro is as before.
-    assert_eq!(rt;
-        append(&rt, &mut store, Mode::Pcl, &Stored::FormFeed.item()),
-        Err(Refusal::MacroMemory)
-    );
+    assert_past_limit(&rt, &mut store, Stored::FormFeed);
     assert!(rt; store.bytes() == 8 && is_kept(&store, 7, Some(Stored::Move)));
     end_definition(&rt, &mut store);
     assert!(rt; store.bytes() == 8 && store.body(8).is_some());
@@ -220,15 +222,22 @@ fn define_all<A: Allocator + Copy>(rt: &impl Abort, store: &mut MacroStore<A>) -
             Ok(()) => {}
             Err(Refusal::MacroMemory) => assert!(rt; false, "at {id}"),
             Err(Refusal::Memory(_)) => {
-                assert_eq!(rt; store.bytes(), 8 * u64::from(id));
-                assert!(rt; id == 0 || is_kept(store, 0, Some(Stored::Move)));
-                assert!(rt; id == 0 || is_kept(store, id - 1, Some(Stored::Move)));
-                assert!(rt; store.body(id).is_none());
+                assert!(rt; store.bytes() == 8 * u64::from(id) && store.body(id).is_none());
                 return id;
             }
         }
     }
     1000
+}
+
+/// Whether the first and the last of so many macros are kept.
+fn are_kept<A: Allocator + Copy>(store: &MacroStore<A>, count: u16) -> bool {
+    match count.checked_sub(1) {
+        None => true,
+        Some(last) => [0, last]
+            .iter()
+            .all(|id| is_kept(store, *id, Some(Stored::Move))),
+    }
 }
 
 #[test]
@@ -239,7 +248,7 @@ fn refused_memory_leaves_the_macros(rt: HostRuntime) {
         let mut store = MacroStore::new(&heap, 8000);
         let defined = define_all(&rt, &mut store);
         assert!(rt;
-            at_least <= defined && defined < 1000,
+            at_least <= defined && defined < 1000 && are_kept(&store, defined),
             "{requests} requests"
         );
     }
@@ -253,10 +262,7 @@ fn is_begun(rt: &impl Abort, alloc: Global, requests: u64) -> bool {
         assert!(rt; !store.is_open());
         return false;
     }
-    assert_eq!(rt;
-        append(rt, &mut store, Mode::Pcl, &Stored::Move.item()),
-        Err(Refusal::MacroMemory)
-    );
+    assert_past_limit(rt, &mut store, Stored::Move);
     true
 }
 
@@ -280,43 +286,49 @@ const BODY_OF_FRAMES: &[u8] =
     b"A\x1b*c0t720x0.5Y\x1b%0BIN;SP1;sp;PW.50PW;PU;PD1,2,-3,4;PA;PA 8388607 -8388607\x1b%1A\
 IN;\x1b%1BPR+5-0PDPU7,8;\x1b%0A\x1b%0A\x1b%1A\r";
 
+/// Adds these items to the definition that is open in mode PCL.
+fn append_all(
+    rt: &impl Abort,
+    store: &mut MacroStore,
+    items: &[(Place, OwnedItem)],
+) -> Result<(), Refusal>
+    requires { mode_in store.old.definition ≡ Some Mode.Pcl }
+{
+    let mut mode = Mode::Pcl;
+    for (_, item) in items {
+        mode = append(rt, store, mode, &item.as_item())?;
+    }
+    Ok(())
+}
+
 /// Stores these items as the macro of this id.
 fn store_items(rt: &impl Abort, store: &mut MacroStore, id: u16, items: &[(Place, OwnedItem)]) {
     assert!(rt; !store.is_open());
-    assert_eq!(rt; store.begin(id), Ok(()));
-    let mut mode = Mode::Pcl;
-    for (place, item) in items {
-        match append(rt, store, mode, &item.as_item()) {
-            Ok(next) => mode = next,
-            Err(_) => assert!(rt; false, "at {place}"),
-        }
-    }
+    assert!(rt; store.begin(id).is_ok());
+    assert!(rt; append_all(rt, store, items).is_ok());
     end_definition(rt, store);
 }
 
-/// Checks that the body of a macro is these items, each of which can be copied.
-fn check_items(
-    rt: &impl Abort,
+/// Whether the body of a macro is these items, each of which can be copied.
+fn has_items(
     alloc: Global,
     store: &MacroStore,
     id: u16,
     items: &[(Place, OwnedItem)],
-) -> Result<(), Fail> {
+) -> Result<bool, AllocError> {
     let Some(mut body) = store.body(id) else {
-        assert!(rt; false, "no macro {id}");
-        return Ok(());
+        return Ok(false);
     };
-    for (place, item) in items {
+    for (_, item) in items {
         let Some(read) = body.next() else {
-            assert!(rt; false, "no item for that at {place}");
-            return Ok(());
+            return Ok(false);
         };
         let copy = OwnedItem::copy_of(alloc, &read)?;
-        let are_same = read == item.as_item() && copy.as_item() == item.as_item();
-        assert!(rt; are_same, "at {place} of macro {id}");
+        if read != item.as_item() || copy.as_item() != item.as_item() {
+            return Ok(false);
+        }
     }
-    assert!(rt; body.next().is_none());
-    Ok(())
+    Ok(body.next().is_none())
 }
 
 /// The macros of the test below: frames under odd ids, other items under even ones.
@@ -334,8 +346,18 @@ fn check_bodies(
     for id in 1..=LAST_MACRO {
         store_items(rt, &mut store, id, if id % 2 == 0 { items } else { frames });
     }
+    delete_in_turn(rt, alloc, &mut store, [items, frames])
+}
+
+/// Deletes one macro after the other, and checks those that are left each time.
+fn delete_in_turn(
+    rt: &impl Abort,
+    alloc: Global,
+    store: &mut MacroStore,
+    lists: [&[(Place, OwnedItem)]; 2],
+) -> Result<(), Fail> {
     for first in 1..=LAST_MACRO {
-        check_from(rt, alloc, &store, first, [items, frames])?;
+        check_from(rt, alloc, store, first, lists)?;
         assert!(rt; !store.is_open());
         store.delete(first);
     }
@@ -352,7 +374,11 @@ fn check_from(
 ) -> Result<(), Fail> {
     let [even, odd] = lists;
     for id in first..=LAST_MACRO {
-        check_items(rt, alloc, store, id, if id % 2 == 0 { even } else { odd })?;
+        let items = if id % 2 == 0 { even } else { odd };
+        assert!(rt;
+            has_items(alloc, store, id, items)?,
+            "macro {id} from {first} on"
+        );
     }
     Ok(())
 }

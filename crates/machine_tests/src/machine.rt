@@ -74,12 +74,24 @@ use Answer::{Found, Goes, Refused, Stopped};
 /// Bytes, what the machine answers on their last item, and for how many events there is room then.
 type Step = (&'static [u8], Answer, u32);
 
+/// A left, upper, right and lower edge, in 7200ths of an inch.
+type Edges = (u32, u32, u32, u32);
+
+/// The last mark of a run.
+#[derive(Clone, Copy)]
+enum LastMark {
+    Rectangle(Edges),
+    /// The character of a code.
+    Character(u8),
+}
+
+use LastMark::{Character, Rectangle};
+
 /// The run of a machine whose sink has room for some events.
 struct Run {
     room: u32,
     steps: &'static [Step],
-    /// The last mark, in 7200ths of an inch: its left, upper, right and lower edge.
-    mark: Option<(u32, u32, u32, u32)>,
+    mark: Option<LastMark>,
     /// What it answers on the end of the bytes, for how many events there is room then, and the last page.
     end: (Answer, u32, Option<PageEnd>),
 }
@@ -105,7 +117,7 @@ const FROM_ANY_PANEL: &[Run] = &[
             ),
             (b"\x0c", Goes, 0),
         ],
-        mark: Some((9000, 10800, 11400, 12000)),
+        mark: Some(Rectangle((9000, 10800, 11400, 12000))),
         end: (Goes, 0, Some(LETTER)),
     },
     Run {
@@ -140,7 +152,7 @@ const FROM_THE_FIRST_PANEL: &[Run] = &[
             (b"\x1b*p3075Y\n", Goes, 2),
             (b"\x1b*c0P", Goes, 1),
         ],
-        mark: Some((1800, 4500, 2520, 5220)),
+        mark: Some(Rectangle((1800, 4500, 2520, 5220))),
         end: (Goes, 0, Some(LETTER)),
     },
     Run {
@@ -151,7 +163,7 @@ const FROM_THE_FIRST_PANEL: &[Run] = &[
             (b"\x1b*p3075Y\x1b=", Goes, 2),
             (b"\x1b*c0P", Goes, 1),
         ],
-        mark: Some((1800, 4500, 2520, 5220)),
+        mark: Some(Rectangle((1800, 4500, 2520, 5220))),
         end: (Goes, 0, Some(LETTER)),
     },
     // The sink refuses the page.
@@ -162,45 +174,53 @@ const FROM_THE_FIRST_PANEL: &[Run] = &[
             (b"\n", Refused, 0),
             (b"\r", Stopped, 0),
         ],
-        mark: Some((1800, 4500, 2520, 5220)),
+        mark: Some(Rectangle((1800, 4500, 2520, 5220))),
         end: (Stopped, 0, None),
     },
     // Line termination makes CR, LF and FF several parts, but not a half line feed.
     Run {
         room: 2,
         steps: &[(b"\x1b*c30a30B\x1b&k3G\x1b*p300X\r\x1b*c0P", Goes, 1)],
-        mark: Some((1800, 5700, 2520, 6420)),
+        mark: Some(Rectangle((1800, 5700, 2520, 6420))),
         end: (Goes, 0, Some(LETTER)),
     },
     Run {
         room: 2,
         steps: &[(b"\x1b*c30a30B\x1b&k3G\x1b*p300X\n\x1b*c0P", Goes, 1)],
-        mark: Some((1800, 5700, 2520, 6420)),
+        mark: Some(Rectangle((1800, 5700, 2520, 6420))),
         end: (Goes, 0, Some(LETTER)),
     },
     Run {
         room: 2,
         steps: &[(b"\x1b*c30a30B\x1b&k3G\x1b*p300X\x1b=\x1b*c0P", Goes, 1)],
-        mark: Some((9000, 5100, 9720, 5820)),
+        mark: Some(Rectangle((9000, 5100, 9720, 5820))),
         end: (Goes, 0, Some(LETTER)),
     },
     Run {
         room: 2,
         steps: &[(b"\x1b*c30a30B\x1b&k3G\x1b*p300X\x0c\x1b*c0P", Goes, 0)],
-        mark: Some((1800, 4500, 2520, 5220)),
+        mark: Some(Rectangle((1800, 4500, 2520, 5220))),
         end: (Refused, 0, Some(LETTER)),
     },
 ];
 
-/// A rectangle with these edges, in 7200ths of an inch.
-pub fn rectangle(edges: (u32, u32, u32, u32)) -> Area {
+/// On sample B.
+const WITH_FONTS: &[Run] = &[Run {
+    room: 1,
+    steps: &[(b"\x1bEA ", Goes, 0)],
+    mark: Some(Character(b'A')),
+    end: (Refused, 0, None),
+}];
+
+/// A rectangle with these edges.
+pub fn rectangle(edges: Edges) -> Area {
     Area {
         fill: Fill::Solid,
         bounds: box_of(edges),
     }
 }
 
-fn box_of((left, top, right, bottom): (u32, u32, u32, u32)) -> Bounds {
+fn box_of((left, top, right, bottom): Edges) -> Bounds {
     Bounds {
         left: Length::of_7200ths(left),
         top: Length::of_7200ths(top),
@@ -241,18 +261,11 @@ fn is_answer(outcome: Result<(), Stop<Full>>, answer: Answer) -> bool {
     }
 }
 
-/// Whether the last mark is the character of a code.
-fn is_character(kept: &Option<OwnedMark>, code: u8) -> bool {
-    match kept {
-        Some(OwnedMark::Character(glyph)) => *glyph == character(code),
-        _ => false,
-    }
-}
-
-/// Whether the last mark is the rectangle with these edges, where there is one.
-fn is_last(kept: &Option<OwnedMark>, edges: Option<(u32, u32, u32, u32)>) -> bool {
-    match (kept, edges) {
-        (Some(OwnedMark::Rect(area)), Some(edges)) => *area == rectangle(edges),
+/// Whether this is the last mark.
+fn is_last(kept: &Option<OwnedMark>, wanted: Option<LastMark>) -> bool {
+    match (kept, wanted) {
+        (Some(OwnedMark::Rect(area)), Some(Rectangle(edges))) => *area == rectangle(edges),
+        (Some(OwnedMark::Character(glyph)), Some(Character(code))) => *glyph == character(code),
         (None, None) => true,
         _ => false,
     }
@@ -276,6 +289,16 @@ fn check_steps(
     Ok(())
 }
 
+/// Checks what a machine answers on the end of its bytes, and what came to its sink.
+fn check_end(rt: &impl Abort, machine: &mut Machine<'_>, run: &Run, sink: &mut Recorder) {
+    let (answer, room, page) = run.end;
+    assert!(rt; is_answer(machine.finish(99, sink), answer));
+    assert!(rt; is_last(&sink.mark, run.mark));
+    assert!(rt; sink.room == room && sink.page == page);
+    // A machine that is finished answers so.
+    assert!(rt; is_answer(machine.finish(99, sink), Stopped));
+}
+
 fn check_run(
     rt: &impl Abort,
     alloc: Global,
@@ -289,22 +312,23 @@ fn check_run(
         page: None,
     };
     check_steps(rt, alloc, &mut machine, run.steps, &mut sink)?;
-    let (answer, room, page) = run.end;
-    assert!(rt; is_answer(machine.finish(99, &mut sink), answer));
-    assert!(rt; is_last(&sink.mark, run.mark));
-    assert_eq!(rt; (sink.room, sink.page), (room, page));
-    // A machine that is finished answers so.
-    assert!(rt; is_answer(machine.finish(99, &mut sink), Stopped));
+    check_end(rt, &mut machine, run, &mut sink);
     Ok(())
 }
 
 #[test]
-fn machines_run(rt: HostRuntime) -> Result<(), Fail> {
+fn machines_run_from_any_panel(rt: HostRuntime) -> Result<(), Fail> {
     let profile = sample_a(rt.alloc())?;
     for run in FROM_ANY_PANEL {
         let machine = Machine::new(rt.alloc(), &profile, Start::Unknown);
         check_run(&rt, rt.alloc(), machine, run)?;
     }
+    Ok(())
+}
+
+#[test]
+fn machines_run_from_the_first_panel(rt: HostRuntime) -> Result<(), Fail> {
+    let profile = sample_a(rt.alloc())?;
     for run in FROM_THE_FIRST_PANEL {
         let machine = Machine::new(rt.alloc(), &profile, Start::At(profile.first_panel()));
         check_run(&rt, rt.alloc(), machine, run)?;
@@ -313,17 +337,11 @@ fn machines_run(rt: HostRuntime) -> Result<(), Fail> {
 }
 
 #[test]
-fn a_character_is_marked(rt: HostRuntime) -> Result<(), Fail> {
-    let items = items_of(rt.alloc(), b"\x1bEA ")?;
+fn machines_run_with_fonts(rt: HostRuntime) -> Result<(), Fail> {
     let profile = Sample::B.profile(rt.alloc())?;
-    let mut machine = Machine::new(rt.alloc(), &profile, Start::Unknown);
-    let mut sink = Recorder {
-        alloc: rt.alloc(),
-        room: 1,
-        mark: None,
-        page: None,
-    };
-    assert!(rt; step_all(&mut machine, &items, &mut sink)?.is_ok());
-    assert!(rt; is_character(&sink.mark, b'A'));
+    for run in WITH_FONTS {
+        let machine = Machine::new(rt.alloc(), &profile, Start::Unknown);
+        check_run(&rt, rt.alloc(), machine, run)?;
+    }
     Ok(())
 }

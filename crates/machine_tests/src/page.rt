@@ -329,17 +329,35 @@ fn whole(number: u16) -> Number {
 
 #[test]
 fn fields_of_one_value_are_known(rt: HostRuntime) -> Result<(), Fail> {
+    let profile = sample_a(rt.alloc())?;
+    let fields = user_defaults(&profile).fields;
+    assert!(rt;
+        matches!(
+            (fields.size, fields.vmi),
+            (Cell::FromPanel, Cell::Known(80_000))
+        )
+    );
+    Ok(())
+}
+
+#[test]
+fn a_size_of_the_panel_is_unset(rt: HostRuntime) -> Result<(), Fail> {
     let horizontal_move = items_of(rt.alloc(), b"\x1b*p300X")?;
     let profile = sample_a(rt.alloc())?;
-    let defaults = user_defaults(&profile);
-    let (size, vmi) = (defaults.fields.size, defaults.fields.vmi);
-    assert!(rt; matches!((size, vmi), (Cell::FromPanel, Cell::Known(80_000))));
-    let mut start = first_page(defaults);
+    let mut start = first_page(user_defaults(&profile));
     let unset = carry_out_all(&profile, &mut start, 1, &horizontal_move);
     assert!(rt; matches!(unset, Err(Unset(Field::Size))));
-    change_page(&defaults, &mut start, PageChange::Size(whole(26)));
-    let sized = page_end(&start);
-    change_page(&defaults, &mut start, PageChange::Orientation(whole(1)));
+    Ok(())
+}
+
+#[test]
+fn a_page_has_the_fields_that_were_set(rt: HostRuntime) -> Result<(), Fail> {
+    let profile = sample_a(rt.alloc())?;
+    let defaults = user_defaults(&profile);
+    let mut page = first_page(defaults);
+    change_page(&defaults, &mut page, PageChange::Size(whole(26)));
+    assert_eq!(rt; page_end(&page), Err(Field::Orientation));
+    change_page(&defaults, &mut page, PageChange::Orientation(whole(1)));
     let end = PageEnd {
         size: 26,
         orientation: 1,
@@ -347,9 +365,6 @@ fn fields_of_one_value_are_known(rt: HostRuntime) -> Result<(), Fail> {
         tray: 1,
         copies: 1,
     };
-    assert_eq!(rt;
-        (sized, page_end(&start)),
-        (Err(Field::Orientation), Ok(end))
-    );
+    assert_eq!(rt; page_end(&page), Ok(end));
     Ok(())
 }

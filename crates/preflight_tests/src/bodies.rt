@@ -9,6 +9,7 @@ use page_env::Finding::{
     RasterTooBig, RotatedRaster, StackEmpty, Unset,
 };
 use page_env::Resolution;
+use page_machine::OwnedEvent;
 use printers::Printer::{B, SomeCopies};
 use printers::{Printer, fleet_of};
 use sinks::{Comparer, Recorder};
@@ -82,6 +83,23 @@ const CALLED: &[u8] = b"\x1b&f1X\x1b&f3X\x0c";
 
 const OVERLAID: &[u8] = b"\x1b&f1X\x1b&f4X\x0c";
 
+/// Checks items as the body of a macro, with this end: they give these events.
+fn check_in_macro(
+    alloc: Global,
+    fleet: &[Profile],
+    (body, expected): Row,
+    end: &[u8],
+    events: &[OwnedEvent],
+) -> Result<(), Fail> {
+    let job = job_of(alloc, b"\x1bE\x1b&f0X", 1, body, end)?;
+    check_in_pieces(alloc, fleet, &job, expected)?;
+    let mut comparer = Comparer::new(events);
+    if run(alloc, &job, &mut comparer)? && !comparer.differs() {
+        return Ok(());
+    }
+    Err(Fail::new(format_args!("{body:?} with {end:?}")))
+}
+
 /// Checks items as they are written out and as the body of a macro, with each of these ends: they give the same events.
 fn check_body(
     rt: &impl Abort,
@@ -95,11 +113,7 @@ fn check_body(
     let mut recorder = Recorder::new(alloc);
     assert!(rt; run(alloc, &written, &mut recorder)?, "{body:?}");
     for end in ends {
-        let job = job_of(alloc, b"\x1bE\x1b&f0X", 1, body, end)?;
-        check_in_pieces(alloc, fleet, &job, expected)?;
-        let mut comparer = Comparer::new(recorder.events());
-        let goes = run(alloc, &job, &mut comparer)?;
-        assert!(rt; goes && !comparer.differs(), "{body:?} with {end:?}");
+        check_in_macro(alloc, fleet, (body, expected), end, recorder.events())?;
     }
     Ok(())
 }
@@ -420,18 +434,11 @@ fn check_returned(alloc: Global, rows: &[Returned]) -> Result<(), Fail> {
 }
 
 #[test]
-fn a_call_returns_fonts_and_margins(rt: HostRuntime) -> Result<(), Fail> {
-    check_returned(rt.alloc(), FONTS_AND_MARGINS)
-}
-
-#[test]
-fn a_call_returns_rectangles_and_rasters(rt: HostRuntime) -> Result<(), Fail> {
-    check_returned(rt.alloc(), RECTANGLES_AND_RASTERS)
-}
-
-#[test]
-fn a_call_returns_the_pen_and_the_frame(rt: HostRuntime) -> Result<(), Fail> {
-    check_returned(rt.alloc(), PENS_AND_FRAMES)
+fn a_call_returns_what_its_macro_set(rt: HostRuntime) -> Result<(), Fail> {
+    for rows in [FONTS_AND_MARGINS, RECTANGLES_AND_RASTERS, PENS_AND_FRAMES] {
+        check_returned(rt.alloc(), rows)?;
+    }
+    Ok(())
 }
 
 /// A square of a tenth of an inch at home, and one an inch from the left and an inch below the top margin.

@@ -4,12 +4,11 @@ use event_rows::{Worded, check_words};
 use job_items::job_of;
 use page_env::Finding::OutsideFrame;
 use pcl_items::Cause::{Syntax, Truncated};
-use preflight::{Watched, check_job};
 use printers::Printer::B;
 use printers::fleet_of;
 use std::test::Fail;
-use verdict_rows::Expected;
 use verdict_rows::Expected::{Fault, Found, Pass};
+use verdict_rows::{Expected, check_in_sizes};
 
 /// The lines of jobs by the moves of their pens, and the place of the cursor behind a frame.
 const LINES_BY_MOVES: &[Worded] = &[
@@ -296,25 +295,17 @@ fn frames_of_many_reads(rt: HostRuntime) -> Result<(), Fail> {
     let fleet = fleet_of(rt.alloc(), &[B])?;
     for (front, times, part, end, expected) in REPEATED {
         let job = job_of(rt.alloc(), front, *times, part, end)?;
-        let verdict = check_job(rt.alloc(), &mut Watched::new(job.as_slice()), &fleet)?;
-        assert_eq!(rt; verdict, expected.verdict(), "{times} times {part:?}");
+        check_in_sizes(rt.alloc(), &fleet, &job, *expected, &[])?;
     }
     Ok(())
 }
 
 #[test]
-fn lines_are_marked_by_the_moves_of_pens(rt: HostRuntime) -> Result<(), Fail> {
-    check_words(rt.alloc(), LINES_BY_MOVES, true)
-}
-
-#[test]
-fn lines_are_marked_by_their_frame(rt: HostRuntime) -> Result<(), Fail> {
-    check_words(rt.alloc(), LINES_BY_FRAMES, true)
-}
-
-#[test]
-fn marks_between_frames(rt: HostRuntime) -> Result<(), Fail> {
-    check_words(rt.alloc(), MARKS_BETWEEN_FRAMES, true)
+fn lines_are_marked(rt: HostRuntime) -> Result<(), Fail> {
+    for rows in [LINES_BY_MOVES, LINES_BY_FRAMES, MARKS_BETWEEN_FRAMES] {
+        check_words(rt.alloc(), rows, true)?;
+    }
+    Ok(())
 }
 
 #[test]

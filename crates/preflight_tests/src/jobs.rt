@@ -1,15 +1,13 @@
 //! Jobs that repeat a part, and jobs of many reads.
 
 use device_profile::Field;
-use fakes::FailingSource;
 use job_items::job_of;
 use page_env::Finding::{NoPen, OffPage, StackFull, Unset};
-use preflight::{Watched, check_job};
 use printers::Printer::{A, B, C};
 use printers::{Printer, fleet_of};
 use std::test::Fail;
 use verdict_rows::Expected::{Found, Pass};
-use verdict_rows::{Expected, check_in_pieces};
+use verdict_rows::{Expected, check_in_pieces, check_in_sizes};
 
 /// A page with one rectangle, whose size and orientation the job sets.
 pub const PAGE: &[u8] = b"\x1bE\x1b&l2a0O\x1b*p300x300Y\x1b*c100a50b0P\x0c";
@@ -66,10 +64,7 @@ const FRONT: &[u8] = b"\x1bE\x1b&l2a0O\x1b*p300x300Y\x1b*c100a50B";
 fn a_job_of_many_reads(rt: HostRuntime) -> Result<(), Fail> {
     let fleet = fleet_of(rt.alloc(), &[A])?;
     let job = job_of(rt.alloc(), FRONT, 3000, b"\x1b*c0P", b"")?;
-    let mut source = Watched::new(job.as_slice());
-    let verdict = check_job(rt.alloc(), &mut source, &fleet)?;
-    assert_eq!(rt; verdict, Pass(1, 3000).verdict());
-    Ok(())
+    check_in_sizes(rt.alloc(), &fleet, &job, Pass(1, 3000), &[])
 }
 
 /// More white space within a command of a frame than the bytes that a lexer holds.
@@ -77,13 +72,5 @@ fn a_job_of_many_reads(rt: HostRuntime) -> Result<(), Fail> {
 fn a_command_of_many_reads(rt: HostRuntime) -> Result<(), Fail> {
     let fleet = fleet_of(rt.alloc(), &[B])?;
     let job = job_of(rt.alloc(), b"\x1b%0BPU1,", 40_000, b" ", b"2PD")?;
-    let expected = Ok(Found(40_009, NoPen).verdict());
-    let whole = check_job(rt.alloc(), &mut Watched::new(job.as_slice()), &fleet);
-    let bytes = check_job(
-        rt.alloc(),
-        &mut FailingSource::new(job.as_slice(), u64::MAX),
-        &fleet,
-    );
-    assert_eq!(rt; (whole, bytes), (expected, expected));
-    Ok(())
+    check_in_sizes(rt.alloc(), &fleet, &job, Found(40_009, NoPen), &[])
 }

@@ -165,22 +165,26 @@ fn the_longest_data_are_listed(rt: HostRuntime) -> Result<(), Fail> {
     Ok(())
 }
 
-/// The places of a job of many reads.
+/// Checks that these are the lines of 12000 characters, one behind another.
+fn check_places(alloc: Global, mut lines: &[u8]) -> Result<(), Fail> {
+    for place in 0..12_000 {
+        let line = format!(in alloc; "{place} A\n")?;
+        let Some(rest) = lines.strip_prefix(line.as_bytes()) else {
+            return Err(Fail::new(format_args!("no line of place {place}")));
+        };
+        lines = rest;
+    }
+    match lines {
+        [] => Ok(()),
+        _ => Err(Fail::new("more lines")),
+    }
+}
+
 #[test]
 fn a_job_of_many_reads_is_listed(rt: HostRuntime) -> Result<(), Fail> {
     let job = job_of(rt.alloc(), b"", 12_000, b"A", b"")?;
     let mut outlet = Watched::new(Vec::new(rt.alloc()));
     let answer = list_job(rt.alloc(), &mut Watched::new(job.as_slice()), &mut outlet);
     assert_eq!(rt; answer, Ok(Outcome::Done));
-    let mut lines = outlet.get_ref().as_slice();
-    for place in 0..12_000 {
-        let line = format!(in rt.alloc(); "{place} A\n")?;
-        let Some(rest) = lines.strip_prefix(line.as_bytes()) else {
-            assert!(rt; false, "no line of place {place}");
-            return Ok(());
-        };
-        lines = rest;
-    }
-    assert!(rt; lines.is_empty());
-    Ok(())
+    check_places(rt.alloc(), outlet.get_ref().as_slice())
 }

@@ -104,24 +104,34 @@ fn go_with(
     let Err(stop) = step_all(&mut machine, items, &mut counts)? else {
         return Ok(true);
     };
-    assert!(rt; matches!(stop, Stop::Memory(_)), "{requests} requests");
     let end = machine.finish(DEFINITION.len() as u64, &mut counts);
-    assert!(rt; matches!(end, Err(Stop::Stopped)), "{requests} requests");
+    let is_stopped = matches!((stop, end), (Stop::Memory(_), Err(Stop::Stopped)));
+    assert!(rt; is_stopped, "{requests} requests");
     Ok(false)
+}
+
+/// How many requests for memory a machine makes, each of which was refused in turn.
+fn requests_to_go(
+    rt: &impl Abort,
+    alloc: Global,
+    profile: &Profile,
+    items: &[(Place, OwnedItem)],
+) -> Result<u64, Fail> {
+    for requests in 0..1000 {
+        if go_with(rt, alloc, profile, items, requests)? {
+            return Ok(requests);
+        }
+    }
+    Err(Fail::new("more than 1000 requests"))
 }
 
 #[test]
 fn a_machine_stops_where_memory_is_refused(rt: HostRuntime) -> Result<(), Fail> {
     let profile = Sample::B.profile(rt.alloc())?;
     let items = items_of(rt.alloc(), DEFINITION)?;
-    for requests in 0..1000 {
-        if go_with(&rt, rt.alloc(), &profile, &items, requests)? {
-            // For the entry of the macro, and for its items.
-            assert!(rt; requests >= 2, "{requests} requests");
-            return Ok(());
-        }
-    }
-    assert!(rt; false, "more than 1000 requests");
+    let requests = requests_to_go(&rt, rt.alloc(), &profile, &items)?;
+    // For the entry of the macro, and for its items.
+    assert!(rt; requests >= 2);
     Ok(())
 }
 
@@ -139,10 +149,11 @@ fn counts_of(
     let heap = Refusing::new(alloc, 1000);
     let mut machine = Machine::new(&heap, profile, Start::Unknown);
     let mut counts = Counts::none();
-    assert!(rt; step_all(&mut machine, definition, &mut counts)?.is_ok());
+    let is_defined = step_all(&mut machine, definition, &mut counts)?.is_ok();
     let left = heap.left();
-    assert!(rt; step_all(&mut machine, runs, &mut counts)?.is_ok());
-    assert!(rt; machine.finish(99, &mut counts).is_ok());
+    let is_run = step_all(&mut machine, runs, &mut counts)?.is_ok();
+    let is_ended = machine.finish(99, &mut counts).is_ok();
+    assert!(rt; is_defined && is_run && is_ended);
     assert!(rt; left < 1000 && heap.left() == left);
     Ok(counts)
 }

@@ -1,25 +1,17 @@
 //! The rows that rasters mark.
 
-use device_profile::Sample;
-use event_rows::step_all;
-use job_items::items_of;
+use event_rows::run;
 use page_env::Resolution;
-use page_machine::{Machine, MarkSink, OwnedEvent, OwnedMark, Start};
+use page_machine::{OwnedEvent, OwnedMark};
 use refusing::Refusing;
 use sinks::{Comparer, Recorder};
-use std::alloc::Global;
 use std::test::Fail;
 
-/// Hands what a job marks to a sink, up to its first refusal.
-fn run<S: MarkSink<Fault: Drop>>(alloc: Global, job: &[u8], sink: &mut S) -> Result<bool, Fail> {
-    let items = items_of(alloc, job)?;
-    let profile = Sample::B.profile(alloc)?;
-    let mut machine = Machine::new(alloc, &profile, Start::Unknown);
-    Ok(step_all(&mut machine, &items, sink)?.is_ok())
-}
+/// A row: its resolution, place in ticks and bytes.
+type Row = (Resolution, i64, i64, &'static [u8]);
 
-/// A job that marks one row, and the row: its resolution, place in ticks and bytes.
-type Marked = (&'static [u8], (Resolution, i64, i64, &'static [u8]));
+/// A job that marks one row, and the row.
+type Marked = (&'static [u8], Row);
 
 const MARKED: &[Marked] = &[
     (
@@ -48,18 +40,23 @@ const MARKED: &[Marked] = &[
     ),
 ];
 
+/// Whether one page has this row, and no other mark.
+fn is_row(events: &[OwnedEvent], wanted: Row) -> bool {
+    match events {
+        [
+            OwnedEvent::Marked(OwnedMark::Row(row)),
+            OwnedEvent::Ended(_),
+        ] => { (row.resolution, row.x.ticks(), row.y.ticks(), &row.bytes[..]) == wanted }
+        _ => false,
+    }
+}
+
 #[test]
 fn rows_are_marked(rt: HostRuntime) -> Result<(), Fail> {
     for (job, wanted) in MARKED {
         let mut recorder = Recorder::new(rt.alloc());
         assert!(rt; run(rt.alloc(), job, &mut recorder)?);
-        match recorder.events() {
-            [OwnedEvent::Marked(OwnedMark::Row(row))] => {
-                let place = (row.resolution, row.x.ticks(), row.y.ticks(), &row.bytes[..]);
-                assert!(rt; place == *wanted, "{job:?}");
-            }
-            _ => assert!(rt; false, "{job:?}"),
-        }
+        assert!(rt; is_row(recorder.events(), *wanted), "{job:?}");
     }
     Ok(())
 }
@@ -107,11 +104,11 @@ fn rows_are_told_from_others(rt: HostRuntime) -> Result<(), Fail> {
 #[test]
 fn a_row_is_kept_in_memory(rt: HostRuntime) -> Result<(), Fail> {
     // Room for its bytes, and for the list of events.
-    for (requests, kept) in [(0, 0), (1, 0), (2, 1)] {
+    for (requests, kept) in [(0, 0), (1, 0), (2, 2)] {
         let heap = Refusing::new(rt.alloc(), requests);
         let mut recorder = Recorder::new(&heap);
         let is_kept = run(rt.alloc(), ROW, &mut recorder)?;
-        assert!(rt; is_kept == (kept == 1) && recorder.events().len() == kept);
+        assert!(rt; is_kept == (kept == 2) && recorder.events().len() == kept);
     }
     Ok(())
 }

@@ -34,16 +34,28 @@ fn may_end_so(verdict: &Verdict, len: u64) -> bool {
         }
 }
 
-/// Each front of the five jobs passes, or is cut within an item, in a frame or in a definition.
+/// A front of a job passes, or is cut within an item, in a frame or in a definition, however its bytes come.
+fn check_front(
+    rt: &impl Abort,
+    alloc: Global,
+    fleet: &[Profile],
+    front: &[u8],
+) -> Result<(), Error> {
+    let len = front.len() as u64;
+    let whole = check_job(alloc, &mut Watched::new(front), fleet)?;
+    let by_bytes = feed_pieces(alloc, fleet, front, 1)?;
+    assert!(rt;
+        may_end_so(&whole, len) && by_bytes == whole,
+        "{len} bytes: {whole:?}, byte by byte {by_bytes:?}"
+    );
+    Ok(())
+}
+
 #[test]
 fn fronts_of_five_jobs(rt: HostRuntime) -> Result<(), Fail> {
     let fleet = fleet_of(rt.alloc(), &[B])?;
     for len in 0..=FIVE_JOBS.len() {
-        let front = &FIVE_JOBS[..len];
-        let whole = check_job(rt.alloc(), &mut Watched::new(front), &fleet)?;
-        assert!(rt; may_end_so(&whole, len as u64), "{len} bytes: {whole:?}");
-        let by_bytes = feed_pieces(rt.alloc(), &fleet, front, 1);
-        assert_eq!(rt; by_bytes, Ok(whole), "{len} bytes");
+        check_front(&rt, rt.alloc(), &fleet, &FIVE_JOBS[..len])?;
     }
     Ok(())
 }
@@ -77,21 +89,25 @@ fn verdict_with(
     more: &[u8],
 ) -> Result<Verdict, Error> {
     let mut session = Session::new(alloc, fleet)?;
-    session.feed(job)?;
-    session.feed(more)?;
-    session.feed(more)?;
+    for piece in [job, more, more] {
+        session.feed(piece)?;
+    }
     session.end()
+}
+
+fn check_fails(rt: &impl Abort, alloc: Global, fleet: &[Profile], more: &[u8]) {
+    for (job, expected) in FAILS {
+        let answer = verdict_with(alloc, fleet, job, more);
+        assert_eq!(rt; answer, Ok(expected.verdict()), "{job:?}");
+    }
 }
 
 #[test]
 fn pieces_behind_a_fail_change_nothing(rt: HostRuntime) -> Result<(), Fail> {
     let fleet = fleet_of(rt.alloc(), &[B, D])?;
     let long = job_of(rt.alloc(), b"", 5000, b"\x1bE", b"\x1b)")?;
-    for (job, expected) in FAILS {
-        for more in [b"".as_slice(), b"\x1bE\x0c", b"\x1b)", long.as_slice()] {
-            let answer = verdict_with(rt.alloc(), &fleet, job, more);
-            assert_eq!(rt; answer, Ok(expected.verdict()), "{job:?}");
-        }
+    for more in [b"".as_slice(), b"\x1bE\x0c", b"\x1b)", long.as_slice()] {
+        check_fails(&rt, rt.alloc(), &fleet, more);
     }
     Ok(())
 }
@@ -121,19 +137,30 @@ fn session_of<A: Allocator + Copy>(
     answer
 }
 
+/// What a session answers where not each request for memory is granted, and how many it makes; each was refused in turn.
+fn with_requests(
+    rt: &impl Abort,
+    alloc: Global,
+    fleet: &[Profile],
+) -> (Result<Verdict, Error>, u64) {
+    for requests in 0..1000 {
+        let heap = Refusing::new(alloc, requests);
+        let answer = session_of(rt, &heap, fleet);
+        if answer != Err(Error::Memory) {
+            return (answer, requests);
+        }
+    }
+    (Err(Error::Memory), 1000)
+}
+
 #[test]
 fn each_request_of_a_session_is_refused_in_turn(rt: HostRuntime) -> Result<(), Fail> {
     let fleet = fleet_of(rt.alloc(), &[B, B])?;
-    for requests in 0..1000 {
-        let heap = Refusing::new(rt.alloc(), requests);
-        let answer = session_of(&rt, &heap, &fleet);
-        if answer != Err(Error::Memory) {
-            assert_eq!(rt; answer, Ok(Pass(5, 7).verdict()));
-            // For the lexer's window, the machines of the second printer, the record of events, and both macros.
-            assert!(rt; requests >= 7, "{requests} requests");
-            return Ok(());
-        }
-    }
-    assert!(rt; false, "more than 1000 requests");
+    let (answer, requests) = with_requests(&rt, rt.alloc(), &fleet);
+    // For the lexer's window, the machines of the second printer, the record of events, and both macros.
+    assert!(rt;
+        answer == Ok(Pass(5, 7).verdict()) && requests >= 7,
+        "{requests} requests"
+    );
     Ok(())
 }

@@ -9,6 +9,7 @@ use page_env::Finding::Unset;
 use preflight::{Error, Outlet, Source, Verdict, Watched, check_job, write_text};
 use printers::{Printer, fleet_of};
 use std::alloc::Global;
+use std::process::Abort;
 use std::test::Fail;
 use verdict_rows::Expected;
 use verdict_rows::Expected::{Differs, Found, Pass};
@@ -52,16 +53,30 @@ fn check_reads(
     (answer, job.has_failed())
 }
 
+/// Checks a job with each number of reads up to this one, which is the first with which no read fails.
+fn check_each_read(
+    rt: &impl Abort,
+    alloc: Global,
+    fleet: &[Profile],
+    bytes: &[u8],
+    (enough, expected): (u64, Expected),
+) {
+    for reads in 0..=enough {
+        let wanted = if reads < enough {
+            (Err(Error::Read), true)
+        } else {
+            (Ok(expected.verdict()), false)
+        };
+        let answer = check_reads(alloc, fleet, bytes, reads);
+        assert_eq!(rt; answer, wanted, "{bytes:?} at {reads}");
+    }
+}
+
 #[test]
 fn each_read_fails_in_turn(rt: HostRuntime) -> Result<(), Fail> {
     for (printers, bytes, enough, expected) in READS {
         let fleet = fleet_of(rt.alloc(), printers)?;
-        for reads in 0..*enough {
-            let answer = check_reads(rt.alloc(), &fleet, bytes, reads);
-            assert_eq!(rt; answer, (Err(Error::Read), true), "{bytes:?} at {reads}");
-        }
-        let answer = check_reads(rt.alloc(), &fleet, bytes, *enough);
-        assert_eq!(rt; answer, (Ok(expected.verdict()), false), "{bytes:?}");
+        check_each_read(&rt, rt.alloc(), &fleet, bytes, (*enough, *expected));
     }
     Ok(())
 }

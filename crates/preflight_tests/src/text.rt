@@ -2,12 +2,11 @@
 
 use job_items::job_of;
 use page_env::Finding::OffPage;
-use preflight::{Watched, check_job};
 use printers::Printer::B;
 use printers::fleet_of;
 use std::test::Fail;
 use verdict_rows::Expected::{Found, Pass};
-use verdict_rows::{Expected, check_in_pieces};
+use verdict_rows::{Expected, check_in_pieces, verdict_on};
 
 /// So many times a part behind a reset.
 const REPEATED: &[(u32, &[u8], Expected)] = &[
@@ -33,7 +32,7 @@ fn pages_of_text(rt: HostRuntime) -> Result<(), Fail> {
     let line = [b'A'; 80];
     let part = job_of(rt.alloc(), &line, 1, b"\r\n", b"")?;
     let job = job_of(rt.alloc(), b"\x1bE", 10_000, &part, b"")?;
-    let verdict = check_job(rt.alloc(), &mut Watched::new(job.as_slice()), &fleet);
-    assert_eq!(rt; verdict, Ok(Pass(167, 800_000).verdict()));
+    let verdict = verdict_on(rt.alloc(), &fleet, &job);
+    assert!(rt; verdict == Ok(Pass(167, 800_000).verdict()));
     Ok(())
 }
