@@ -84,21 +84,26 @@ const HELP: &[&str] = &[
     "@D  ",
 ];
 
+/// Whether a text has all of these parts, and has no bytes where there are none.
+fn has_parts(text: &[u8], parts: &[&str]) -> bool {
+    let text = str::from_utf8(text).unwrap_or("");
+    let mut has = text.is_empty() == parts.is_empty();
+    for part in parts {
+        has = has && text.contains(*part);
+    }
+    has
+}
+
 fn check_ended(rt: &impl Abort, alloc: Global, rows: &[Ended]) -> Result<(), Fail> {
-    for (words, status, parts) in rows {
-        let words = strings(alloc, words)?;
+    for (asked, status, parts) in rows {
+        let words = strings(alloc, asked)?;
         let mut stdout = Watched::new(Vec::new(alloc));
         let mut stderr = Watched::new(Vec::new(alloc));
-        match read_words(alloc, words.as_slice(), &mut stdout, &mut stderr) {
-            Ok(_) => assert!(rt; false),
-            Err(answer) => assert_eq!(rt; answer, *status),
-        }
-        let text = str::from_utf8(stdout.get_ref().as_slice()).unwrap_or("");
-        for part in *parts {
-            assert!(rt; text.contains(*part));
-        }
-        assert_eq!(rt; text.is_empty(), parts.is_empty());
-        assert_eq!(rt; stderr.get_ref().is_empty(), *status == Status::Help);
+        let answer = read_words(alloc, words.as_slice(), &mut stdout, &mut stderr).err();
+        assert_eq!(rt; answer, Some(*status), "{asked:?}");
+        let is_help = has_parts(stdout.get_ref().as_slice(), parts);
+        let is_told = stderr.get_ref().is_empty() == (*status == Status::Help);
+        assert!(rt; is_help && is_told, "{asked:?}");
     }
     Ok(())
 }
