@@ -75,8 +75,11 @@ impl<A: Allocator + Copy> Recorder<A> {
     pub fn clear(&mut self)
         ensures { self.new ≡ record self.old { events = [] } }
     {
-        if let Some(OwnedEvent::Marked(OwnedMark::Row(_))) = self.events.last() {
-            self.keep_room();
+        match self.events.last() {
+            // Most items leave no event.
+            None => return,
+            Some(OwnedEvent::Marked(OwnedMark::Row(_))) => self.keep_room(),
+            Some(_) => {}
         }
         self.events.clear();
     }
