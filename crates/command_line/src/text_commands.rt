@@ -53,7 +53,8 @@ fn required<'a>(alloc: Global, name: &'a str, help: &'a str) -> Arg<'a> {
         .help(help)
 }
 
-fn job<'a>(alloc: Global) -> Arg<'a> {
+/// The word JOB, which each command but `explain` takes.
+pub fn job<'a>(alloc: Global) -> Arg<'a> {
     required(alloc, "JOB", "The path of the print job")
 }
 

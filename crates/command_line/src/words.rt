@@ -2,7 +2,7 @@
 ghost use Rattle.std.specs.Prelude.{◌≡◌, IsFalse, OnOk, IfOk, IfErr, IfSome};
 ghost use Rattle.command_line.specs.Words.{IsEndOfWords, NamesSome};
 
-use crate::text_commands::{list_command, pages_command, plain_command, text_request};
+use crate::text_commands::{job, list_command, pages_command, plain_command, text_request};
 use clap::error::ErrorKind;
 use clap::{Arg, ArgAction, ArgMatches, Command};
 use preflight::{Error, Outlet, write_text};
@@ -60,12 +60,8 @@ Exit status:
   2  usage error, or a profile that is refused
   3  a read or a write failed, memory ran out, or no end after 2^40 reads";
 
-/// The command line of the program.
-fn command<'a>(alloc: Global) -> Result<Command<'a>, AllocError> {
-    let job = Arg::new(alloc, "JOB")
-        .required(true)
-        .action(ArgAction::Set)
-        .help("The path of the print job");
+/// The words of the command `check`.
+fn check_command<'a>(alloc: Global) -> Result<Command<'a>, AllocError> {
     let profiles = Arg::new(alloc, "PROFILE")
         .required(true)
         .num_args(1..)
@@ -73,27 +69,35 @@ fn command<'a>(alloc: Global) -> Result<Command<'a>, AllocError> {
         .help(
             "The printers: each is the path of a profile, or @A, @B, @C or @D for a built-in sample",
         );
-    let check = Command::new(alloc, "check")
+    Command::new(alloc, "check")
         .about("Checks a job for a fleet of printers, and writes one line: PASS or FAIL")
         .after_help(EXPLANATION)
-        .arg(job)?
-        .arg(profiles)?;
+        .arg(job(alloc))?
+        .arg(profiles)
+}
+
+/// The words of the command `explain`.
+fn explain_command<'a>(alloc: Global) -> Result<Command<'a>, AllocError> {
     let code = Arg::new(alloc, "CODE").action(ArgAction::Set).help(
         "The fault or finding, by its number or its name; without it, all",
     );
-    let explain = Command::new(alloc, "explain")
+    Command::new(alloc, "explain")
         .about("Tells when a fault or finding comes, and what to change in the job or the profile")
-        .arg(code)?;
+        .arg(code)
+}
+
+/// The command line of the program.
+fn command<'a>(alloc: Global) -> Result<Command<'a>, AllocError> {
     Command::new(alloc, "pclcheck")
         .version(VERSION)
         .about("A preflight checker for PCL 5 print jobs")
         .after_help(EXPLANATION)
         .subcommand_required(true)
-        .subcommand(check)?
+        .subcommand(check_command(alloc)?)?
         .subcommand(list_command(alloc)?)?
         .subcommand(pages_command(alloc)?)?
         .subcommand(plain_command(alloc)?)?
-        .subcommand(explain)
+        .subcommand(explain_command(alloc)?)
 }
 
 /// What the words ask for; the first is the program's own name. Where they ask for help or for the
