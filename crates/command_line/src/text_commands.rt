@@ -27,6 +27,12 @@ const PAGES_EXPLANATION: &str =
   page N size=N orientation=N sides=N tray=N copies=N
   FAIL at=N profile=N FINDING    the last line, where the job fails
 
+  SET       the symbol set, as ESC ( names it
+  PITCH     in characters an inch, and HEIGHT in points
+  Y         of a glyph: where its baseline lies
+  FILL      0 black, 1 white, 2 a shade of ID percent, 3 the pattern ID
+  HEX       the bytes of a row of RESOLUTION pixels an inch, eight pixels each; a set bit is black
+
 Exit status:
   0  the job is printed to its end, or help was asked for
   1  the job fails, as the last line tells
@@ -34,8 +40,8 @@ Exit status:
   3  a read or a write failed, memory ran out, or no end after 2^40 reads";
 
 const PLAIN_EXPLANATION: &str =
-    "OUT is created once JOB is open; what it held before is lost. Jobs that differ in spelling alone give
-the same bytes.
+    "OUT is created once JOB is open; what it held before is lost. So JOB and OUT have to be different
+files. Jobs that differ in spelling alone give the same bytes.
 
 Output, where the bytes are wrong; OUT then has the items before that place:
   FAIL at=N profile=0 FINDING

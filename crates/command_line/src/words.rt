@@ -48,6 +48,12 @@ const EXPLANATION: &str = "Output of check, one line:
   profile=  the printer's number among the words, from 1;
             0: the bytes themselves are wrong, whatever the printer
 
+On standard error, where there is no verdict:
+  ERROR profile N LINE CAUSE  the text of printer N is refused at this line, or as a whole with line 0;
+                              CAUSE is Version, Unknown, Repeated, Range, Missing or NoGeometry
+  ERROR read                  the job or a profile could not be read
+  ERROR write, memory, turns  a write failed, memory ran out, or no end after 2^40 reads
+
 Samples, small made-up printers for trying out:
   @A  letter and A4, portrait and landscape, chosen at its panel
   @B  letter, portrait
@@ -76,6 +82,14 @@ fn check_command<'a>(alloc: Global) -> Result<Command<'a>, AllocError> {
         .arg(profiles)
 }
 
+const EXPLAIN_EXPLANATION: &str =
+    "CODE is a number, or a name without what stands behind it in brackets, in any letter case.
+
+Exit status:
+  0  an explanation was written, or help was asked for
+  2  usage error, or no fault and no finding has this code
+  3  a write failed, or memory ran out";
+
 /// The words of the command `explain`.
 fn explain_command<'a>(alloc: Global) -> Result<Command<'a>, AllocError> {
     let code = Arg::new(alloc, "CODE").action(ArgAction::Set).help(
@@ -83,6 +97,7 @@ fn explain_command<'a>(alloc: Global) -> Result<Command<'a>, AllocError> {
     );
     Command::new(alloc, "explain")
         .about("Tells when a fault or finding comes, and what to change in the job or the profile")
+        .after_help(EXPLAIN_EXPLANATION)
         .arg(code)
 }
 

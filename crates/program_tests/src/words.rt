@@ -37,6 +37,11 @@ const HELPS: &[Ended] = &[
         Status::Help,
         &["JOB", "OUT"],
     ),
+    (
+        &["pclcheck", "explain", "--help"],
+        Status::Help,
+        &["CODE", "0  an explanation"],
+    ),
 ];
 
 /// Words that name no subcommand, and words that are wrong for a check.
@@ -78,6 +83,7 @@ const HELP: &[&str] = &[
     "3  a read",
     "at=   ",
     "profile=  ",
+    "ERROR profile N LINE CAUSE",
     "@A  ",
     "@B  ",
     "@C  ",

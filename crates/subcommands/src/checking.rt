@@ -1,4 +1,4 @@
-//! The program's commands.
+//! The command `check`.
 ghost use Rattle.std.specs.Prelude.{◌≡◌, ◌≢◌, ◌+◌, ◌^◌, [], ◌||◌, length, map, IfOk, IfErr, IsErrOf, IsFalse, IsTrue};
 ghost use Rattle.preflight.specs.Outlet.{Adds, Writes, is_err_of_write};
 ghost use Rattle.preflight.specs.Source.{is_err_of_read};

@@ -202,8 +202,8 @@ pub const EXPLANATIONS: [&str; 31] = [
 22 MacroMemory
   When:    An item of a definition would take all that is stored past the macro
            memory of the printer's profile. Items count as many bytes as their
-           shortest spelling alone, a command of a combined sequence with its
-           ESC and its group.
+           one spelling has, which 'pclcheck list' shows: a command of a
+           combined sequence counts with its ESC and its group.
   Change:  Make the macros shorter, or delete by ESC &f8X those that are not
            needed any more. If the printer does have more, correct memory in
            its profile.

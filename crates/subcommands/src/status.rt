@@ -14,11 +14,11 @@ use std::alloc::AllocFailed;
 /// How the program ends.
 #[derive(Clone, Copy, Debug, PartialEq, Eq)]
 pub enum Status {
-    /// The job passes.
+    /// The job passes, or all of its text was written.
     Pass,
-    /// The job fails.
+    /// The job fails, or its text ends with the line of a failure.
     Fail,
-    /// Help or the version was asked for.
+    /// Help, the version or an explanation was written.
     Help,
     /// The words ask for nothing that there is.
     Words,
