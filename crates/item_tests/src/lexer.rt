@@ -110,6 +110,26 @@ pub type Reading = (
 
 /// Jobs of the command language.
 const JOBS: &[Reading] = &[
+    // A macro that is called, and what comes behind it.
+    (
+        b"\x1bE\x1b&f1y0X\x1b&l16C\x1b*p600x300Y\x1b&f1X\x1b&f1y3X\n\x1b*c30a30b0P",
+        &[
+            (0, Wanted::Reset),
+            (2, Wanted::Sent(Command::MacroId, PLAIN, 1)),
+            (7, Wanted::Sent(Command::MacroControl, PLAIN, 0)),
+            (9, Wanted::Sent(Command::VerticalMotionIndex, PLAIN, 16)),
+            (15, Wanted::Sent(Command::HorizontalUnits, PLAIN, 600)),
+            (22, Wanted::Sent(Command::VerticalUnits, PLAIN, 300)),
+            (26, Wanted::Sent(Command::MacroControl, PLAIN, 1)),
+            (31, Wanted::Sent(Command::MacroId, PLAIN, 1)),
+            (36, Wanted::Sent(Command::MacroControl, PLAIN, 3)),
+            (38, Wanted::LineFeed),
+            (39, Wanted::Sent(Command::RectangleWidth, PLAIN, 30)),
+            (45, Wanted::Sent(Command::RectangleHeight, PLAIN, 30)),
+            (48, Wanted::Sent(Command::FillRectangle, PLAIN, 0)),
+        ],
+        None,
+    ),
     (
         b"\x1bE\x1b&l2a66P",
         &[(0, Wanted::Reset), (2, LETTER)],
