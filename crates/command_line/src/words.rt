@@ -139,10 +139,25 @@ pub fn read_words<'a, O: Outlet, E: Outlet>(
         Ok(matches) => matches,
         Err(error) => return Err(refuse(alloc, &error, stdout, stderr)),
     };
-    match request_of(alloc, &matches) {
-        Ok(Some(request)) => Ok(request),
-        Ok(None) => Err(Status::Words),
-        Err(_) => Err(tell(Status::Stopped(Error::Memory), stderr)),
+    let request = match request_of(alloc, &matches) {
+        Ok(Some(request)) => request,
+        Ok(None) => return Err(Status::Words),
+        Err(_) => return Err(tell(Status::Stopped(Error::Memory), stderr)),
+    };
+    if !writes_its_job(&request) {
+        return Ok(request);
+    }
+    match write_text(stderr, b"error: OUT is JOB itself, which would be lost\n") {
+        Ok(()) => Err(Status::Words),
+        Err(_) => Err(Status::Stopped(Error::Write)),
+    }
+}
+
+/// Whether a request would write to the path that it reads its job from.
+fn writes_its_job(request: &Request<'_>) -> bool {
+    match request {
+        Request::Plain { job, out } => job == out,
+        _ => false,
     }
 }
 

@@ -70,6 +70,11 @@ const WRONG_FOR_TEXTS: &[Ended] = &[
     ),
     (&["pclcheck", "plain", "job.pcl"], Status::Words, &[]),
     (
+        &["pclcheck", "plain", "job.pcl", "job.pcl"],
+        Status::Words,
+        &[],
+    ),
+    (
         &["pclcheck", "plain", "job.pcl", "out.pcl", "@A"],
         Status::Words,
         &[],
