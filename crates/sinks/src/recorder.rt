@@ -75,11 +75,8 @@ impl<A: Allocator + Copy> Recorder<A> {
     pub fn clear(&mut self)
         ensures { self.new ≡ record self.old { events = [] } }
     {
-        match self.events.last() {
-            // Most items leave no event.
-            None => return,
-            Some(OwnedEvent::Marked(OwnedMark::Row(_))) => self.keep_room(),
-            Some(_) => {}
+        if let Some(OwnedEvent::Marked(OwnedMark::Row(_))) = self.events.last() {
+            self.keep_room();
         }
         self.events.clear();
     }
