@@ -26,7 +26,7 @@ pub enum ProfileFault {
     /// The text is wrong at a line, counted from 1, or as a whole, with line 0.
     #[error("line {line} of the profile: {cause:?}")]
     Fault { line: u64, cause: Cause },
-    /// Memory was wanted.
+    /// The allocator refused a request.
     #[error("out of memory")]
     Memory,
 }
@@ -47,7 +47,7 @@ impl From<AllocError> for ProfileFault {
 pub(crate) enum LineFault {
     /// The line is wrong.
     Wrong(Cause),
-    /// Memory was wanted.
+    /// The allocator refused a request.
     Memory,
 }
 

@@ -11,7 +11,7 @@ use tick_length::Length;
 pub struct SymbolSet {
     /// The number, in ten-thousandths.
     pub number: u32,
-    /// The termination character, from `A` to `Z`.
+    /// The termination character, from `A` to `Z` but for `X`.
     pub letter: u8,
 }
 

@@ -87,7 +87,7 @@ impl<A: Allocator> Profile<A> {
         rows::has_orientation(self.geometries.as_slice(), orientation)
     }
 
-    /// The face of an id.
+    /// The face of an id, or None where no face has it.
     #[tactic(auto, unfolding(crate::specs::Faces::face_at))]
     pub fn face(&self, id: u32) -> Option<&FontRow<A>>
         ensures face { option_copied result ≡ face_at self.now.faces id }
@@ -98,7 +98,7 @@ impl<A: Allocator> Profile<A> {
         self.faces.iter().find(|face| face.id() == id)
     }
 
-    /// The face that a request selects: the one of these seven parts.
+    /// The face that a request selects: the one of these seven parts, or None where no face has them all.
     #[tactic(auto, unfolding(crate::specs::Faces::face_for))]
     pub fn font(&self, request: &FontRequest) -> Option<&FontRow<A>>
         ensures face { option_copied result ≡ face_for self.now.faces request.now }
@@ -143,14 +143,14 @@ impl<A: Allocator> Profile<A> {
         }
     }
 
-    /// How many levels of macros may run, one within the other.
+    /// How many levels of macros may run, one within the other: 0 to 8. (The manual's "Macros".)
     pub fn depth(&self) -> u32
         ensures { result ≡ self.now.depth }
     {
         self.depth
     }
 
-    /// How many bytes the macros may have together.
+    /// How many bytes the macros may have together, each item in its one spelling: 0 to 1,048,576.
     pub fn memory(&self) -> u32
         ensures { result ≡ self.now.memory }
     {

@@ -1,4 +1,4 @@
-//! Cursor positioning and the cursor stack.
+//! Cursor positioning and the cursor stack (the manual's "Cursor Positioning").
 #![tactic(auto, unfolding(crate::specs::Answers::Marks))]
 
 ghost use Rattle.std.specs.Prelude.{cond, Some, []};

@@ -1,4 +1,4 @@
-//! HP-GL/2 frames: the picture frame, and where it is entered and left.
+//! HP-GL/2 frames: the picture frame, and where it is entered and left (the manual's "The Picture Frame").
 #![tactic(auto, unfolding(crate::specs::Answers::Marks))]
 
 ghost use Rattle.std.specs.Prelude.{◌≡◌, ◌+◌, ◌^◌, ◌+ℤ◌, ◌-ℤ◌, cond, Some, None};

@@ -1,4 +1,4 @@
-//! The pen of an HP-GL/2 frame.
+//! The pen of an HP-GL/2 frame (the manual's "The Vector Group" and "The Line and Fill Attributes Group").
 #![tactic(auto, unfolding(crate::specs::Answers::Marks))]
 
 ghost use Rattle.std.specs.Prelude.{◌≡◌, ◌≤◌, ◌+◌, ◌*◌, ◌^◌, pos, cond, ◌&&◌, ◌+ℤ◌, ◌-ℤ◌, Some, None, MatchResult};
@@ -366,7 +366,7 @@ fn lower_pen<A: Allocator>(
     draw_dot(profile, page)
 }
 
-/// The own step of a command that moves the pen.
+/// The own step of a command that moves the pen. A pen that is lowered marks a dot, unless it is pen 0.
 pub fn carry_out_motion<A: Allocator>(
     profile: &Profile<A>,
     page: &mut Page,
@@ -396,7 +396,7 @@ fn carry_pen(page: &mut Page, to: Target) -> Result<Option<PenLine>, Finding>
     }
 }
 
-/// Moves the pen to a pair of coordinates, behind the own step of its command. With the pen down it draws.
+/// Moves the pen to a pair of coordinates, behind the own step of its command. With the pen down it draws, unless it is pen 0.
 #[inline(always)]
 pub fn move_pen<A: Allocator>(
     profile: &Profile<A>,

@@ -1,4 +1,4 @@
-//! Rows of rasters, and rows that are skipped.
+//! Rows of rasters, and rows that are skipped (the manual's "Raster Graphics").
 #![tactic(auto, unfolding(crate::specs::Answers::Marks))]
 
 ghost use Rattle.std.specs.Prelude.{◌≡◌, ◌≤◌, ◌<◌, ◌+◌, ◌*◌, ◌^◌, length, reverse, cond, is_some, IfSome, pos, neg_ℤ, ◌+ℤ◌, ◌≤ℤ◌, ◌&&◌, int_lt, Some, None, MatchResult};
@@ -325,7 +325,7 @@ fn judged<'a>(
     }
 }
 
-/// `*b#W`: one row of a raster at the cursor, which moves a pixel down.
+/// `*b#W`: one row of a raster at the cursor, which moves a pixel down. A row without a black pixel makes no mark.
 pub fn print_row<'a, A: Allocator>(
     profile: &Profile<A>,
     page: &mut Page,

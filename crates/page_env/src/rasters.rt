@@ -1,4 +1,4 @@
-//! Rasters: their settings, start and end.
+//! Rasters: their settings, start and end (the manual's "Raster Graphics").
 #![tactic(auto, unfolding(crate::specs::Answers::Marks))]
 
 ghost use Rattle.std.specs.Prelude.{◌≡◌, ◌==◌, not, is_some, ◌&&◌};

@@ -1,4 +1,4 @@
-//! Text, and transparent print data.
+//! Text, and transparent print data (the manual's "Fonts").
 #![tactic(auto, unfolding(crate::specs::Answers::Marks))]
 
 ghost use Rattle.std.specs.Prelude.{◌≡◌, pos, ◌+ℤ◌, ◌-ℤ◌, ◌≤ℤ◌, cond, unwrap_or, int_lt, true, false, None, Some, MatchResult};
@@ -242,7 +242,7 @@ fn print_transparent_space<A: Allocator>(
     Ok(None)
 }
 
-/// Prints a byte of text.
+/// Prints a byte of text. A space makes no mark.
 pub fn print_byte<A: Allocator>(
     profile: &Profile<A>,
     page: &mut Page,
@@ -257,7 +257,7 @@ pub fn print_byte<A: Allocator>(
     }
 }
 
-/// Prints a byte of transparent print data (`&p#X`), whatever its code.
+/// Prints a byte of transparent print data (`&p#X`), whatever its code. A space makes no mark.
 pub fn print_transparent<A: Allocator>(
     profile: &Profile<A>,
     page: &mut Page,
