@@ -14,6 +14,11 @@ NamesSome (Pages job profile) = ⊤
 NamesSome (Plain job out) = ⊤
 NamesSome (Explain code) = ⊤
 
+-- a text of a job does not go to the path of the job
+abbrev pub KeepsItsJob : Request → Type 0
+KeepsItsJob (Plain job out) = job.now ≢ out.now
+KeepsItsJob _ = ⊤
+
 -- help or the version, bad words, no memory, or a text that could not be written
 abbrev pub IsEndOfWords : Status → Type 0
 IsEndOfWords Help = ⊤

@@ -1,6 +1,6 @@
 //! The words that the program is started with.
-ghost use Rattle.std.specs.Prelude.{◌≡◌, IsFalse, OnOk, IfOk, IfErr, IfSome};
-ghost use Rattle.command_line.specs.Words.{IsEndOfWords, NamesSome};
+ghost use Rattle.std.specs.Prelude.{◌≡◌, IsFalse, IsTrue, OnOk, IfOk, IfErr, IfSome};
+ghost use Rattle.command_line.specs.Words.{IsEndOfWords, KeepsItsJob, NamesSome};
 
 use crate::text_commands::{job, list_command, pages_command, plain_command, text_request};
 use clap::error::ErrorKind;
@@ -128,6 +128,7 @@ pub fn read_words<'a, O: Outlet, E: Outlet>(
     requires stderr { IsFalse (E.failed stderr.old) }
     ensures ok { OnOk result ((stdout.new ≡ stdout.old) × (stderr.new ≡ stderr.old)) }
     ensures some { IfOk result NamesSome }
+    ensures apart { IfOk result KeepsItsJob }
     ensures err { IfErr result IsEndOfWords }
     ensures help { result ≡ Err Status.Help → stderr.new ≡ stderr.old }
     ensures words { result ≡ Err Status.Words → stdout.new ≡ stdout.old }
@@ -144,7 +145,7 @@ pub fn read_words<'a, O: Outlet, E: Outlet>(
         Ok(None) => return Err(Status::Words),
         Err(_) => return Err(tell(Status::Stopped(Error::Memory), stderr)),
     };
-    if !writes_its_job(&request) {
+    if keeps_its_job(&request) {
         return Ok(request);
     }
     match write_text(stderr, b"error: OUT is JOB itself, which would be lost\n") {
@@ -153,11 +154,13 @@ pub fn read_words<'a, O: Outlet, E: Outlet>(
     }
 }
 
-/// Whether a request would write to the path that it reads its job from.
-fn writes_its_job(request: &Request<'_>) -> bool {
+/// Whether a request writes to no path that it reads its job from.
+fn keeps_its_job(request: &Request<'_>) -> bool
+    ensures { IsTrue result → KeepsItsJob request.now }
+{
     match request {
-        Request::Plain { job, out } => job == out,
-        _ => false,
+        Request::Plain { job, out } => job != out,
+        _ => true,
     }
 }
 
