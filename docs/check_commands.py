@@ -20,7 +20,7 @@ COMMANDS = ROOT / "crates" / "pcl_items" / "src" / "command.rt"
 FRAMES = ROOT / "crates" / "pcl_items" / "src" / "frame.rt"
 ITEMS = ROOT / "crates" / "pcl_items" / "src" / "item.rt"
 MACROS = ROOT / "crates" / "page_env" / "src" / "macros.rt"
-WORDS = ROOT / "crates" / "preflight" / "src" / "words.rt"
+WORDS = ROOT / "crates" / "line_words" / "src" / "words.rt"
 EXPLANATIONS = ROOT / "crates" / "subcommands" / "src" / "explanations.rt"
 
 # The kinds of items that stand in no table of bytes, as the table of commands writes them.

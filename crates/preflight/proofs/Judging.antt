@@ -10,7 +10,7 @@ use Rattle.page_machine.specs.MachineState.{MachineState}
 use Rattle.sinks.specs.declared.counts.Counts.{Counts}
 use Rattle.preflight.specs.declared.check.Progress.{Progress}
 use Rattle.preflight.specs.declared.check.Progress.TheVariants.{NeedMore, End, Failed}
-use Rattle.preflight.specs.declared.verdict.Reason.{Reason}
+use Rattle.line_words.specs.declared.reason.Reason.{Reason}
 use Rattle.preflight.specs.declared.verdict.Verdict.{Verdict}
 use Rattle.preflight.specs.declared.verdict.Verdict.TheVariants.{Fail}
 use Rattle.preflight.specs.Pieces.{Spell}

@@ -19,7 +19,7 @@ use Rattle.page_machine.specs.Machine.{IsNew, TakesSome, item_of, end_of}
 use Rattle.preflight.specs.declared.error.Error.{Error}
 use Rattle.preflight.specs.declared.outcome.Outcome.{Outcome}
 use Rattle.preflight.specs.declared.outcome.Outcome.TheVariants.{Done as AllDone, Fail}
-use Rattle.preflight.specs.declared.verdict.Reason.TheVariants.{Finding as FindingOfRun}
+use Rattle.line_words.specs.declared.reason.Reason.TheVariants.{Finding as FindingOfRun}
 use Rattle.preflight.specs.declared.pages.PageText.{PageText}
 use Rattle.preflight.specs.Due.{Telling, pages_telling}
 use Rattle.preflight.specs.Outlet.{Written, AddsFront}

@@ -9,7 +9,7 @@ use Rattle.page_machine.specs.MachineState.{MachineState}
 use Rattle.sinks.specs.declared.counts.Counts.{Counts}
 use Rattle.preflight.specs.declared.error.Error.{Error}
 use Rattle.preflight.specs.declared.session.Standing.TheVariants.{Open, Fails}
-use Rattle.preflight.specs.declared.verdict.Reason.{Reason}
+use Rattle.line_words.specs.declared.reason.Reason.{Reason}
 use Rattle.preflight.specs.declared.verdict.Verdict.TheVariants.{Fail}
 use Rattle.preflight.specs.Session.{SessionState, ChecksTo, HasChecked}
 use Rattle.preflight.specs.Verdict.{IsExact, KeepsPromise}

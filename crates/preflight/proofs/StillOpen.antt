@@ -20,7 +20,7 @@ use Rattle.pcl_items.proofs.Stopping.{read_by_rules}
 use Rattle.device_profile.specs.Printer.{Printer}
 use Rattle.page_machine.specs.MachineState.{MachineState}
 use Rattle.sinks.specs.declared.counts.Counts.{Counts}
-use Rattle.preflight.specs.declared.verdict.Reason.TheVariants.{Fault as FaultOfBytes}
+use Rattle.line_words.specs.declared.reason.Reason.TheVariants.{Fault as FaultOfBytes}
 use Rattle.preflight.specs.declared.verdict.Verdict.{Verdict}
 use Rattle.preflight.specs.declared.verdict.Verdict.TheVariants.{Fail}
 use Rattle.preflight.specs.Pieces.{MayBeBy, Spell}

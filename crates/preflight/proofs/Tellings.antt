@@ -22,7 +22,8 @@ use Rattle.preflight.specs.declared.error.Error.TheVariants.{NoProfile}
 use Rattle.preflight.specs.declared.outcome.Outcome.{Outcome}
 use Rattle.preflight.specs.Due.{Telling, plain_telling, list_telling}
 use Rattle.preflight.specs.Outlet.{Written, Adds, AddsFront}
-use Rattle.preflight.specs.Texts.{reading_outcome, plain_text, list_text, item_line, fault_line}
+use Rattle.preflight.specs.Texts.{reading_outcome, plain_text, list_text}
+use Rattle.line_words.specs.ItemLines.{item_line, fault_line}
 use Rattle.preflight.specs.Carriers.Telling.{IsErrorOfText, Tells, Follows, Admits, CameTo, Puts, GoesOn, BeginsWith, StartsWith, Ended, behind, HasTold, HasEnded, IsFrontFor}
 use Rattle.preflight.proofs.OutletLemmas.{Adds-none, Adds-trans}
 

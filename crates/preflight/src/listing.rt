@@ -1,87 +1,25 @@
 //! The list of a job's items.
-ghost use Rattle.std.specs.Prelude.{◌≡◌, ◌≢◌, ◌+◌, ◌++◌, ◌^◌, ◌≤◌, length, IfOk, IfErr, IsErrOf, IsFalse, OnOk};
-ghost use Rattle.pcl_items.specs.Items.{Entry, amount, at, view};
+ghost use Rattle.std.specs.Prelude.{◌≡◌, ◌≢◌, ◌+◌, ◌^◌, ◌≤◌, length, IfOk, IfErr, IsErrOf, IsFalse};
 ghost use Rattle.preflight.specs.Due.{WritesDecided, WritesDue, WritesFront, list_telling};
 ghost use Rattle.preflight.specs.Outlet.{is_err_of_write};
 ghost use Rattle.preflight.specs.Pieces.{ByReads};
 ghost use Rattle.preflight.specs.Source.{is_err_of_read};
-ghost use Rattle.preflight.specs.Texts.{item_line, fault_line};
 
 use crate::error::Error;
-use crate::figures::{push_amount, push_escaped, push_number};
 use crate::kept::write_enough;
 use crate::outcome::Outcome;
 use crate::outlet::Outlet;
 use crate::report::{Report, tell_job};
 use crate::source::Source;
-use crate::verdict::Reason;
-use crate::words::push_cause;
-use pcl_items::{Command, Item, LexFault, Number, Place, SimpleItem, spell};
-use std::alloc::{AllocError, Allocator};
+use line_words::{Reason, push_fault, push_item};
+use pcl_items::{Item, LexFault, Place};
+use std::alloc::Allocator;
 
 /// Writes a line for each item.
 #[derive(Drop)]
 struct Listing<B: Allocator> {
     /// Room for the spelling of an item, so that it is not asked for at each.
     spelling: Vec<u8, B>,
-}
-
-impl<B: Allocator> Listing<B> {
-    /// Appends the line of an item.
-    fn push_item<A: Allocator>(
-        &mut self,
-        text: &mut Vec<u8, A>,
-        place: Place,
-        item: &Item<'_>,
-    ) -> Result<(), AllocError>
-        ensures { OnOk result (text.new.items ≡ text.old.items ++ item_line (at place (view item.now))) }
-    {
-        if let Item::Simple(SimpleItem::Parameterized(command, number)) = item {
-            return push_command(text, place, *command, *number);
-        }
-        self.spelling.clear();
-        spell(item, &mut self.spelling)?;
-        push_number(text, place)?;
-        text.push(b' ')?;
-        push_escaped(text, self.spelling.as_slice())?;
-        text.push(b'\n')?;
-        Ok(())
-    }
-}
-
-/// Appends the line of a parameterized command, as most items are. Of its spelling only the escape character shows nothing.
-fn push_command<A: Allocator>(
-    text: &mut Vec<u8, A>,
-    place: Place,
-    command: Command,
-    number: Number,
-) -> Result<(), AllocError>
-    ensures { OnOk result (text.new.items ≡ text.old.items ++ item_line (at place (Entry.Parameterized command (amount number)))) }
-{
-    let group = command.group();
-    push_number(text, place)?;
-    let front = [
-        b' ',
-        b'\\',
-        b'x',
-        b'1',
-        b'b',
-        group.introducer(),
-        group.character(),
-    ];
-    text.extend_from_slice(&front)?;
-    push_amount(text, number)?;
-    text.extend_from_slice(&[command.letter(), b'\n'])
-}
-
-/// Appends the line of a fault.
-fn push_fault<A: Allocator>(text: &mut Vec<u8, A>, fault: LexFault) -> Result<(), AllocError>
-    ensures { OnOk result (text.new.items ≡ text.old.items ++ fault_line fault.place fault.cause) }
-{
-    push_number(text, fault.place)?;
-    text.extend_from_slice(b" FAULT ")?;
-    push_cause(text, fault.cause)?;
-    text.extend_from_slice(b"\n")
 }
 
 impl<B: Allocator> Report for Listing<B> {
@@ -96,7 +34,7 @@ impl<B: Allocator> Report for Listing<B> {
         place: Place,
         item: &Item<'_>,
     ) -> Result<Option<Outcome>, Error> {
-        self.push_item(kept, place, item)?;
+        push_item(kept, &mut self.spelling, place, item)?;
         write_enough(outlet, kept)?;
         Ok(None)
     }

@@ -1,5 +1,5 @@
 //! What comes of writing a text of a job.
-use crate::verdict::Reason;
+use line_words::Reason;
 
 /// What comes of writing a text of a job.
 #[derive(Clone, Copy, Debug, PartialEq, Eq)]

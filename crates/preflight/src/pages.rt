@@ -10,13 +10,12 @@ ghost use Rattle.preflight.specs.Source.{is_err_of_read};
 
 use crate::error::Error;
 use crate::kept::write_enough;
-use crate::mark_lines::{push_mark, push_page};
 use crate::outcome::Outcome;
 use crate::outlet::Outlet;
 use crate::report::{Report, tell_job};
 use crate::source::Source;
-use crate::verdict::Reason;
 use device_profile::{Panel, Profile};
+use line_words::{Reason, push_mark, push_page};
 use page_env::{Finding, Mark, PageEnd};
 use page_machine::{Machine, MarkSink, Start, Stop};
 use pcl_items::{Item, LexFault, Place};

@@ -11,7 +11,7 @@ use crate::outcome::Outcome;
 use crate::outlet::Outlet;
 use crate::report::{Report, tell_job};
 use crate::source::Source;
-use crate::verdict::Reason;
+use line_words::Reason;
 use pcl_items::{Item, LexFault, Place, spell};
 use std::alloc::Allocator;
 

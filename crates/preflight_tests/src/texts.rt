@@ -3,9 +3,10 @@ ghost use Rattle.std.specs.Prelude.{◌≡◌, false, IsFalse};
 
 use device_profile::Profile;
 use fakes::{CutSource, FailingOutlet, FailingSource};
+use line_words::Reason;
 use page_env::Finding;
 use pcl_items::Cause;
-use preflight::{Error, Outcome, Reason, Source, Watched, list_job, pages_of, plain_job};
+use preflight::{Error, Outcome, Source, Watched, list_job, pages_of, plain_job};
 use std::alloc::{Allocator, Global};
 use std::process::Abort;
 

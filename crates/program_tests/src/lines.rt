@@ -1,9 +1,10 @@
 //! The lines that the program writes.
 
 use device_profile::{Cause as ProfileCause, Field};
+use line_words::Reason;
 use page_env::Finding;
 use pcl_items::{Cause, Group, Name};
-use preflight::{Error, Outlet, Reason, Verdict, Watched};
+use preflight::{Error, Outlet, Verdict, Watched};
 use std::alloc::{AllocError, Global};
 use std::process::Abort;
 use std::test::Fail;

@@ -5,7 +5,7 @@ use Rattle.preflight.specs.declared.error.Error.{Error}
 use Rattle.preflight.specs.declared.error.Error.TheVariants.{Memory, Read, Write, Turns, NoProfile}
 use Rattle.preflight.specs.declared.outcome.Outcome.{Outcome}
 use Rattle.preflight.specs.declared.outcome.Outcome.TheVariants.{Done, Fail as FailsOf}
-use Rattle.preflight.specs.declared.verdict.Reason.{Reason}
+use Rattle.line_words.specs.declared.reason.Reason.{Reason}
 use Rattle.preflight.specs.declared.verdict.Verdict.TheVariants.{Fail as FailOf}
 use Rattle.preflight.specs.Due.{Telling, WritesDue, WritesFront, pages_telling}
 use Rattle.preflight.specs.Outlet.{Written, Adds, AddsFront, Stays}

@@ -2,7 +2,7 @@
 use Rattle.std.specs.Prelude.{List, ℕ, ◌++◌, codes, decimal}
 use Rattle.preflight.specs.declared.verdict.Verdict.{Verdict}
 use Rattle.preflight.specs.declared.verdict.Verdict.TheVariants.{Pass, Fail}
-use Rattle.preflight.specs.Reason.{reason_words}
+use Rattle.line_words.specs.Reason.{reason_words}
 
 abbrev pub verdict_line : Verdict → List ℕ
 verdict_line (Pass pages marks) = codes "PASS pages=" ++ decimal pages ++ codes " marks=" ++ decimal marks ++ codes "\n"

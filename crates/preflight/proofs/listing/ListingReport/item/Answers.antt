@@ -1,6 +1,6 @@
 use Rattle.pcl_items.specs.Items.{at, view}
+use Rattle.line_words.specs.ItemLines.{item_line}
 use Rattle.preflight.specs.Due.{list_telling}
-use Rattle.preflight.specs.Texts.{item_line}
 use Rattle.preflight.proofs.Tellings.{item_cut, item_none, list_goes}
 use Rattle.preflight.proofs.listing.ListingReport.item.Goals as goal
 

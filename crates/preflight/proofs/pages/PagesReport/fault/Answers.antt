@@ -1,7 +1,7 @@
 use Rattle.std.proofs.Common.{refl, sym, [], append-nil}
 use Rattle.pcl_items.specs.Reading.{Stopped}
 use Rattle.preflight.specs.declared.outcome.Outcome.TheVariants.{Fail}
-use Rattle.preflight.specs.declared.verdict.Reason.TheVariants.{Fault}
+use Rattle.line_words.specs.declared.reason.Reason.TheVariants.{Fault}
 use Rattle.preflight.specs.Carriers.PageTelling.{pages_from}
 use Rattle.preflight.proofs.Tellings.{last_told}
 use Rattle.preflight.proofs.pages.PagesReport.fault.Goals as goal

@@ -16,7 +16,8 @@ use Rattle.pcl_items.specs.Commands.{introducer_of, character_of, group_of, lett
 use Rattle.pcl_items.specs.Items.{Parameterized, at}
 use Rattle.pcl_items.specs.Value.{Amount, most}
 use Rattle.pcl_items.specs.ValueField.{sign_text}
-use Rattle.preflight.specs.Texts.{escaped_byte, item_line}
+use Rattle.line_words.specs.Figures.{escaped_byte}
+use Rattle.line_words.specs.ItemLines.{item_line}
 
 -- these bytes stand in a line as they are
 abbrev IsShown : List ℕ → Type 0

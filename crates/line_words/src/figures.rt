@@ -3,10 +3,8 @@ ghost use Rattle.std.specs.Prelude.{◌≡◌, ◌++◌, ◌∷◌, [], ◌+◌,
 ghost use Rattle.std.specs.Fmt.{signed_decimal};
 ghost use Rattle.pcl_items.specs.Canon.{amount_text, magnitude_text, with_point, without_zeros, four_decimals};
 ghost use Rattle.pcl_items.specs.Items.{amount};
-ghost use Rattle.preflight.specs.PageTexts.{hex_byte, length_word, number_word, signed_word, value_word};
-ghost use Rattle.preflight.specs.Texts.{escaped_byte};
+ghost use Rattle.line_words.specs.Figures.{escaped_byte, hex_byte, hex_digit, length_word, named, number_word, signed_word, value_word};
 
-use crate::words::hex_digit;
 use itoa::Buffer;
 use pcl_items::{Number, Sign};
 use std::alloc::{AllocError, Allocator};
@@ -18,6 +16,18 @@ pub fn push_number<A: Allocator>(text: &mut Vec<u8, A>, number: u64) -> Result<(
 {
     let mut digits = Buffer::new();
     text.extend_from_slice(digits.format(number).as_bytes())
+}
+
+/// Appends a number behind its name.
+pub fn push_named<A: Allocator>(
+    text: &mut Vec<u8, A>,
+    name: &[u8],
+    number: u64,
+) -> Result<(), AllocError>
+    ensures { OnOk result (text.new.items ≡ text.old.items ++ named name.now number) }
+{
+    text.extend_from_slice(name)?;
+    push_number(text, number)
 }
 
 /// Appends a space and a number.
@@ -114,7 +124,7 @@ fn push_value<A: Allocator>(text: &mut Vec<u8, A>, n: u32) -> Result<(), AllocEr
 }
 
 /// Appends a space and a value of so many ten-thousandths.
-#[tactic(auto, unfolding(crate::specs::PageTexts::value_word))]
+#[tactic(auto, unfolding(crate::specs::Figures::value_word))]
 pub fn push_value_word<A: Allocator>(text: &mut Vec<u8, A>, n: u32) -> Result<(), AllocError>
     ensures { OnOk result (text.new.items ≡ text.old.items ++ value_word n) }
 {
@@ -123,7 +133,7 @@ pub fn push_value_word<A: Allocator>(text: &mut Vec<u8, A>, n: u32) -> Result<()
 }
 
 /// Appends a space and a value of so many ten-thousandths, which may be less than 0.
-#[tactic(auto, unfolding(crate::specs::PageTexts::signed_word, crate::specs::PageTexts::value_word))]
+#[tactic(auto, unfolding(crate::specs::Figures::signed_word, crate::specs::Figures::value_word))]
 pub fn push_signed_word<A: Allocator>(text: &mut Vec<u8, A>, n: i32) -> Result<(), AllocError>
     ensures { OnOk result (text.new.items ≡ text.old.items ++ signed_word n) }
 {
@@ -144,6 +154,18 @@ pub fn push_amount<A: Allocator>(text: &mut Vec<u8, A>, number: Number) -> Resul
         Sign::Minus => text.push(b'-')?,
     }
     push_value(text, number.ten_thousandths)
+}
+
+/// A digit to base 16, in small letters.
+pub fn hex_digit(digit: u8) -> u8
+    requires { digit < 16 }
+    ensures { result ≡ hex_digit digit }
+{
+    if digit < 10 {
+        b'0' + digit
+    } else {
+        b'a' + (digit - 10)
+    }
 }
 
 /// Appends a byte as two hexadecimal digits.

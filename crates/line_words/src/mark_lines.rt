@@ -1,10 +1,11 @@
 //! The lines of marks and of the ends of pages.
 ghost use Rattle.std.specs.Prelude.{◌≡◌, ◌++◌, OnOk};
 ghost use Rattle.page_env.specs.Mark.{Rectangle, Character, Row, Line, pixels_per_inch, row_of, shape_of};
-ghost use Rattle.preflight.specs.PageTexts.{bounds_words, fill_words, font_words, mark_line, mark_words, named, page_line};
+ghost use Rattle.line_words.specs.Figures.{named};
+ghost use Rattle.line_words.specs.MarkLines.{bounds_words, fill_words, font_words, mark_line, mark_words, page_line};
 
 use crate::figures::{
-    push_hex, push_length_word, push_number, push_number_word, push_signed_word, push_ticks_word,
+    push_hex, push_length_word, push_named, push_number_word, push_signed_word, push_ticks_word,
     push_value_word,
 };
 use device_profile::FontRequest;
@@ -72,7 +73,7 @@ fn push_line<A: Allocator>(text: &mut Vec<u8, A>, line: &PenLine) -> Result<(), 
 }
 
 /// Appends what selects a font.
-#[tactic(auto, unfolding(crate::specs::PageTexts::font_words))]
+#[tactic(auto, unfolding(crate::specs::MarkLines::font_words))]
 fn push_font<A: Allocator>(text: &mut Vec<u8, A>, font: &FontRequest) -> Result<(), AllocError>
     ensures { OnOk result (text.new.items ≡ text.old.items ++ font_words font.now) }
 {
@@ -86,7 +87,7 @@ fn push_font<A: Allocator>(text: &mut Vec<u8, A>, font: &FontRequest) -> Result<
 }
 
 /// Appends the four edges of a box.
-#[tactic(auto, unfolding(crate::specs::PageTexts::bounds_words))]
+#[tactic(auto, unfolding(crate::specs::MarkLines::bounds_words))]
 fn push_bounds<A: Allocator>(text: &mut Vec<u8, A>, bounds: &Bounds) -> Result<(), AllocError>
     ensures { OnOk result (text.new.items ≡ text.old.items ++ bounds_words bounds.now) }
 {
@@ -137,22 +138,21 @@ pub fn push_page<A: Allocator>(
 {
     text.extend_from_slice(b"page")?;
     push_number_word(text, number)?;
-    push_named(text, b" size=", page.size)?;
-    push_named(text, b" orientation=", page.orientation)?;
-    push_named(text, b" sides=", page.sides)?;
-    push_named(text, b" tray=", page.tray)?;
-    push_named(text, b" copies=", page.copies)?;
+    push_value_named(text, b" size=", page.size)?;
+    push_value_named(text, b" orientation=", page.orientation)?;
+    push_value_named(text, b" sides=", page.sides)?;
+    push_value_named(text, b" tray=", page.tray)?;
+    push_value_named(text, b" copies=", page.copies)?;
     text.extend_from_slice(b"\n")
 }
 
 /// Appends a value behind its name.
-fn push_named<A: Allocator>(
+fn push_value_named<A: Allocator>(
     text: &mut Vec<u8, A>,
     name: &[u8],
     value: u32,
 ) -> Result<(), AllocError>
     ensures { OnOk result (text.new.items ≡ text.old.items ++ named name.now value) }
 {
-    text.extend_from_slice(name)?;
-    push_number(text, u64::from(value))
+    push_named(text, name, u64::from(value))
 }

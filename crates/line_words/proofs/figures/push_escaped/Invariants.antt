@@ -1,7 +1,7 @@
 use Rattle.std.proofs.Common.{◌≡◌, ◌++◌, take}
 use Rattle.std.specs.List.{flat_map}
-use Rattle.preflight.specs.Texts.{escaped_byte}
-use Rattle.preflight.proofs.figures.push_escaped.Given as goal
+use Rattle.line_words.specs.Figures.{escaped_byte}
+use Rattle.line_words.proofs.figures.push_escaped.Given as goal
 
 abbrev pub invariant-loop-byte : goal.invariant-loop-byte
 invariant-loop-byte g l = l.text.items ≡ l.initial.text.items ++ flat_map escaped_byte (take l.byte-index l.bytes)

@@ -1,8 +1,8 @@
 use Rattle.std.proofs.Common.{arith}
 use Rattle.std.proofs.lemmas.Grind.{common_steps}
 use Rattle.pcl_items.specs.Items.{amount}
-use Rattle.preflight.proofs.CommandLines.{line_is_pushed}
-use Rattle.preflight.proofs.listing.push_command.Goals as goal
+use Rattle.line_words.proofs.CommandLines.{line_is_pushed}
+use Rattle.line_words.proofs.item_lines.push_command.Goals as goal
 
 pub returns : goal.returns
 returns g c =

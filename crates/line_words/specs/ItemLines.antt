@@ -1,0 +1,15 @@
+-- The lines of items and of faults.
+use Rattle.std.specs.Prelude.{ℕ, List, [], ◌∷◌, ◌++◌, codes, decimal, flat_map}
+use Rattle.pcl_items.specs.declared.fault.Cause.{Cause}
+use Rattle.pcl_items.specs.Canon.{canon}
+use Rattle.pcl_items.specs.Items.{Placed}
+use Rattle.line_words.specs.Figures.{escaped_byte}
+use Rattle.line_words.specs.Reason.{cause_words}
+
+-- an item: its place and its spelling
+abbrev pub item_line : Placed → List ℕ
+item_line x = decimal x.place ++ 32 ∷ flat_map escaped_byte (canon x.item) ++ 10 ∷ []
+
+-- a fault: its place, its number and its name
+abbrev pub fault_line : ℕ → Cause → List ℕ
+fault_line place cause = decimal place ++ codes " FAULT " ++ cause_words cause ++ 10 ∷ []

@@ -1,0 +1,4 @@
+pub mod Figures
+pub mod ItemLines
+pub mod MarkLines
+pub mod Reason

@@ -1,0 +1,65 @@
+//! The lines of items and of faults.
+ghost use Rattle.std.specs.Prelude.{◌≡◌, ◌++◌, OnOk};
+ghost use Rattle.pcl_items.specs.Items.{Entry, amount, at, view};
+ghost use Rattle.line_words.specs.ItemLines.{item_line, fault_line};
+
+use crate::figures::{push_amount, push_escaped, push_number};
+use crate::words::push_cause;
+use pcl_items::{Command, Item, LexFault, Number, Place, SimpleItem, spell};
+use std::alloc::{AllocError, Allocator};
+
+/// Appends the line of an item. `spelling` is room for its spelling, so that none is asked for at each item.
+pub fn push_item<A: Allocator, B: Allocator>(
+    text: &mut Vec<u8, A>,
+    spelling: &mut Vec<u8, B>,
+    place: Place,
+    item: &Item<'_>,
+) -> Result<(), AllocError>
+    ensures { OnOk result (text.new.items ≡ text.old.items ++ item_line (at place (view item.now))) }
+{
+    if let Item::Simple(SimpleItem::Parameterized(command, number)) = item {
+        return push_command(text, place, *command, *number);
+    }
+    spelling.clear();
+    spell(item, spelling)?;
+    push_number(text, place)?;
+    text.push(b' ')?;
+    push_escaped(text, spelling.as_slice())?;
+    text.push(b'\n')?;
+    Ok(())
+}
+
+/// Appends the line of a parameterized command, as most items are. Of its spelling only the escape character shows nothing.
+fn push_command<A: Allocator>(
+    text: &mut Vec<u8, A>,
+    place: Place,
+    command: Command,
+    number: Number,
+) -> Result<(), AllocError>
+    ensures { OnOk result (text.new.items ≡ text.old.items ++ item_line (at place (Entry.Parameterized command (amount number)))) }
+{
+    let group = command.group();
+    push_number(text, place)?;
+    let front = [
+        b' ',
+        b'\\',
+        b'x',
+        b'1',
+        b'b',
+        group.introducer(),
+        group.character(),
+    ];
+    text.extend_from_slice(&front)?;
+    push_amount(text, number)?;
+    text.extend_from_slice(&[command.letter(), b'\n'])
+}
+
+/// Appends the line of a fault.
+pub fn push_fault<A: Allocator>(text: &mut Vec<u8, A>, fault: LexFault) -> Result<(), AllocError>
+    ensures { OnOk result (text.new.items ≡ text.old.items ++ fault_line fault.place fault.cause) }
+{
+    push_number(text, fault.place)?;
+    text.extend_from_slice(b" FAULT ")?;
+    push_cause(text, fault.cause)?;
+    text.extend_from_slice(b"\n")
+}

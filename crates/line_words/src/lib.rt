@@ -1,0 +1,14 @@
+//! The words of the lines that are written on a job: why it fails, its items, its marks and the ends of its pages.
+#![tactic(auto)]
+
+mod figures;
+mod item_lines;
+mod mark_lines;
+mod reason;
+mod words;
+
+pub use figures::push_named;
+pub use item_lines::{push_fault, push_item};
+pub use mark_lines::{push_mark, push_page};
+pub use reason::Reason;
+pub use words::push_reason;
