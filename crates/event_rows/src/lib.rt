@@ -3,11 +3,11 @@
 
 use device_profile::{Profile, Sample};
 use job_items::items_of;
-use page_env::{Area, Fill, PageEnd, PenLine, Resolution};
+use page_env::{Fill, PageEnd, Resolution};
 use page_machine::{Machine, MarkSink, OwnedEvent, OwnedMark, Start, Stop};
 use pcl_items::{Item, OwnedItem, Place};
 use sinks::Recorder;
-use std::alloc::{AllocError, Allocator, Global};
+use std::alloc::{Allocator, Global};
 use std::test::Fail;
 
 /// An event of a row.
@@ -25,9 +25,6 @@ use Event::{Page, RasterRow, Rect};
 
 /// A job and its events.
 pub type Events = (&'static [u8], &'static [Event]);
-
-/// A job and the words of its events.
-pub type Worded = (&'static [u8], &'static [&'static str]);
 
 /// So many copies of a page of letter paper in portrait.
 pub fn letter(copies: u32) -> PageEnd {
@@ -134,65 +131,6 @@ pub fn check_events(alloc: Global, rows: &[Events]) -> Result<(), Fail> {
         if !goes || !are_events(recorder.events(), wanted) {
             return Err(Fail::new(format_args!("other events of {job:?}")));
         }
-    }
-    Ok(())
-}
-
-/// `line`, the width of the line, where it begins and where it ends, in ticks.
-fn line_words(alloc: Global, line: &PenLine) -> Result<String, AllocError> {
-    let (width, x0, y0) = (line.width.ticks(), line.x0.ticks(), line.y0.ticks());
-    let (x1, y1) = (line.x1.ticks(), line.y1.ticks());
-    format!(in alloc; "line {width} {x0} {y0} {x1} {y1}")
-}
-
-/// `rect` and the edges of the area, left, top, right and bottom, in ticks.
-fn area_words(alloc: Global, area: &Area) -> Result<String, AllocError> {
-    let (left, top) = (area.bounds.left.ticks(), area.bounds.top.ticks());
-    let (right, bottom) = (area.bounds.right.ticks(), area.bounds.bottom.ticks());
-    format!(in alloc; "rect {left} {top} {right} {bottom}")
-}
-
-/// The words of a line of the pen, of an area or of the end of a page.
-fn words_of(alloc: Global, event: &OwnedEvent) -> Result<String, AllocError> {
-    match event {
-        OwnedEvent::Marked(OwnedMark::Line(line)) => line_words(alloc, line),
-        OwnedEvent::Marked(OwnedMark::Rect(area)) => area_words(alloc, area),
-        OwnedEvent::Marked(_) => format!(in alloc; "another mark"),
-        OwnedEvent::Ended(page) => {
-            let copies = page.copies;
-            format!(in alloc; "page {copies}")
-        }
-    }
-}
-
-/// Checks that events have these words.
-fn compare_words(
-    alloc: Global,
-    job: &[u8],
-    events: &[OwnedEvent],
-    wanted: &[&str],
-) -> Result<(), Fail> {
-    let (count, other) = (events.len(), wanted.len());
-    if count != other {
-        return Err(Fail::new(format_args!("{count} events of {job:?}, not {other}")));
-    }
-    for (event, words) in events.iter().zip(wanted) {
-        let found = words_of(alloc, event)?;
-        if found.as_str() != *words {
-            return Err(Fail::new(format_args!("{found} in {job:?}")));
-        }
-    }
-    Ok(())
-}
-
-/// Checks that jobs go, or do not, and that the events that they give have these words.
-pub fn check_words(alloc: Global, rows: &[Worded], goes: bool) -> Result<(), Fail> {
-    for (job, wanted) in rows {
-        let mut recorder = Recorder::new(alloc);
-        if run(alloc, job, &mut recorder)? != goes {
-            return Err(Fail::new(format_args!("{job:?}")));
-        }
-        compare_words(alloc, job, recorder.events(), wanted)?;
     }
     Ok(())
 }

@@ -3,11 +3,12 @@
 use device_profile::Field;
 use job_items::job_of;
 use page_env::Finding::{NoPen, OffPage, StackFull, Unset};
-use printers::Printer::{A, B, C};
+use printers::Printer::{A, B, C, MostMemory};
 use printers::{Printer, fleet_of};
+use std::alloc::{AllocError, Global};
 use std::test::Fail;
 use verdict_rows::Expected::{Found, Pass};
-use verdict_rows::{Expected, check_in_pieces, check_in_sizes};
+use verdict_rows::{Expected, check_in_pieces, check_in_sizes, verdict_on};
 
 /// A page with one rectangle, whose size and orientation the job sets.
 pub const PAGE: &[u8] = b"\x1bE\x1b&l2a0O\x1b*p300x300Y\x1b*c100a50b0P\x0c";
@@ -73,4 +74,31 @@ fn a_command_of_many_reads(rt: HostRuntime) -> Result<(), Fail> {
     let fleet = fleet_of(rt.alloc(), &[B])?;
     let job = job_of(rt.alloc(), b"\x1b%0BPU1,", 40_000, b" ", b"2PD")?;
     check_in_sizes(rt.alloc(), &fleet, &job, Found(40_009, NoPen), &[])
+}
+
+/// A line of 80 characters.
+fn line_of_text(alloc: Global) -> Result<Vec<u8>, AllocError> {
+    job_of(alloc, b"", 80, b"A", b"\r\n")
+}
+
+#[test]
+fn pages_of_text(rt: HostRuntime) -> Result<(), Fail> {
+    let fleet = fleet_of(rt.alloc(), &[B])?;
+    let line = line_of_text(rt.alloc())?;
+    let job = job_of(rt.alloc(), b"\x1bE", 10_000, &line, b"")?;
+    let verdict = verdict_on(rt.alloc(), &fleet, &job);
+    assert!(rt; verdict == Ok(Pass(167, 800_000).verdict()));
+    Ok(())
+}
+
+/// A body of 1000 lines is run twice, on pages of 60 lines.
+#[test]
+fn a_body_of_many_lines(rt: HostRuntime) -> Result<(), Fail> {
+    let fleet = fleet_of(rt.alloc(), &[MostMemory])?;
+    let line = line_of_text(rt.alloc())?;
+    let end = b"\x1b&f1X\x1b&f2x2X";
+    let job = job_of(rt.alloc(), b"\x1bE\x1b&f0X", 1000, &line, end)?;
+    let verdict = verdict_on(rt.alloc(), &fleet, &job);
+    assert!(rt; verdict == Ok(Pass(34, 160_000).verdict()));
+    Ok(())
 }

@@ -14,13 +14,9 @@ mod jobs;
 #[cfg(test)]
 mod listings;
 #[cfg(test)]
-mod macros;
-#[cfg(test)]
 mod memory;
 #[cfg(test)]
 mod page_texts;
-#[cfg(test)]
-mod places;
 #[cfg(test)]
 mod plain_jobs;
 #[cfg(test)]
@@ -29,7 +25,5 @@ mod rasters;
 mod sessions;
 #[cfg(test)]
 mod sources;
-#[cfg(test)]
-mod text;
 #[cfg(test)]
 mod texts;

@@ -190,9 +190,8 @@ pub fn fleet_of(alloc: Global, printers: &[Printer]) -> Result<Vec<Profile>, Pro
     Ok(fleet)
 }
 
-/// A printer like sample B whose printable area is a square of a tenth of an inch that begins here, in 7200ths of an inch.
-pub fn with_square(alloc: Global, left: u32, top: u32) -> Result<Profile, ProfileFault> {
-    let (right, bottom) = (u64::from(left) + 720, u64::from(top) + 720);
-    let page = format!(in alloc; "1800 0 57600 79200 {left} {top} {right} {bottom}")?;
+/// A printer like sample B whose printable area is this: its left, upper, right and lower edge, in 7200ths of an inch.
+pub fn with_area(alloc: Global, area: &str) -> Result<Profile, ProfileFault> {
+    let page = format!(in alloc; "1800 0 57600 79200 {area}")?;
     printer_of(alloc, PANEL, page.as_bytes())
 }

@@ -6,6 +6,8 @@ pub enum Line<'a> {
     Comment,
     /// The names of the printers of the rows behind it, between blanks.
     Printers(&'a str),
+    /// The printable area of the printer of the rows behind it.
+    Area(&'a str),
     /// The line of the verdict that is expected, and the job, escaped.
     Row(&'a str, &'a str),
 }
@@ -17,6 +19,9 @@ pub fn read_line(line: &str) -> Option<Line<'_>> {
     }
     if let Some(names) = line.strip_prefix("printers ") {
         return Some(Line::Printers(names));
+    }
+    if let Some(area) = line.strip_prefix("area ") {
+        return Some(Line::Area(area));
     }
     let (expected, behind) = line.split_once(" |")?;
     let job = job_behind(behind)?;

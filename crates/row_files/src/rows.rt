@@ -1,11 +1,11 @@
-//! The rows of a file: each is checked for the printers of the last line of printers before it.
+//! The rows of a file: each is checked for the printers that the last line before it names.
 
 use crate::escapes::bytes_of;
 use crate::lines::{Line, read_line};
 use crate::trouble::Trouble;
 use device_profile::Profile;
 use preflight::{Error, Verdict};
-use printers::{printer_named, profile_of};
+use printers::{printer_named, profile_of, with_area};
 use std::alloc::{AllocError, Global};
 use subcommands::line_of;
 use verdict_rows::{Other, Way, check_each_way, verdict_on};
@@ -29,12 +29,17 @@ pub fn check_text(alloc: Global, text: &str) -> Result<u64, (u64, Trouble)> {
     Ok(rows)
 }
 
-/// Takes the fleet of a line of printers, or checks a row, and tells whether it is one.
+/// Takes the fleet that a line names, or checks a row, and tells whether it is one.
 fn check_line(alloc: Global, line: &str, fleet: &mut Vec<Profile>) -> Result<bool, Trouble> {
     match read_line(line) {
         Some(Line::Comment) => Ok(false),
         Some(Line::Printers(names)) => {
             *fleet = fleet_named(alloc, names)?;
+            Ok(false)
+        }
+        Some(Line::Area(area)) => {
+            fleet.clear();
+            fleet.push(with_area(alloc, area)?)?;
             Ok(false)
         }
         Some(Line::Row(expected, job)) => {

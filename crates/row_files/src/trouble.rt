@@ -9,9 +9,9 @@ use verdict_rows::Way;
 #[derive(Debug, Drop, Error)]
 pub enum Trouble {
     /// Nothing that a line may be.
-    #[error("no row, no printers and no comment")]
+    #[error("no row, no printers, no area and no comment")]
     NoLine,
-    #[error("a row, but no line of printers before it")]
+    #[error("a row, but no printers before it")]
     NoFleet,
     #[error("printers, but no name behind the word")]
     NoName,
