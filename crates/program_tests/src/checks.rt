@@ -5,9 +5,8 @@ use crate::kept_texts::{KeptTexts, Named};
 use device_profile::Sample;
 use fakes::FailingSource;
 use job_items::RECTANGLE;
-use preflight::{Error, Outlet, Source, Watched};
+use preflight::{Outlet, Source, Watched};
 use printers::{text_of_one_page, with_line};
-use refusing::Refusing;
 use std::alloc::Allocator;
 use std::process::Abort;
 use std::test::Fail;
@@ -233,69 +232,4 @@ fn a_text_has_65_536_bytes_at_most(rt: HostRuntime) -> Result<(), Fail> {
         assert_answer(&rt, &[("text", &text)], &["text"], EMPTY, refused);
     }
     Ok(())
-}
-
-#[test]
-fn a_failed_write_is_told(rt: HostRuntime) {
-    let texts = [("a", Sample::A.text())];
-    for room in 0..NOTHING.len() {
-        let bytes: &[u8] = b"";
-        let mut job = Watched::new(bytes);
-        let mut kept = KeptTexts::new(&texts);
-        let mut taken = [0u8; 21];
-        let mut stdout = Watched::new(&mut taken[..room]);
-        let mut stderr = Watched::new(Vec::new(rt.alloc()));
-        let status = status_of(
-            rt.alloc(),
-            &mut job,
-            &mut kept,
-            &["a"],
-            &mut stdout,
-            &mut stderr,
-        );
-        let has_failed = stdout.has_failed();
-        assert_eq!(rt;
-            (status, has_failed, stderr.get_ref().as_slice()),
-            (
-                Status::Stopped(Error::Write),
-                true,
-                b"ERROR write\n".as_slice()
-            )
-        );
-        assert_eq!(rt; &taken[..room], &NOTHING[..room]);
-    }
-}
-
-#[test]
-fn each_request_for_memory_is_refused_in_turn(rt: HostRuntime) {
-    let texts = [("a", Sample::A.text()), ("b", Sample::B.text())];
-    for requests in 0..1000 {
-        let heap = Refusing::new(rt.alloc(), requests);
-        let bytes: &[u8] = b"";
-        let mut job = Watched::new(bytes);
-        let mut kept = KeptTexts::new(&texts);
-        let mut stdout = Watched::new(Vec::new(rt.alloc()));
-        let mut stderr = Watched::new(Vec::new(rt.alloc()));
-        let status = status_of(
-            &heap,
-            &mut job,
-            &mut kept,
-            &["a", "b"],
-            &mut stdout,
-            &mut stderr,
-        );
-        if status == Status::Pass {
-            assert!(rt; requests > 0);
-            return;
-        }
-        let written = (stdout.get_ref().len(), stderr.get_ref().as_slice());
-        assert_eq!(rt;
-            (status, written),
-            (
-                Status::Stopped(Error::Memory),
-                (0, b"ERROR memory\n".as_slice())
-            )
-        );
-    }
-    assert!(rt; false, "more than 1000 requests");
 }

@@ -1,4 +1,4 @@
-//! The subcommands `list`, `pages` and `plain`: their exit statuses, and what they write.
+//! The subcommands that read a job: their exit statuses, and what they write.
 ghost use Rattle.std.specs.Prelude.{◌≡◌, false, IsFalse};
 
 use crate::files::File;
@@ -9,11 +9,13 @@ use preflight::{Outlet, Source, Watched};
 use refusing::Refusing;
 use std::alloc::Allocator;
 use std::process::Abort;
-use subcommands::{Create, FileOutlet, FileSource, Open, Status, list, pages, plain};
+use subcommands::{Create, FileOutlet, FileSource, Open, Status, check, list, pages, plain};
 
 /// A subcommand.
 #[derive(Clone, Copy, Debug)]
 enum Command {
+    /// For two printers.
+    Check,
     List,
     /// For the printer that a word names.
     Pages(&'static str),
@@ -44,13 +46,12 @@ fn status_of<H: Allocator + Copy, J: Open, W: Create, O: Outlet, E: Outlet>(
     requires stdout { IsFalse (O.failed stdout.old) }
     requires stderr { IsFalse (E.failed stderr.old) }
 {
+    let named = texts();
+    let mut texts = KeptTexts::new(&named);
     match command {
+        Command::Check => check(heap, job, &mut texts, &["a", "b"], stdout, stderr),
         Command::List => list(heap, job, stdout, stderr),
-        Command::Pages(word) => {
-            let named = texts();
-            let mut texts = KeptTexts::new(&named);
-            pages(heap, job, &mut texts, word, stdout, stderr)
-        }
+        Command::Pages(word) => pages(heap, job, &mut texts, word, stdout, stderr),
         Command::Plain => plain(heap, job, out, stdout, stderr),
     }
 }
@@ -67,11 +68,14 @@ enum Device {
 /// One that does not fail.
 const SOUND: Device = Device::Works(u64::MAX);
 
-/// A subcommand, and its job with what this is read from.
-type Run = (Command, &'static [u8], Device);
+/// One that is not there.
+const NONE: Device = Device::Missing;
 
-/// An exit status, and what is written on standard output and on standard error.
-type Answer = (u8, &'static [u8], &'static [u8]);
+/// A subcommand, and its job with what this is read from and what OUT is.
+type Run = (Command, &'static [u8], Device, Device);
+
+/// An exit status, what is written on standard output and on standard error, and what OUT has.
+type Answer = (u8, &'static [u8], &'static [u8], &'static [u8]);
 
 const READ: &[u8] = b"ERROR read\n";
 
@@ -80,141 +84,136 @@ const WRITE: &[u8] = b"ERROR write\n";
 const GLYPH: &[u8] =
     b"glyph 65 10U 10 12 0 0 3 22860000000 9144000000 18288000000 12801600000 24384000000\n";
 
-const RUNS: &[(Run, Answer)] = &[
-    ((Command::List, b"", SOUND), (0, b"", b"")),
+const LISTS: &[(Run, Answer)] = &[
+    ((Command::List, b"", SOUND, NONE), (0, b"", b"", b"")),
     (
-        (Command::List, b"\x1bE\x1b&l2a0O\x0c", SOUND),
-        (0, b"0 \\x1bE\n2 \\x1b&l2A\n7 \\x1b&l0O\n9 \\x0c\n", b""),
+        (Command::List, b"\x1bE\x1b&l2a0O\x0c", SOUND, NONE),
+        (
+            0,
+            b"0 \\x1bE\n2 \\x1b&l2A\n7 \\x1b&l0O\n9 \\x0c\n",
+            b"",
+            b"",
+        ),
     ),
     (
-        (Command::List, b"\x1bE\x1b&l2a66P", SOUND),
+        (Command::List, b"\x1bE\x1b&l2a66P", SOUND, NONE),
         (
             1,
             b"0 \\x1bE\n2 \\x1b&l2A\n7 FAULT 3 NotInProfile(&lP)\n",
             b"",
+            b"",
         ),
     ),
     // What was read is listed before a read that fails.
-    ((Command::List, b"", Device::Works(0)), (3, b"", READ)),
     (
-        (Command::List, b"\x1bEA\x1bE", Device::Works(3)),
-        (3, b"0 \\x1bE\n2 A\n", READ),
+        (Command::List, b"", Device::Works(0), NONE),
+        (3, b"", READ, b""),
     ),
-    ((Command::Pages("b"), b"\x1bE", SOUND), (0, b"", b"")),
     (
-        (Command::Pages("a"), b"\x1bE\x0c", SOUND),
+        (Command::List, b"\x1bEA\x1bE", Device::Works(3), NONE),
+        (3, b"0 \\x1bE\n2 A\n", READ, b""),
+    ),
+];
+
+const PAGES: &[(Run, Answer)] = &[
+    (
+        (Command::Pages("b"), b"\x1bE", SOUND, NONE),
+        (0, b"", b"", b""),
+    ),
+    (
+        (Command::Pages("a"), b"\x1bE\x0c", SOUND, NONE),
         (
             0,
             b"page 1 size=2 orientation=0 sides=0 tray=1 copies=1\n",
             b"",
+            b"",
         ),
     ),
     (
-        (Command::Pages("b"), b"\x1bEA\x1b)", SOUND),
+        (Command::Pages("b"), b"\x1bEA\x1b)", SOUND, NONE),
         (
             1,
             b"glyph 65 10U 10 12 0 0 3 22860000000 9144000000 18288000000 12801600000 24384000000\nFAIL at=3 profile=0 3 NotInProfile())\n",
             b"",
-        ),
-    ),
-    (
-        (Command::Pages("b"), b"\x1bE\x1b&p2XA\r", SOUND),
-        (
-            1,
-            b"glyph 65 10U 10 12 0 0 3 22860000000 9144000000 18288000000 12801600000 24384000000\nFAIL at=2 profile=1 14 NoGlyph\n",
             b"",
         ),
     ),
     (
-        (Command::Pages("b"), b"\x1bEA\x0c", Device::Works(3)),
-        (3, GLYPH, READ),
+        (Command::Pages("b"), b"\x1bE\x1b&p2XA\r", SOUND, NONE),
+        (
+            1,
+            b"glyph 65 10U 10 12 0 0 3 22860000000 9144000000 18288000000 12801600000 24384000000\nFAIL at=2 profile=1 14 NoGlyph\n",
+            b"",
+            b"",
+        ),
+    ),
+    (
+        (Command::Pages("b"), b"\x1bEA\x0c", Device::Works(3), NONE),
+        (3, GLYPH, READ, b""),
     ),
     // The profile is read and judged before the job.
     (
-        (Command::Pages("version"), b"", Device::Works(0)),
-        (2, b"", b"ERROR profile 1 1 Version\n"),
+        (Command::Pages("version"), b"", Device::Works(0), NONE),
+        (2, b"", b"ERROR profile 1 1 Version\n", b""),
     ),
     (
-        (Command::Pages("range"), b"", Device::Works(0)),
-        (2, b"", b"ERROR profile 1 3 Range\n"),
+        (Command::Pages("range"), b"", Device::Works(0), NONE),
+        (2, b"", b"ERROR profile 1 3 Range\n", b""),
     ),
-    ((Command::Pages("none"), b"", SOUND), (3, b"", READ)),
-    ((Command::Pages("b"), b"", Device::Works(0)), (3, b"", READ)),
+    (
+        (Command::Pages("none"), b"", SOUND, NONE),
+        (3, b"", READ, b""),
+    ),
+    (
+        (Command::Pages("b"), b"", Device::Works(0), NONE),
+        (3, b"", READ, b""),
+    ),
 ];
 
-/// Runs a subcommand, and compares what it did.
-fn assert_run(rt: &(impl Abort + AllocGlobal), run: Run, answer: Answer) {
-    let (command, bytes, device) = run;
-    let mut job = match device {
-        Device::Missing => File::missing(FailingSource::new(bytes, 0)),
-        Device::Works(reads) => File::new(FailingSource::new(bytes, reads)),
-    };
-    let mut out = File::missing(FailingOutlet::new(rt.alloc(), 0));
-    let mut stdout = Watched::new(Vec::new(rt.alloc()));
-    let mut stderr = Watched::new(Vec::new(rt.alloc()));
-    let status = status_of(
-        command,
-        rt.alloc(),
-        &mut job,
-        &mut out,
-        &mut stdout,
-        &mut stderr,
-    );
-    let written = (stdout.get_ref().as_slice(), stderr.get_ref().as_slice());
-    let (code, output, error) = answer;
-    assert_eq!(rt;
-        (status.code(), written),
-        (code, (output, error)),
-        "{command:?} of {bytes:?}"
-    );
-    assert!(rt; !out.has_failed(), "{command:?} of {bytes:?}");
-}
-
-#[test]
-fn lists_and_pages_come_to_this(rt: HostRuntime) {
-    for (run, answer) in RUNS {
-        assert_run(&rt, *run, *answer);
-    }
-}
-
-/// A job with what it is read from, and what OUT is.
-type Copying = (&'static [u8], Device, Device);
-
-/// Jobs that are written to OUT, an exit status with what stands on standard output and on standard error, and what OUT has.
-const PLAINS: &[(Copying, Answer, &[u8])] = &[
-    ((b"", SOUND, SOUND), (0, b"", b""), b""),
+const PLAINS: &[(Run, Answer)] = &[
+    ((Command::Plain, b"", SOUND, SOUND), (0, b"", b"", b"")),
     (
-        (b"\x1b&l02a.0O", SOUND, SOUND),
-        (0, b"", b""),
-        b"\x1b&l2A\x1b&l0O",
+        (Command::Plain, b"\x1b&l02a.0O", SOUND, SOUND),
+        (0, b"", b"", b"\x1b&l2A\x1b&l0O"),
     ),
     (
-        (b"\x1b&l02A\x1b)", SOUND, SOUND),
-        (1, b"FAIL at=6 profile=0 3 NotInProfile())\n", b""),
-        b"\x1b&l2A",
+        (Command::Plain, b"\x1b&l02A\x1b)", SOUND, SOUND),
+        (
+            1,
+            b"FAIL at=6 profile=0 3 NotInProfile())\n",
+            b"",
+            b"\x1b&l2A",
+        ),
     ),
     (
-        (b"\x1b%-12345X@PJL set\n", SOUND, SOUND),
-        (1, b"FAIL at=9 profile=0 5 Pjl\n", b""),
-        b"\x1b%-12345X",
+        (Command::Plain, b"\x1b%-12345X@PJL set\n", SOUND, SOUND),
+        (1, b"FAIL at=9 profile=0 5 Pjl\n", b"", b"\x1b%-12345X"),
     ),
     // The job is opened before OUT is created, and OUT is created before the job is read.
-    ((b"", Device::Missing, Device::Missing), (3, b"", READ), b""),
-    ((b"", Device::Missing, SOUND), (3, b"", READ), b""),
-    ((b"", SOUND, Device::Missing), (3, b"", WRITE), b""),
+    ((Command::Plain, b"", NONE, NONE), (3, b"", READ, b"")),
+    ((Command::Plain, b"", NONE, SOUND), (3, b"", READ, b"")),
+    ((Command::Plain, b"", SOUND, NONE), (3, b"", WRITE, b"")),
     (
-        (b"", Device::Works(0), Device::Missing),
-        (3, b"", WRITE),
-        b"",
+        (Command::Plain, b"", Device::Works(0), NONE),
+        (3, b"", WRITE, b""),
     ),
-    ((b"", Device::Works(0), SOUND), (3, b"", READ), b""),
-    ((b"ABC", Device::Works(2), SOUND), (3, b"", READ), b"AB"),
-    ((b"ABC", SOUND, Device::Works(2)), (3, b"", WRITE), b"AB"),
+    (
+        (Command::Plain, b"", Device::Works(0), SOUND),
+        (3, b"", READ, b""),
+    ),
+    (
+        (Command::Plain, b"ABC", Device::Works(2), SOUND),
+        (3, b"", READ, b"AB"),
+    ),
+    (
+        (Command::Plain, b"ABC", SOUND, Device::Works(2)),
+        (3, b"", WRITE, b"AB"),
+    ),
 ];
 
-/// Runs `plain`, and compares what it did.
-fn assert_plain(rt: &(impl Abort + AllocGlobal), copying: Copying, answer: Answer, taken: &[u8]) {
-    let (bytes, from, to) = copying;
+/// Runs a subcommand, and compares what it did. The job has failed where its own device tells of it, and OUT where it cannot be written.
+fn assert_run(rt: &(impl Abort + AllocGlobal), run: Run, answer: Answer) {
+    let (command, bytes, from, to) = run;
     let mut job = match from {
         Device::Missing => File::missing(FailingSource::new(bytes, 0)),
         Device::Works(reads) => File::new(FailingSource::new(bytes, reads)),
@@ -226,36 +225,51 @@ fn assert_plain(rt: &(impl Abort + AllocGlobal), copying: Copying, answer: Answe
     let mut stdout = Watched::new(Vec::new(rt.alloc()));
     let mut stderr = Watched::new(Vec::new(rt.alloc()));
     let status = status_of(
-        Command::Plain,
+        command,
         rt.alloc(),
         &mut job,
         &mut out,
         &mut stdout,
         &mut stderr,
     );
-    let (code, output, error) = answer;
-    let written = (stdout.get_ref().as_slice(), stderr.get_ref().as_slice());
+    let (output, error) = (stdout.get_ref().as_slice(), stderr.get_ref().as_slice());
     assert_eq!(rt;
-        (status.code(), written, out.get_ref().taken()),
-        (code, (output, error), taken),
-        "{copying:?}"
+        (status.code(), output, error, out.get_ref().taken()),
+        answer,
+        "{run:?}"
     );
+    let is_sound = matches!(from, Device::Works(u64::MAX));
     let have_failed = (job.has_failed(), out.has_failed());
     assert!(rt;
-        have_failed == (error == READ, error == WRITE),
-        "{copying:?}"
+        have_failed == (error == READ && !is_sound, error == WRITE),
+        "{run:?}"
     );
 }
 
 #[test]
+fn lists_come_to_this(rt: HostRuntime) {
+    for (run, answer) in LISTS {
+        assert_run(&rt, *run, *answer);
+    }
+}
+
+#[test]
+fn pages_come_to_this(rt: HostRuntime) {
+    for (run, answer) in PAGES {
+        assert_run(&rt, *run, *answer);
+    }
+}
+
+#[test]
 fn plain_jobs_come_to_this(rt: HostRuntime) {
-    for (copying, answer, taken) in PLAINS {
-        assert_plain(&rt, *copying, *answer, taken);
+    for (run, answer) in PLAINS {
+        assert_run(&rt, *run, *answer);
     }
 }
 
 /// Subcommands whose standard output fails at each write in turn, how many of its writes of 7 bytes succeed, and what it has then.
 const FAILING: &[(Command, &[u8], u64, &[u8])] = &[
+    (Command::Check, b"", 3, b"PASS pages=0 marks=0\n"),
     (Command::List, b"\x1bE\x0c", 2, b"0 \\x1bE\n2 \\x0c\n"),
     (
         Command::Pages("b"),
@@ -309,7 +323,12 @@ fn each_write_of_standard_output_fails_in_turn(rt: HostRuntime) {
 }
 
 /// Subcommands of a job with a fault, each of whose requests for memory is refused in turn.
-const COMMANDS: &[Command] = &[Command::List, Command::Pages("b"), Command::Plain];
+const COMMANDS: &[Command] = &[
+    Command::Check,
+    Command::List,
+    Command::Pages("b"),
+    Command::Plain,
+];
 
 /// Whether a subcommand ended for want of memory, with its one line on standard error and no verdict on standard output.
 fn is_want_of_memory(status: Status, (output, error): (&[u8], &[u8])) -> bool {
