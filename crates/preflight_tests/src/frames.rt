@@ -14,9 +14,9 @@ use verdict_rows::{Expected, check_in_sizes};
 /// A job, and its marks and pages.
 type Drawn = (&'static [u8], &'static [u8]);
 
-/// The lines of jobs by the moves of their pens, and the place of the cursor behind a frame.
+/// The lines of jobs by the moves of their pens. More stand among the texts of pages.
 const LINES_BY_MOVES: &[Drawn] = &[
-    // IN returns the pen and its way to move, and no part of the frame.
+    // IN returns the pen to where it began.
     (
         b"\x1bE\x1b%0BSP1PD5,5;IN;SP1PD;\x1b%0A",
         b"line 504000000 9144000000 384048000000 9144000000 384048000000\n\
@@ -39,7 +39,7 @@ line 504000000 9144000000 384048000000 9324000000 383868000000\n\
 line 504000000 9324000000 383868000000 9324000000 383868000000\n\
 page 1 size=2 orientation=0 sides=0 tray=1 copies=1\n",
     ),
-    // Behind the cursor the pen keeps a part of a plotter unit where it moves relative, and not where absolute.
+    // From the cursor the pen keeps no part of a plotter unit where it moves absolute.
     (
         b"\x1bE\x1b*p100x100Y\x1b%1BSP1PD;PA400,9000;\x1b%0A",
         b"line 504000000 21336000000 30480000000 21336000000 30480000000\n\
