@@ -1,5 +1,5 @@
 -- The ends of a line, the start of a row, and places of two parts.
-use Rattle.std.proofs.Common.{arith, ◌≡◌, ℕ, ◌+◌, ◌*◌, ◌^◌, ◌≤◌, ℤ, pos, Bool, true, false, not, ◌&&◌, ◌||◌, cond, Some, None, refl, ap, ◌∙◌}
+use Rattle.std.proofs.Common.{arith, ◌≡◌, ℕ, ◌+◌, ◌*◌, ◌^◌, ◌≤◌, ℤ, pos, Bool, true, false, not, ◌&&◌, ◌||◌, cond, Option, Some, None, option_map, refl, ap, ◌∙◌}
 use Rattle.std.specs.Prelude.{◌+ℤ◌, ◌-ℤ◌, int_lt}
 use Rattle.std.specs.Int.{int_min, int_max}
 use Rattle.std.proofs.lemmas.Int.{ints}
@@ -66,6 +66,11 @@ pub second_missing : {X Y Z : Type 0} (b c : Bool) (x taken_x : X) (y : Y) (z : 
 second_missing true true x taken_x y z e f = absurd cc
 second_missing true false x taken_x y z e f = refl
 second_missing false c x taken_x y z e f = absurd cc
+
+-- the first of two that are taken together
+pub first_of_both : {X Y : Type 0} (b : Bool) (x : X) (y : Y) (r : Option (X × Y)) → r ≡ cond b (Some (x, y)) None → option_map (λ both. both.0) r ≡ cond b (Some x) None
+first_of_both true x y r e = ap (option_map (λ both. both.0)) e
+first_of_both false x y r e = ap (option_map (λ both. both.0)) e
 
 -- of a box whose right edge lies past a bound
 pub right_missing : {X : Type 0} (b c d : Bool) (x : X) → c ≡ false → None ≡ cond ((b && c) && d) (Some x) None

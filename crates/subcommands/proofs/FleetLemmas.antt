@@ -1,5 +1,5 @@
 -- Lemmas on fleets.
-use Rattle.std.proofs.Common.{◌≡◌, ◌≢◌, ◌<◌, ◌≤◌, ◌+◌, suc, ℕ, List, [], ◌∷◌, ◌++◌, map, take, drop, length, get_or, Option, Some, append-nil, append_assoc, refl, sym, ◌∙◌, ap, subst, arith}
+use Rattle.std.proofs.Common.{false, ◌≡◌, ◌≢◌, ◌<◌, ◌≤◌, ◌+◌, suc, ℕ, List, [], ◌∷◌, ◌++◌, map, take, drop, length, get_or, Option, Some, append-nil, append_assoc, refl, sym, ◌∙◌, ap, subst, arith}
 use Rattle.std.proofs.Math.Seq.{split_at}
 use Rattle.std.proofs.lemmas.List.{map_more, map-append, length-map, length-take, take_all}
 use Rattle.device_profile.specs.declared.fault.ProfileFault.{ProfileFault}
@@ -7,10 +7,14 @@ use Rattle.device_profile.specs.declared.fault.ProfileFault.TheVariants.{Fault, 
 use Rattle.device_profile.specs.Printer.{Printer}
 use Rattle.device_profile.specs.Text.{IsErrorOfText}
 use Rattle.preflight.specs.declared.error.Error.TheVariants.{Memory, Read, Write, Turns, NoProfile}
+use Rattle.preflight.specs.declared.verdict.Verdict.{Verdict}
+use Rattle.preflight.specs.Outlet.{Written}
 use Rattle.subcommands.specs.declared.status.Status.{Status}
 use Rattle.subcommands.specs.declared.status.Status.TheVariants.{Pass, Fail, Help, Words, Profile, Stopped}
-use Rattle.subcommands.specs.Status.{refusal_of}
+use Rattle.subcommands.specs.Check.{Leaves}
+use Rattle.subcommands.specs.Status.{is_stop_of_write, refusal_of}
 use Rattle.subcommands.specs.Fleet.{Describes, DescribeBy, DescribeFleet, IsReached, IsRefused, IsEndOfProfile, IsEndOfFleet, RefusesBy, RefusesRead}
+use Rattle.subcommands.proofs.LeavesLemmas.{Stays-none}
 
 -- one more text describes one more printer
 DescribeFleet-more : (texts : List (Option (List ℕ))) (printers : List Printer) (text : Option (List ℕ)) (printer : Printer) →
@@ -128,3 +132,42 @@ pub refused_behind : {X : Type 0} (f : X → Option (List ℕ)) (words : List X)
 refused_behind f words i start mid after printers status h named described refused =
     let count : length printers ≡ i = omega (arith, described_count (map f (take i words)) printers named, length-map (take i words) f, length-take i words) in
     behind_described start mid after printers i status described count refused
+
+-- where there is no fleet, no line is written
+pub no_line : (texts : List (Option (List ℕ))) (status : Status) (P : Verdict → Type 0) (a : Written) → IsEndOfFleet texts status → Leaves status P a a
+no_line texts (Profile number line cause) P a end = Stays-none a
+no_line texts (Stopped Memory) P a end = Stays-none a
+no_line texts (Stopped Read) P a end = Stays-none a
+no_line texts (Stopped Write) P a end = absurd end
+no_line texts (Stopped Turns) P a end = absurd end
+no_line texts (Stopped NoProfile) P a end = absurd end
+no_line texts Pass P a end = absurd end
+no_line texts Fail P a end = absurd end
+no_line texts Help P a end = absurd end
+no_line texts Words P a end = absurd end
+
+-- nor did a write fail
+pub no_write : (texts : List (Option (List ℕ))) (status : Status) → IsEndOfFleet texts status → false ≡ is_stop_of_write status
+no_write texts (Profile number line cause) end = refl
+no_write texts (Stopped Memory) end = refl
+no_write texts (Stopped Read) end = refl
+no_write texts (Stopped Write) end = absurd end
+no_write texts (Stopped Turns) end = absurd end
+no_write texts (Stopped NoProfile) end = absurd end
+no_write texts Pass end = refl
+no_write texts Fail end = refl
+no_write texts Help end = refl
+no_write texts Words end = refl
+
+-- where a profile is not had, no write failed
+pub no_write_before : (number : ℕ) (text : Option (List ℕ)) (status : Status) → IsEndOfProfile number text status → false ≡ is_stop_of_write status
+no_write_before number text (Profile refused line cause) end = refl
+no_write_before number text (Stopped Memory) end = refl
+no_write_before number text (Stopped Read) end = refl
+no_write_before number text (Stopped Write) end = absurd end
+no_write_before number text (Stopped Turns) end = absurd end
+no_write_before number text (Stopped NoProfile) end = absurd end
+no_write_before number text Pass end = refl
+no_write_before number text Fail end = refl
+no_write_before number text Help end = refl
+no_write_before number text Words end = refl

@@ -14,7 +14,8 @@ use Rattle.preflight.specs.Outlet.{Written}
 use Rattle.preflight.proofs.OutletLemmas.{Adds-none}
 use Rattle.subcommands.specs.declared.status.Status.{Status}
 use Rattle.subcommands.specs.declared.status.Status.TheVariants.{Pass, Fail, Help, Words, Profile, Stopped}
-use Rattle.subcommands.specs.JobTexts.{Reads, Stands, StandsInFront, LeavesAtStopBeside, LeavesLine, LeavesPages, LeavesPagesOf, LeavesTextAndLine}
+use Rattle.subcommands.specs.Fleet.{IsEndOfProfile}
+use Rattle.subcommands.specs.JobTexts.{Reads, reads_by, Stands, StandsInFront, LeavesAtStopBeside, LeavesLine, LeavesPages, LeavesPagesOf, LeavesTextAndLine}
 use Rattle.subcommands.proofs.LeavesLemmas.{Stays-none}
 
 nothing_spelled : IsReading [] (Whole [] 0)
@@ -84,3 +85,13 @@ pages_left Help IsPrinter job old new left = left
 pages_left Words IsPrinter job old new left = left
 pages_left (Profile number line cause) IsPrinter job old new left = absurd left.3
 pages_left (Stopped error) IsPrinter job old new left = inr left
+
+-- where the profile is not had, nothing was read of the job, and nothing written
+pub no_pages : (number : ℕ) (text : Option (List ℕ)) (status : Status) (IsPrinter : Printer → Type 0) (given : List (List ℕ)) (remaining : Option (List ℕ)) (a : Written) → IsEndOfProfile number text status →
+    LeavesPages status IsPrinter (reads_by given given remaining remaining) a a
+no_pages number text (Profile refused line cause) IsPrinter given remaining a end = (refl, Stays-none a)
+no_pages number text (Stopped error) IsPrinter given remaining a end = inl (refl, Stays-none a)
+no_pages number text Pass IsPrinter given remaining a end = absurd end
+no_pages number text Fail IsPrinter given remaining a end = absurd end
+no_pages number text Help IsPrinter given remaining a end = absurd end
+no_pages number text Words IsPrinter given remaining a end = absurd end

@@ -3,7 +3,7 @@ use Rattle.pcl_items.specs.LexerState.{LexerState}
 use Rattle.pcl_items.specs.Lexing.{IsNext, answer_of}
 use Rattle.preflight.specs.declared.check.Progress.{Progress}
 use Rattle.preflight.specs.Carriers.Lockstep.{machines_of, counts_of}
-use Rattle.preflight.proofs.Answered.{ComesOn, comes_on}
+use Rattle.preflight.proofs.Answered.{ComesOn, comes_on, read_admitted}
 use Rattle.preflight.proofs.check.carry_out_commands.Goals.{in-Some+in_ok-failed, in_default+in-Some-next_control+in_ok-failed-2, in_default+in_default-next_control+in-Some-next_pair+in_ok-failed-3}
 use Rattle.preflight.proofs.check.carry_out_commands.Goals as goal
 
@@ -18,6 +18,19 @@ loop-read-init g c = record {
   place = refl;
   no_more = omega arith;
 }
+
+pub carry_out_read-requires-clause-admitted : goal.carry_out_read-requires-clause-admitted
+carry_out_read-requires-clause-admitted g c = read_admitted _ _ c.in-Some.read _ c.in-Some.ensures.command c.loop-read.invariant.through.modes
+
+pub carry_out_read-requires-in-Some-next_control-clause-admitted : goal.carry_out_read-requires-in-Some-next_control-clause-admitted
+carry_out_read-requires-in-Some-next_control-clause-admitted g c =
+    let next = subst (λ old. IsNext old (answer_of c.in-Some-next_control.read) c.next_control.new.self) c.in_default.ensures.none c.in-Some-next_control.ensures.control in
+    read_admitted _ _ c.in-Some-next_control.read _ next c.loop-read.invariant.through.modes
+
+pub carry_out_read-requires-in-Some-next_pair-clause-admitted : goal.carry_out_read-requires-in-Some-next_pair-clause-admitted
+carry_out_read-requires-in-Some-next_pair-clause-admitted g c =
+    let next = subst (λ old. IsNext old (answer_of c.in-Some-next_pair.read) c.next_pair.new.self) (c.in_default-next_control.ensures.none ∙ c.in_default.ensures.none) c.in-Some-next_pair.ensures.pair in
+    read_admitted _ _ c.in-Some-next_pair.read _ next c.loop-read.invariant.through.modes
 
 pub returns-in-Some-failed-clause-came : goal.returns-in-Some-failed-clause-came
 returns-in-Some-failed-clause-came g c =

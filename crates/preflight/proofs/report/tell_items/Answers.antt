@@ -1,4 +1,4 @@
-use Rattle.std.proofs.Common.{◌≡◌, ap, ◌∙◌, refl, [], Ok}
+use Rattle.std.proofs.Common.{◌≡◌, ap, ◌∙◌, refl, [], Ok, is_some}
 use Rattle.pcl_items.specs.Items.{at, view}
 use Rattle.pcl_items.specs.Modes.{mode_of}
 use Rattle.pcl_items.specs.Reading.{Whole, Stopped}
@@ -9,6 +9,14 @@ use Rattle.preflight.proofs.report.tell_items.Goals as goal
 
 pub loop-place-init : goal.loop-place-init
 loop-place-init g c = record { working = c.requires.working; ended = refl; place = refl; mode = c.requires.mode; told = λ first start bytes h. h }
+
+pub item-requires-clause-admitted : goal.item-requires-clause-admitted
+item-requires-clause-admitted g c =
+    let is = c.in-Ok-Item.is ∙ ap Ok c.in-Ok-Item.field-0-is in
+    (_, c.loop-place.invariant.mode, ap is_some (item_admitted _ _ _ c.next.follows.holds-at-none _ _ is))
+
+pub end-requires-clause-ready : goal.end-requires-clause-ready
+end-requires-clause-ready g c = (_, c.loop-place.invariant.mode)
 
 pub returns-in_err-told-in-Ok-Item-clause-came : goal.returns-in_err-told-in-Ok-Item-clause-came
 returns-in_err-told-in-Ok-Item-clause-came g c = λ first start bytes h total.

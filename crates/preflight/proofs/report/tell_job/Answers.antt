@@ -1,6 +1,7 @@
 use Rattle.std.proofs.Common.{ap, sym, subst, Ok, arith}
 use Rattle.pcl_items.specs.Modes.{mode_of}
 use Rattle.pcl_items.specs.LexerState.{LexerState}
+use Rattle.std.proofs.lemmas.Result.{err_from_is_err_and}
 use Rattle.preflight.proofs.Feeding.{fed_none}
 use Rattle.preflight.proofs.PieceLemmas.{by_length}
 use Rattle.preflight.proofs.Tellings.{nothing_decided, told_none}
@@ -31,6 +32,9 @@ loop-preserved g c =
       mode = went.goes_on (ap Ok c.in-None.is);
     }
 
+pub tell_piece-requires-clause-room : goal.tell_piece-requires-clause-room
+tell_piece-requires-clause-room g c = omega (arith, c.loop.invariant.way.fed.most, c.loop-test.true)
+
 pub returns-in_err-came-clause-front : goal.returns-in_err-came-clause-front
 returns-in_err-came-clause-front g c = if_err c.from_residual.result (c.in_err-came.ensures.came _ _ _ _ _ c.loop.invariant.way).0
 
@@ -48,3 +52,13 @@ pub returns-clause-long : goal.returns-clause-long
 returns-clause-long g c =
     let way = c.loop.invariant.way.fed in
     λ _. by_length _ _ way.pieces _ _ way.bytes way.given way.spelled way.consumed (omega (arith, way.total_is, way.least))
+
+pub returns-in_err-came-clause-read : goal.returns-in_err-came-clause-read
+returns-in_err-came-clause-read g c =
+    let same = err_from_is_err_and c.from_residual.result c.from_residual.ensures.1 in
+    rw (same.1, same.2) c.in_err-came.ensures.read
+
+pub returns-in_err-came-clause-write : goal.returns-in_err-came-clause-write
+returns-in_err-came-clause-write g c =
+    let same = err_from_is_err_and c.from_residual.result c.from_residual.ensures.1 in
+    rw (same.1, same.2) c.in_err-came.ensures.write

@@ -1,4 +1,5 @@
 use Rattle.std.proofs.Common.{rules, subst, ◌∙◌}
+use Rattle.std.proofs.lemmas.Result.{err_from_is_err_and}
 use Rattle.preflight.specs.Outlet.{Adds}
 use Rattle.subcommands.specs.Check.{read_by, IsRight}
 use Rattle.subcommands.proofs.LeavesLemmas.{LeavesAtStop-memory}
@@ -16,3 +17,14 @@ returns-clause-ok g c = (
   subst (λ text. Adds (g.O.Outlet.written c.args.stdout.now) (g.O.Outlet.written c.write_text.new.outlet) text) (c.as_slice.ensures.value ∙ c.in_ok-line.ensures)
       (c.in_ok-write_text.ensures.text.whole (search rules)),
 )
+
+pub returns-in_err-line-clause-read : goal.returns-in_err-line-clause-read
+returns-in_err-line-clause-read g c =
+    let same = err_from_is_err_and c.from_residual-in_err-line.result c.from_residual-in_err-line.ensures.1 in
+    rw (same.1, same.2) c.in_ok-verdict.ensures.read
+
+pub returns-clause-read : goal.returns-clause-read
+returns-clause-read g c = c.in_ok-verdict.ensures.read
+
+pub returns-clause-write : goal.returns-clause-write
+returns-clause-write g c = c.in_ok-write_text.ensures.status

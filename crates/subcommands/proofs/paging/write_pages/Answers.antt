@@ -1,9 +1,25 @@
-use Rattle.std.proofs.Common.{inr, subst}
+use Rattle.std.proofs.Common.{◌||◌, ◌∙◌, ap, inr, subst}
 use Rattle.device_profile.specs.Printer.{first_panel}
 use Rattle.preflight.specs.Due.{WritesDue, WritesFront, pages_telling}
+use Rattle.subcommands.specs.Fleet.{IsEndOfProfile}
 use Rattle.subcommands.specs.JobTexts.{IsNamed, reads_by}
-use Rattle.subcommands.proofs.JobTextLemmas.{pages_left, stopped_within, told}
+use Rattle.subcommands.specs.Status.{is_err_at_read}
+use Rattle.subcommands.proofs.FleetLemmas.{no_write_before}
+use Rattle.subcommands.proofs.JobTextLemmas.{no_pages, pages_left, stopped_within, told}
 use Rattle.subcommands.proofs.paging.write_pages.Goals as goal
+
+pub returns-in-Err-clause-lines : goal.returns-in-Err-clause-lines
+returns-in-Err-clause-lines g c = no_pages 1 _ c.in-Err.status _ _ _ _ c.in-Err.ensures.profile
+
+pub returns-in-Err-clause-read : goal.returns-in-Err-clause-read
+returns-in-Err-clause-read g c =
+    ap (λ failed. failed || g.T.ProfileTexts.failed c.read_profile.new.texts) c.requires.job ∙ (c.read_profile.ensures.read ∙ ap is_err_at_read c.in-Err.is)
+
+pub returns-in-Err-clause-write : goal.returns-in-Err-clause-write
+returns-in-Err-clause-write g c = c.requires.stdout ∙ no_write_before 1 _ c.in-Err.status c.in-Err.ensures.profile
+
+pub returns-in-Err-clause-turns : goal.returns-in-Err-clause-turns
+returns-in-Err-clause-turns g c = λ is. absurd (subst (IsEndOfProfile 1 _) is c.in-Err.ensures.profile)
 
 pub returns-in-Ok-pages_of-clause-lines : goal.returns-in-Ok-pages_of-clause-lines
 returns-in-Ok-pages_of-clause-lines g c =

@@ -1,4 +1,4 @@
-use Rattle.std.proofs.Common.{◌∷◌, take, ap, sym, subst, ◌∙◌, arith}
+use Rattle.std.proofs.Common.{◌∷◌, take, refl, ap, sym, subst, ◌∙◌, arith}
 use Rattle.page_machine.specs.TextRun.{PrintsText}
 use Rattle.sinks.specs.Recorder.{Recorded}
 use Rattle.preflight.specs.Carriers.Each.{Each}
@@ -49,3 +49,12 @@ returns-clause-step g c =
     subst (λ ms. PrintInStep text (before.first ∷ before.others.items) (c.pass_text.new.self ∷ ms) before.recorder.counts c.add_marks.new.self.counts) (sym whole)
     (subst (λ counts. PrintInStep text (before.first ∷ before.others.items) (c.pass_text.new.self ∷ others) before.recorder.counts counts) (sym counted)
     (print_in_step text look (before.first ∷ before.others.items) (c.pass_text.new.self ∷ others) before.recorder.counts c.requires.running c.requires.modes (c.pass_text.ensures, each)))
+
+pub pass_text-requires-clause-no_definition : goal.pass_text-requires-clause-no_definition
+pass_text-requires-clause-no_definition g c = c.in-Some.ensures.1
+
+pub returns-in_default-clause-step : goal.returns-in_default-clause-step
+returns-in_default-clause-step g c = (refl, refl)
+
+pub returns-in_default-text_on_others : goal.returns-in_default-text_on_others
+returns-in_default-text_on_others g c = record { short = omega arith; text = tt; step = (refl, refl) }

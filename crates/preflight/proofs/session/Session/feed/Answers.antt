@@ -1,4 +1,4 @@
-use Rattle.std.proofs.Common.{◌++◌, ◌+◌, length, false, refl, sym, subst}
+use Rattle.std.proofs.Common.{arith, ◌++◌, ◌+◌, length, false, refl, sym, subst}
 use Rattle.preflight.specs.Carriers.Lockstep.{machines_of, counts_of}
 use Rattle.preflight.specs.Session.{ChecksTo, HasChecked, SessionState}
 use Rattle.preflight.proofs.Answered.{came_on, came_to_fail}
@@ -24,3 +24,13 @@ returns-in-Ok-Failed-clause-fed g c = λ fleet bytes checked.
     let old : SessionState = record { lexer = inside.lexer; machines = machines_of inside.machines; counts = counts_of inside.machines; total = inside.total; standing = inside.standing } in
     let carried = subst (λ s. ChecksTo s fleet bytes old) c.in-Open.is (subst (HasChecked fleet bytes) (sym c.self.view_is) checked) in
     came_to_fail fleet (bytes ++ piece) false fed.lexer (machines_of fed.machines) (counts_of fed.machines) c.in-Ok-Failed.field-0 c.in-Ok-Failed.place c.in-Ok-Failed.profile c.in-Ok-Failed.finding c.in-Ok-Failed.field-0-is (c.in-Ok-Failed.ensures.came fleet bytes carried.0)
+
+pub feed_parts-requires-clause-modes : goal.feed_parts-requires-clause-modes
+feed_parts-requires-clause-modes g c =
+    let ready = c.self.invariant c.in-Open.is in
+    ready.3
+
+pub feed_parts-requires-clause-total : goal.feed_parts-requires-clause-total
+feed_parts-requires-clause-total g c =
+    let ready = c.self.invariant c.in-Open.is in
+    omega (arith, ready.4, ready.5, c.if-piece-self.false)
