@@ -1,15 +1,11 @@
 //! Requests for memory that are refused.
 
 use crate::jobs::PAGE;
-use device_profile::{Profile, Sample};
-use event_rows::step_all;
-use job_items::{RECTANGLE, items_of};
-use page_machine::{Machine, Start, Stop};
-use pcl_items::{OwnedItem, Place};
+use device_profile::Profile;
+use job_items::RECTANGLE;
 use preflight::{Error, Watched, check_job};
 use printers::{Printer, fleet_of};
 use refusing::Refusing;
-use sinks::Counts;
 use std::alloc::Global;
 use std::process::Abort;
 use std::test::Fail;
@@ -88,87 +84,19 @@ fn each_request_is_refused_in_turn(rt: HostRuntime) -> Result<(), Fail> {
     Ok(())
 }
 
+/// A macro of text, which is not run.
 const DEFINITION: &[u8] = b"\x1bE\x1b&f0XA\x1b&p2XBC\x1b&f1X";
 
-/// Whether a machine carries all items out with so many requests for memory. One that does not is stopped.
-fn go_with(
-    rt: &impl Abort,
-    alloc: Global,
-    profile: &Profile,
-    items: &[(Place, OwnedItem)],
-    requests: u64,
-) -> Result<bool, Fail> {
-    let heap = Refusing::new(alloc, requests);
-    let mut machine = Machine::new(&heap, profile, Start::Unknown);
-    let mut counts = Counts::none();
-    let Err(stop) = step_all(&mut machine, items, &mut counts)? else {
-        return Ok(true);
-    };
-    let end = machine.finish(DEFINITION.len() as u64, &mut counts);
-    let is_stopped = matches!((stop, end), (Stop::Memory(_), Err(Stop::Stopped)));
-    assert!(rt; is_stopped, "{requests} requests");
-    Ok(false)
-}
-
-/// How many requests for memory a machine makes, each of which was refused in turn.
-fn requests_to_go(
-    rt: &impl Abort,
-    alloc: Global,
-    profile: &Profile,
-    items: &[(Place, OwnedItem)],
-) -> Result<u64, Fail> {
-    for requests in 0..1000 {
-        if go_with(rt, alloc, profile, items, requests)? {
-            return Ok(requests);
-        }
-    }
-    Err(Fail::new("more than 1000 requests"))
-}
-
-#[test]
-fn a_machine_stops_where_memory_is_refused(rt: HostRuntime) -> Result<(), Fail> {
-    let profile = Sample::B.profile(rt.alloc())?;
-    let items = items_of(rt.alloc(), DEFINITION)?;
-    let requests = requests_to_go(&rt, rt.alloc(), &profile, &items)?;
-    // For the entry of the macro, and for its items.
-    assert!(rt; requests >= 2);
-    Ok(())
-}
-
-/// Items that run the macro of the definition.
-const RUNS: &[u8] = b"\x1b&f2x3x9x4XA\x0c\x1b%0BSP1PD5,5\x1b%0A\x1b&f5x8x6X\x1bEA";
-
-/// Defines a macro and runs it, which takes memory for the definition alone, and tells what it counts.
-fn counts_of(
-    rt: &impl Abort,
-    alloc: Global,
-    profile: &Profile,
-    definition: &[(Place, OwnedItem)],
-    runs: &[(Place, OwnedItem)],
-) -> Result<Counts, Fail> {
-    let heap = Refusing::new(alloc, 1000);
-    let mut machine = Machine::new(&heap, profile, Start::Unknown);
-    let mut counts = Counts::none();
-    let is_defined = step_all(&mut machine, definition, &mut counts)?.is_ok();
-    let left = heap.left();
-    let is_run = step_all(&mut machine, runs, &mut counts)?.is_ok();
-    let is_ended = machine.finish(99, &mut counts).is_ok();
-    assert!(rt; is_defined && is_run && is_ended);
-    assert!(rt; left < 1000 && heap.left() == left);
-    Ok(counts)
-}
+/// The same macro, which is then executed, called, run as an overlay on three pages, and deleted.
+const DEFINITION_AND_RUNS: &[u8] = b"\x1bE\x1b&f0XA\x1b&p2XBC\x1b&f1X\
+\x1b&f2x3x9x4XA\x0c\x1b%0BSP1PD5,5\x1b%0A\x1b&f5x8x6X\x1bEA";
 
 #[test]
 fn macros_run_without_memory(rt: HostRuntime) -> Result<(), Fail> {
-    let definition = items_of(rt.alloc(), DEFINITION)?;
-    let runs = items_of(rt.alloc(), RUNS)?;
-    let profile = Sample::B.profile(rt.alloc())?;
-    let counts = counts_of(&rt, rt.alloc(), &profile, &definition, &runs)?;
+    let fleet = fleet_of(rt.alloc(), &[Printer::B])?;
+    let defined = requests_of(&rt, rt.alloc(), &fleet, DEFINITION, Pass(0, 0));
     // Three characters each run, and two characters and two lines of the job.
-    let wanted = Counts {
-        pages: 3,
-        marks: 13,
-    };
-    assert_eq!(rt; counts, wanted);
+    let run = requests_of(&rt, rt.alloc(), &fleet, DEFINITION_AND_RUNS, Pass(3, 13));
+    assert_eq!(rt; run, defined);
     Ok(())
 }
