@@ -32,3 +32,6 @@ pub returns-clause-long : goal.returns-clause-long
 returns-clause-long g c =
     let way = c.loop.invariant in
     λ _. by_length _ _ way.pieces _ _ way.bytes way.given way.spelled way.consumed (omega (arith, way.total_is, way.least))
+
+pub check_piece-requires-clause-room : goal.check_piece-requires-clause-room
+check_piece-requires-clause-room g c = omega (arith, c.loop.invariant.most, c.loop-test.true)

@@ -39,3 +39,9 @@ loop-machine-preserved g c =
 pub returns : goal.returns
 returns g c =
     changed_all (PrintsText c.args.look.now c.args.text.now) c.loop-machine.machine-index c.args.machines.now c.loop-machine.machines c.loop-machine.invariant (omega (arith, c.loop-machine-test.false, c.loop-machine.auto.machines))
+
+pub pass_text-requires-clause-glyphs : goal.pass_text-requires-clause-glyphs
+pass_text-requires-clause-glyphs g c = c.requires.glyphs
+
+pub loop-machine-smaller : goal.loop-machine-smaller
+loop-machine-smaller g c = omega (arith, c.loop-machine-test.true)

@@ -1,4 +1,4 @@
-use Rattle.std.proofs.Common.{◌≤◌, take, subst, arith}
+use Rattle.std.proofs.Common.{◌≤◌, take, sym, subst, arith}
 use Rattle.std.proofs.lemmas.List.{length-take-le, take-take, take_all}
 use Rattle.page_env.specs.TextRun.{CanGoIn}
 use Rattle.preflight.specs.Carriers.TextInStep.{GoOnAll}
@@ -33,3 +33,9 @@ pub returns-clause-go : goal.returns-clause-go
 returns-clause-go g c =
     let text = take c.loop-machine.count c.args.bytes.now in
     subst (λ ms. GoOnAll c.args.run.now.look text ms) (take_all c.loop-machine.machine-index c.args.machines.now c.loop-machine-test.false) c.loop-machine.invariant.3
+
+pub loop-machine-smaller : goal.loop-machine-smaller
+loop-machine-smaller g c = omega (arith, c.loop-machine-test.true)
+
+pub slice_bounds-text_alike-end : goal.slice_bounds-text_alike-end
+slice_bounds-text_alike-end g c = sym (length-take-le c.loop-machine.count c.args.bytes.now c.loop-machine.invariant.1)

@@ -1,4 +1,4 @@
-use Rattle.std.proofs.Common.{◌++◌, ◌≤◌, length, false, sym, subst, rules}
+use Rattle.std.proofs.Common.{◌≡◌, ◌++◌, ◌≤◌, length, true, false, sym, subst, rules}
 use Rattle.preflight.specs.Carriers.Checking.{CameTo}
 use Rattle.preflight.specs.Carriers.Lockstep.{machines_of, counts_of}
 use Rattle.preflight.specs.declared.verdict.Verdict.TheVariants.{Fail}
@@ -39,3 +39,9 @@ returns-in-Failed-clause-came g c = λ fleet bytes carried.
     (Fail c.in-Failed.place c.in-Failed.profile c.in-Failed.finding)
     (λ fleet bytes carried. came_to_fail fleet _ false new.lexer machines counts c.in_ok-progress.progress c.in-Failed.place c.in-Failed.profile c.in-Failed.finding c.in-Failed.is (c.in_ok-progress.ensures.came fleet bytes carried))
     fleet bytes carried)
+
+pub unreachable-requires : goal.unreachable-requires
+unreachable-requires g c =
+    let went = rw c.in-End.is at c.in_ok-progress.ensures.goes_on in
+    let ended : false ≡ true = went.0 in
+    absurd cc
