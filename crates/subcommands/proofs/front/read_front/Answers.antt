@@ -28,3 +28,6 @@ loop-piece-preserved g c =
 pub returns-clause-given : goal.returns-clause-given
 returns-clause-given g c =
     front_by_length _ _ _ _ c.loop-piece.front.items c.args.most c.loop-piece.invariant.3 c.loop-piece.invariant.1 (search rules)
+
+pub returns-in_default-clause-read : goal.returns-in_default-clause-read
+returns-in_default-clause-read g c = c.in_default.ensures.status
