@@ -79,21 +79,17 @@ pub(crate) fn move_columns<A: Allocator>(
     ensures { Steps (λ s. move_columns profile.now s (amount n)) page.old page.new result }
 {
     let (geometry, column) = geometry_and_column(profile, page)?;
-    let column = match column {
-        None => return Err(Finding::NoFont),
-        Some(column) => column,
+    let Some(column) = column else {
+        return Err(Finding::NoFont);
     };
-    let by = match times(column, n.ten_thousandths) {
-        None => return Err(Finding::Inexact),
-        Some(by) => by,
+    let Some(by) = times(column, n.ten_thousandths) else {
+        return Err(Finding::Inexact);
     };
-    match target(n.sign, 0, page.cursor.x.ticks(), by, geometry.logical_width) {
-        None => Err(Finding::OffPage),
-        Some(x) => {
-            page.cursor.x = x;
-            Ok(())
-        }
-    }
+    let Some(x) = target(n.sign, 0, page.cursor.x.ticks(), by, geometry.logical_width) else {
+        return Err(Finding::OffPage);
+    };
+    page.cursor.x = x;
+    Ok(())
 }
 
 /// The page in force, and the vertical place from which a move goes: the top margin where it has no sign, else the cursor.
@@ -181,19 +177,16 @@ pub(crate) fn move_rows<A: Allocator>(
     ensures { Steps (λ s. move_rows profile.now s (amount n)) page.old page.new result }
 {
     let (geometry, vmi) = geometry_and_vmi(profile, page)?;
-    let by = match times(ticks_in(Unit::FortyEighthInch, vmi), n.ten_thousandths) {
-        None => return Err(Finding::Inexact),
-        Some(by) => by,
+    let Some(by) = times(ticks_in(Unit::FortyEighthInch, vmi), n.ten_thousandths) else {
+        return Err(Finding::Inexact);
     };
     let first = first_line(page.env.job.top_margin, vmi);
     let here = vertical_with(page, vmi);
-    match target_down(n.sign, first, here, by, geometry.logical_height) {
-        None => Err(Finding::OffPage),
-        Some(y) => {
-            page.cursor.y = Some(y);
-            Ok(())
-        }
-    }
+    let Some(y) = target_down(n.sign, first, here, by, geometry.logical_height) else {
+        return Err(Finding::OffPage);
+    };
+    page.cursor.y = Some(y);
+    Ok(())
 }
 
 /// `&f0S`: pushes the cursor.

@@ -47,10 +47,7 @@ pub(crate) fn default_frame() -> PictureFrame
 pub(crate) fn frame_on(geometry: &Geometry, frame: &PictureFrame) -> Frame
     ensures { result ≡ frame_on geometry.now frame.now }
 {
-    let width = match frame.width {
-        Some(width) => width,
-        None => geometry.logical_width,
-    };
+    let width = frame.width.unwrap_or(geometry.logical_width);
     let height = match frame.height {
         Some(height) => height.ticks(),
         None => geometry.logical_height.ticks() - half_inch().ticks() - half_inch().ticks(),

@@ -176,18 +176,15 @@ pub(crate) fn set_left_margin<A: Allocator>(
         return Err(Finding::BadValue);
     }
     let (geometry, column) = geometry_and_column(profile, page)?;
-    let column = match column {
-        None => return Err(Finding::NoFont),
-        Some(column) => column,
+    let Some(column) = column else {
+        return Err(Finding::NoFont);
     };
-    match left_margin_behind(&page.env.job, &geometry, column, whole_of(n)) {
-        None => Err(Finding::MarginIgnored),
-        Some(left) => {
-            page.env.job.left_margin = left;
-            page.cursor.x = at_least(page.cursor.x, left);
-            Ok(())
-        }
-    }
+    let Some(left) = left_margin_behind(&page.env.job, &geometry, column, whole_of(n)) else {
+        return Err(Finding::MarginIgnored);
+    };
+    page.env.job.left_margin = left;
+    page.cursor.x = at_least(page.cursor.x, left);
+    Ok(())
 }
 
 /// `&a#M`: sets the right margin, to the right edge of a column. A cursor right of it moves to it.
@@ -202,18 +199,15 @@ pub(crate) fn set_right_margin<A: Allocator>(
         return Err(Finding::BadValue);
     }
     let (geometry, column) = geometry_and_column(profile, page)?;
-    let column = match column {
-        None => return Err(Finding::NoFont),
-        Some(column) => column,
+    let Some(column) = column else {
+        return Err(Finding::NoFont);
     };
-    match right_margin_behind(&page.env.job, &geometry, column, whole_of(n)) {
-        None => Err(Finding::MarginIgnored),
-        Some(right) => {
-            page.env.job.right_margin = Some(right);
-            page.cursor.x = at_most(page.cursor.x, right);
-            Ok(())
-        }
-    }
+    let Some(right) = right_margin_behind(&page.env.job, &geometry, column, whole_of(n)) else {
+        return Err(Finding::MarginIgnored);
+    };
+    page.env.job.right_margin = Some(right);
+    page.cursor.x = at_most(page.cursor.x, right);
+    Ok(())
 }
 
 /// `ESC 9`: clears the horizontal margins.

@@ -313,10 +313,10 @@ fn judged(
     let Some(line) = line_inside(geometry, &frame, job.pen.width, start, to) else {
         return Err(Finding::NotPrintable);
     };
-    match place_within(&frame, start, to) {
-        None => Err(Finding::OutsideFrame),
-        Some(place) => Ok((line, place)),
-    }
+    let Some(place) = place_within(&frame, start, to) else {
+        return Err(Finding::OutsideFrame);
+    };
+    Ok((line, place))
 }
 
 /// Draws a line to a place, with the pen down.
@@ -332,15 +332,11 @@ fn draw<A: Allocator>(
         return Err(Finding::NoPen);
     }
     let geometry = geometry(profile, page)?;
-    match judged(&geometry, &page.env.job, to) {
-        Err(finding) => Err(finding),
-        Ok((line, place)) => {
-            page.env.job.pen.is_down = true;
-            page.env.job.pen.place = place;
-            page.marked = true;
-            Ok(Some(line))
-        }
-    }
+    let (line, place) = judged(&geometry, &page.env.job, to)?;
+    page.env.job.pen.is_down = true;
+    page.env.job.pen.place = place;
+    page.marked = true;
+    Ok(Some(line))
 }
 
 /// Draws a dot where the pen is.

@@ -260,22 +260,18 @@ fn row_inside<'a>(
     let bytes = &black[blank..];
     let left = first_byte(geometry.logical_left, x, blank, resolution);
     let (low, high) = (geometry.printable_left, geometry.printable_right);
-    let Some(x) = row_start(left, white_ahead(bytes), resolution, low, high) else {
-        return None;
-    };
+    let x = row_start(left, white_ahead(bytes), resolution, low, high)?;
     if !pixel_lies_between(left, black_end(bytes), resolution, low, high) {
         return None;
     }
     let (low, high) = (geometry.printable_top, geometry.printable_bottom);
-    match row_top(geometry.logical_top, y, resolution, low, high) {
-        None => None,
-        Some(y) => Some(RasterRow {
-            resolution,
-            x,
-            y,
-            bytes,
-        }),
-    }
+    let y = row_top(geometry.logical_top, y, resolution, low, high)?;
+    Some(RasterRow {
+        resolution,
+        x,
+        y,
+        bytes,
+    })
 }
 
 /// The raster behind a row, unless the row has no place in it.
@@ -319,10 +315,10 @@ fn judged<'a>(
     let Some(blank) = blank_ahead(black) else {
         return Ok((below, None));
     };
-    match row_inside(geometry, resolution, page.cursor.x, y, black, blank) {
-        None => Err(Finding::NotPrintable),
-        Some(row) => Ok((below, Some(Mark::Row(row)))),
-    }
+    let Some(row) = row_inside(geometry, resolution, page.cursor.x, y, black, blank) else {
+        return Err(Finding::NotPrintable);
+    };
+    Ok((below, Some(Mark::Row(row))))
 }
 
 /// `*b#W`: one row of a raster at the cursor, which moves a pixel down. A row without a black pixel makes no mark.

@@ -4,7 +4,6 @@
 ghost use Rattle.std.specs.Prelude.{◌≡◌, ◌==◌, not, is_some, ◌&&◌};
 ghost use Rattle.pcl_items.specs.Items.{amount, view};
 ghost use Rattle.page_env.specs.Rasters.{is_of_raster, is_raster_group, begun_by, resolution_of, set_resolution, set_raster_width, set_raster_height, presentation_of, set_presentation, set_compression, is_physical, start_raster, end_raster};
-ghost use Rattle.pcl_items.specs.Commands.{group_of};
 ghost use Rattle.page_env.specs.Settings.{state_at};
 ghost use Rattle.device_profile.specs.declared.panel.Panel.{Panel};
 ghost use Rattle.page_env.specs.Answers.{CarriesOut, Steps};
@@ -14,26 +13,15 @@ use crate::number::{is_whole_between, is_whole_from, whole_of};
 use crate::page::{Page, Presentation, Resolution, StartedRaster};
 use crate::places::vertical;
 use device_profile::Field;
-use pcl_items::{Command, DataCommand, Item, Number, SimpleItem};
+use pcl_items::{Group, Item, Number, SimpleItem};
 use tick_length::Length;
 
-/// Whether a command is of the groups `*t`, `*r` and `*b`.
+/// Whether a group is `*t`, `*r` or `*b`.
 #[inline(always)]
-fn is_raster_command(command: Command) -> bool
-    ensures { result ≡ is_raster_group (group_of command) }
+fn is_raster_group(group: Group) -> bool
+    ensures { result ≡ is_raster_group group }
 {
-    matches!(
-        command,
-        Command::RasterResolution
-            | Command::StartRaster
-            | Command::RasterWidth
-            | Command::RasterHeight
-            | Command::RasterPresentation
-            | Command::EndRaster
-            | Command::EndRasterAndMethod
-            | Command::CompressionMethod
-            | Command::RasterOffset
-    )
+    matches!(group, Group::Resolution | Group::Raster | Group::RasterData)
 }
 
 /// Whether an item is of the groups `*t`, `*r` and `*b`.
@@ -42,8 +30,8 @@ fn is_of_raster(item: &Item<'_>) -> bool
     ensures { result ≡ is_of_raster (view item.now) }
 {
     match item {
-        Item::Simple(SimpleItem::Parameterized(command, _)) => is_raster_command(*command),
-        Item::WithData(DataCommand::RasterRow, _) => true,
+        Item::Simple(SimpleItem::Parameterized(command, _)) => is_raster_group(command.group()),
+        Item::WithData(command, _) => is_raster_group(command.group()),
         _ => false,
     }
 }

@@ -195,9 +195,8 @@ fn print_character<A: Allocator>(
     ensures { Prints (λ s. character profile.now s code) page.old page.new result }
 {
     let (geometry, y, request) = character_place(profile, page)?;
-    let face = match profile.font(&request) {
-        None => return Err(Finding::NoFont),
-        Some(face) => face,
+    let Some(face) = profile.font(&request) else {
+        return Err(Finding::NoFont);
     };
     let (x, glyph) = judged(&geometry, face, page, y, code, request)?;
     page.cursor = Cursor { x, y: Some(y) };
@@ -213,9 +212,8 @@ fn print_space<A: Allocator>(
     ensures { Prints (λ s. space profile.now s) page.old page.new result }
 {
     let (geometry, y, column) = space_place(profile, page)?;
-    let column = match column {
-        None => return Err(Finding::NoFont),
-        Some(column) => column,
+    let Some(column) = column else {
+        return Err(Finding::NoFont);
     };
     let right = right_margin(&page.env.job, &geometry);
     let x = behind(right, geometry.logical_width, page.cursor.x, column)?;
@@ -231,9 +229,8 @@ fn print_transparent_space<A: Allocator>(
     ensures { Prints (λ s. transparent_space profile.now s) page.old page.new result }
 {
     let (geometry, y, request) = character_place(profile, page)?;
-    let face = match profile.font(&request) {
-        None => return Err(Finding::NoFont),
-        Some(face) => face,
+    let Some(face) = profile.font(&request) else {
+        return Err(Finding::NoFont);
     };
     let right = right_margin(&page.env.job, &geometry);
     let column = column_width(&page.env.job, face);

@@ -287,9 +287,7 @@ fn run_from<'p, A: Allocator>(
 ) -> Option<TextRun<'p>>
     ensures { IfSome result (λ run. IsMeasuredRun measure.now x bytes.now run) }
 {
-    let Some(look) = look_from(measure, x) else {
-        return None;
-    };
+    let look = look_from(measure, x)?;
     let columns = columns_ahead(measure, x);
     let most = bytes.len().min(columns as usize).min(MOST_AT_ONCE);
     let codes = measure.face.codes();
@@ -336,9 +334,7 @@ fn alike_from<A: Allocator>(
     requires { CanGoIn run.now.codes.now bytes.now }
     ensures { IfSome result (λ count. GoLike measure.now x run.now.look bytes.now count) }
 {
-    let Some(look) = look_from(measure, x) else {
-        return None;
-    };
+    let look = look_from(measure, x)?;
     if !is_same_look(&run.look, &look) {
         return None;
     }

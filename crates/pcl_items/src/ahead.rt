@@ -43,10 +43,7 @@ pub fn byte_in(bytes: &[u8]) -> Option<Item<'static>>
 {
     match bytes {
         [code @ 32..=255, ..] => Some(Item::Text(TextByte { code: *code })),
-        [code, ..] => match control_at(*code) {
-            Some(item) => Some(Item::Simple(item)),
-            None => None,
-        },
+        [code, ..] => Some(Item::Simple(control_at(*code)?)),
         [] => None,
     }
 }

@@ -28,7 +28,7 @@ pub enum Setting {
 }
 
 /// A command of a frame, by its two letters.
-#[derive(Clone, Copy, PartialEq, Eq)]
+#[derive(Clone, Copy)]
 pub enum Mnemonic {
     /// `IN`, initialize.
     Initialize,
@@ -39,7 +39,7 @@ pub enum Mnemonic {
 }
 
 /// What stands between a number of a command and the bytes that are read next.
-#[derive(Clone, Copy, PartialEq, Eq)]
+#[derive(Clone, Copy)]
 pub enum Gap {
     /// Nothing.
     Straight,

@@ -80,7 +80,6 @@ impl Figures {
 }
 
 /// What stands where a number of a frame may stand.
-#[derive(Clone, Copy)]
 pub enum Numeral<T> {
     /// The bytes decide no number yet.
     Cut,

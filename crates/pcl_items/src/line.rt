@@ -14,6 +14,12 @@ use crate::fault::Cause;
 use crate::frame::capital;
 use crate::item::{Mode, PjlLine};
 
+/// No line has more bytes with its newline.
+pub(crate) const MOST_IN_LINE: usize = 1024;
+
+/// No line has more bytes before its newline.
+const MOST_INSIDE: usize = MOST_IN_LINE - 1;
+
 /// A line that begins with `@PJL`, by its word. A text is that of the job, without blanks at both ends.
 #[derive(Clone, Copy, Debug, PartialEq, Eq)]
 pub enum Line<'a> {
@@ -44,7 +50,7 @@ impl<'a> Line<'a> {
 }
 
 /// The words of lines.
-#[derive(Clone, Copy, PartialEq, Eq)]
+#[derive(Clone, Copy)]
 pub enum Word {
     /// `COMMENT`
     Comment,
@@ -151,19 +157,15 @@ fn past_byte(byte: u8, bytes: &[u8]) -> Option<&[u8]>
 fn past_equals(bytes: &[u8]) -> Option<&[u8]>
     ensures { option_map (λ b. b.now) result ≡ past_equals bytes.now }
 {
-    match past_byte(b'=', past_blanks(bytes)) {
-        Some(rest) => Some(past_blanks(rest)),
-        None => None,
-    }
+    let rest = past_byte(b'=', past_blanks(bytes))?;
+    Some(past_blanks(rest))
 }
 
 fn past_value(bytes: &[u8]) -> Option<&[u8]>
     ensures { option_map (λ b. b.now) result ≡ past_value (Some bytes.now) }
 {
-    match past_byte(b'"', bytes) {
-        Some(rest) => past_byte(b'"', &rest[quotable_len(rest)..]),
-        None => None,
-    }
+    let rest = past_byte(b'"', bytes)?;
+    past_byte(b'"', &rest[quotable_len(rest)..])
 }
 
 fn is_name(job: bool, text: &[u8]) -> bool
@@ -255,10 +257,8 @@ fn in_words(words: &[u8]) -> Option<Line<'_>>
     ensures { option_map line_view result ≡ in_words words.now }
 {
     let len = solid_len(words);
-    match word_at(&words[..len]) {
-        Some(word) => with_text(word, past_blanks(&words[len..])),
-        None => None,
-    }
+    let word = word_at(&words[..len])?;
+    with_text(word, past_blanks(&words[len..]))
 }
 
 /// The line without its newline.
@@ -290,7 +290,7 @@ pub fn first_line(bytes: &[u8]) -> FirstLine<'_>
     ensures within { first_line_len result ≤ length bytes.now }
 {
     let len = inside_len(bytes);
-    if len > 1023 {
+    if len > MOST_INSIDE {
         return FirstLine::Faulty(Cause::Pjl);
     }
     match &bytes[len..] {

@@ -18,7 +18,7 @@ use crate::command::{Command, DataCommand};
 use crate::first::{Context, First, begins_line, first_between};
 use crate::frame::{Coordinate, Coordinates, Handover, Mnemonic, Motion, Setting};
 use crate::item::{Item, Mode, PjlLine, SetLetter, SimpleItem};
-use crate::line::{FirstLine, Line, first_line};
+use crate::line::{FirstLine, Line, MOST_IN_LINE, first_line};
 use crate::number::{Magnitude, Number, Sign};
 use crate::parameterized::parameterized_in;
 use arrayvec::ArrayVec;
@@ -30,9 +30,6 @@ const LONGEST: usize = 26;
 
 /// No spelling of an item of a frame has more bytes.
 const MOST_IN_FRAME: usize = 64;
-
-/// No line has more bytes.
-const MOST_IN_LINE: usize = 1024;
 
 /// A spelling but for the data that end it.
 type HeadText = ArrayVec<u8, LONGEST>;

@@ -8,8 +8,8 @@ use Rattle.page_env.specs.Pens.{place_of, line_between, stays_in_frame}
 use Rattle.page_env.proofs.PenMoves.{line_passes}
 use Rattle.page_env.proofs.pens.judged.Goals as goal
 
-pub returns-in-Some-place_within : goal.returns-in-Some-place_within
-returns-in-Some-place_within c =
+pub returns : goal.returns
+returns c =
     let g = c.args.geometry.now in
     let pen = c.args.job.now.pen in
     let frame : Frame = frame_on g c.args.job.now.frame in

@@ -6,4 +6,4 @@ use Rattle.pcl_items.proofs.line.first_line.Goals as goal
 
 pub invariant_of-result : goal.invariant_of-result
 invariant_of-result c =
-    record { spelled = line_here c.args.bytes.now c.inside_len-len.result (line_view c.in-Some.line) c.inside_len-len.ensures.length c.if-len-gt1023.false (sym c.line_of.ensures ∙ ap (option_map line_view) c.in-Some.is) }
+    record { spelled = line_here c.args.bytes.now c.inside_len-len.result (line_view c.in-Some.line) c.inside_len-len.ensures.length c.if-len-gt-MOST_INSIDE.false (sym c.line_of.ensures ∙ ap (option_map line_view) c.in-Some.is) }
