@@ -11,7 +11,7 @@ use crate::outcome::Outcome;
 use crate::outlet::Outlet;
 use crate::report::{Report, tell_job};
 use crate::source::Source;
-use line_words::{Reason, push_fault, push_item};
+use line_words::{push_fault, push_item};
 use pcl_items::{Item, LexFault, Place};
 use std::alloc::Allocator;
 
@@ -55,11 +55,7 @@ impl<B: Allocator> Report for Listing<B> {
         fault: LexFault,
     ) -> Result<Outcome, Error> {
         push_fault(kept, fault)?;
-        Ok(Outcome::Fail {
-            place: fault.place,
-            profile: 0,
-            finding: Reason::Fault(fault.cause),
-        })
+        Ok(Outcome::of_fault(fault))
     }
 }
 

@@ -1,5 +1,8 @@
 //! What comes of writing a text of a job.
+ghost use Rattle.std.specs.Prelude.{◌≡◌};
+
 use line_words::Reason;
+use pcl_items::LexFault;
 
 /// What comes of writing a text of a job.
 #[derive(Clone, Copy, Debug, PartialEq, Eq)]
@@ -13,4 +16,17 @@ pub enum Outcome {
         profile: u64,
         finding: Reason,
     },
+}
+
+impl Outcome {
+    /// The failure of a job with a fault of its bytes.
+    pub(crate) fn of_fault(fault: LexFault) -> Outcome
+        ensures { result ≡ Outcome.Fail fault.place 0 (Reason.Fault fault.cause) }
+    {
+        Outcome::Fail {
+            place: fault.place,
+            profile: 0,
+            finding: Reason::Fault(fault.cause),
+        }
+    }
 }

@@ -152,11 +152,7 @@ impl<P: Allocator, B: Allocator + Copy> Report for Pages<'_, P, B> {
         _kept: &mut Vec<u8, A>,
         fault: LexFault,
     ) -> Result<Outcome, Error> {
-        Ok(Outcome::Fail {
-            place: fault.place,
-            profile: 0,
-            finding: Reason::Fault(fault.cause),
-        })
+        Ok(Outcome::of_fault(fault))
     }
 }
 

@@ -11,7 +11,6 @@ use crate::outcome::Outcome;
 use crate::outlet::Outlet;
 use crate::report::{Report, tell_job};
 use crate::source::Source;
-use line_words::Reason;
 use pcl_items::{Item, LexFault, Place, spell};
 use std::alloc::Allocator;
 
@@ -51,11 +50,7 @@ impl Report for Plain {
         _kept: &mut Vec<u8, A>,
         fault: LexFault,
     ) -> Result<Outcome, Error> {
-        Ok(Outcome::Fail {
-            place: fault.place,
-            profile: 0,
-            finding: Reason::Fault(fault.cause),
-        })
+        Ok(Outcome::of_fault(fault))
     }
 }
 

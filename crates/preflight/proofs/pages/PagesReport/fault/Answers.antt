@@ -1,7 +1,5 @@
 use Rattle.std.proofs.Common.{refl, sym, [], append-nil}
 use Rattle.pcl_items.specs.Reading.{Stopped}
-use Rattle.preflight.specs.declared.outcome.Outcome.TheVariants.{Fail}
-use Rattle.line_words.specs.declared.reason.Reason.TheVariants.{Fault}
 use Rattle.preflight.specs.Carriers.PageTelling.{pages_from}
 use Rattle.preflight.proofs.Tellings.{last_told}
 use Rattle.preflight.proofs.pages.PagesReport.fault.Goals as goal
@@ -9,4 +7,4 @@ use Rattle.preflight.proofs.pages.PagesReport.fault.Goals as goal
 pub returns-clause-told : goal.returns-clause-told
 returns-clause-told g c =
     let kept = c.args._kept.now.items in
-    last_told (pages_from c.args.self.now.machine c.args.self.now.page) (Stopped [] c.args.fault.place c.args.fault.cause) (g.W.Outlet.written c.args._outlet.now) kept kept [] (Fail c.args.fault.place 0 (Fault c.args.fault.cause)) (sym (append-nil kept)) refl refl
+    last_told (pages_from c.args.self.now.machine c.args.self.now.page) (Stopped [] c.args.fault.place c.args.fault.cause) (g.W.Outlet.written c.args._outlet.now) kept kept [] c.of_fault.result (sym (append-nil kept)) refl (sym c.of_fault.ensures)
