@@ -77,3 +77,14 @@ pub right_missing : {X : Type 0} (b c d : Bool) (x : X) → c ≡ false → None
 right_missing true true d x e = absurd cc
 right_missing true false d x e = refl
 right_missing false c d x e = refl
+
+-- of a box whose left edge does
+pub left_missing : {X Y : Type 0} (b c d : Bool) (y : Y) (x : X) → None ≡ cond b (Some y) None → None ≡ cond ((b && c) && d) (Some x) None
+left_missing true c d y x e = absurd cc
+left_missing false c d y x e = refl
+
+-- of a box whose upper or lower edge does
+pub down_missing : {X Y : Type 0} (b d : Bool) (y : Y) (x : X) → None ≡ cond d (Some y) None → None ≡ cond (b && d) (Some x) None
+down_missing true true y x e = absurd cc
+down_missing true false y x e = refl
+down_missing false d y x e = refl

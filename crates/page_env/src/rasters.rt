@@ -17,7 +17,6 @@ use pcl_items::{Group, Item, Number, SimpleItem};
 use tick_length::Length;
 
 /// Whether a group is `*t`, `*r` or `*b`.
-#[inline(always)]
 fn is_raster_group(group: Group) -> bool
     ensures { result ≡ is_raster_group group }
 {
@@ -25,7 +24,8 @@ fn is_raster_group(group: Group) -> bool
 }
 
 /// Whether an item is of the groups `*t`, `*r` and `*b`.
-#[inline(always)]
+// A call of its own, so that a group is looked up only where a raster is started.
+#[inline(never)]
 fn is_of_raster(item: &Item<'_>) -> bool
     ensures { result ≡ is_of_raster (view item.now) }
 {

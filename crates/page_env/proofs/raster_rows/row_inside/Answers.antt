@@ -1,12 +1,13 @@
-use Rattle.std.proofs.Common.{rules, arith, ◌≡◌, ◌∙◌, ap, sym, ◌*◌, pos, drop, ◌&&◌, false}
+use Rattle.std.proofs.Common.{rules, arith, ◌≡◌, ◌∙◌, ap, sym, ℕ, ℤ, ◌*◌, pos, drop, ◌&&◌, false, cond, Option, Some, None, option_map}
 use Rattle.std.specs.Prelude.{◌+ℤ◌}
 use Rattle.std.proofs.lemmas.Int.{to_z-of_z}
 use Rattle.std.proofs.lemmas.List.{take_rest}
 use Rattle.page_env.specs.declared.mark.Bounds.{Bounds}
-use Rattle.page_env.specs.Mark.{PixelRow, pixel_of, black_end, row_bounds, is_inside}
+use Rattle.std.specs.Int.{w64, cast_signed, cast_unsigned}
+use Rattle.page_env.specs.Mark.{PixelRow, pixel_of, white_ahead, black_end, row_of, row_bounds, is_inside}
 use Rattle.page_env.specs.Places.{is_between}
 use Rattle.page_env.specs.Rasters.{row_from}
-use Rattle.page_env.proofs.Ends.{right_missing}
+use Rattle.page_env.proofs.Ends.{left_missing, right_missing, down_missing}
 use Rattle.page_env.proofs.raster_rows.row_inside.Goals as goal
 
 pub returns-then-not-pixel_lies_between : goal.returns-then-not-pixel_lies_between
@@ -25,3 +26,29 @@ returns-then-not-pixel_lies_between c =
     ∙ ap (λ n. is_between g.printable_left g.printable_right (row.x +ℤ pos (n * pixel))) end in
     right_missing (is_between g.printable_left g.printable_right box.left) (is_between g.printable_left g.printable_right box.right)
     (is_between g.printable_top g.printable_bottom box.top && is_between g.printable_top g.printable_bottom box.bottom) row (sym at ∙ no)
+
+pub returns-in_err-x : goal.returns-in_err-x
+unfolding is_inside
+returns-in_err-x c =
+    let g = c.args.geometry.now in
+    let pixel = pixel_of c.args.resolution in
+    let row : PixelRow = row_from g c.args.resolution c.args.x c.args.y c.args.black.now in
+    let box : Bounds = row_bounds row in
+    let starts : ℤ → ℕ → Option ℤ = λ left white. cond (is_between g.printable_left g.printable_right (left +ℤ pos (white * pixel))) (Some left) None in
+    let start : c.first_byte-left.result ≡ row.x = c.first_byte-left.ensures.value ∙ ap (λ n. (g.logical_left +ℤ c.args.x) +ℤ pos (8 * n * pixel)) c.requires.blank in
+    let same : cast_signed w64 (cast_unsigned w64 c.first_byte-left.result) ≡ c.first_byte-left.result = grind (arith, to_z-of_z, c.first_byte-left.ensures.near) in
+    let white : c.white_ahead.result ≡ white_ahead row.bytes = c.white_ahead.ensures.value ∙ ap white_ahead (take_rest c.args.black.now c.args.blank) ∙ ap (λ n. white_ahead (drop n c.args.black.now)) c.requires.blank in
+    let at_left : c.row_start.result ≡ starts row.x (white_ahead row.bytes) = c.row_start.ensures ∙ ap (λ left. starts left c.white_ahead.result) (same ∙ start) ∙ ap (starts row.x) white in
+    ap (option_map row_of) c.from_residual.ensures
+    ∙ left_missing (is_between g.printable_left g.printable_right box.left) (is_between g.printable_left g.printable_right box.right)
+    (is_between g.printable_top g.printable_bottom box.top && is_between g.printable_top g.printable_bottom box.bottom) row.x row (sym c.in_err-x.was ∙ at_left)
+
+pub returns-in_err-y : goal.returns-in_err-y
+unfolding is_inside
+returns-in_err-y c =
+    let g = c.args.geometry.now in
+    let row : PixelRow = row_from g c.args.resolution c.args.x c.args.y c.args.black.now in
+    let box : Bounds = row_bounds row in
+    ap (option_map row_of) c.from_residual-in_err-y.ensures
+    ∙ down_missing (is_between g.printable_left g.printable_right box.left && is_between g.printable_left g.printable_right box.right)
+    (is_between g.printable_top g.printable_bottom box.top && is_between g.printable_top g.printable_bottom box.bottom) row.y row (sym c.in_err-y.was ∙ c.row_top.ensures)
