@@ -88,3 +88,9 @@ pub down_missing : {X Y : Type 0} (b d : Bool) (y : Y) (x : X) → None ≡ cond
 down_missing true true y x e = absurd cc
 down_missing true false y x e = refl
 down_missing false d y x e = refl
+
+-- of a box no edge of which does
+pub none_missing : {X Y Z : Type 0} (b c d : Bool) (make : X → Y → Z) (x taken_x : X) (y taken_y : Y) → Some taken_x ≡ cond b (Some x) None → c ≡ true → Some taken_y ≡ cond d (Some y) None → Some (make taken_x taken_y) ≡ cond ((b && c) && d) (Some (make x y)) None
+none_missing true true d make x taken_x y taken_y e is f = both_taken true d make x taken_x y taken_y e f
+none_missing true false d make x taken_x y taken_y e is f = absurd cc
+none_missing false c d make x taken_x y taken_y e is f = absurd cc

@@ -1,5 +1,5 @@
 -- How text is judged.
-use Rattle.std.proofs.Common.{◌≡◌, ℕ, ℤ, pos, Bool, true, false, not, cond, Option, Some, None, List, [], ◌∷◌, ◌++◌, Result, Ok, Err, refl, ap, sym, ◌∙◌}
+use Rattle.std.proofs.Common.{◌≡◌, ℕ, ℤ, pos, Bool, true, false, not, cond, Option, Some, None, is_some, List, [], ◌∷◌, ◌++◌, Result, Ok, Err, refl, ap, sym, ◌∙◌}
 use Rattle.std.specs.Prelude.{◌+ℤ◌, unwrap_or}
 use Rattle.std.specs.Option.{option_map_or}
 use Rattle.std.specs.Result.{IsErrAnd}
@@ -14,7 +14,7 @@ use Rattle.page_env.specs.Settings.{Settings, State, settings_at}
 use Rattle.page_env.specs.FontInForce.{request_of, face_of, font_reads}
 use Rattle.page_env.specs.Places.{geometry_of, vertical_place, column_with, column_from}
 use Rattle.page_env.specs.Effect.{check, is_unset, first_finding, first_unset, effect_of, Step, Goes, Fails, Reads}
-use Rattle.page_env.specs.Text.{behind_of, text_reads, character_checks, character_box, character}
+use Rattle.page_env.specs.Text.{behind_of, text_reads, edge_checks, transparent_space, character_checks, character_box, character}
 use Rattle.page_env.specs.declared.finding.Finding.{Finding}
 use Rattle.page_env.specs.declared.finding.Finding.TheVariants.{NoFont}
 use Rattle.page_env.proofs.Lines.{late_line}
@@ -70,3 +70,13 @@ character_fails printer s code face g y request finding set read answers judged 
     let late : first_finding (character printer s code).after ≡ Some finding =
     (λ i. first_finding (option_map_or (λ face. character_checks (read i).0 face code (unwrap_or right (read i).0.logical_width) x (behind i) (character_box (read i).0 face x (read i).1)) (at i) (check true NoFont ∷ []))) ∙ judged in
     late_line s.settings (character printer s code) (Goes (character printer s code).state (character printer s code).marks) finding refl set late
+
+-- what is checked of a space of transparent print data, where a face answers
+pub space_judged : (printer : Printer) (s : State) (face : Face) (g : Geometry) (y : ℤ) (request : FontRequest) → ◌≡◌ {A = Geometry × ℤ × FontRequest} (geometry_of printer s, vertical_place s, request_of printer s) (g, y, request) → Some face ≡ face_for printer.faces request → first_finding (transparent_space printer s).after ≡ first_finding (edge_checks (unwrap_or s.settings.job.right_margin g.logical_width) g.logical_width s.cursor.x (s.cursor.x +ℤ pos (column_with s.settings.job.hmi face)))
+space_judged printer s face g y request read answers =
+    let x = s.cursor.x in
+    let right = s.settings.job.right_margin in
+    let hmi = s.settings.job.hmi in
+    let at : face_of printer s ≡ Some face = ap (λ r. face_for printer.faces r.2) read ∙ sym answers in
+    let behind : behind_of printer s ≡ x +ℤ pos (column_with hmi face) = ap (λ o. x +ℤ pos (unwrap_or (column_from hmi o) 0)) at ∙ ap (λ o. x +ℤ pos (unwrap_or o 0)) (column_of_face hmi face) in
+    λ i. first_finding (check (not (is_some (at i))) NoFont ∷ edge_checks (unwrap_or right (read i).0.logical_width) (read i).0.logical_width x (behind i))
