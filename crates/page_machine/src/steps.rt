@@ -237,7 +237,7 @@ fn run_move<S: MarkSink, A: Allocator>(
 /// Carries out a command that moves the pen: its own step, and then the move to its coordinates.
 // A call of its own, as `run_text` is.
 #[inline(never)]
-fn run_motion<S: MarkSink, A: Allocator>(
+fn move_and_draw<S: MarkSink, A: Allocator>(
     profile: &Profile<A>,
     motion: Motion,
     to: Option<Coordinates>,
@@ -257,10 +257,30 @@ fn run_motion<S: MarkSink, A: Allocator>(
     }
 }
 
-/// Fills a rectangle.
+/// Carries out a command that moves the pen.
+// It matches the answer as `run_fill` does.
+#[inline(always)]
+fn run_motion<S: MarkSink, A: Allocator>(
+    profile: &Profile<A>,
+    motion: Motion,
+    to: Option<Coordinates>,
+    page: &mut Page,
+    sink: &mut S,
+) -> Result<(), Halt<S::Fault>>
+    ensures { (conditions : Panel → Conditions) → Follows S.takes S.refuses
+        (λ panel. begun_run profile.now (conditions panel) (Move motion (pair to)) (state_at panel page.old))
+        sink.old sink.new page.new result }
+{
+    match move_and_draw(profile, motion, to, page, sink) {
+        Ok(()) => Ok(()),
+        Err(halt) => Err(halt),
+    }
+}
+
+/// Fills a rectangle, and hands over its mark.
 // A call of its own, as `run_text` is, into which the mark's sink is inlined.
 #[inline(never)]
-fn run_fill<S: MarkSink, A: Allocator>(
+fn fill_and_mark<S: MarkSink, A: Allocator>(
     profile: &Profile<A>,
     n: Number,
     page: &mut Page,
@@ -276,6 +296,25 @@ fn run_fill<S: MarkSink, A: Allocator>(
             Err(fault) => Err(Halt::Refused(fault)),
             Ok(()) => Ok(()),
         },
+    }
+}
+
+/// Fills a rectangle.
+// It matches the answer in a function of its own, which is inlined: so steps clear no room for one.
+#[inline(always)]
+fn run_fill<S: MarkSink, A: Allocator>(
+    profile: &Profile<A>,
+    n: Number,
+    page: &mut Page,
+    sink: &mut S,
+) -> Result<(), Halt<S::Fault>>
+    ensures { (conditions : Panel → Conditions) → Follows S.takes S.refuses
+        (λ panel. begun_run profile.now (conditions panel) (Parameterized FillRectangle (amount n)) (state_at panel page.old))
+        sink.old sink.new page.new result }
+{
+    match fill_and_mark(profile, n, page, sink) {
+        Ok(()) => Ok(()),
+        Err(halt) => Err(halt),
     }
 }
 

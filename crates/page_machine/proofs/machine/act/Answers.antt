@@ -16,7 +16,7 @@ pub returns-then-is_open-clause-stands : goal.returns-then-is_open-clause-stands
 returns-then-is_open-clause-stands g c = c.define.ensures.stands
 
 pub returns-else-is_open-clause-carries : goal.returns-else-is_open-clause-carries
-returns-else-is_open-clause-carries g c = c.carry.ensures.carries
+returns-else-is_open-clause-carries g c = c.carry_other.ensures.carries
 
 pub returns-else-is_open-clause-stands : goal.returns-else-is_open-clause-stands
-returns-else-is_open-clause-stands g c = λ mode next h e. c.carry.ensures.stands mode next e
+returns-else-is_open-clause-stands g c = λ mode next h e. c.carry_other.ensures.stands mode next e

@@ -6,7 +6,7 @@ use Rattle.page_env.specs.Settings.{State, state_at}
 use Rattle.page_machine.specs.Event.{Marked}
 use Rattle.page_machine.specs.Run.{Run, just, Done, peaks_of, effect_run}
 use Rattle.page_machine.proofs.Composed.{Follows-found, Follows-is, Follows-step, Follows-taken, Follows-refused}
-use Rattle.page_machine.proofs.steps.run_fill.Goals as goal
+use Rattle.page_machine.proofs.steps.fill_and_mark.Goals as goal
 
 pub returns-in-Err : goal.returns-in-Err
 unfolding Marks

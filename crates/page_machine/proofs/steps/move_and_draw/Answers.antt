@@ -4,7 +4,7 @@ use Rattle.page_env.specs.Settings.{state_at}
 use Rattle.page_machine.specs.Run.{move_run, own_run, begun_run}
 use Rattle.page_machine.proofs.Composed.{Follows-is, Follows-onward}
 use Rattle.page_machine.proofs.Printing.{Follows-undrawn}
-use Rattle.page_machine.proofs.steps.run_motion.Goals as goal
+use Rattle.page_machine.proofs.steps.move_and_draw.Goals as goal
 
 pub returns-in-Err : goal.returns-in-Err
 returns-in-Err g c = λ conditions.
