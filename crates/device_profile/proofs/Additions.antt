@@ -3,7 +3,8 @@ use Rattle.std.proofs.Common.{◌≡◌, ℕ, ◌==◌, ◌&&◌, Bool, true, fa
 use Rattle.std.specs.Option.{option_map, option_map_or, option_and_then}
 use Rattle.std.proofs.lemmas.Bool.{and_parts, and_from, not-true, not-false, not_from_true, not_from_false}
 use Rattle.device_profile.specs.declared.field.Field.{Field}
-use Rattle.device_profile.specs.declared.field.Field.TheVariants.{Size, Orientation, Vmi, Font, Copies, Sides, Tray}
+use Rattle.device_profile.specs.declared.format.Format.{Format}
+use Rattle.device_profile.specs.declared.field.Field.TheVariants.{Size, Orientation, Vmi, Font, Copies, Sides, Tray, LineTerm}
 use Rattle.device_profile.specs.declared.geometry.Geometry.{Geometry}
 use Rattle.device_profile.specs.declared.key.Key.{Key}
 use Rattle.device_profile.specs.declared.key.Key.TheVariants.{Name, Choice, Trays, Duplex, Depth, Memory, Page, Face as FaceRow}
@@ -19,7 +20,7 @@ use Rattle.device_profile.proofs.LineParts.{passed, unrepeated, of_mapped, are_c
 -- what a line gives, whatever was given before it
 pub data Addition : Type 0 where
   nothing new_name : Addition
-  new_sizes new_orientations new_vmis new_fonts new_copies new_sides new_trays new_device_trays : List ℕ → Addition
+  new_sizes new_orientations new_vmis new_fonts new_copies new_sides new_trays new_line_terminations new_device_trays : List ℕ → Addition
   new_duplex new_depth new_memory : ℕ → Addition
   new_page : Geometry → Addition
   new_face : Face → Addition
@@ -37,6 +38,7 @@ addition_of_key (Choice Font) words = or_none new_fonts (values_on_line Font wor
 addition_of_key (Choice Copies) words = or_none new_copies (values_on_line Copies words)
 addition_of_key (Choice Sides) words = or_none new_sides (values_on_line Sides words)
 addition_of_key (Choice Tray) words = or_none new_trays (values_on_line Tray words)
+addition_of_key (Choice LineTerm) words = or_none new_line_terminations (values_on_line LineTerm words)
 addition_of_key Trays words = or_none new_device_trays (values_on_line Tray words)
 addition_of_key Duplex words = option_map new_duplex (number_on_line 1 words)
 addition_of_key Depth words = option_map new_depth (number_on_line 8 words)
@@ -44,10 +46,10 @@ addition_of_key Memory words = option_map new_memory (number_on_line 1_048_576 w
 addition_of_key Page words = option_map new_page (row_of_words words)
 addition_of_key FaceRow words = option_map new_face (face_of_words words)
 
--- what a line of these words adds
-abbrev pub addition_of : List (List ℕ) → Option Addition
-addition_of [] = Some nothing
-addition_of (key ∷ words) = option_and_then (λ k. addition_of_key k words) (key_of key)
+-- what a line of these words adds in a text of a version
+abbrev pub addition_of : Format → List (List ℕ) → Option Addition
+addition_of format [] = Some nothing
+addition_of format (key ∷ words) = option_and_then (λ k. addition_of_key k words) (key_of format key)
 
 abbrev pub takes_list : Field → List ℕ → List ℕ → Bool
 takes_list field held values = (length held == 0) && are_choices field values
@@ -66,6 +68,7 @@ takes draft (new_fonts values) = takes_list Font draft.fonts values
 takes draft (new_copies values) = takes_list Copies draft.copies values
 takes draft (new_sides values) = takes_list Sides draft.sides values
 takes draft (new_trays values) = takes_list Tray draft.trays values
+takes draft (new_line_terminations values) = takes_list LineTerm draft.line_terminations values
 takes draft (new_device_trays values) = takes_list Tray draft.device_trays values
 takes draft (new_duplex n) = takes_number 1 draft.duplex n
 takes draft (new_depth n) = takes_number 8 draft.depth n
@@ -84,6 +87,7 @@ added draft (new_fonts values) = record draft { fonts = values }
 added draft (new_copies values) = record draft { copies = values }
 added draft (new_sides values) = record draft { sides = values }
 added draft (new_trays values) = record draft { trays = values }
+added draft (new_line_terminations values) = record draft { line_terminations = values }
 added draft (new_device_trays values) = record draft { device_trays = values }
 added draft (new_duplex n) = record draft { duplex = Some n }
 added draft (new_depth n) = record draft { depth = Some n }
@@ -151,6 +155,9 @@ adds_key draft (Choice Sides) words next is =
 adds_key draft (Choice Tray) words next is =
     let l = list_taken Tray words draft.trays new_trays (with_choice draft Tray) next is in
     record { addition = new_trays l.0; told = l.1; taken = l.2; is = l.3 }
+adds_key draft (Choice LineTerm) words next is =
+    let l = list_taken LineTerm words draft.line_terminations new_line_terminations (with_choice draft LineTerm) next is in
+    record { addition = new_line_terminations l.0; told = l.1; taken = l.2; is = l.3 }
 adds_key draft Trays words next is =
     let l = list_taken Tray words draft.device_trays new_device_trays (λ trays. record draft { device_trays = trays }) next is in
     record { addition = new_device_trays l.0; told = l.1; taken = l.2; is = l.3 }
@@ -178,9 +185,9 @@ adds_some_key draft None words next is = cc
 adds_some_key draft (Some key) words next is = adds_key draft key words next is
 
 -- a line that is right adds what its words give, which the draft takes
-pub adds : (draft : Draft) (words : List (List ℕ)) (next : Draft) → draft_after draft words ≡ Ok next → Adds draft (addition_of words) next
-adds draft [] next is = record { addition = nothing; told = refl; taken = refl; is = cc }
-adds draft (key ∷ words) next is = adds_some_key draft (key_of key) words next is
+pub adds : (format : Format) (draft : Draft) (words : List (List ℕ)) (next : Draft) → draft_after format draft words ≡ Ok next → Adds draft (addition_of format words) next
+adds format draft [] next is = record { addition = nothing; told = refl; taken = refl; is = cc }
+adds format draft (key ∷ words) next is = adds_some_key draft (key_of format key) words next is
 
 list_added : (draft : Draft) (field : Field) (held : List ℕ) (new : List ℕ → Addition) (put : List ℕ → Draft) (given : Result (List ℕ) Cause) (addition : Addition)
     → ((values : List ℕ) → takes draft (new values) ≡ takes_list field held values)
@@ -231,6 +238,8 @@ added_key draft (Choice Sides) words addition told taken =
     list_added draft Sides draft.sides new_sides (with_choice draft Sides) (values_on_line Sides words) addition (λ v. refl) (λ v. refl) told taken
 added_key draft (Choice Tray) words addition told taken =
     list_added draft Tray draft.trays new_trays (with_choice draft Tray) (values_on_line Tray words) addition (λ v. refl) (λ v. refl) told taken
+added_key draft (Choice LineTerm) words addition told taken =
+    list_added draft LineTerm draft.line_terminations new_line_terminations (with_choice draft LineTerm) (values_on_line LineTerm words) addition (λ v. refl) (λ v. refl) told taken
 added_key draft Trays words addition told taken =
     list_added draft Tray draft.device_trays new_device_trays (λ trays. record draft { device_trays = trays }) (values_on_line Tray words) addition (λ v. refl) (λ v. refl) told taken
 added_key draft Duplex words addition told taken =
@@ -256,9 +265,9 @@ added_some_key draft None words addition told taken = cc
 added_some_key draft (Some key) words addition told taken = added_key draft key words addition told taken
 
 -- a line whose addition the draft takes is right, and adds it
-pub added_after : (draft : Draft) (words : List (List ℕ)) (addition : Addition) → addition_of words ≡ Some addition → IsTrue (takes draft addition)
-    → draft_after draft words ≡ Ok (added draft addition)
-added_after draft [] addition told taken =
+pub added_after : (format : Format) (draft : Draft) (words : List (List ℕ)) (addition : Addition) → addition_of format words ≡ Some addition → IsTrue (takes draft addition)
+    → draft_after format draft words ≡ Ok (added draft addition)
+added_after format draft [] addition told taken =
     let is : nothing ≡ addition = cc in
     ap (λ a. Ok (added draft a)) is
-added_after draft (key ∷ words) addition told taken = added_some_key draft (key_of key) words addition told taken
+added_after format draft (key ∷ words) addition told taken = added_some_key draft (key_of format key) words addition told taken

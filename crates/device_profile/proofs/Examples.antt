@@ -3,7 +3,7 @@ use Rattle.std.proofs.Common.{◌≡◌, ℕ, List, [], ◌∷◌, ◌++◌, map
 use Rattle.std.specs.Prelude.{codes}
 use Rattle.device_profile.specs.declared.sample.Sample.{Sample}
 use Rattle.device_profile.specs.declared.sample.Sample.TheVariants.{A, B, C, D}
-use Rattle.device_profile.specs.declared.fault.Cause.TheVariants.{Version, Unknown, Repeated, Range, NoGeometry}
+use Rattle.device_profile.specs.declared.fault.Cause.TheVariants.{Version, Unknown, Repeated, Range, Missing, NoGeometry}
 use Rattle.device_profile.specs.declared.fault.ProfileFault.{ProfileFault}
 use Rattle.device_profile.specs.declared.fault.ProfileFault.TheVariants.{Fault}
 use Rattle.device_profile.specs.Faces.{has_face, has_request}
@@ -32,7 +32,9 @@ text_b name size orientation vmi font = text_with name size orientation vmi font
 abbrev wrong_texts : List (List ℕ × ProfileFault)
 wrong_texts =
     ([], Fault 1 Version)
-    ∷ (codes "pclprofile 2\n", Fault 1 Version)
+    ∷ (codes "pclprofile 3\n", Fault 1 Version)
+    ∷ (codes "pclprofile 2\n", Fault 0 Missing)
+    ∷ (sample_text B ++ codes "lineterm 0", Fault 20 Unknown)
     ∷ (codes "# x\n" ++ sample_text B, Fault 1 Version)
     ∷ (text_b (codes "B C") (codes "2") (codes "0") (codes "8") (codes "1"), Fault 2 Range)
     ∷ (text_b (codes "B") (codes "0") (codes "0") (codes "8") (codes "1"), Fault 3 Range)

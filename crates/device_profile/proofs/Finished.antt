@@ -12,7 +12,8 @@ use Rattle.device_profile.proofs.Sound.{Sound, Sound-of}
 is_valid-sound : (draft : Draft) → Sound draft → IsTrue (is_complete draft) → IsTrue (has_its_pages draft) → IsTrue (has_its_choices draft)
     → IsTrue (is_valid (printer_of_draft draft))
 is_valid-sound draft s complete pages choices =
-    let c13 = and_parts _ _ complete in
+    let c14 = and_parts _ _ complete in
+    let c13 = and_parts _ _ c14.0 in
     let c12 = and_parts _ _ c13.0 in
     let c11 = and_parts _ _ c12.0 in
     let c10 = and_parts _ _ c11.0 in
@@ -34,7 +35,7 @@ is_valid-sound draft s complete pages choices =
     let p1 = and_parts sized turned p2.0 in
     let o2 = and_parts (faced && held) sided choices in
     let o1 = and_parts faced held o2.0 in
-    rw (s.sizes c1.1, s.orientations c2.1, s.vmis c3.1, s.fonts c4.1, s.copies c5.1, s.sides c6.1, s.trays c7.1, s.device_trays c8.1, p1.0, p1.1, o1.0, o1.1, o2.1, s.depth, s.memory, s.few_pages, s.new_pages, p2.1, s.pages, s.few_faces, s.new_ids, s.new_requests, s.faces)
+    rw (s.sizes c1.1, s.orientations c2.1, s.vmis c3.1, s.fonts c4.1, s.copies c5.1, s.sides c6.1, s.trays c7.1, s.line_terminations c8.1, s.device_trays c9.1, p1.0, p1.1, o1.0, o1.1, o2.1, s.depth, s.memory, s.few_pages, s.new_pages, p2.1, s.pages, s.few_faces, s.new_ids, s.new_requests, s.faces)
 
 -- a draft that some lines gave is a valid printer where nothing is wrong with the whole
 pub is_valid-given : (draft : Draft) → IsGiven draft → IsTrue (is_complete draft) → IsTrue (has_its_pages draft) → IsTrue (has_its_choices draft)

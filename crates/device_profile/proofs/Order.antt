@@ -8,7 +8,8 @@ use Rattle.std.proofs.lemmas.Cmp.{nat_eq_equiv, int_eq_equiv}
 use Rattle.std.proofs.lemmas.List.Folds.{list_any-append}
 use Rattle.std.proofs.lemmas.List.Sorted.{IsPermutation-refl, IsPermutation-trans, IsPermutation-append_left, IsPermutation-append_right, IsPermutation-append_comm, IsPermutation-keeps, length_permutation, list_any-IsPermutation}
 use Rattle.device_profile.specs.declared.field.Field.{Field}
-use Rattle.device_profile.specs.declared.field.Field.TheVariants.{Size, Orientation, Vmi, Font, Copies, Sides, Tray}
+use Rattle.device_profile.specs.declared.format.Format.{Format}
+use Rattle.device_profile.specs.declared.field.Field.TheVariants.{Size, Orientation, Vmi, Font, Copies, Sides, Tray, LineTerm}
 use Rattle.device_profile.specs.declared.font.FontRequest.{FontRequest}
 use Rattle.device_profile.specs.declared.geometry.Geometry.{Geometry}
 use Rattle.device_profile.specs.Faces.{Face, has_face, has_request, is_face, is_same_request}
@@ -16,7 +17,7 @@ use Rattle.device_profile.specs.Printer.{has_row, is_page, is_same_page}
 use Rattle.device_profile.specs.Values.{are_choices}
 use Rattle.device_profile.specs.Draft.{Draft, draft_after}
 use Rattle.device_profile.specs.Text.{words_of_line, draft_of_lines}
-use Rattle.device_profile.proofs.Additions.{Addition, nothing, new_name, new_sizes, new_orientations, new_vmis, new_fonts, new_copies, new_sides, new_trays, new_device_trays, new_duplex, new_depth, new_memory, new_page, new_face, addition_of, takes_list, takes_number, takes, added, adds, added_after}
+use Rattle.device_profile.proofs.Additions.{Addition, nothing, new_name, new_sizes, new_orientations, new_vmis, new_fonts, new_copies, new_sides, new_trays, new_line_terminations, new_device_trays, new_duplex, new_depth, new_memory, new_page, new_face, addition_of, takes_list, takes_number, takes, added, adds, added_after}
 use Rattle.device_profile.proofs.Sound.{or_fault, line_given}
 use Rattle.device_profile.proofs.Singles.{some_values}
 
@@ -135,6 +136,7 @@ both_orders draft (new_fonts v) (new_fonts w) one two = absurd (list_twice Font 
 both_orders draft (new_copies v) (new_copies w) one two = absurd (list_twice Copies draft.copies v w one two)
 both_orders draft (new_sides v) (new_sides w) one two = absurd (list_twice Sides draft.sides v w one two)
 both_orders draft (new_trays v) (new_trays w) one two = absurd (list_twice Tray draft.trays v w one two)
+both_orders draft (new_line_terminations v) (new_line_terminations w) one two = absurd (list_twice LineTerm draft.line_terminations v w one two)
 both_orders draft (new_device_trays v) (new_device_trays w) one two = absurd (list_twice Tray draft.device_trays v w one two)
 both_orders draft (new_duplex n) (new_duplex m) one two = absurd (number_twice 1 n m two)
 both_orders draft (new_depth n) (new_depth m) one two = absurd (number_twice 8 n m two)
@@ -173,46 +175,46 @@ both_orders draft (new_face face) (new_face other) one two =
 both_orders draft x y one two = record { first = two; second = one; similar = IsSimilar-refl (added (added draft x) y) }
 
 -- from similar drafts, whatever these lines give, the others give it too but for the order of its rows
-abbrev pub LeadsAlike : List (List ℕ) → List (List ℕ) → Type 0
-LeadsAlike xs ys =
-    (a b : Draft) (n m : ℕ) (last : Draft) → IsSimilar a b → draft_of_lines a n xs ≡ Ok last
-    → (other : Draft) × (draft_of_lines b m ys ≡ Ok other) × IsSimilar last other
+abbrev pub LeadsAlike : Format → List (List ℕ) → List (List ℕ) → Type 0
+LeadsAlike format xs ys =
+    (a b : Draft) (n m : ℕ) (last : Draft) → IsSimilar a b → draft_of_lines format a n xs ≡ Ok last
+    → (other : Draft) × (draft_of_lines format b m ys ≡ Ok other) × IsSimilar last other
 
 -- a line whose addition is taken leads on
-leads_on : (draft : Draft) (number : ℕ) (line : List ℕ) (lines : List (List ℕ)) (addition : Addition) (last : Draft)
-    → addition_of (words_of_line line) ≡ Some addition → IsTrue (takes draft addition) → draft_of_lines (added draft addition) (number + 1) lines ≡ Ok last
-    → draft_of_lines draft number (line ∷ lines) ≡ Ok last
-leads_on draft number line lines addition last told taken is =
-    ap (λ given. or_fault given (λ next. draft_of_lines next (number + 1) lines) number) (added_after draft (words_of_line line) addition told taken) ∙ is
+leads_on : (format : Format) (draft : Draft) (number : ℕ) (line : List ℕ) (lines : List (List ℕ)) (addition : Addition) (last : Draft)
+    → addition_of format (words_of_line line) ≡ Some addition → IsTrue (takes draft addition) → draft_of_lines format (added draft addition) (number + 1) lines ≡ Ok last
+    → draft_of_lines format draft number (line ∷ lines) ≡ Ok last
+leads_on format draft number line lines addition last told taken is =
+    ap (λ given. or_fault given (λ next. draft_of_lines format next (number + 1) lines) number) (added_after format draft (words_of_line line) addition told taken) ∙ is
 
-LeadsAlike-cons : (line : List ℕ) (xs ys : List (List ℕ)) → LeadsAlike xs ys → LeadsAlike (line ∷ xs) (line ∷ ys)
-LeadsAlike-cons line xs ys alike a b n m last s is =
-    let given = line_given (draft_after a (words_of_line line)) (λ next. draft_of_lines next (n + 1) xs) n last is in
-    let step = adds a (words_of_line line) given.0 given.1 in
+LeadsAlike-cons : (format : Format) (line : List ℕ) (xs ys : List (List ℕ)) → LeadsAlike format xs ys → LeadsAlike format (line ∷ xs) (line ∷ ys)
+LeadsAlike-cons format line xs ys alike a b n m last s is =
+    let given = line_given (draft_after format a (words_of_line line)) (λ next. draft_of_lines format next (n + 1) xs) n last is in
+    let step = adds format a (words_of_line line) given.0 given.1 in
     let taken : IsTrue (takes b step.addition) = sym (takes-similar a b s step.addition) ∙ step.taken in
     let after : IsSimilar given.0 (added b step.addition) = subst (λ (d : Draft). IsSimilar d (added b step.addition)) step.is (added-similar a b s step.addition) in
     let rest = alike given.0 (added b step.addition) (n + 1) (m + 1) last after given.2 in
-    (rest.0, leads_on b m line ys step.addition rest.0 step.told taken rest.1, rest.2)
+    (rest.0, leads_on format b m line ys step.addition rest.0 step.told taken rest.1, rest.2)
 
-LeadsAlike-refl : (xs : List (List ℕ)) → LeadsAlike xs xs
-LeadsAlike-refl [] a b n m last s is =
+LeadsAlike-refl : (format : Format) (xs : List (List ℕ)) → LeadsAlike format xs xs
+LeadsAlike-refl format [] a b n m last s is =
     let same : a ≡ last = cc in
     (b, refl, subst (λ (d : Draft). IsSimilar d b) same s)
-LeadsAlike-refl (line ∷ lines) a b n m last s is = LeadsAlike-cons line lines lines (LeadsAlike-refl lines) a b n m last s is
+LeadsAlike-refl format (line ∷ lines) a b n m last s is = LeadsAlike-cons format line lines lines (LeadsAlike-refl format lines) a b n m last s is
 
-LeadsAlike-trans : (xs ys zs : List (List ℕ)) → LeadsAlike xs ys → LeadsAlike ys zs → LeadsAlike xs zs
-LeadsAlike-trans xs ys zs f g a b n m last s is =
+LeadsAlike-trans : (format : Format) (xs ys zs : List (List ℕ)) → LeadsAlike format xs ys → LeadsAlike format ys zs → LeadsAlike format xs zs
+LeadsAlike-trans format xs ys zs f g a b n m last s is =
     let one = f a b n m last s is in
     let two = g b b m m one.0 (IsSimilar-refl b) one.1 in
     (two.0, two.1, IsSimilar-trans last one.0 two.0 one.2 two.2)
 
 -- two neighbouring lines change places
-LeadsAlike-neighbours : (x y : List ℕ) (lines : List (List ℕ)) → LeadsAlike (x ∷ y ∷ lines) (y ∷ x ∷ lines)
-LeadsAlike-neighbours x y lines a b n m last s is =
-    let given_x = line_given (draft_after a (words_of_line x)) (λ next. draft_of_lines next (n + 1) (y ∷ lines)) n last is in
-    let step_x = adds a (words_of_line x) given_x.0 given_x.1 in
-    let given_y = line_given (draft_after given_x.0 (words_of_line y)) (λ next. draft_of_lines next (n + 1 + 1) lines) (n + 1) last given_x.2 in
-    let step_y = adds given_x.0 (words_of_line y) given_y.0 given_y.1 in
+LeadsAlike-neighbours : (format : Format) (x y : List ℕ) (lines : List (List ℕ)) → LeadsAlike format (x ∷ y ∷ lines) (y ∷ x ∷ lines)
+LeadsAlike-neighbours format x y lines a b n m last s is =
+    let given_x = line_given (draft_after format a (words_of_line x)) (λ next. draft_of_lines format next (n + 1) (y ∷ lines)) n last is in
+    let step_x = adds format a (words_of_line x) given_x.0 given_x.1 in
+    let given_y = line_given (draft_after format given_x.0 (words_of_line y)) (λ next. draft_of_lines format next (n + 1 + 1) lines) (n + 1) last given_x.2 in
+    let step_y = adds format given_x.0 (words_of_line y) given_y.0 given_y.1 in
     let p : Addition = step_x.addition in
     let q : Addition = step_y.addition in
     let second : IsTrue (takes (added a p) q) = subst (λ (d : Draft). IsTrue (takes d q)) (sym step_x.is) step_y.taken in
@@ -222,41 +224,41 @@ LeadsAlike-neighbours x y lines a b n m last s is =
     let after_y : IsSimilar (added a q) (added b q) = added-similar a b s q in
     let there : IsSimilar given_y.0 (added (added b q) p) =
     IsSimilar-trans given_y.0 (added (added a q) p) (added (added b q) p) here (added-similar (added a q) (added b q) after_y p) in
-    let rest = LeadsAlike-refl lines given_y.0 (added (added b q) p) (n + 1 + 1) (m + 1 + 1) last there given_y.2 in
+    let rest = LeadsAlike-refl format lines given_y.0 (added (added b q) p) (n + 1 + 1) (m + 1 + 1) last there given_y.2 in
     let takes_q : IsTrue (takes b q) = sym (takes-similar a b s q) ∙ ways.first in
     let takes_p : IsTrue (takes (added b q) p) = sym (takes-similar (added a q) (added b q) after_y p) ∙ ways.second in (
       rest.0,
-      leads_on b m y (x ∷ lines) q rest.0 step_y.told takes_q (leads_on (added b q) (m + 1) x lines p rest.0 step_x.told takes_p rest.1),
+      leads_on format b m y (x ∷ lines) q rest.0 step_y.told takes_q (leads_on format (added b q) (m + 1) x lines p rest.0 step_x.told takes_p rest.1),
       rest.2,
     )
 
 -- a line changes places with the first
-LeadsAlike-front : (x : List ℕ) (lines : List (List ℕ)) (j : ℕ) (d : List ℕ) → j < length lines → LeadsAlike (x ∷ lines) (get_or lines j d ∷ set lines j x)
-LeadsAlike-front x [] j d within = absurd (omega arith)
-LeadsAlike-front x (y ∷ lines) zero d within = LeadsAlike-neighbours x y lines
-LeadsAlike-front x (y ∷ lines) (suc j) d within =
+LeadsAlike-front : (format : Format) (x : List ℕ) (lines : List (List ℕ)) (j : ℕ) (d : List ℕ) → j < length lines → LeadsAlike format (x ∷ lines) (get_or lines j d ∷ set lines j x)
+LeadsAlike-front format x [] j d within = absurd (omega arith)
+LeadsAlike-front format x (y ∷ lines) zero d within = LeadsAlike-neighbours format x y lines
+LeadsAlike-front format x (y ∷ lines) (suc j) d within =
     let z : List ℕ = get_or lines j d in
     let below : j < length lines = omega arith in
-    LeadsAlike-trans (x ∷ y ∷ lines) (y ∷ x ∷ lines) (z ∷ y ∷ set lines j x) (LeadsAlike-neighbours x y lines)
-    (LeadsAlike-trans (y ∷ x ∷ lines) (y ∷ z ∷ set lines j x) (z ∷ y ∷ set lines j x)
-    (LeadsAlike-cons y (x ∷ lines) (z ∷ set lines j x) (LeadsAlike-front x lines j d below))
-    (LeadsAlike-neighbours y z (set lines j x)))
+    LeadsAlike-trans format (x ∷ y ∷ lines) (y ∷ x ∷ lines) (z ∷ y ∷ set lines j x) (LeadsAlike-neighbours format x y lines)
+    (LeadsAlike-trans format (y ∷ x ∷ lines) (y ∷ z ∷ set lines j x) (z ∷ y ∷ set lines j x)
+    (LeadsAlike-cons format y (x ∷ lines) (z ∷ set lines j x) (LeadsAlike-front format x lines j d below))
+    (LeadsAlike-neighbours format y z (set lines j x)))
 
 -- two lines change places
-LeadsAlike-exchange : (lines : List (List ℕ)) (i j : ℕ) (d : List ℕ) → i < length lines → j < length lines → LeadsAlike lines (set (set lines i (get_or lines j d)) j (get_or lines i d))
-LeadsAlike-exchange [] i j d first second = absurd (omega arith)
-LeadsAlike-exchange (x ∷ lines) zero zero d first second = LeadsAlike-refl (x ∷ lines)
-LeadsAlike-exchange (x ∷ lines) zero (suc j) d first second = LeadsAlike-front x lines j d (omega arith)
-LeadsAlike-exchange (x ∷ lines) (suc i) zero d first second = LeadsAlike-front x lines i d (omega arith)
-LeadsAlike-exchange (x ∷ lines) (suc i) (suc j) d first second =
-    LeadsAlike-cons x lines (set (set lines i (get_or lines j d)) j (get_or lines i d)) (LeadsAlike-exchange lines i j d (omega arith) (omega arith))
+LeadsAlike-exchange : (format : Format) (lines : List (List ℕ)) (i j : ℕ) (d : List ℕ) → i < length lines → j < length lines → LeadsAlike format lines (set (set lines i (get_or lines j d)) j (get_or lines i d))
+LeadsAlike-exchange format [] i j d first second = absurd (omega arith)
+LeadsAlike-exchange format (x ∷ lines) zero zero d first second = LeadsAlike-refl format (x ∷ lines)
+LeadsAlike-exchange format (x ∷ lines) zero (suc j) d first second = LeadsAlike-front format x lines j d (omega arith)
+LeadsAlike-exchange format (x ∷ lines) (suc i) zero d first second = LeadsAlike-front format x lines i d (omega arith)
+LeadsAlike-exchange format (x ∷ lines) (suc i) (suc j) d first second =
+    LeadsAlike-cons format x lines (set (set lines i (get_or lines j d)) j (get_or lines i d)) (LeadsAlike-exchange format lines i j d (omega arith) (omega arith))
 
-LeadsAlike-swap : (lines : List (List ℕ)) (i j : ℕ) → i < length lines → j < length lines → LeadsAlike lines (swap lines i j)
-LeadsAlike-swap [] i j first second = absurd (omega arith)
-LeadsAlike-swap (x ∷ lines) i j first second = LeadsAlike-exchange (x ∷ lines) i j x first second
+LeadsAlike-swap : (format : Format) (lines : List (List ℕ)) (i j : ℕ) → i < length lines → j < length lines → LeadsAlike format lines (swap lines i j)
+LeadsAlike-swap format [] i j first second = absurd (omega arith)
+LeadsAlike-swap format (x ∷ lines) i j first second = LeadsAlike-exchange format (x ∷ lines) i j x first second
 
 -- lines in any order lead alike
-pub LeadsAlike-permutation : (xs ys : List (List ℕ)) → IsPermutation xs ys → LeadsAlike xs ys
-LeadsAlike-permutation xs ys moved =
-    IsPermutation-keeps xs (LeadsAlike xs) (LeadsAlike-refl xs)
-    (λ lines i j first second alike. LeadsAlike-trans xs lines (swap lines i j) alike (LeadsAlike-swap lines i j first second)) ys moved
+pub LeadsAlike-permutation : (format : Format) (xs ys : List (List ℕ)) → IsPermutation xs ys → LeadsAlike format xs ys
+LeadsAlike-permutation format xs ys moved =
+    IsPermutation-keeps xs (LeadsAlike format xs) (LeadsAlike-refl format xs)
+    (λ lines i j first second alike. LeadsAlike-trans format xs lines (swap lines i j) alike (LeadsAlike-swap format lines i j first second)) ys moved

@@ -1,25 +1,27 @@
 -- Keys that come once stand on one line of an accepted text.
 use Rattle.std.proofs.Common.{◌≡◌, ℕ, suc, ◌+◌, ◌≤◌, ◌==◌, ◌&&◌, Bool, true, false, not, cond, List, [], ◌∷◌, length, get_or, filter, codes, All, IsTrue, MatchBool, Option, None, Some, is_some, find, Result, Ok, Err, nat_lt, nat_le, if◌then◌else◌, arith, refl, sym, subst, ap, ◌∙◌}
-use Rattle.std.specs.Option.{option_map}
+use Rattle.std.specs.Option.{option_map, option_and_then}
 use Rattle.std.specs.Str.{bytes_eq}
-use Rattle.std.specs.List.{list_all}
+use Rattle.std.specs.List.{list_all, AllByRecursion}
 use Rattle.std.proofs.lemmas.Bool.{and_parts, cond_both, not-true, not_from_true, not_from_false, false≢true, leb-true, ne_eqb}
 use Rattle.std.proofs.lemmas.List.Elements.{All-from_recursion}
 use Rattle.std.proofs.lemmas.Slice.Eq.{bytes_eq-Decides}
 use Rattle.device_profile.specs.declared.field.Field.{Field}
-use Rattle.device_profile.specs.declared.field.Field.TheVariants.{Size, Orientation, Vmi, Font, Copies, Sides, Tray}
+use Rattle.device_profile.specs.declared.format.Format.{Format}
+use Rattle.device_profile.specs.declared.format.Format.TheVariants.{One, Two}
+use Rattle.device_profile.specs.declared.field.Field.TheVariants.{Size, Orientation, Vmi, Font, Copies, Sides, Tray, LineTerm}
 use Rattle.device_profile.specs.declared.key.Key.{Key}
 use Rattle.device_profile.specs.declared.key.Key.TheVariants.{Name, Choice, Trays, Duplex, Depth, Memory, Page, Face as FaceRow}
 use Rattle.device_profile.specs.declared.fault.Cause.{Cause}
 use Rattle.device_profile.specs.Values.{is_between, is_value, are_values, are_choices, has_repeat, values_on_line, number_on_line, is_name}
 use Rattle.device_profile.specs.GeometryLine.{row_of_words}
 use Rattle.device_profile.specs.FaceLine.{face_of_words}
-use Rattle.device_profile.specs.Draft.{Draft, no_draft, keys, key_of, draft_after}
+use Rattle.device_profile.specs.Draft.{Draft, no_draft, keys, is_key_in, key_of, draft_after}
 use Rattle.device_profile.specs.Words.{words_of}
-use Rattle.device_profile.specs.Text.{is_version, words_of_line, draft_of_lines, draft_of, is_complete}
-use Rattle.device_profile.specs.Laws.{has_key, single_keys}
+use Rattle.device_profile.specs.Text.{version_of, format_of, words_of_line, draft_of_lines, draft_of, is_complete}
+use Rattle.device_profile.specs.Laws.{has_key, common_keys, single_keys}
 use Rattle.device_profile.proofs.LineParts.{of_value, of_mapped}
-use Rattle.device_profile.proofs.Additions.{Addition, nothing, new_name, new_sizes, new_orientations, new_vmis, new_fonts, new_copies, new_sides, new_trays, new_device_trays, new_duplex, new_depth, new_memory, new_page, new_face, or_none, addition_of_key, addition_of, takes_list, takes, added, adds}
+use Rattle.device_profile.proofs.Additions.{Addition, nothing, new_name, new_sizes, new_orientations, new_vmis, new_fonts, new_copies, new_sides, new_trays, new_line_terminations, new_device_trays, new_duplex, new_depth, new_memory, new_page, new_face, or_none, addition_of_key, addition_of, takes_list, takes, added, adds}
 use Rattle.device_profile.proofs.Sound.{line_given, version_given}
 
 abbrev word_of : Key → List ℕ
@@ -31,6 +33,7 @@ word_of (Choice Font) = codes "font"
 word_of (Choice Copies) = codes "copies"
 word_of (Choice Sides) = codes "sides"
 word_of (Choice Tray) = codes "tray"
+word_of (Choice LineTerm) = codes "lineterm"
 word_of Trays = codes "trays"
 word_of Duplex = codes "duplex"
 word_of Depth = codes "depth"
@@ -49,6 +52,7 @@ word_of_addition (new_fonts values) = codes "font"
 word_of_addition (new_copies values) = codes "copies"
 word_of_addition (new_sides values) = codes "sides"
 word_of_addition (new_trays values) = codes "tray"
+word_of_addition (new_line_terminations values) = codes "lineterm"
 word_of_addition (new_device_trays values) = codes "trays"
 word_of_addition (new_duplex n) = codes "duplex"
 word_of_addition (new_depth n) = codes "depth"
@@ -56,24 +60,26 @@ word_of_addition (new_memory n) = codes "memory"
 word_of_addition (new_page row) = codes "geometry"
 word_of_addition (new_face face) = codes "face"
 
-found_word : (rows : List (List ℕ × Key)) (word : List ℕ) (key : Key) → IsTrue (list_all (λ row. bytes_eq (word_of row.1) row.0) rows)
-    → option_map (λ row. row.1) (find (λ row. bytes_eq row.0 word) rows) ≡ Some key → word_of key ≡ word
-found_word [] word key named is = cc
-found_word (row ∷ rows) word key named is =
+kept_key : (is_kept : Bool) (found key : Key) → (if is_kept then Some found else None) ≡ Some key → found ≡ key
+kept_key true found key is = cc
+kept_key false found key is = cc
+
+found_word : (format : Format) (rows : List (List ℕ × Key)) (word : List ℕ) (key : Key) → IsTrue (list_all (λ row. bytes_eq (word_of row.1) row.0) rows)
+    → option_and_then (λ row. if is_key_in format row.1 then Some row.1 else None) (find (λ row. bytes_eq row.0 word) rows) ≡ Some key → word_of key ≡ word
+found_word format [] word key named is = cc
+found_word format (row ∷ rows) word key named is =
     let parts = and_parts (bytes_eq (word_of row.1) row.0) (list_all (λ other. bytes_eq (word_of other.1) other.0) rows) named in
     let own : word_of row.1 ≡ row.0 = (bytes_eq-Decides (word_of row.1) row.0).0 parts.0 in
     cond_both (bytes_eq row.0 word) (Some row) (find (λ other. bytes_eq other.0 word) rows)
-    (λ found. option_map (λ other. other.1) found ≡ Some key → word_of key ≡ word)
-    (λ yes got.
-    let same : row.1 ≡ key = cc in
-    ap word_of (sym same) ∙ (own ∙ (bytes_eq-Decides row.0 word).0 yes))
-    (λ no got. found_word rows word key parts.1 got)
+    (λ found. option_and_then (λ other. if is_key_in format other.1 then Some other.1 else None) found ≡ Some key → word_of key ≡ word)
+    (λ yes got. ap word_of (sym (kept_key (is_key_in format row.1) row.1 key got)) ∙ (own ∙ (bytes_eq-Decides row.0 word).0 yes))
+    (λ no got. found_word format rows word key parts.1 got)
     is
 
 -- a key is the word that it is read from
-word_of_key : (word : List ℕ) (key : Key) → key_of word ≡ Some key → word_of key ≡ word
+word_of_key : (format : Format) (word : List ℕ) (key : Key) → key_of format word ≡ Some key → word_of key ≡ word
 unfolding key_of
-word_of_key word key is = found_word keys word key refl is
+word_of_key format word key is = found_word format keys word key refl is
 
 word_of_list : (word : List ℕ) (new : List ℕ → Addition) (given : Result (List ℕ) Cause) (addition : Addition) → ((values : List ℕ) → word_of_addition (new values) ≡ word)
     → or_none new given ≡ Some addition → word_of_addition addition ≡ word
@@ -103,6 +109,7 @@ word_of_told (Choice Font) words addition told = word_of_list (codes "font") new
 word_of_told (Choice Copies) words addition told = word_of_list (codes "copies") new_copies (values_on_line Copies words) addition (λ v. refl) told
 word_of_told (Choice Sides) words addition told = word_of_list (codes "sides") new_sides (values_on_line Sides words) addition (λ v. refl) told
 word_of_told (Choice Tray) words addition told = word_of_list (codes "tray") new_trays (values_on_line Tray words) addition (λ v. refl) told
+word_of_told (Choice LineTerm) words addition told = word_of_list (codes "lineterm") new_line_terminations (values_on_line LineTerm words) addition (λ v. refl) told
 word_of_told Trays words addition told = word_of_list (codes "trays") new_device_trays (values_on_line Tray words) addition (λ v. refl) told
 word_of_told Duplex words addition told = word_of_mapped (codes "duplex") new_duplex (number_on_line 1 words) addition (λ n. refl) told
 word_of_told Depth words addition told = word_of_mapped (codes "depth") new_depth (number_on_line 8 words) addition (λ n. refl) told
@@ -111,13 +118,13 @@ word_of_told Page words addition told = word_of_mapped (codes "geometry") new_pa
 word_of_told FaceRow words addition told = word_of_mapped (codes "face") new_face (face_of_words words) addition (λ face. refl) told
 
 -- a line's first word is the key of what it adds
-first_word : (words : List (List ℕ)) (addition : Addition) → addition_of words ≡ Some addition → get_or words 0 [] ≡ word_of_addition addition
-first_word [] addition told =
+first_word : (format : Format) (words : List (List ℕ)) (addition : Addition) → addition_of format words ≡ Some addition → get_or words 0 [] ≡ word_of_addition addition
+first_word format [] addition told =
     let is : nothing ≡ addition = cc in
     ap word_of_addition is
-first_word (word ∷ words) addition told =
-    let given = of_value (λ k. addition_of_key k words) (key_of word) addition told in
-    sym (word_of_key word given.0 given.1) ∙ sym (word_of_told given.0 words addition given.2)
+first_word format (word ∷ words) addition told =
+    let given = of_value (λ k. addition_of_key k words) (key_of format word) addition told in
+    sym (word_of_key format word given.0 given.1) ∙ sym (word_of_told given.0 words addition given.2)
 
 -- whether a key that comes once was given
 abbrev is_given : Key → Draft → Bool
@@ -129,6 +136,7 @@ is_given (Choice Font) draft = not (length draft.fonts == 0)
 is_given (Choice Copies) draft = not (length draft.copies == 0)
 is_given (Choice Sides) draft = not (length draft.sides == 0)
 is_given (Choice Tray) draft = not (length draft.trays == 0)
+is_given (Choice LineTerm) draft = not (length draft.line_terminations == 0)
 is_given Trays draft = not (length draft.device_trays == 0)
 is_given Duplex draft = is_some draft.duplex
 is_given Depth draft = is_some draft.depth
@@ -177,6 +185,7 @@ counts (Choice Font) draft (new_fonts values) single taken = list_counts Font dr
 counts (Choice Copies) draft (new_copies values) single taken = list_counts Copies draft.copies values taken
 counts (Choice Sides) draft (new_sides values) single taken = list_counts Sides draft.sides values taken
 counts (Choice Tray) draft (new_trays values) single taken = list_counts Tray draft.trays values taken
+counts (Choice LineTerm) draft (new_line_terminations values) single taken = list_counts LineTerm draft.line_terminations values taken
 counts Trays draft (new_device_trays values) single taken = list_counts Tray draft.device_trays values taken
 counts Duplex draft (new_duplex n) single taken = number_counts (is_some draft.duplex) (nat_le n 1) taken
 counts Depth draft (new_depth n) single taken = number_counts (is_some draft.depth) (nat_le n 8) taken
@@ -200,22 +209,22 @@ one_line false was now line rest total counted is =
     let same : bit now ≡ bit was = ap bit counted in
     omega arith
 
-count_lines : (key : Key) → IsTrue (is_single key) → (lines : List (List ℕ)) (draft : Draft) (number : ℕ) (last : Draft) → draft_of_lines draft number lines ≡ Ok last
+count_lines : (format : Format) (key : Key) → IsTrue (is_single key) → (lines : List (List ℕ)) (draft : Draft) (number : ℕ) (last : Draft) → draft_of_lines format draft number lines ≡ Ok last
     → bit (is_given key draft) + length (with_key key lines) ≡ bit (is_given key last)
-count_lines key single [] draft number last is =
+count_lines format key single [] draft number last is =
     let same : draft ≡ last = cc in
     let bits : bit (is_given key draft) ≡ bit (is_given key last) = ap (λ d. bit (is_given key d)) same in
     omega arith
-count_lines key single (line ∷ lines) draft number last is =
-    let given = line_given (draft_after draft (words_of_line line)) (λ next. draft_of_lines next (number + 1) lines) number last is in
-    let step = adds draft (words_of_line line) given.0 given.1 in
+count_lines format key single (line ∷ lines) draft number last is =
+    let given = line_given (draft_after format draft (words_of_line line)) (λ next. draft_of_lines format next (number + 1) lines) number last is in
+    let step = adds format draft (words_of_line line) given.0 given.1 in
     let here : Counts (has_key (word_of key) line) (is_given key draft) (is_given key (added draft step.addition)) =
-    subst (λ (word : List ℕ). Counts (bytes_eq (word_of key) word) (is_given key draft) (is_given key (added draft step.addition))) (sym (first_word (words_of_line line) step.addition step.told))
+    subst (λ (word : List ℕ). Counts (bytes_eq (word_of key) word) (is_given key draft) (is_given key (added draft step.addition))) (sym (first_word format (words_of_line line) step.addition step.told))
     (counts key draft step.addition single step.taken) in
     let counted : Counts (has_key (word_of key) line) (is_given key draft) (is_given key given.0) =
     subst (λ (d : Draft). Counts (has_key (word_of key) line) (is_given key draft) (is_given key d)) step.is here in
     one_line (has_key (word_of key) line) (is_given key draft) (is_given key given.0) line (with_key key lines) (bit (is_given key last)) counted
-    (count_lines key single lines given.0 (number + 1) last given.2)
+    (count_lines format key single lines given.0 (number + 1) last given.2)
 
 no_key : (key : Key) → (bytes_eq (word_of key) [] ≡ false) × (bytes_eq (word_of key) (codes "pclprofile") ≡ false)
 no_key Name = (refl, refl)
@@ -226,6 +235,7 @@ no_key (Choice Font) = (refl, refl)
 no_key (Choice Copies) = (refl, refl)
 no_key (Choice Sides) = (refl, refl)
 no_key (Choice Tray) = (refl, refl)
+no_key (Choice LineTerm) = (refl, refl)
 no_key Trays = (refl, refl)
 no_key Duplex = (refl, refl)
 no_key Depth = (refl, refl)
@@ -233,55 +243,56 @@ no_key Memory = (refl, refl)
 no_key Page = (refl, refl)
 no_key FaceRow = (refl, refl)
 
-format_of : (words : List (List ℕ)) → IsTrue (is_version words) → get_or words 0 [] ≡ codes "pclprofile"
-format_of [] version = absurd (false≢true version)
-format_of (format ∷ []) version = absurd (false≢true version)
-format_of (format ∷ number ∷ []) version =
-    (bytes_eq-Decides format (codes "pclprofile")).0 ((and_parts (bytes_eq format (codes "pclprofile")) (bytes_eq number (codes "1")) version).0)
-format_of (format ∷ number ∷ more ∷ words) version = absurd (false≢true version)
+named : (words : List (List ℕ)) (format : Format) → format_of words ≡ Some format → get_or words 0 [] ≡ codes "pclprofile"
+named [] format is = cc
+named (name ∷ []) format is = cc
+named (name ∷ version ∷ []) format is =
+    cond_both (bytes_eq name (codes "pclprofile")) (version_of version) None (λ found. found ≡ Some format → name ≡ codes "pclprofile")
+    (λ yes got. (bytes_eq-Decides name (codes "pclprofile")).0 yes)
+    (λ no got. cc)
+    is
+named (name ∷ version ∷ more ∷ words) format is = cc
 
 -- the first line has no key
-first_line : (key : Key) (first : List ℕ) → IsTrue (is_version (words_of first)) → has_key (word_of key) first ≡ false
-first_line key first version =
+first_line : (key : Key) (first : List ℕ) (format : Format) → format_of (words_of first) ≡ Some format → has_key (word_of key) first ≡ false
+first_line key first format version =
     cond_both (get_or first 0 0 == 35) [] (words_of first) (λ words. bytes_eq (word_of key) (get_or words 0 []) ≡ false)
     (λ comment. (no_key key).0)
-    (λ line. ap (bytes_eq (word_of key)) (format_of (words_of first) version) ∙ (no_key key).1)
+    (λ line. ap (bytes_eq (word_of key)) (named (words_of first) format version) ∙ (no_key key).1)
 
-none_given : (key : Key) → IsTrue (is_single key) → is_given key no_draft ≡ false
-none_given Name single = refl
-none_given (Choice Size) single = refl
-none_given (Choice Orientation) single = refl
-none_given (Choice Vmi) single = refl
-none_given (Choice Font) single = refl
-none_given (Choice Copies) single = refl
-none_given (Choice Sides) single = refl
-none_given (Choice Tray) single = refl
-none_given Trays single = refl
-none_given Duplex single = refl
-none_given Depth single = refl
-none_given Memory single = refl
-none_given Page single = refl
-none_given FaceRow single = refl
-
--- a key that was given stands on one of all lines
-stands_once : (key : Key) → IsTrue (is_single key) → (all : List (List ℕ)) (draft : Draft) → draft_of all ≡ Ok draft → is_given key draft ≡ true → length (with_key key all) ≡ 1
-stands_once key single [] draft is given = cc
-stands_once key single (first ∷ later) draft is given =
-    let parts = version_given (is_version (words_of first)) (draft_of_lines no_draft 2 later) draft is in
-    let total : bit (is_given key no_draft) + length (with_key key later) ≡ bit (is_given key draft) = count_lines key single later no_draft 2 draft parts.1 in
-    let before : bit (is_given key no_draft) ≡ 0 = ap bit (none_given key single) in
+-- a key that was given stands on one of all lines, where nothing gave it before the lines
+stands_once : (key : Key) → IsTrue (is_single key) → (format : Format) → is_given key (no_draft format) ≡ false → (first : List ℕ) (later : List (List ℕ)) (draft : Draft)
+    → format_of (words_of first) ≡ Some format → draft_of_lines format (no_draft format) 2 later ≡ Ok draft → is_given key draft ≡ true → length (with_key key (first ∷ later)) ≡ 1
+stands_once key single format none first later draft version is given =
+    let total : bit (is_given key (no_draft format)) + length (with_key key later) ≡ bit (is_given key draft) = count_lines format key single later (no_draft format) 2 draft is in
+    let before : bit (is_given key (no_draft format)) ≡ 0 = ap bit none in
     let after : bit (is_given key draft) ≡ 1 = ap bit given in
     let rest : length (with_key key later) ≡ 1 = omega arith in
-    ap (λ has. length (cond has (first ∷ with_key key later) (with_key key later))) (first_line key first parts.0) ∙ rest
+    ap (λ has. length (cond has (first ∷ with_key key later) (with_key key later))) (first_line key first format version) ∙ rest
 
 some_given : (values : List ℕ) → IsTrue (nat_lt 0 (length values)) → not (length values == 0) ≡ true
 some_given [] some = absurd (false≢true some)
 some_given (value ∷ values) some = not_from_false (suc (length values) == 0) (ne_eqb (suc (length values)) 0 (λ e. omega arith))
 
--- where each key was given, each that comes once stands on one line
-pub all_once : (all : List (List ℕ)) (draft : Draft) → draft_of all ≡ Ok draft → IsTrue (is_complete draft) → All (λ key. length (filter (has_key key) all) ≡ 1) single_keys
-all_once all draft is complete =
-    let c13 = and_parts _ _ complete in
+abbrev StandsOnce : List (List ℕ) → List ℕ → Type 0
+StandsOnce all key = length (filter (has_key key) all) ≡ 1
+
+line_terminations_given : (draft : Draft) → IsTrue (is_complete draft) → IsTrue (nat_lt 0 (length draft.line_terminations))
+line_terminations_given draft complete =
+    let c14 = and_parts _ _ complete in
+    let c13 = and_parts _ _ c14.0 in
+    let c12 = and_parts _ _ c13.0 in
+    let c11 = and_parts _ _ c12.0 in
+    let c10 = and_parts _ _ c11.0 in
+    let c9 = and_parts _ _ c10.0 in
+    let c8 = and_parts _ _ c9.0 in
+    c8.1
+
+singles_once : (format : Format) (first : List ℕ) (later : List (List ℕ)) (draft : Draft) → format_of (words_of first) ≡ Some format
+    → draft_of_lines format (no_draft format) 2 later ≡ Ok draft → IsTrue (is_complete draft) → AllByRecursion (StandsOnce (first ∷ later)) common_keys
+singles_once format first later draft version is complete =
+    let c14 = and_parts _ _ complete in
+    let c13 = and_parts _ _ c14.0 in
     let c12 = and_parts _ _ c13.0 in
     let c11 = and_parts _ _ c12.0 in
     let c10 = and_parts _ _ c11.0 in
@@ -293,30 +304,29 @@ all_once all draft is complete =
     let c4 = and_parts _ _ c5.0 in
     let c3 = and_parts _ _ c4.0 in
     let c2 = and_parts _ _ c3.0 in
-    let c1 = and_parts _ _ c2.0 in
-    All-from_recursion (λ key. length (filter (has_key key) all) ≡ 1) single_keys (
-      stands_once Name refl all draft is c1.0,
+    let c1 = and_parts _ _ c2.0 in (
+      stands_once Name refl format refl first later draft version is c1.0,
       (
-        stands_once (Choice Size) refl all draft is (some_given draft.sizes c1.1),
+        stands_once (Choice Size) refl format refl first later draft version is (some_given draft.sizes c1.1),
         (
-          stands_once (Choice Orientation) refl all draft is (some_given draft.orientations c2.1),
+          stands_once (Choice Orientation) refl format refl first later draft version is (some_given draft.orientations c2.1),
           (
-            stands_once (Choice Vmi) refl all draft is (some_given draft.vmis c3.1),
+            stands_once (Choice Vmi) refl format refl first later draft version is (some_given draft.vmis c3.1),
             (
-              stands_once (Choice Font) refl all draft is (some_given draft.fonts c4.1),
+              stands_once (Choice Font) refl format refl first later draft version is (some_given draft.fonts c4.1),
               (
-                stands_once (Choice Copies) refl all draft is (some_given draft.copies c5.1),
+                stands_once (Choice Copies) refl format refl first later draft version is (some_given draft.copies c5.1),
                 (
-                  stands_once (Choice Sides) refl all draft is (some_given draft.sides c6.1),
+                  stands_once (Choice Sides) refl format refl first later draft version is (some_given draft.sides c6.1),
                   (
-                    stands_once (Choice Tray) refl all draft is (some_given draft.trays c7.1),
+                    stands_once (Choice Tray) refl format refl first later draft version is (some_given draft.trays c7.1),
                     (
-                      stands_once Trays refl all draft is (some_given draft.device_trays c8.1),
+                      stands_once Trays refl format refl first later draft version is (some_given draft.device_trays c9.1),
                       (
-                        stands_once Duplex refl all draft is c9.1,
+                        stands_once Duplex refl format refl first later draft version is c10.1,
                         (
-                          stands_once Depth refl all draft is c10.1,
-                          (stands_once Memory refl all draft is c11.1, tt),
+                          stands_once Depth refl format refl first later draft version is c11.1,
+                          (stands_once Memory refl format refl first later draft version is c12.1, tt),
                         ),
                       ),
                     ),
@@ -328,3 +338,21 @@ all_once all draft is complete =
         ),
       ),
     )
+
+-- where each key was given, each that comes once stands on one line
+all_once_of : (format : Format) (first : List ℕ) (later : List (List ℕ)) (draft : Draft) → format_of (words_of first) ≡ Some format
+    → draft_of_lines format (no_draft format) 2 later ≡ Ok draft → IsTrue (is_complete draft) → AllByRecursion (StandsOnce (first ∷ later)) (single_keys format)
+all_once_of One first later draft version is complete = singles_once One first later draft version is complete
+all_once_of Two first later draft version is complete = (
+  stands_once (Choice LineTerm) refl Two refl first later draft version is (some_given draft.line_terminations (line_terminations_given draft complete)),
+  singles_once Two first later draft version is complete,
+)
+
+pub all_once : (all : List (List ℕ)) (draft : Draft) (format : Format) → draft_of all ≡ Ok draft → format_of (words_of (get_or all 0 [])) ≡ Some format → IsTrue (is_complete draft)
+    → All (λ key. length (filter (has_key key) all) ≡ 1) (single_keys format)
+all_once [] draft format is version complete = cc
+all_once (first ∷ later) draft format is version complete =
+    let parts = version_given (format_of (words_of first)) later draft is in
+    let same : parts.0 ≡ format = cc in
+    All-from_recursion (StandsOnce (first ∷ later)) (single_keys format)
+    (all_once_of format first later draft version (subst (λ (f : Format). draft_of_lines f (no_draft f) 2 later ≡ Ok draft) same parts.2) complete)

@@ -1,13 +1,16 @@
 -- What lines gave is as a valid printer has it.
-use Rattle.std.proofs.Common.{◌≡◌, ℕ, ◌+◌, ◌==◌, ◌&&◌, Bool, true, false, not, List, [], ◌∷◌, ◌++◌, length, IsTrue, Result, Ok, Err, nat_lt, nat_le, if◌then◌else◌, arith, refl, subst}
+use Rattle.std.proofs.Common.{◌≡◌, ℕ, ◌+◌, ◌==◌, ◌&&◌, Bool, true, false, not, List, [], ◌∷◌, ◌++◌, length, IsTrue, Option, None, Some, Result, Ok, Err, nat_lt, nat_le, arith, refl, subst}
 use Rattle.std.specs.Prelude.{unwrap_or}
 use Rattle.std.specs.List.{list_all, list_any}
+use Rattle.std.specs.Option.{option_map_or}
 use Rattle.std.proofs.lemmas.Bool.{and_parts, or_parts, or_from, not-true, not_from_false, false≢true}
 use Rattle.std.proofs.lemmas.Bool.Decides.{nat_tests}
 use Rattle.std.proofs.lemmas.List.{length-append}
 use Rattle.std.proofs.lemmas.List.Folds.{list_all-append, list_any-append}
 use Rattle.device_profile.specs.declared.field.Field.{Field}
-use Rattle.device_profile.specs.declared.field.Field.TheVariants.{Size, Orientation, Vmi, Font, Copies, Sides, Tray}
+use Rattle.device_profile.specs.declared.format.Format.{Format}
+use Rattle.device_profile.specs.declared.format.Format.TheVariants.{One, Two}
+use Rattle.device_profile.specs.declared.field.Field.TheVariants.{Size, Orientation, Vmi, Font, Copies, Sides, Tray, LineTerm}
 use Rattle.device_profile.specs.declared.fault.Cause.{Cause}
 use Rattle.device_profile.specs.declared.fault.Cause.TheVariants.{Version}
 use Rattle.device_profile.specs.declared.fault.ProfileFault.{ProfileFault}
@@ -17,9 +20,9 @@ use Rattle.device_profile.specs.Printer.{has_row, is_page, is_same_page}
 use Rattle.device_profile.specs.Rows.{has_alike}
 use Rattle.device_profile.specs.Words.{words_of}
 use Rattle.device_profile.specs.Values.{are_choices}
-use Rattle.device_profile.specs.Draft.{Draft, no_draft, draft_after}
-use Rattle.device_profile.specs.Text.{is_version, words_of_line, draft_of_lines, draft_of}
-use Rattle.device_profile.proofs.Additions.{Addition, nothing, new_name, new_sizes, new_orientations, new_vmis, new_fonts, new_copies, new_sides, new_trays, new_device_trays, new_duplex, new_depth, new_memory, new_page, new_face, takes, added, adds}
+use Rattle.device_profile.specs.Draft.{Draft, line_terminations_of, no_draft, draft_after}
+use Rattle.device_profile.specs.Text.{format_of, words_of_line, draft_of_lines, draft_of}
+use Rattle.device_profile.proofs.Additions.{Addition, nothing, new_name, new_sizes, new_orientations, new_vmis, new_fonts, new_copies, new_sides, new_trays, new_line_terminations, new_device_trays, new_duplex, new_depth, new_memory, new_page, new_face, takes, added, adds}
 
 -- one more row fits where there is room
 one_more : {X : Type 0} (xs : List X) (x : X) → IsTrue (nat_lt (length xs) 64) → IsTrue (nat_le (length (xs ++ x ∷ [])) 64)
@@ -57,6 +60,7 @@ pub record Sound (draft : Draft) : Type 0 where
   pub copies : Fits Copies draft.copies
   pub sides : Fits Sides draft.sides
   pub trays : Fits Tray draft.trays
+  pub line_terminations : Fits LineTerm draft.line_terminations
   pub device_trays : Fits Tray draft.device_trays
   pub depth : IsTrue (nat_le (unwrap_or draft.depth 0) 8)
   pub memory : IsTrue (nat_le (unwrap_or draft.memory 0) 1_048_576)
@@ -68,8 +72,12 @@ pub record Sound (draft : Draft) : Type 0 where
   pub new_requests : IsTrue (not (has_alike (λ a b. is_same_request a.request b.request) draft.faces))
   pub faces : IsTrue (list_all is_face draft.faces)
 
-Sound-none : Sound no_draft
-Sound-none = record {
+Fits-before : (format : Format) → Fits LineTerm (line_terminations_of format)
+Fits-before One some = refl
+Fits-before Two some = absurd (false≢true some)
+
+Sound-none : (format : Format) → Sound (no_draft format)
+Sound-none format = record {
   sizes = λ some. absurd (false≢true some);
   orientations = λ some. absurd (false≢true some);
   vmis = λ some. absurd (false≢true some);
@@ -77,6 +85,7 @@ Sound-none = record {
   copies = λ some. absurd (false≢true some);
   sides = λ some. absurd (false≢true some);
   trays = λ some. absurd (false≢true some);
+  line_terminations = Fits-before format;
   device_trays = λ some. absurd (false≢true some);
   depth = refl;
   memory = refl;
@@ -104,6 +113,7 @@ Sound-added draft (new_fonts values) taken s = let new : Fits Font values = with
 Sound-added draft (new_copies values) taken s = let new : Fits Copies values = with_list Copies draft.copies values taken in assumption new
 Sound-added draft (new_sides values) taken s = let new : Fits Sides values = with_list Sides draft.sides values taken in assumption new
 Sound-added draft (new_trays values) taken s = let new : Fits Tray values = with_list Tray draft.trays values taken in assumption new
+Sound-added draft (new_line_terminations values) taken s = let new : Fits LineTerm values = with_list LineTerm draft.line_terminations values taken in assumption new
 Sound-added draft (new_device_trays values) taken s = let new : Fits Tray values = with_list Tray draft.device_trays values taken in assumption new
 Sound-added draft (new_duplex n) taken s = assumption s
 Sound-added draft (new_depth n) taken s = let new : IsTrue (nat_le n 8) = (and_parts _ (nat_le n 8) taken).1 in assumption new
@@ -139,20 +149,26 @@ pub line_given : (given : Result Draft Cause) (more : Draft → Result Draft Pro
 line_given (Ok next) more number last is = (next, refl, is)
 line_given (Err cause) more number last is = cc
 
-Sound-of_lines : (lines : List (List ℕ)) (draft : Draft) (number : ℕ) (last : Draft) → draft_of_lines draft number lines ≡ Ok last → Sound draft → Sound last
-Sound-of_lines [] draft number last is s = let same : draft ≡ last = cc in subst Sound same s
-Sound-of_lines (line ∷ lines) draft number last is s =
-    let given = line_given (draft_after draft (words_of_line line)) (λ next. draft_of_lines next (number + 1) lines) number last is in
-    let step = adds draft (words_of_line line) given.0 given.1 in
-    Sound-of_lines lines given.0 (number + 1) last given.2 (subst Sound step.is (Sound-added draft step.addition step.taken s))
+Sound-of_lines : (format : Format) (lines : List (List ℕ)) (draft : Draft) (number : ℕ) (last : Draft) → draft_of_lines format draft number lines ≡ Ok last → Sound draft → Sound last
+Sound-of_lines format [] draft number last is s = let same : draft ≡ last = cc in subst Sound same s
+Sound-of_lines format (line ∷ lines) draft number last is s =
+    let given = line_given (draft_after format draft (words_of_line line)) (λ next. draft_of_lines format next (number + 1) lines) number last is in
+    let step = adds format draft (words_of_line line) given.0 given.1 in
+    Sound-of_lines format lines given.0 (number + 1) last given.2 (subst Sound step.is (Sound-added draft step.addition step.taken s))
 
--- the first line names the version, and the others give the draft
-pub version_given : (test : Bool) (given : Result Draft ProfileFault) (draft : Draft) → (if test then given else Err (Fault 1 Version)) ≡ Ok draft → IsTrue test × (given ≡ Ok draft)
-version_given true given draft is = (refl, is)
-version_given false given draft is = cc
+-- the draft of the lines behind a first line that names this version, or names none
+abbrev pub draft_behind : Option Format → List (List ℕ) → Result Draft ProfileFault
+draft_behind named lines = option_map_or (λ format. draft_of_lines format (no_draft format) 2 lines) named (Err (Fault 1 Version))
+
+-- the first line names a version, and the others give the draft
+pub version_given : (named : Option Format) (lines : List (List ℕ)) (draft : Draft) → draft_behind named lines ≡ Ok draft
+    → (format : Format) × (named ≡ Some format) × (draft_of_lines format (no_draft format) 2 lines ≡ Ok draft)
+version_given (Some format) lines draft is = (format, refl, is)
+version_given None lines draft is = cc
 
 -- what some lines give is sound
 pub Sound-of : (lines : List (List ℕ)) (draft : Draft) → draft_of lines ≡ Ok draft → Sound draft
 Sound-of [] draft is = cc
 Sound-of (first ∷ lines) draft is =
-    Sound-of_lines lines no_draft 2 draft ((version_given (is_version (words_of first)) (draft_of_lines no_draft 2 lines) draft is).1) Sound-none
+    let given = version_given (format_of (words_of first)) lines draft is in
+    Sound-of_lines given.0 lines (no_draft given.0) 2 draft given.2 (Sound-none given.0)

@@ -1,5 +1,5 @@
 -- Laws of accepted texts.
-use Rattle.std.proofs.Common.{◌≡◌, ℕ, ◌==◌, ◌&&◌, Bool, true, false, not, List, [], ◌∷◌, length, IsTrue, Result, Ok, Err, is_some, nat_lt, if◌then◌else◌, refl, sym, subst, ap, ◌∙◌}
+use Rattle.std.proofs.Common.{◌≡◌, ℕ, ◌==◌, ◌&&◌, Bool, true, false, not, List, [], ◌∷◌, length, IsTrue, Some, Result, Ok, Err, is_some, nat_lt, if◌then◌else◌, refl, sym, subst, ap, ◌∙◌}
 use Rattle.std.specs.List.{list_all, list_any}
 use Rattle.std.specs.List.Sorted.{IsPermutation}
 use Rattle.std.specs.Str.Lines.{lines}
@@ -15,11 +15,12 @@ use Rattle.device_profile.specs.Faces.{Face, has_face}
 use Rattle.device_profile.specs.Printer.{Printer, is_valid, has_size, has_orientation, has_row, has_every_pair, are_sides}
 use Rattle.device_profile.specs.Words.{words_of}
 use Rattle.device_profile.specs.Draft.{Draft, no_draft}
-use Rattle.device_profile.specs.Text.{is_version, draft_of_lines, draft_of, has_its_lists, is_complete, has_its_pages, is_duplex, has_its_choices, printer_of_draft, printer_of, printer_of_text}
+use Rattle.device_profile.specs.declared.format.Format.{Format}
+use Rattle.device_profile.specs.Text.{format_of, draft_of_lines, draft_of, has_its_lists, is_complete, has_its_pages, is_duplex, has_its_choices, printer_of_draft, printer_of, printer_of_text}
 use Rattle.device_profile.specs.Laws.{IsSamePrinter, GivesValid, HasEachKeyOnce, OrderIsFree}
 use Rattle.device_profile.proofs.Reading.{of_draft}
 use Rattle.device_profile.proofs.Finished.{is_valid-given}
-use Rattle.device_profile.proofs.Sound.{version_given}
+use Rattle.device_profile.proofs.Sound.{draft_behind, version_given}
 use Rattle.device_profile.proofs.Singles.{all_once}
 use Rattle.device_profile.proofs.Order.{IsSimilar, IsSimilar-refl, LeadsAlike-permutation}
 
@@ -72,9 +73,9 @@ gives_valid text printer is =
     subst (λ (p : Printer). IsTrue (is_valid p)) whole.is (is_valid-given given.0 (lines text, given.1) whole.complete whole.pages whole.choices)
 
 pub has_each_key_once : (text : List ℕ) → HasEachKeyOnce text
-has_each_key_once text printer is =
+has_each_key_once text printer format is version =
     let given = draft_of_text text printer is in
-    all_once (lines text) given.0 given.1 given.2.complete
+    all_once (lines text) given.0 format given.1 version given.2.complete
 
 -- tests that agree pass the same lists
 agree : {X : Type 0} (p q : X → Bool) (xs : List X) → ((x : X) → p x ≡ q x) → list_all p xs ≡ list_all q xs
@@ -148,20 +149,19 @@ choices_too a b s choices =
 same_printer : (a b : Draft) → IsSimilar a b → IsSamePrinter (printer_of_draft a) (printer_of_draft b)
 same_printer a b s = record { geometries = s.geometries; faces = s.faces; others = ap printer_of_draft s.others }
 
-lines_given : (first : List ℕ) (later : List (List ℕ)) (draft : Draft) → draft_of (first ∷ later) ≡ Ok draft → IsTrue (is_version (words_of first)) × (draft_of_lines no_draft 2 later ≡ Ok draft)
-lines_given first later draft is = version_given (is_version (words_of first)) (draft_of_lines no_draft 2 later) draft is
-
-draft_of_version : (first : List ℕ) (later : List (List ℕ)) (draft : Draft) → IsTrue (is_version (words_of first)) → draft_of_lines no_draft 2 later ≡ Ok draft → draft_of (first ∷ later) ≡ Ok draft
-draft_of_version first later draft version is = rw version is
+draft_of_version : (first : List ℕ) (later : List (List ℕ)) (draft : Draft) (format : Format) → format_of (words_of first) ≡ Some format
+    → draft_of_lines format (no_draft format) 2 later ≡ Ok draft → draft_of (first ∷ later) ≡ Ok draft
+draft_of_version first later draft format version is = ap (λ named. draft_behind named later) version ∙ is
 
 pub order_is_free : (text other : List ℕ) → OrderIsFree text other
 order_is_free text other printer first later moved is all all_moved_lines permuted short =
     let given = draft_of_text text printer is in
     let whole = given.2 in
-    let parts = lines_given first later given.0 (sym (ap draft_of all) ∙ given.1) in
-    let alike = LeadsAlike-permutation later moved permuted no_draft no_draft 2 2 given.0 (IsSimilar-refl no_draft) parts.1 in
+    let parts = version_given (format_of (words_of first)) later given.0 (sym (ap draft_of all) ∙ given.1) in
+    let none : Draft = no_draft parts.0 in
+    let alike = LeadsAlike-permutation parts.0 later moved permuted none none 2 2 given.0 (IsSimilar-refl none) parts.2 in
     let draft : Draft = alike.0 in
-    let drafted : draft_of (lines other) ≡ Ok draft = ap draft_of all_moved_lines ∙ draft_of_version first moved draft parts.0 alike.1 in
+    let drafted : draft_of (lines other) ≡ Ok draft = ap draft_of all_moved_lines ∙ draft_of_version first moved draft parts.0 parts.1 alike.1 in
     let accepted : printer_of draft ≡ Ok (printer_of_draft draft) =
     printer_of_whole draft (sym (complete_too given.0 draft alike.2) ∙ whole.complete) (pages_too given.0 draft alike.2 whole.pages) (choices_too given.0 draft alike.2 whole.choices) in (
       printer_of_draft draft,

@@ -9,7 +9,7 @@ use Rattle.std.proofs.lemmas.List.Sums.{AllPass-from_list_all}
 use Rattle.device_profile.specs.declared.geometry.Geometry.{Geometry}
 use Rattle.device_profile.specs.declared.panel.Panel.{Panel}
 use Rattle.device_profile.specs.declared.field.Field.{Field}
-use Rattle.device_profile.specs.declared.field.Field.TheVariants.{Size, Orientation, Vmi, Font, Copies, Sides, Tray}
+use Rattle.device_profile.specs.declared.field.Field.TheVariants.{Size, Orientation, Vmi, Font, Copies, Sides, Tray, LineTerm}
 use Rattle.device_profile.specs.Faces.{Face, face_at, face_for, has_face, has_metrics, is_face, are_ranges_from, is_same_request}
 use Rattle.device_profile.specs.declared.font.FontRequest.{FontRequest}
 use Rattle.device_profile.specs.Values.{is_between, is_value, are_values, are_choices, has_repeat}
@@ -56,6 +56,7 @@ pub record Valid (printer : Printer) : Type 0 where
   pub copies : IsTrue (are_values Copies printer.copies)
   pub sides : IsTrue (are_values Sides printer.sides)
   pub tray : IsTrue (are_values Tray printer.trays)
+  pub line_termination : IsTrue (are_values LineTerm printer.line_terminations)
   pub sized : IsTrue (list_all (λ size. has_size printer.geometries size) printer.sizes)
   pub turned : IsTrue (list_all (λ orientation. has_orientation printer.geometries orientation) printer.orientations)
   pub faced : IsTrue (list_all (λ font. has_face printer.faces font) printer.fonts)
@@ -79,7 +80,8 @@ valid_parts printer valid =
     let offers = and_parts _ _ choices.1 in
     let fonts = and_parts _ _ offers.0 in
     let turned = and_parts _ _ fonts.0 in
-    let c7 = and_parts _ _ choices.0 in
+    let c8 = and_parts _ _ choices.0 in
+    let c7 = and_parts _ _ c8.0 in
     let c6 = and_parts _ _ c7.0 in
     let c5 = and_parts _ _ c6.0 in
     let c4 = and_parts _ _ c5.0 in
@@ -96,6 +98,7 @@ valid_parts printer valid =
       copies = listed Copies printer.copies c4.1;
       sides = listed Sides printer.sides c5.1;
       tray = listed Tray printer.trays c6.1;
+      line_termination = listed LineTerm printer.line_terminations c7.1;
       sized = turned.0;
       turned = turned.1;
       faced = fonts.1;
@@ -120,6 +123,7 @@ some_allowed printer Font valid = some_values Font printer.fonts ((valid_parts p
 some_allowed printer Copies valid = some_values Copies printer.copies ((valid_parts printer valid).copies)
 some_allowed printer Sides valid = some_values Sides printer.sides ((valid_parts printer valid).sides)
 some_allowed printer Tray valid = some_values Tray printer.trays ((valid_parts printer valid).tray)
+some_allowed printer LineTerm valid = some_values LineTerm printer.line_terminations ((valid_parts printer valid).line_termination)
 
 first-Contains : (field : Field) (values : List ℕ) (value : ℕ) → IsTrue (are_values field values) → value ≡ get_or values 0 value → Contains values value
 first-Contains field values value are is_first = (0, some_values field values are, sym is_first)
@@ -136,8 +140,9 @@ pub IsAllowed-firsts : (printer : Printer) (panel : Panel) → IsTrue (is_valid 
     → panel.copies ≡ get_or printer.copies 0 panel.copies
     → panel.sides ≡ get_or printer.sides 0 panel.sides
     → panel.tray ≡ get_or printer.trays 0 panel.tray
+    → panel.line_termination ≡ get_or printer.line_terminations 0 panel.line_termination
     → IsAllowed printer panel
-IsAllowed-firsts printer panel valid size orientation vmi font copies sides tray =
+IsAllowed-firsts printer panel valid size orientation vmi font copies sides tray line_termination =
     let parts : Valid printer = valid_parts printer valid in
     record {
       size = first-Contains Size printer.sizes panel.size parts.size size;
@@ -147,21 +152,31 @@ IsAllowed-firsts printer panel valid size orientation vmi font copies sides tray
       copies = first-Contains Copies printer.copies panel.copies parts.copies copies;
       sides = first-Contains Sides printer.sides panel.sides parts.sides sides;
       tray = first-Contains Tray printer.trays panel.tray parts.tray tray;
+      line_termination = first-Contains LineTerm printer.line_terminations panel.line_termination parts.line_termination line_termination;
     }
 
-abbrev panel_of : (size orientation vmi font copies sides tray : ℕ) → Panel
-panel_of size orientation vmi font copies sides tray =
-    record { size = size; orientation = orientation; vmi = vmi; font = font; copies = copies; sides = sides; tray = tray }
+abbrev panel_of : (size orientation vmi font copies sides tray line_termination : ℕ) → Panel
+panel_of size orientation vmi font copies sides tray line_termination = record {
+  size = size;
+  orientation = orientation;
+  vmi = vmi;
+  font = font;
+  copies = copies;
+  sides = sides;
+  tray = tray;
+  line_termination = line_termination;
+}
 
-panels-same : (a b : Panel) → a.size ≡ b.size → a.orientation ≡ b.orientation → a.vmi ≡ b.vmi → a.font ≡ b.font → a.copies ≡ b.copies → a.sides ≡ b.sides → a.tray ≡ b.tray → a ≡ b
-panels-same a b size orientation vmi font copies sides tray =
-    ap (λ n. panel_of n a.orientation a.vmi a.font a.copies a.sides a.tray) size
-    ∙ (ap (λ n. panel_of b.size n a.vmi a.font a.copies a.sides a.tray) orientation
-    ∙ (ap (λ n. panel_of b.size b.orientation n a.font a.copies a.sides a.tray) vmi
-    ∙ (ap (λ n. panel_of b.size b.orientation b.vmi n a.copies a.sides a.tray) font
-    ∙ (ap (λ n. panel_of b.size b.orientation b.vmi b.font n a.sides a.tray) copies
-    ∙ (ap (λ n. panel_of b.size b.orientation b.vmi b.font b.copies n a.tray) sides
-    ∙ ap (λ n. panel_of b.size b.orientation b.vmi b.font b.copies b.sides n) tray)))))
+panels-same : (a b : Panel) → a.size ≡ b.size → a.orientation ≡ b.orientation → a.vmi ≡ b.vmi → a.font ≡ b.font → a.copies ≡ b.copies → a.sides ≡ b.sides → a.tray ≡ b.tray → a.line_termination ≡ b.line_termination → a ≡ b
+panels-same a b size orientation vmi font copies sides tray line_termination =
+    ap (λ n. panel_of n a.orientation a.vmi a.font a.copies a.sides a.tray a.line_termination) size
+    ∙ (ap (λ n. panel_of b.size n a.vmi a.font a.copies a.sides a.tray a.line_termination) orientation
+    ∙ (ap (λ n. panel_of b.size b.orientation n a.font a.copies a.sides a.tray a.line_termination) vmi
+    ∙ (ap (λ n. panel_of b.size b.orientation b.vmi n a.copies a.sides a.tray a.line_termination) font
+    ∙ (ap (λ n. panel_of b.size b.orientation b.vmi b.font n a.sides a.tray a.line_termination) copies
+    ∙ (ap (λ n. panel_of b.size b.orientation b.vmi b.font b.copies n a.tray a.line_termination) sides
+    ∙ (ap (λ n. panel_of b.size b.orientation b.vmi b.font b.copies b.sides n a.line_termination) tray
+    ∙ ap (λ n. panel_of b.size b.orientation b.vmi b.font b.copies b.sides b.tray n) line_termination))))))
 
 -- the panel of the first values is the first panel
 pub first_panel-firsts : (printer : Printer) (panel : Panel) → IsTrue (is_valid printer)
@@ -172,8 +187,9 @@ pub first_panel-firsts : (printer : Printer) (panel : Panel) → IsTrue (is_vali
     → panel.copies ≡ get_or printer.copies 0 panel.copies
     → panel.sides ≡ get_or printer.sides 0 panel.sides
     → panel.tray ≡ get_or printer.trays 0 panel.tray
+    → panel.line_termination ≡ get_or printer.line_terminations 0 panel.line_termination
     → panel ≡ first_panel printer
-first_panel-firsts printer panel valid size orientation vmi font copies sides tray =
+first_panel-firsts printer panel valid size orientation vmi font copies sides tray line_termination =
     let parts : Valid printer = valid_parts printer valid in
     panels-same panel (first_panel printer)
     (first-is Size printer.sizes panel.size parts.size size)
@@ -183,6 +199,7 @@ first_panel-firsts printer panel valid size orientation vmi font copies sides tr
     (first-is Copies printer.copies panel.copies parts.copies copies)
     (first-is Sides printer.sides panel.sides parts.sides sides)
     (first-is Tray printer.trays panel.tray parts.tray tray)
+    (first-is LineTerm printer.line_terminations panel.line_termination parts.line_termination line_termination)
 
 -- each panel that a valid printer may have has a page
 pub HasPages-valid : (printer : Printer) → IsTrue (is_valid printer) → HasPages printer

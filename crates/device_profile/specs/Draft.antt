@@ -1,9 +1,11 @@
 -- What the lines of a profile's text have given so far.
-use Rattle.std.specs.Prelude.{ℕ, List, [], ◌∷◌, ◌++◌, Bool, true, false, not, ◌==◌, length, Option, None, Some, is_some, option_map, find, codes, if◌then◌else◌, Result, Ok, Err}
-use Rattle.std.specs.Option.{option_map_or}
+use Rattle.std.specs.Prelude.{ℕ, List, [], ◌∷◌, ◌++◌, Bool, true, false, not, ◌==◌, length, Option, None, Some, is_some, find, codes, if◌then◌else◌, Result, Ok, Err}
+use Rattle.std.specs.Option.{option_map_or, option_and_then}
 use Rattle.std.specs.Str.{bytes_eq}
 use Rattle.device_profile.specs.declared.field.Field.{Field}
-use Rattle.device_profile.specs.declared.field.Field.TheVariants.{Size, Orientation, Vmi, Font, Copies, Sides, Tray}
+use Rattle.device_profile.specs.declared.field.Field.TheVariants.{Size, Orientation, Vmi, Font, Copies, Sides, Tray, LineTerm}
+use Rattle.device_profile.specs.declared.format.Format.{Format}
+use Rattle.device_profile.specs.declared.format.Format.TheVariants.{One, Two}
 use Rattle.device_profile.specs.declared.geometry.Geometry.{Geometry}
 use Rattle.device_profile.specs.declared.key.Key.{Key}
 use Rattle.device_profile.specs.declared.key.Key.TheVariants.{Name, Choice, Trays, Duplex, Depth, Memory, Page, Face as FaceRow}
@@ -25,6 +27,7 @@ keys =
     ∷ (codes "copies", Choice Copies)
     ∷ (codes "sides", Choice Sides)
     ∷ (codes "tray", Choice Tray)
+    ∷ (codes "lineterm", Choice LineTerm)
     ∷ (codes "trays", Trays)
     ∷ (codes "duplex", Duplex)
     ∷ (codes "depth", Depth)
@@ -33,9 +36,16 @@ keys =
     ∷ (codes "face", FaceRow)
     ∷ []
 
--- the key that a word is
-unfoldable pub key_of : List ℕ → Option Key
-key_of word = option_map (λ row. row.1) (find (λ row. bytes_eq row.0 word) keys)
+-- whether texts of a version have a key: line termination came with the second
+abbrev pub is_key_in : Format → Key → Bool
+is_key_in One (Choice LineTerm) = false
+is_key_in One _ = true
+is_key_in Two _ = true
+
+-- the key that a word is in texts of a version
+unfoldable pub key_of : Format → List ℕ → Option Key
+key_of format word =
+    option_and_then (λ row. if is_key_in format row.1 then Some row.1 else None) (find (λ row. bytes_eq row.0 word) keys)
 
 -- What the lines gave so far. A list that is empty was not given.
 pub record Draft : Type 0 where
@@ -47,6 +57,7 @@ pub record Draft : Type 0 where
   pub copies : List ℕ
   pub sides : List ℕ
   pub trays : List ℕ
+  pub line_terminations : List ℕ
   pub device_trays : List ℕ
   pub duplex : Option ℕ
   pub depth : Option ℕ
@@ -54,9 +65,14 @@ pub record Draft : Type 0 where
   pub geometries : List Geometry
   pub faces : List Face
 
+-- the line terminations that the panel may have before a line lists them: 0 in texts of version 1, which have no such line
+abbrev pub line_terminations_of : Format → List ℕ
+line_terminations_of One = 0 ∷ []
+line_terminations_of Two = []
+
 -- nothing was given yet
-abbrev pub no_draft : Draft
-no_draft = record {
+abbrev pub no_draft : Format → Draft
+no_draft format = record {
   is_named = false;
   sizes = [];
   orientations = [];
@@ -65,6 +81,7 @@ no_draft = record {
   copies = [];
   sides = [];
   trays = [];
+  line_terminations = line_terminations_of format;
   device_trays = [];
   duplex = None;
   depth = None;
@@ -82,6 +99,7 @@ choice_of draft Font = draft.fonts
 choice_of draft Copies = draft.copies
 choice_of draft Sides = draft.sides
 choice_of draft Tray = draft.trays
+choice_of draft LineTerm = draft.line_terminations
 
 -- these values are given for a field
 abbrev pub with_choice : Draft → Field → List ℕ → Draft
@@ -92,6 +110,7 @@ with_choice draft Font values = record draft { fonts = values }
 with_choice draft Copies values = record draft { copies = values }
 with_choice draft Sides values = record draft { sides = values }
 with_choice draft Tray values = record draft { trays = values }
+with_choice draft LineTerm values = record draft { line_terminations = values }
 
 -- what a value gives, or Range where there is none
 abbrev pub or_range : {X : Type 0} → (X → Draft) → Option X → Result Draft Cause
@@ -121,7 +140,7 @@ draft_after_key draft Page words =
     or_cause (λ row. record draft { geometries = draft.geometries ++ row ∷ [] }) (geometry_on_line draft.geometries words)
 draft_after_key draft FaceRow words = or_cause (λ face. record draft { faces = draft.faces ++ face ∷ [] }) (face_on_line draft.faces words)
 
--- what was given after a line of these words, or why the line is wrong
-abbrev pub draft_after : Draft → List (List ℕ) → Result Draft Cause
-draft_after draft [] = Ok draft
-draft_after draft (key ∷ words) = option_map_or (λ k. draft_after_key draft k words) (key_of key) (Err Unknown)
+-- what was given after a line of these words in a text of a version, or why the line is wrong
+abbrev pub draft_after : Format → Draft → List (List ℕ) → Result Draft Cause
+draft_after format draft [] = Ok draft
+draft_after format draft (key ∷ words) = option_map_or (λ k. draft_after_key draft k words) (key_of format key) (Err Unknown)

@@ -12,6 +12,7 @@ draft_of_fields d = record {
   copies = d.copies.items;
   sides = d.sides.items;
   trays = d.trays.items;
+  line_terminations = d.line_terminations.items;
   device_trays = d.device_trays.items;
   duplex = d.duplex;
   depth = d.depth;

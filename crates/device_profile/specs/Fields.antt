@@ -12,6 +12,7 @@ printer_of p = record {
   copies = p.copies.items;
   sides = p.sides.items;
   trays = p.trays.items;
+  line_terminations = p.line_terminations.items;
   device_trays = p.device_trays.items;
   has_duplex = p.has_duplex;
   depth = p.depth;

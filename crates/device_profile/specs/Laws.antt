@@ -1,16 +1,24 @@
 -- Laws of the texts of profiles.
-use Rattle.std.specs.Prelude.{◌≡◌, ℕ, ◌≤◌, List, [], ◌∷◌, All, Bool, IsTrue, length, filter, get_or, codes, Ok}
+use Rattle.std.specs.Prelude.{◌≡◌, ℕ, ◌≤◌, List, [], ◌∷◌, All, Bool, IsTrue, length, filter, get_or, codes, Some, Ok}
 use Rattle.std.specs.List.Sorted.{IsPermutation}
 use Rattle.std.specs.Str.{bytes_eq}
 use Rattle.std.specs.Str.Lines.{lines}
 use Rattle.device_profile.specs.Printer.{Printer, is_valid}
-use Rattle.device_profile.specs.Text.{words_of_line, printer_of_text}
+use Rattle.device_profile.specs.Text.{format_of, words_of_line, printer_of_text}
+use Rattle.device_profile.specs.Words.{words_of}
+use Rattle.device_profile.specs.declared.format.Format.{Format}
+use Rattle.device_profile.specs.declared.format.Format.TheVariants.{One, Two}
 
--- the keys that come once, by their words
-abbrev pub single_keys : List (List ℕ)
-single_keys =
+-- the keys that come once in texts of every version, by their words
+abbrev pub common_keys : List (List ℕ)
+common_keys =
     codes "name" ∷ codes "size" ∷ codes "orientation" ∷ codes "vmi" ∷ codes "font" ∷ codes "copies" ∷ codes "sides" ∷ codes "tray"
     ∷ codes "trays" ∷ codes "duplex" ∷ codes "depth" ∷ codes "memory" ∷ []
+
+-- the keys that come once in texts of a version
+abbrev pub single_keys : Format → List (List ℕ)
+single_keys One = common_keys
+single_keys Two = codes "lineterm" ∷ common_keys
 
 -- whether a line is no comment and begins with this key
 abbrev pub has_key : List ℕ → List ℕ → Bool
@@ -29,8 +37,8 @@ GivesValid text = (printer : Printer) → printer_of_text text ≡ Ok printer �
 -- where a text is accepted, each key that comes once stands on one line
 abbrev pub HasEachKeyOnce : List ℕ → Type 0
 HasEachKeyOnce text =
-    (printer : Printer) → printer_of_text text ≡ Ok printer →
-    All (λ key. length (filter (has_key key) (lines text)) ≡ 1) single_keys
+    (printer : Printer) (format : Format) → printer_of_text text ≡ Ok printer → format_of (words_of (get_or (lines text) 0 [])) ≡ Some format →
+    All (λ key. length (filter (has_key key) (lines text)) ≡ 1) (single_keys format)
 
 -- where a text is accepted, so is another with the same first line and the others in any order, and gives the same printer
 abbrev pub OrderIsFree : List ℕ → List ℕ → Type 0

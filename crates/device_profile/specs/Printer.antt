@@ -2,7 +2,7 @@
 use Rattle.std.specs.Prelude.{ℕ, ◌==◌, ◌&&◌, ◌||◌, nat_le, Bool, not, IsTrue, IsSome, IsSomeAnd, List, length, slice_index, Option, find, unwrap_or, Contains, pos, ◌+ℤ◌, int_lt, int_le}
 use Rattle.std.specs.List.{list_all, list_any}
 use Rattle.device_profile.specs.declared.field.Field.{Field}
-use Rattle.device_profile.specs.declared.field.Field.TheVariants.{Size, Orientation, Vmi, Font, Copies, Sides, Tray}
+use Rattle.device_profile.specs.declared.field.Field.TheVariants.{Size, Orientation, Vmi, Font, Copies, Sides, Tray, LineTerm}
 use Rattle.device_profile.specs.declared.geometry.Geometry.{Geometry}
 use Rattle.device_profile.specs.declared.panel.Panel.{Panel}
 use Rattle.device_profile.specs.Faces.{Face, face_at, has_face, has_metrics, are_faces}
@@ -18,6 +18,7 @@ pub record Printer : Type 0 where
   pub copies : List ℕ
   pub sides : List ℕ
   pub trays : List ℕ
+  pub line_terminations : List ℕ
   pub device_trays : List ℕ
   pub has_duplex : Bool
   pub depth : ℕ
@@ -34,6 +35,7 @@ values_of printer Font = printer.fonts
 values_of printer Copies = printer.copies
 values_of printer Sides = printer.sides
 values_of printer Tray = printer.trays
+values_of printer LineTerm = printer.line_terminations
 
 -- a panel that the printer may have
 pub record IsAllowed (printer : Printer) (panel : Panel) : Type 0 where
@@ -44,6 +46,7 @@ pub record IsAllowed (printer : Printer) (panel : Panel) : Type 0 where
   pub copies : Contains printer.copies panel.copies
   pub sides : Contains printer.sides panel.sides
   pub tray : Contains printer.trays panel.tray
+  pub line_termination : Contains printer.line_terminations panel.line_termination
 
 -- the first value of each list
 abbrev pub first_panel : Printer → Panel
@@ -55,6 +58,7 @@ first_panel printer = record {
   copies = slice_index printer.copies 0;
   sides = slice_index printer.sides 0;
   tray = slice_index printer.trays 0;
+  line_termination = slice_index printer.line_terminations 0;
 }
 
 -- the row of a size and an orientation
@@ -104,7 +108,7 @@ abbrev pub has_choices : Printer → Bool
 has_choices printer =
     are_choices Size printer.sizes && are_choices Orientation printer.orientations && are_choices Vmi printer.vmis
     && are_choices Font printer.fonts && are_choices Copies printer.copies && are_choices Sides printer.sides
-    && are_choices Tray printer.trays && are_choices Tray printer.device_trays
+    && are_choices Tray printer.trays && are_choices LineTerm printer.line_terminations && are_choices Tray printer.device_trays
 
 -- whether the device has this tray
 abbrev pub has_tray : Printer → ℕ → Bool

@@ -49,6 +49,7 @@ printer_a = record {
   copies = 1 ∷ [];
   sides = 0 ∷ [];
   trays = 1 ∷ [];
+  line_terminations = 0 ∷ [];
   device_trays = 1 ∷ 2 ∷ [];
   has_duplex = true;
   depth = 2;

@@ -1,8 +1,11 @@
 -- The printer that a profile's text describes, or the first thing wrong with the text.
-use Rattle.std.specs.Prelude.{◌≡◌, ℕ, ◌+◌, List, [], ◌∷◌, Bool, false, not, ◌&&◌, ◌==◌, nat_lt, length, get_or, is_some, unwrap_or, codes, if◌then◌else◌, Result, Ok, Err}
+use Rattle.std.specs.Prelude.{◌≡◌, ℕ, ◌+◌, List, [], ◌∷◌, Bool, false, not, ◌&&◌, ◌==◌, nat_lt, length, get_or, Option, None, Some, is_some, unwrap_or, codes, if◌then◌else◌, Result, Ok, Err}
 use Rattle.std.specs.List.{list_all, list_any}
+use Rattle.std.specs.Option.{option_map_or}
 use Rattle.std.specs.Str.{bytes_eq}
 use Rattle.std.specs.Str.Lines.{lines}
+use Rattle.device_profile.specs.declared.format.Format.{Format}
+use Rattle.device_profile.specs.declared.format.Format.TheVariants.{One, Two}
 use Rattle.device_profile.specs.declared.fault.Cause.TheVariants.{Version, Range, Missing, NoGeometry}
 use Rattle.device_profile.specs.declared.fault.ProfileFault.{ProfileFault}
 use Rattle.device_profile.specs.declared.fault.ProfileFault.TheVariants.{Fault, Memory}
@@ -11,34 +14,39 @@ use Rattle.device_profile.specs.Faces.{has_face}
 use Rattle.device_profile.specs.Words.{words_of}
 use Rattle.device_profile.specs.Draft.{Draft, no_draft, draft_after}
 
+-- the version that a word names
+abbrev pub version_of : List ℕ → Option Format
+version_of word = if bytes_eq word (codes "1") then Some One else (if bytes_eq word (codes "2") then Some Two else None)
+
 -- the first line names the format and its version
-abbrev pub is_version : List (List ℕ) → Bool
-is_version [] = false
-is_version (format ∷ []) = false
-is_version (format ∷ version ∷ []) = bytes_eq format (codes "pclprofile") && bytes_eq version (codes "1")
-is_version (format ∷ version ∷ more ∷ words) = false
+abbrev pub format_of : List (List ℕ) → Option Format
+format_of [] = None
+format_of (name ∷ []) = None
+format_of (name ∷ version ∷ []) = if bytes_eq name (codes "pclprofile") then version_of version else None
+format_of (name ∷ version ∷ more ∷ words) = None
 
 -- the words of a line; a comment, whose first byte is `#`, has none
 abbrev pub words_of_line : List ℕ → List (List ℕ)
 words_of_line line = if get_or line 0 0 == 35 then [] else words_of line
 
--- what was given after these lines, of which the first has this number, or the first faulty line
-abbrev pub draft_of_lines : Draft → ℕ → List (List ℕ) → Result Draft ProfileFault
-draft_of_lines draft number [] = Ok draft
-draft_of_lines draft number (line ∷ more) =
-    elim (draft_after draft (words_of_line line)) [ Ok next ↦ draft_of_lines next (number + 1) more | Err cause ↦ Err (Fault number cause) ]
+-- what was given after these lines of a text of a version, of which the first has this number, or the first faulty line
+abbrev pub draft_of_lines : Format → Draft → ℕ → List (List ℕ) → Result Draft ProfileFault
+draft_of_lines format draft number [] = Ok draft
+draft_of_lines format draft number (line ∷ more) =
+    elim (draft_after format draft (words_of_line line)) [ Ok next ↦ draft_of_lines format next (number + 1) more | Err cause ↦ Err (Fault number cause) ]
 
 -- what all lines give
 abbrev pub draft_of : List (List ℕ) → Result Draft ProfileFault
 draft_of [] = Err (Fault 1 Version)
-draft_of (first ∷ more) = if is_version (words_of first) then draft_of_lines no_draft 2 more else Err (Fault 1 Version)
+draft_of (first ∷ more) =
+    option_map_or (λ format. draft_of_lines format (no_draft format) 2 more) (format_of (words_of first)) (Err (Fault 1 Version))
 
 -- whether the name and each list of values were given
 abbrev pub has_its_lists : Draft → Bool
 has_its_lists draft =
     draft.is_named && nat_lt 0 (length draft.sizes) && nat_lt 0 (length draft.orientations) && nat_lt 0 (length draft.vmis)
     && nat_lt 0 (length draft.fonts) && nat_lt 0 (length draft.copies) && nat_lt 0 (length draft.sides)
-    && nat_lt 0 (length draft.trays) && nat_lt 0 (length draft.device_trays)
+    && nat_lt 0 (length draft.trays) && nat_lt 0 (length draft.line_terminations) && nat_lt 0 (length draft.device_trays)
 
 -- whether each key was given, and a page and a face
 abbrev pub is_complete : Draft → Bool
@@ -74,6 +82,7 @@ printer_of_draft draft = record {
   copies = draft.copies;
   sides = draft.sides;
   trays = draft.trays;
+  line_terminations = draft.line_terminations;
   device_trays = draft.device_trays;
   has_duplex = is_duplex draft;
   depth = unwrap_or draft.depth 0;

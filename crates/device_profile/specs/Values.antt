@@ -3,7 +3,7 @@ use Rattle.std.specs.Prelude.{ℕ, List, [], ◌∷◌, Bool, false, not, ◌&&�
 use Rattle.std.specs.List.{list_all, list_any, filter_map}
 use Rattle.std.specs.Option.{option_and_then}
 use Rattle.device_profile.specs.declared.field.Field.{Field}
-use Rattle.device_profile.specs.declared.field.Field.TheVariants.{Size, Orientation, Vmi, Font, Copies, Sides, Tray}
+use Rattle.device_profile.specs.declared.field.Field.TheVariants.{Size, Orientation, Vmi, Font, Copies, Sides, Tray, LineTerm}
 use Rattle.device_profile.specs.declared.fault.Cause.{Cause}
 use Rattle.device_profile.specs.declared.fault.Cause.TheVariants.{Repeated, Range}
 use Rattle.device_profile.specs.Words.{number_of, amount_of}
@@ -17,6 +17,7 @@ value_of Font word = number_of word
 value_of Copies word = number_of word
 value_of Sides word = number_of word
 value_of Tray word = number_of word
+value_of LineTerm word = number_of word
 
 -- whether a number is from the first to the second
 abbrev pub is_between : ℕ → ℕ → ℕ → Bool
@@ -31,6 +32,7 @@ is_value Font value = is_between 1 255 value
 is_value Copies value = is_between 1 32_767 value
 is_value Sides value = is_between 0 2 value
 is_value Tray value = is_between 1 255 value
+is_value LineTerm value = is_between 0 3 value
 
 -- some number stands twice
 abbrev pub has_repeat : List ℕ → Bool

@@ -1,14 +1,18 @@
 //! What the lines of a profile's text have given so far.
+ghost use Rattle.std.specs.Prelude.{◌≡◌, IfOk};
+ghost use Rattle.device_profile.specs.Draft.{line_terminations_of};
+
 use crate::face_line::face_on_line;
 use crate::fault::{Cause, LineFault};
 use crate::field::Field;
 use crate::font::FontRow;
+use crate::format::Format;
 use crate::geometry::Geometry;
 use crate::geometry_line::geometry_on_line;
 use crate::key::Key;
 use crate::scan::next_word;
 use crate::values::{is_name, number_on_line, values_on_line};
-use std::alloc::Allocator;
+use std::alloc::{AllocError, Allocator};
 use std::marker::Model;
 
 /// What the lines of a profile's text have given so far. A list that is empty was not given.
@@ -22,6 +26,7 @@ pub(crate) struct Draft<A: Allocator> {
     pub(crate) copies: Vec<u32, A>,
     pub(crate) sides: Vec<u32, A>,
     pub(crate) trays: Vec<u32, A>,
+    pub(crate) line_terminations: Vec<u32, A>,
     pub(crate) device_trays: Vec<u32, A>,
     pub(crate) duplex: Option<u32>,
     pub(crate) depth: Option<u32>,
@@ -40,6 +45,17 @@ impl<A: Allocator> Model for Draft<A> {
     ghost view = { draft_of_fields };
 }
 
+/// The line terminations that the panel may have before a line lists them.
+fn line_terminations_of<A: Allocator>(alloc: A, format: Format) -> Result<Vec<u32, A>, AllocError>
+    ensures { IfOk result (λ values. values.items ≡ line_terminations_of format) }
+{
+    let mut values = Vec::new(alloc);
+    if format == Format::One {
+        values.push(0)?;
+    }
+    Ok(values)
+}
+
 /// Macros may run at most so many levels deep.
 const MOST_DEPTH: u32 = 8;
 
@@ -47,17 +63,19 @@ const MOST_DEPTH: u32 = 8;
 const MOST_MEMORY: u32 = 1_048_576;
 
 impl<A: Allocator + Copy> Draft<A> {
-    ghost use Rattle.std.specs.Prelude.{◌≡◌};
+    ghost use Rattle.std.specs.Prelude.{◌≡◌, IfOk};
     ghost use Rattle.device_profile.specs.declared.key.Key.TheVariants as keys;
     ghost use Rattle.device_profile.specs.Draft.{no_draft, choice_of, with_choice, draft_after_key, draft_after};
     ghost use Rattle.device_profile.specs.Words.{words_of};
     ghost use Rattle.device_profile.specs.Given.{Gives};
 
     /// Nothing was given yet.
-    pub(crate) fn new(alloc: A) -> Self
-        ensures { result ≡ no_draft }
+    ///
+    /// An error means that the allocator refused a request.
+    pub(crate) fn new(alloc: A, format: Format) -> Result<Self, AllocError>
+        ensures { IfOk result (λ draft. draft ≡ no_draft format) }
     {
-        Draft {
+        Ok(Draft {
             is_named: false,
             sizes: Vec::new(alloc),
             orientations: Vec::new(alloc),
@@ -66,23 +84,29 @@ impl<A: Allocator + Copy> Draft<A> {
             copies: Vec::new(alloc),
             sides: Vec::new(alloc),
             trays: Vec::new(alloc),
+            line_terminations: line_terminations_of(alloc, format)?,
             device_trays: Vec::new(alloc),
             duplex: None,
             depth: None,
             memory: None,
             geometries: Vec::new(alloc),
             faces: Vec::new(alloc),
-        }
+        })
     }
 
-    /// Takes one more line, given by its words.
-    pub(crate) fn take_line(&mut self, alloc: A, line: &[u8]) -> Result<(), LineFault>
-        ensures { Gives (draft_after self.old (words_of line.now)) result self.new }
+    /// Takes one more line of a text of this version, given by its words.
+    pub(crate) fn take_line(
+        &mut self,
+        alloc: A,
+        format: Format,
+        line: &[u8],
+    ) -> Result<(), LineFault>
+        ensures { Gives (draft_after format self.old (words_of line.now)) result self.new }
     {
         let Some((word, words)) = next_word(line) else {
             return Ok(());
         };
-        match Key::of(word) {
+        match Key::of(format, word) {
             Some(key) => self.take(alloc, key, words),
             None => Err(LineFault::Wrong(Cause::Unknown)),
         }
@@ -130,6 +154,7 @@ impl<A: Allocator + Copy> Draft<A> {
             Field::Copies => self.copies.as_slice(),
             Field::Sides => self.sides.as_slice(),
             Field::Tray => self.trays.as_slice(),
+            Field::LineTerm => self.line_terminations.as_slice(),
         }
     }
 
@@ -145,6 +170,7 @@ impl<A: Allocator + Copy> Draft<A> {
             Field::Copies => self.copies = values,
             Field::Sides => self.sides = values,
             Field::Tray => self.trays = values,
+            Field::LineTerm => self.line_terminations = values,
         }
     }
 

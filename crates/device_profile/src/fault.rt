@@ -5,7 +5,7 @@ use thiserror::Error;
 /// What is wrong with a line of a profile's text, or with the whole.
 #[derive(Clone, Copy, Debug, PartialEq, Eq)]
 pub enum Cause {
-    /// The first line is not `pclprofile 1`.
+    /// The first line is neither `pclprofile 1` nor `pclprofile 2`.
     Version,
     /// The line's first word is no key.
     Unknown,

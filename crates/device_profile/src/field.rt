@@ -19,4 +19,6 @@ pub enum Field {
     Sides,
     /// The paper tray.
     Tray,
+    /// Line termination, as `ESC &k#G` numbers it.
+    LineTerm,
 }

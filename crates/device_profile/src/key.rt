@@ -4,6 +4,7 @@ ghost use Rattle.std.specs.Str.{bytes_eq};
 ghost use Rattle.device_profile.specs.Draft.{keys};
 
 use crate::field::Field;
+use crate::format::Format;
 
 /// What a line of a profile's text tells of.
 #[derive(Clone, Copy, PartialEq, Eq)]
@@ -36,6 +37,7 @@ const KEYS: &[(&[u8], Key)] = &[
     (b"copies", Key::Choice(Field::Copies)),
     (b"sides", Key::Choice(Field::Sides)),
     (b"tray", Key::Choice(Field::Tray)),
+    (b"lineterm", Key::Choice(Field::LineTerm)),
     (b"trays", Key::Trays),
     (b"duplex", Key::Duplex),
     (b"depth", Key::Depth),
@@ -52,16 +54,23 @@ fn row_of(word: &[u8]) -> Option<&'static (&'static [u8], Key)>
 }
 
 impl Key {
-    ghost use Rattle.device_profile.specs.Draft.{key_of};
+    ghost use Rattle.device_profile.specs.Draft.{is_key_in, key_of};
 
-    /// The key that a word is.
+    /// Whether texts of this version have the key.
+    fn is_in(self, format: Format) -> bool
+        ensures { result ≡ is_key_in format self }
+    {
+        format == Format::Two || self != Key::Choice(Field::LineTerm)
+    }
+
+    /// The key that a word is in texts of this version.
     #[tactic(auto, unfolding(crate::specs::Draft::key_of))]
-    pub(crate) fn of(word: &[u8]) -> Option<Key>
-        ensures { result ≡ key_of word.now }
+    pub(crate) fn of(format: Format, word: &[u8]) -> Option<Key>
+        ensures { result ≡ key_of format word.now }
     {
         match row_of(word) {
-            Some((_, key)) => Some(*key),
-            None => None,
+            Some((_, key)) if key.is_in(format) => Some(*key),
+            _ => None,
         }
     }
 }

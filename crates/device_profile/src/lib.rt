@@ -7,6 +7,7 @@ mod face_line;
 mod fault;
 mod field;
 mod font;
+mod format;
 mod geometry;
 mod geometry_line;
 mod key;

@@ -17,4 +17,6 @@ pub struct Panel {
     pub sides: u32,
     /// The paper tray's number.
     pub tray: u32,
+    /// Line termination, as `ESC &k#G` numbers it.
+    pub line_termination: u32,
 }

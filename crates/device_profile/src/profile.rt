@@ -24,6 +24,7 @@ pub struct Profile<A: Allocator = Global> {
     pub(crate) copies: Vec<u32, A>,
     pub(crate) sides: Vec<u32, A>,
     pub(crate) trays: Vec<u32, A>,
+    pub(crate) line_terminations: Vec<u32, A>,
     pub(crate) device_trays: Vec<u32, A>,
     pub(crate) has_duplex: bool,
     pub(crate) depth: u32,
@@ -121,6 +122,7 @@ impl<A: Allocator> Profile<A> {
             Field::Copies => self.copies.as_slice(),
             Field::Sides => self.sides.as_slice(),
             Field::Tray => self.trays.as_slice(),
+            Field::LineTerm => self.line_terminations.as_slice(),
         }
     }
 
@@ -140,6 +142,7 @@ impl<A: Allocator> Profile<A> {
             copies: self.copies[0],
             sides: self.sides[0],
             tray: self.trays[0],
+            line_termination: self.line_terminations[0],
         }
     }
 

@@ -76,6 +76,7 @@ fn bounds(field: Field) -> (u32, u32)
         Field::Font | Field::Tray => (1, 255),
         Field::Copies => (1, 32_767),
         Field::Sides => (0, 2),
+        Field::LineTerm => (0, 3),
     }
 }
 

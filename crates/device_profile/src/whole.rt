@@ -46,6 +46,7 @@ impl<A: Allocator> Draft<A> {
             && !self.copies.is_empty()
             && !self.sides.is_empty()
             && !self.trays.is_empty()
+            && !self.line_terminations.is_empty()
             && !self.device_trays.is_empty()
     }
 
@@ -105,6 +106,7 @@ impl<A: Allocator> Draft<A> {
             copies: self.copies,
             sides: self.sides,
             trays: self.trays,
+            line_terminations: self.line_terminations,
             device_trays: self.device_trays,
             has_duplex,
             depth: self.depth.unwrap_or(0),

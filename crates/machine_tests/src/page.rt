@@ -178,6 +178,7 @@ fn letter_page() -> Page {
         copies: 1,
         sides: 0,
         tray: 1,
+        line_termination: 0,
     };
     first_page(user_defaults_of(&panel))
 }

@@ -19,7 +19,7 @@ use Rattle.page_env.specs.Pens.{with_pen, initialize, select_pen, set_pen_width,
 
 -- letter paper in portrait, 6 lines to the inch
 abbrev letter : Panel
-letter = record { size = 2; orientation = 0; vmi = 80_000; font = 1; copies = 1; sides = 0; tray = 1 }
+letter = record { size = 2; orientation = 0; vmi = 80_000; font = 1; copies = 1; sides = 0; tray = 1; line_termination = 0 }
 
 abbrev start : State
 start = start_state (user_defaults unwatched letter)

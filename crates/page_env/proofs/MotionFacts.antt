@@ -6,7 +6,7 @@ use Rattle.page_env.specs.declared.motion.Feed.{Feed}
 use Rattle.page_env.specs.declared.motion.Feed.TheVariants.{Line as WholeLine, HalfLine}
 use Rattle.page_env.specs.Settings.{Settings, State}
 use Rattle.page_env.specs.Effect.{moving, reading, Step, Closes}
-use Rattle.page_env.specs.Motion.{set_vmi, set_line_spacing, set_hmi, set_line_termination, at_home, fed_to, is_past_bottom, feed_down, feed_by, half_line_feed, carriage_return, return_line, line_feed, form_feed}
+use Rattle.page_env.specs.Motion.{set_vmi, set_line_spacing, set_hmi, set_line_termination, line_termination, at_home, fed_to, is_past_bottom, feed_down, feed_by, half_line_feed, carriage_return, return_line, line_feed, form_feed}
 use Rattle.page_env.specs.Places.{page_and_line_reads}
 use Rattle.page_env.specs.Sound.{plain_state, IsSound, IsSoundTransition}
 use Rattle.page_env.proofs.Sound.{quiet, calm, from_there, either, page_and_line_rises}
@@ -44,13 +44,15 @@ module _ (printer : Printer) (defaults : Settings) where
   half_line_feed_is_sound s = feed_is_sound HalfLine s s refl refl refl
 
   pub line_feed_is_sound : (s : State) → IsSoundTransition printer defaults s (line_feed printer s) (line_feed printer (plain_state s))
-  line_feed_is_sound s = fed_after_return s.settings.job.line_termination.returns_at_feed s
+  line_feed_is_sound s = (refl, fed_after_return (line_termination s).returns_at_feed s)
 
   pub form_feed_is_sound : (s : State) → IsSoundTransition printer defaults s (form_feed s) (form_feed (plain_state s))
-  form_feed_is_sound s = ended_after_return s.settings.job.line_termination.returns_at_feed s
+  form_feed_is_sound s = (refl, ended_after_return (line_termination s).returns_at_feed s)
 
   pub return_is_sound : (s : State) → IsSoundTransition printer defaults s (return_line printer s) (return_line printer (plain_state s))
-  return_is_sound s =
-      either printer defaults s.settings.job.line_termination.feeds_at_return s (feed_by printer (carriage_return s) WholeLine) (Step (moving (carriage_return s))) (feed_by printer (carriage_return (plain_state s)) WholeLine) (Step (moving (carriage_return (plain_state s))))
-      (feed_is_sound WholeLine s (carriage_return s) refl refl refl)
-      (quiet refl refl refl refl refl refl refl refl)
+  return_is_sound s = (
+    refl,
+    either printer defaults (line_termination s).feeds_at_return s (feed_by printer (carriage_return s) WholeLine) (Step (moving (carriage_return s))) (feed_by printer (carriage_return (plain_state s)) WholeLine) (Step (moving (carriage_return (plain_state s))))
+        (feed_is_sound WholeLine s (carriage_return s) refl refl refl)
+        (quiet refl refl refl refl refl refl refl refl),
+  )

@@ -115,7 +115,7 @@ module _ (printer : Printer) (s : State) (m : TextMeasure) (h : IsMeasured print
 
 -- that no raster is started is so under whatever panel
 some_panel : Panel
-some_panel = record { size = 0; orientation = 0; vmi = 0; font = 0; copies = 0; sides = 0; tray = 0 }
+some_panel = record { size = 0; orientation = 0; vmi = 0; font = 0; copies = 0; sides = 0; tray = 0; line_termination = 0 }
 
 module _ (printer : Printer) (m : TextMeasure) where
   measure_stays : (look : Look) (code : ℕ) (page : Page) → HasMeasure printer page m → HasMeasure printer (page_behind look code page) m

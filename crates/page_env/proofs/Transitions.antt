@@ -1,12 +1,16 @@
 -- Items of two parts, and one of two transitions.
-use Rattle.std.proofs.Common.{◌≡◌, Bool, true, false, cond, Result, refl, ap, sym, ◌∙◌}
+use Rattle.std.proofs.Common.{◌≡◌, Bool, true, false, cond, Result, Ok, Err, refl, ap, sym, ◌∙◌}
 use Rattle.device_profile.specs.declared.panel.Panel.{Panel}
 use Rattle.page_env.specs.declared.change.Carried.{Carried}
 use Rattle.page_env.specs.declared.finding.Finding.{Finding}
+use Rattle.page_env.specs.declared.finding.Finding.TheVariants.{Unset}
+use Rattle.page_env.specs.declared.motion.LineTermination.{LineTermination}
+use Rattle.device_profile.specs.declared.field.Field.{Field}
 use Rattle.page_env.specs.declared.page.Page.{Page}
-use Rattle.page_env.specs.Settings.{Settings, State, settings_at, state_at}
-use Rattle.page_env.specs.Effect.{Effect, effect_of, Transition}
-use Rattle.page_env.specs.Motion.{carriage_return, before_feed}
+use Rattle.page_env.specs.Settings.{Settings, State, fields_at, settings_at, state_at}
+use Rattle.page_env.specs.Effect.{Effect, Fails, effect_of, unset_or, Reads, Transition, Behind}
+use Rattle.page_env.specs.Motion.{carriage_return, before_feed, termination_of, line_termination, line_termination_reads}
+use Rattle.std.specs.Result.{IsErrAnd}
 use Rattle.page_env.specs.Answers.{CarriesOut, Changes, Moves}
 
 -- what comes before an item may move the page, but changes no setting
@@ -38,9 +42,36 @@ module _ (settings : Settings) (m n : Transition) (e : Effect) where
   second_transition b is h = ap (λ x. effect_of settings (cond x m n)) is ∙ h
 
 -- a return, or none, changes no setting
-pub before_keeps : (s : State) → (before_feed s).settings ≡ s.settings
-before_keeps s = kept s.settings.job.line_termination.returns_at_feed
+pub before_keeps : (termination : LineTermination) (s : State) → (before_feed termination s).settings ≡ s.settings
+before_keeps termination s = kept termination.returns_at_feed
   where
     kept : (b : Bool) → (cond b (carriage_return s) s).settings ≡ s.settings
     kept true = refl
     kept false = refl
+
+-- ---- behind the step that reads line termination
+
+module _ (old : Page) (transition : LineTermination → State → Transition) where
+  abbrev Read : Result LineTermination Field → Type 0
+  Read read = Reads old.env line_termination_reads (λ panel. termination_of (fields_at panel old.env.fields).line_termination) read
+
+  -- where it is known, what is carried out with it
+  pub carries_behind : (termination : LineTermination) (new : Page) (r : Result Carried Finding) → Read (Ok termination)
+      → CarriesOut (λ defaults s. transition termination s) old new r
+      → CarriesOut (λ defaults s. Behind line_termination_reads (transition (line_termination s) s)) old new r
+  unfolding CarriesOut
+  carries_behind termination new r read h = λ panel defaults.
+      let s : State = state_at panel old in
+      ap (λ unset. unset_or unset (effect_of s.settings (transition (line_termination s) s))) ((read panel).0)
+      ∙ ap (λ t. effect_of s.settings (transition t s)) ((read panel).1)
+      ∙ h panel defaults
+
+  -- where the panel has it, the finding
+  pub unset_behind : (field : Field) (new : Page) (r : Result Carried Finding) → Read (Err field) → IsErrAnd r (λ finding. finding ≡ Unset field)
+      → CarriesOut (λ defaults s. Behind line_termination_reads (transition (line_termination s) s)) old new r
+  unfolding CarriesOut
+  unset_behind field new (Err finding) read is = λ panel defaults.
+      let s : State = state_at panel old in
+      ap (λ unset. unset_or unset (effect_of s.settings (transition (line_termination s) s))) (read panel)
+      ∙ ap Fails (sym is)
+  unset_behind field new (Ok carried) read is = absurd is

@@ -70,8 +70,16 @@ control_line known in_macro control s = setting (control_checks known in_macro c
 abbrev pub overlay_state : Settings → State → State
 overlay_state defaults s = record {
   settings = record defaults {
-    fields = record s.settings.fields { vmi = defaults.fields.vmi; font = defaults.fields.font };
-    unset = record s.settings.unset { vmi = defaults.unset.vmi; font = defaults.unset.font };
+    fields = record s.settings.fields {
+      vmi = defaults.fields.vmi;
+      font = defaults.fields.font;
+      line_termination = defaults.fields.line_termination;
+    };
+    unset = record s.settings.unset {
+      vmi = defaults.unset.vmi;
+      font = defaults.unset.font;
+      line_termination = defaults.unset.line_termination;
+    };
   };
   cursor = home_cursor;
   stack = [];

@@ -5,11 +5,14 @@ use Rattle.pcl_items.specs.Value.{Amount}
 use Rattle.device_profile.specs.Printer.{Printer}
 use Rattle.page_env.specs.declared.finding.Finding.TheVariants.{BadValue, OffPage}
 use Rattle.page_env.specs.declared.motion.Feed.{Feed}
+use Rattle.page_env.specs.declared.motion.LineTermination.{LineTermination}
+use Rattle.device_profile.specs.declared.field.Field.{Field}
+use Rattle.device_profile.specs.declared.field.Field.TheVariants.{LineTerm}
 use Rattle.page_env.specs.declared.motion.Feed.TheVariants.{Line as WholeLine, HalfLine}
 use Rattle.page_env.specs.Settings.{State, with_job}
 use Rattle.page_env.specs.Numbers.{is_whole_between, is_whole_from, whole_of, is_up_to}
 use Rattle.page_env.specs.Places.{page_and_line_reads, geometry_of, bottom_of, vertical_place, line_of}
-use Rattle.page_env.specs.Effect.{check, Line, moving, reading, setting, Transition, Step, Closes, Ends}
+use Rattle.page_env.specs.Effect.{check, Line, moving, reading, setting, Transition, Step, Closes, Ends, Behind}
 
 -- ---- how far lines and columns are apart
 
@@ -77,32 +80,50 @@ feed_by printer s by =
 abbrev pub half_line_feed : Printer → State → Transition
 half_line_feed printer s = feed_by printer s HalfLine
 
--- ---- line termination: a return finds nothing, so what comes with it goes on from where it led
+-- ---- line termination: CR, LF and FF read it as a step of their own; a return finds nothing, so what comes with it goes on from
+-- where it led
 
--- `&k#G` line termination: 1 and 3 feed a line at each CR, 2 and 3 return at each LF and FF
+-- `&k#G` line termination
 abbrev pub set_line_termination : State → Amount → Line
-set_line_termination s n =
-    let value : ℕ = whole_of n in
-    setting (check (not (is_whole_between 0 3 n)) BadValue ∷ []) (with_job s (record s.settings.job {
-      line_termination = record { feeds_at_return = (value == 1) || (value == 3); returns_at_feed = (value == 2) || (value == 3) };
-    }))
+set_line_termination s n = setting (check (not (is_whole_between 0 3 n)) BadValue ∷ []) (record s {
+  settings = record s.settings {
+    fields = record s.settings.fields { line_termination = whole_of n };
+    unset = record s.settings.unset { line_termination = false };
+  };
+})
+
+-- 1 and 3 feed a line at each CR, 2 and 3 return at each LF and FF
+abbrev pub termination_of : ℕ → LineTermination
+termination_of value = record { feeds_at_return = (value == 1) || (value == 3); returns_at_feed = (value == 2) || (value == 3) }
+
+abbrev pub line_termination : State → LineTermination
+line_termination s = termination_of s.settings.fields.line_termination
+
+-- what CR, LF and FF read before all else
+abbrev pub line_termination_reads : List Field
+line_termination_reads = LineTerm ∷ []
 
 -- CR: the cursor goes to the left margin
 abbrev pub carriage_return : State → State
 carriage_return s = record s { cursor = record s.cursor { x = s.settings.job.left_margin } }
 
--- LF and FF return to the left margin first, where line termination has it so
-abbrev pub before_feed : State → State
-before_feed s = cond s.settings.job.line_termination.returns_at_feed (carriage_return s) s
+-- a return, and a line feed where line termination has it so
+abbrev pub return_with : Printer → LineTermination → State → Transition
+return_with printer termination s =
+    cond termination.feeds_at_return (feed_by printer (carriage_return s) WholeLine) (Step (moving (carriage_return s)))
 
--- CR, and a line feed where line termination has it so
+-- LF and FF return to the left margin first, where line termination has it so
+abbrev pub before_feed : LineTermination → State → State
+before_feed termination s = cond termination.returns_at_feed (carriage_return s) s
+
+-- CR
 abbrev pub return_line : Printer → State → Transition
-return_line printer s = cond s.settings.job.line_termination.feeds_at_return (feed_by printer (carriage_return s) WholeLine) (Step (moving (carriage_return s)))
+return_line printer s = Behind line_termination_reads (return_with printer (line_termination s) s)
 
 -- LF
 abbrev pub line_feed : Printer → State → Transition
-line_feed printer s = feed_by printer (before_feed s) WholeLine
+line_feed printer s = Behind line_termination_reads (feed_by printer (before_feed (line_termination s) s) WholeLine)
 
 -- FF closes a page without a mark, too
 abbrev pub form_feed : State → Transition
-form_feed s = Ends (moving (before_feed s))
+form_feed s = Behind line_termination_reads (Ends (moving (before_feed (line_termination s) s)))

@@ -1,7 +1,7 @@
 -- The one order in which the findings of a step are reported, and in which it reads the fields of the panel.
 use Rattle.std.specs.Prelude.{ℕ, ◌==◌, nat_le, ◌&&◌, Bool, true, length, map, position, unwrap_or, List, [], ◌∷◌, ◌++◌}
 use Rattle.device_profile.specs.declared.field.Field.{Field}
-use Rattle.device_profile.specs.declared.field.Field.TheVariants.{Size, Orientation, Vmi, Font, Copies, Sides, Tray}
+use Rattle.device_profile.specs.declared.field.Field.TheVariants.{Size, Orientation, Vmi, Font, Copies, Sides, Tray, LineTerm}
 use Rattle.page_env.specs.declared.finding.Finding.{Finding}
 use Rattle.page_env.specs.declared.finding.Finding.TheVariants.{BadValue, NotOnDevice, Unset, NoFont, NoGlyph, OffPage, PastRightMargin, NotPrintable, StackFull, StackEmpty, NoMacro, MacroDepth, MacroMemory, InMacro, DefinitionOpen, RasterNotStarted, RasterLocked, RasterTooBig, NoPen, OutsideFrame, EmptyRectangle, Inexact, MarginIgnored, RotatedRaster}
 use Rattle.page_env.specs.Effect.{Check, Line}
@@ -55,6 +55,7 @@ field_rank Font = 3
 field_rank Copies = 4
 field_rank Sides = 5
 field_rank Tray = 6
+field_rank LineTerm = 7
 
 -- each number is at least the one before it
 abbrev pub rises_from : ℕ → List ℕ → Bool

@@ -132,6 +132,7 @@ pub fn overlay_page(defaults: &Env, page: &Page) -> Page
             fields: Cells {
                 vmi: defaults.fields.vmi,
                 font: defaults.fields.font,
+                line_termination: defaults.fields.line_termination,
                 ..page.env.fields
             },
             job: defaults.job,

@@ -6,17 +6,18 @@ ghost use Rattle.std.specs.List.{list_any};
 ghost use Rattle.pcl_items.specs.Items.{amount};
 ghost use Rattle.page_env.specs.Numbers.{is_whole_from, whole_of};
 ghost use Rattle.page_env.specs.Places.{ticks_in, first_line};
-ghost use Rattle.page_env.specs.Settings.{half_inch};
-ghost use Rattle.page_env.specs.Motion.{line_spacings, set_vmi, set_line_spacing, set_hmi, set_line_termination, carriage_return, at_home, distance_of, feed_by, return_line, before_feed, line_feed, form_feed, half_line_feed};
+ghost use Rattle.page_env.specs.Settings.{half_inch, fields_at};
+ghost use Rattle.page_env.specs.Effect.{Reads};
+ghost use Rattle.page_env.specs.Motion.{line_spacings, set_vmi, set_line_spacing, set_hmi, set_line_termination, termination_of, line_termination_reads, carriage_return, at_home, distance_of, feed_by, return_with, return_line, before_feed, line_feed, form_feed, half_line_feed};
 ghost use Rattle.page_env.specs.Answers.{CarriesOut, Changes, Steps, Moves};
 
 use crate::cell::Cell;
 use crate::change::{Carried, PageChange};
 use crate::finding::Finding;
 use crate::number::{is_up_to, is_whole_between, is_whole_from, whole_of};
-use crate::page::{Coordinate, LineTermination, Page};
+use crate::page::{Coordinate, Page};
 use crate::places::{bottom_margin, geometry_and_vmi, ticks_in, vertical_with};
-use device_profile::{Geometry, Profile};
+use device_profile::{Field, Geometry, Profile};
 use pcl_items::Number;
 use std::alloc::Allocator;
 use tick_length::Unit;
@@ -187,12 +188,29 @@ pub(crate) fn set_line_termination(page: &mut Page, n: Number) -> Result<(), Fin
     if !is_whole_between(0, 3, n) {
         return Err(Finding::BadValue);
     }
-    let value = whole_of(n);
-    page.env.job.line_termination = LineTermination {
+    page.env.fields.line_termination = Cell::Known(whole_of(n));
+    Ok(())
+}
+
+/// What CR, LF and FF do beside what they stand for (the manual's "Line Termination").
+#[derive(Clone, Copy)]
+struct LineTermination {
+    /// CR feeds a line, too.
+    feeds_at_return: bool,
+    /// LF and FF return to the left margin first.
+    returns_at_feed: bool,
+}
+
+/// The line termination in force. CR, LF and FF read it as a step of their own, before all else.
+fn line_termination(page: &Page) -> Result<LineTermination, Field>
+    ensures { Reads page.now.env line_termination_reads
+        (λ panel. termination_of (fields_at panel page.now.env.fields).line_termination) result }
+{
+    let value = page.env.fields.line_termination.known(Field::LineTerm)?;
+    Ok(LineTermination {
         feeds_at_return: value == 1 || value == 3,
         returns_at_feed: value == 2 || value == 3,
-    };
-    Ok(())
+    })
 }
 
 /// The cursor goes to the left margin.
@@ -203,27 +221,39 @@ fn go_left(page: &mut Page)
     page.cursor.x = page.env.job.left_margin;
 }
 
-/// CR: the cursor goes to the left margin, and a line is fed where line termination has it so.
-pub(crate) fn return_line<A: Allocator>(
+/// The cursor goes to the left margin, and a line is fed where line termination has it so.
+fn return_with<A: Allocator>(
     profile: &Profile<A>,
     page: &mut Page,
+    termination: LineTermination,
 ) -> Result<Carried, Finding>
-    ensures { CarriesOut (λ defaults s. return_line profile.now s) page.old page.new result }
+    ensures { CarriesOut (λ defaults s. return_with profile.now termination s) page.old page.new result }
 {
     go_left(page);
-    if page.env.job.line_termination.feeds_at_return {
+    if termination.feeds_at_return {
         feed_by(profile, page, Feed::Line)
     } else {
         Ok(Carried::Stepped)
     }
 }
 
+/// CR.
+pub(crate) fn return_line<A: Allocator>(
+    profile: &Profile<A>,
+    page: &mut Page,
+) -> Result<Carried, Finding>
+    ensures { CarriesOut (λ defaults s. return_line profile.now s) page.old page.new result }
+{
+    let termination = line_termination(page)?;
+    return_with(profile, page, termination)
+}
+
 /// The cursor goes to the left margin, where line termination has it so before LF and FF.
 #[tactic(auto, unfolding(crate::specs::Answers::Changes))]
-fn return_before_feed(page: &mut Page)
-    ensures { Moves (λ s. before_feed s) page.old page.new }
+fn return_before_feed(page: &mut Page, termination: LineTermination)
+    ensures { Moves (λ s. before_feed termination s) page.old page.new }
 {
-    if page.env.job.line_termination.returns_at_feed {
+    if termination.returns_at_feed {
         page.cursor.x = page.env.job.left_margin;
     }
 }
@@ -235,7 +265,8 @@ pub(crate) fn line_feed<A: Allocator>(
 ) -> Result<Carried, Finding>
     ensures { CarriesOut (λ defaults s. line_feed profile.now s) page.old page.new result }
 {
-    return_before_feed(page);
+    let termination = line_termination(page)?;
+    return_before_feed(page, termination);
     feed_by(profile, page, Feed::Line)
 }
 
@@ -243,6 +274,7 @@ pub(crate) fn line_feed<A: Allocator>(
 pub(crate) fn form_feed(page: &mut Page) -> Result<Carried, Finding>
     ensures { CarriesOut (λ defaults s. form_feed s) page.old page.new result }
 {
-    return_before_feed(page);
+    let termination = line_termination(page)?;
+    return_before_feed(page, termination);
     Ok(Carried::Ending)
 }

@@ -26,7 +26,7 @@ stepped_leaves printer defaults s t (Parameterized MacroControl n) h = absurd cc
 stepped_leaves printer defaults s t _ h = (refl, refl)
 
 any_panel : Panel
-any_panel = record { size = 0; orientation = 0; vmi = 0; font = 0; copies = 0; sides = 0; tray = 0 }
+any_panel = record { size = 0; orientation = 0; vmi = 0; font = 0; copies = 0; sides = 0; tray = 0; line_termination = 0 }
 
 module _ (printer : Printer) (item : SimpleItem) (old new : Page) (result : Result Carried Finding) (h : CarriesOut (λ defaults s. transition_of printer defaults s (simple_view item)) old new result) where
   -- the item's run is what its own step came to

@@ -9,7 +9,7 @@ use Rattle.page_env.specs.declared.finding.Finding.{Finding}
 use Rattle.page_env.specs.declared.finding.Finding.TheVariants.{MacroDepth, InMacro}
 use Rattle.page_env.specs.declared.macros.Control.{Control}
 use Rattle.page_env.specs.declared.macros.Control.TheVariants.{Execute, Call}
-use Rattle.page_env.specs.Effect.{check, first_finding, first_unset, Line, Effect, Goes, GoesThenCloses, GoesThenEnds, fails_or, judged, Transition, Step, Closes, Ends, Controls}
+use Rattle.page_env.specs.Effect.{check, first_finding, first_unset, Line, Effect, Goes, GoesThenCloses, GoesThenEnds, fails_or, judged, effect_of, Transition, Step, Closes, Ends, Behind, Controls}
 use Rattle.page_env.specs.Effect as effect
 use Rattle.page_env.specs.Macros.{control_of, control_checks, controlled, overlay_state}
 use Rattle.page_env.specs.Settings.{Settings, State}
@@ -94,6 +94,10 @@ module _ (printer : Printer) (defaults : Settings) (fixed : Bool) (is_fixed : fi
   judged_keeps : (s : State) (line : Line) (e : Effect) → KeepsPaper s (effect_run here e) → KeepsPaper s (effect_run here (judged s.settings line e))
   judged_keeps s line e h = parts_keep s (first_finding line.before) (first_finding line.after) (first_unset s.settings line.reads) e h
 
+  read_keeps : (s : State) (unset : Option Field) (e : Effect) → KeepsPaper s (effect_run here e) → KeepsPaper s (effect_run here (effect.unset_or unset e))
+  read_keeps s (Some field) e h = tt
+  read_keeps s None e h = h
+
   transition_keeps : (s : State) (m m' : Transition) → IsSoundTransition printer defaults s m m' → KeepsPaper s (transition_run here s m)
   transition_keeps s (Step line) (Step plain) sound = judged_keeps s line (Goes line.state line.marks) (sound.size, sound.orientation)
   transition_keeps s (Closes line sets change) (Closes plain sets' change') sound =
@@ -101,6 +105,8 @@ module _ (printer : Printer) (defaults : Settings) (fixed : Bool) (is_fixed : fi
       judged_keeps s line e (behind s line plain (effect_run here e) sound.0 (change_keeps sets fixed is_fixed line.state change sound.1.keeps))
   transition_keeps s (Ends line) (Ends plain) sound =
       judged_keeps s line (GoesThenEnds line.state) (behind s line plain (close line.state) sound (closes line.state))
+  transition_keeps s (Behind reads m) (Behind reads' m') sound =
+      read_keeps s (first_unset s.settings reads) (effect_of s.settings m) (transition_keeps s m m' sound.1)
   transition_keeps s (Controls t n) (Controls plain m) sound = subst (λ u. KeepsPaper s (control n u)) (sym sound.0) (controls n s)
   transition_keeps s _ _ sound = absurd sound
 

@@ -41,6 +41,12 @@ pub enum Printer {
     NoLevelsOfA,
     /// Sample B whose first face has the codes from 66 alone, so no `A`.
     NoLetterA,
+    /// Sample B whose panel has line termination 0 or 2.
+    K,
+    /// Sample A whose panel has line termination 0 or 2.
+    KOfA,
+    /// Sample B whose panel has line termination 3.
+    Returning,
 }
 
 /// The names of printers in files of rows.
@@ -62,6 +68,9 @@ const NAMES: &[(&str, Printer)] = &[
     ("EightLevels", Printer::EightLevels),
     ("NoLevelsOfA", Printer::NoLevelsOfA),
     ("NoLetterA", Printer::NoLetterA),
+    ("K", Printer::K),
+    ("KOfA", Printer::KOfA),
+    ("Returning", Printer::Returning),
 ];
 
 /// The printer of this name.
@@ -153,6 +162,12 @@ const DEPTH_LINE: usize = 12;
 /// Which line of a sample is that of its first face.
 const FACE_LINE: usize = 18;
 
+/// Which line of a sample says the version of the format.
+const VERSION_LINE: usize = 1;
+
+/// Version 2, with line termination 0 or 2.
+const TERMINATIONS: &[u8] = b"pclprofile 2\nlineterm 0 2";
+
 /// The first face of sample B without the codes up to that of `A`.
 const NO_LETTER_A: &[u8] = b"face 1 10U 10 12 0 0 3 720 900 300 66-126";
 
@@ -176,6 +191,11 @@ pub fn profile_of(alloc: Global, printer: Printer) -> Result<Profile, ProfileFau
         Printer::EightLevels => return printer_with(alloc, b"depth 8\nmemory 100\n"),
         Printer::NoLevelsOfA => return sample_with(alloc, Sample::A, DEPTH_LINE, b"depth 0"),
         Printer::NoLetterA => return sample_with(alloc, Sample::B, FACE_LINE, NO_LETTER_A),
+        Printer::K => return sample_with(alloc, Sample::B, VERSION_LINE, TERMINATIONS),
+        Printer::KOfA => return sample_with(alloc, Sample::A, VERSION_LINE, TERMINATIONS),
+        Printer::Returning => {
+            return sample_with(alloc, Sample::B, VERSION_LINE, b"pclprofile 2\nlineterm 3");
+        }
     };
     printer_of(alloc, panel, page)
 }

@@ -16,7 +16,22 @@ type Row = (usize, &'static [u8], Wrong);
 const LINES_OF_B: &[Row] = &[
     (1, b"  pclprofile   1  ", None),
     (1, b"pclprofile 01", Some((1, Version))),
-    (1, b"pclprofile 2", Some((1, Version))),
+    (1, b"pclprofile 3", Some((1, Version))),
+    (1, b"pclprofile 02", Some((1, Version))),
+    // Line termination came with version 2, whose texts have to have it.
+    (1, b"pclprofile 2", Some((0, Missing))),
+    (1, b"pclprofile 2\nlineterm 0", None),
+    (1, b"  pclprofile   2\nlineterm 3 1 0 2", None),
+    (1, b"pclprofile 2\nlineterm 4", Some((2, Range))),
+    (1, b"pclprofile 2\nlineterm", Some((2, Range))),
+    (1, b"pclprofile 2\nlineterm 0.5", Some((2, Range))),
+    (1, b"pclprofile 2\nlineterm 2 02", Some((2, Repeated))),
+    (
+        1,
+        b"pclprofile 2\nlineterm 0\nlineterm 1",
+        Some((3, Repeated)),
+    ),
+    (20, b"lineterm 0", Some((20, Unknown))),
     (1, b"pclprofile 1 1", Some((1, Version))),
     (1, b"# x\npclprofile 1", Some((1, Version))),
     (1, b"\npclprofile 1", Some((1, Version))),

@@ -21,6 +21,7 @@ const ALLOWED: &[(Field, &[u32])] = &[
     (Field::Copies, &[1]),
     (Field::Sides, &[0]),
     (Field::Tray, &[1]),
+    (Field::LineTerm, &[0]),
 ];
 
 /// The ticks of the advance of a face; -1 where there is none.
@@ -186,14 +187,14 @@ fn page_has_the_numbers_of_its_line(rt: HostRuntime) -> Result<(), Fail> {
 
 #[test]
 fn each_request_is_refused_in_turn(rt: HostRuntime) {
-    for requests in 0..20 {
+    for requests in 0..21 {
         let heap = Refusing::new(rt.alloc(), requests);
         assert!(rt; matches!(sample_a(&heap), Err(AllocError)), "at {requests}");
     }
-    let heap = Refusing::new(rt.alloc(), 20);
+    let heap = Refusing::new(rt.alloc(), 21);
     match sample_a(&heap) {
         Ok(profile) => assert_sample(&rt, &profile),
-        Err(AllocError) => assert!(rt; false, "a request more than 20"),
+        Err(AllocError) => assert!(rt; false, "a request more than 21"),
     }
 }
 
@@ -207,11 +208,11 @@ fn fault_at(alloc: Global, text: &[u8], requests: u64) -> Option<ProfileFault> {
 #[test]
 fn each_request_for_a_face_is_refused_in_turn(rt: HostRuntime) -> Result<(), Fail> {
     let text = with_line(rt.alloc(), Sample::A.text(), 20, TWO_RANGES)?;
-    for requests in 0..21 {
+    for requests in 0..22 {
         let fault = fault_at(rt.alloc(), &text, requests);
         assert_eq!(rt; fault, Some(ProfileFault::Memory), "at {requests}");
     }
-    let heap = Refusing::new(rt.alloc(), 21);
+    let heap = Refusing::new(rt.alloc(), 22);
     let profile = Profile::read(&heap, &text)?;
     assert_face(&rt, profile.face(7), &TWO_RANGES_FACE);
     Ok(())

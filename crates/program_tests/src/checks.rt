@@ -14,7 +14,7 @@ use subcommands::{Status, check};
 
 // Texts that are wrong for the cause in their names.
 
-const VERSION: &[u8] = b"pclprofile 2\n";
+const VERSION: &[u8] = b"pclprofile 3\n";
 
 const UNKNOWN: &[u8] = b"pclprofile 1\ncolour 1\n";
 

@@ -27,7 +27,7 @@ fn texts() -> [Named<'static>; 4] {
     [
         ("a", Sample::A.text()),
         ("b", Sample::B.text()),
-        ("version", b"pclprofile 2\n"),
+        ("version", b"pclprofile 3\n"),
         ("range", b"pclprofile 1\n# none\ncopies 0\n"),
     ]
 }

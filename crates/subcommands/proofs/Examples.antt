@@ -19,12 +19,12 @@ longer_word : sample_named (codes "@AB") ≡ None
 longer_word = refl
 
 -- of three texts, of which the first is not known, the second is refused
-second_refused : RefusesFirst (None ∷ Some (codes "pclprofile 2\n") ∷ Some (codes "pclprofile 3\n") ∷ []) (Profile 2 1 Version)
+second_refused : RefusesFirst (None ∷ Some (codes "pclprofile 3\n") ∷ Some (codes "pclprofile 4\n") ∷ []) (Profile 2 1 Version)
 unfolding printer_of_text
 second_refused = record {
   before = None ∷ [];
-  text = Some (codes "pclprofile 2\n");
-  after = Some (codes "pclprofile 3\n") ∷ [];
+  text = Some (codes "pclprofile 3\n");
+  after = Some (codes "pclprofile 4\n") ∷ [];
   in_order = refl;
   number_is = refl;
   printers = printer_a ∷ [];

@@ -36,7 +36,7 @@ RefusesLine written old event new =
 
 -- a machine that knows its panel stands for one state, whatever this one is
 abbrev pub any_panel : Panel
-any_panel = record { size = 0; orientation = 0; vmi = 0; font = 0; copies = 0; sides = 0; tray = 0 }
+any_panel = record { size = 0; orientation = 0; vmi = 0; font = 0; copies = 0; sides = 0; tray = 0; line_termination = 0 }
 
 -- the run of the rest of a job from where the machine stands
 abbrev pub rest_run : MachineState → Reading → JobRun

@@ -1,24 +1,11 @@
-use Rattle.std.proofs.Common.{refl, ap, ◌∙◌, []}
-use Rattle.page_env.specs.declared.motion.Feed.TheVariants.{Line as WholeLine}
-use Rattle.page_env.specs.Answers.{CarriesOut}
-use Rattle.page_env.specs.Settings.{state_at}
-use Rattle.page_env.specs.Effect.{moving, Step, Goes}
-use Rattle.page_env.specs.Motion.{carriage_return, feed_by}
-use Rattle.page_env.proofs.Transitions.{carries_after, first_transition, second_transition, moved}
+use Rattle.page_env.specs.Motion.{return_with}
+use Rattle.page_env.proofs.Transitions.{carries_behind, unset_behind}
 use Rattle.page_env.proofs.motion.return_line.Goals as goal
 
-pub returns-then-page : goal.returns-then-page
-unfolding CarriesOut
-returns-then-page g c = λ panel defaults.
-    let s = state_at panel c.args.page.now in
-    first_transition s.settings (feed_by c.args.profile.now (carriage_return s) WholeLine) (Step (moving (carriage_return s))) _ _
-    (ap (λ t. t.settings.job.line_termination.feeds_at_return) (moved carriage_return (λ t. refl) c.args.page.now c.go_left.new.page c.go_left.ensures panel) ∙ c.if-page.true)
-    (carries_after carriage_return (λ t. refl) c.args.page.now c.go_left.new.page c.go_left.ensures (λ defaults t. feed_by c.args.profile.now t WholeLine) c.feed_by.new.page _ c.feed_by.ensures panel defaults)
+pub returns-in_err-termination : goal.returns-in_err-termination
+returns-in_err-termination g c =
+    unset_behind c.args.page.now (return_with c.args.profile.now) c.in_err-termination.field-0.0 _ c.from_residual.result c.in_err-termination.ensures c.from_residual.ensures.1
 
-pub returns-else-page : goal.returns-else-page
-unfolding CarriesOut
-returns-else-page g c = λ panel defaults.
-    let s = state_at panel c.args.page.now in
-    second_transition s.settings (feed_by c.args.profile.now (carriage_return s) WholeLine) (Step (moving (carriage_return s))) _ _
-    (ap (λ t. t.settings.job.line_termination.feeds_at_return) (moved carriage_return (λ t. refl) c.args.page.now c.go_left.new.page c.go_left.ensures panel) ∙ c.if-page.false)
-    (ap (λ t. Goes t []) (moved carriage_return (λ t. refl) c.args.page.now c.go_left.new.page c.go_left.ensures panel))
+pub returns : goal.returns
+returns g c =
+    carries_behind c.args.page.now (return_with c.args.profile.now) c.in_ok-termination.termination _ _ c.in_ok-termination.ensures c.return_with.ensures

@@ -1,7 +1,7 @@
 use Rattle.std.proofs.Common.{◌≡◌, IsTrue, subst, arith}
 use Rattle.device_profile.specs.Fields.{printer_of}
 use Rattle.device_profile.specs.Printer.{Printer, IsAllowed, HasPages, has_every_pair, first_panel}
-use Rattle.device_profile.specs.declared.field.Field.TheVariants.{Size, Orientation, Vmi, Font, Copies, Sides, Tray}
+use Rattle.device_profile.specs.declared.field.Field.TheVariants.{Size, Orientation, Vmi, Font, Copies, Sides, Tray, LineTerm}
 use Rattle.device_profile.specs.declared.panel.Panel.{Panel}
 use Rattle.device_profile.proofs.Valid.{valid_parts, HasPages-valid, IsAllowed-firsts, first_panel-firsts, some_allowed}
 use Rattle.device_profile.proofs.profile.Profile.first_panel.Goals as goal
@@ -27,6 +27,9 @@ index-requires-6 g c = omega (arith, some_allowed (printer_of c.self.inside) Sid
 pub index-requires-7 : goal.index-requires-7
 index-requires-7 g c = omega (arith, some_allowed (printer_of c.self.inside) Tray c.self.invariant, c.self.inside.trays.ok.0)
 
+pub index-requires-8 : goal.index-requires-8
+index-requires-8 g c = omega (arith, some_allowed (printer_of c.self.inside) LineTerm c.self.invariant, c.self.inside.line_terminations.ok.0)
+
 pub returns-clause-value : goal.returns-clause-value
 returns-clause-value g c =
     let panel : Panel = record {
@@ -37,10 +40,11 @@ returns-clause-value g c =
       copies = c.index-5.result.now;
       sides = c.index-6.result.now;
       tray = c.index-7.result.now;
+      line_termination = c.index-8.result.now;
     } in
     subst (λ (printer : Printer). panel ≡ first_panel printer) c.self.view_is
     (first_panel-firsts (printer_of c.self.inside) panel c.self.invariant
-    c.index.ensures c.index-2.ensures c.index-3.ensures c.index-4.ensures c.index-5.ensures c.index-6.ensures c.index-7.ensures)
+    c.index.ensures c.index-2.ensures c.index-3.ensures c.index-4.ensures c.index-5.ensures c.index-6.ensures c.index-7.ensures c.index-8.ensures)
 
 pub returns-clause-allowed : goal.returns-clause-allowed
 returns-clause-allowed g c =
@@ -52,10 +56,11 @@ returns-clause-allowed g c =
       copies = c.index-5.result.now;
       sides = c.index-6.result.now;
       tray = c.index-7.result.now;
+      line_termination = c.index-8.result.now;
     } in
     subst (λ (printer : Printer). IsAllowed printer panel) c.self.view_is
     (IsAllowed-firsts (printer_of c.self.inside) panel c.self.invariant
-    c.index.ensures c.index-2.ensures c.index-3.ensures c.index-4.ensures c.index-5.ensures c.index-6.ensures c.index-7.ensures)
+    c.index.ensures c.index-2.ensures c.index-3.ensures c.index-4.ensures c.index-5.ensures c.index-6.ensures c.index-7.ensures c.index-8.ensures)
 
 pub returns-clause-pages : goal.returns-clause-pages
 returns-clause-pages g c = subst HasPages c.self.view_is (HasPages-valid (printer_of c.self.inside) c.self.invariant)
