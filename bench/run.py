@@ -20,7 +20,7 @@ stops where one does not.
 - A further printer: how many of these instructions come with each printer after the first.
 - Peak memory: what the system says of the program while it runs.
 - The commands are run on one kind of job, for one printer. What they write is thrown away: standard
-  output, and the OUT of `plain`. To check: by how many times their instructions a byte are those of
+  output, and the OUT of `plain` and `pin`. To check: by how many times their instructions a byte are those of
   `check`. Their peak memory is that on a job of an eighth of the size, and on one of the whole size.
 """
 
@@ -71,7 +71,7 @@ MEBIBYTE = 1 << 20
 COUNTED_SIZES = (MEBIBYTE // 4, MEBIBYTE // 2)
 
 # The commands of the program, and the kind of job on which they are compared.
-COMMANDS = ("check", "list", "plain", "pages")
+COMMANDS = ("check", "list", "plain", "pages", "pin")
 KIND_OF_COMMANDS = "mix"
 
 # So many functions of a profile are printed.
@@ -338,6 +338,7 @@ class Run:
             "list": [],
             "plain": [os.devnull],
             "pages": [self.job.printer],
+            "pin": [self.job.printer, os.devnull],
         }
         return [self.command, str(self.job.path), *behind[self.command]]
 

@@ -4,7 +4,7 @@ use Rattle.preflight.specs.declared.error.Error.TheVariants.{Memory, Write}
 use Rattle.subcommands.specs.declared.status.Status.{Status}
 use Rattle.subcommands.specs.declared.status.Status.TheVariants.{Help, Words, Stopped}
 use Rattle.command_line.specs.declared.words.Request.{Request}
-use Rattle.command_line.specs.declared.words.Request.TheVariants.{Check, List, Pages, Plain, Explain}
+use Rattle.command_line.specs.declared.words.Request.TheVariants.{Check, List, Pages, Plain, Pin, Explain}
 
 -- a check names one printer at least
 abbrev pub NamesSome : Request → Type 0
@@ -12,12 +12,14 @@ NamesSome (Check job profiles) = profiles.items ≢ []
 NamesSome (List job) = ⊤
 NamesSome (Pages job profile) = ⊤
 NamesSome (Plain job out) = ⊤
+NamesSome (Pin job profile out) = ⊤
 NamesSome (Explain code) = ⊤
 
--- a text of a job does not go to the path of the job
-abbrev pub KeepsItsJob : Request → Type 0
-KeepsItsJob (Plain job out) = job.now ≢ out.now
-KeepsItsJob _ = ⊤
+-- a text of a job goes to no path that is read
+abbrev pub KeepsWhatItReads : Request → Type 0
+KeepsWhatItReads (Plain job out) = job.now ≢ out.now
+KeepsWhatItReads (Pin job profile out) = (job.now ≢ out.now) × (profile.now ≢ out.now)
+KeepsWhatItReads _ = ⊤
 
 -- help or the version, bad words, no memory, or a text that could not be written
 abbrev pub IsEndOfWords : Status → Type 0

@@ -1,4 +1,4 @@
-//! The commands that write a text of a job: `list`, `pages` and `plain`.
+//! The commands that write a text of a job: `list`, `pages`, `plain` and `pin`.
 ghost use Rattle.std.specs.Prelude.{IfSome};
 ghost use Rattle.command_line.specs.Words.{NamesSome};
 
@@ -52,6 +52,22 @@ Exit status:
   2  usage error
   3  a read or a write failed, memory ran out, or no end after 2^40 reads";
 
+const PIN_EXPLANATION: &str =
+    "What is written prints from every panel setting of the printer as JOB does from its first one: the
+first value that the profile lists of each field. OUT is created once JOB is open; what it held before
+is lost. So OUT has to be another file than JOB and PROFILE.
+
+Output, where the bytes are wrong or an item cannot be pinned; OUT then has what is due before that
+place:
+  FAIL at=N profile=0 FINDING
+  FAIL at=N profile=1 35 Unpinnable
+
+Exit status:
+  0  all of the job was written, or help was asked for
+  1  the bytes are wrong, or an item cannot be pinned
+  2  usage error, or the profile is refused
+  3  a read or a write failed, memory ran out, or no end after 2^40 reads";
+
 fn required<'a>(alloc: Global, name: &'a str, help: &'a str) -> Arg<'a> {
     Arg::new(alloc, name)
         .required(true)
@@ -64,6 +80,17 @@ pub fn job<'a>(alloc: Global) -> Arg<'a> {
     required(alloc, "JOB", "The path of the print job")
 }
 
+/// The word PROFILE of the commands for one printer.
+fn profile<'a>(alloc: Global) -> Arg<'a> {
+    let help = "The printer: the path of its profile, or @A, @B, @C or @D for a built-in sample";
+    required(alloc, "PROFILE", help)
+}
+
+/// The word OUT of the commands that write a job.
+fn out<'a>(alloc: Global) -> Arg<'a> {
+    required(alloc, "OUT", "The path of the file to write")
+}
+
 /// The words of the command `list`.
 pub fn list_command<'a>(alloc: Global) -> Result<Command<'a>, AllocError> {
     Command::new(alloc, "list")
@@ -74,26 +101,30 @@ pub fn list_command<'a>(alloc: Global) -> Result<Command<'a>, AllocError> {
 
 /// The words of the command `pages`.
 pub fn pages_command<'a>(alloc: Global) -> Result<Command<'a>, AllocError> {
-    let profile = required(
-        alloc,
-        "PROFILE",
-        "The printer: the path of its profile, or @A, @B, @C or @D for a built-in sample",
-    );
     Command::new(alloc, "pages")
         .about("Writes what a job marks on its pages, from the first panel setting of a printer")
         .after_help(PAGES_EXPLANATION)
         .arg(job(alloc))?
-        .arg(profile)
+        .arg(profile(alloc))
 }
 
 /// The words of the command `plain`.
 pub fn plain_command<'a>(alloc: Global) -> Result<Command<'a>, AllocError> {
-    let out = required(alloc, "OUT", "The path of the file to write");
     Command::new(alloc, "plain")
         .about("Writes a job again, with each item in its one spelling")
         .after_help(PLAIN_EXPLANATION)
         .arg(job(alloc))?
-        .arg(out)
+        .arg(out(alloc))
+}
+
+/// The words of the command `pin`.
+pub fn pin_command<'a>(alloc: Global) -> Result<Command<'a>, AllocError> {
+    Command::new(alloc, "pin")
+        .about("Writes a job again, pinned to the first panel setting of a printer")
+        .after_help(PIN_EXPLANATION)
+        .arg(job(alloc))?
+        .arg(profile(alloc))?
+        .arg(out(alloc))
 }
 
 /// What the words ask for, where they name one of these commands.
@@ -109,6 +140,13 @@ pub fn text_request<'a>(matches: &ArgMatches<'a>) -> Option<Request<'a>>
         return Some(Request::Pages {
             job: found.get_str("JOB")?,
             profile: found.get_str("PROFILE")?,
+        });
+    }
+    if let Some(found) = matches.subcommand_matches("pin") {
+        return Some(Request::Pin {
+            job: found.get_str("JOB")?,
+            profile: found.get_str("PROFILE")?,
+            out: found.get_str("OUT")?,
         });
     }
     let found = matches.subcommand_matches("plain")?;

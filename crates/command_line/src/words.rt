@@ -1,8 +1,10 @@
 //! The words that the program is started with.
-ghost use Rattle.std.specs.Prelude.{◌≡◌, IsFalse, IsTrue, OnOk, IfOk, IfErr, IfSome};
-ghost use Rattle.command_line.specs.Words.{IsEndOfWords, KeepsItsJob, NamesSome};
+ghost use Rattle.std.specs.Prelude.{◌≡◌, IsFalse, OnOk, IfOk, IfErr, IfSome, is_some};
+ghost use Rattle.command_line.specs.Words.{IsEndOfWords, KeepsWhatItReads, NamesSome};
 
-use crate::text_commands::{job, list_command, pages_command, plain_command, text_request};
+use crate::text_commands::{
+    job, list_command, pages_command, pin_command, plain_command, text_request,
+};
 use clap::error::ErrorKind;
 use clap::{Arg, ArgAction, ArgMatches, Command};
 use preflight::{Error, Outlet, write_text};
@@ -29,6 +31,12 @@ pub enum Request<'a> {
     /// The items of the job at a path, each in its one spelling, in a file at a path.
     Plain {
         job: &'a str,
+        out: &'a str,
+    },
+    /// The items of the job at a path, pinned to the first panel of the printer that a word names, in a file at a path.
+    Pin {
+        job: &'a str,
+        profile: &'a str,
         out: &'a str,
     },
     /// What a fault or a finding means, by its number or its name; without a code, what all mean.
@@ -112,6 +120,7 @@ fn command<'a>(alloc: Global) -> Result<Command<'a>, AllocError> {
         .subcommand(list_command(alloc)?)?
         .subcommand(pages_command(alloc)?)?
         .subcommand(plain_command(alloc)?)?
+        .subcommand(pin_command(alloc)?)?
         .subcommand(explain_command(alloc)?)
 }
 
@@ -128,7 +137,7 @@ pub fn read_words<'a, O: Outlet, E: Outlet>(
     requires stderr { IsFalse (E.failed stderr.old) }
     ensures ok { OnOk result ((stdout.new ≡ stdout.old) × (stderr.new ≡ stderr.old)) }
     ensures some { IfOk result NamesSome }
-    ensures apart { IfOk result KeepsItsJob }
+    ensures apart { IfOk result KeepsWhatItReads }
     ensures err { IfErr result IsEndOfWords }
     ensures help { result ≡ Err Status.Help → stderr.new ≡ stderr.old }
     ensures words { result ≡ Err Status.Words → stdout.new ≡ stdout.old }
@@ -145,23 +154,31 @@ pub fn read_words<'a, O: Outlet, E: Outlet>(
         Ok(None) => return Err(Status::Words),
         Err(_) => return Err(tell(Status::Stopped(Error::Memory), stderr)),
     };
-    if keeps_its_job(&request) {
+    let Some(complaint) = complaint_of(&request) else {
         return Ok(request);
-    }
-    match write_text(stderr, b"error: OUT is JOB itself, which would be lost\n") {
+    };
+    match write_text(stderr, complaint) {
         Ok(()) => Err(Status::Words),
         Err(_) => Err(Status::Stopped(Error::Write)),
     }
 }
 
-/// Whether a request writes to no path that it reads its job from.
-fn keeps_its_job(request: &Request<'_>) -> bool
-    ensures { IsTrue result → KeepsItsJob request.now }
+/// What is said of a request that would write to a path that it reads from.
+fn complaint_of(request: &Request<'_>) -> Option<&'static [u8]>
+    ensures { IsFalse (is_some result) → KeepsWhatItReads request.now }
 {
-    match request {
-        Request::Plain { job, out } => job != out,
-        _ => true,
+    let (job, profile, out) = match request {
+        Request::Plain { job, out } => (job, None, out),
+        Request::Pin { job, profile, out } => (job, Some(profile), out),
+        _ => return None,
+    };
+    if job == out {
+        return Some(b"error: OUT is JOB itself, which would be lost\n");
     }
+    if profile == Some(out) {
+        return Some(b"error: OUT is PROFILE itself, which would be lost\n");
+    }
+    None
 }
 
 /// The request of words that are right.

@@ -1,24 +1,27 @@
 -- What stands on a line that is right.
-use Rattle.std.proofs.Common.{◌≡◌, ℕ, ℤ, pos, ◌<◌, ◌≤◌, ◌==◌, ◌&&◌, ◌||◌, Bool, true, false, not, List, [], ◌∷◌, length, get_or, drop, IsTrue, Option, None, Some, Result, Ok, Err, nat_lt, nat_le, if◌then◌else◌, arith, refl, sym, subst, ap, ◌∙◌}
-use Rattle.std.specs.Prelude.{slice_index, int_lt, int_le}
+use Rattle.std.proofs.Common.{◌≡◌, ℕ, zero, suc, ℤ, pos, ◌*◌, ◌<◌, ◌≤◌, ◌==◌, ◌&&◌, ◌||◌, Bool, true, false, not, List, [], ◌∷◌, length, get_or, drop, IsTrue, Option, None, Some, Result, Ok, Err, nat_lt, nat_le, if◌then◌else◌, arith, refl, sym, subst, ap, ◌∙◌}
+use Rattle.std.specs.Prelude.{slice_index, int_lt, int_le, neg_ℤ, unsigned_abs, take, ◌-◌, ◌%◌}
 use Rattle.std.specs.Option.{option_map, option_map_or, option_and_then}
 use Rattle.std.specs.List.{list_all, filter_map, cons_option, slice_split}
-use Rattle.std.proofs.lemmas.Bool.{and_parts, and_from, or_parts, or_from, not-true, false≢true, eqb-true, leb-true}
+use Rattle.std.proofs.lemmas.Bool.{and_parts, and_from, cond_both, or_parts, or_from, not-true, false≢true, eqb-true, leb-true}
 use Rattle.std.proofs.lemmas.Bool.Decides.{nat_tests}
 use Rattle.std.proofs.lemmas.Int.{ints}
+use Rattle.std.proofs.Math.Nat.{mul-mod_left}
 use Rattle.device_profile.specs.declared.field.Field.{Field}
 use Rattle.device_profile.specs.declared.field.Field.TheVariants.{Font}
 use Rattle.device_profile.specs.declared.font.CodeRange.{CodeRange}
+use Rattle.device_profile.specs.declared.font.FontRequest.{FontRequest}
+use Rattle.device_profile.specs.declared.font.SymbolSet.{SymbolSet}
 use Rattle.device_profile.specs.declared.geometry.Geometry.{Geometry}
 use Rattle.device_profile.specs.declared.fault.Cause.{Cause}
 use Rattle.device_profile.specs.declared.fault.Cause.TheVariants.{Repeated, Range}
-use Rattle.device_profile.specs.Faces.{Face, has_face, has_request, has_metrics, is_face, are_ranges_from}
+use Rattle.device_profile.specs.Faces.{Face, has_face, has_request, has_metrics, is_whole_up_to, is_set_letter, is_request, is_face, are_ranges_from}
 use Rattle.device_profile.specs.Printer.{has_row, is_page}
 use Rattle.device_profile.specs.Rows.{of_7200ths, row_of}
-use Rattle.device_profile.specs.Words.{number_of}
+use Rattle.device_profile.specs.Words.{number_of, amount_of}
 use Rattle.device_profile.specs.Values.{value_of, is_between, is_value, has_repeat, are_values, are_choices, values_on_line, number_on_line}
 use Rattle.device_profile.specs.GeometryLine.{is_row_number, repeats_pair, row_numbers_of, row_of_numbers, row_of_words, geometry_on_line}
-use Rattle.device_profile.specs.FaceLine.{between, length_between, request_of, range_of, codes_of, face_with_codes, repeats_face, face_of_words, face_on_line}
+use Rattle.device_profile.specs.FaceLine.{between, whole_of, measure_of, symbol_set_of, weight_of, length_between, request_of, range_of, codes_of, face_with_codes, repeats_face, face_of_words, face_on_line}
 use Rattle.device_profile.proofs.RowNumbers.{length-filter_map-le}
 
 -- a test let a value pass
@@ -160,6 +163,74 @@ length_not_negative least most word length is =
     let given = length_is least most word length is in
     subst (λ (z : ℤ). IsTrue (int_le (pos 0) z)) given.2 (grind (arith, ints, nat_tests))
 
+-- ---- a request that a job can send
+
+is_whole-times : (most n : ℕ) → IsTrue (nat_le n most) → IsTrue (is_whole_up_to most (n * 10_000))
+is_whole-times most n few =
+    let whole : n * 10_000 % 10_000 ≡ 0 = mul-mod_left n 10_000 in
+    let up_to : IsTrue (nat_le (n * 10_000) (most * 10_000)) = grind (arith, nat_tests) in
+    rw (whole, up_to) refl
+
+abs-neg : (n : ℕ) → unsigned_abs (neg_ℤ (pos n)) ≡ n
+abs-neg zero = refl
+abs-neg (suc n) = refl
+
+is_whole-given : (most : ℕ) (word : List ℕ) (n : ℕ) → whole_of most word ≡ Some n → IsTrue (is_whole_up_to most n)
+is_whole-given most word n is =
+    let given = of_mapped (λ m. m * 10_000) (between 0 most (number_of word)) n is in
+    let inner = of_value (λ m. if is_between 0 most m then Some m else None) (number_of word) given.0 given.1 in
+    let kept = passed_some (is_between 0 most inner.0) inner.0 given.0 inner.2 in
+    let few : IsTrue (nat_le given.0 most) = subst (λ (m : ℕ). IsTrue (nat_le m most)) kept.1 ((and_parts (nat_le 0 inner.0) (nat_le inner.0 most) kept.0).1) in
+    subst (λ (m : ℕ). IsTrue (is_whole_up_to most m)) given.2 (is_whole-times most given.0 few)
+
+is_measure-given : (word : List ℕ) (n : ℕ) → measure_of word ≡ Some n → IsTrue (nat_le n 655_350_000)
+is_measure-given word n is =
+    let inner = of_value (λ m. if is_between 0 655_350_000 m then Some m else None) (amount_of word) n is in
+    let kept = passed_some (is_between 0 655_350_000 inner.0) inner.0 n inner.2 in
+    subst (λ (m : ℕ). IsTrue (nat_le m 655_350_000)) kept.1 ((and_parts (nat_le 0 inner.0) (nat_le inner.0 655_350_000) kept.0).1)
+
+abbrev IsSet : SymbolSet → Type 0
+IsSet symbols = IsTrue (is_whole_up_to 65_535 symbols.number) × IsTrue (is_set_letter symbols.letter)
+
+is_set-given : (word : List ℕ) (symbols : SymbolSet) → symbol_set_of word ≡ Some symbols → IsSet symbols
+unfolding symbol_set_of
+is_set-given word symbols is =
+    let letter : ℕ = get_or word (length word - 1) 0 in
+    let number = of_value _ (whole_of 65_535 (take (length word - 1) word)) symbols is in
+    let named : SymbolSet = record { number = number.0; letter = letter } in
+    let kept = passed_some (is_set_letter letter) named symbols number.2 in
+    subst IsSet kept.1 (is_whole-given 65_535 (take (length word - 1) word) number.0 number.1, kept.0)
+
+is_weight-given : (word : List ℕ) (weight : ℤ) → weight_of word ≡ Some weight → IsTrue (is_whole_up_to 7 (unsigned_abs weight))
+unfolding weight_of
+is_weight-given word weight is =
+    cond_both (get_or word 0 0 == 45) (option_map (λ n. neg_ℤ (pos n)) (whole_of 7 (drop 1 word))) (option_map (λ n. pos n) (whole_of 7 word))
+    (λ found. found ≡ Some weight → IsTrue (is_whole_up_to 7 (unsigned_abs weight)))
+    (λ yes got.
+    let given = of_mapped (λ n. neg_ℤ (pos n)) (whole_of 7 (drop 1 word)) weight got in
+    subst (λ (z : ℤ). IsTrue (is_whole_up_to 7 (unsigned_abs z))) given.2 (rw (abs-neg given.0) (is_whole-given 7 (drop 1 word) given.0 given.1)))
+    (λ no got.
+    let given = of_mapped (λ n. pos n) (whole_of 7 word) weight got in
+    subst (λ (z : ℤ). IsTrue (is_whole_up_to 7 (unsigned_abs z))) given.2 (is_whole-given 7 word given.0 given.1))
+    is
+
+is_request-given : (words : List (List ℕ)) (request : FontRequest) → request_of words ≡ Some request → IsTrue (is_request request)
+unfolding request_of
+is_request-given words request is =
+    let a = of_value _ (symbol_set_of (get_or words 0 [])) request is in
+    let b = of_value _ (measure_of (get_or words 1 [])) request a.2 in
+    let c = of_value _ (measure_of (get_or words 2 [])) request b.2 in
+    let d = of_value _ (whole_of 65_535 (get_or words 3 [])) request c.2 in
+    let e = of_value _ (weight_of (get_or words 4 [])) request d.2 in
+    let f = of_mapped _ (whole_of 65_535 (get_or words 5 [])) request e.2 in
+    let symbols = is_set-given (get_or words 0 []) a.0 a.1 in
+    let pitch = is_measure-given (get_or words 1 []) b.0 b.1 in
+    let height = is_measure-given (get_or words 2 []) c.0 c.1 in
+    let style = is_whole-given 65_535 (get_or words 3 []) d.0 d.1 in
+    let weight = is_weight-given (get_or words 4 []) e.0 e.1 in
+    let typeface = is_whole-given 65_535 (get_or words 5 []) f.0 f.1 in
+    subst (λ (r : FontRequest). IsTrue (is_request r)) f.2 (rw (symbols.0, symbols.1, pitch, height, style, weight, typeface) refl)
+
 -- what a line of eleven words says of its face
 record FaceFacts (words : List (List ℕ)) (ranges : List CodeRange) (face : Face) : Type 0 where
   id : number_of (get_or words 0 []) ≡ Some face.id
@@ -202,7 +273,8 @@ face_facts faces words face is =
     let given = of_value (face_with_codes words) (codes_of word) face all in
     let facts = facts_of_parts words given.0 face given.2 in
     let codes : IsTrue (are_ranges_from 33 face.codes) = subst (λ (r : List CodeRange). IsTrue (are_ranges_from 33 r)) (sym facts.codes) (in_order word given.0 given.1) in
-    (rw (facts.id, facts.request) refl, and_from _ _ (and_from _ _ facts.id_fits facts.metrics) codes)
+    let sent : IsTrue (is_request face.request) = is_request-given (drop 1 words) face.request facts.request in
+    (rw (facts.id, facts.request) refl, and_from _ _ (and_from _ _ (and_from _ _ facts.id_fits sent) facts.metrics) codes)
 
 abbrev pub room_for_face : List Face → Face → Bool
 room_for_face faces face = not (has_face faces face.id) && not (has_request faces face.request) && nat_lt (length faces) 64 && is_face face

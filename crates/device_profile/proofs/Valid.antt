@@ -10,10 +10,10 @@ use Rattle.device_profile.specs.declared.geometry.Geometry.{Geometry}
 use Rattle.device_profile.specs.declared.panel.Panel.{Panel}
 use Rattle.device_profile.specs.declared.field.Field.{Field}
 use Rattle.device_profile.specs.declared.field.Field.TheVariants.{Size, Orientation, Vmi, Font, Copies, Sides, Tray, LineTerm}
-use Rattle.device_profile.specs.Faces.{Face, face_at, face_for, has_face, has_metrics, is_face, are_ranges_from, is_same_request}
+use Rattle.device_profile.specs.Faces.{Face, face_at, face_for, has_face, has_metrics, is_request, is_face, are_ranges_from, is_same_request}
 use Rattle.device_profile.specs.declared.font.FontRequest.{FontRequest}
 use Rattle.device_profile.specs.Values.{is_between, is_value, are_values, are_choices, has_repeat}
-use Rattle.device_profile.specs.Printer.{Printer, is_valid, values_of, has_row, has_every_pair, has_size, has_orientation, has_tray, row_at, fits_page, is_page, first_panel, IsAllowed, HasPages, HasFaces, HasTrays}
+use Rattle.device_profile.specs.Printer.{Printer, is_valid, values_of, has_row, has_every_pair, has_size, has_orientation, has_tray, are_sides, row_at, fits_page, is_page, first_panel, IsAllowed, HasPages, HasFaces, HasTrays, HasItsValues, CanBeSet}
 
 -- an element of a list whose elements all pass
 passes-at : {X : Type 0} (p : X → Bool) (xs : List X) (x : X) → IsTrue (list_all p xs) → Contains xs x → IsTrue (p x)
@@ -61,6 +61,7 @@ pub record Valid (printer : Printer) : Type 0 where
   pub turned : IsTrue (list_all (λ orientation. has_orientation printer.geometries orientation) printer.orientations)
   pub faced : IsTrue (list_all (λ font. has_face printer.faces font) printer.fonts)
   pub held : IsTrue (list_all (λ tray. has_tray printer tray) printer.trays)
+  pub sided : IsTrue (list_all (are_sides printer.has_duplex) printer.sides)
   pub pairs : IsTrue (has_every_pair printer.geometries)
   pub pages : IsTrue (list_all is_page printer.geometries)
   pub faces : IsTrue (list_all is_face printer.faces)
@@ -103,6 +104,7 @@ valid_parts printer valid =
       turned = turned.1;
       faced = fonts.1;
       held = offers.1;
+      sided = sides.1;
       pairs = pairs.1;
       pages = fits.1;
       faces = described.1;
@@ -201,6 +203,23 @@ first_panel-firsts printer panel valid size orientation vmi font copies sides tr
     (first-is Tray printer.trays panel.tray parts.tray tray)
     (first-is LineTerm printer.line_terminations panel.line_termination parts.line_termination line_termination)
 
+value-listed : (field : Field) (values : List ℕ) (value : ℕ) → IsTrue (are_values field values) → Contains values value → IsTrue (is_value field value)
+value-listed field values value are is_in = passes-at (is_value field) values value ((and_parts (is_between 1 16 (length values)) (list_all (is_value field) values) are).1) is_in
+
+-- each field of a panel that a valid printer may have has one of its values
+has_its_values : (printer : Printer) (panel : Panel) → IsTrue (is_valid printer) → IsAllowed printer panel → HasItsValues panel
+has_its_values printer panel valid allowed =
+    let parts : Valid printer = valid_parts printer valid in
+    record {
+      size = value-listed Size printer.sizes panel.size parts.size allowed.size;
+      orientation = value-listed Orientation printer.orientations panel.orientation parts.orientation allowed.orientation;
+      vmi = value-listed Vmi printer.vmis panel.vmi parts.vmi allowed.vmi;
+      copies = value-listed Copies printer.copies panel.copies parts.copies allowed.copies;
+      sides = value-listed Sides printer.sides panel.sides parts.sides allowed.sides;
+      tray = value-listed Tray printer.trays panel.tray parts.tray allowed.tray;
+      line_termination = value-listed LineTerm printer.line_terminations panel.line_termination parts.line_termination allowed.line_termination;
+    }
+
 -- each panel that a valid printer may have has a page
 pub HasPages-valid : (printer : Printer) → IsTrue (is_valid printer) → HasPages printer
 HasPages-valid printer valid panel allowed =
@@ -225,8 +244,8 @@ IfSome-row_at printer size orientation valid =
 
 face_metrics : (face : Face) → IsTrue (is_face face) → IsTrue (has_metrics face)
 face_metrics face is =
-    let parts = and_parts (is_value Font face.id && has_metrics face) (are_ranges_from 33 face.codes) is in
-    (and_parts (is_value Font face.id) (has_metrics face) parts.0).1
+    let parts = and_parts (is_value Font face.id && is_request face.request && has_metrics face) (are_ranges_from 33 face.codes) is in
+    (and_parts (is_value Font face.id && is_request face.request) (has_metrics face) parts.0).1
 
 -- the face that is looked up has its metrics
 pub IfSome-face_at : (printer : Printer) (id : ℕ) → IsTrue (is_valid printer) → IfSome (face_at printer.faces id) (λ face. IsTrue (has_metrics face))
@@ -251,3 +270,26 @@ HasFaces-valid printer valid panel allowed =
     (IsSome-find (λ (face : Face). face.id == panel.font) printer.faces
     (passes-at (λ font. has_face printer.faces font) printer.fonts panel.font ((valid_parts printer valid).faced) allowed.font))
     (IfSome-face_at printer panel.font valid)
+
+face_request : (face : Face) → IsTrue (is_face face) → IsTrue (is_request face.request)
+face_request face is =
+    let parts = and_parts (is_value Font face.id && is_request face.request && has_metrics face) (are_ranges_from 33 face.codes) is in
+    (and_parts (is_value Font face.id) (is_request face.request) ((and_parts (is_value Font face.id && is_request face.request) (has_metrics face) parts.0).0)).1
+
+-- a job can set what each panel has that a valid printer may have
+pub CanBeSet-valid : (printer : Printer) → IsTrue (is_valid printer) → CanBeSet printer
+unfolding face_at has_face
+CanBeSet-valid printer valid panel allowed =
+    let parts : Valid printer = valid_parts printer valid in
+    record {
+      values = has_its_values printer panel valid allowed;
+      size = passes-at (λ size. has_size printer.geometries size) printer.sizes panel.size parts.sized allowed.size;
+      orientation = passes-at (λ orientation. has_orientation printer.geometries orientation) printer.orientations panel.orientation parts.turned allowed.orientation;
+      sides = passes-at (are_sides printer.has_duplex) printer.sides panel.sides parts.sided allowed.sides;
+      tray = passes-at (λ tray. has_tray printer tray) printer.trays panel.tray parts.held allowed.tray;
+      request =
+          some_and (λ face. IsTrue (is_request face.request)) (face_at printer.faces panel.font)
+          (IsSome-find (λ (face : Face). face.id == panel.font) printer.faces
+          (passes-at (λ font. has_face printer.faces font) printer.fonts panel.font parts.faced allowed.font))
+          (IfSome-find (λ face. IsTrue (is_request face.request)) (λ (face : Face). face.id == panel.font) is_face printer.faces face_request parts.faces);
+    }

@@ -10,7 +10,7 @@ use Rattle.device_profile.specs.declared.fault.Cause.TheVariants.{Repeated, Rang
 use Rattle.device_profile.specs.Words.{number_of, amount_of}
 use Rattle.device_profile.specs.Values.{is_between}
 use Rattle.device_profile.specs.Rows.{of_7200ths}
-use Rattle.device_profile.specs.Faces.{Face, has_face, has_request, are_ranges_from}
+use Rattle.device_profile.specs.Faces.{Face, has_face, has_request, is_set_letter, are_ranges_from}
 
 -- a value, where it is from the first to the second
 abbrev pub between : ℕ → ℕ → Option ℕ → Option ℕ
@@ -23,10 +23,6 @@ whole_of most word = option_map (λ n. n * 10_000) (between 0 most (number_of wo
 -- the ten-thousandths of an amount up to 65535
 abbrev pub measure_of : List ℕ → Option ℕ
 measure_of word = between 0 655_350_000 (amount_of word)
-
--- a capital letter but X
-abbrev pub is_set_letter : ℕ → Bool
-is_set_letter byte = is_between 65 87 byte || is_between 89 90 byte
 
 -- a number up to 65535, and behind it the letter of the set
 unfoldable pub symbol_set_of : List ℕ → Option SymbolSet

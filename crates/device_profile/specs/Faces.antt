@@ -1,5 +1,5 @@
 -- The rows in which resident faces are described.
-use Rattle.std.specs.Prelude.{ℕ, ℤ, pos, ◌+◌, List, [], ◌∷◌, length, Bool, true, not, ◌&&◌, ◌||◌, ◌==◌, Option, find, nat_le, int_lt, int_le}
+use Rattle.std.specs.Prelude.{ℕ, ℤ, pos, unsigned_abs, ◌+◌, ◌*◌, ◌%◌, List, [], ◌∷◌, length, Bool, true, not, ◌&&◌, ◌||◌, ◌==◌, Option, find, nat_le, int_lt, int_le}
 use Rattle.std.specs.Ordering.{int_eq}
 use Rattle.std.specs.List.{list_all, list_any}
 use Rattle.device_profile.specs.declared.font.CodeRange.{CodeRange}
@@ -54,9 +54,24 @@ abbrev pub are_ranges_from : ℕ → List CodeRange → Bool
 are_ranges_from least [] = true
 are_ranges_from least (range ∷ ranges) = is_range_from least range && are_ranges_from (range.last + 1) ranges
 
--- the id is one that the panel may name, the metrics are such, and the codes stand in order from 33 on
+-- ten-thousandths of a whole number up to the most
+abbrev pub is_whole_up_to : ℕ → ℕ → Bool
+is_whole_up_to most n = (n % 10_000 == 0) && nat_le n (most * 10_000)
+
+-- a capital letter but X
+abbrev pub is_set_letter : ℕ → Bool
+is_set_letter byte = is_between 65 87 byte || is_between 89 90 byte
+
+-- a request that a job can send: each part is a value that its command takes
+abbrev pub is_request : FontRequest → Bool
+is_request request =
+    is_whole_up_to 65_535 request.symbol_set.number && is_set_letter request.symbol_set.letter && (request.spacing == 0)
+    && nat_le request.pitch 655_350_000 && nat_le request.height 655_350_000 && is_whole_up_to 65_535 request.style
+    && is_whole_up_to 7 (unsigned_abs request.weight) && is_whole_up_to 65_535 request.typeface
+
+-- the id is one that the panel may name, a job can send the request, the metrics are such, and the codes stand in order from 33 on
 abbrev pub is_face : Face → Bool
-is_face face = is_value Font face.id && has_metrics face && are_ranges_from 33 face.codes
+is_face face = is_value Font face.id && is_request face.request && has_metrics face && are_ranges_from 33 face.codes
 
 -- at most 64 faces, no two of one id and no two that answer one request
 abbrev pub are_faces : List Face → Bool

@@ -5,7 +5,7 @@ use Rattle.device_profile.specs.declared.field.Field.{Field}
 use Rattle.device_profile.specs.declared.field.Field.TheVariants.{Size, Orientation, Vmi, Font, Copies, Sides, Tray, LineTerm}
 use Rattle.device_profile.specs.declared.geometry.Geometry.{Geometry}
 use Rattle.device_profile.specs.declared.panel.Panel.{Panel}
-use Rattle.device_profile.specs.Faces.{Face, face_at, has_face, has_metrics, are_faces}
+use Rattle.device_profile.specs.Faces.{Face, face_at, has_face, has_metrics, is_request, are_faces}
 use Rattle.device_profile.specs.Rows.{has_alike}
 use Rattle.device_profile.specs.Values.{is_value, are_choices}
 
@@ -103,6 +103,16 @@ HasPages printer = (panel : Panel) → IsAllowed printer panel → IsSome (row_a
 abbrev pub HasFaces : Printer → Type 0
 HasFaces printer = (panel : Panel) → IsAllowed printer panel → IsSomeAnd (face_at printer.faces panel.font) (λ face. IsTrue (has_metrics face))
 
+-- each field of a panel has one of its values
+pub record HasItsValues (panel : Panel) : Type 0 where
+  pub size : IsTrue (is_value Size panel.size)
+  pub orientation : IsTrue (is_value Orientation panel.orientation)
+  pub vmi : IsTrue (is_value Vmi panel.vmi)
+  pub copies : IsTrue (is_value Copies panel.copies)
+  pub sides : IsTrue (is_value Sides panel.sides)
+  pub tray : IsTrue (is_value Tray panel.tray)
+  pub line_termination : IsTrue (is_value LineTerm panel.line_termination)
+
 -- each field of the panel has 1 to 16 of its values, and the device 1 to 16 trays, none twice
 abbrev pub has_choices : Printer → Bool
 has_choices printer =
@@ -130,6 +140,19 @@ has_what_it_offers printer =
 -- one side, or both where the device has duplex
 abbrev pub are_sides : Bool → ℕ → Bool
 are_sides has_duplex sides = (sides == 0) || (has_duplex && ((sides == 1) || (sides == 2)))
+
+-- a job can set all that a panel has: the values of its fields, which the device has, and the parts of its font's request
+pub record CanBeSetTo (printer : Printer) (panel : Panel) : Type 0 where
+  pub values : HasItsValues panel
+  pub size : IsTrue (has_size printer.geometries panel.size)
+  pub orientation : IsTrue (has_orientation printer.geometries panel.orientation)
+  pub sides : IsTrue (are_sides printer.has_duplex panel.sides)
+  pub tray : IsTrue (has_tray printer panel.tray)
+  pub request : IsSomeAnd (face_at printer.faces panel.font) (λ face. IsTrue (is_request face.request))
+
+-- so it is with each panel that the printer may have
+abbrev pub CanBeSet : Printer → Type 0
+CanBeSet printer = (panel : Panel) → IsAllowed printer panel → CanBeSetTo printer panel
 
 -- whether some row has this size and this orientation
 abbrev pub has_row : List Geometry → ℕ → ℕ → Bool

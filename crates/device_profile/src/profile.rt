@@ -47,7 +47,7 @@ impl<A: Allocator> Model for Profile<A> {
 
 impl<A: Allocator> Profile<A> {
     ghost use Rattle.std.specs.Prelude.{◌≡◌, IsTrue, IfSome, pos, ◌≤ℤ◌};
-    ghost use Rattle.device_profile.specs.Printer.{values_of, row_at, geometry_at, has_size, has_orientation, first_panel, has_tray, IsAllowed, HasPages, HasFaces, HasTrays, has_every_pair, fits_page};
+    ghost use Rattle.device_profile.specs.Printer.{values_of, row_at, geometry_at, has_size, has_orientation, first_panel, has_tray, IsAllowed, HasPages, HasFaces, HasTrays, CanBeSet, has_every_pair, fits_page};
     ghost use Rattle.std.specs.Option.{option_copied};
     ghost use Rattle.device_profile.specs.Faces.{face_at, face_for, has_metrics};
 
@@ -95,6 +95,8 @@ impl<A: Allocator> Profile<A> {
         ensures metrics { IfSome (face_at self.now.faces id) (λ face. IsTrue (has_metrics face)) }
         // Each panel that the printer may have leads to a face.
         ensures allowed { HasFaces self.now }
+        // A job can set what it has, and ask for that face.
+        ensures set { CanBeSet self.now }
     {
         self.faces.iter().find(|face| face.id() == id)
     }

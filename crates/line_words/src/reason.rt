@@ -11,4 +11,6 @@ pub enum Reason {
     Finding(Finding),
     /// The item at the place gives other marks or pages than with the first profile.
     Differs,
+    /// The item at the place returns to what the panel has, so there is no pinned job.
+    Unpinnable,
 }

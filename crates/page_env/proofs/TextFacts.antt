@@ -11,8 +11,8 @@ use Rattle.page_env.specs.Settings.{State}
 use Rattle.page_env.specs.FontInForce.{face_of}
 use Rattle.page_env.specs.Mark.{Character, is_inside}
 use Rattle.page_env.specs.Places.{geometry_of, right_of}
-use Rattle.page_env.specs.Effect.{check, first_finding}
-use Rattle.page_env.specs.Order.{rank_of, rises, ranks}
+use Rattle.page_env.specs.Effect.{check, first_finding, moving}
+use Rattle.page_env.specs.Order.{is_in_order}
 use Rattle.page_env.specs.Text.{behind_of, glyph_of, checks_of, character, space, transparent_space, print_byte, print_transparent}
 use Rattle.page_env.specs.Sound.{plain_state, AreInside, IsSound, IsSoundByte}
 use Rattle.page_env.proofs.Sound.{quiet, either_line, characters_rise, spaces_rise}
@@ -47,7 +47,7 @@ module _ (printer : Printer) (s : State) where
       g : Geometry
       g = geometry_of printer s
 
-      by_face : (face : Option Face) → ((face : Face) → rises (rank_of 12 ∷ ranks (checks_of printer s code face)) ≡ true) → rises (rank_of 12 ∷ ranks (check true NoFont ∷ [])) ≡ true → rises (rank_of 12 ∷ ranks (option_map_or (checks_of printer s code) face (check true NoFont ∷ []))) ≡ true
+      by_face : (face : Option Face) → ((face : Face) → is_in_order (record (moving s) { after = checks_of printer s code face }) ≡ true) → is_in_order (record (moving s) { after = check true NoFont ∷ [] }) ≡ true → is_in_order (record (moving s) { after = option_map_or (checks_of printer s code) face (check true NoFont ∷ []) }) ≡ true
       by_face None some none = none
       by_face (Some face) some none = some face
 

@@ -1,7 +1,8 @@
 -- Job control: number of copies, simplex and duplex, unit of measure, reset (`&l#X`, `&l#S`, `&u#D`, `ESC E`).
-use Rattle.std.specs.Prelude.{nat_lt, ◌==◌, ◌&&◌, not, true, false, List, [], ◌∷◌}
+use Rattle.std.specs.Prelude.{nat_lt, ◌==◌, ◌&&◌, not, Bool, true, false, List, [], ◌∷◌}
 use Rattle.std.specs.List.{list_any}
 use Rattle.tick_length.specs.UnitsPerInch.{units_per_inch}
+use Rattle.pcl_items.specs.Items.{Entry, Reset, ExitLanguage}
 use Rattle.pcl_items.specs.Value.{Amount}
 use Rattle.device_profile.specs.Printer.{Printer}
 use Rattle.page_env.specs.declared.finding.Finding.TheVariants.{BadValue, NotOnDevice}
@@ -41,3 +42,9 @@ set_units s n =
 -- `ESC E`, and the end of the bytes: all settings are the user defaults again
 abbrev pub reset : Settings → State → Transition
 reset defaults s = Closes (moving s) true (λ t. start_state defaults)
+
+-- a reset, or the universal exit, which resets before it leaves the language
+abbrev pub is_reset : Entry → Bool
+is_reset Reset = true
+is_reset ExitLanguage = true
+is_reset _ = false

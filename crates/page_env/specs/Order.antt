@@ -1,5 +1,5 @@
 -- The one order in which the findings of a step are reported, and in which it reads the fields of the panel.
-use Rattle.std.specs.Prelude.{ℕ, ◌==◌, nat_le, ◌&&◌, Bool, true, length, map, position, unwrap_or, List, [], ◌∷◌, ◌++◌}
+use Rattle.std.specs.Prelude.{ℕ, ◌==◌, nat_le, ◌&&◌, ◌||◌, not, Bool, true, false, length, map, position, unwrap_or, List, [], ◌∷◌, ◌++◌}
 use Rattle.device_profile.specs.declared.field.Field.{Field}
 use Rattle.device_profile.specs.declared.field.Field.TheVariants.{Size, Orientation, Vmi, Font, Copies, Sides, Tray, LineTerm}
 use Rattle.page_env.specs.declared.finding.Finding.{Finding}
@@ -69,9 +69,19 @@ rises (n ∷ ns) = rises_from n ns
 abbrev pub ranks : List Check → List ℕ
 ranks checks = map (λ c. rank c.finding) checks
 
--- the checks before the reading, what is unset, and the checks after it stand in the order of their findings
+abbrev pub is_unset_finding : Finding → Bool
+is_unset_finding (Unset field) = true
+is_unset_finding _ = false
+
+-- some check finds that a field is unset
+abbrev pub find_unset : List Check → Bool
+find_unset [] = false
+find_unset (c ∷ cs) = is_unset_finding c.finding || find_unset cs
+
+-- The checks before the reading, what is unset, and the checks after it stand in the order of their findings; and that a field is unset
+-- is found by the reading alone.
 abbrev pub is_in_order : Line → Bool
-is_in_order line = rises (ranks line.before ++ rank_of 12 ∷ ranks line.after)
+is_in_order line = not (find_unset line.before) && not (find_unset line.after) && rises (ranks line.before ++ rank_of 12 ∷ ranks line.after)
 
 -- the fields that are read stand in the order of the panel's
 abbrev pub reads_in_order : Line → Bool

@@ -3,12 +3,13 @@ use Rattle.std.specs.Prelude.{◌≡◌, ℕ, ◌+◌, nat_lt, length, Bool, tru
 use Rattle.pcl_items.specs.declared.command.Command.TheVariants.{MacroControl}
 use Rattle.pcl_items.specs.declared.item.Mode.{Mode}
 use Rattle.pcl_items.specs.Canon.{canon}
-use Rattle.pcl_items.specs.Items.{Entry, Reset, Parameterized, ExitLanguage}
+use Rattle.pcl_items.specs.Items.{Entry, Parameterized}
 use Rattle.macro_store.specs.Store.{Store, mode_in, stored_bytes, began, appended, committed, deleted, cleared}
 use Rattle.page_env.specs.declared.finding.Finding.TheVariants.{MacroMemory, DefinitionOpen}
 use Rattle.page_env.specs.declared.macros.Control.{Control}
 use Rattle.page_env.specs.declared.macros.Control.TheVariants.{Begin, End, DeleteAll, Delete}
 use Rattle.page_env.specs.Effect.{check, first_finding}
+use Rattle.page_env.specs.JobControl.{is_reset}
 use Rattle.page_env.specs.Macros.{control_of}
 use Rattle.page_env.specs.Settings.{State}
 use Rattle.page_machine.specs.declared.defining.Defining.{Defining}
@@ -20,12 +21,6 @@ use Rattle.page_machine.specs.Macros.{Context, in_job}
 abbrev pub control_in : Entry → Option Control
 control_in (Parameterized MacroControl n) = control_of n
 control_in _ = None
-
--- a reset, or the universal exit, which resets before it leaves the language
-abbrev pub is_reset : Entry → Bool
-is_reset Reset = true
-is_reset ExitLanguage = true
-is_reset _ = false
 
 -- ---- while a definition is open
 

@@ -5,7 +5,8 @@ ghost use Rattle.pcl_items.specs.declared.item.Mode.{Mode};
 ghost use Rattle.pcl_items.specs.Grammar.{follows};
 ghost use Rattle.macro_store.specs.Store.{Admits};
 ghost use Rattle.pcl_items.specs.Items.{view};
-ghost use Rattle.page_machine.specs.Defining.{is_reset, control_in, defining_control, defining_of, begins, carried_after, StandsIn};
+ghost use Rattle.page_env.specs.JobControl.{is_reset};
+ghost use Rattle.page_machine.specs.Defining.{control_in, defining_control, defining_of, begins, carried_after, StandsIn};
 ghost use Rattle.page_machine.specs.Machine.{Defines};
 
 use crate::machine::Stop;

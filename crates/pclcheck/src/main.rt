@@ -9,7 +9,7 @@ use std::process::ExitCode;
 use std::rt::{Env, Files};
 use std::{env, io};
 use subcommands::{
-    FileOutlet, FileSource, FileTexts, Status, check, explain, list, pages, plain, tell,
+    FileOutlet, FileSource, FileTexts, Status, check, explain, list, pages, pin, plain, tell,
 };
 
 fn main(rt: HostRuntime) -> ExitCode {
@@ -73,6 +73,20 @@ fn run<R: Files + AllocGlobal, O: Outlet, E: Outlet>(
             let mut job = FileSource::new(rt, job);
             let mut out = FileOutlet::new(rt, out);
             plain(rt.alloc(), &mut job, &mut out, stdout, stderr)
+        }
+        Ok(Request::Pin { job, profile, out }) => {
+            let mut job = FileSource::new(rt, job);
+            let mut texts = FileTexts::new(rt);
+            let mut out = FileOutlet::new(rt, out);
+            pin(
+                rt.alloc(),
+                &mut job,
+                &mut texts,
+                profile,
+                &mut out,
+                stdout,
+                stderr,
+            )
         }
         Ok(Request::Explain { code }) => explain(code, stdout, stderr),
         Err(status) => status,

@@ -171,7 +171,7 @@ are_admitted mode final (x ∷ items) h e = by_next (follows mode x.item) refl (
     by_next None is later behind = absurd cc
     by_next (Some mode2) is later behind = some h.0 is (later mode2 behind)
 
-items_admitted : (job : List ℕ) (reading : Reading) → IsReading job reading → AreAdmitted modes.Pcl (entries (items_of reading))
+pub items_admitted : (job : List ℕ) (reading : Reading) → IsReading job reading → AreAdmitted modes.Pcl (entries (items_of reading))
 items_admitted job (Whole items place) is =
     are_admitted modes.Pcl _ items (reading_known job (Whole items place) is) (reads_mode ((read_by_rules job (Whole items place)).complete is).2)
 items_admitted job (Stopped items place cause) is =

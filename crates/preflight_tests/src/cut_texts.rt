@@ -70,6 +70,18 @@ const PLAIN: &[u8] = b"\
 \x1bE\x1b%0BIN;SP1;PU0,0;PD100,100;PD0,200;\x1b%0A\
 \x1bEA";
 
+const PINNED: &[u8] = b"\
+\x1bE\x1b&l2A\x1b&l0O\x1b&l1X\x1b&l0S\x1b&l1H\x1b&l8C\x1b(10U\x1b(s0P\x1b(s10H\x1b(s12V\x1b(s0S\x1b(s0B\x1b(s3T\x1b&k0G\
+\x1b&l2A\x1b&l0O\x1b&l8C\x1b*p300X\x1b*p300Y\x1b*c100A\x1b*c50B\x1b*c0P\x0c\
+\x1bE\x1b&l2A\x1b&l0O\x1b&l1X\x1b&l0S\x1b&l1H\x1b&l8C\x1b(10U\x1b(s0P\x1b(s10H\x1b(s12V\x1b(s0S\x1b(s0B\x1b(s3T\x1b&k0G\
+\x1b*p300X\x1b*p300Y\x1b*t300R\x1b*r0F\x1b*r1A\x1b*b2W\x1bE\x1b*r0B\
+\x1bE\x1b&l2A\x1b&l0O\x1b&l1X\x1b&l0S\x1b&l1H\x1b&l8C\x1b(10U\x1b(s0P\x1b(s10H\x1b(s12V\x1b(s0S\x1b(s0B\x1b(s3T\x1b&k0G\
+\x1b&f1Y\x1b&f0X\x1b&l16C\x1b*p600X\x1b*p300Y\x1b&f1X\x1b&f1Y\x1b&f3X\n\x1b*c30A\x1b*c30B\x1b*c0P\
+\x1bE\x1b&l2A\x1b&l0O\x1b&l1X\x1b&l0S\x1b&l1H\x1b&l8C\x1b(10U\x1b(s0P\x1b(s10H\x1b(s12V\x1b(s0S\x1b(s0B\x1b(s3T\x1b&k0G\
+\x1b%0BIN;SP1;PU0,0;PD100,100;PD0,200;\x1b%0A\
+\x1bE\x1b&l2A\x1b&l0O\x1b&l1X\x1b&l0S\x1b&l1H\x1b&l8C\x1b(10U\x1b(s0P\x1b(s10H\x1b(s12V\x1b(s0S\x1b(s0B\x1b(s3T\x1b&k0G\
+A";
+
 const PAGES: &[u8] = b"\
 rect 0 0 45720000000 54864000000 57912000000 60960000000\n\
 page 1 size=2 orientation=0 sides=0 tray=1 copies=1\n\
@@ -90,6 +102,7 @@ const TEXTS: &[(Text, &[u8])] = &[
     (Text::List, LIST),
     (Text::Plain, PLAIN),
     (Text::Pages, PAGES),
+    (Text::Pinned, PINNED),
 ];
 
 #[test]

@@ -18,6 +18,8 @@ mod memory;
 #[cfg(test)]
 mod page_texts;
 #[cfg(test)]
+mod pinned_jobs;
+#[cfg(test)]
 mod plain_jobs;
 #[cfg(test)]
 mod rasters;

@@ -1,8 +1,9 @@
 //! The marks and the pages of jobs.
 
 use crate::texts::Ending::{Done, Fault, Found};
-use crate::texts::Text::{Pages, Plain};
-use crate::texts::{Ending, check_text, write_text_of};
+use crate::texts::Text::{Pages, Pinned, Plain};
+use crate::texts::{Ending, Text, check_text, write_text_of};
+use device_profile::Profile;
 use fakes::FailingOutlet;
 use job_items::job_of;
 use page_env::Finding::{NoGlyph, OutsideFrame, StackEmpty};
@@ -11,10 +12,15 @@ use pcl_items::Name;
 use preflight::{Outcome, Watched};
 use printers::Printer::{A, B, C, D, SomeCopies};
 use printers::{Printer, profile_of};
+use std::alloc::Global;
+use std::process::Abort;
 use std::test::Fail;
 
 /// A printer, a job, its marks and pages, and how they end.
 type PagesRow = (Printer, &'static [u8], &'static [u8], Ending);
+
+/// How a job ends that enables an overlay, which cannot be pinned.
+const ENABLED_OVERLAY: &[u8] = b"\x1b&f4X\x0c";
 
 const PAGES: &[PagesRow] = &[
     (B, b"\x1bE", b"", Done),
@@ -253,30 +259,40 @@ fn marks_and_pages_are_written(rt: HostRuntime) -> Result<(), Fail> {
     Ok(())
 }
 
-/// A job in its plain spelling has the same marks and pages.
+/// A job that is written anew, in its plain spelling or pinned to the panel, has the same marks and pages.
+fn check_written_anew(
+    rt: &impl Abort,
+    alloc: Global,
+    text: Text,
+    profile: &Profile,
+    (job, pages): (&[u8], &[u8]),
+) {
+    let mut written = FailingOutlet::new(alloc, u64::MAX);
+    let answer = write_text_of(text, alloc, &mut Watched::new(job), profile, &mut written);
+    assert_eq!(rt; answer, Ok(Outcome::Done), "{text:?} of {job:?}");
+    check_text(rt, alloc, Pages, profile, (written.taken(), pages, Done));
+}
+
 #[test]
 fn plain_jobs_have_the_same_pages(rt: HostRuntime) -> Result<(), Fail> {
     for (printer, job, pages, ending) in PAGES {
-        let Done = ending else {
-            continue;
-        };
-        let profile = profile_of(rt.alloc(), *printer)?;
-        let mut plain = FailingOutlet::new(rt.alloc(), u64::MAX);
-        let answer = write_text_of(
-            Plain,
-            rt.alloc(),
-            &mut Watched::new(*job),
-            &profile,
-            &mut plain,
-        );
-        assert_eq!(rt; answer, Ok(Outcome::Done));
-        check_text(
-            &rt,
-            rt.alloc(),
-            Pages,
-            &profile,
-            (plain.taken(), pages, Done),
-        );
+        if let Done = ending {
+            let profile = profile_of(rt.alloc(), *printer)?;
+            check_written_anew(&rt, rt.alloc(), Plain, &profile, (job, pages));
+        }
+    }
+    Ok(())
+}
+
+/// Those that enable no overlay.
+#[test]
+fn pinned_jobs_have_the_same_pages(rt: HostRuntime) -> Result<(), Fail> {
+    for (printer, job, pages, ending) in PAGES {
+        let is_pinnable = !job.ends_with(ENABLED_OVERLAY);
+        if let (Done, true) = (ending, is_pinnable) {
+            let profile = profile_of(rt.alloc(), *printer)?;
+            check_written_anew(&rt, rt.alloc(), Pinned, &profile, (job, pages));
+        }
     }
     Ok(())
 }

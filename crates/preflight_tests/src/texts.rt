@@ -6,7 +6,7 @@ use fakes::{CutSource, FailingOutlet, FailingSource};
 use line_words::Reason;
 use page_env::Finding;
 use pcl_items::Cause;
-use preflight::{Error, Outcome, Source, Watched, list_job, pages_of, plain_job};
+use preflight::{Error, Outcome, Source, Watched, list_job, pages_of, pin_job, plain_job};
 use std::alloc::{Allocator, Global};
 use std::process::Abort;
 
@@ -19,6 +19,8 @@ pub enum Text {
     Plain,
     /// Its marks and pages.
     Pages,
+    /// The spellings of its items and of what pins them to a panel.
+    Pinned,
 }
 
 /// How a text ends.
@@ -30,6 +32,8 @@ pub enum Ending {
     Fault(u64, Cause),
     /// A finding at the place.
     Found(u64, Finding),
+    /// An item at the place that cannot be pinned.
+    Unpinnable(u64),
 }
 
 impl Ending {
@@ -38,6 +42,7 @@ impl Ending {
             Ending::Done => return Outcome::Done,
             Ending::Fault(place, cause) => (place, 0, Reason::Fault(cause)),
             Ending::Found(place, finding) => (place, 1, Reason::Finding(finding)),
+            Ending::Unpinnable(place) => (place, 1, Reason::Unpinnable),
         };
         Outcome::Fail {
             place,
@@ -47,7 +52,7 @@ impl Ending {
     }
 }
 
-/// Writes a text of a job. Its pages are those from the first setting of the printer's panel.
+/// Writes a text of a job. Its pages are those from the first setting of the printer's panel, to which it is pinned, too.
 pub fn write_text_of<S: Source, A: Allocator + Copy, P: Allocator>(
     text: Text,
     alloc: A,
@@ -64,6 +69,10 @@ pub fn write_text_of<S: Source, A: Allocator + Copy, P: Allocator>(
         Text::Pages => {
             let panel = profile.first_panel();
             pages_of(alloc, job, profile, &panel, outlet)
+        }
+        Text::Pinned => {
+            let panel = profile.first_panel();
+            pin_job(alloc, job, profile, &panel, outlet)
         }
     }
 }

@@ -47,6 +47,8 @@ pub enum Printer {
     KOfA,
     /// Sample B whose panel has line termination 3.
     Returning,
+    /// Sample B with lines of 7.5/48 inch and a light first face of pitch 10.5.
+    Light,
 }
 
 /// The names of printers in files of rows.
@@ -71,6 +73,7 @@ const NAMES: &[(&str, Printer)] = &[
     ("K", Printer::K),
     ("KOfA", Printer::KOfA),
     ("Returning", Printer::Returning),
+    ("Light", Printer::Light),
 ];
 
 /// The printer of this name.
@@ -168,6 +171,18 @@ const VERSION_LINE: usize = 1;
 /// Version 2, with line termination 0 or 2.
 const TERMINATIONS: &[u8] = b"pclprofile 2\nlineterm 0 2";
 
+/// Which line of a sample says its VMIs.
+const VMI_LINE: usize = 5;
+
+/// A light first face of pitch 10.5.
+const LIGHT_FACE: &[u8] = b"face 1 10U 10.5 12 0 -3 3 720 900 300 33-126";
+
+fn light_printer(alloc: Global) -> Result<Profile, ProfileFault> {
+    let text = with_line(alloc, Sample::B.text(), VMI_LINE, b"vmi 7.50")?;
+    let text = with_line(alloc, &text, FACE_LINE, LIGHT_FACE)?;
+    Profile::read(alloc, &text)
+}
+
 /// The first face of sample B without the codes up to that of `A`.
 const NO_LETTER_A: &[u8] = b"face 1 10U 10 12 0 0 3 720 900 300 66-126";
 
@@ -196,6 +211,7 @@ pub fn profile_of(alloc: Global, printer: Printer) -> Result<Profile, ProfileFau
         Printer::Returning => {
             return sample_with(alloc, Sample::B, VERSION_LINE, b"pclprofile 2\nlineterm 3");
         }
+        Printer::Light => return light_printer(alloc),
     };
     printer_of(alloc, panel, page)
 }

@@ -9,7 +9,7 @@ use preflight::{Outlet, Source, Watched};
 use refusing::Refusing;
 use std::alloc::Allocator;
 use std::process::Abort;
-use subcommands::{Create, FileOutlet, FileSource, Open, Status, check, list, pages, plain};
+use subcommands::{Create, FileOutlet, FileSource, Open, Status, check, list, pages, pin, plain};
 
 /// A subcommand.
 #[derive(Clone, Copy, Debug)]
@@ -20,6 +20,8 @@ enum Command {
     /// For the printer that a word names.
     Pages(&'static str),
     Plain,
+    /// For the printer that a word names.
+    Pin(&'static str),
 }
 
 /// Texts of printers. No text is named `none`.
@@ -53,6 +55,7 @@ fn status_of<H: Allocator + Copy, J: Open, W: Create, O: Outlet, E: Outlet>(
         Command::List => list(heap, job, stdout, stderr),
         Command::Pages(word) => pages(heap, job, &mut texts, word, stdout, stderr),
         Command::Plain => plain(heap, job, out, stdout, stderr),
+        Command::Pin(word) => pin(heap, job, &mut texts, word, out, stdout, stderr),
     }
 }
 
@@ -211,6 +214,50 @@ const PLAINS: &[(Run, Answer)] = &[
     ),
 ];
 
+const PINS: &[(Run, Answer)] = &[
+    ((Command::Pin("b"), b"", SOUND, SOUND), (0, b"", b"", b"")),
+    (
+        (Command::Pin("b"), b"\x1bE\x1b&l+2X", SOUND, SOUND),
+        (
+            0,
+            b"",
+            b"",
+            b"\x1bE\x1b&l2A\x1b&l0O\x1b&l1X\x1b&l0S\x1b&l1H\x1b&l8C\x1b(10U\x1b(s0P\x1b(s10H\x1b(s12V\x1b(s0S\x1b(s0B\x1b(s3T\x1b&k0G\x1b&l+2X",
+        ),
+    ),
+    (
+        (Command::Pin("b"), b"\x1bE\x1b(3@", SOUND, SOUND),
+        (1, b"FAIL at=2 profile=1 35 Unpinnable\n", b"", b"\x1bE"),
+    ),
+    (
+        (Command::Pin("b"), b"\x1bE\x1b)", SOUND, SOUND),
+        (1, b"FAIL at=2 profile=0 3 NotInProfile())\n", b"", b"\x1bE"),
+    ),
+    // The profile is read and judged before the job is opened, and OUT is created before the job is read.
+    (
+        (Command::Pin("version"), b"", NONE, NONE),
+        (2, b"", b"ERROR profile 1 1 Version\n", b""),
+    ),
+    (
+        (Command::Pin("none"), b"", SOUND, SOUND),
+        (3, b"", READ, b""),
+    ),
+    ((Command::Pin("b"), b"", NONE, NONE), (3, b"", READ, b"")),
+    ((Command::Pin("b"), b"", SOUND, NONE), (3, b"", WRITE, b"")),
+    (
+        (Command::Pin("b"), b"", Device::Works(0), SOUND),
+        (3, b"", READ, b""),
+    ),
+    (
+        (Command::Pin("b"), b"\x1bEA", Device::Works(2), SOUND),
+        (3, b"", READ, b"\x1bE"),
+    ),
+    (
+        (Command::Pin("b"), b"\x1bE", SOUND, Device::Works(0)),
+        (3, b"", WRITE, b""),
+    ),
+];
+
 /// Runs a subcommand, and compares what it did. The job has failed where its own device tells of it, and OUT where it cannot be written.
 fn assert_run(rt: &(impl Abort + AllocGlobal), run: Run, answer: Answer) {
     let (command, bytes, from, to) = run;
@@ -267,6 +314,13 @@ fn plain_jobs_come_to_this(rt: HostRuntime) {
     }
 }
 
+#[test]
+fn pinned_jobs_come_to_this(rt: HostRuntime) {
+    for (run, answer) in PINS {
+        assert_run(&rt, *run, *answer);
+    }
+}
+
 /// Subcommands whose standard output fails at each write in turn, how many of its writes of 7 bytes succeed, and what it has then.
 const FAILING: &[(Command, &[u8], u64, &[u8])] = &[
     (Command::Check, b"", 3, b"PASS pages=0 marks=0\n"),
@@ -282,6 +336,12 @@ const FAILING: &[(Command, &[u8], u64, &[u8])] = &[
         b"A\x1b)",
         6,
         b"FAIL at=1 profile=0 3 NotInProfile())\n",
+    ),
+    (
+        Command::Pin("b"),
+        b"\x1b(3@",
+        5,
+        b"FAIL at=0 profile=1 35 Unpinnable\n",
     ),
 ];
 
@@ -328,6 +388,7 @@ const COMMANDS: &[Command] = &[
     Command::List,
     Command::Pages("b"),
     Command::Plain,
+    Command::Pin("b"),
 ];
 
 /// Whether a subcommand ended for want of memory, with its one line on standard error and no verdict on standard output.

@@ -40,6 +40,7 @@ const CODES: &[(&str, &str)] = &[
     ("32", "MarginIgnored"),
     ("33", "Differs"),
     ("34", "RotatedRaster"),
+    ("35", "Unpinnable"),
 ];
 
 /// What `explain` writes on standard output, which goes well.

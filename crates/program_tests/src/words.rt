@@ -38,6 +38,11 @@ const HELPS: &[Ended] = &[
         &["JOB", "OUT"],
     ),
     (
+        &["pclcheck", "pin", "--help"],
+        Status::Help,
+        &["JOB", "PROFILE", "OUT", "35 Unpinnable"],
+    ),
+    (
         &["pclcheck", "explain", "--help"],
         Status::Help,
         &["CODE", "0  an explanation"],
@@ -76,6 +81,17 @@ const WRONG_FOR_TEXTS: &[Ended] = &[
     ),
     (
         &["pclcheck", "plain", "job.pcl", "out.pcl", "@A"],
+        Status::Words,
+        &[],
+    ),
+    (&["pclcheck", "pin", "job.pcl", "@A"], Status::Words, &[]),
+    (
+        &["pclcheck", "pin", "job.pcl", "@A", "job.pcl"],
+        Status::Words,
+        &[],
+    ),
+    (
+        &["pclcheck", "pin", "job.pcl", "a.profile", "a.profile"],
         Status::Words,
         &[],
     ),
@@ -167,16 +183,37 @@ fn words_that_ask_for_a_check(rt: HostRuntime) -> Result<(), Fail> {
     Ok(())
 }
 
-/// Words that ask for a text, the command, and what they name: the job, and what its text is for or where it goes, or a code.
-const TEXTS: &[(&[&str], (&str, &str, &str))] = &[
-    (&["pclcheck", "list", "job.pcl"], ("list", "job.pcl", "")),
-    (&["pclcheck", "pages", "a/b", "@C"], ("pages", "a/b", "@C")),
+/// A command, and what its words name: the job or a code, the printer, and where the text goes.
+type Asked = (
+    &'static str,
+    &'static str,
+    Option<&'static str>,
+    Option<&'static str>,
+);
+
+/// Words that ask for a text.
+const TEXTS: &[(&[&str], Asked)] = &[
+    (
+        &["pclcheck", "list", "job.pcl"],
+        ("list", "job.pcl", None, None),
+    ),
+    (
+        &["pclcheck", "pages", "a/b", "@C"],
+        ("pages", "a/b", Some("@C"), None),
+    ),
     (
         &["pclcheck", "plain", "job.pcl", "out.pcl"],
-        ("plain", "job.pcl", "out.pcl"),
+        ("plain", "job.pcl", None, Some("out.pcl")),
     ),
-    (&["pclcheck", "explain"], ("explain", "all", "")),
-    (&["pclcheck", "explain", "12"], ("explain", "12", "")),
+    (
+        &["pclcheck", "pin", "job.pcl", "@C", "out.pcl"],
+        ("pin", "job.pcl", Some("@C"), Some("out.pcl")),
+    ),
+    (&["pclcheck", "explain"], ("explain", "all", None, None)),
+    (
+        &["pclcheck", "explain", "12"],
+        ("explain", "12", None, None),
+    ),
 ];
 
 #[test]
@@ -187,11 +224,12 @@ fn words_that_ask_for_a_text(rt: HostRuntime) -> Result<(), Fail> {
         let mut stderr = Watched::new(Vec::new(rt.alloc()));
         let answer = read_words(rt.alloc(), words.as_slice(), &mut stdout, &mut stderr);
         let found = match &answer {
-            Ok(Request::List { job }) => ("list", *job, ""),
-            Ok(Request::Pages { job, profile }) => ("pages", *job, *profile),
-            Ok(Request::Plain { job, out }) => ("plain", *job, *out),
-            Ok(Request::Explain { code }) => ("explain", (*code).unwrap_or("all"), ""),
-            Ok(_) | Err(_) => ("", "", ""),
+            Ok(Request::List { job }) => ("list", *job, None, None),
+            Ok(Request::Pages { job, profile }) => ("pages", *job, Some(*profile), None),
+            Ok(Request::Plain { job, out }) => ("plain", *job, None, Some(*out)),
+            Ok(Request::Pin { job, profile, out }) => ("pin", *job, Some(*profile), Some(*out)),
+            Ok(Request::Explain { code }) => ("explain", (*code).unwrap_or("all"), None, None),
+            Ok(_) | Err(_) => ("", "", None, None),
         };
         assert_eq!(rt; found, *wanted);
     }

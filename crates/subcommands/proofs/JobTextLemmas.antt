@@ -15,7 +15,7 @@ use Rattle.preflight.proofs.OutletLemmas.{Adds-none}
 use Rattle.subcommands.specs.declared.status.Status.{Status}
 use Rattle.subcommands.specs.declared.status.Status.TheVariants.{Pass, Fail, Help, Words, Profile, Stopped}
 use Rattle.subcommands.specs.Fleet.{IsEndOfProfile}
-use Rattle.subcommands.specs.JobTexts.{Reads, reads_by, Stands, StandsInFront, LeavesAtStopBeside, LeavesLine, LeavesPages, LeavesPagesOf, LeavesTextAndLine}
+use Rattle.subcommands.specs.JobTexts.{Reads, reads_by, Stands, StandsInFront, LeavesAtStopBeside, LeavesLine, LeavesPages, LeavesPagesOf, LeavesPinned, LeavesPinnedOf, LeavesTextAndLine}
 use Rattle.subcommands.proofs.LeavesLemmas.{Stays-none}
 
 nothing_spelled : IsReading [] (Whole [] 0)
@@ -95,3 +95,22 @@ no_pages number text Pass IsPrinter given remaining a end = absurd end
 no_pages number text Fail IsPrinter given remaining a end = absurd end
 no_pages number text Help IsPrinter given remaining a end = absurd end
 no_pages number text Words IsPrinter given remaining a end = absurd end
+
+-- what was left for a printer was left where the job was opened
+pub pinned_left : (status : Status) (IsPrinter : Printer → Type 0) (job : Reads) (old new start end : Written) → LeavesPinnedOf status IsPrinter job old new start end → LeavesPinned status IsPrinter job old new start end
+pinned_left Pass IsPrinter job old new start end left = left
+pinned_left Fail IsPrinter job old new start end left = left
+pinned_left Help IsPrinter job old new start end left = left
+pinned_left Words IsPrinter job old new start end left = left
+pinned_left (Profile number line cause) IsPrinter job old new start end left = absurd left.2
+pinned_left (Stopped error) IsPrinter job old new start end left = inr left
+
+-- where the profile is not had, nothing was read of the job, and nothing written
+pub no_pins : (number : ℕ) (text : Option (List ℕ)) (status : Status) (IsPrinter : Printer → Type 0) (given : List (List ℕ)) (remaining : Option (List ℕ)) (a b : Written) → IsEndOfProfile number text status →
+    LeavesPinned status IsPrinter (reads_by given given remaining remaining) a a b b
+no_pins number text (Profile refused line cause) IsPrinter given remaining a b end = ((refl, Stays-none a), Stays-none b)
+no_pins number text (Stopped error) IsPrinter given remaining a b end = inl ((refl, Stays-none a), Stays-none b)
+no_pins number text Pass IsPrinter given remaining a b end = absurd end
+no_pins number text Fail IsPrinter given remaining a b end = absurd end
+no_pins number text Help IsPrinter given remaining a b end = absurd end
+no_pins number text Words IsPrinter given remaining a b end = absurd end

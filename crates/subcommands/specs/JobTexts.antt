@@ -8,6 +8,7 @@ use Rattle.preflight.specs.declared.outcome.Outcome.TheVariants.{Done, Fail as F
 use Rattle.line_words.specs.declared.reason.Reason.{Reason}
 use Rattle.preflight.specs.declared.verdict.Verdict.TheVariants.{Fail as FailOf}
 use Rattle.preflight.specs.Due.{Telling, WritesDue, WritesFront, pages_telling}
+use Rattle.preflight.specs.Pins.{pinned_telling}
 use Rattle.preflight.specs.Outlet.{Written, Adds, AddsFront, Stays}
 use Rattle.subcommands.specs.declared.status.Status.{Status}
 use Rattle.subcommands.specs.declared.status.Status.TheVariants.{Pass, Fail, Help, Words, Profile, Stopped}
@@ -91,6 +92,22 @@ abbrev pub LeavesPages : Status → (Printer → Type 0) → Reads → Written �
 LeavesPages (Profile number line cause) IsPrinter job old new = IsUntouched job old new
 LeavesPages (Stopped error) IsPrinter job old new = IsUntouched job old new ⊎ LeavesPagesOf (Stopped error) IsPrinter job old new
 LeavesPages status IsPrinter job old new = LeavesPagesOf status IsPrinter job old new
+
+-- ---- a pinned job
+
+-- nothing was read of the job, and nothing written, in OUT or on standard output
+abbrev pub IsUntouchedBeside : Reads → Written → Written → Written → Written → Type 0
+IsUntouchedBeside job old new start end = IsUntouched job old new × Stays start end
+
+-- what `pin` leaves for a printer with this fact: the job that is pinned to its first panel, and beside it the line of the failure
+abbrev pub LeavesPinnedOf : Status → (Printer → Type 0) → Reads → Written → Written → Written → Written → Type 0
+LeavesPinnedOf status IsPrinter job old new start end = (printer : Printer) × IsPrinter printer × LeavesTextAndLine status (pinned_telling printer (first_panel printer)) job old new start end
+
+-- what `pin` leaves where it ends by this status
+abbrev pub LeavesPinned : Status → (Printer → Type 0) → Reads → Written → Written → Written → Written → Type 0
+LeavesPinned (Profile number line cause) IsPrinter job old new start end = IsUntouchedBeside job old new start end
+LeavesPinned (Stopped error) IsPrinter job old new start end = IsUntouchedBeside job old new start end ⊎ LeavesPinnedOf (Stopped error) IsPrinter job old new start end
+LeavesPinned status IsPrinter job old new start end = LeavesPinnedOf status IsPrinter job old new start end
 
 -- where the profile is refused, it is the first one, and that is what is wrong with it
 abbrev pub RefusesOne : Option (List ℕ) → Status → Type 0

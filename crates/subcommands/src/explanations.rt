@@ -5,7 +5,7 @@
 /// Reference Manual treats of it.
 ///
 /// `docs/DEFINITIONS.md` has the same sentences, and `docs/check_commands.py` compares the two.
-pub const EXPLANATIONS: [&str; 31] = [
+pub const EXPLANATIONS: [&str; 32] = [
     "\
 1 Syntax
   When:    A byte comes with which no escape sequence goes on, or a command
@@ -323,5 +323,15 @@ pub const EXPLANATIONS: [&str; 31] = [
   Change:  Send ESC *r0F before the start, so that the raster lies as the
            logical page does, or print in portrait.
   Manual:  \"Raster Graphics\", Raster Graphics Presentation
+",
+    "\
+35 Unpinnable
+  When:    A job is pinned that has ESC (3@, which returns to the font of the
+           panel, or ESC &f4X, which enables an overlay: it begins with what
+           the panel has.
+  Change:  Leave the item out: ask for the font by its seven parts, or execute
+           or call the macro on each page.
+  Manual:  \"PCL Font Selection\", Default Font; \"Macros\", Enable Macro for
+           Automatic Overlay
 ",
 ];
