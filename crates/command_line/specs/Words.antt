@@ -2,7 +2,7 @@
 use Rattle.std.specs.Prelude.{◌≢◌, [], ⊤}
 use Rattle.preflight.specs.declared.error.Error.TheVariants.{Memory, Write}
 use Rattle.subcommands.specs.declared.status.Status.{Status}
-use Rattle.subcommands.specs.declared.status.Status.TheVariants.{Help, Words, Stopped}
+use Rattle.subcommands.specs.declared.status.Status.TheVariants.{Help, Words, Overwrites, Stopped}
 use Rattle.command_line.specs.declared.words.Request.{Request}
 use Rattle.command_line.specs.declared.words.Request.TheVariants.{Check, List, Pages, Plain, Pin, Explain}
 
@@ -12,19 +12,20 @@ NamesSome (Check job profiles) = profiles.items ≢ []
 NamesSome (List job) = ⊤
 NamesSome (Pages job profile) = ⊤
 NamesSome (Plain job out) = ⊤
-NamesSome (Pin job profile out) = ⊤
+NamesSome (Pin job profile choices out) = ⊤
 NamesSome (Explain code) = ⊤
 
 -- a text of a job goes to no path that is read
 abbrev pub KeepsWhatItReads : Request → Type 0
 KeepsWhatItReads (Plain job out) = job.now ≢ out.now
-KeepsWhatItReads (Pin job profile out) = (job.now ≢ out.now) × (profile.now ≢ out.now)
+KeepsWhatItReads (Pin job profile choices out) = (job.now ≢ out.now) × (profile.now ≢ out.now)
 KeepsWhatItReads _ = ⊤
 
--- help or the version, bad words, no memory, or a text that could not be written
+-- help or the version, bad words, an OUT that is read, no memory, or a text that could not be written
 abbrev pub IsEndOfWords : Status → Type 0
 IsEndOfWords Help = ⊤
 IsEndOfWords Words = ⊤
+IsEndOfWords (Overwrites input) = ⊤
 IsEndOfWords (Stopped Memory) = ⊤
 IsEndOfWords (Stopped Write) = ⊤
 IsEndOfWords _ = ⊥

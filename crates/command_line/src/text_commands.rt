@@ -1,7 +1,8 @@
 //! The commands that write a text of a job: `list`, `pages`, `plain` and `pin`.
-ghost use Rattle.std.specs.Prelude.{IfSome};
+ghost use Rattle.std.specs.Prelude.{IfOk, IfSome};
 ghost use Rattle.command_line.specs.Words.{NamesSome};
 
+use crate::panel_words::{ChoiceFault, read_choices};
 use crate::words::Request;
 use clap::{Arg, ArgAction, ArgMatches, Command};
 use std::alloc::{AllocError, Global};
@@ -40,8 +41,8 @@ Exit status:
   3  a read or a write failed, memory ran out, or no end after 2^40 reads";
 
 const PLAIN_EXPLANATION: &str =
-    "OUT is created once JOB is open; what it held before is lost. So JOB and OUT have to be different
-files. Jobs that differ in spelling alone give the same bytes.
+    "OUT is created once JOB is open; what it held before is lost. An OUT that is JOB, under whichever
+path, is refused. Jobs that differ in spelling alone give the same bytes.
 
 Output, where the bytes are wrong; OUT then has the items before that place:
   FAIL at=N profile=0 FINDING
@@ -53,9 +54,16 @@ Exit status:
   3  a read or a write failed, memory ran out, or no end after 2^40 reads";
 
 const PIN_EXPLANATION: &str =
-    "What is written prints from every panel setting of the printer as JOB does from its first one: the
-first value that the profile lists of each field. OUT is created once JOB is open; what it held before
-is lost. So OUT has to be another file than JOB and PROFILE.
+    "What is written prints from every panel setting of the printer as JOB does from one of them: the
+first value that the profile lists of each field, or the value that --panel names. It sets these
+values itself, so its macros may be longer than those of JOB and need more of the printer's macro
+memory: check what was written.
+
+The fields are size, orientation, vmi, font, copies, sides, tray and lineterm, each with a value that
+the profile lists, as in --panel size=26,vmi=6,lineterm=2.
+
+OUT is created once JOB is open; what it held before is lost. An OUT that is JOB or PROFILE, under
+whichever path, is refused.
 
 Output, where the bytes are wrong or an item cannot be pinned; OUT then has what is due before that
 place:
@@ -65,7 +73,7 @@ place:
 Exit status:
   0  all of the job was written, or help was asked for
   1  the bytes are wrong, or an item cannot be pinned
-  2  usage error, or the profile is refused
+  2  usage error, a value that the profile does not list, or the profile is refused
   3  a read or a write failed, memory ran out, or no end after 2^40 reads";
 
 fn required<'a>(alloc: Global, name: &'a str, help: &'a str) -> Arg<'a> {
@@ -89,6 +97,15 @@ fn profile<'a>(alloc: Global) -> Arg<'a> {
 /// The word OUT of the commands that write a job.
 fn out<'a>(alloc: Global) -> Arg<'a> {
     required(alloc, "OUT", "The path of the file to write")
+}
+
+/// The option `--panel`.
+fn panel<'a>(alloc: Global) -> Arg<'a> {
+    Arg::new(alloc, "PANEL")
+        .long("panel")
+        .value_name("FIELD=VALUE,..")
+        .action(ArgAction::Set)
+        .help("Pins to these values of the panel; each field that is not named has its first value")
 }
 
 /// The words of the command `list`.
@@ -120,14 +137,41 @@ pub fn plain_command<'a>(alloc: Global) -> Result<Command<'a>, AllocError> {
 /// The words of the command `pin`.
 pub fn pin_command<'a>(alloc: Global) -> Result<Command<'a>, AllocError> {
     Command::new(alloc, "pin")
-        .about("Writes a job again, pinned to the first panel setting of a printer")
+        .about("Writes a job again, pinned to one panel setting of a printer")
         .after_help(PIN_EXPLANATION)
         .arg(job(alloc))?
         .arg(profile(alloc))?
-        .arg(out(alloc))
+        .arg(out(alloc))?
+        .arg(panel(alloc))
 }
 
-/// What the words ask for, where they name one of these commands.
+/// The request of the words behind `pin`.
+pub fn pin_request<'a>(
+    alloc: Global,
+    found: &ArgMatches<'a>,
+) -> Result<Option<Request<'a>>, ChoiceFault<'a>>
+    ensures { IfOk result (λ request. IfSome request NamesSome) }
+{
+    let (Some(job), Some(profile), Some(out)) = (
+        found.get_str("JOB"),
+        found.get_str("PROFILE"),
+        found.get_str("OUT"),
+    ) else {
+        return Ok(None);
+    };
+    let choices = match found.get_str("PANEL") {
+        Some(words) => read_choices(alloc, words)?,
+        None => Vec::new(alloc),
+    };
+    Ok(Some(Request::Pin {
+        job,
+        profile,
+        choices,
+        out,
+    }))
+}
+
+/// What the words ask for, where they name `list`, `pages` or `plain`.
 pub fn text_request<'a>(matches: &ArgMatches<'a>) -> Option<Request<'a>>
     ensures { IfSome result NamesSome }
 {
@@ -140,13 +184,6 @@ pub fn text_request<'a>(matches: &ArgMatches<'a>) -> Option<Request<'a>>
         return Some(Request::Pages {
             job: found.get_str("JOB")?,
             profile: found.get_str("PROFILE")?,
-        });
-    }
-    if let Some(found) = matches.subcommand_matches("pin") {
-        return Some(Request::Pin {
-            job: found.get_str("JOB")?,
-            profile: found.get_str("PROFILE")?,
-            out: found.get_str("OUT")?,
         });
     }
     let found = matches.subcommand_matches("plain")?;

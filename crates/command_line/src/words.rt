@@ -1,15 +1,16 @@
 //! The words that the program is started with.
-ghost use Rattle.std.specs.Prelude.{◌≡◌, IsFalse, OnOk, IfOk, IfErr, IfSome, is_some};
+ghost use Rattle.std.specs.Prelude.{◌≡◌, ◌≢◌, IsFalse, OnOk, IfOk, IfErr, IfSome, is_some};
 ghost use Rattle.command_line.specs.Words.{IsEndOfWords, KeepsWhatItReads, NamesSome};
 
+use crate::panel_words::ChoiceFault;
 use crate::text_commands::{
-    job, list_command, pages_command, pin_command, plain_command, text_request,
+    job, list_command, pages_command, pin_command, pin_request, plain_command, text_request,
 };
 use clap::error::ErrorKind;
 use clap::{Arg, ArgAction, ArgMatches, Command};
 use preflight::{Error, Outlet, write_text};
 use std::alloc::{AllocError, Global};
-use subcommands::{Status, tell};
+use subcommands::{Choice, Input, Status, tell};
 
 /// What the words ask for.
 #[derive(Drop)]
@@ -33,10 +34,11 @@ pub enum Request<'a> {
         job: &'a str,
         out: &'a str,
     },
-    /// The items of the job at a path, pinned to the first panel of the printer that a word names, in a file at a path.
+    /// The items of the job at a path, pinned to the panel that is chosen of the printer that a word names, in a file at a path.
     Pin {
         job: &'a str,
         profile: &'a str,
+        choices: Vec<Choice>,
         out: &'a str,
     },
     /// What a fault or a finding means, by its number or its name; without a code, what all mean.
@@ -61,6 +63,9 @@ On standard error, where there is no verdict:
                               CAUSE is Version, Unknown, Repeated, Range, Missing or NoGeometry
   ERROR read                  the job or a profile could not be read
   ERROR write, memory, turns  a write failed, memory ran out, or no end after 2^40 reads
+
+A profile is a text whose first line is 'pclprofile 1', or 'pclprofile 2' where it also lists what
+the panel may have for line termination (lineterm).
 
 Samples, small made-up printers for trying out:
   @A  letter and A4, portrait and landscape, chosen at its panel
@@ -152,44 +157,67 @@ pub fn read_words<'a, O: Outlet, E: Outlet>(
     let request = match request_of(alloc, &matches) {
         Ok(Some(request)) => request,
         Ok(None) => return Err(Status::Words),
-        Err(_) => return Err(tell(Status::Stopped(Error::Memory), stderr)),
+        Err(fault) => return Err(refuse_choices(alloc, &fault, stderr)),
     };
-    let Some(complaint) = complaint_of(&request) else {
-        return Ok(request);
-    };
-    match write_text(stderr, complaint) {
-        Ok(()) => Err(Status::Words),
-        Err(_) => Err(Status::Stopped(Error::Write)),
+    match overwritten(&request) {
+        Some(input) => Err(tell(Status::Overwrites(input), stderr)),
+        None => Ok(request),
     }
 }
 
-/// What is said of a request that would write to a path that it reads from.
-fn complaint_of(request: &Request<'_>) -> Option<&'static [u8]>
+/// What a request would write that it also reads, by its words.
+fn overwritten(request: &Request<'_>) -> Option<Input>
     ensures { IsFalse (is_some result) → KeepsWhatItReads request.now }
 {
     let (job, profile, out) = match request {
         Request::Plain { job, out } => (job, None, out),
-        Request::Pin { job, profile, out } => (job, Some(profile), out),
+        Request::Pin {
+            job,
+            profile,
+            out,
+            ..
+        } => (job, Some(profile), out),
         _ => return None,
     };
     if job == out {
-        return Some(b"error: OUT is JOB itself, which would be lost\n");
+        return Some(Input::Job);
     }
     if profile == Some(out) {
-        return Some(b"error: OUT is PROFILE itself, which would be lost\n");
+        return Some(Input::Profile);
     }
     None
+}
+
+/// Writes why the words of `--panel` choose nothing.
+fn refuse_choices<E: Outlet>(alloc: Global, fault: &ChoiceFault<'_>, stderr: &mut E) -> Status
+    requires { IsFalse (E.failed stderr.old) }
+    ensures end { IsEndOfWords result }
+    ensures no_help { result ≢ Status.Help }
+{
+    if matches!(fault, ChoiceFault::Memory(_)) {
+        return tell(Status::Stopped(Error::Memory), stderr);
+    }
+    let Ok(text) = format!(in alloc; "error: {fault}\n") else {
+        return tell(Status::Stopped(Error::Memory), stderr);
+    };
+    match write_text(stderr, text.as_bytes()) {
+        Ok(()) => Status::Words,
+        Err(_) => Status::Stopped(Error::Write),
+    }
 }
 
 /// The request of words that are right.
 fn request_of<'a>(
     alloc: Global,
     matches: &ArgMatches<'a>,
-) -> Result<Option<Request<'a>>, AllocError>
+) -> Result<Option<Request<'a>>, ChoiceFault<'a>>
     ensures { IfOk result (λ request. IfSome request NamesSome) }
 {
     if let Some(found) = matches.subcommand_matches("check") {
         return check_request(alloc, found);
+    }
+    if let Some(found) = matches.subcommand_matches("pin") {
+        return pin_request(alloc, found);
     }
     if let Some(found) = matches.subcommand_matches("explain") {
         let code = found.get_str("CODE");
@@ -202,7 +230,7 @@ fn request_of<'a>(
 fn check_request<'a>(
     alloc: Global,
     found: &ArgMatches<'a>,
-) -> Result<Option<Request<'a>>, AllocError>
+) -> Result<Option<Request<'a>>, ChoiceFault<'a>>
     ensures { IfOk result (λ request. IfSome request NamesSome) }
 {
     let (Some(job), Some(words)) = (found.get_str("JOB"), found.get_strs("PROFILE")) else {

@@ -7,7 +7,7 @@ mod mark_lines;
 mod reason;
 mod words;
 
-pub use figures::push_named;
+pub use figures::{push_named, push_number_word, push_value_word};
 pub use item_lines::{push_fault, push_item};
 pub use mark_lines::{push_mark, push_page};
 pub use reason::Reason;

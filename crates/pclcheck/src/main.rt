@@ -9,7 +9,8 @@ use std::process::ExitCode;
 use std::rt::{Env, Files};
 use std::{env, io};
 use subcommands::{
-    FileOutlet, FileSource, FileTexts, Status, check, explain, list, pages, pin, plain, tell,
+    FileOutlet, FileSource, FileTexts, PanelSetting, Status, check, explain, list, pages, pin,
+    plain, tell,
 };
 
 fn main(rt: HostRuntime) -> ExitCode {
@@ -74,15 +75,24 @@ fn run<R: Files + AllocGlobal, O: Outlet, E: Outlet>(
             let mut out = FileOutlet::new(rt, out);
             plain(rt.alloc(), &mut job, &mut out, stdout, stderr)
         }
-        Ok(Request::Pin { job, profile, out }) => {
+        Ok(
+            Request::Pin {
+                job,
+                profile,
+                choices,
+                out,
+            },
+        ) => {
             let mut job = FileSource::new(rt, job);
             let mut texts = FileTexts::new(rt);
+            let choices = choices.as_slice();
+            let setting = PanelSetting { profile, choices };
             let mut out = FileOutlet::new(rt, out);
             pin(
                 rt.alloc(),
                 &mut job,
                 &mut texts,
-                profile,
+                &setting,
                 &mut out,
                 stdout,
                 stderr,

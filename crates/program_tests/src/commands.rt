@@ -3,13 +3,16 @@ ghost use Rattle.std.specs.Prelude.{◌≡◌, false, IsFalse};
 
 use crate::files::File;
 use crate::kept_texts::{KeptTexts, Named};
-use device_profile::Sample;
+use device_profile::{Field, Sample};
 use fakes::{FailingOutlet, FailingSource};
 use preflight::{Outlet, Source, Watched};
 use refusing::Refusing;
 use std::alloc::Allocator;
 use std::process::Abort;
-use subcommands::{Create, FileOutlet, FileSource, Open, Status, check, list, pages, pin, plain};
+use subcommands::{
+    Choice, Create, FileOutlet, FileSource, Open, PanelSetting, Status, check, list, pages, pin,
+    plain,
+};
 
 /// A subcommand.
 #[derive(Clone, Copy, Debug)]
@@ -20,8 +23,8 @@ enum Command {
     /// For the printer that a word names.
     Pages(&'static str),
     Plain,
-    /// For the printer that a word names.
-    Pin(&'static str),
+    /// For the printer that a word names, and what is chosen at its panel.
+    Pin(&'static str, &'static [Choice]),
 }
 
 /// Texts of printers. No text is named `none`.
@@ -55,7 +58,10 @@ fn status_of<H: Allocator + Copy, J: Open, W: Create, O: Outlet, E: Outlet>(
         Command::List => list(heap, job, stdout, stderr),
         Command::Pages(word) => pages(heap, job, &mut texts, word, stdout, stderr),
         Command::Plain => plain(heap, job, out, stdout, stderr),
-        Command::Pin(word) => pin(heap, job, &mut texts, word, out, stdout, stderr),
+        Command::Pin(profile, choices) => {
+            let setting = PanelSetting { profile, choices };
+            pin(heap, job, &mut texts, &setting, out, stdout, stderr)
+        }
     }
 }
 
@@ -215,9 +221,12 @@ const PLAINS: &[(Run, Answer)] = &[
 ];
 
 const PINS: &[(Run, Answer)] = &[
-    ((Command::Pin("b"), b"", SOUND, SOUND), (0, b"", b"", b"")),
     (
-        (Command::Pin("b"), b"\x1bE\x1b&l+2X", SOUND, SOUND),
+        (Command::Pin("b", &[]), b"", SOUND, SOUND),
+        (0, b"", b"", b""),
+    ),
+    (
+        (Command::Pin("b", &[]), b"\x1bE\x1b&l+2X", SOUND, SOUND),
         (
             0,
             b"",
@@ -226,34 +235,113 @@ const PINS: &[(Run, Answer)] = &[
         ),
     ),
     (
-        (Command::Pin("b"), b"\x1bE\x1b(3@", SOUND, SOUND),
+        (Command::Pin("b", &[]), b"\x1bE\x1b(3@", SOUND, SOUND),
         (1, b"FAIL at=2 profile=1 35 Unpinnable\n", b"", b"\x1bE"),
     ),
     (
-        (Command::Pin("b"), b"\x1bE\x1b)", SOUND, SOUND),
+        (Command::Pin("b", &[]), b"\x1bE\x1b)", SOUND, SOUND),
         (1, b"FAIL at=2 profile=0 3 NotInProfile())\n", b"", b"\x1bE"),
+    ),
+    // What is chosen stands in place of the first values; of a choice that the panel may not have nothing is written.
+    (
+        (
+            Command::Pin(
+                "a",
+                &[
+                    Choice {
+                        field: Field::Orientation,
+                        value: 1,
+                    },
+                    Choice {
+                        field: Field::Size,
+                        value: 26,
+                    },
+                ],
+            ),
+            b"\x1b&l+2X",
+            SOUND,
+            SOUND,
+        ),
+        (
+            0,
+            b"",
+            b"",
+            b"\x1b&l26A\x1b&l1O\x1b&l1X\x1b&l0S\x1b&l1H\x1b&l8C\x1b(10U\x1b(s0P\x1b(s10H\x1b(s12V\x1b(s0S\x1b(s0B\x1b(s3T\x1b&k0G\x1b&l+2X",
+        ),
+    ),
+    (
+        (
+            Command::Pin(
+                "a",
+                &[
+                    Choice {
+                        field: Field::Orientation,
+                        value: 1,
+                    },
+                    Choice {
+                        field: Field::Size,
+                        value: 3,
+                    },
+                ],
+            ),
+            b"",
+            NONE,
+            NONE,
+        ),
+        (
+            2,
+            b"",
+            b"error: --panel: PROFILE does not allow size 3; it allows 2 26\n",
+            b"",
+        ),
+    ),
+    (
+        (
+            Command::Pin(
+                "a",
+                &[Choice {
+                    field: Field::Vmi,
+                    value: 75_000,
+                }],
+            ),
+            b"",
+            NONE,
+            NONE,
+        ),
+        (
+            2,
+            b"",
+            b"error: --panel: PROFILE does not allow vmi 7.5; it allows 8\n",
+            b"",
+        ),
     ),
     // The profile is read and judged before the job is opened, and OUT is created before the job is read.
     (
-        (Command::Pin("version"), b"", NONE, NONE),
+        (Command::Pin("version", &[]), b"", NONE, NONE),
         (2, b"", b"ERROR profile 1 1 Version\n", b""),
     ),
     (
-        (Command::Pin("none"), b"", SOUND, SOUND),
-        (3, b"", READ, b""),
-    ),
-    ((Command::Pin("b"), b"", NONE, NONE), (3, b"", READ, b"")),
-    ((Command::Pin("b"), b"", SOUND, NONE), (3, b"", WRITE, b"")),
-    (
-        (Command::Pin("b"), b"", Device::Works(0), SOUND),
+        (Command::Pin("none", &[]), b"", SOUND, SOUND),
         (3, b"", READ, b""),
     ),
     (
-        (Command::Pin("b"), b"\x1bEA", Device::Works(2), SOUND),
+        (Command::Pin("b", &[]), b"", NONE, NONE),
+        (3, b"", READ, b""),
+    ),
+    (
+        (Command::Pin("b", &[]), b"", SOUND, NONE),
+        (3, b"", WRITE, b""),
+    ),
+    (
+        (Command::Pin("b", &[]), b"", Device::Works(0), SOUND),
+        (3, b"", READ, b""),
+    ),
+    (
+        (Command::Pin("b", &[]), b"\x1bEA", Device::Works(2), SOUND),
         (3, b"", READ, b"\x1bE"),
     ),
     (
-        (Command::Pin("b"), b"\x1bE", SOUND, Device::Works(0)),
+        (Command::Pin("b", &[]), b"\x1bE", SOUND, Device::Works(0)),
         (3, b"", WRITE, b""),
     ),
 ];
@@ -338,7 +426,7 @@ const FAILING: &[(Command, &[u8], u64, &[u8])] = &[
         b"FAIL at=1 profile=0 3 NotInProfile())\n",
     ),
     (
-        Command::Pin("b"),
+        Command::Pin("b", &[]),
         b"\x1b(3@",
         5,
         b"FAIL at=0 profile=1 35 Unpinnable\n",
@@ -388,7 +476,7 @@ const COMMANDS: &[Command] = &[
     Command::List,
     Command::Pages("b"),
     Command::Plain,
-    Command::Pin("b"),
+    Command::Pin("b", &[]),
 ];
 
 /// Whether a subcommand ended for want of memory, with its one line on standard error and no verdict on standard output.

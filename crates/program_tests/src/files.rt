@@ -1,9 +1,9 @@
 //! Readers and writers that may be missing, as files are.
-ghost use Rattle.std.specs.Prelude.{◌≡◌, ◌||◌, false, ⊤};
+ghost use Rattle.std.specs.Prelude.{◌≡◌, ◌||◌, false, None, ⊤};
 
 use preflight::{Outlet, Source};
 use std::io;
-use subcommands::{Create, Open};
+use subcommands::{Create, FileId, Open};
 
 /// A reader or a writer. Where it is missing it can be neither opened nor created.
 #[derive(Drop)]
@@ -62,12 +62,18 @@ impl<S: Source> Source for File<S> {
 impl<S: Source> Open for File<S> {
     ghost opens = { λ _ _. ⊤ };
 
+    ghost file = { λ _. None };
+
     fn open(&mut self) -> io::Result<()> {
         if self.is_missing {
             self.was_missed = true;
             return Err(io::Error::other("nothing to open"));
         }
         Ok(())
+    }
+
+    fn file(&self) -> Option<FileId> {
+        None
     }
 }
 
@@ -94,5 +100,9 @@ impl<O: Outlet> Create for File<O> {
             return Err(io::Error::other("nothing to create"));
         }
         Ok(())
+    }
+
+    fn leads_to(&self, _file: FileId) -> bool {
+        false
     }
 }

@@ -16,4 +16,6 @@ mod kept_texts;
 #[cfg(test)]
 mod lines;
 #[cfg(test)]
+mod overwriting;
+#[cfg(test)]
 mod words;

@@ -1,11 +1,12 @@
 //! What the words of the command line ask for.
 
 use command_line::{Request, read_words};
+use device_profile::Field;
 use preflight::Watched;
 use std::alloc::{AllocError, Global};
 use std::process::Abort;
 use std::test::Fail;
-use subcommands::Status;
+use subcommands::{Choice, Input, Status};
 
 fn strings(alloc: Global, words: &[&str]) -> Result<Vec<String>, AllocError> {
     let mut strings = Vec::new(alloc);
@@ -76,7 +77,7 @@ const WRONG_FOR_TEXTS: &[Ended] = &[
     (&["pclcheck", "plain", "job.pcl"], Status::Words, &[]),
     (
         &["pclcheck", "plain", "job.pcl", "job.pcl"],
-        Status::Words,
+        Status::Overwrites(Input::Job),
         &[],
     ),
     (
@@ -87,12 +88,12 @@ const WRONG_FOR_TEXTS: &[Ended] = &[
     (&["pclcheck", "pin", "job.pcl", "@A"], Status::Words, &[]),
     (
         &["pclcheck", "pin", "job.pcl", "@A", "job.pcl"],
-        Status::Words,
+        Status::Overwrites(Input::Job),
         &[],
     ),
     (
         &["pclcheck", "pin", "job.pcl", "a.profile", "a.profile"],
-        Status::Words,
+        Status::Overwrites(Input::Profile),
         &[],
     ),
 ];
@@ -148,6 +149,66 @@ fn words_that_are_wrong_for_a_check(rt: HostRuntime) -> Result<(), Fail> {
 #[test]
 fn words_that_are_wrong_for_a_text(rt: HostRuntime) -> Result<(), Fail> {
     check_ended(&rt, rt.alloc(), WRONG_FOR_TEXTS)
+}
+
+/// Words of `--panel`, and what they choose; of wrong ones a part of what is told on standard error.
+const PANELS: &[(&str, Result<&[(Field, u32)], &str>)] = &[
+    ("size=26", Ok(&[(Field::Size, 26)])),
+    (
+        "lineterm=2,vmi=7.5,tray=007",
+        Ok(&[(Field::LineTerm, 2), (Field::Vmi, 75_000), (Field::Tray, 7)]),
+    ),
+    (
+        "vmi=0.0625,orientation=1,font=2,copies=1,sides=0",
+        Ok(&[
+            (Field::Vmi, 625),
+            (Field::Orientation, 1),
+            (Field::Font, 2),
+            (Field::Copies, 1),
+            (Field::Sides, 0),
+        ]),
+    ),
+    ("", Err("'' is not of the form FIELD=VALUE")),
+    ("size", Err("'size' is not of the form FIELD=VALUE")),
+    ("size=2,", Err("'' is not of the form FIELD=VALUE")),
+    ("siz=2", Err("there is no field 'siz'")),
+    ("Size=2", Err("there is no field 'Size'")),
+    ("size=", Err("'size=' has no whole number")),
+    ("size=+2", Err("'size=+2' has no whole number")),
+    ("size=2.0", Err("'size=2.0' has no whole number")),
+    ("size=4294967296", Err("has no whole number")),
+    ("vmi=7.", Err("'vmi=7.' has no whole number")),
+    ("vmi=.5", Err("'vmi=.5' has no whole number")),
+    ("vmi=7.00001", Err("'vmi=7.00001' has no whole number")),
+    ("vmi=429497", Err("'vmi=429497' has no whole number")),
+    ("tray=1,tray=1", Err("'tray=1' chooses for a field")),
+];
+
+fn are_chosen(choices: &[Choice], wanted: &[(Field, u32)]) -> bool {
+    choices.len() == wanted.len()
+        && choices.iter().zip(wanted).all(|(choice, (field, value))| choice.field == *field
+            && choice.value == *value)
+}
+
+#[test]
+fn words_that_choose_at_a_panel(rt: HostRuntime) -> Result<(), Fail> {
+    for (panel, wanted) in PANELS {
+        let all = ["pclcheck", "pin", "job.pcl", "--panel", panel, "@A", "out"];
+        let words = strings(rt.alloc(), &all)?;
+        let mut stdout = Watched::new(Vec::new(rt.alloc()));
+        let mut stderr = Watched::new(Vec::new(rt.alloc()));
+        let answer = read_words(rt.alloc(), words.as_slice(), &mut stdout, &mut stderr);
+        let is_right = match (&answer, wanted) {
+            (Ok(Request::Pin { choices, .. }), Ok(wanted)) => are_chosen(
+                choices.as_slice(),
+                wanted,
+            ),
+            (Err(Status::Words), Err(part)) => has_parts(stderr.get_ref().as_slice(), &[part]),
+            _ => false,
+        };
+        assert!(rt; is_right, "{panel}");
+    }
+    Ok(())
 }
 
 #[test]
@@ -227,7 +288,14 @@ fn words_that_ask_for_a_text(rt: HostRuntime) -> Result<(), Fail> {
             Ok(Request::List { job }) => ("list", *job, None, None),
             Ok(Request::Pages { job, profile }) => ("pages", *job, Some(*profile), None),
             Ok(Request::Plain { job, out }) => ("plain", *job, None, Some(*out)),
-            Ok(Request::Pin { job, profile, out }) => ("pin", *job, Some(*profile), Some(*out)),
+            Ok(
+                Request::Pin {
+                    job,
+                    profile,
+                    out,
+                    ..
+                },
+            ) => ("pin", *job, Some(*profile), Some(*out)),
             Ok(Request::Explain { code }) => ("explain", (*code).unwrap_or("all"), None, None),
             Ok(_) | Err(_) => ("", "", None, None),
         };

@@ -10,7 +10,7 @@ use Rattle.preflight.specs.declared.error.Error.TheVariants.{Memory, Read, Write
 use Rattle.preflight.specs.declared.verdict.Verdict.{Verdict}
 use Rattle.preflight.specs.Outlet.{Written}
 use Rattle.subcommands.specs.declared.status.Status.{Status}
-use Rattle.subcommands.specs.declared.status.Status.TheVariants.{Pass, Fail, Help, Words, Profile, Stopped}
+use Rattle.subcommands.specs.declared.status.Status.TheVariants.{Pass, Fail, Help, Words, Overwrites, NotAllowed, Profile, Stopped}
 use Rattle.subcommands.specs.Check.{Leaves}
 use Rattle.subcommands.specs.Status.{is_stop_of_write, refusal_of}
 use Rattle.subcommands.specs.Fleet.{Describes, DescribeBy, DescribeFleet, IsReached, IsRefused, IsEndOfProfile, IsEndOfFleet, RefusesBy, RefusesRead}
@@ -71,6 +71,8 @@ end_reached f words i d printers Pass h before end = absurd end
 end_reached f words i d printers Fail h before end = absurd end
 end_reached f words i d printers Help h before end = absurd end
 end_reached f words i d printers Words h before end = absurd end
+end_reached f words i d printers (Overwrites input) h before end = absurd end
+end_reached f words i d printers (NotAllowed choice) h before end = absurd end
 
 pub fleet_ends : {X : Type 0} (start now : List ℕ → Option (List ℕ)) (bytes : X → List ℕ) (words : List X) (i : ℕ) (d : X) (printers : List Printer) (status : Status) → i < length words → now ≡ start →
     DescribeFleet (map (λ word. start (bytes word)) (take i words)) printers → IsEndOfProfile (i + 1) (now (bytes (get_or words i d))) status →
@@ -125,6 +127,8 @@ behind_described start mid after printers i Pass described count refused = tt
 behind_described start mid after printers i Fail described count refused = tt
 behind_described start mid after printers i Help described count refused = tt
 behind_described start mid after printers i Words described count refused = tt
+behind_described start mid after printers i (Overwrites input) described count refused = tt
+behind_described start mid after printers i (NotAllowed choice) described count refused = tt
 
 -- the texts of words describe as many printers as there are words
 pub refused_behind : {X : Type 0} (f : X → Option (List ℕ)) (words : List X) (i : ℕ) (start mid after : List (List ℕ)) (printers : List Printer) (status : Status) → i < length words →
@@ -145,6 +149,8 @@ no_line texts Pass P a end = absurd end
 no_line texts Fail P a end = absurd end
 no_line texts Help P a end = absurd end
 no_line texts Words P a end = absurd end
+no_line texts (Overwrites input) P a end = absurd end
+no_line texts (NotAllowed choice) P a end = absurd end
 
 -- nor did a write fail
 pub no_write : (texts : List (Option (List ℕ))) (status : Status) → IsEndOfFleet texts status → false ≡ is_stop_of_write status
@@ -158,6 +164,8 @@ no_write texts Pass end = refl
 no_write texts Fail end = refl
 no_write texts Help end = refl
 no_write texts Words end = refl
+no_write texts (Overwrites input) end = refl
+no_write texts (NotAllowed choice) end = refl
 
 -- where a profile is not had, no write failed
 pub no_write_before : (number : ℕ) (text : Option (List ℕ)) (status : Status) → IsEndOfProfile number text status → false ≡ is_stop_of_write status
@@ -171,3 +179,5 @@ no_write_before number text Pass end = refl
 no_write_before number text Fail end = refl
 no_write_before number text Help end = refl
 no_write_before number text Words end = refl
+no_write_before number text (Overwrites input) end = refl
+no_write_before number text (NotAllowed choice) end = refl

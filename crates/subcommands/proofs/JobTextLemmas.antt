@@ -1,5 +1,5 @@
 -- Lemmas on what is left of a text of a job.
-use Rattle.std.proofs.Common.{◌≡◌, ◌≢◌, ◌⊎◌, inl, inr, ℕ, List, [], Option, None, Some, refl, sym, subst, append-nil}
+use Rattle.std.proofs.Common.{◌≡◌, ◌≢◌, inl, inr, ℕ, Bool, List, [], Option, None, Some, Err, refl, sym, ◌∙◌, ap, subst, append-nil}
 use Rattle.std.specs.Io.KnownBytes.{Consumes}
 use Rattle.pcl_items.specs.declared.item.Mode.TheVariants.{Pcl}
 use Rattle.pcl_items.specs.Grammar.{here}
@@ -10,12 +10,14 @@ use Rattle.preflight.specs.declared.error.Error.TheVariants.{Memory, Read, Write
 use Rattle.preflight.specs.declared.outcome.Outcome.{Outcome}
 use Rattle.preflight.specs.declared.outcome.Outcome.TheVariants.{Done, Fail as FailsOf}
 use Rattle.preflight.specs.Due.{Telling, WritesFront}
-use Rattle.preflight.specs.Outlet.{Written}
+use Rattle.preflight.specs.Outlet.{Written, Writes}
 use Rattle.preflight.proofs.OutletLemmas.{Adds-none}
 use Rattle.subcommands.specs.declared.status.Status.{Status}
-use Rattle.subcommands.specs.declared.status.Status.TheVariants.{Pass, Fail, Help, Words, Profile, Stopped}
+use Rattle.subcommands.specs.declared.status.Status.TheVariants.{Pass, Fail, Help, Words, Overwrites, NotAllowed, Profile, Stopped}
 use Rattle.subcommands.specs.Fleet.{IsEndOfProfile}
-use Rattle.subcommands.specs.JobTexts.{Reads, reads_by, Stands, StandsInFront, LeavesAtStopBeside, LeavesLine, LeavesPages, LeavesPagesOf, LeavesPinned, LeavesPinnedOf, LeavesTextAndLine}
+use Rattle.subcommands.specs.declared.choices.Choice.{Choice}
+use Rattle.subcommands.specs.Choices.{choice_line, chosen_panel}
+use Rattle.subcommands.specs.JobTexts.{Reads, reads_by, Stands, StandsInFront, LeavesAtStopBeside, LeavesLine, LeavesPages, LeavesPagesOf, LeavesPinned, LeavesTextAndLine, TellsOfChoice, TellsOfPin}
 use Rattle.subcommands.proofs.LeavesLemmas.{Stays-none}
 
 nothing_spelled : IsReading [] (Whole [] 0)
@@ -64,12 +66,16 @@ told Done Pass telling job old new start end stands line = (stands, line)
 told Done Fail telling job old new start end stands line = absurd line
 told Done Help telling job old new start end stands line = absurd line
 told Done Words telling job old new start end stands line = absurd line
+told Done (Overwrites input) telling job old new start end stands line = absurd line
+told Done (NotAllowed choice) telling job old new start end stands line = absurd line
 told Done (Profile number row cause) telling job old new start end stands line = absurd line
 told Done (Stopped error) telling job old new start end stands line = absurd line
 told (FailsOf place profile finding) Pass telling job old new start end stands line = absurd line
 told (FailsOf place profile finding) Fail telling job old new start end stands line = (place, profile, finding, stands, line)
 told (FailsOf place profile finding) Help telling job old new start end stands line = absurd line
 told (FailsOf place profile finding) Words telling job old new start end stands line = absurd line
+told (FailsOf place profile finding) (Overwrites input) telling job old new start end stands line = absurd line
+told (FailsOf place profile finding) (NotAllowed choice) telling job old new start end stands line = absurd line
 told (FailsOf place profile finding) (Profile number row cause) telling job old new start end stands line = absurd line
 told (FailsOf place profile finding) (Stopped Memory) telling job old new start end stands line = inr (place, profile, finding, stands, line)
 told (FailsOf place profile finding) (Stopped Read) telling job old new start end stands line = absurd line
@@ -83,6 +89,8 @@ pages_left Pass IsPrinter job old new left = left
 pages_left Fail IsPrinter job old new left = left
 pages_left Help IsPrinter job old new left = left
 pages_left Words IsPrinter job old new left = left
+pages_left (Overwrites input) IsPrinter job old new left = left
+pages_left (NotAllowed choice) IsPrinter job old new left = left
 pages_left (Profile number line cause) IsPrinter job old new left = absurd left.3
 pages_left (Stopped error) IsPrinter job old new left = inr left
 
@@ -95,22 +103,33 @@ no_pages number text Pass IsPrinter given remaining a end = absurd end
 no_pages number text Fail IsPrinter given remaining a end = absurd end
 no_pages number text Help IsPrinter given remaining a end = absurd end
 no_pages number text Words IsPrinter given remaining a end = absurd end
+no_pages number text (Overwrites input) IsPrinter given remaining a end = absurd end
+no_pages number text (NotAllowed choice) IsPrinter given remaining a end = absurd end
 
--- what was left for a printer was left where the job was opened
-pub pinned_left : (status : Status) (IsPrinter : Printer → Type 0) (job : Reads) (old new start end : Written) → LeavesPinnedOf status IsPrinter job old new start end → LeavesPinned status IsPrinter job old new start end
-pinned_left Pass IsPrinter job old new start end left = left
-pinned_left Fail IsPrinter job old new start end left = left
-pinned_left Help IsPrinter job old new start end left = left
-pinned_left Words IsPrinter job old new start end left = left
-pinned_left (Profile number line cause) IsPrinter job old new start end left = absurd left.2
-pinned_left (Stopped error) IsPrinter job old new start end left = inr left
+-- a choice that the panel may not have is told, or that memory ran out; nothing was read of the job then, and nothing written
+pub choice_told : (status : Status) (printer : Printer) (choice : Choice) (IsPrinter : Printer → Type 0) (choices : List Choice) (failed : Bool) (old new : Written) → IsPrinter printer → chosen_panel printer choices ≡ Err choice →
+    TellsOfChoice status printer choice failed old new → TellsOfPin status IsPrinter choices failed old new
+choice_told (NotAllowed told) printer choice IsPrinter choices failed old new named refused line =
+    (printer, named, refused ∙ ap Err (sym line.0), subst (λ c. Writes failed old new (choice_line printer c)) (sym line.0) line.1)
+choice_told (Stopped Memory) printer choice IsPrinter choices failed old new named refused line = line
+choice_told (Stopped Read) printer choice IsPrinter choices failed old new named refused line = absurd line
+choice_told (Stopped Write) printer choice IsPrinter choices failed old new named refused line = absurd line
+choice_told (Stopped Turns) printer choice IsPrinter choices failed old new named refused line = absurd line
+choice_told (Stopped NoProfile) printer choice IsPrinter choices failed old new named refused line = absurd line
+choice_told Pass printer choice IsPrinter choices failed old new named refused line = absurd line
+choice_told Fail printer choice IsPrinter choices failed old new named refused line = absurd line
+choice_told Help printer choice IsPrinter choices failed old new named refused line = absurd line
+choice_told Words printer choice IsPrinter choices failed old new named refused line = absurd line
+choice_told (Overwrites input) printer choice IsPrinter choices failed old new named refused line = absurd line
+choice_told (Profile number row cause) printer choice IsPrinter choices failed old new named refused line = absurd line
 
--- where the profile is not had, nothing was read of the job, and nothing written
-pub no_pins : (number : ℕ) (text : Option (List ℕ)) (status : Status) (IsPrinter : Printer → Type 0) (given : List (List ℕ)) (remaining : Option (List ℕ)) (a b : Written) → IsEndOfProfile number text status →
-    LeavesPinned status IsPrinter (reads_by given given remaining remaining) a a b b
-no_pins number text (Profile refused line cause) IsPrinter given remaining a b end = ((refl, Stays-none a), Stays-none b)
-no_pins number text (Stopped error) IsPrinter given remaining a b end = inl ((refl, Stays-none a), Stays-none b)
-no_pins number text Pass IsPrinter given remaining a b end = absurd end
-no_pins number text Fail IsPrinter given remaining a b end = absurd end
-no_pins number text Help IsPrinter given remaining a b end = absurd end
-no_pins number text Words IsPrinter given remaining a b end = absurd end
+pub choice_refused : (status : Status) (printer : Printer) (choice : Choice) (IsPrinter : Printer → Type 0) (choices : List Choice) (failed : Bool) (old new : Written) (given : List (List ℕ)) (remaining : Option (List ℕ)) (a b : Written) →
+    TellsOfChoice status printer choice failed old new → LeavesPinned status IsPrinter choices (reads_by given given remaining remaining) a a b b
+choice_refused (NotAllowed told) printer choice IsPrinter choices failed old new given remaining a b line = ((refl, Stays-none a), Stays-none b)
+choice_refused (Stopped error) printer choice IsPrinter choices failed old new given remaining a b line = inl ((refl, Stays-none a), Stays-none b)
+choice_refused Pass printer choice IsPrinter choices failed old new given remaining a b line = absurd line
+choice_refused Fail printer choice IsPrinter choices failed old new given remaining a b line = absurd line
+choice_refused Help printer choice IsPrinter choices failed old new given remaining a b line = absurd line
+choice_refused Words printer choice IsPrinter choices failed old new given remaining a b line = absurd line
+choice_refused (Overwrites input) printer choice IsPrinter choices failed old new given remaining a b line = absurd line
+choice_refused (Profile number row cause) printer choice IsPrinter choices failed old new given remaining a b line = absurd line

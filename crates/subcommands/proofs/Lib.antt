@@ -1,3 +1,4 @@
+mod ChoiceLemmas
 mod Examples
 mod ExplainLemmas
 mod FleetLemmas

@@ -10,7 +10,7 @@ use Rattle.preflight.specs.Outlet.{Written, Adds, AddsFront, Stays}
 use Rattle.preflight.specs.Pieces.{ByReads}
 use Rattle.preflight.specs.Verdict.{IsExact, KeepsPromise, NeedsEachRead}
 use Rattle.subcommands.specs.declared.status.Status.{Status}
-use Rattle.subcommands.specs.declared.status.Status.TheVariants.{Pass, Fail, Help, Words, Profile, Stopped}
+use Rattle.subcommands.specs.declared.status.Status.TheVariants.{Pass, Fail, Help, Words, Overwrites, NotAllowed, Profile, Stopped}
 use Rattle.subcommands.specs.Fleet.{DescribeBy, DescribeFleet}
 use Rattle.subcommands.specs.Lines.{verdict_line}
 
@@ -56,5 +56,7 @@ Leaves Pass P old new = (pages : ℕ) × (marks : ℕ) × P (PassOf pages marks)
 Leaves Fail P old new = (place : ℕ) × (profile : ℕ) × (finding : Reason) × P (FailOf place profile finding) × Adds old new (verdict_line (FailOf place profile finding))
 Leaves Help P old new = ⊥
 Leaves Words P old new = ⊥
+Leaves (Overwrites input) P old new = ⊥
+Leaves (NotAllowed choice) P old new = ⊥
 Leaves (Profile number line cause) P old new = Stays old new
 Leaves (Stopped error) P old new = LeavesAtStop error P old new

@@ -1,5 +1,6 @@
 -- What the subcommands leave that write a text of a job.
-use Rattle.std.specs.Prelude.{◌≡◌, ◌≢◌, ◌⊎◌, ℕ, List, [], ◌∷◌, Option, ⊤}
+use Rattle.std.specs.Prelude.{◌≡◌, ◌≢◌, ◌⊎◌, ℕ, Bool, List, [], ◌∷◌, Option, Ok, Err, ⊤}
+use Rattle.device_profile.specs.declared.panel.Panel.{Panel}
 use Rattle.device_profile.specs.Printer.{Printer, first_panel}
 use Rattle.preflight.specs.declared.error.Error.{Error}
 use Rattle.preflight.specs.declared.error.Error.TheVariants.{Memory, Read, Write, Turns, NoProfile}
@@ -9,11 +10,14 @@ use Rattle.line_words.specs.declared.reason.Reason.{Reason}
 use Rattle.preflight.specs.declared.verdict.Verdict.TheVariants.{Fail as FailOf}
 use Rattle.preflight.specs.Due.{Telling, WritesDue, WritesFront, pages_telling}
 use Rattle.preflight.specs.Pins.{pinned_telling}
-use Rattle.preflight.specs.Outlet.{Written, Adds, AddsFront, Stays}
+use Rattle.preflight.specs.Outlet.{Written, Adds, AddsFront, Stays, Writes}
 use Rattle.subcommands.specs.declared.status.Status.{Status}
-use Rattle.subcommands.specs.declared.status.Status.TheVariants.{Pass, Fail, Help, Words, Profile, Stopped}
+use Rattle.subcommands.specs.declared.status.Status.TheVariants.{Pass, Fail, Help, Words, Overwrites, NotAllowed, Profile, Stopped}
+use Rattle.subcommands.specs.declared.choices.Choice.{Choice}
+use Rattle.subcommands.specs.Choices.{choice_line, chosen_panel}
 use Rattle.subcommands.specs.Fleet.{DescribeBy, Describes, IsRefused}
 use Rattle.subcommands.specs.Lines.{verdict_line}
+use Rattle.subcommands.specs.Status.{status_line}
 
 -- what a job is read from: what its reads gave before and after, and the bytes left before and after, where these are known
 pub record Reads : Type 0 where
@@ -43,6 +47,8 @@ LeavesText Pass telling job old new = Stands telling job old new Done
 LeavesText Fail telling job old new = (place : ℕ) × (profile : ℕ) × (finding : Reason) × Stands telling job old new (FailsOf place profile finding)
 LeavesText Help telling job old new = ⊥
 LeavesText Words telling job old new = ⊥
+LeavesText (Overwrites input) telling job old new = ⊥
+LeavesText (NotAllowed choice) telling job old new = ⊥
 LeavesText (Profile number line cause) telling job old new = ⊥
 LeavesText (Stopped error) telling job old new = (error ≢ NoProfile) × StandsInFront telling job old new
 
@@ -62,6 +68,8 @@ LeavesTextAndLine Pass telling job old new start end = Stands telling job old ne
 LeavesTextAndLine Fail telling job old new start end = StandsUpToFailure telling job old new (Adds start end)
 LeavesTextAndLine Help telling job old new start end = ⊥
 LeavesTextAndLine Words telling job old new start end = ⊥
+LeavesTextAndLine (Overwrites input) telling job old new start end = ⊥
+LeavesTextAndLine (NotAllowed choice) telling job old new start end = ⊥
 LeavesTextAndLine (Profile number line cause) telling job old new start end = ⊥
 LeavesTextAndLine (Stopped error) telling job old new start end = LeavesAtStopBeside error telling job old new start end
 
@@ -93,21 +101,45 @@ LeavesPages (Profile number line cause) IsPrinter job old new = IsUntouched job 
 LeavesPages (Stopped error) IsPrinter job old new = IsUntouched job old new ⊎ LeavesPagesOf (Stopped error) IsPrinter job old new
 LeavesPages status IsPrinter job old new = LeavesPagesOf status IsPrinter job old new
 
--- ---- a pinned job
+-- ---- a text in OUT
 
 -- nothing was read of the job, and nothing written, in OUT or on standard output
 abbrev pub IsUntouchedBeside : Reads → Written → Written → Written → Written → Type 0
 IsUntouchedBeside job old new start end = IsUntouched job old new × Stays start end
 
--- what `pin` leaves for a printer with this fact: the job that is pinned to its first panel, and beside it the line of the failure
-abbrev pub LeavesPinnedOf : Status → (Printer → Type 0) → Reads → Written → Written → Written → Written → Type 0
-LeavesPinnedOf status IsPrinter job old new start end = (printer : Printer) × IsPrinter printer × LeavesTextAndLine status (pinned_telling printer (first_panel printer)) job old new start end
+-- what is left of a text in OUT, and beside it of the line of the failure, where OUT may be a file that is read
+abbrev pub LeavesOut : Status → Telling → Reads → Written → Written → Written → Written → Type 0
+LeavesOut (Overwrites input) telling job old new start end = IsUntouchedBeside job old new start end
+LeavesOut status telling job old new start end = LeavesTextAndLine status telling job old new start end
+
+-- ---- a pinned job
+
+-- what `pin` leaves for a printer with this fact: the job that is pinned to the panel that is chosen, and beside it the line of the
+-- failure
+abbrev pub LeavesPinnedOf : Status → (Printer → Type 0) → List Choice → Reads → Written → Written → Written → Written → Type 0
+LeavesPinnedOf status IsPrinter choices job old new start end =
+    (printer : Printer) × (panel : Panel) × IsPrinter printer × (chosen_panel printer choices ≡ Ok panel)
+    × LeavesOut status (pinned_telling printer panel) job old new start end
 
 -- what `pin` leaves where it ends by this status
-abbrev pub LeavesPinned : Status → (Printer → Type 0) → Reads → Written → Written → Written → Written → Type 0
-LeavesPinned (Profile number line cause) IsPrinter job old new start end = IsUntouchedBeside job old new start end
-LeavesPinned (Stopped error) IsPrinter job old new start end = IsUntouchedBeside job old new start end ⊎ LeavesPinnedOf (Stopped error) IsPrinter job old new start end
-LeavesPinned status IsPrinter job old new start end = LeavesPinnedOf status IsPrinter job old new start end
+abbrev pub LeavesPinned : Status → (Printer → Type 0) → List Choice → Reads → Written → Written → Written → Written → Type 0
+LeavesPinned (Profile number line cause) IsPrinter choices job old new start end = IsUntouchedBeside job old new start end
+LeavesPinned (NotAllowed choice) IsPrinter choices job old new start end = IsUntouchedBeside job old new start end
+LeavesPinned (Stopped error) IsPrinter choices job old new start end =
+    IsUntouchedBeside job old new start end ⊎ LeavesPinnedOf (Stopped error) IsPrinter choices job old new start end
+LeavesPinned status IsPrinter choices job old new start end = LeavesPinnedOf status IsPrinter choices job old new start end
+
+-- what tells on standard error of a choice that the panel may not have: its line, or that memory ran out
+abbrev pub TellsOfChoice : Status → Printer → Choice → Bool → Written → Written → Type 0
+TellsOfChoice (NotAllowed told) printer choice failed old new = (told ≡ choice) × Writes failed old new (choice_line printer choice)
+TellsOfChoice (Stopped Memory) printer choice failed old new = Writes failed old new (status_line (Stopped Memory))
+TellsOfChoice _ printer choice failed old new = ⊥
+
+-- what `pin` writes on standard error where it ends by this status, for a printer with this fact
+abbrev pub TellsOfPin : Status → (Printer → Type 0) → List Choice → Bool → Written → Written → Type 0
+TellsOfPin (NotAllowed choice) IsPrinter choices failed old new =
+    (printer : Printer) × IsPrinter printer × (chosen_panel printer choices ≡ Err choice) × Writes failed old new (choice_line printer choice)
+TellsOfPin status IsPrinter choices failed old new = Writes failed old new (status_line status)
 
 -- where the profile is refused, it is the first one, and that is what is wrong with it
 abbrev pub RefusesOne : Option (List ℕ) → Status → Type 0

@@ -1,4 +1,5 @@
 pub mod Check
+pub mod Choices
 pub mod Explanations
 pub mod FileState
 pub mod Fleet

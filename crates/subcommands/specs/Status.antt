@@ -9,7 +9,9 @@ use Rattle.preflight.specs.declared.error.Error.TheVariants.{Memory, Read, Write
 use Rattle.preflight.specs.Source.{is_read}
 use Rattle.preflight.specs.Outlet.{is_write}
 use Rattle.subcommands.specs.declared.status.Status.{Status}
-use Rattle.subcommands.specs.declared.status.Status.TheVariants.{Pass, Fail, Help, Words, Profile, Stopped}
+use Rattle.subcommands.specs.declared.status.Input.{Input}
+use Rattle.subcommands.specs.declared.status.Input.TheVariants.{Job, Profile as TheProfile}
+use Rattle.subcommands.specs.declared.status.Status.TheVariants.{Pass, Fail, Help, Words, Overwrites, NotAllowed, Profile, Stopped}
 
 -- the number that the system is told
 abbrev pub code_of : Status → ℕ
@@ -17,6 +19,8 @@ code_of Pass = 0
 code_of Fail = 1
 code_of Help = 0
 code_of Words = 2
+code_of (Overwrites input) = 2
+code_of (NotAllowed choice) = 2
 code_of (Profile number line cause) = 2
 code_of (Stopped error) = 3
 
@@ -39,12 +43,20 @@ cause_name NoGeometry = codes "NoGeometry"
 abbrev pub refusal_line : ℕ → ℕ → Cause → List ℕ
 refusal_line number line cause = codes "ERROR profile " ++ decimal number ++ codes " " ++ decimal line ++ codes " " ++ cause_name cause ++ codes "\n"
 
--- what tells of the status on standard error
+-- OUT is a file that is read
+abbrev pub overwriting_line : Input → List ℕ
+overwriting_line Job = codes "error: OUT is JOB itself, which would be lost\n"
+overwriting_line TheProfile = codes "error: OUT is PROFILE itself, which would be lost\n"
+
+-- What tells of the status on standard error. Of a choice that a panel may not have it is another line, which has the values of the
+-- profile.
 abbrev pub status_line : Status → List ℕ
 status_line Pass = []
 status_line Fail = []
 status_line Help = []
 status_line Words = []
+status_line (Overwrites input) = overwriting_line input
+status_line (NotAllowed choice) = []
 status_line (Profile number line cause) = refusal_line number line cause
 status_line (Stopped error) = error_line error
 
@@ -54,10 +66,16 @@ is_answer Pass = true
 is_answer Fail = true
 is_answer _ = false
 
--- a profile is refused
+-- a profile is refused, or a choice that it does not allow
 abbrev pub is_refusal : Status → Bool
 is_refusal (Profile number line cause) = true
+is_refusal (NotAllowed choice) = true
 is_refusal _ = false
+
+-- OUT is a file that is read
+abbrev pub is_overwriting : Status → Bool
+is_overwriting (Overwrites input) = true
+is_overwriting _ = false
 
 -- the work stopped at a read that failed
 abbrev pub is_stop_of_read : Status → Bool

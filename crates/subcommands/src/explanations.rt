@@ -106,8 +106,9 @@ pub const EXPLANATIONS: [&str; 32] = [
            ESC &l#A, Orientation by ESC &l#O, Vmi by ESC &l#C or ESC &l#D and
            behind the orientation, which unsets it, Font by the symbol set and
            all of ESC (s#P, H, V, S, B and T, Copies by ESC &l#X, Sides by
-           ESC &l#S, Tray by ESC &l#H, LineTerm by ESC &k#G. If the panel
-           always has one value, let the profile list it alone.
+           ESC &l#S, Tray by ESC &l#H, LineTerm by ESC &k#G. The command pin
+           writes a job that sets all of it. If the panel always has one
+           value, let the profile list it alone.
   Manual:  \"The Print Environment\", user defaults
 ",
     "\

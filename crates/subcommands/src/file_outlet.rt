@@ -2,6 +2,7 @@
 ghost use Rattle.std.specs.Prelude.{◌≡◌, [], None, false, IsTrue, OnOk};
 ghost use Rattle.std.specs.Io.{WritesAtMost};
 
+use crate::file_id::FileId;
 use crate::opening::Create;
 use given::Given;
 use preflight::Outlet;
@@ -98,5 +99,12 @@ impl<R: Files> Create for FileOutlet<'_, R> {
         let result = self.create_once();
         self.has_failed = result.is_err();
         result
+    }
+
+    fn leads_to(&self, file: FileId) -> bool {
+        match fs::metadata(self.files, self.path) {
+            Ok(metadata) => FileId::of(&metadata) == Some(file),
+            Err(_) => false,
+        }
     }
 }

@@ -2,9 +2,11 @@
 ghost use Rattle.std.specs.Prelude.{◌≡◌, [], None, false, IsTrue, OnOk};
 ghost use Rattle.std.specs.Io.{ReadsAtMost};
 
+use crate::file_id::FileId;
 use crate::opening::Open;
 use given::Given;
 use preflight::Source;
+use std::fs::OpenFile;
 use std::io::Read;
 use std::marker::Model;
 use std::rt::Files;
@@ -17,6 +19,7 @@ pub struct FileSource<'a, R: Files> {
     files: &'a R,
     path: &'a str,
     opened: Option<R::File>,
+    file: Option<FileId>,
     given: Given,
     has_failed: bool,
 }
@@ -27,7 +30,7 @@ impl<'a, R: Files> Model for FileSource<'a, R> {
 
     ghost Value = { SourceState };
 
-    ghost view = { λ file. record { given = file.given.pieces; has_failed = file.has_failed; is_open = is_some file.opened } };
+    ghost view = { λ file. record { given = file.given.pieces; has_failed = file.has_failed; is_open = is_some file.opened; file = file.file } };
 }
 
 impl<'a, R: Files> FileSource<'a, R> {
@@ -40,6 +43,7 @@ impl<'a, R: Files> FileSource<'a, R> {
             files,
             path,
             opened: None,
+            file: None,
             given: Given::new(),
             has_failed: false,
         }
@@ -63,7 +67,9 @@ impl<'a, R: Files> FileSource<'a, R> {
         ensures failed { self.new.has_failed ≡ self.old.has_failed }
     {
         if self.opened.is_none() {
-            self.opened = Some(fs::open(self.files, self.path)?);
+            let file = fs::open(self.files, self.path)?;
+            self.file = file.metadata().ok().as_ref().and_then(FileId::of);
+            self.opened = Some(file);
         }
         Ok(())
     }
@@ -93,9 +99,15 @@ impl<R: Files> Source for FileSource<'_, R> {
 impl<R: Files> Open for FileSource<'_, R> {
     ghost opens = { λ _ file. IsTrue file.is_open };
 
+    ghost file = { λ file. file.file };
+
     fn open(&mut self) -> io::Result<()> {
         let result = self.open_once();
         self.has_failed = result.is_err();
         result
+    }
+
+    fn file(&self) -> Option<FileId> {
+        self.file
     }
 }

@@ -3,8 +3,10 @@ ghost use Rattle.std.specs.Prelude.{◌≡◌, ◌≤◌, [], false, take, lengt
 ghost use Rattle.preflight.specs.Source.{is_err_of_read};
 ghost use Rattle.subcommands.specs.Texts.{IsErrorOfReading, sample_named, text_named};
 
+use crate::file_id::FileId;
 use crate::file_source::FileSource;
 use crate::front::read_front;
+use crate::opening::Open;
 use crate::texts::{MOST_OF_TEXT, ProfileTexts};
 use device_profile::Sample;
 use given::Given;
@@ -19,6 +21,8 @@ pub struct FileTexts<'a, R: Files> {
     files: &'a R,
     given: Given,
     has_failed: bool,
+    /// The file of the last text, if it was one.
+    file: Option<FileId>,
 }
 
 impl<'a, R: Files> Model for FileTexts<'a, R> {
@@ -39,6 +43,7 @@ impl<'a, R: Files> FileTexts<'a, R> {
             files,
             given: Given::new(),
             has_failed: false,
+            file: None,
         }
     }
 
@@ -53,11 +58,13 @@ impl<'a, R: Files> FileTexts<'a, R> {
             let mut source = Watched::new(sample.text());
             let result = read_front(alloc, &mut source, MOST_OF_TEXT);
             self.has_failed = source.has_failed();
+            self.file = None;
             return result;
         }
         let mut file = FileSource::new(self.files, word);
         let result = read_front(alloc, &mut file, MOST_OF_TEXT);
         self.has_failed = file.has_failed();
+        self.file = file.file();
         result
     }
 }
@@ -75,6 +82,10 @@ impl<R: Files> ProfileTexts for FileTexts<'_, R> {
             self.given = self.given.and(text.as_slice());
         }
         result
+    }
+
+    fn file(&self) -> Option<FileId> {
+        self.file
     }
 }
 

@@ -2,8 +2,10 @@
 #![tactic(auto)]
 
 mod checking;
+mod choices;
 mod explaining;
 mod explanations;
+mod file_id;
 mod file_outlet;
 mod file_source;
 mod file_texts;
@@ -20,8 +22,10 @@ mod status;
 mod texts;
 
 pub use checking::check;
+pub use choices::{Choice, PANEL_FIELDS, PanelSetting, field_word};
 pub use explaining::explain;
 pub use explanations::EXPLANATIONS;
+pub use file_id::FileId;
 pub use file_outlet::FileOutlet;
 pub use file_source::FileSource;
 pub use file_texts::FileTexts;
@@ -32,5 +36,5 @@ pub use opening::{Create, Open};
 pub use paging::pages;
 pub use pinning::pin;
 pub use spelling::plain;
-pub use status::{Status, tell};
+pub use status::{Input, Status, tell};
 pub use texts::{MOST_OF_TEXT, ProfileTexts};

@@ -1,6 +1,8 @@
 //! Sources that are opened, and outlets that are created, apart from what is read and written.
-ghost use Rattle.std.specs.Prelude.{◌≡◌, IsFalse, OnOk, is_err};
+ghost use Rattle.std.specs.Prelude.{◌≡◌, Bool, false, IsFalse, IsSome, IsTrue, None, OnOk, Option, is_err};
+ghost use Rattle.subcommands.specs.declared.file_id.FileId.{FileId};
 
+use crate::file_id::FileId;
 use preflight::{Outlet, Source, Watched};
 use std::io;
 use std::io::{Read, Write};
@@ -10,6 +12,9 @@ pub trait Open: Source {
     // How it was before it was opened, and how it is behind that.
     ghost opens: { Self → Self → Type 0 };
 
+    // The file that was opened, where it is one that a write would change.
+    ghost file: { Self → Option FileId };
+
     /// Opens the source, of which nothing is read yet.
     fn open(&mut self) -> io::Result<()>
         requires { IsFalse (Self.failed self.old) }
@@ -17,6 +22,10 @@ pub trait Open: Source {
         ensures remaining { Self.remaining self.new ≡ Self.remaining self.old }
         ensures given { Self.given self.new ≡ Self.given self.old }
         ensures status { Self.failed self.new ≡ is_err result };
+
+    /// The file that was opened, where it is one that a write would change.
+    fn file(&self) -> Option<FileId>
+        ensures { result ≡ file self.now };
 }
 
 /// An outlet that can be created before its first write.
@@ -30,14 +39,33 @@ pub trait Create: Outlet {
         ensures created { OnOk result (creates self.old self.new) }
         ensures written { Self.written self.new ≡ Self.written self.old }
         ensures status { Self.failed self.new ≡ is_err result };
+
+    /// Whether this file is what would be written, once the outlet is created. No clause can say what stands at a path.
+    fn leads_to(&self, file: FileId) -> bool;
+}
+
+/// Whether a file, if there is one, would be written once the outlet is created.
+pub(crate) fn overwrites<W: Create>(out: &W, file: Option<FileId>) -> bool
+    ensures { IsTrue result → IsSome file }
+{
+    match file {
+        Some(file) => out.leads_to(file),
+        None => false,
+    }
 }
 
 impl<T: Read> Open for Watched<T> {
     ghost opens = { λ old new. new ≡ old };
 
+    ghost file = { λ _. None };
+
     /// What is watched is open from the start.
     fn open(&mut self) -> io::Result<()> {
         Ok(())
+    }
+
+    fn file(&self) -> Option<FileId> {
+        None
     }
 }
 
@@ -47,5 +75,9 @@ impl<T: Write> Create for Watched<T> {
     /// What is watched is there from the start.
     fn create(&mut self) -> io::Result<()> {
         Ok(())
+    }
+
+    fn leads_to(&self, _file: FileId) -> bool {
+        false
     }
 }

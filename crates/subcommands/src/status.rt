@@ -3,13 +3,23 @@ ghost use Rattle.std.specs.Prelude.{◌≡◌, IsFalse, map};
 ghost use Rattle.std.specs.List.{concat};
 ghost use Rattle.preflight.specs.Outlet.{Writes};
 ghost use Rattle.preflight.specs.declared.error.Error.TheVariants.{Memory};
-ghost use Rattle.subcommands.specs.Status.{code_of, cause_name, error_line, refusal_line, status_line};
+ghost use Rattle.subcommands.specs.Status.{code_of, cause_name, error_line, overwriting_line, refusal_line, status_line};
 ghost use Rattle.subcommands.specs.declared.status.Status.TheVariants.{Stopped};
 
+use crate::choices::Choice;
 use device_profile::Cause;
 use itoa::Buffer;
 use preflight::{Error, Outlet, write_text};
 use std::alloc::AllocFailed;
+
+/// What the program reads.
+#[derive(Clone, Copy, Debug, PartialEq, Eq)]
+pub enum Input {
+    /// The file JOB.
+    Job,
+    /// The file PROFILE.
+    Profile,
+}
 
 /// How the program ends.
 #[derive(Clone, Copy, Debug, PartialEq, Eq)]
@@ -22,6 +32,10 @@ pub enum Status {
     Help,
     /// The words ask for nothing that there is.
     Words,
+    /// OUT is a file that is read.
+    Overwrites(Input),
+    /// The panel of the printer may not have this value.
+    NotAllowed(Choice),
     /// A profile is refused: the one of this number, counted from 1, at this line of its text,
     /// counted from 1, or as a whole, with line 0.
     Profile {
@@ -41,7 +55,10 @@ impl Status {
         match self {
             Status::Pass | Status::Help => 0,
             Status::Fail => 1,
-            Status::Words | Status::Profile { .. } => 2,
+            Status::Words
+            | Status::Overwrites(_)
+            | Status::NotAllowed(_)
+            | Status::Profile { .. } => 2,
             Status::Stopped(_) => 3,
         }
     }
@@ -77,7 +94,10 @@ pub fn tell<E: Outlet>(status: Status, stderr: &mut E) -> Status
             cause,
         } => write_refusal(stderr, number, line, cause),
         Status::Stopped(error) => write_text(stderr, error_line(error)),
-        Status::Pass | Status::Fail | Status::Help | Status::Words => Ok(()),
+        Status::Overwrites(input) => write_text(stderr, overwriting_line(input)),
+        Status::Pass | Status::Fail | Status::Help | Status::Words | Status::NotAllowed(_) => Ok(
+            (),
+        ),
     };
     status
 }
@@ -91,6 +111,15 @@ fn error_line(error: Error) -> &'static [u8]
         Error::Write => b"ERROR write\n",
         Error::Turns => b"ERROR turns\n",
         Error::NoProfile => b"ERROR no profile\n",
+    }
+}
+
+fn overwriting_line(input: Input) -> &'static [u8]
+    ensures { result.now ≡ overwriting_line input }
+{
+    match input {
+        Input::Job => b"error: OUT is JOB itself, which would be lost\n",
+        Input::Profile => b"error: OUT is PROFILE itself, which would be lost\n",
     }
 }
 

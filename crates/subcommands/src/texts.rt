@@ -3,6 +3,7 @@ ghost use Rattle.std.specs.Prelude.{◌≡◌, ◌≤◌, ℕ, Bool, List, ◌++
 ghost use Rattle.preflight.specs.Source.{is_err_of_read};
 ghost use Rattle.subcommands.specs.Texts.{IsErrorOfReading, text_read};
 
+use crate::file_id::FileId;
 use preflight::Error;
 use std::alloc::Allocator;
 
@@ -33,4 +34,9 @@ pub trait ProfileTexts {
         ensures errors { IfErr result IsErrorOfReading }
         ensures same { text_of self.new ≡ text_of self.old }
         ensures status { failed self.new ≡ is_err_of_read result };
+
+    /// The file that the last text was read from, if it was one.
+    fn file(&self) -> Option<FileId> {
+        None
+    }
 }

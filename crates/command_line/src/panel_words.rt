@@ -1,0 +1,94 @@
+//! What the words of `--panel` choose.
+
+use device_profile::Field;
+use std::alloc::{AllocError, Global};
+use subcommands::{Choice, PANEL_FIELDS, field_word};
+use thiserror::Error;
+
+/// Why the words of `--panel` choose nothing.
+#[derive(Clone, Copy, Debug, PartialEq, Eq, Drop, Error)]
+pub enum ChoiceFault<'a> {
+    #[error("--panel: '{0}' is not of the form FIELD=VALUE")]
+    Form(&'a str),
+    #[error("--panel: there is no field '{0}'; the fields are size, orientation, vmi, font, copies, sides, tray and lineterm")]
+    Field(&'a str),
+    #[error("--panel: '{0}' has no whole number, or for vmi none with up to four decimals")]
+    Value(&'a str),
+    #[error("--panel: '{0}' chooses for a field that was chosen for")]
+    Repeated(&'a str),
+    #[error("out of memory")]
+    Memory(#[from(alloc)] AllocError),
+}
+
+/// The choices that words name, as `size=26,vmi=7.5` does.
+pub(crate) fn read_choices<'a>(
+    alloc: Global,
+    words: &'a str,
+) -> Result<Vec<Choice>, ChoiceFault<'a>> {
+    let mut choices: Vec<Choice> = Vec::new(alloc);
+    for word in words.split(',') {
+        let choice = choice_of(word)?;
+        if choices.iter().any(|earlier| earlier.field == choice.field) {
+            return Err(ChoiceFault::Repeated(word));
+        }
+        choices.push(choice)?;
+    }
+    Ok(choices)
+}
+
+/// The choice that a word names, as `size=26` does.
+fn choice_of(word: &str) -> Result<Choice, ChoiceFault<'_>> {
+    let Some((name, value)) = word.split_once('=') else {
+        return Err(ChoiceFault::Form(word));
+    };
+    let Some(field) = field_of(name) else {
+        return Err(ChoiceFault::Field(name));
+    };
+    let Some(value) = value_of(field, value) else {
+        return Err(ChoiceFault::Value(word));
+    };
+    Ok(Choice { field, value })
+}
+
+fn field_of(name: &str) -> Option<Field> {
+    PANEL_FIELDS
+        .iter()
+        .copied()
+        .find(|field| field_word(*field) == name)
+}
+
+/// The value of a field, as a profile's text has it.
+fn value_of(field: Field, word: &str) -> Option<u32> {
+    if field == Field::Vmi {
+        ten_thousandths_of(word)
+    } else {
+        digits_of(word)
+    }
+}
+
+/// The ten-thousandths of a number with up to four decimals.
+fn ten_thousandths_of(word: &str) -> Option<u32> {
+    let Some((whole, decimals)) = word.split_once('.') else {
+        return digits_of(word)?.checked_mul(10_000);
+    };
+    let whole = digits_of(whole)?.checked_mul(10_000)?;
+    whole.checked_add(decimals_of(decimals)?)
+}
+
+/// What a digit counts that is the last of so many decimals, the first decimal at 0.
+const SCALES: [u32; 4] = [1000, 100, 10, 1];
+
+/// The ten-thousandths that one to four decimals are.
+fn decimals_of(word: &str) -> Option<u32> {
+    let scale = SCALES.get(word.len().checked_sub(1)?)?;
+    digits_of(word)?.checked_mul(*scale)
+}
+
+/// The number that digits are.
+fn digits_of(word: &str) -> Option<u32> {
+    if word.as_bytes().iter().all(u8::is_ascii_digit) {
+        word.parse().ok()
+    } else {
+        None
+    }
+}

@@ -1,0 +1,60 @@
+-- What is chosen at the panel of a printer.
+use Rattle.std.specs.Prelude.{ℕ, ◌==◌, Bool, List, [], ◌∷◌, ◌++◌, flat_map, codes, Result, Ok, Err, if◌then◌else◌}
+use Rattle.std.specs.List.{list_any}
+use Rattle.device_profile.specs.declared.field.Field.{Field}
+use Rattle.device_profile.specs.declared.field.Field.TheVariants.{Size, Orientation, Vmi, Font, Copies, Sides, Tray, LineTerm}
+use Rattle.device_profile.specs.declared.panel.Panel.{Panel}
+use Rattle.device_profile.specs.Printer.{Printer, values_of, first_panel}
+use Rattle.line_words.specs.Figures.{number_word, value_word}
+use Rattle.subcommands.specs.declared.choices.Choice.{Choice}
+
+-- the panel has this value in this field
+abbrev pub with_value : Panel → ℕ → Field → Panel
+with_value panel value Size = record panel { size = value }
+with_value panel value Orientation = record panel { orientation = value }
+with_value panel value Vmi = record panel { vmi = value }
+with_value panel value Font = record panel { font = value }
+with_value panel value Copies = record panel { copies = value }
+with_value panel value Sides = record panel { sides = value }
+with_value panel value Tray = record panel { tray = value }
+with_value panel value LineTerm = record panel { line_termination = value }
+
+abbrev pub with_choice : Panel → Choice → Panel
+with_choice panel choice = with_value panel choice.value choice.field
+
+-- whether the printer's panel may have it
+abbrev pub is_choice : Printer → Choice → Bool
+is_choice printer choice = list_any (λ value. value == choice.value) (values_of printer choice.field)
+
+-- the panel with each chosen value in its field, or the first choice that it may not have
+abbrev pub chosen_from : Printer → Panel → List Choice → Result Panel Choice
+chosen_from printer panel [] = Ok panel
+chosen_from printer panel (choice ∷ choices) =
+    if is_choice printer choice then chosen_from printer (with_choice panel choice) choices else Err choice
+
+-- so with the first panel
+abbrev pub chosen_panel : Printer → List Choice → Result Panel Choice
+chosen_panel printer choices = chosen_from printer (first_panel printer) choices
+
+-- ---- the line of a choice that the panel may not have
+
+-- a field's key in a profile's text
+abbrev pub field_word : Field → List ℕ
+field_word Size = codes "size"
+field_word Orientation = codes "orientation"
+field_word Vmi = codes "vmi"
+field_word Font = codes "font"
+field_word Copies = codes "copies"
+field_word Sides = codes "sides"
+field_word Tray = codes "tray"
+field_word LineTerm = codes "lineterm"
+
+-- a value behind a space, as a profile's text has it
+abbrev pub choice_word : Field → ℕ → List ℕ
+choice_word Vmi value = value_word value
+choice_word _ value = number_word value
+
+abbrev pub choice_line : Printer → Choice → List ℕ
+choice_line printer choice =
+    codes "error: --panel: PROFILE does not allow " ++ field_word choice.field ++ choice_word choice.field choice.value
+    ++ codes "; it allows" ++ flat_map (choice_word choice.field) (values_of printer choice.field) ++ codes "\n"

@@ -1,0 +1,141 @@
+//! What is chosen at the panel of a printer, in place of the first value of a field.
+ghost use Rattle.std.specs.Prelude.{◌≡◌, ◌++◌, IfOk, OnOk, flat_map};
+ghost use Rattle.device_profile.specs.Printer.{IsAllowed};
+ghost use Rattle.subcommands.specs.Choices.{choice_line, choice_word, chosen_panel, field_word, is_choice, with_choice};
+
+use device_profile::{Field, Panel, Profile};
+use line_words::{push_number_word, push_value_word};
+use std::alloc::{AllocError, Allocator};
+
+/// A value that is chosen for a field of the panel.
+#[derive(Clone, Copy, Debug, PartialEq, Eq)]
+pub struct Choice {
+    pub field: Field,
+    /// The VMI in ten-thousandths of 1/48 inch; each other field as its command numbers it.
+    pub value: u32,
+}
+
+/// The printer that a word names, and what is chosen at its panel. Each other field has its first value.
+#[derive(Clone, Copy)]
+pub struct PanelSetting<'a> {
+    /// The word PROFILE.
+    pub profile: &'a str,
+    /// At most one for each field.
+    pub choices: &'a [Choice],
+}
+
+/// The fields of the panel, in the order in which unset ones are reported.
+pub const PANEL_FIELDS: [Field; 8] = [
+    Field::Size,
+    Field::Orientation,
+    Field::Vmi,
+    Field::Font,
+    Field::Copies,
+    Field::Sides,
+    Field::Tray,
+    Field::LineTerm,
+];
+
+/// The word of a field, which is its key in a profile's text.
+pub fn field_word(field: Field) -> &'static str
+    ensures { result.now ≡ field_word field }
+{
+    match field {
+        Field::Size => "size",
+        Field::Orientation => "orientation",
+        Field::Vmi => "vmi",
+        Field::Font => "font",
+        Field::Copies => "copies",
+        Field::Sides => "sides",
+        Field::Tray => "tray",
+        Field::LineTerm => "lineterm",
+    }
+}
+
+/// The panel has this value in its field.
+fn choose(panel: &mut Panel, choice: Choice)
+    ensures { panel.new ≡ with_choice panel.old choice }
+{
+    match choice.field {
+        Field::Size => panel.size = choice.value,
+        Field::Orientation => panel.orientation = choice.value,
+        Field::Vmi => panel.vmi = choice.value,
+        Field::Font => panel.font = choice.value,
+        Field::Copies => panel.copies = choice.value,
+        Field::Sides => panel.sides = choice.value,
+        Field::Tray => panel.tray = choice.value,
+        Field::LineTerm => panel.line_termination = choice.value,
+    }
+}
+
+/// Whether the printer's panel may have this value.
+fn is_choice<A: Allocator>(profile: &Profile<A>, choice: Choice) -> bool
+    ensures { result ≡ is_choice profile.now choice }
+{
+    profile.allowed(choice.field).contains(&choice.value)
+}
+
+/// The first panel with each chosen value in its field, or the first choice that the panel may not have.
+pub(crate) fn chosen_panel<A: Allocator>(
+    profile: &Profile<A>,
+    choices: &[Choice],
+) -> Result<Panel, Choice>
+    ensures value { result ≡ chosen_panel profile.now choices.now }
+    ensures allowed { IfOk result (IsAllowed profile.now) }
+{
+    let mut panel = profile.first_panel();
+    for choice in choices {
+        if !is_choice(profile, *choice) {
+            return Err(*choice);
+        }
+        choose(&mut panel, *choice);
+    }
+    Ok(panel)
+}
+
+/// Appends a space and a value of a field, as a profile's text has it.
+fn push_choice_word<A: Allocator>(
+    line: &mut Vec<u8, A>,
+    field: Field,
+    value: u32,
+) -> Result<(), AllocError>
+    ensures { OnOk result (line.new.items ≡ line.old.items ++ choice_word field value) }
+{
+    if field == Field::Vmi {
+        push_value_word(line, value)
+    } else {
+        push_number_word(line, u64::from(value))
+    }
+}
+
+/// Appends values of a field, each behind a space.
+fn push_choice_words<A: Allocator>(
+    line: &mut Vec<u8, A>,
+    field: Field,
+    values: &[u32],
+) -> Result<(), AllocError>
+    ensures { OnOk result (line.new.items ≡ line.old.items ++ flat_map (choice_word field) values.now) }
+{
+    for value in values {
+        push_choice_word(line, field, *value)?;
+    }
+    Ok(())
+}
+
+/// The line that tells which choice the panel may not have, and which values its field has.
+pub(crate) fn choice_line<A: Allocator, P: Allocator>(
+    alloc: A,
+    profile: &Profile<P>,
+    choice: Choice,
+) -> Result<Vec<u8, A>, AllocError>
+    ensures { IfOk result (λ line. line.items ≡ choice_line profile.now choice) }
+{
+    let mut line = Vec::new(alloc);
+    line.extend_from_slice(b"error: --panel: PROFILE does not allow ")?;
+    line.extend_from_slice(field_word(choice.field).as_bytes())?;
+    push_choice_word(&mut line, choice.field, choice.value)?;
+    line.extend_from_slice(b"; it allows")?;
+    push_choice_words(&mut line, choice.field, profile.allowed(choice.field))?;
+    line.push(b'\n')?;
+    Ok(line)
+}
