@@ -18,21 +18,18 @@ use Rattle.page_env.specs.declared.macros.Control.TheVariants.{Begin, End, Execu
 use Rattle.page_env.specs.declared.motion.Feed.{Feed}
 use Rattle.page_env.specs.declared.motion.Feed.TheVariants.{Line as WholeLine, HalfLine}
 use Rattle.page_env.specs.declared.page.Cursor.{Cursor}
-use Rattle.page_env.specs.declared.page.PenPlace.{PenPlace}
 use Rattle.page_env.specs.Settings.{Flags, Settings, State, unwatched}
 use Rattle.page_env.specs.Numbers.{whole_of}
 use Rattle.page_env.specs.CursorPositioning.{push_cursor, popped, pop_cursor}
 use Rattle.page_env.specs.Effect.{Line, moving, reading, Transition, Step, Closes}
 use Rattle.page_env.specs.Frames.{leave_at_pen, enter_frame, leave_frame}
-use Rattle.page_env.specs.Motion.{at_home, fed_to, is_past_bottom, feed_down, feed_by, carriage_return, before_feed, line_termination}
-use Rattle.page_env.specs.PageControl.{set_source}
+use Rattle.page_env.specs.Motion.{at_home, fed_to, is_past_bottom, feed_down, feed_by, carriage_return, line_termination}
 use Rattle.page_env.specs.Pens.{set_pen, pen_target, draw, carry_pen, motion_step}
 use Rattle.page_env.specs.Places.{page_and_line_reads}
 use Rattle.page_env.specs.Text.{character, space, transparent_space}
 use Rattle.page_env.specs.Table.{command_transition}
-use Rattle.page_env.specs.Macros.{control_of, control_line, overlay_after, overlay_without}
-use Rattle.page_env.specs.Text.{print_byte, print_transparent}
-use Rattle.page_env.specs.Pens.{move_pen}
+use Rattle.page_env.specs.Macros.{control_of, overlay_without}
+use Rattle.page_env.specs.Text.{print_byte}
 use Rattle.page_env.specs.CursorPositioning.{use_stack}
 use Rattle.page_env.specs.Pinned.{enables_overlay, returns_to_panel, AreBare, IsBare, KeepsBare, IsBareItem, IsBareControl, IsBareByte, IsBareMove}
 

@@ -13,10 +13,8 @@ use Rattle.pcl_items.specs.Items.{Entry, Text, CarriageReturn, LineFeed, FormFee
 use Rattle.pcl_items.specs.declared.number.Sign.{Sign}
 use Rattle.pcl_items.specs.declared.number.Sign.TheVariants.{Absent, Plus, Minus}
 use Rattle.pcl_items.specs.Value.{Amount}
-use Rattle.device_profile.specs.declared.field.Field.{Field}
 use Rattle.device_profile.specs.declared.field.Field.TheVariants.{Size as SizeField, Orientation as OrientationField}
 use Rattle.device_profile.specs.Printer.{Printer}
-use Rattle.page_env.specs.declared.macros.Control.{Control}
 use Rattle.page_env.specs.declared.macros.Control.TheVariants.{Begin, End, Execute, Call, EnableOverlay, DisableOverlay, DeleteAll, Delete, MakeTemporary}
 use Rattle.page_env.specs.declared.motion.Feed.{Feed}
 use Rattle.page_env.specs.declared.motion.Feed.TheVariants.{Line as WholeLine, HalfLine}
@@ -25,12 +23,12 @@ use Rattle.page_env.specs.declared.page.PenPlace.{PenPlace}
 use Rattle.page_env.specs.Settings.{Settings, State, unwatched}
 use Rattle.page_env.specs.Numbers.{whole_of}
 use Rattle.page_env.specs.CursorPositioning.{push_cursor, popped, pop_cursor, relative_reads}
-use Rattle.page_env.specs.Effect.{first_unset, Line, moving, reading, Transition, Step, Closes}
+use Rattle.page_env.specs.Effect.{Line, moving, reading, Transition, Step, Closes}
 use Rattle.page_env.specs.Frames.{leave_at_pen, enter_frame, leave_frame}
-use Rattle.page_env.specs.Motion.{at_home, fed_to, is_past_bottom, feed_down, feed_by, carriage_return, before_feed, line_termination}
+use Rattle.page_env.specs.Motion.{at_home, fed_to, is_past_bottom, feed_down, feed_by, carriage_return, line_termination}
 use Rattle.page_env.specs.PageControl.{set_source}
 use Rattle.page_env.specs.Pens.{set_pen, pen_target, draw, carry_pen, motion_step}
-use Rattle.page_env.specs.Places.{page_reads, page_and_line_reads, column_reads, vertical_reads}
+use Rattle.page_env.specs.Places.{page_reads, page_and_line_reads, vertical_reads}
 use Rattle.page_env.specs.Text.{character, space, transparent_space, text_reads}
 use Rattle.page_env.specs.Table.{command_transition}
 use Rattle.page_env.specs.Pinned.{pinned, AreSet, returns_to_panel, GoesPinned, GoesPinnedBy, IsPinnedItem, IsPinnedControl, IsPinnedByte, IsPinnedMove}

@@ -17,13 +17,13 @@ use Rattle.page_env.specs.Settings.{Settings, State}
 use Rattle.page_env.specs.Pinned.{is_orientation, pinned, returns_to_panel, IsPinnedItem, IsPinnedControl, IsPinnedByte, IsPinnedMove, AreBare, IsBare, IsBareItem, IsBareControl, IsBareByte, IsBareMove}
 use Rattle.page_machine.specs.declared.nesting.Nesting.{Nesting}
 use Rattle.page_machine.specs.Event.{Event}
-use Rattle.page_machine.specs.Run.{Peaks, Run, just, after, onward, followed_by, finding_or, unset_or, goes, Ending, Done, Halts, Conditions, item_run, entries_run}
+use Rattle.page_machine.specs.Run.{Peaks, Run, just, onward, followed_by, finding_or, unset_or, goes, Ending, Done, Halts, item_run, entries_run}
 use Rattle.page_machine.specs.Macros.{Context, is_macro, fixes_paper, executed_in, called_in, ending_with, put_back, found_run, control_body, control_run, conditions_in, raster_ended, at_level, body_run, closing_reads, ended, overlay_run, is_too_deep, page_close}
 use Rattle.page_machine.specs.Job.{with_macros}
 use Rattle.page_machine.specs.Laws.{IsSet}
 use Rattle.page_machine.specs.Pinning.{spacing}
 use Rattle.page_machine.proofs.Composed.{onward-append}
-use Rattle.page_machine.proofs.PinnedRuns.{pinned_ending, EndsBare, Alike, line_is_set, followed_alike, after_alike, done_alike, halts_alike, cond_alike, finding_alike, reads_alike, item_alike, orientation_alike}
+use Rattle.page_machine.proofs.PinnedRuns.{pinned_ending, EndsBare, Alike, line_is_set, followed_alike, after_alike, done_alike, halts_alike, finding_alike, reads_alike, item_alike, orientation_alike}
 
 -- ---- bodies of items
 

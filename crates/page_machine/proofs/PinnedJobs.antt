@@ -1,20 +1,18 @@
 -- Items of a job, and the macros that they store, go alike where the job has set all that the panel chooses.
-use Rattle.std.proofs.Common.{◌≡◌, ℕ, ◌+◌, ◌≤◌, nat_lt, nat_eq, length, Bool, true, false, cond, is_some, List, [], ◌∷◌, ◌++◌, map, append-nil, refl, ap, sym, ◌∙◌, subst, ltb-false, le-ltb, Option, Some, None, option_map}
+use Rattle.std.proofs.Common.{◌≡◌, ℕ, ◌+◌, ◌≤◌, nat_lt, nat_eq, length, Bool, true, false, cond, is_some, List, [], ◌∷◌, ◌++◌, refl, ap, sym, ◌∙◌, subst, ltb-false, le-ltb, Option, Some, None, option_map}
 use Rattle.std.specs.List.{AllByRecursion}
 use Rattle.std.specs.Map.{lookup, remove_entry}
 use Rattle.std.proofs.Math.Nat.{le_refl, le_trans, add-le-add}
-use Rattle.pcl_items.specs.declared.command.Command.TheVariants.{Orientation, MacroControl}
+use Rattle.pcl_items.specs.declared.command.Command.TheVariants.{Orientation}
 use Rattle.pcl_items.specs.Canon.{canon}
 use Rattle.pcl_items.specs.Items.{Entry, Parameterized}
 use Rattle.pcl_items.specs.Value.{Amount}
 use Rattle.device_profile.specs.Printer.{Printer}
-use Rattle.macro_store.specs.Store.{Store, body_of, stored_bytes, began, with_item, appended, bodies_with, committed, deleted, cleared}
-use Rattle.page_env.specs.declared.finding.Finding.{Finding}
+use Rattle.macro_store.specs.Store.{Store, stored_bytes, with_item, appended, bodies_with, cleared}
 use Rattle.page_env.specs.declared.finding.Finding.TheVariants.{MacroMemory, DefinitionOpen}
 use Rattle.page_env.specs.declared.macros.Control.{Control}
-use Rattle.page_env.specs.declared.macros.Control.TheVariants.{Begin, End, DeleteAll, Delete}
+use Rattle.page_env.specs.declared.macros.Control.TheVariants.{Begin, DeleteAll, Delete}
 use Rattle.page_env.specs.Effect.{check, first_finding}
-use Rattle.page_env.specs.Macros.{control_of}
 use Rattle.page_env.specs.Settings.{Settings, State}
 use Rattle.page_env.specs.Pinned.{is_orientation, pinned, returns_to_panel, IsBare}
 use Rattle.page_machine.specs.declared.defining.Defining.{Defining}
@@ -26,11 +24,11 @@ use Rattle.page_machine.specs.Run.{Peaks, Run, just, after, onward, followed_by,
 use Rattle.page_machine.specs.Macros.{Context, in_job, body_run, page_close}
 use Rattle.page_machine.specs.Pinning.{spacing, HasRoom}
 use Rattle.page_env.specs.JobControl.{is_reset}
-use Rattle.page_machine.specs.Defining.{control_in, defining_of, defining_control, of_memory, defining_run, defined_after, controlled_after, carried_after, is_defining, job_item_run, macros_after}
+use Rattle.page_machine.specs.Defining.{control_in, defining_of, of_memory, defining_run, defined_after, controlled_after, carried_after, is_defining, job_item_run, macros_after}
 use Rattle.page_machine.specs.Job.{with_macros}
 use Rattle.page_machine.proofs.PinnedRuns.{Alike, done_alike, halts_alike}
-use Rattle.page_machine.proofs.PinnedBodies.{pin_body, CanBePinned, AreAllPinned, AreLaws, ArePinnedDefaults, ArePinnedMacros, body_alike, nested_alike, nested_turn}
-use Rattle.page_machine.proofs.PinnedStore.{pin_entry, pinned_store, appended_all, IsPinnedDefinition, body_pinned, began_pinned, deleted_pinned, cleared_pinned, committed_pinned, appended_pinned, stored_le}
+use Rattle.page_machine.proofs.PinnedBodies.{CanBePinned, AreAllPinned, AreLaws, ArePinnedDefaults, ArePinnedMacros, body_alike, nested_alike, nested_turn}
+use Rattle.page_machine.proofs.PinnedStore.{pin_entry, pinned_store, appended_all, IsPinnedDefinition, body_pinned, began_pinned, deleted_pinned, committed_pinned, appended_pinned, stored_le}
 
 -- ---- unless memory ends the second
 

@@ -1,20 +1,19 @@
 -- Items of a job one after another give the same events, and end with the same finding, as those of the pinned job that stand there.
-use Rattle.std.proofs.Common.{◌≡◌, ℕ, Bool, true, false, cond, List, [], ◌∷◌, ◌++◌, refl, ap, sym, ◌∙◌, subst, append_assoc, Option, Some, None, ◌⊎◌, inl, inr}
-use Rattle.pcl_items.specs.Items.{Entry, Placed}
+use Rattle.std.proofs.Common.{◌≡◌, ℕ, Bool, false, cond, List, [], ◌∷◌, ◌++◌, refl, ap, sym, ◌∙◌, subst, append_assoc, None, ◌⊎◌, inl, inr}
+use Rattle.pcl_items.specs.Items.{Placed}
 use Rattle.device_profile.specs.Printer.{Printer}
 use Rattle.macro_store.specs.Store.{Store}
 use Rattle.page_env.specs.declared.finding.Finding.{Finding}
-use Rattle.page_env.specs.declared.finding.Finding.TheVariants.{MacroMemory}
 use Rattle.page_env.specs.Settings.{Settings, State}
 use Rattle.page_env.specs.Pinned.{pinned, IsBare}
-use Rattle.page_machine.specs.Defining.{is_defining, defining_of, defining_run, defined_after, carried_after, job_item_run, macros_after}
+use Rattle.page_machine.specs.Defining.{is_defining, defining_of, defining_run, defined_after, carried_after}
 use Rattle.page_machine.specs.Event.{Event}
 use Rattle.page_machine.specs.Job.{JobRun, events_of, begun_with, one_item, ended_item, after_item, with_macros, items_run}
 use Rattle.page_machine.specs.Laws.{IsSet, IsSetFinding}
 use Rattle.page_machine.specs.Macros.{in_job}
 use Rattle.page_machine.specs.Pinning.{HasRoom, IsSameOutcome}
 use Rattle.page_machine.specs.Run.{Peaks, Run, after, onward, followed_by, Ending, Done, Halts, item_run}
-use Rattle.page_machine.proofs.PinnedRuns.{pinned_ending, EndsBare, Alike}
+use Rattle.page_machine.proofs.PinnedRuns.{pinned_ending, EndsBare}
 use Rattle.page_machine.proofs.PinnedJobs.{AlikeInRoom}
 
 -- unless the second has no room for its bodies

@@ -1,5 +1,5 @@
 -- The items that set what a panel chooses: their checks pass, and each sets its field.
-use Rattle.std.proofs.Common.{◌≡◌, ◌<◌, ℕ, ℤ, pos, negsuc, zero, suc, ◌*◌, ◌==◌, ◌&&◌, nat_lt, nat_le, not, Bool, true, false, cond, is_some, List, [], ◌∷◌, ◌++◌, drop, refl, ap, sym, ◌∙◌, subst, ltb-true, Option, Some, None, int_lt, ◌-ℤ◌, if◌then◌else◌, arith}
+use Rattle.std.proofs.Common.{◌≡◌, ℕ, ℤ, pos, negsuc, suc, ◌==◌, ◌&&◌, nat_lt, nat_le, not, Bool, true, false, cond, List, [], ◌∷◌, ◌++◌, drop, refl, ap, sym, ◌∙◌, subst, ltb-true, Option, Some, None, int_lt, ◌-ℤ◌, if◌then◌else◌, arith}
 use Rattle.std.proofs.Math.Nat.{mul-div_cancel, mul-mod_left}
 use Rattle.std.proofs.lemmas.Bool.Decides.{nat_tests}
 use Rattle.std.proofs.lemmas.Int.{ints}
@@ -12,8 +12,7 @@ use Rattle.device_profile.specs.declared.panel.Panel.{Panel}
 use Rattle.device_profile.specs.Printer.{Printer, has_size, has_orientation, has_tray}
 use Rattle.page_env.specs.declared.finding.Finding.{Finding}
 use Rattle.page_env.specs.declared.finding.Finding.TheVariants.{BadValue, NotOnDevice, InMacro}
-use Rattle.page_env.specs.declared.page.FontParts.{FontParts}
-use Rattle.page_env.specs.Effect.{check, first_finding, fails_or, Effect, Goes, GoesThenCloses}
+use Rattle.page_env.specs.Effect.{check, first_finding, fails_or, Goes, GoesThenCloses}
 use Rattle.page_env.specs.Fonts.{with_font}
 use Rattle.page_env.specs.JobControl.{set_copies, sides_checks, set_sides}
 use Rattle.page_env.specs.Motion.{with_vmi, set_line_termination}
@@ -25,10 +24,10 @@ use Rattle.page_env.specs.Pinned.{pinned, with_all_parts}
 use Rattle.macro_store.specs.Store.{Store}
 use Rattle.page_machine.specs.Defining.{is_defining}
 use Rattle.page_machine.specs.Job.{JobRun, with_macros, items_run}
-use Rattle.page_machine.specs.Pinning.{unsigned, whole, weight_amount, spacing, prologue, placed_from}
+use Rattle.page_machine.specs.Pinning.{unsigned, whole, weight_amount, prologue, placed_from}
 use Rattle.page_machine.specs.Macros.{in_job}
 use Rattle.page_machine.proofs.PinnedOrder.{EndAlike, LeadsTo, led_on}
-use Rattle.page_machine.specs.Run.{peaks_of, Run, just, after, onward, followed_by, Ending, Done, Halts, goes, effect_run, marked_close, close_and_change, Conditions, item_run}
+use Rattle.page_machine.specs.Run.{peaks_of, just, after, followed_by, Done, Halts, effect_run, close_and_change, Conditions, item_run}
 
 -- ---- whole numbers, without a sign
 

@@ -1,7 +1,7 @@
 -- The store of a pinned job: that of the job itself, with every body and the open definition pinned.
-use Rattle.std.proofs.Common.{◌≡◌, ℕ, zero, suc, ◌+◌, ◌≤◌, nat_eq, length, Bool, true, false, cond, List, [], ◌∷◌, ◌++◌, map, refl, ap, sym, ◌∙◌, subst, Option, Some, None, option_map}
+use Rattle.std.proofs.Common.{◌≡◌, ℕ, ◌+◌, ◌≤◌, nat_eq, length, Bool, true, false, cond, List, [], ◌∷◌, ◌++◌, map, refl, ap, sym, ◌∙◌, subst, Option, Some, None, option_map}
 use Rattle.std.specs.List.{sum_by}
-use Rattle.std.specs.Map.{lookup, remove_entry}
+use Rattle.std.specs.Map.{remove_entry}
 use Rattle.std.proofs.Math.Nat.{le_refl, le_trans, le-add_left, add-le-add}
 use Rattle.std.proofs.lemmas.List.{map-append}
 use Rattle.std.proofs.lemmas.List.Sums.{sum_by-cons}
@@ -11,7 +11,7 @@ use Rattle.pcl_items.specs.Items.{Entry}
 use Rattle.macro_store.specs.Store.{Store, body_of, bytes_of, open_bytes, stored_bytes, began, with_item, appended, bodies_with, committed, deleted, cleared}
 use Rattle.page_env.specs.Pinned.{is_orientation}
 use Rattle.page_machine.specs.Pinning.{spacing}
-use Rattle.page_machine.proofs.PinnedBodies.{pin_body, AreAllPinned, CanBePinned}
+use Rattle.page_machine.proofs.PinnedBodies.{pin_body, AreAllPinned}
 
 -- ---- definitions
 

@@ -1,5 +1,5 @@
 -- A job goes alike when it is pinned: behind each reset a prologue, and the spacing behind each orientation.
-use Rattle.std.proofs.Common.{◌≡◌, ℕ, ◌+◌, ◌==◌, ◌&&◌, ◌||◌, length, Bool, true, false, cond, List, [], ◌∷◌, ◌++◌, map, nat_lt, refl, ap, sym, ◌∙◌, subst, Option, Some, None, inl, inr}
+use Rattle.std.proofs.Common.{◌≡◌, ℕ, ◌+◌, ◌==◌, ◌||◌, length, Bool, true, false, cond, List, [], ◌∷◌, ◌++◌, nat_lt, refl, ap, sym, ◌∙◌, subst, Option, Some, None, inl, inr}
 use Rattle.std.specs.List.{AllByRecursion}
 use Rattle.pcl_items.specs.Canon.{canon}
 use Rattle.pcl_items.specs.declared.command.Command.TheVariants.{Orientation}
@@ -14,15 +14,15 @@ use Rattle.page_env.specs.declared.finding.Finding.TheVariants.{MacroMemory, Def
 use Rattle.page_env.specs.Effect.{check, first_finding}
 use Rattle.page_env.specs.FontInForce.{request_at}
 use Rattle.page_env.specs.JobControl.{is_reset}
-use Rattle.page_env.specs.Pinned.{pinned, is_orientation, is_unpinnable, returns_to_panel, IsBare}
+use Rattle.page_env.specs.Pinned.{pinned, is_orientation, is_unpinnable, IsBare}
 use Rattle.page_env.specs.Settings.{Flags, Settings, State, unwatched, user_defaults, start_state}
 use Rattle.page_machine.specs.declared.defining.Defining.TheVariants.{Stored}
-use Rattle.page_machine.specs.Defining.{is_defining, defining_of, of_memory, defining_run, carried_after, job_item_run, macros_after, job_end_run}
+use Rattle.page_machine.specs.Defining.{is_defining, of_memory, defining_run, carried_after, job_item_run, macros_after}
 use Rattle.page_machine.specs.Event.{Event}
 use Rattle.page_machine.specs.Job.{JobRun, at_end, after_item, with_macros, items_run, end_run}
 use Rattle.page_machine.specs.Laws.{IsSet}
 use Rattle.page_machine.specs.Macros.{Context, in_job, page_close}
-use Rattle.page_machine.specs.Pinning.{spacing, prologue, needs_no_prologue, pinned_items, place_behind, placed_from, moved_from, HasRoom}
+use Rattle.page_machine.specs.Pinning.{spacing, prologue, pinned_items, place_behind, placed_from, moved_from, HasRoom}
 use Rattle.page_machine.specs.Run.{Peaks, peaks_of, Run, just, after, onward, finding_or, Ending, Done, Halts, marked_close, reset_run, item_run}
 use Rattle.page_machine.proofs.PinnedRuns.{pinned_ending, Alike, done_alike, cond_alike}
 use Rattle.page_machine.proofs.PinnedBodies.{CanBePinned, AreLaws, ArePinnedDefaults, page_alike}

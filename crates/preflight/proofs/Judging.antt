@@ -1,5 +1,6 @@
 -- What one more read makes of a check under way.
 use Rattle.std.proofs.Common.{◌≡◌, ◌+◌, ◌≤◌, ◌<◌, ℕ, Bool, false, List, [], ◌∷◌, ◌++◌, length, take, refl, ap, subst, ◌∙◌, Option, None, Some, IsFalse, arith, length-append}
+use Rattle.std.proofs.lemmas.List.{length-take}
 use Rattle.std.specs.Io.KnownBytes.{Consumes, IsAtEnd}
 use Rattle.std.proofs.KnownBytes.{Consumes-trans}
 use Rattle.pcl_items.specs.Modes.{mode_of}
@@ -25,6 +26,10 @@ use Rattle.preflight.specs.Carriers.Checking.{CameTo, GoesOn, HasCarriedOut, IsC
 use Rattle.preflight.proofs.PieceLemmas.{all_read, by_end, by_front, given_more, spell_more}
 use Rattle.preflight.proofs.StillOpen.{needs_read}
 
+-- a read that found the end gave nothing
+taken_none : (buf : List ℕ) (n : ℕ) → n ≡ 0 → length (take n buf) ≤ 4096
+taken_none buf n none = omega (arith, length-take n buf, none)
+
 module _ (fleet : List Printer) (failed : Bool) (given_before given_mid : List (List ℕ)) (before mid after : Option (List ℕ)) (reads total : ℕ) (old : LexerState) (machines : List MachineState) (counts : Counts) (way : IsUnderWay fleet failed given_before given_mid before mid reads total old machines counts) (given_after : List (List ℕ)) where
   -- the read found the end
   pub judged_at_end : (buf : List ℕ) (n : ℕ) (verdict : Verdict) → given_after ≡ given_mid ++ take n buf ∷ [] → Consumes mid after (take n buf) → n ≡ 0 → IsAtEnd after → IsExact fleet way.bytes verdict × KeepsPromise fleet way.bytes verdict → IsCertain fleet given_before given_after before verdict
@@ -33,7 +38,7 @@ module _ (fleet : List Printer) (failed : Bool) (given_before given_mid : List (
       record {
         exact = by_end given_before given_mid given_after way.pieces before way.bytes buf n (λ job. IsExact fleet job verdict) way.given given none way.spelled same holds.0;
         headline = by_end given_before given_mid given_after way.pieces before way.bytes buf n (λ job. KeepsPromise fleet job verdict) way.given given none way.spelled same holds.1;
-        needed = needs_read fleet failed given_before given_mid given_after before mid reads total old machines counts (take n buf) way given;
+        needed = needs_read fleet failed given_before given_mid given_after before mid reads total old machines counts (take n buf) way given (taken_none buf n none);
       }
 
   module _ (piece : List ℕ) (given : given_after ≡ given_mid ++ piece ∷ []) (consumed : Consumes mid after piece) (some : 0 < length piece) where
@@ -50,11 +55,11 @@ module _ (fleet : List Printer) (failed : Bool) (given_before given_mid : List (
     more_read = Consumes-trans before mid after way.bytes piece way.consumed consumed
 
     -- the job fails, whatever follows the piece
-    certain_fail : (place profile : ℕ) (finding : Reason) → ((job : List ℕ) → MayBe false (way.bytes ++ piece) job → IsExact fleet job (Fail place profile finding)) → IsCertain fleet given_before given_after before (Fail place profile finding)
-    certain_fail place profile finding fails = record {
+    certain_fail : length piece ≤ 4096 → (place profile : ℕ) (finding : Reason) → ((job : List ℕ) → MayBe false (way.bytes ++ piece) job → IsExact fleet job (Fail place profile finding)) → IsCertain fleet given_before given_after before (Fail place profile finding)
+    certain_fail short place profile finding fails = record {
       exact = by_front given_before given_after more_pieces before after (way.bytes ++ piece) false (λ job. IsExact fleet job (Fail place profile finding)) more_given more_spelled more_read refl fails;
       headline = by_front given_before given_after more_pieces before after (way.bytes ++ piece) false (λ job. KeepsPromise fleet job (Fail place profile finding)) more_given more_spelled more_read refl (λ job may. tt);
-      needed = needs_read fleet failed given_before given_mid given_after before mid reads total old machines counts piece way given;
+      needed = needs_read fleet failed given_before given_mid given_after before mid reads total old machines counts piece way given short;
     }
 
     module _ (failed' : Bool) (new : LexerState) (machines' : List MachineState) (counts' : Counts) (count : ℕ) (working : IsFalse failed') (count_is : count ≡ length piece) (few : count ≤ 4096) (open_input : new.ended ≡ false) (place : new.place + length new.rest ≡ old.place + length old.rest + length piece) where
@@ -82,7 +87,7 @@ module _ (fleet : List Printer) (failed : Bool) (given_before given_mid : List (
       pub judged_by_piece : (progress : Progress) → CameTo fleet (way.bytes ++ piece) false progress new machines' counts' → GoesOn progress false new machines' → Judges fleet failed' given_before given_after before after (reads + 1) (total + count) new machines' counts' (failure_of progress)
       judged_by_piece NeedMore came goes_on = under_way_more goes_on.1 goes_on.2 goes_on.3 came
       judged_by_piece End came goes_on = absurd cc
-      judged_by_piece (Failed place profile finding) came goes_on = certain_fail place profile finding came
+      judged_by_piece (Failed place profile finding) came goes_on = certain_fail (omega (arith, count_is, few)) place profile finding came
 
 -- ---- what a piece came to
 

@@ -1,5 +1,5 @@
 -- A job can send what a panel has.
-use Rattle.std.proofs.Common.{◌≡◌, ◌≢◌, ℕ, ◌≤◌, ◌+◌, ◌*◌, ◌==◌, ◌&&◌, ◌||◌, Bool, List, ◌++◌, append_assoc, IsTrue, inl, inr, nat_le, Result, Ok, Err, arith, refl, sym, ap, subst, ◌∙◌}
+use Rattle.std.proofs.Common.{◌≡◌, ℕ, ◌≤◌, ◌*◌, List, ◌++◌, append_assoc, IsTrue, inl, inr, nat_le, Result, Ok, Err, arith, sym, ap, subst, ◌∙◌}
 use Rattle.std.specs.Prelude.{OnOk, unsigned_abs}
 use Rattle.std.proofs.lemmas.Bool.{and_parts, or_cases, leb-true, eqb-true}
 use Rattle.device_profile.specs.declared.font.FontRequest.{FontRequest}

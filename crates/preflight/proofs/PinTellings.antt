@@ -1,5 +1,5 @@
 -- What an item makes of the telling of a pinned job.
-use Rattle.std.proofs.Common.{◌≡◌, ℕ, Bool, true, false, cond, List, [], ◌∷◌, ◌++◌, Option, Some, None, find, refl, sym, ap, ◌∙◌, if◌then◌else◌}
+use Rattle.std.proofs.Common.{◌≡◌, ℕ, Bool, true, false, List, [], ◌∷◌, ◌++◌, Some, find, refl, ap, ◌∙◌, if◌then◌else◌}
 use Rattle.device_profile.specs.declared.font.FontRequest.{FontRequest}
 use Rattle.device_profile.specs.declared.panel.Panel.{Panel}
 use Rattle.pcl_items.specs.Items.{Placed}

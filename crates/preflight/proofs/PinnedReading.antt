@@ -1,5 +1,5 @@
 -- The text of a pinned job is read as its items, each where it stands.
-use Rattle.std.proofs.Common.{◌≡◌, ◌≤◌, ℕ, ◌+◌, ◌*◌, ◌==◌, ◌&&◌, ◌||◌, length, Bool, true, false, not, cond, List, [], ◌∷◌, ◌++◌, drop, append_assoc, Option, Some, None, IsTrue, refl, ap, sym, ◌∙◌, subst, arith}
+use Rattle.std.proofs.Common.{◌≡◌, ◌≤◌, ℕ, ◌+◌, ◌*◌, ◌==◌, ◌&&◌, length, Bool, true, false, not, cond, List, [], ◌∷◌, ◌++◌, drop, append_assoc, Option, Some, None, IsTrue, refl, ap, sym, ◌∙◌, subst, arith}
 use Rattle.std.specs.Prelude.{IsSomeAnd}
 use Rattle.std.specs.List.{AllByRecursion, flat_map}
 use Rattle.std.specs.Option.{option_map_or}
@@ -25,8 +25,7 @@ use Rattle.pcl_items.proofs.Spellings.{AreAdmitted-append, mode_behind-append, r
 use Rattle.pcl_items.proofs.Stopping.{read_by_rules}
 use Rattle.pcl_items.proofs.ReadsTo.{ReadsTo-append}
 use Rattle.page_env.specs.FontInForce.{request_at, no_request}
-use Rattle.page_env.specs.Pinned.{is_unpinnable, is_orientation}
-use Rattle.page_env.specs.JobControl.{is_reset}
+use Rattle.page_env.specs.Pinned.{is_unpinnable}
 use Rattle.page_machine.specs.Pinning.{spacing, prologue, needs_no_prologue, before, behind, is_due_behind, pinned_items, placed_from, place_behind}
 use Rattle.preflight.specs.Pins.{pinned_item, pinned_text}
 use Rattle.preflight.proofs.PinSettings.{within, Sendable, sendable}

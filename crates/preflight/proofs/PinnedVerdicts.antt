@@ -1,7 +1,6 @@
 -- The verdict for one printer alone is told by the events of its run and its finding.
-use Rattle.std.proofs.Common.{◌≡◌, ℕ, ◌+◌, Bool, true, false, cond, List, [], ◌∷◌, ◌++◌, append-nil, Option, Some, None, refl, ap, sym, ◌∙◌}
-use Rattle.pcl_items.specs.Items.{Placed}
-use Rattle.pcl_items.specs.Reading.{Reading, Whole}
+use Rattle.std.proofs.Common.{◌≡◌, ℕ, ◌+◌, Bool, cond, List, [], ◌∷◌, ◌++◌, append-nil, Option, Some, None, refl, ap, sym, ◌∙◌}
+use Rattle.pcl_items.specs.Reading.{Reading}
 use Rattle.page_env.specs.declared.finding.Finding.{Finding}
 use Rattle.page_machine.specs.Event.{Event}
 use Rattle.page_machine.specs.Job.{ItemRun, JobRun, events_of}
@@ -10,7 +9,6 @@ use Rattle.line_words.specs.declared.reason.Reason.TheVariants.{Differs, Finding
 use Rattle.preflight.specs.declared.verdict.Verdict.{Verdict}
 use Rattle.preflight.specs.declared.verdict.Verdict.TheVariants.{Fail}
 use Rattle.preflight.specs.Verdict.{verdict_by}
-use Rattle.preflight.specs.Same.{are_same}
 use Rattle.preflight.specs.Wrong.{Wrong, wrong, found_or, findings_in, differences_in, soonest, first_wrong}
 use Rattle.preflight.proofs.SameLemmas.{same_events}
 

@@ -1,5 +1,5 @@
 -- Bytes that decide no further item and no fault leave the verdict open: they go on in two ways.
-use Rattle.std.proofs.Common.{◌≡◌, ◌+◌, ◌≤◌, ◌<◌, ℕ, Bool, true, false, List, Option, None, Some, [], ◌∷◌, ◌++◌, refl, ap, sym, ◌∙◌, subst, append-nil, arith}
+use Rattle.std.proofs.Common.{◌≡◌, ◌+◌, ◌≤◌, ◌<◌, ℕ, Bool, true, false, List, Option, None, Some, [], ◌∷◌, ◌++◌, length, refl, ap, sym, ◌∙◌, subst, append-nil, arith}
 use Rattle.pcl_items.specs.declared.fault.Cause.{Cause}
 use Rattle.pcl_items.specs.declared.fault.Cause.TheVariants.{NotInProfile}
 use Rattle.pcl_items.specs.declared.fault.Name.TheVariants as names
@@ -24,7 +24,7 @@ use Rattle.line_words.specs.declared.reason.Reason.TheVariants.{Fault as FaultOf
 use Rattle.preflight.specs.declared.verdict.Verdict.{Verdict}
 use Rattle.preflight.specs.declared.verdict.Verdict.TheVariants.{Fail}
 use Rattle.preflight.specs.Pieces.{MayBeBy, Spell}
-use Rattle.preflight.specs.Verdict.{IsExact, LeavesOpen, NeedsEachRead, verdict_of}
+use Rattle.preflight.specs.Verdict.{IsExact, IsFirst, LeavesOpen, NeedsEachRead, verdict_of}
 use Rattle.preflight.specs.Carriers.Checking.{HasCarriedOut, IsUnderWay}
 use Rattle.preflight.proofs.Answered.{is_all}
 use Rattle.preflight.proofs.Completed.{item_takes}
@@ -61,7 +61,7 @@ no_stop bytes items more_items c place rest entry len next cause takes reads e s
 -- ---- verdicts
 
 -- a job has one verdict
-one_verdict : (fleet : List Printer) (job : List ℕ) (a b : Verdict) → IsExact fleet job a → IsExact fleet job b → a ≡ b
+one_verdict : (fleet : List Printer) (job : List ℕ) (a b : Verdict) → IsExact fleet job a → IsFirst fleet job b → a ≡ b
 one_verdict fleet job a b first second =
     let one : HasOneReading job = one_reading job in
     first.2 ∙ ap (verdict_of fleet) (one.only first.0 first.1 ∙ sym (one.only second.0 second.1)) ∙ sym second.2
@@ -100,7 +100,7 @@ module _ (fleet : List Printer) (bytes : List ℕ) (lexer : LexerState) (machine
   place_here = item_place lexer.context lexer.place
 
   -- the bytes, and behind them these, which make a fault
-  fault_behind : (more : List ℕ) (cause : Cause) → IsFault true (first_of true lexer.context (lexer.rest ++ more)) lexer.context (lexer.rest ++ more) cause → IsExact fleet (bytes ++ more) (Fail place_here 0 (FaultOfBytes cause))
+  fault_behind : (more : List ℕ) (cause : Cause) → IsFault true (first_of true lexer.context (lexer.rest ++ more)) lexer.context (lexer.rest ++ more) cause → IsFirst fleet (bytes ++ more) (Fail place_here 0 (FaultOfBytes cause))
   fault_behind more cause fault =
       let all : List ℕ = bytes ++ more in
       let behind : LexerState = record { rest = lexer.rest ++ more; place = lexer.place; context = lexer.context; ended = true; held = 0 } in
@@ -164,10 +164,11 @@ module _ (fleet : List Printer) (bytes : List ℕ) (lexer : LexerState) (machine
 
 -- one more read was needed
 pub needs_read : (fleet : List Printer) (failed : Bool) (given_before given_mid given_after : List (List ℕ)) (before mid : Option (List ℕ)) (reads total : ℕ) (lexer : LexerState) (machines : List MachineState) (counts : Counts) (piece : List ℕ)
-    → IsUnderWay fleet failed given_before given_mid before mid reads total lexer machines counts → given_after ≡ given_mid ++ piece ∷ [] → NeedsEachRead fleet given_before given_after
-needs_read fleet failed given_before given_mid given_after before mid reads total lexer machines counts piece way given = record {
+    → IsUnderWay fleet failed given_before given_mid before mid reads total lexer machines counts → given_after ≡ given_mid ++ piece ∷ [] → length piece ≤ 4096 → NeedsEachRead fleet given_before given_after
+needs_read fleet failed given_before given_mid given_after before mid reads total lexer machines counts piece way given short = record {
   before = way.pieces;
   last = piece;
+  short = short;
   given = given_more given_before given_mid given_after way.pieces piece way.given given;
   left_open = leaves_open fleet way.bytes lexer machines counts way.carried way.open_input way.pieces way.spelled way.wants_more;
 }

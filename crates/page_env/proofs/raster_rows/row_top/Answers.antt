@@ -1,4 +1,4 @@
-use Rattle.std.proofs.Common.{rules, ◌≡◌, ◌&&◌, ◌∙◌, ℤ, pos, cond, Some, None, sym}
+use Rattle.std.proofs.Common.{rules, ◌≡◌, ◌&&◌, ℤ, pos, cond, Some, None}
 use Rattle.std.specs.Prelude.{◌+ℤ◌}
 use Rattle.page_env.specs.Mark.{pixel_of}
 use Rattle.page_env.specs.Places.{is_between}

@@ -1,4 +1,4 @@
-use Rattle.std.proofs.Common.{rules, ◌≡◌, ℤ, ℕ, Bool, true, false, not, cond, pos, Option, Some, None, option_map, [], ◌∷◌, ap, sym, ◌∙◌}
+use Rattle.std.proofs.Common.{rules, ◌≡◌, ℤ, ℕ, true, false, not, cond, Some, None, option_map, [], ◌∷◌, ap, sym, ◌∙◌}
 use Rattle.std.specs.Prelude.{int_lt}
 use Rattle.std.specs.Option.{option_map_or}
 use Rattle.pcl_items.specs.Items.{amount}

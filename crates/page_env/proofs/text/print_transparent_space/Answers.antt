@@ -1,5 +1,4 @@
 use Rattle.std.proofs.Common.{[], pos, sym, ap, refl, ◌∙◌, ◌+ℤ◌}
-use Rattle.std.specs.Prelude.{unwrap_or}
 use Rattle.page_env.specs.Settings.{state_at}
 use Rattle.page_env.specs.Mark.{characters_of}
 use Rattle.page_env.specs.Effect.{first_finding, Goes}

@@ -20,5 +20,5 @@ returns-in-Wrong g c = λ lexer lexer' next modes.
     let wrong = wrong_outcome action _ _ _ _ _ c.in-Wrong.profile c.in-Wrong.finding c.in-Wrong.is c.in_ok-outcome.ensures in
     record {
       goes_on = tt;
-      came = λ fleet bytes carried job may_be. item_fails _ _ _ next _ _ refl action (λ m. refl) c.one_reading.ensures fleet bytes _ _ _ _ _ refl wrong carried job may_be;
+      came = λ fleet bytes carried job may_be. item_fails _ _ _ next _ _ refl action (λ m. refl) c.one_reading.ensures c.watched_runs_are_alike.ensures fleet bytes _ _ _ _ _ refl wrong carried job may_be;
     }
