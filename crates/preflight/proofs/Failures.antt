@@ -1,56 +1,29 @@
 -- What is wrong first, and what it says of the runs of a fleet.
-use Rattle.std.proofs.Common.{◌≡◌, ◌+◌, ◌⊎◌, inl, inr, ℕ, Bool, true, false, cond, List, [], ◌∷◌, ◌++◌, length, Option, None, Some, refl, ap, sym, ◌∙◌, subst, arith}
-use Rattle.std.specs.Prelude.{nat_le}
-use Rattle.pcl_items.specs.Items.{Placed}
+use Rattle.std.proofs.Common.{◌≡◌, ◌≢◌, ◌+◌, ◌<◌, inl, inr, ℕ, true, false, List, [], ◌∷◌, ◌++◌, length, Option, None, Some, refl, ap, sym, ◌∙◌, subst, arith}
+use Rattle.std.specs.List.{AllByRecursion}
+use Rattle.std.proofs.lemmas.Bool.{cases_lt}
 use Rattle.pcl_items.specs.Reading.{Reading, Whole, Stopped}
 use Rattle.device_profile.specs.declared.panel.Panel.{Panel}
 use Rattle.device_profile.specs.Printer.{Printer, IsAllowed, first_panel}
-use Rattle.macro_store.specs.Store.{Store, no_macros}
 use Rattle.page_env.specs.declared.finding.Finding.{Finding}
-use Rattle.page_env.specs.Settings.{Settings, State, start_state, user_defaults, watched}
-use Rattle.page_machine.specs.Event.{Event}
-use Rattle.page_machine.specs.Run.{Peaks, Run, Ending, Done, Halts}
-use Rattle.page_machine.specs.Defining.{job_item_run, macros_after, job_end_run}
-use Rattle.page_machine.specs.Job.{ItemRun, JobRun, events_of, at_end, no_end, ended_item, with_macros, items_run, end_run, plain_run, watched_run}
+use Rattle.page_env.specs.Settings.{watched}
+use Rattle.page_machine.specs.Job.{ItemRun, JobRun, events_of, plain_run, watched_run}
 use Rattle.page_machine.specs.Laws.{IsSet, IsSetFinding, IsWatchedAlike, RunsPlainly}
 use Rattle.page_machine.specs.Pinning.{found_at, finding_of}
 use Rattle.line_words.specs.declared.reason.Reason.{Reason}
 use Rattle.line_words.specs.declared.reason.Reason.TheVariants.{Fault, Finding as FindingOfRun, Differs}
 use Rattle.preflight.specs.declared.verdict.Verdict.TheVariants.{Fail}
 use Rattle.preflight.specs.Same.{are_same}
-use Rattle.preflight.specs.Wrong.{Wrong, wrong, found_or, findings_in, differences_in, of_each, first_run, first_wrong, sooner, soonest}
+use Rattle.preflight.specs.Wrong.{Wrong, found_or, findings_in, differences_in, of_each, first_run, first_wrong, sooner}
 use Rattle.preflight.specs.Verdict.{watched_items, runs_of, verdict_by, verdict_of}
-use Rattle.preflight.specs.Failing.{Finds, FindsWatched, FindsNothing, FailSays}
+use Rattle.preflight.specs.Failing.{IsNumbered, Finds, FindsWatched, FindsNothing, GoesThrough, events_behind, SaysDiffers, FailSays}
+use Rattle.preflight.proofs.Soonest.{IsIn, soonest_in, in_either, in_left, in_right, in_front}
+use Rattle.preflight.proofs.SameLemmas.{same_events}
+use Rattle.preflight.proofs.RunEnds.{set_of, ends_without, no_finding, halts_there}
+use Rattle.preflight.proofs.Differing.{IsDifference, its_difference, comes_through, goes_plainly}
 use Rattle.preflight.proofs.FirstPanels.{first_allowed}
-use Rattle.preflight.proofs.Side.{Agreed}
 use Rattle.preflight.proofs.Parts.{AreOne, are_one}
 use Rattle.preflight.proofs.Passing.{all_contained}
-
--- ---- what is soonest is one of the list
-
-abbrev IsIn : Wrong → List Wrong → Type 0
-IsIn w [] = ⊥
-IsIn w (x ∷ xs) = (x ≡ w) ⊎ IsIn w xs
-
-some_is : (a b : Wrong) → Some a ≡ Some b → a ≡ b
-some_is a b e = cc
-
-sooner_in : (w x : Wrong) (xs : List Wrong) (o : Option Wrong) → (o ≡ Some w → IsIn w xs) → sooner x o ≡ Some w → IsIn w (x ∷ xs)
-sooner_in w x xs None later e = inl (some_is x w e)
-sooner_in w x xs (Some v) later e = by (nat_le x.before v.before) e
-  where
-    by : (b : Bool) → cond b (Some x) (Some v) ≡ Some w → IsIn w (x ∷ xs)
-    by true e = inl (some_is x w e)
-    by false e = inr (later e)
-
-soonest_in : (w : Wrong) (ws : List Wrong) → soonest ws ≡ Some w → IsIn w ws
-soonest_in w [] e = absurd cc
-soonest_in w (x ∷ xs) e = sooner_in w x xs (soonest xs) (soonest_in w xs) e
-
-in_either : (w : Wrong) (xs ys : List Wrong) → IsIn w (xs ++ ys) → IsIn w xs ⊎ IsIn w ys
-in_either w [] ys h = inr h
-in_either w (x ∷ xs) ys (inl e) = inl (inl e)
-in_either w (x ∷ xs) ys (inr h) = elim (in_either w xs ys h) [ inl here ↦ inl (inr here) | inr there ↦ inr there ]
 
 -- ---- of which printer it is
 
@@ -94,77 +67,35 @@ its_finding number before (x ∷ items) w h = by x.finding (its_finding number (
     by (Some finding) rest (inr nothing) = absurd nothing
     by None rest h = rest h
 
--- where two runs differ, the reason is that they do
-its_difference : (number before : ℕ) (first items : List ItemRun) (w : Wrong) → IsIn w (differences_in first number before items) → w.reason ≡ Differs
-its_difference number before [] items w h = absurd h
-its_difference number before (a ∷ first) [] w h = absurd h
-its_difference number before (a ∷ first) (b ∷ items) w h = by (are_same a.events b.events) (its_difference number (before + 1) first items w) h
+-- what is found is no difference
+none_differs : (reading : Reading) (fleet : List Printer) (w : Wrong) → IsIn w (of_each findings_in 1 (runs_of fleet reading)) → w.reason ≡ Differs → ⊥
+none_differs reading fleet w h differs =
+    let of = of_printer findings_in reading 1 fleet w h in
+    let its = its_finding (1 + length of.before) 0 (watched_items of.printer reading) w of.is_in in
+    let e : FindingOfRun its.1.0 ≡ Differs = sym its.1.1 ∙ differs in
+    cc
+
+-- what is found in the run of a printer is one of these
+abbrev IsCounted : List Wrong → Reading → Printer → Type 0
+IsCounted all reading printer = (number : ℕ) × ((w : Wrong) → IsIn w (findings_in number 0 (watched_items printer reading)) → IsIn w all)
+
+all_counted : (all : List Wrong) (reading : Reading) (from : ℕ) (fleet : List Printer) → ((w : Wrong) → IsIn w (of_each findings_in from (runs_of fleet reading)) → IsIn w all) → AllByRecursion (IsCounted all reading) fleet
+all_counted all reading from [] into = tt
+all_counted all reading from (p ∷ ps) into =
+    let own : List Wrong = findings_in from 0 (watched_items p reading) in
+    let others : List Wrong = of_each findings_in (from + 1) (runs_of ps reading) in
+    ((from, λ w h. into w (in_left w own others h)), all_counted all reading (from + 1) ps (λ w h. into w (in_right w own others h)))
+
+all_split : {X : Type 0} (P : X → Type 0) (before : List X) (x : X) (after : List X) → AllByRecursion P (before ++ x ∷ after) → P x
+all_split P [] x after h = h.0
+all_split P (y ∷ before) x after h = all_split P before x after h.1
+
+first_is : (fleet : List Printer) (reading : Reading) (first : Printer) → IsNumbered fleet 1 first → first_run (runs_of fleet reading) ≡ watched_items first reading
+first_is fleet reading first at = by at.before at.fleet_is at.number_is
   where
-    by : (same : Bool) → (IsIn w (differences_in first number (before + 1) items) → w.reason ≡ Differs) → IsIn w (cond same (differences_in first number (before + 1) items) (wrong before b.place number Differs ∷ [])) → w.reason ≡ Differs
-    by true rest h = rest h
-    by false rest (inl e) = sym (ap (λ v. v.reason) e)
-    by false rest (inr nothing) = absurd nothing
-
--- ---- a finding ends a run
-
-abbrev EndsByFinding : JobRun → Type 0
-EndsByFinding r = (place : ℕ) (finding : Finding) → finding_of r.items ≡ Some (place, finding) → r.ending ≡ Halts finding
-
--- and a run without one comes to its end
-abbrev EndsWithout : JobRun → Type 0
-EndsWithout r = finding_of r.items ≡ None → IsSet r.ending
-
-pair_is : (a b : ℕ) (f g : Finding) → ◌≡◌ {A = Option (ℕ × Finding)} (Some (a, f)) (Some (b, g)) → f ≡ g
-pair_is a b f g e = let h : ◌≡◌ {A = ℕ × Finding} (a, f) (b, g) = cc in ap (λ p. p.1) h
-
-ended_by : (place : ℕ) (events : List Event) (peaks : Peaks) (e : Ending) (next : State → JobRun) → ((s : State) → EndsByFinding (next s)) → EndsByFinding (ended_item place events peaks e next)
-ended_by place events peaks (Done s) next rest = rest s
-ended_by place events peaks (Halts finding) next rest = λ at found e. ap Halts (pair_is place at finding found e)
-
-ended_without : (place : ℕ) (events : List Event) (peaks : Peaks) (e : Ending) (next : State → JobRun) → ((s : State) → EndsWithout (next s)) → EndsWithout (ended_item place events peaks e next)
-ended_without place events peaks (Done s) next rest = rest s
-ended_without place events peaks (Halts finding) next rest = λ e. absurd cc
-
-module _ (printer : Printer) (defaults : Settings) where
-  items_end : (finally : Store → State → JobRun) → ((macros : Store) (s : State) → EndsByFinding (finally macros s)) → (items : List Placed) (macros : Store) (s : State) → EndsByFinding (items_run printer defaults finally items macros s)
-  items_end finally last [] macros s = last macros s
-  items_end finally last (x ∷ items) macros s =
-      let r : Run = job_item_run (with_macros printer defaults macros) x.item s in
-      let next : Store = macros_after s.settings.job.macro_id x.item macros in
-      ended_by x.place r.events r.peaks r.ending (items_run printer defaults finally items next) (items_end finally last items next)
-
-  items_end_without : (finally : Store → State → JobRun) → ((macros : Store) (s : State) → EndsWithout (finally macros s)) → (items : List Placed) (macros : Store) (s : State) → EndsWithout (items_run printer defaults finally items macros s)
-  items_end_without finally last [] macros s = last macros s
-  items_end_without finally last (x ∷ items) macros s =
-      let r : Run = job_item_run (with_macros printer defaults macros) x.item s in
-      let next : Store = macros_after s.settings.job.macro_id x.item macros in
-      ended_without x.place r.events r.peaks r.ending (items_run printer defaults finally items next) (items_end_without finally last items next)
-
-  last_ends : (place : ℕ) (macros : Store) (s : State) → EndsByFinding (end_run printer defaults place macros s)
-  last_ends place macros s =
-      let r : Run = job_end_run (with_macros printer defaults macros) s in
-      ended_by place r.events r.peaks r.ending at_end (λ t at found e. absurd cc)
-
-  last_ends_without : (place : ℕ) (macros : Store) (s : State) → EndsWithout (end_run printer defaults place macros s)
-  last_ends_without place macros s =
-      let r : Run = job_end_run (with_macros printer defaults macros) s in
-      ended_without place r.events r.peaks r.ending at_end (λ t e. tt)
-
-watched_ends : (printer : Printer) (panel : Panel) (reading : Reading) → EndsByFinding (watched_run printer panel reading)
-watched_ends printer panel (Whole items place) =
-    let d : Settings = user_defaults (watched printer) panel in
-    items_end printer d (end_run printer d place) (last_ends printer d place) items (no_macros printer.memory) (start_state d)
-watched_ends printer panel (Stopped items place cause) =
-    let d : Settings = user_defaults (watched printer) panel in
-    items_end printer d no_end (λ macros s at found e. absurd cc) items (no_macros printer.memory) (start_state d)
-
-watched_ends_without : (printer : Printer) (panel : Panel) (reading : Reading) → EndsWithout (watched_run printer panel reading)
-watched_ends_without printer panel (Whole items place) =
-    let d : Settings = user_defaults (watched printer) panel in
-    items_end_without printer d (end_run printer d place) (last_ends_without printer d place) items (no_macros printer.memory) (start_state d)
-watched_ends_without printer panel (Stopped items place cause) =
-    let d : Settings = user_defaults (watched printer) panel in
-    items_end_without printer d no_end (λ macros s e. tt) items (no_macros printer.memory) (start_state d)
+    by : (before : List Printer) → fleet ≡ before ++ first ∷ at.after → 1 ≡ length before + 1 → first_run (runs_of fleet reading) ≡ watched_items first reading
+    by [] fleet_is number_is = ap (λ printers. first_run (runs_of printers reading)) fleet_is
+    by (x ∷ before) fleet_is number_is = absurd (omega (arith, number_is))
 
 -- ---- from every panel
 
@@ -182,7 +113,7 @@ module _ (anywhere : (printer : Printer) (reading : Reading) → IsWatchedAlike 
 
   finds : (printer : Printer) (reading : Reading) (place : ℕ) (finding : Finding) → finding_of (watched_items printer reading) ≡ Some (place, finding) → IsSetFinding finding → Finds printer reading place finding
   finds printer reading place finding found set panel allowed =
-      let ends = watched_ends printer panel reading place finding (finds_watched printer reading place finding found panel allowed) in
+      let ends = halts_there printer (watched printer) panel reading place finding (finds_watched printer reading place finding found panel allowed) in
       ap finding_of (plain_items printer panel reading allowed (subst IsSet (sym ends) set)) ∙ found
 
   -- ---- a finding
@@ -199,30 +130,77 @@ module _ (anywhere : (printer : Printer) (reading : Reading) → IsWatchedAlike 
         finds of.printer reading w.place finding its.1.2,
       )
 
-  differs_says : (fleet : List Printer) (reading : Reading) (first : List ItemRun) (w : Wrong) → IsOf (differences_in first) reading 1 fleet w → FailSays fleet reading w.place w.profile w.reason
-  differs_says fleet reading first w of =
-      subst (FailSays fleet reading w.place w.profile) (sym (its_difference (1 + length of.before) 0 first (watched_items of.printer reading) w of.is_in)) tt
+  -- ---- a difference
+
+  module _ (fleet : List Printer) (reading : Reading) (w : Wrong) (soon : first_wrong (runs_of fleet reading) ≡ Some w) (of : IsOf (differences_in (first_run (runs_of fleet reading))) reading 1 fleet w) where
+    abbrev first_items : List ItemRun
+    first_items = first_run (runs_of fleet reading)
+
+    abbrev found : List Wrong
+    found = of_each findings_in 1 (runs_of fleet reading)
+
+    abbrev its : IsDifference (1 + length of.before) 0 first_items (watched_items of.printer reading) w
+    its = its_difference (1 + length of.before) 0 first_items (watched_items of.printer reading) w of.is_in
+
+    found_later : (v : Wrong) → IsIn v found → its.count < v.before
+    found_later v has =
+        elim (cases_lt its.count v.before) [
+          | inl later ↦ later
+          | inr sooner ↦ absurd (none_differs reading fleet w (in_front w v found (of_each (differences_in first_items) 1 (runs_of fleet reading)) soon has (omega (arith, sooner, its.before_is))) its.reason_is)
+        ]
+
+    from_any : (printer : Printer) → IsCounted found reading printer → (panel : Panel) → IsAllowed printer panel →
+        GoesThrough its.count w.place (plain_run printer panel reading).items × (events_behind its.count (plain_run printer panel reading).items ≡ events_behind its.count (watched_items printer reading))
+    from_any printer counted panel allowed =
+        let same = same_items printer panel reading allowed in
+        let there = comes_through printer of.printer reading counted.0 its.count w.place its.has (λ v h. found_later v (counted.1 v h)) in
+        let goes = goes_plainly plainly printer panel its.count w.place reading (subst (GoesThrough its.count w.place) (sym same) there) in
+        (goes.0, goes.1 ∙ ap (events_behind its.count) same)
+
+    counted_at : (number : ℕ) (printer : Printer) → IsNumbered fleet number printer → IsCounted found reading printer
+    counted_at number printer at =
+        all_split (IsCounted found reading) at.before printer at.after (subst (AllByRecursion (IsCounted found reading)) at.fleet_is (all_counted found reading 1 fleet (λ v h. h)))
+
+    abbrev numbered : IsNumbered fleet w.profile of.printer
+    numbered = record { before = of.before; after = of.after; fleet_is = of.fleet_is; number_is = omega (arith, its.number_is) }
+
+    other_events : (first : Printer) (panel panel' : Panel) → IsNumbered fleet 1 first → IsAllowed first panel → IsAllowed of.printer panel' →
+        events_behind its.count (plain_run first panel reading).items ≢ events_behind its.count (plain_run of.printer panel' reading).items
+    other_events first panel panel' at allowed allowed' same =
+        let a = from_any first (counted_at 1 first at) panel allowed in
+        let b = from_any of.printer (counted_at w.profile of.printer numbered) panel' allowed' in
+        let alike : are_same (events_behind its.count first_items) (events_behind its.count (watched_items of.printer reading)) ≡ true = same_events _ _ (ap (events_behind its.count) (first_is fleet reading first at) ∙ (sym a.1 ∙ (same ∙ b.1))) in
+        let both : true ≡ false = sym alike ∙ its.other in
+        absurd cc
+
+    says_differs : SaysDiffers fleet reading w.place w.profile
+    says_differs = record {
+      before = its.count;
+      printer = of.printer;
+      is_numbered = numbered;
+      through = λ each has panel allowed. (from_any each (all_contained (IsCounted found reading) fleet each (all_counted found reading 1 fleet (λ v h. h)) has) panel allowed).0;
+      other = other_events;
+    }
+
+    differs_says : FailSays fleet reading w.place w.profile w.reason
+    differs_says = subst (FailSays fleet reading w.place w.profile) (sym its.reason_is) says_differs
 
   wrong_says : (fleet : List Printer) (reading : Reading) (w : Wrong) → first_wrong (runs_of fleet reading) ≡ Some w → FailSays fleet reading w.place w.profile w.reason
   wrong_says fleet reading w e =
       let runs = runs_of fleet reading in
       elim (in_either w (of_each findings_in 1 runs) (of_each (differences_in (first_run runs)) 1 runs) (soonest_in w _ e)) [
         | inl found ↦ found_says fleet reading w (of_printer findings_in reading 1 fleet w found)
-        | inr differs ↦ differs_says fleet reading (first_run runs) w (of_printer (differences_in (first_run runs)) reading 1 fleet w differs)
+        | inr differs ↦ differs_says fleet reading w e (of_printer (differences_in (first_run runs)) reading 1 fleet w differs)
       ]
 
   -- ---- a fault of the bytes
-
-  no_finding : (items : List ItemRun) → Agreed items → finding_of items ≡ None
-  no_finding [] agreed = refl
-  no_finding (x ∷ items) agreed = ap (λ o. found_at x.place o (finding_of items)) agreed.0 ∙ no_finding items agreed.1
 
   finds_nothing : (fleet : List Printer) (reading : Reading) → AreOne reading fleet → FindsNothing fleet reading (events_of (first_run (runs_of fleet reading)))
   finds_nothing fleet reading one printer has panel allowed =
       let first : List ItemRun = first_run (runs_of fleet reading) in
       let its : watched_items printer reading ≡ first = all_contained (λ p. watched_items p reading ≡ first) fleet printer one.one has in
       let none : finding_of (watched_run printer panel reading).items ≡ None = ap finding_of (same_items printer panel reading allowed ∙ its) ∙ no_finding first one.agreed in
-      let plain : (plain_run printer panel reading).items ≡ first = plain_items printer panel reading allowed (watched_ends_without printer panel reading none) ∙ its in
+      let plain : (plain_run printer panel reading).items ≡ first = plain_items printer panel reading allowed (set_of (watched_run printer panel reading).ending (ends_without printer (watched printer) panel reading none)) ∙ its in
       (ap finding_of plain ∙ no_finding first one.agreed, ap events_of plain)
 
   fail_is : (a b c d : ℕ) (x y : Reason) → Fail a b x ≡ Fail c d y → (a ≡ c) × (b ≡ d) × (x ≡ y)

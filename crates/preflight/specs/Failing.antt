@@ -1,12 +1,12 @@
 -- What a Fail says of the printers of a fleet.
-use Rattle.std.specs.Prelude.{◌≡◌, ℕ, ◌+◌, List, ◌∷◌, ◌++◌, length, None, Some}
+use Rattle.std.specs.Prelude.{◌≡◌, ◌≢◌, ℕ, zero, suc, ◌+◌, List, [], ◌∷◌, ◌++◌, length, None, Some}
 use Rattle.std.specs.List.{Contains}
 use Rattle.pcl_items.specs.Reading.{Reading}
 use Rattle.device_profile.specs.declared.panel.Panel.{Panel}
 use Rattle.device_profile.specs.Printer.{Printer, IsAllowed}
 use Rattle.page_env.specs.declared.finding.Finding.{Finding}
 use Rattle.page_machine.specs.Event.{Event}
-use Rattle.page_machine.specs.Job.{events_of, plain_run, watched_run}
+use Rattle.page_machine.specs.Job.{ItemRun, events_of, plain_run, watched_run}
 use Rattle.page_machine.specs.Laws.{IsSetFinding}
 use Rattle.page_machine.specs.Pinning.{finding_of}
 use Rattle.line_words.specs.declared.reason.Reason.{Reason}
@@ -35,6 +35,29 @@ FindsNothing fleet reading events =
     (printer : Printer) → Contains fleet printer → (panel : Panel) → IsAllowed printer panel →
     (finding_of (plain_run printer panel reading).items ≡ None) × (events_of (plain_run printer panel reading).items ≡ events)
 
+-- the run goes through so many items and the next one, which stands at this place, and finds nothing
+abbrev pub GoesThrough : ℕ → ℕ → List ItemRun → Type 0
+GoesThrough before place [] = ⊥
+GoesThrough zero place (item ∷ items) = (item.finding ≡ None) × (item.place ≡ place)
+GoesThrough (suc before) place (item ∷ items) = (item.finding ≡ None) × GoesThrough before place items
+
+-- the events of the item that stands behind so many others
+abbrev pub events_behind : ℕ → List ItemRun → List Event
+events_behind before [] = []
+events_behind zero (item ∷ items) = item.events
+events_behind (suc before) (item ∷ items) = events_behind before items
+
+-- Two printers differ at an item: on every printer of the fleet, from every panel that its profile allows, the plain run goes through it,
+-- and on the printer of this number its events are not those on the first.
+pub record SaysDiffers (fleet : List Printer) (reading : Reading) (place number : ℕ) : Type 0 where
+  pub before : ℕ
+  pub printer : Printer
+  pub is_numbered : IsNumbered fleet number printer
+  pub through : (each : Printer) → Contains fleet each → (panel : Panel) → IsAllowed each panel →
+      GoesThrough before place (plain_run each panel reading).items
+  pub other : (first : Printer) (panel panel' : Panel) → IsNumbered fleet 1 first → IsAllowed first panel → IsAllowed printer panel' →
+      events_behind before (plain_run first panel reading).items ≢ events_behind before (plain_run printer panel' reading).items
+
 -- What a Fail says. A finding but Unset is the first that the printer of its number comes to, whatever its panel; Unset is so where
 -- what the panel chooses is watched. A fault of the bytes comes behind items in which no printer finds anything, and which print alike.
 abbrev pub FailSays : List Printer → Reading → (place number : ℕ) → Reason → Type 0
@@ -42,5 +65,5 @@ FailSays fleet reading place number (FindingOfRun finding) =
     (printer : Printer) × IsNumbered fleet number printer × FindsWatched printer reading place finding
     × (IsSetFinding finding → Finds printer reading place finding)
 FailSays fleet reading place number (Fault cause) = (number ≡ 0) × (events : List Event) × FindsNothing fleet reading events
-FailSays fleet reading place number Differs = Unit {0}
+FailSays fleet reading place number Differs = SaysDiffers fleet reading place number
 FailSays fleet reading place number Unpinnable = ⊥
