@@ -26,7 +26,7 @@ fn push_words<A: Allocator>(text: &mut Vec<u8, A>, mark: &Mark<'_>) -> Result<()
 {
     match mark {
         Mark::Rect(area) => push_area(text, area),
-        Mark::Character(glyph) => push_glyph(text, glyph),
+        Mark::Glyph(glyph) => push_glyph(text, glyph),
         Mark::Row(row) => push_row(text, row),
         Mark::Line(line) => push_line(text, line),
     }

@@ -265,7 +265,7 @@ fn is_answer(outcome: Result<(), Stop<Full>>, answer: Answer) -> bool {
 fn is_last(kept: &Option<OwnedMark>, wanted: Option<LastMark>) -> bool {
     match (kept, wanted) {
         (Some(OwnedMark::Rect(area)), Some(Rectangle(edges))) => *area == rectangle(edges),
-        (Some(OwnedMark::Character(glyph)), Some(Character(code))) => *glyph == character(code),
+        (Some(OwnedMark::Glyph(glyph)), Some(Character(code))) => *glyph == character(code),
         (None, None) => true,
         _ => false,
     }

@@ -56,7 +56,7 @@ fn hand<S: MarkSink>(events: &[Event], sink: &mut S) -> Result<(), S::Fault> {
         let taken = match *event {
             Square(side) => sink.mark(&square(side)),
             Rect(edges) => sink.mark(&Mark::Rect(rectangle(edges))),
-            Character(code) => sink.mark(&Mark::Character(character(code))),
+            Character(code) => sink.mark(&Mark::Glyph(character(code))),
             Line(words) => sink.mark(&Mark::Line(line(words))),
             Letter(copies) => sink.page(letter(copies)),
         };

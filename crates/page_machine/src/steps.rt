@@ -68,7 +68,7 @@ fn hand_over<S: MarkSink>(
     match printed {
         Err(finding) => Err(Halt::Found(finding)),
         Ok(None) => Ok(()),
-        Ok(Some(glyph)) => match sink.mark(&Mark::Character(glyph)) {
+        Ok(Some(glyph)) => match sink.mark(&Mark::Glyph(glyph)) {
             Err(fault) => Err(Halt::Refused(fault)),
             Ok(()) => Ok(()),
         },
