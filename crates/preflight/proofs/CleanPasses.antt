@@ -14,7 +14,8 @@ use Rattle.page_machine.specs.Pinning.{finding_of}
 use Rattle.line_words.specs.declared.reason.Reason.TheVariants.{Differs}
 use Rattle.preflight.specs.Wrong.{Wrong, wrong, findings_in, differences_in, of_each, first_run, first_wrong, soonest}
 use Rattle.preflight.specs.Verdict.{watched_items, runs_of, verdict_by, verdict_of}
-use Rattle.preflight.specs.Clean.{IsClean, LeavesNothing, AreClean, IsPass, events_by_item, PassesWhereClean}
+use Rattle.preflight.specs.Failing.{events_by_item}
+use Rattle.preflight.specs.Clean.{IsClean, LeavesNothing, AreClean, IsPass, PassesWhereClean}
 use Rattle.preflight.proofs.SameLemmas.{same_events}
 use Rattle.preflight.proofs.Side.{Agreed, agreed_findings}
 use Rattle.preflight.proofs.Passing.{all_contained}
@@ -71,7 +72,7 @@ module _ (plainly : (printer : Printer) (panel : Panel) (reading : Reading) → 
   abbrev whole : Reading
   whole = Whole items place
 
-  passed_is_clean : IsPass (verdict_of fleet whole) → AreClean fleet whole
+  passed_is_clean : IsPass (verdict_of fleet whole) → AreClean fleet items place
   passed_is_clean pass = record { printed = pages (events_of first); clean = is_clean; events = events_by_item first; alike = λ p has. ap events_by_item (its p has) }
     where
       first : List ItemRun
@@ -86,12 +87,12 @@ module _ (plainly : (printer : Printer) (panel : Panel) (reading : Reading) → 
           let none : finding_of (watched_run p (first_panel p) whole).items ≡ None = ap finding_of same ∙ no_finding first one.agreed in
           ap (λ (r : JobRun). r.items) (plainly p (first_panel p) whole (set_of (watched_run p (first_panel p) whole).ending (ends_without p (watched p) (first_panel p) whole none))) ∙ same
 
-      is_clean : (p : Printer) → Contains fleet p → IsClean p (first_panel p) whole (pages (events_of first))
+      is_clean : (p : Printer) → Contains fleet p → IsClean p (first_panel p) items place (pages (events_of first))
       is_clean p has =
           let done = end_of (plain_run p (first_panel p) whole).ending (ends_without p unwatched (first_panel p) whole (ap finding_of (its p has) ∙ no_finding first one.agreed)) in
           record { end = done.0; is_done = done.1; prints = ap (λ run. pages (events_of run)) (its p has) }
 
-  clean_passes : ((printer : Printer) → Contains fleet printer → LeavesNothing printer) → AreClean fleet whole → IsPass (verdict_of fleet whole)
+  clean_passes : ((printer : Printer) → Contains fleet printer → LeavesNothing printer) → AreClean fleet items place → IsPass (verdict_of fleet whole)
   clean_passes nothing clean =
       let right = all_of (IsRight whole clean.events) fleet (λ p has.
       let same : (plain_run p (first_panel p) whole).items ≡ watched_items p whole = ap (λ flags. (run_from p flags (first_panel p) whole).items) (sym (nothing p has)) in

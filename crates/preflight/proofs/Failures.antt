@@ -1,5 +1,5 @@
 -- What is wrong first, and what it says of the runs of a fleet.
-use Rattle.std.proofs.Common.{◌≡◌, ◌≢◌, ◌+◌, ◌<◌, inl, inr, ℕ, true, false, List, [], ◌∷◌, ◌++◌, length, Option, None, Some, refl, ap, sym, ◌∙◌, subst, arith}
+use Rattle.std.proofs.Common.{◌≡◌, ◌≢◌, ◌+◌, ◌<◌, inl, inr, ℕ, suc, zero, true, false, List, [], ◌∷◌, ◌++◌, length, Option, None, Some, refl, ap, sym, ◌∙◌, subst, arith}
 use Rattle.std.specs.List.{AllByRecursion}
 use Rattle.std.proofs.lemmas.Bool.{cases_lt}
 use Rattle.pcl_items.specs.Reading.{Reading, Whole, Stopped}
@@ -8,17 +8,18 @@ use Rattle.device_profile.specs.Printer.{Printer, IsAllowed, first_panel}
 use Rattle.page_env.specs.declared.finding.Finding.{Finding}
 use Rattle.page_env.specs.Settings.{watched}
 use Rattle.page_machine.specs.Job.{ItemRun, JobRun, events_of, plain_run, watched_run}
-use Rattle.page_machine.specs.Laws.{IsSet, IsSetFinding, IsWatchedAlike, RunsPlainly}
-use Rattle.page_machine.specs.Pinning.{found_at, finding_of}
+use Rattle.page_machine.specs.Laws.{IsSet, IsWatchedAlike, RunsPlainly}
+use Rattle.page_machine.specs.Pinning.{finding_of}
 use Rattle.line_words.specs.declared.reason.Reason.{Reason}
 use Rattle.line_words.specs.declared.reason.Reason.TheVariants.{Fault, Finding as FindingOfRun, Differs}
 use Rattle.preflight.specs.declared.verdict.Verdict.TheVariants.{Fail}
 use Rattle.preflight.specs.Same.{are_same}
-use Rattle.preflight.specs.Wrong.{Wrong, found_or, findings_in, differences_in, of_each, first_run, first_wrong, sooner}
+use Rattle.preflight.specs.Wrong.{Wrong, findings_in, differences_in, of_each, first_run, first_wrong, sooner}
 use Rattle.preflight.specs.Verdict.{watched_items, runs_of, verdict_by, verdict_of}
-use Rattle.preflight.specs.Failing.{IsNumbered, Finds, FindsWatched, FindsNothing, GoesThrough, events_behind, SaysDiffers, FailSays}
+use Rattle.preflight.specs.Failing.{events_by_item, IsNumbered, GoesOn, FindsBehind, FindsNothing, GoesThrough, events_behind, SaysDiffers, FailSays}
 use Rattle.preflight.proofs.Soonest.{IsIn, soonest_in, in_either, in_left, in_right, in_front}
 use Rattle.preflight.proofs.SameLemmas.{same_events}
+use Rattle.preflight.proofs.Found.{its_finding, finding_behind, comes_behind, goes_on}
 use Rattle.preflight.proofs.RunEnds.{set_of, ends_without, no_finding, halts_there}
 use Rattle.preflight.proofs.Differing.{IsDifference, its_difference, comes_through, goes_plainly}
 use Rattle.preflight.proofs.FirstPanels.{first_allowed}
@@ -51,28 +52,14 @@ of_printer each reading from (p ∷ ps) w h =
           }
     ]
 
--- ---- the finding of a run
-
--- what is wrong is the finding of the run
-abbrev IsItsFinding : ℕ → List ItemRun → Wrong → Type 0
-IsItsFinding number items w = (w.profile ≡ number) × ((finding : Finding) × (w.reason ≡ FindingOfRun finding) × (finding_of items ≡ Some (w.place, finding)))
-
-its_finding : (number before : ℕ) (items : List ItemRun) (w : Wrong) → IsIn w (findings_in number before items) → IsItsFinding number items w
-its_finding number before [] w h = absurd h
-its_finding number before (x ∷ items) w h = by x.finding (its_finding number (before + 1) items w) h
-  where
-    by : (o : Option Finding) → (IsIn w (findings_in number (before + 1) items) → IsItsFinding number items w) → IsIn w (found_or number before x.place o (findings_in number (before + 1) items)) →
-        (w.profile ≡ number) × ((finding : Finding) × (w.reason ≡ FindingOfRun finding) × (found_at x.place o (finding_of items) ≡ Some (w.place, finding)))
-    by (Some finding) rest (inl e) = (sym (ap (λ v. v.profile) e), (finding, sym (ap (λ v. v.reason) e), ap (λ v. Some (v.place, finding)) e))
-    by (Some finding) rest (inr nothing) = absurd nothing
-    by None rest h = rest h
+-- ---- the runs of a fleet
 
 -- what is found is no difference
 none_differs : (reading : Reading) (fleet : List Printer) (w : Wrong) → IsIn w (of_each findings_in 1 (runs_of fleet reading)) → w.reason ≡ Differs → ⊥
 none_differs reading fleet w h differs =
     let of = of_printer findings_in reading 1 fleet w h in
     let its = its_finding (1 + length of.before) 0 (watched_items of.printer reading) w of.is_in in
-    let e : FindingOfRun its.1.0 ≡ Differs = sym its.1.1 ∙ differs in
+    let e : FindingOfRun its.finding ≡ Differs = sym its.reason_is ∙ differs in
     cc
 
 -- what is found in the run of a printer is one of these
@@ -108,27 +95,31 @@ module _ (anywhere : (printer : Printer) (reading : Reading) → IsWatchedAlike 
   plain_items : (printer : Printer) (panel : Panel) (reading : Reading) → IsAllowed printer panel → IsSet (watched_run printer panel reading).ending → (plain_run printer panel reading).items ≡ watched_items printer reading
   plain_items printer panel reading allowed set = ap (λ (r : JobRun). r.items) (plainly printer panel reading set) ∙ same_items printer panel reading allowed
 
-  finds_watched : (printer : Printer) (reading : Reading) (place : ℕ) (finding : Finding) → finding_of (watched_items printer reading) ≡ Some (place, finding) → FindsWatched printer reading place finding
-  finds_watched printer reading place finding found panel allowed = ap finding_of (same_items printer panel reading allowed) ∙ found
-
-  finds : (printer : Printer) (reading : Reading) (place : ℕ) (finding : Finding) → finding_of (watched_items printer reading) ≡ Some (place, finding) → IsSetFinding finding → Finds printer reading place finding
-  finds printer reading place finding found set panel allowed =
-      let ends = halts_there printer (watched printer) panel reading place finding (finds_watched printer reading place finding found panel allowed) in
-      ap finding_of (plain_items printer panel reading allowed (subst IsSet (sym ends) set)) ∙ found
-
   -- ---- a finding
 
-  -- what is wrong for a printer, as its verdict says it
+  -- the plain run comes to the item behind so many others
+  comes_to : (printer : Printer) (reading : Reading) (before place : ℕ) (finding : Finding) (panel : Panel) → FindsBehind before place finding (watched_run printer panel reading).items → GoesOn before (plain_run printer panel reading).items
+  comes_to printer reading zero place finding panel there = tt
+  comes_to printer reading (suc n) place finding panel there =
+      let last = comes_behind n place finding (watched_run printer panel reading).items there in
+      goes_on n last.0 (plain_run printer panel reading).items (goes_plainly plainly printer panel n last.0 reading last.1).0
+
   found_says : (fleet : List Printer) (reading : Reading) (w : Wrong) → IsOf findings_in reading 1 fleet w → FailSays fleet reading w.place w.profile w.reason
   found_says fleet reading w of =
       let its = its_finding (1 + length of.before) 0 (watched_items of.printer reading) w of.is_in in
-      let finding : Finding = its.1.0 in
-      subst (FailSays fleet reading w.place w.profile) (sym its.1.1) (
-        of.printer,
-        record { before = of.before; after = of.after; fleet_is = of.fleet_is; number_is = omega (arith, its.0) },
-        finds_watched of.printer reading w.place finding its.1.2,
-        finds of.printer reading w.place finding its.1.2,
-      )
+      let there : (panel : Panel) → IsAllowed of.printer panel → FindsBehind its.count w.place its.finding (watched_run of.printer panel reading).items =
+      λ panel allowed. subst (FindsBehind its.count w.place its.finding) (sym (same_items of.printer panel reading allowed)) its.there in
+      subst (FailSays fleet reading w.place w.profile) (sym its.reason_is) record {
+        printer = of.printer;
+        is_numbered = record { before = of.before; after = of.after; fleet_is = of.fleet_is; number_is = omega (arith, its.number_is) };
+        before = its.count;
+        comes = λ panel allowed. comes_to of.printer reading its.count w.place its.finding panel (there panel allowed);
+        watched = there;
+        plain = λ set panel allowed.
+            let run = watched_run of.printer panel reading in
+            let ends = halts_there of.printer (watched of.printer) panel reading w.place its.finding (finding_behind its.count w.place its.finding run.items (there panel allowed)) in
+            subst (FindsBehind its.count w.place its.finding) (sym (plain_items of.printer panel reading allowed (subst IsSet (sym ends) set))) its.there;
+      }
 
   -- ---- a difference
 
@@ -195,13 +186,13 @@ module _ (anywhere : (printer : Printer) (reading : Reading) → IsWatchedAlike 
 
   -- ---- a fault of the bytes
 
-  finds_nothing : (fleet : List Printer) (reading : Reading) → AreOne reading fleet → FindsNothing fleet reading (events_of (first_run (runs_of fleet reading)))
+  finds_nothing : (fleet : List Printer) (reading : Reading) → AreOne reading fleet → FindsNothing fleet reading (events_by_item (first_run (runs_of fleet reading)))
   finds_nothing fleet reading one printer has panel allowed =
       let first : List ItemRun = first_run (runs_of fleet reading) in
       let its : watched_items printer reading ≡ first = all_contained (λ p. watched_items p reading ≡ first) fleet printer one.one has in
       let none : finding_of (watched_run printer panel reading).items ≡ None = ap finding_of (same_items printer panel reading allowed ∙ its) ∙ no_finding first one.agreed in
       let plain : (plain_run printer panel reading).items ≡ first = plain_items printer panel reading allowed (set_of (watched_run printer panel reading).ending (ends_without printer (watched printer) panel reading none)) ∙ its in
-      (ap finding_of plain ∙ no_finding first one.agreed, ap events_of plain)
+      (ap finding_of plain ∙ no_finding first one.agreed, ap events_by_item plain)
 
   fail_is : (a b c d : ℕ) (x y : Reason) → Fail a b x ≡ Fail c d y → (a ≡ c) × (b ≡ d) × (x ≡ y)
   fail_is a b c d x y e = (cc, cc, cc)
@@ -219,4 +210,4 @@ module _ (anywhere : (printer : Printer) (reading : Reading) → IsWatchedAlike 
       by None is (Stopped items at cause) same e =
           let h = fail_is at 0 place number (Fault cause) reason e in
           subst (λ r. FailSays fleet reading place number r) h.2
-          (sym h.1, events_of (first_run (runs_of fleet reading)), finds_nothing fleet reading (are_one reading fleet is))
+          (sym h.1, (items, sym same ∙ ap (λ here. Stopped items here cause) h.0), (events_by_item (first_run (runs_of fleet reading)), finds_nothing fleet reading (are_one reading fleet is)))

@@ -1,5 +1,5 @@
 -- The text of a pinned job is read as its items, each where it stands.
-use Rattle.std.proofs.Common.{◌≡◌, ◌≤◌, ℕ, ◌+◌, ◌*◌, ◌==◌, ◌&&◌, length, Bool, true, false, not, cond, List, [], ◌∷◌, ◌++◌, drop, append_assoc, Option, Some, None, IsTrue, refl, ap, sym, ◌∙◌, subst, arith}
+use Rattle.std.proofs.Common.{◌≡◌, ◌≤◌, ℕ, ◌*◌, ◌==◌, ◌&&◌, Bool, true, false, not, cond, List, [], ◌∷◌, ◌++◌, drop, append_assoc, Option, Some, None, IsTrue, refl, ap, sym, ◌∙◌, subst, arith}
 use Rattle.std.specs.Prelude.{IsSomeAnd}
 use Rattle.std.specs.List.{AllByRecursion, flat_map}
 use Rattle.std.specs.Option.{option_map_or}
@@ -11,25 +11,22 @@ use Rattle.pcl_items.specs.declared.command.Command.TheVariants.{Orientation}
 use Rattle.pcl_items.specs.declared.item.Mode.{Mode}
 use Rattle.pcl_items.specs.declared.item.Mode.TheVariants.{Pcl, Frame, Pjl}
 use Rattle.pcl_items.specs.Canon.{canon, IsItem}
-use Rattle.pcl_items.specs.Contexts.{Context, MayEndAt}
-use Rattle.pcl_items.specs.Contexts as contexts
 use Rattle.pcl_items.specs.Grammar.{MayEnd, follows, behind_line}
 use Rattle.pcl_items.specs.Items.{Entry, Placed, Reset, ExitLanguage, PjlLine, Parameterized, Text}
 use Rattle.pcl_items.specs.LineText.{Line, EnterPcl, at_sign}
 use Rattle.pcl_items.specs.Modes.{between, mode_of}
-use Rattle.pcl_items.specs.Reading.{ReadsTo, here, Whole, IsReading}
+use Rattle.pcl_items.specs.Reading.{Whole, IsReading}
 use Rattle.pcl_items.specs.Spelled.{AreAdmitted, none, some, entries, mode_after, mode_behind, spelled}
 use Rattle.pcl_items.specs.Value.{most}
-use Rattle.pcl_items.proofs.Canons.{has_canon}
 use Rattle.pcl_items.proofs.Spellings.{AreAdmitted-append, mode_behind-append, reads_mode, spelled-append}
 use Rattle.pcl_items.proofs.Stopping.{read_by_rules}
-use Rattle.pcl_items.proofs.ReadsTo.{ReadsTo-append}
 use Rattle.page_env.specs.FontInForce.{request_at, no_request}
 use Rattle.page_env.specs.Pinned.{is_unpinnable}
 use Rattle.page_machine.specs.Pinning.{spacing, prologue, needs_no_prologue, before, behind, is_due_behind, pinned_items, placed_from, place_behind}
 use Rattle.preflight.specs.Pins.{pinned_item, pinned_text}
 use Rattle.preflight.proofs.PinSettings.{within, Sendable, sendable}
 use Rattle.preflight.proofs.ReadAgain.{items_admitted}
+use Rattle.preflight.proofs.SpelledReading.{placed_reads, mode_ends, ends_between}
 
 -- ---- the text
 
@@ -198,25 +195,6 @@ module _ (printer : Printer) (panel : Panel) (set : CanBeSetTo printer panel) wh
       by false needs n out h = item_stands item mode next is e items (behind panel item ++ rest) h
 
 -- ---- what is read
-
-placed_reads : (mode final : Mode) (place : ℕ) (items : List Entry) → AreAdmitted mode items → mode_behind mode items ≡ Some final → ReadsTo true (between mode) place (spelled items) (placed_from place items) (between final) (place_behind place items) []
-placed_reads mode final place [] none e = let same : mode ≡ final = cc in subst (λ (m : Mode). ReadsTo true (between mode) place [] [] (between m) place []) same here
-placed_reads mode final place (item ∷ items) (some {next = next} is e others) behind =
-    let later : mode_behind next items ≡ Some final = ap (λ m. mode_after m items) (sym e) ∙ behind in
-    ReadsTo-append ((has_canon mode next item is e).reads true place (spelled items)) (placed_reads next final (place + length (canon item)) items others later)
-
-mode_ends : (context : Context) → MayEndAt context → MayEnd (mode_of context)
-mode_ends contexts.Pcl h = tt
-mode_ends (contexts.Sequence group) h = absurd h
-mode_ends contexts.Frame h = absurd h
-mode_ends (contexts.Letters mnemonic n) h = absurd h
-mode_ends (contexts.Numbered numbers gap n) h = absurd h
-mode_ends contexts.Pjl h = tt
-
-ends_between : (mode : Mode) → MayEnd mode → MayEndAt (between mode)
-ends_between Pcl h = tt
-ends_between Frame h = absurd h
-ends_between Pjl h = tt
 
 -- The spellings of the pinned items are read as these items, where a job's bytes are all items.
 pub pinned_is_read : (printer : Printer) (panel : Panel) (set : CanBeSetTo printer panel) (job : List ℕ) (items : List Placed) (place : ℕ) → IsReading job (Whole items place) →

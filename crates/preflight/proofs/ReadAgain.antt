@@ -27,7 +27,9 @@ use Rattle.pcl_items.proofs.LineCanonical.{spelled_line}
 use Rattle.pcl_items.proofs.Spellings.{items_in-spelled, reads_mode}
 use Rattle.pcl_items.proofs.Stopping.{read_by_rules}
 use Rattle.preflight.specs.Laws.{HaveOnePlainText, IsReadAgain}
+use Rattle.page_machine.specs.Pinning.{placed_from, place_behind}
 use Rattle.preflight.specs.Texts.{plain_text}
+use Rattle.preflight.proofs.SpelledReading.{spelled_is_read}
 
 -- each item is within the limits
 abbrev AreItems : List Placed → Type 0
@@ -189,7 +191,13 @@ pub is_read_again : (job : List ℕ) (reading : Reading) → IsReading job readi
 is_read_again job reading is =
     let text = plain_spelled (items_of reading) in
     let same = sym (all_items (plain_text reading)) ∙ (ap (items_in modes.Pcl) text ∙ items_in-spelled modes.Pcl (entries (items_of reading)) (items_admitted job reading is)) in
-    record { same = same; again = plain_spelled (items_of (reading_of (plain_text reading))) ∙ (ap spelled same ∙ sym text) }
+    record {
+      same = same;
+      whole = λ items place e.
+          let spells : plain_text reading ≡ spelled (entries items) = ap plain_text e ∙ plain_spelled items in
+          subst (λ bytes. IsReading bytes (Whole (placed_from 0 (entries items)) (place_behind 0 (entries items)))) (sym spells) (spelled_is_read job items place (subst (IsReading job) e is) (items_admitted job (Whole items place) (subst (IsReading job) e is)));
+      again = plain_spelled (items_of (reading_of (plain_text reading))) ∙ (ap spelled same ∙ sym text);
+    }
 
 pub one_plain_text : (a b : Reading) → HaveOnePlainText a b
 one_plain_text a b same = plain_spelled (items_of a) ∙ (ap spelled same ∙ sym (plain_spelled (items_of b)))

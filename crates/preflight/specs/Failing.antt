@@ -1,12 +1,13 @@
 -- What a Fail says of the printers of a fleet.
-use Rattle.std.specs.Prelude.{◌≡◌, ◌≢◌, ℕ, zero, suc, ◌+◌, List, [], ◌∷◌, ◌++◌, length, None, Some}
+use Rattle.std.specs.Prelude.{◌≡◌, ◌≢◌, ℕ, zero, suc, ◌+◌, List, [], ◌∷◌, ◌++◌, length, None, Some, map}
 use Rattle.std.specs.List.{Contains}
-use Rattle.pcl_items.specs.Reading.{Reading}
+use Rattle.pcl_items.specs.Items.{Placed}
+use Rattle.pcl_items.specs.Reading.{Reading, Stopped}
 use Rattle.device_profile.specs.declared.panel.Panel.{Panel}
 use Rattle.device_profile.specs.Printer.{Printer, IsAllowed}
 use Rattle.page_env.specs.declared.finding.Finding.{Finding}
 use Rattle.page_machine.specs.Event.{Event}
-use Rattle.page_machine.specs.Job.{ItemRun, events_of, plain_run, watched_run}
+use Rattle.page_machine.specs.Job.{ItemRun, plain_run, watched_run}
 use Rattle.page_machine.specs.Laws.{IsSetFinding}
 use Rattle.page_machine.specs.Pinning.{finding_of}
 use Rattle.line_words.specs.declared.reason.Reason.{Reason}
@@ -19,21 +20,37 @@ pub record IsNumbered (fleet : List Printer) (number : ℕ) (printer : Printer) 
   pub fleet_is : fleet ≡ before ++ printer ∷ after
   pub number_is : number ≡ length before + 1
 
--- from every panel that the profile allows, the plain run finds this first, at this place
-abbrev pub Finds : Printer → Reading → ℕ → Finding → Type 0
-Finds printer reading place finding =
-    (panel : Panel) → IsAllowed printer panel → finding_of (plain_run printer panel reading).items ≡ Some (place, finding)
+-- so many items of a run find nothing
+abbrev pub GoesOn : ℕ → List ItemRun → Type 0
+GoesOn zero items = Unit {0}
+GoesOn (suc count) [] = ⊥
+GoesOn (suc count) (item ∷ items) = (item.finding ≡ None) × GoesOn count items
 
--- so does the watched run
-abbrev pub FindsWatched : Printer → Reading → ℕ → Finding → Type 0
-FindsWatched printer reading place finding =
-    (panel : Panel) → IsAllowed printer panel → finding_of (watched_run printer panel reading).items ≡ Some (place, finding)
+-- behind so many items that find nothing, one at this place has this finding
+abbrev pub FindsBehind : ℕ → ℕ → Finding → List ItemRun → Type 0
+FindsBehind before place finding [] = ⊥
+FindsBehind zero place finding (item ∷ items) = (item.finding ≡ Some finding) × (item.place ≡ place)
+FindsBehind (suc before) place finding (item ∷ items) = (item.finding ≡ None) × FindsBehind before place finding items
 
--- on every printer of the fleet, from every panel that its profile allows, the plain run finds nothing and gives these events
-abbrev pub FindsNothing : List Printer → Reading → List Event → Type 0
+-- From every panel that its profile allows, the printer of this number comes to the item at this place without a finding, and the watched
+-- run finds this there; and so does the plain run, unless it is Unset.
+pub record SaysFound (fleet : List Printer) (reading : Reading) (place number : ℕ) (finding : Finding) : Type 0 where
+  pub printer : Printer
+  pub is_numbered : IsNumbered fleet number printer
+  pub before : ℕ
+  pub comes : (panel : Panel) → IsAllowed printer panel → GoesOn before (plain_run printer panel reading).items
+  pub watched : (panel : Panel) → IsAllowed printer panel → FindsBehind before place finding (watched_run printer panel reading).items
+  pub plain : IsSetFinding finding → (panel : Panel) → IsAllowed printer panel → FindsBehind before place finding (plain_run printer panel reading).items
+
+-- the events of a run, item by item
+abbrev pub events_by_item : List ItemRun → List (List Event)
+events_by_item items = map (λ item. item.events) items
+
+-- on every printer of the fleet, from every panel that its profile allows, the plain run finds nothing and gives these events item by item
+abbrev pub FindsNothing : List Printer → Reading → List (List Event) → Type 0
 FindsNothing fleet reading events =
     (printer : Printer) → Contains fleet printer → (panel : Panel) → IsAllowed printer panel →
-    (finding_of (plain_run printer panel reading).items ≡ None) × (events_of (plain_run printer panel reading).items ≡ events)
+    (finding_of (plain_run printer panel reading).items ≡ None) × (events_by_item (plain_run printer panel reading).items ≡ events)
 
 -- the run goes through so many items and the next one, which stands at this place, and finds nothing
 abbrev pub GoesThrough : ℕ → ℕ → List ItemRun → Type 0
@@ -58,12 +75,11 @@ pub record SaysDiffers (fleet : List Printer) (reading : Reading) (place number 
   pub other : (first : Printer) (panel panel' : Panel) → IsNumbered fleet 1 first → IsAllowed first panel → IsAllowed printer panel' →
       events_behind before (plain_run first panel reading).items ≢ events_behind before (plain_run printer panel' reading).items
 
--- What a Fail says. A finding but Unset is the first that the printer of its number comes to, whatever its panel; Unset is so where
--- what the panel chooses is watched. A fault of the bytes comes behind items in which no printer finds anything, and which print alike.
+-- What a Fail says: of a finding, of a fault of the bytes, which comes behind items in which no printer finds anything and which print
+-- alike, and of a difference.
 abbrev pub FailSays : List Printer → Reading → (place number : ℕ) → Reason → Type 0
-FailSays fleet reading place number (FindingOfRun finding) =
-    (printer : Printer) × IsNumbered fleet number printer × FindsWatched printer reading place finding
-    × (IsSetFinding finding → Finds printer reading place finding)
-FailSays fleet reading place number (Fault cause) = (number ≡ 0) × (events : List Event) × FindsNothing fleet reading events
+FailSays fleet reading place number (FindingOfRun finding) = SaysFound fleet reading place number finding
+FailSays fleet reading place number (Fault cause) =
+    (number ≡ 0) × ((items : List Placed) × (reading ≡ Stopped items place cause)) × ((events : List (List Event)) × FindsNothing fleet reading events)
 FailSays fleet reading place number Differs = SaysDiffers fleet reading place number
 FailSays fleet reading place number Unpinnable = ⊥
