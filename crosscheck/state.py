@@ -1,0 +1,131 @@
+"""What a printer holds while it carries out a job, as plain numbers.
+
+Lengths are in ticks of 1/36,576,000,000 inch, so that every unit is a whole number.
+"""
+
+from dataclasses import dataclass, field
+from typing import Dict, FrozenSet, List, Optional, Tuple
+
+from printer_profile import FontRequest, Profile
+
+INCH = 36_576_000_000
+PER_7200 = INCH // 7200
+DECIPOINT = INCH // 720
+PLOTTER_UNIT = 36_000_000
+MILLIMETRE = 1_440_000_000
+VMI_UNIT = INCH // 48
+HMI_UNIT = INCH // 120
+TEN_THOUSAND = 10000
+
+FONT_PARTS = ("symbol_set", "spacing", "pitch", "height", "style", "weight", "typeface")
+PAGE_FIELDS = ("Size", "Orientation", "Copies", "Sides", "Tray")
+
+FINDINGS = {
+    10: "BadValue", 11: "NotOnDevice", 12: "Unset", 13: "NoFont", 14: "NoGlyph",
+    15: "OffPage", 16: "PastRightMargin", 17: "NotPrintable", 18: "StackFull",
+    19: "StackEmpty", 20: "NoMacro", 21: "MacroDepth", 22: "MacroMemory", 23: "InMacro",
+    24: "DefinitionOpen", 25: "RasterNotStarted", 26: "RasterLocked", 27: "RasterTooBig",
+    28: "NoPen", 29: "OutsideFrame", 30: "EmptyRectangle", 31: "Inexact",
+    32: "MarginIgnored", 33: "Differs", 34: "RotatedRaster", 35: "Unpinnable",
+}
+
+# The checks of one step are made in this order.
+CHECK_ORDER = (24, 10, 11, 18, 19, 20, 21, 22, 23, 25, 26, 27, 28, 30, 12, 13, 14, 31, 34,
+               15, 16, 17, 29, 32)
+
+
+class Finding(Exception):
+    def __init__(self, number: int, unset: str = ""):
+        super().__init__(number)
+        self.number = number
+        self.unset = unset
+
+    def __str__(self) -> str:
+        name = FINDINGS[self.number]
+        return f"{self.number} {name}({self.unset})" if self.unset else f"{self.number} {name}"
+
+
+def scaled(length: int, size: int) -> int:
+    """The length times a value in ten-thousandths, where that is whole."""
+    product = length * size
+    assert product % TEN_THOUSAND == 0
+    return product // TEN_THOUSAND
+
+
+@dataclass
+class Settings:
+    """What a call puts back. Every part holds a plain value that is never changed inside."""
+    values: Dict[str, int]                     # the panel fields but Vmi and Font
+    vmi: int                                   # in ticks
+    font: Dict[str, object]                    # the parts that the job has set
+    touched: FrozenSet[str] = frozenset()      # the fields that the job has set
+    pcl_unit: int = INCH // 300
+    top: int = INCH // 2
+    bottom: Optional[int] = None               # None: the default
+    left: int = 0
+    right: Optional[int] = None                # None: the logical page's width
+    hmi: Optional[int] = None
+    perforation_skip: int = 1
+    rect_width: int = 0
+    rect_height: int = 0
+    fill: int = 0
+    resolution: int = 75
+    presentation: int = 3
+    raster_width: Optional[int] = None
+    raster_height: Optional[int] = None
+    anchor: Optional[Tuple[int, int]] = None
+    frame_width: Optional[int] = None
+    frame_height: Optional[int] = None
+    macro_id: int = 0
+    overlay: Optional[int] = None
+
+
+@dataclass
+class Plotter:
+    """The HP-GL/2 state: as after IN."""
+    pen: int = 0
+    is_down: bool = False
+    x: int = 0                                 # from the frame's origin, upwards for y
+    y: int = 0
+    is_absolute: bool = True
+    width: int = 35 * MILLIMETRE // 100
+
+
+@dataclass
+class Raster:
+    """A started raster: its left edge and the rows and skips so far."""
+    left: int
+    rows: int = 0
+
+
+@dataclass
+class State:
+    settings: Settings
+    plotter: Plotter = field(default_factory=Plotter)
+    x: int = 0
+    y: Optional[int] = None                    # None: home
+    stack: List[Tuple[int, int]] = field(default_factory=list)
+    is_marked: bool = False
+    raster: Optional[Raster] = None
+    in_frame: bool = False
+
+
+@dataclass(frozen=True)
+class Level:
+    """Where an item is carried out: by the job, or in a macro."""
+    depth: int = 0                             # 0: by the job itself
+    in_overlay: bool = False
+    in_call: bool = False                      # in a call or an overlay, also deeper
+
+
+def default_settings(panel: Dict[str, int]) -> Settings:
+    values = {name: panel[name] for name in PAGE_FIELDS + ("LineTerm",)}
+    return Settings(values=values, vmi=scaled(VMI_UNIT, panel["Vmi"]), font={})
+
+
+def font_request(profile: Profile, panel: Dict[str, int], settings: Settings) -> FontRequest:
+    """The parts that the job has set, the others those of the panel's font."""
+    base = profile.faces[panel["Font"]].request
+    parts = {part: getattr(base, part) for part in FONT_PARTS}
+    parts.update(settings.font)
+    return FontRequest(**parts)
