@@ -1,5 +1,5 @@
 -- Where two printers differ every run goes through the item, and there its events are not the same.
-use Rattle.std.proofs.Common.{◌≡◌, ◌<◌, ◌+◌, ◌⊎◌, inl, inr, ℕ, zero, suc, Bool, true, false, cond, List, [], ◌∷◌, None, Some, refl, ap, sym, ◌∙◌, subst, arith}
+use Rattle.std.proofs.Common.{◌≡◌, ◌≤◌, ◌<◌, ◌+◌, ◌⊎◌, inl, inr, ℕ, zero, suc, Bool, true, false, cond, List, [], ◌∷◌, None, Some, refl, ap, sym, ◌∙◌, subst, arith}
 use Rattle.pcl_items.specs.Items.{Placed}
 use Rattle.pcl_items.specs.Reading.{Reading, Whole, Stopped}
 use Rattle.pcl_items.specs.declared.fault.Cause.TheVariants.{Syntax}
@@ -17,7 +17,8 @@ use Rattle.line_words.specs.declared.reason.Reason.TheVariants.{Finding as Findi
 use Rattle.preflight.specs.Same.{are_same}
 use Rattle.preflight.specs.Wrong.{Wrong, wrong, findings_in, differences_in}
 use Rattle.preflight.specs.Verdict.{watched_items}
-use Rattle.preflight.specs.Failing.{GoesThrough, events_behind}
+use Rattle.preflight.specs.Failing.{GoesThrough, events_before, events_behind}
+use Rattle.preflight.proofs.SameLemmas.{events_decide}
 use Rattle.preflight.proofs.Soonest.{IsIn}
 use Rattle.preflight.proofs.RunEnds.{set_of, ends_without}
 
@@ -29,6 +30,12 @@ HasItem n place [] = ⊥
 HasItem zero place (x ∷ xs) = x.place ≡ place
 HasItem (suc n) place (x ∷ xs) = HasItem n place xs
 
+-- a list has more than so many
+abbrev pub HasMore : {X : Type 0} → ℕ → List X → Type 0
+HasMore n [] = ⊥
+HasMore zero (x ∷ xs) = Unit {0}
+HasMore (suc n) (x ∷ xs) = HasMore n xs
+
 -- it is where this run differs from the first, and so many items come before it
 pub record IsDifference (number before : ℕ) (first items : List ItemRun) (w : Wrong) : Type 0 where
   pub count : ℕ
@@ -36,18 +43,20 @@ pub record IsDifference (number before : ℕ) (first items : List ItemRun) (w : 
   pub number_is : w.profile ≡ number
   pub reason_is : w.reason ≡ Differs
   pub has : HasItem count w.place items
+  pub has_first : HasMore count first
   pub other : are_same (events_behind count first) (events_behind count items) ≡ false
 
 differing : (number before : ℕ) (a b : ItemRun) (first items : List ItemRun) (w : Wrong) (same : Bool) → (IsIn w (differences_in first number (before + 1) items) → IsDifference number (before + 1) first items w) → are_same a.events b.events ≡ same → IsIn w (cond same (differences_in first number (before + 1) items) (wrong before b.place number Differs ∷ [])) → IsDifference number before (a ∷ first) (b ∷ items) w
 differing number before a b first items w true rest is h =
     let d = rest h in
-    record { count = suc d.count; before_is = omega (arith, d.before_is); number_is = d.number_is; reason_is = d.reason_is; has = d.has; other = d.other }
+    record { count = suc d.count; before_is = omega (arith, d.before_is); number_is = d.number_is; reason_is = d.reason_is; has = d.has; has_first = d.has_first; other = d.other }
 differing number before a b first items w false rest is (inl here) = record {
   count = zero;
   before_is = omega (arith, ap (λ (v : Wrong). v.before) here);
   number_is = sym (ap (λ (v : Wrong). v.profile) here);
   reason_is = sym (ap (λ (v : Wrong). v.reason) here);
   has = ap (λ (v : Wrong). v.place) here;
+  has_first = tt;
   other = is;
 }
 differing number before a b first items w false rest is (inr nothing) = absurd nothing
@@ -57,6 +66,38 @@ its_difference number before [] items w h = absurd h
 its_difference number before (a ∷ first) [] w h = absurd h
 its_difference number before (a ∷ first) (b ∷ items) w h =
     differing number before a b first items w (are_same a.events b.events) (its_difference number (before + 1) first items w) refl h
+
+-- ---- where two runs differ first, they are the same before
+
+same_head : (m before n : ℕ) (a b : ItemRun) (first items : List ItemRun) (same : Bool) → are_same a.events b.events ≡ same →
+    ((v : Wrong) → IsIn v (cond same (differences_in first m (before + 1) items) (wrong before b.place m Differs ∷ [])) → before + suc n ≤ v.before) →
+    (b.events ≡ a.events) × ((v : Wrong) → IsIn v (differences_in first m (before + 1) items) → before + 1 + n ≤ v.before)
+same_head m before n a b first items true is h = (sym ((events_decide a.events b.events).0 is), λ v has. omega (arith, h v has))
+same_head m before n a b first items false is h = absurd (omega (arith, h (wrong before b.place m Differs) (inl refl)))
+
+pub same_before : (m before n : ℕ) (first items : List ItemRun) → ((v : Wrong) → IsIn v (differences_in first m before items) → before + n ≤ v.before) →
+    HasMore n first → HasMore n items → events_before n items ≡ events_before n first
+same_before m before zero first items h more others = refl
+same_before m before (suc n) [] items h more others = absurd more
+same_before m before (suc n) (a ∷ first) [] h more others = absurd others
+same_before m before (suc n) (a ∷ first) (b ∷ items) h more others =
+    let same = same_head m before n a b first items (are_same a.events b.events) refl h in
+    ap (λ events. events ∷ events_before n items) same.0 ∙ ap (λ rest. a.events ∷ rest) (same_before m (before + 1) n first items same.1 more others)
+
+-- and at the item too, where they differ later still
+pub same_there : (m before n : ℕ) (first items : List ItemRun) → ((v : Wrong) → IsIn v (differences_in first m before items) → before + n < v.before) →
+    HasMore n first → HasMore n items → events_behind n items ≡ events_behind n first
+same_there m before n [] items h more others = absurd more
+same_there m before n (a ∷ first) [] h more others = absurd others
+same_there m before zero (a ∷ first) (b ∷ items) h more others = (same_head m before zero a b first items (are_same a.events b.events) refl (λ v has. omega (arith, h v has))).0
+same_there m before (suc n) (a ∷ first) (b ∷ items) h more others =
+    let same = same_head m before (suc n) a b first items (are_same a.events b.events) refl (λ v has. omega (arith, h v has)) in
+    same_there m (before + 1) n first items (λ v has. omega (arith, same.1 v has)) more others
+
+pub more_through : (n place : ℕ) (items : List ItemRun) → GoesThrough n place items → HasMore n items
+more_through n place [] h = absurd h
+more_through zero place (x ∷ items) h = tt
+more_through (suc n) place (x ∷ items) h = more_through n place items h.1
 
 -- ---- a run that finds nothing so far comes to the item to which another comes
 
@@ -107,12 +148,6 @@ front n [] = []
 front zero (x ∷ xs) = x ∷ []
 front (suc n) (x ∷ xs) = x ∷ front n xs
 
--- a list has more than so many
-abbrev HasMore : {X : Type 0} → ℕ → List X → Type 0
-HasMore n [] = ⊥
-HasMore zero (x ∷ xs) = Unit {0}
-HasMore (suc n) (x ∷ xs) = HasMore n xs
-
 item_alone : (at : ℕ) (es : List Event) (p : Peaks) (e : Ending) (next next' : State → JobRun) → ((s : State) → (next' s).items ≡ []) → (ended_item at es p e next').items ≡ front 0 (ended_item at es p e next).items
 item_alone at es p (Done s) next next' none = ap (λ (xs : List ItemRun). record { place = at; events = es; finding = None } ∷ xs) (none s)
 item_alone at es p (Halts f) next next' none = refl
@@ -140,10 +175,20 @@ none_in_front n place [] h = absurd h
 none_in_front zero place (x ∷ xs) h = ap (λ o. found_at x.place o None) h.0
 none_in_front (suc n) place (x ∷ xs) h = ap (λ o. found_at x.place o (finding_of (front n xs))) h.0 ∙ none_in_front n place xs h.1
 
--- a run with the same front goes through it too, and gives the same events there
 cons_is : (x y : ItemRun) (xs ys : List ItemRun) → y ∷ ys ≡ x ∷ xs → (y ≡ x) × (ys ≡ xs)
 cons_is x y xs ys e = (cc, cc)
 
+-- runs with the same front give the same events before
+front_events : (n : ℕ) (xs ys : List ItemRun) → front n ys ≡ front n xs → events_before n ys ≡ events_before n xs
+front_events zero xs ys e = refl
+front_events (suc n) [] [] e = refl
+front_events (suc n) [] (y ∷ ys) e = absurd cc
+front_events (suc n) (x ∷ xs) [] e = absurd cc
+front_events (suc n) (x ∷ xs) (y ∷ ys) e =
+    let same = cons_is x y (front n xs) (front n ys) e in
+    ap (λ (z : ItemRun). z.events ∷ events_before n ys) same.0 ∙ ap (λ rest. x.events ∷ rest) (front_events n xs ys same.1)
+
+-- a run with the same front goes through it too, and gives the same events there
 through_alike : (n place : ℕ) (xs ys : List ItemRun) → front n ys ≡ front n xs → GoesThrough n place xs → GoesThrough n place ys × (events_behind n ys ≡ events_behind n xs)
 through_alike n place [] ys e h = absurd h
 through_alike zero place (x ∷ xs) [] e h = absurd cc
@@ -186,14 +231,16 @@ module _ (plainly : (printer : Printer) (panel : Panel) (reading : Reading) → 
 
   abbrev GoesPlainly : Printer → Panel → ℕ → ℕ → Reading → Type 0
   GoesPlainly printer panel n place reading =
-      GoesThrough n place (plain_run printer panel reading).items × (events_behind n (plain_run printer panel reading).items ≡ events_behind n (watched_run printer panel reading).items)
+      GoesThrough n place (plain_run printer panel reading).items
+      × (events_behind n (plain_run printer panel reading).items ≡ events_behind n (watched_run printer panel reading).items)
+      × (events_before n (plain_run printer panel reading).items ≡ events_before n (watched_run printer panel reading).items)
 
   module _ (printer : Printer) (panel : Panel) (n place : ℕ) where
     -- where it finds nothing at all
     in_whole : (reading : Reading) → finding_of (watched_run printer panel reading).items ≡ None → GoesThrough n place (watched_run printer panel reading).items → GoesPlainly printer panel n place reading
     in_whole reading none h =
         let same : (plain_run printer panel reading).items ≡ (watched_run printer panel reading).items = ap (λ (r : JobRun). r.items) (plainly printer panel reading (without printer panel reading none)) in
-        (subst (GoesThrough n place) (sym same) h, ap (events_behind n) same)
+        (subst (GoesThrough n place) (sym same) h, ap (events_behind n) same, ap (events_before n) same)
 
     -- where what is found comes later: by the reading that stops behind the item
     in_its_front : (reading : Reading) (items : List Placed) (at : ℕ) → (watched_run printer panel (Stopped (front n items) at Syntax)).items ≡ front n (watched_run printer panel reading).items
@@ -203,7 +250,9 @@ module _ (plainly : (printer : Printer) (panel : Panel) (reading : Reading) → 
         let stopped : Reading = Stopped (front n items) at Syntax in
         let none : finding_of (watched_run printer panel stopped).items ≡ None = ap finding_of watched_front ∙ none_in_front n place (watched_run printer panel reading).items h in
         let same : (plain_run printer panel stopped).items ≡ (watched_run printer panel stopped).items = ap (λ (r : JobRun). r.items) (plainly printer panel stopped (without printer panel stopped none)) in
-        through_alike n place (watched_run printer panel reading).items (plain_run printer panel reading).items (sym plain_front ∙ (same ∙ watched_front)) h
+        let fronts = sym plain_front ∙ (same ∙ watched_front) in
+        let alike = through_alike n place (watched_run printer panel reading).items (plain_run printer panel reading).items fronts h in
+        (alike.0, alike.1, front_events n (watched_run printer panel reading).items (plain_run printer panel reading).items fronts)
 
     pub goes_plainly : (reading : Reading) → GoesThrough n place (watched_run printer panel reading).items → GoesPlainly printer panel n place reading
     goes_plainly (Whole items at) h =

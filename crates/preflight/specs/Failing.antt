@@ -1,5 +1,5 @@
 -- What a Fail says of the printers of a fleet.
-use Rattle.std.specs.Prelude.{◌≡◌, ◌≢◌, ℕ, zero, suc, ◌+◌, List, [], ◌∷◌, ◌++◌, length, None, Some, map}
+use Rattle.std.specs.Prelude.{◌≡◌, ◌≢◌, ◌<◌, ℕ, zero, suc, ◌+◌, List, [], ◌∷◌, ◌++◌, length, None, Some, map}
 use Rattle.std.specs.List.{Contains}
 use Rattle.pcl_items.specs.Items.{Placed}
 use Rattle.pcl_items.specs.Reading.{Reading, Stopped}
@@ -64,16 +64,29 @@ events_behind before [] = []
 events_behind zero (item ∷ items) = item.events
 events_behind (suc before) (item ∷ items) = events_behind before items
 
--- Two printers differ at an item: on every printer of the fleet, from every panel that its profile allows, the plain run goes through it,
--- and on the printer of this number its events are not those on the first.
+-- the events of so many items, item by item
+abbrev pub events_before : ℕ → List ItemRun → List (List Event)
+events_before zero items = []
+events_before (suc count) [] = []
+events_before (suc count) (item ∷ items) = item.events ∷ events_before count items
+
+-- A printer differs at an item: on every printer of the fleet, from every panel that its profile allows, the plain run goes through it,
+-- and gives the same events at each item before; there those of lower numbers, the first among them, give the same events, and the
+-- printer of this number gives others.
 pub record SaysDiffers (fleet : List Printer) (reading : Reading) (place number : ℕ) : Type 0 where
   pub before : ℕ
   pub printer : Printer
   pub is_numbered : IsNumbered fleet number printer
+  pub is_not_first : 1 < number
   pub through : (each : Printer) → Contains fleet each → (panel : Panel) → IsAllowed each panel →
       GoesThrough before place (plain_run each panel reading).items
-  pub other : (first : Printer) (panel panel' : Panel) → IsNumbered fleet 1 first → IsAllowed first panel → IsAllowed printer panel' →
-      events_behind before (plain_run first panel reading).items ≢ events_behind before (plain_run printer panel' reading).items
+  pub shared : List (List Event)
+  pub alike : (each : Printer) → Contains fleet each → (panel : Panel) → IsAllowed each panel →
+      events_before before (plain_run each panel reading).items ≡ shared
+  pub events : List Event
+  pub lower : (each : Printer) (lower : ℕ) → IsNumbered fleet lower each → lower < number → (panel : Panel) → IsAllowed each panel →
+      events_behind before (plain_run each panel reading).items ≡ events
+  pub other : (panel : Panel) → IsAllowed printer panel → events_behind before (plain_run printer panel reading).items ≢ events
 
 -- What a Fail says: of a finding, of a fault of the bytes, which comes behind items in which no printer finds anything and which print
 -- alike, and of a difference.
