@@ -1,11 +1,13 @@
 -- Printers that leave nothing to their panels pass a job exactly where it runs clean on them.
-use Rattle.std.proofs.Common.{◌≡◌, ◌+◌, ℕ, suc, cond, List, [], ◌∷◌, ◌++◌, Option, None, Some, refl, ap, sym, ◌∙◌, subst, arith}
+use Rattle.std.proofs.Common.{◌≡◌, ◌+◌, ℕ, suc, cond, List, [], ◌∷◌, ◌++◌, Option, None, Some, refl, ap, sym, ◌∙◌, subst, arith, false, length, ◌≤◌}
 use Rattle.std.specs.List.{AllByRecursion, Contains}
+use Rattle.std.proofs.lemmas.Bool.Decides.{nat_tests}
 use Rattle.pcl_items.specs.Items.{Placed}
 use Rattle.pcl_items.specs.Reading.{Reading, Whole}
 use Rattle.device_profile.specs.declared.panel.Panel.{Panel}
 use Rattle.device_profile.specs.Printer.{Printer, first_panel}
-use Rattle.page_env.specs.Settings.{unwatched, watched}
+use Rattle.device_profile.specs.declared.field.Field.TheVariants as fields
+use Rattle.page_env.specs.Settings.{has_choice, unwatched, watched}
 use Rattle.page_machine.specs.Event.{Event}
 use Rattle.page_machine.specs.Job.{ItemRun, JobRun, events_of, run_from, plain_run, watched_run}
 use Rattle.page_machine.specs.Laws.{RunsPlainly}
@@ -57,6 +59,22 @@ none_wrong reading events (p ∷ ps) h =
     let runs = runs_of (p ∷ ps) reading in
     ap soonest (both_none (of_each findings_in 1 runs) (of_each (differences_in (watched_items p reading)) 1 runs) (no_findings reading events 1 (p ∷ ps) h) (no_differences reading events (watched_items p reading) h.0.1 1 (p ∷ ps) h))
 
+-- a printer that leaves nothing to its panel is not watched
+one_value : (values : List ℕ) → length values ≤ 1 → has_choice values ≡ false
+one_value values few = grind (arith, nat_tests)
+
+not_watched : (printer : Printer) → LeavesNothing printer → watched printer ≡ unwatched
+not_watched printer nothing = λ i. record {
+  size = one_value printer.sizes (nothing fields.Size) i;
+  orientation = one_value printer.orientations (nothing fields.Orientation) i;
+  vmi = one_value printer.vmis (nothing fields.Vmi) i;
+  font = one_value printer.fonts (nothing fields.Font) i;
+  copies = one_value printer.copies (nothing fields.Copies) i;
+  sides = one_value printer.sides (nothing fields.Sides) i;
+  tray = one_value printer.trays (nothing fields.Tray) i;
+  line_termination = one_value printer.line_terminations (nothing fields.LineTerm) i;
+}
+
 -- what holds of each element that a list contains
 all_of : {X : Type 0} (P : X → Type 0) (xs : List X) → ((x : X) → Contains xs x → P x) → AllByRecursion P xs
 all_of P [] h = tt
@@ -95,7 +113,7 @@ module _ (plainly : (printer : Printer) (panel : Panel) (reading : Reading) → 
   clean_passes : ((printer : Printer) → Contains fleet printer → LeavesNothing printer) → AreClean fleet items place → IsPass (verdict_of fleet whole)
   clean_passes nothing clean =
       let right = all_of (IsRight whole clean.events) fleet (λ p has.
-      let same : (plain_run p (first_panel p) whole).items ≡ watched_items p whole = ap (λ flags. (run_from p flags (first_panel p) whole).items) (sym (nothing p has)) in
+      let same : (plain_run p (first_panel p) whole).items ≡ watched_items p whole = ap (λ flags. (run_from p flags (first_panel p) whole).items) (sym (not_watched p (nothing p has))) in
       let ends : Ends (plain_run p (first_panel p) whole).ending = subst Ends (sym (clean.clean p has).is_done) tt in
       (subst Agreed same (agrees_at_end p unwatched (first_panel p) whole ends), ap events_by_item (sym same) ∙ clean.alike p has)) in
       subst (λ o. IsPass (verdict_by o whole (events_of (first_run (runs_of fleet whole))))) (sym (none_wrong whole clean.events fleet right)) tt

@@ -1,11 +1,12 @@
 -- Jobs that run clean: what a Pass says of printers that leave nothing to their panels.
-use Rattle.std.specs.Prelude.{◌≡◌, ◌↔◌, ℕ, List}
+use Rattle.std.specs.Prelude.{◌≡◌, ◌↔◌, ◌≤◌, ℕ, List, length}
 use Rattle.std.specs.List.{Contains}
 use Rattle.pcl_items.specs.Items.{Placed}
 use Rattle.pcl_items.specs.Reading.{Whole}
 use Rattle.device_profile.specs.declared.panel.Panel.{Panel}
-use Rattle.device_profile.specs.Printer.{Printer, first_panel}
-use Rattle.page_env.specs.Settings.{State, unwatched, watched}
+use Rattle.device_profile.specs.declared.field.Field.{Field}
+use Rattle.device_profile.specs.Printer.{Printer, first_panel, values_of}
+use Rattle.page_env.specs.Settings.{State}
 use Rattle.page_machine.specs.Event.{Event}
 use Rattle.page_machine.specs.Run.{Done}
 use Rattle.page_machine.specs.Job.{events_of, plain_run}
@@ -23,7 +24,7 @@ pub record IsClean (printer : Printer) (panel : Panel) (items : List Placed) (pl
 
 -- a profile leaves nothing to the panel: in no field does it allow two values
 abbrev pub LeavesNothing : Printer → Type 0
-LeavesNothing printer = watched printer ≡ unwatched
+LeavesNothing printer = (field : Field) → length (values_of printer field) ≤ 1
 
 -- from the panels that the profiles list first a job runs clean on each printer of a fleet, with the same pages, and gives the same
 -- events item by item
