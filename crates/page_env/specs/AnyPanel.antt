@@ -1,4 +1,5 @@
--- Where the panel has other values in fields that the job has left unset, items come to the same until one reads such a field.
+-- Where the panel has other values in fields that the job has left unset, items come to the same: one that reads such a field finds it
+-- unset, whatever the panel has.
 use Rattle.std.specs.Prelude.{◌≡◌, ℕ, ℤ, Bool, cond, Option}
 use Rattle.device_profile.specs.declared.panel.Panel.{Panel}
 use Rattle.device_profile.specs.Printer.{Printer}
@@ -31,7 +32,7 @@ settings_with panel settings = record settings { fields = fields_with panel sett
 abbrev pub state_with : Panel → State → State
 state_with panel s = record s { settings = settings_with panel s.settings }
 
--- two effects, the second at that panel: they find the same, mark the same, and lead to the same states
+-- two effects, the second at that panel: they find the same, mark the same, and lead to the same states but for its values
 abbrev pub GoesAlike : Panel → Effect → Effect → Type 0
 GoesAlike panel (Goes s marks) (Goes s' marks') = (s' ≡ state_with panel s) × (marks' ≡ marks)
 GoesAlike panel (GoesThenCloses s sets_paper change) (GoesThenCloses s' sets_paper' change') =

@@ -140,7 +140,7 @@ rows_down s rows = record s {
 abbrev pub past_foot : Geometry → Dots → ℤ → ℕ → Check
 past_foot g resolution y rows = check (int_lt g.logical_height (place_behind resolution y rows)) OffPage
 
--- `*b#Y` raster Y offset: so many rows that stay white
+-- `*b#Y` raster Y offset: so many rows that stay white. A started raster has a vertical place, so the VMI is not read here.
 abbrev pub skip_rows : Printer → State → Amount → Line
 skip_rows printer s n = record {
   before =
