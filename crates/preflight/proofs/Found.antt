@@ -1,24 +1,27 @@
 -- What a run finds first, behind how many items.
-use Rattle.std.proofs.Common.{◌≡◌, inl, inr, ℕ, zero, suc, ◌+◌, List, [], ◌∷◌, Option, None, Some, refl, ap, sym, ◌∙◌}
+use Rattle.std.proofs.Common.{◌≡◌, inl, inr, ℕ, zero, suc, ◌+◌, List, [], ◌∷◌, Option, None, Some, refl, ap, sym, ◌∙◌, arith}
 use Rattle.page_env.specs.declared.finding.Finding.{Finding}
 use Rattle.page_machine.specs.Job.{ItemRun}
 use Rattle.page_machine.specs.Pinning.{found_at, finding_of}
 use Rattle.line_words.specs.declared.reason.Reason.TheVariants.{Finding as FindingOfRun}
 use Rattle.preflight.specs.Wrong.{Wrong, found_or, findings_in}
-use Rattle.preflight.specs.Failing.{FindsBehind, GoesOn, GoesThrough}
+use Rattle.page_machine.specs.Reached.{FindsBehind}
+use Rattle.preflight.specs.Failing.{GoesOn, GoesThrough}
 use Rattle.preflight.proofs.Soonest.{IsIn}
 
 -- it is the finding of this run, which comes behind so many items
-pub record IsItsFinding (number : ℕ) (items : List ItemRun) (w : Wrong) : Type 0 where
+pub record IsItsFinding (number before : ℕ) (items : List ItemRun) (w : Wrong) : Type 0 where
   pub count : ℕ
+  pub before_is : w.before ≡ before + count
   pub finding : Finding
   pub number_is : w.profile ≡ number
   pub reason_is : w.reason ≡ FindingOfRun finding
   pub there : FindsBehind count w.place finding items
 
-found : (number before : ℕ) (x : ItemRun) (items : List ItemRun) (w : Wrong) (o : Option Finding) → x.finding ≡ o → (IsIn w (findings_in number (before + 1) items) → IsItsFinding number items w) → IsIn w (found_or number before x.place o (findings_in number (before + 1) items)) → IsItsFinding number (x ∷ items) w
+found : (number before : ℕ) (x : ItemRun) (items : List ItemRun) (w : Wrong) (o : Option Finding) → x.finding ≡ o → (IsIn w (findings_in number (before + 1) items) → IsItsFinding number (before + 1) items w) → IsIn w (found_or number before x.place o (findings_in number (before + 1) items)) → IsItsFinding number before (x ∷ items) w
 found number before x items w (Some finding) is rest (inl e) = record {
   count = zero;
+  before_is = omega (arith, ap (λ (v : Wrong). v.before) e);
   finding = finding;
   number_is = sym (ap (λ (v : Wrong). v.profile) e);
   reason_is = sym (ap (λ (v : Wrong). v.reason) e);
@@ -27,9 +30,9 @@ found number before x items w (Some finding) is rest (inl e) = record {
 found number before x items w (Some finding) is rest (inr nothing) = absurd nothing
 found number before x items w None is rest h =
     let f = rest h in
-    record { count = suc f.count; finding = f.finding; number_is = f.number_is; reason_is = f.reason_is; there = (is, f.there) }
+    record { count = suc f.count; before_is = omega (arith, f.before_is); finding = f.finding; number_is = f.number_is; reason_is = f.reason_is; there = (is, f.there) }
 
-pub its_finding : (number before : ℕ) (items : List ItemRun) (w : Wrong) → IsIn w (findings_in number before items) → IsItsFinding number items w
+pub its_finding : (number before : ℕ) (items : List ItemRun) (w : Wrong) → IsIn w (findings_in number before items) → IsItsFinding number before items w
 its_finding number before [] w h = absurd h
 its_finding number before (x ∷ items) w h = found number before x items w x.finding refl (its_finding number (before + 1) items w) h
 

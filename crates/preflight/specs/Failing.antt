@@ -1,15 +1,19 @@
 -- What a Fail says of the printers of a fleet.
-use Rattle.std.specs.Prelude.{◌≡◌, ◌≢◌, ◌<◌, ℕ, zero, suc, ◌+◌, List, [], ◌∷◌, ◌++◌, length, None, Some, map}
+use Rattle.std.specs.Prelude.{IsTrue, ◌≡◌, ◌≢◌, ◌<◌, ℕ, zero, suc, ◌+◌, List, [], ◌∷◌, ◌++◌, length, None, map}
 use Rattle.std.specs.List.{Contains}
 use Rattle.pcl_items.specs.Items.{Placed}
 use Rattle.pcl_items.specs.Reading.{Reading, Stopped}
+use Rattle.device_profile.specs.declared.field.Field.{Field}
+use Rattle.device_profile.specs.declared.field.Field.TheVariants.{Size, Orientation, Vmi, Font, Copies, Sides, Tray, LineTerm}
 use Rattle.device_profile.specs.declared.panel.Panel.{Panel}
-use Rattle.device_profile.specs.Printer.{Printer, IsAllowed}
+use Rattle.device_profile.specs.Printer.{Printer, IsAllowed, is_valid}
 use Rattle.page_env.specs.declared.finding.Finding.{Finding}
+use Rattle.page_env.specs.declared.finding.Finding.TheVariants.{Unset}
 use Rattle.page_machine.specs.Event.{Event}
 use Rattle.page_machine.specs.Job.{ItemRun, plain_run, watched_run}
 use Rattle.page_machine.specs.Laws.{IsSetFinding}
 use Rattle.page_machine.specs.Pinning.{finding_of}
+use Rattle.page_machine.specs.Reached.{FindsBehind, ComesToRead}
 use Rattle.line_words.specs.declared.reason.Reason.{Reason}
 use Rattle.line_words.specs.declared.reason.Reason.TheVariants.{Fault, Finding as FindingOfRun, Differs, Unpinnable}
 
@@ -25,22 +29,6 @@ abbrev pub GoesOn : ℕ → List ItemRun → Type 0
 GoesOn zero items = Unit {0}
 GoesOn (suc count) [] = ⊥
 GoesOn (suc count) (item ∷ items) = (item.finding ≡ None) × GoesOn count items
-
--- behind so many items that find nothing, one at this place has this finding
-abbrev pub FindsBehind : ℕ → ℕ → Finding → List ItemRun → Type 0
-FindsBehind before place finding [] = ⊥
-FindsBehind zero place finding (item ∷ items) = (item.finding ≡ Some finding) × (item.place ≡ place)
-FindsBehind (suc before) place finding (item ∷ items) = (item.finding ≡ None) × FindsBehind before place finding items
-
--- From every panel that its profile allows, the printer of this number comes to the item at this place without a finding, and the watched
--- run finds this there; and so does the plain run, unless it is Unset.
-pub record SaysFound (fleet : List Printer) (reading : Reading) (place number : ℕ) (finding : Finding) : Type 0 where
-  pub printer : Printer
-  pub is_numbered : IsNumbered fleet number printer
-  pub before : ℕ
-  pub comes : (panel : Panel) → IsAllowed printer panel → GoesOn before (plain_run printer panel reading).items
-  pub watched : (panel : Panel) → IsAllowed printer panel → FindsBehind before place finding (watched_run printer panel reading).items
-  pub plain : IsSetFinding finding → (panel : Panel) → IsAllowed printer panel → FindsBehind before place finding (plain_run printer panel reading).items
 
 -- the events of a run, item by item
 abbrev pub events_by_item : List ItemRun → List (List Event)
@@ -69,6 +57,54 @@ abbrev pub events_before : ℕ → List ItemRun → List (List Event)
 events_before zero items = []
 events_before (suc count) [] = []
 events_before (suc count) (item ∷ items) = item.events ∷ events_before count items
+
+-- ---- an unset field
+
+-- the panel with this value in a field
+abbrev pub with_value : Field → ℕ → Panel → Panel
+with_value Size value panel = record panel { size = value }
+with_value Orientation value panel = record panel { orientation = value }
+with_value Vmi value panel = record panel { vmi = value }
+with_value Font value panel = record panel { font = value }
+with_value Copies value panel = record panel { copies = value }
+with_value Sides value panel = record panel { sides = value }
+with_value Tray value panel = record panel { tray = value }
+with_value LineTerm value panel = record panel { line_termination = value }
+
+-- two panels that the profile allows differ in this field alone
+pub record IsChosen (printer : Printer) (field : Field) : Type 0 where
+  pub panel : Panel
+  pub value : ℕ
+  pub one_allowed : IsAllowed printer panel
+  pub other_allowed : IsAllowed printer (with_value field value panel)
+  pub differ : with_value field value panel ≢ panel
+
+-- From every panel that the profile allows, the plain run comes without a finding to a step of this item that reads the field, which
+-- no item has set since the last return to user defaults; and the panel of a valid profile chooses it.
+pub record SaysUnset (printer : Printer) (reading : Reading) (before place : ℕ) (field : Field) : Type 0 where
+  pub reads : (panel : Panel) → IsAllowed printer panel → ComesToRead printer panel reading before place field
+  pub chosen : IsTrue (is_valid printer) → IsChosen printer field
+
+-- ---- a finding
+
+-- On every printer of the fleet, from every panel that its profile allows, the plain run goes through so many items, with the same
+-- events, and on those of lower numbers through the next one, too. There, at this place, the watched run of the printer of this number
+-- finds this; and so does the plain run, from every panel, unless it is Unset.
+pub record SaysFound (fleet : List Printer) (reading : Reading) (place number : ℕ) (finding : Finding) : Type 0 where
+  pub printer : Printer
+  pub is_numbered : IsNumbered fleet number printer
+  pub before : ℕ
+  pub comes : (each : Printer) → Contains fleet each → (panel : Panel) → IsAllowed each panel → GoesOn before (plain_run each panel reading).items
+  pub shared : List (List Event)
+  pub alike : (each : Printer) → Contains fleet each → (panel : Panel) → IsAllowed each panel →
+      events_before before (plain_run each panel reading).items ≡ shared
+  pub lower : (each : Printer) (lower : ℕ) → IsNumbered fleet lower each → lower < number → (panel : Panel) → IsAllowed each panel →
+      GoesThrough before place (plain_run each panel reading).items
+  pub watched : (panel : Panel) → IsAllowed printer panel → FindsBehind before place finding (watched_run printer panel reading).items
+  pub plain : IsSetFinding finding → (panel : Panel) → IsAllowed printer panel → FindsBehind before place finding (plain_run printer panel reading).items
+  pub unset : (field : Field) → finding ≡ Unset field → SaysUnset printer reading before place field
+
+-- ---- a difference
 
 -- A printer differs at an item: on every printer of the fleet, from every panel that its profile allows, the plain run goes through it,
 -- and gives the same events at each item before; there those of lower numbers, the first among them, give the same events, and the
