@@ -22,7 +22,7 @@ use Rattle.page_machine.specs.declared.nesting.Nesting.TheVariants.{Job}
 use Rattle.page_machine.specs.Event.{Event}
 use Rattle.page_machine.specs.Run.{Peaks, Run, just, after, onward, followed_by, finding_or, Ending, Done, Halts, item_run}
 use Rattle.page_machine.specs.Macros.{Context, in_job, body_run, page_close}
-use Rattle.page_machine.specs.Pinning.{spacing, HasRoom}
+use Rattle.page_machine.specs.Pinning.{spacing, FindsRoom}
 use Rattle.page_env.specs.JobControl.{is_reset}
 use Rattle.page_machine.specs.Defining.{control_in, defining_of, of_memory, defining_run, defined_after, controlled_after, carried_after, is_defining, job_item_run, macros_after}
 use Rattle.page_machine.specs.Job.{with_macros}
@@ -34,9 +34,9 @@ use Rattle.page_machine.proofs.PinnedStore.{pin_entry, pinned_store, appended_al
 
 -- where the second, whose bodies are longer, has room for them
 abbrev pub AlikeInRoom : Printer → Settings → Run → Run → Type 0
-AlikeInRoom printer from r r' = HasRoom r'.ending → Alike printer from r r'
+AlikeInRoom printer from r r' = FindsRoom r'.ending → Alike printer from r r'
 
-pub onward_room : (events : List Event) (peaks : Peaks) (e : Ending) (next : State → Run) → HasRoom (onward events peaks e next).ending → HasRoom e
+pub onward_room : (events : List Event) (peaks : Peaks) (e : Ending) (next : State → Run) → FindsRoom (onward events peaks e next).ending → FindsRoom e
 onward_room events peaks (Done s) next room = tt
 onward_room events peaks (Halts finding) next room = room
 

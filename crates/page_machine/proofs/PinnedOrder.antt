@@ -9,18 +9,18 @@ use Rattle.page_env.specs.Pinned.{pinned, IsBare}
 use Rattle.page_machine.specs.Defining.{is_defining, defining_of, defining_run, defined_after, carried_after}
 use Rattle.page_machine.specs.Event.{Event}
 use Rattle.page_machine.specs.Job.{JobRun, events_of, begun_with, one_item, ended_item, after_item, with_macros, items_run}
-use Rattle.page_machine.specs.Laws.{IsSet, IsSetFinding}
+use Rattle.page_machine.specs.Laws.{IsSet, IsNotUnset}
 use Rattle.page_machine.specs.Macros.{in_job}
-use Rattle.page_machine.specs.Pinning.{HasRoom, IsSameOutcome}
+use Rattle.page_machine.specs.Pinning.{FindsRoom, IsSameOutcome}
 use Rattle.page_machine.specs.Run.{Peaks, Run, after, onward, followed_by, Ending, Done, Halts, item_run}
 use Rattle.page_machine.proofs.PinnedRuns.{pinned_ending, EndsBare}
 use Rattle.page_machine.proofs.PinnedJobs.{AlikeInRoom}
 
 -- unless the second has no room for its bodies
 abbrev pub EndAlike : JobRun → JobRun → Type 0
-EndAlike r r' = HasRoom r'.ending → IsSameOutcome r r'
+EndAlike r r' = FindsRoom r'.ending → IsSameOutcome r r'
 
-pub ended_room : (place : ℕ) (events : List Event) (peaks : Peaks) (e : Ending) (next : State → JobRun) → HasRoom (ended_item place events peaks e next).ending → HasRoom e
+pub ended_room : (place : ℕ) (events : List Event) (peaks : Peaks) (e : Ending) (next : State → JobRun) → FindsRoom (ended_item place events peaks e next).ending → FindsRoom e
 ended_room place events peaks (Done s) next room = tt
 ended_room place events peaks (Halts finding) next room = room
 
@@ -54,7 +54,7 @@ both_led place r r' t t' next next' leads leads' p =
 -- the same events, and then both end by one finding, or each goes on from a state of its own
 pub record IsRestart (r r' : Run) (t t' : State) : Type 0 where
   pub events : r'.events ≡ r.events
-  pub ending : ((r.ending ≡ Done t) × (r'.ending ≡ Done t')) ⊎ ((finding : Finding) × (r.ending ≡ Halts finding) × (r'.ending ≡ Halts finding) × IsSetFinding finding)
+  pub ending : ((r.ending ≡ Done t) × (r'.ending ≡ Done t')) ⊎ ((finding : Finding) × (r.ending ≡ Halts finding) × (r'.ending ≡ Halts finding) × IsNotUnset finding)
 
 pub restarted : (place : ℕ) (r r' : Run) (t t' : State) (next next' : State → JobRun) → IsRestart r r' t t' → EndAlike (next t) (next' t') → EndAlike (after_item place r next) (after_item place r' next')
 restarted place r r' t t' next next' same p = by same.ending
@@ -62,7 +62,7 @@ restarted place r r' t t' next next' same p = by same.ending
     pair : Ending → Ending → Type 0
     pair e e' = EndAlike (ended_item place r.events r.peaks e next) (ended_item place r'.events r'.peaks e' next')
 
-    by : ((r.ending ≡ Done t) × (r'.ending ≡ Done t')) ⊎ ((finding : Finding) × (r.ending ≡ Halts finding) × (r'.ending ≡ Halts finding) × IsSetFinding finding) → pair r.ending r'.ending
+    by : ((r.ending ≡ Done t) × (r'.ending ≡ Done t')) ⊎ ((finding : Finding) × (r.ending ≡ Halts finding) × (r'.ending ≡ Halts finding) × IsNotUnset finding) → pair r.ending r'.ending
     by (inl both) =
         subst (λ (e : Ending). pair e r'.ending) (sym both.0)
         (subst (λ (e : Ending). pair (Done t) e) (sym both.1)
@@ -103,7 +103,7 @@ module _ (printer : Printer) (from : Settings) where
   -- ---- an item with another behind it, which ends a run, if at all, for want of memory
 
   module _ (place there : ℕ) (r : Run) (next next' : State → JobRun) (q : (s : State) → IsBare s → EndAlike (next s) (next' (pinned printer from s))) where
-    second_then : (events more : List Event) (peaks others : Peaks) (e : Ending) → (HasRoom e → (f : Finding) → e ≡ Halts f → ⊥) → AlikeInRoom printer from r (after events peaks (record { events = more; peaks = others; ending = e }))
+    second_then : (events more : List Event) (peaks others : Peaks) (e : Ending) → (FindsRoom e → (f : Finding) → e ≡ Halts f → ⊥) → AlikeInRoom printer from r (after events peaks (record { events = more; peaks = others; ending = e }))
         → EndAlike (after_item place r next) (begun_with (one_item place events None) peaks (ended_item there more others e next'))
     second_then events more peaks others (Halts finding) quiet p room = absurd (quiet room finding refl)
     second_then events more peaks others (Done t) quiet p room =
@@ -111,12 +111,12 @@ module _ (printer : Printer) (from : Settings) where
         let same = item_then place r both next next' p q room in
         record { events = sym (append_assoc events more (events_of (next' t).items)) ∙ same.events; finding = same.finding; set = same.set }
 
-    first_then : (events : List Event) (peaks : Peaks) (e : Ending) (second : State → Run) → ((u : State) → HasRoom (second u).ending → (f : Finding) → (second u).ending ≡ Halts f → ⊥) → AlikeInRoom printer from r (onward events peaks e second)
+    first_then : (events : List Event) (peaks : Peaks) (e : Ending) (second : State → Run) → ((u : State) → FindsRoom (second u).ending → (f : Finding) → (second u).ending ≡ Halts f → ⊥) → AlikeInRoom printer from r (onward events peaks e second)
         → EndAlike (after_item place r next) (ended_item place events peaks e (λ u. after_item there (second u) next'))
     first_then events peaks (Halts finding) second quiet p =
         item_then place r (record { events = events; peaks = peaks; ending = Halts finding }) next next' p q
     first_then events peaks (Done u) second quiet p = second_then events (second u).events peaks (second u).peaks (second u).ending (quiet u) p
 
-  pub two_then : (place there : ℕ) (r first : Run) (second : State → Run) (next next' : State → JobRun) → ((u : State) → HasRoom (second u).ending → (f : Finding) → (second u).ending ≡ Halts f → ⊥) → AlikeInRoom printer from r (followed_by first second)
+  pub two_then : (place there : ℕ) (r first : Run) (second : State → Run) (next next' : State → JobRun) → ((u : State) → FindsRoom (second u).ending → (f : Finding) → (second u).ending ≡ Halts f → ⊥) → AlikeInRoom printer from r (followed_by first second)
       → ((s : State) → IsBare s → EndAlike (next s) (next' (pinned printer from s))) → EndAlike (after_item place r next) (after_item place first (λ u. after_item there (second u) next'))
   two_then place there r first second next next' quiet p q = first_then place there r next next' q first.events first.peaks first.ending second quiet p

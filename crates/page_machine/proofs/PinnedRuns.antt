@@ -26,7 +26,7 @@ use Rattle.page_env.specs.Pens.{move_pen}
 use Rattle.page_env.specs.Text.{print_transparent}
 use Rattle.page_machine.specs.Event.{Event, Marked}
 use Rattle.page_machine.specs.Run.{Peaks, peaks_of, Run, just, after, onward, followed_by, finding_or, unset_or, goes, effect_run, Ending, Done, Halts, marked_close, close_and_change, transition_run, Conditions, byte_run, printing, printed_bytes, move_run, drawing, coordinates_of, own_run, begun_run, item_run}
-use Rattle.page_machine.specs.Laws.{IsSet, IsSetFinding}
+use Rattle.page_machine.specs.Laws.{IsSet, IsNotUnset}
 use Rattle.page_machine.specs.Pinning.{spacing}
 use Rattle.page_machine.proofs.Forget.{first_unset-plain}
 
@@ -54,13 +54,13 @@ neither : (a b : Bool) → (a || b) ≡ false → (a ≡ false) × (b ≡ false)
 neither true b e = absurd cc
 neither false b e = (refl, e)
 
-finding_is_set : (finding : Finding) → is_unset_finding finding ≡ false → IsSetFinding finding
+finding_is_set : (finding : Finding) → is_unset_finding finding ≡ false → IsNotUnset finding
 finding_is_set (Unset field) e = absurd cc
 finding_is_set _ e = tt
 
 -- what one of these checks finds is another than that a field is unset
 abbrev pub FindsSet : Option Finding → Type 0
-FindsSet found = (finding : Finding) → found ≡ Some finding → IsSetFinding finding
+FindsSet found = (finding : Finding) → found ≡ Some finding → IsNotUnset finding
 
 pub checks_are_set : (checks : List Check) → find_unset checks ≡ false → FindsSet (first_finding checks)
 checks_are_set [] none finding e = absurd cc
@@ -69,8 +69,8 @@ checks_are_set (c ∷ checks) none finding e = by (λ rest. checks_are_set check
     both : (is_unset_finding c.finding ≡ false) × (find_unset checks ≡ false)
     both = neither (is_unset_finding c.finding) (find_unset checks) none
 
-    by : (find_unset checks ≡ false → first_finding checks ≡ Some finding → IsSetFinding finding) → (applies : Bool) → cond applies (Some c.finding) (first_finding checks) ≡ Some finding → IsSetFinding finding
-    by later true e = let same : c.finding ≡ finding = cc in subst IsSetFinding same (finding_is_set c.finding both.0)
+    by : (find_unset checks ≡ false → first_finding checks ≡ Some finding → IsNotUnset finding) → (applies : Bool) → cond applies (Some c.finding) (first_finding checks) ≡ Some finding → IsNotUnset finding
+    by later true e = let same : c.finding ≡ finding = cc in subst IsNotUnset same (finding_is_set c.finding both.0)
     by later false e = later both.1 e
 
 three : (a b c : Bool) → (not a && not b && c) ≡ true → (a ≡ false) × (b ≡ false)
@@ -123,7 +123,7 @@ module _ (printer : Printer) (from : Settings) where
   pub done_alike : (s : State) → IsBare s → Alike printer from (just [] (Done s)) (just [] (Done (pinned printer from s)))
   done_alike s bare = record { events = refl; ending = refl; bare = bare; set = tt }
 
-  pub halts_alike : (finding : Finding) → IsSetFinding finding → Alike printer from (just [] (Halts finding)) (just [] (Halts finding))
+  pub halts_alike : (finding : Finding) → IsNotUnset finding → Alike printer from (just [] (Halts finding)) (just [] (Halts finding))
   halts_alike finding set = record { events = refl; ending = refl; bare = tt; set = set }
 
   pub cond_alike : (b : Bool) (r t r' t' : Run) → Alike printer from r r' → Alike printer from t t' → Alike printer from (cond b r t) (cond b r' t')

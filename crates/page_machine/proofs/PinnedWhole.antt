@@ -22,7 +22,7 @@ use Rattle.page_machine.specs.Event.{Event}
 use Rattle.page_machine.specs.Job.{JobRun, at_end, after_item, with_macros, items_run, end_run}
 use Rattle.page_machine.specs.Laws.{IsSet}
 use Rattle.page_machine.specs.Macros.{Context, in_job, page_close}
-use Rattle.page_machine.specs.Pinning.{spacing, prologue, pinned_items, place_behind, placed_from, moved_from, HasRoom}
+use Rattle.page_machine.specs.Pinning.{spacing, prologue, pinned_items, place_behind, placed_from, moved_from, FindsRoom}
 use Rattle.page_machine.specs.Run.{Peaks, peaks_of, Run, just, after, onward, finding_or, Ending, Done, Halts, marked_close, reset_run, item_run}
 use Rattle.page_machine.proofs.PinnedRuns.{pinned_ending, Alike, done_alike, cond_alike}
 use Rattle.page_machine.proofs.PinnedBodies.{CanBePinned, AreLaws, ArePinnedDefaults, page_alike}
@@ -67,14 +67,14 @@ module _ (printer : Printer) (flags : Flags) (origin panel : Panel) (laws : AreL
 
   -- ---- the spacing ends a run, if at all, for want of memory
 
-  full_or_not : (full : Bool) (peaks : Peaks) (u : State) (f : Finding) → HasRoom (finding_or (first_finding (check full MacroMemory ∷ [])) (after [] peaks (just [] (Done u)))).ending → (finding_or (first_finding (check full MacroMemory ∷ [])) (after [] peaks (just [] (Done u)))).ending ≡ Halts f → ⊥
+  full_or_not : (full : Bool) (peaks : Peaks) (u : State) (f : Finding) → FindsRoom (finding_or (first_finding (check full MacroMemory ∷ [])) (after [] peaks (just [] (Done u)))).ending → (finding_or (first_finding (check full MacroMemory ∷ [])) (after [] peaks (just [] (Done u)))).ending ≡ Halts f → ⊥
   full_or_not true peaks u f room e = room
   full_or_not false peaks u f room e = absurd cc
 
   led_not : (r : Run) (t : State) (f : Finding) → LeadsTo r t → r.ending ≡ Halts f → ⊥
   led_not r t f leads e = let same : Done t ≡ Halts f = sym leads.ending ∙ e in absurd cc
 
-  spacing_quiet : (store : Store) (u : State) → HasRoom (job_item_run (there store) (spacing v) u).ending → (f : Finding) → (job_item_run (there store) (spacing v) u).ending ≡ Halts f → ⊥
+  spacing_quiet : (store : Store) (u : State) → FindsRoom (job_item_run (there store) (spacing v) u).ending → (f : Finding) → (job_item_run (there store) (spacing v) u).ending ≡ Halts f → ⊥
   spacing_quiet store u = by (is_defining store)
     where
       stored : Run
@@ -83,7 +83,7 @@ module _ (printer : Printer) (flags : Flags) (origin panel : Panel) (laws : AreL
       alone : Run
       alone = item_run printer (in_job (there store)) (spacing v) u
 
-      by : (b : Bool) → HasRoom (cond b stored alone).ending → (f : Finding) → (cond b stored alone).ending ≡ Halts f → ⊥
+      by : (b : Bool) → FindsRoom (cond b stored alone).ending → (f : Finding) → (cond b stored alone).ending ≡ Halts f → ⊥
       by true room f e = full_or_not (nat_lt store.limit (stored_bytes store + length (canon (spacing v)))) (of_memory (stored_bytes (appended (spacing v) store))) u f room e
       by false room f e =
           let leads = vmi_leads printer (in_job (there store)) v u can.vmi in

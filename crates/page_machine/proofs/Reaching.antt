@@ -1,5 +1,5 @@
 -- Where a run finds a field unset, the plain run comes to a step that reads it, and no item has set it.
-use Rattle.std.proofs.Common.{◌≡◌, ◌<◌, ◌⊎◌, inl, inr, ℕ, ℤ, zero, suc, ◌+◌, nat_lt, Bool, true, false, cond, ◌&&◌, ◌||◌, not, is_some, is_none, length, List, [], ◌∷◌, refl, ap, sym, ◌∙◌, subst, Option, Some, None, arith}
+use Rattle.std.proofs.Common.{◌≡◌, inl, inr, ℕ, ℤ, zero, suc, ◌+◌, nat_lt, Bool, true, false, cond, ◌&&◌, ◌||◌, not, is_some, is_none, length, List, [], ◌∷◌, refl, ap, sym, ◌∙◌, subst, Option, Some, None, arith}
 use Rattle.std.specs.List.{Contains}
 use Rattle.std.proofs.lemmas.Bool.{false≢true}
 use Rattle.pcl_items.specs.declared.command.Command.TheVariants.{MacroControl}
@@ -26,24 +26,24 @@ use Rattle.page_env.specs.Macros.{control_of, control_checks, controlled, overla
 use Rattle.page_env.specs.Order.{find_unset}
 use Rattle.page_env.specs.Pens.{move_pen}
 use Rattle.page_env.specs.Rasters.{is_of_raster}
-use Rattle.page_env.specs.Settings.{Flags, Settings, State, start_state, user_defaults, unwatched}
-use Rattle.page_env.specs.Sound.{plain_settings, plain_state, IsSound, IsSoundTransition, IsSoundItem, IsSoundByte, IsSoundMove}
+use Rattle.page_env.specs.Settings.{Flags, Settings, State, start_state, user_defaults}
+use Rattle.page_env.specs.Sound.{plain_settings, plain_state, IsSound, IsSoundTransition, IsSoundItem}
 use Rattle.page_env.specs.Table.{transition_of}
 use Rattle.page_env.specs.Text.{print_transparent}
-use Rattle.page_env.specs.Untouched.{PartFlags, Untouched, all_untouched, untouched_in_overlay, untouched_behind, is_some_part, is_untouched, is_flagged, unset_where, unset_parts, SaysUntouched, names_font, IsReadAlike, TransitionLeaves, is_macro_control, LeavesItsUntouched, ByteSetsNothing, MoveSetsNothing}
+use Rattle.page_env.specs.Untouched.{Untouched, all_untouched, untouched_in_overlay, untouched_behind, is_some_part, is_untouched, is_flagged, unset_parts, SaysUntouched, names_font, IsReadAlike, TransitionLeaves, LeavesItsUntouched, ByteSetsNothing, MoveSetsNothing}
 use Rattle.page_machine.specs.declared.defining.Defining.{Defining}
 use Rattle.page_machine.specs.declared.defining.Defining.TheVariants.{Refused, Completed, Stored}
 use Rattle.page_machine.specs.declared.nesting.Nesting.{Nesting}
 use Rattle.page_machine.specs.declared.nesting.Nesting.TheVariants.{Job, Overlaid}
 use Rattle.page_machine.specs.Event.{Event}
-use Rattle.page_machine.specs.Run.{Peaks, peaks_of, Run, just, after, onward, followed_by, finding_or, unset_or, goes, effect_run, Ending, Done, Halts, marked_close, close_and_change, transition_run, Conditions, reset_run, byte_run, printing, printed_bytes, move_run, drawing, coordinates_of, own_run, begun_run, item_run, entries_run}
-use Rattle.page_machine.specs.Macros.{Context, is_macro, fixes_paper, executed_in, called_in, ending_with, put_back, found_run, control_body, control_run, conditions_in, raster_ended, at_level, body_run, closing_reads, ended, refused, ending_at, give_up, overlay_run, is_too_deep, page_close, in_job}
+use Rattle.page_machine.specs.Run.{Peaks, Run, just, after, onward, followed_by, finding_or, unset_or, goes, effect_run, Ending, Done, Halts, marked_close, close_and_change, transition_run, Conditions, reset_run, byte_run, printing, move_run, drawing, own_run, begun_run, item_run, entries_run}
+use Rattle.page_machine.specs.Macros.{Context, is_macro, fixes_paper, executed_in, called_in, ending_with, put_back, found_run, control_body, control_run, conditions_in, raster_ended, body_run, closing_reads, ended, refused, ending_at, give_up, overlay_run, is_too_deep, page_close, in_job}
 use Rattle.page_machine.specs.Defining.{is_defining, defining_of, defining_run, of_memory, job_item_run, macros_after, job_end_run}
-use Rattle.page_machine.specs.Job.{ItemRun, JobRun, ended_item, with_macros, items_run, end_run, no_end, at_end, reading_run, run_from}
-use Rattle.page_machine.specs.Laws.{plain_ending, IsSet, IsSetFinding}
-use Rattle.page_machine.specs.Reached.{left_at, entries_leave, found_leaves, control_leaves, begun_leaves, item_leaves, nested_run, body_leaves, job_item_leaves, ReadsUntouched, LineReads, StepReads, BehindReads, TransitionReads, BytesRead, MoveReads, BegunReads, ItemReads, EntriesRead, ControlBodyReads, ControlReads, NestedReads, BodyReads, OverlayReads, CloseReads, JobItemReads, JobEndReads, ItemsRead, EndReads, ReadingReads, FindsBehind, UnsetIsRead}
+use Rattle.page_machine.specs.Job.{ItemRun, JobRun, ended_item, with_macros, items_run, end_run, no_end, at_end, reading_run}
+use Rattle.page_machine.specs.Laws.{plain_ending, IsSet, IsNotUnset}
+use Rattle.page_machine.specs.Reached.{left_at, entries_leave, found_leaves, control_leaves, begun_leaves, item_leaves, nested_run, body_leaves, job_item_leaves, ReadsUntouched, LineReads, BehindReads, TransitionReads, BytesRead, MoveReads, BegunReads, ItemReads, EntriesRead, ControlBodyReads, ControlReads, NestedReads, BodyReads, OverlayReads, CloseReads, JobItemReads, JobEndReads, ItemsRead, EndReads, ReadingReads, FindsBehind, UnsetIsRead}
 use Rattle.page_machine.proofs.Parts.{AreSoundParts}
-use Rattle.page_machine.proofs.Forget.{plain, first_unset-plain, followed_plainly, own_plainly, byte_plainly, printing_plainly, nested_plainly, body_plainly, page_plainly, inside_plainly, control_plainly, job_item_plainly}
+use Rattle.page_machine.proofs.Forget.{plain, first_unset-plain, followed_plainly, own_plainly, byte_plainly, nested_plainly, body_plainly, page_plainly, inside_plainly, control_plainly, job_item_plainly}
 use Rattle.page_machine.proofs.PinnedRuns.{FindsSet, checks_are_set, line_is_set}
 
 -- ---- what is read
@@ -145,8 +145,8 @@ module _ (watched : Flags) where
   leads_on u left R (Halts finding) h c = c
 
   -- where another finding ends it, nothing is said
-  set_comes : (left : Untouched) (R : Field → Type 0) (finding : Finding) → IsSetFinding finding → Comes left R (Halts finding)
-  set_comes left R finding set = λ f is. absurd (subst IsSetFinding is set)
+  set_comes : (left : Untouched) (R : Field → Type 0) (finding : Finding) → IsNotUnset finding → Comes left R (Halts finding)
+  set_comes left R finding set = λ f is. absurd (subst IsNotUnset is set)
 
   onward_comes : (u left : Untouched) (R : Field → Type 0) (events : List Event) (peaks : Peaks) (e : Ending) (next : State → Run) → Comes u R e → ((t : State) → e ≡ Done t → Says u t → Comes left R (next t).ending) → Comes left R (onward events peaks e next).ending
   onward_comes u left R events peaks (Done t) next c k = k t refl c

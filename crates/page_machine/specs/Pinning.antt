@@ -127,9 +127,9 @@ abbrev pub IsNoMemory : Finding → Type 0
 IsNoMemory MacroMemory = ⊥
 IsNoMemory _ = Unit {0}
 
-abbrev pub HasRoom : Ending → Type 0
-HasRoom (Done s) = Unit {0}
-HasRoom (Halts finding) = IsNoMemory finding
+abbrev pub FindsRoom : Ending → Type 0
+FindsRoom (Done s) = Unit {0}
+FindsRoom (Halts finding) = IsNoMemory finding
 
 abbrev pub found_at : ℕ → Option Finding → Option (ℕ × Finding) → Option (ℕ × Finding)
 found_at place (Some finding) later = Some (place, finding)
@@ -153,4 +153,4 @@ abbrev pub PrintsPinned : Printer → Panel → Type 0
 PrintsPinned printer panel =
     (flags : Flags) (from : Panel) (items : List Entry) → AllByRecursion (λ item. is_unpinnable item ≡ false) items →
     let run = run_from printer flags from (pinned_reading printer panel items) in
-    HasRoom run.ending → IsSameOutcome (plain_run printer panel (moved_reading printer panel items)) run
+    FindsRoom run.ending → IsSameOutcome (plain_run printer panel (moved_reading printer panel items)) run

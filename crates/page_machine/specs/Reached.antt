@@ -1,5 +1,5 @@
 -- How a run comes to a step that reads a field of the panel which no item has set.
-use Rattle.std.specs.Prelude.{◌≡◌, ◌<◌, ◌⊎◌, ℕ, ℤ, zero, suc, ◌&&◌, Bool, true, false, cond, is_some, Option, Some, None, List, [], ◌∷◌}
+use Rattle.std.specs.Prelude.{◌≡◌, ◌⊎◌, ℕ, ℤ, zero, suc, ◌&&◌, Bool, true, false, cond, is_some, Option, Some, None, List, [], ◌∷◌}
 use Rattle.std.specs.List.{Contains}
 use Rattle.pcl_items.specs.declared.command.Command.TheVariants.{MacroControl}
 use Rattle.pcl_items.specs.Items.{Entry, Parameterized, Placed}
@@ -23,9 +23,9 @@ use Rattle.page_env.specs.Table.{transition_of}
 use Rattle.page_env.specs.Text.{print_transparent}
 use Rattle.page_env.specs.Untouched.{Untouched, all_untouched, untouched_in_overlay, untouched_behind, is_untouched, is_flagged}
 use Rattle.page_machine.specs.declared.nesting.Nesting.{Nesting}
-use Rattle.page_machine.specs.declared.nesting.Nesting.TheVariants.{Job, Executed, Called, Overlaid}
+use Rattle.page_machine.specs.declared.nesting.Nesting.TheVariants.{Job, Overlaid}
 use Rattle.page_machine.specs.Run.{Run, Ending, Done, Halts, Conditions, followed_by, byte_run, printing, printed_bytes, coordinates_of, own_run, item_run}
-use Rattle.page_machine.specs.Macros.{Context, is_macro, executed_in, called_in, closing_reads, is_too_deep, conditions_in, close_in, body_run, refused, page_close, in_job}
+use Rattle.page_machine.specs.Macros.{Context, is_macro, executed_in, called_in, closing_reads, is_too_deep, conditions_in, body_run, refused, page_close, in_job}
 use Rattle.page_machine.specs.Defining.{is_defining, job_item_run, macros_after}
 use Rattle.page_machine.specs.Job.{ItemRun, run_from, with_macros}
 

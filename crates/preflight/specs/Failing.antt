@@ -11,7 +11,7 @@ use Rattle.page_env.specs.declared.finding.Finding.{Finding}
 use Rattle.page_env.specs.declared.finding.Finding.TheVariants.{Unset}
 use Rattle.page_machine.specs.Event.{Event}
 use Rattle.page_machine.specs.Job.{ItemRun, plain_run, watched_run}
-use Rattle.page_machine.specs.Laws.{IsSetFinding}
+use Rattle.page_machine.specs.Laws.{IsNotUnset}
 use Rattle.page_machine.specs.Pinning.{finding_of}
 use Rattle.page_machine.specs.Reached.{FindsBehind, ComesToRead}
 use Rattle.line_words.specs.declared.reason.Reason.{Reason}
@@ -101,7 +101,7 @@ pub record SaysFound (fleet : List Printer) (reading : Reading) (place number : 
   pub lower : (each : Printer) (lower : ℕ) → IsNumbered fleet lower each → lower < number → (panel : Panel) → IsAllowed each panel →
       GoesThrough before place (plain_run each panel reading).items
   pub watched : (panel : Panel) → IsAllowed printer panel → FindsBehind before place finding (watched_run printer panel reading).items
-  pub plain : IsSetFinding finding → (panel : Panel) → IsAllowed printer panel → FindsBehind before place finding (plain_run printer panel reading).items
+  pub plain : IsNotUnset finding → (panel : Panel) → IsAllowed printer panel → FindsBehind before place finding (plain_run printer panel reading).items
   pub unset : (field : Field) → finding ≡ Unset field → SaysUnset printer reading before place field
 
 -- ---- a difference
