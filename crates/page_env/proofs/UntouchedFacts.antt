@@ -228,10 +228,11 @@ module _ (watched : Flags) where
 
         item_leaves : (item : Entry) (s : State) → is_macro_control item ≡ false → Says s → TransitionLeaves watched s u (untouched_behind item u) (transition_of printer defaults s item) (transition_of printer (plain_settings defaults) (plain_state s) item)
         item_leaves (Text code) s r e = byte_leaves code s e
-        item_leaves CarriageReturn s r e =
-            ((refl, λ h. refl),
-              either_goes s u u (line_termination s).feeds_at_return (feed_by printer (carriage_return s) WholeLine) (feed_by printer (carriage_return (plain_state s)) WholeLine) (Step (moving (carriage_return s))) (Step (moving (carriage_return (plain_state s))))
-              (feed_goes WholeLine s (carriage_return s) refl e) ((refl, λ h. refl), e))
+        item_leaves CarriageReturn s r e = (
+          (refl, λ h. refl),
+          either_goes s u u (line_termination s).feeds_at_return (feed_by printer (carriage_return s) WholeLine) (feed_by printer (carriage_return (plain_state s)) WholeLine) (Step (moving (carriage_return s))) (Step (moving (carriage_return (plain_state s))))
+              (feed_goes WholeLine s (carriage_return s) refl e) ((refl, λ h. refl), e),
+        )
         item_leaves LineFeed s r e = ((refl, λ h. refl), fed_goes (line_termination s).returns_at_feed s e)
         item_leaves FormFeed s r e = ((refl, λ h. refl), (((refl, λ h. refl), returned_says (line_termination s).returns_at_feed s e), λ t k. k))
         item_leaves Reset s r e = (((refl, λ h. refl), e), λ t k. d)

@@ -114,10 +114,11 @@ module _ (watched : Flags) where
   unset_says u s reads Size says font among unset = both_of u.size watched.size (sym (ap (λ (f : Flags). f.size) says.0) ∙ unset)
   unset_says u s reads Orientation says font among unset = both_of u.orientation watched.orientation (sym (ap (λ (f : Flags). f.orientation) says.0) ∙ unset)
   unset_says u s reads Vmi says font among unset = both_of u.vmi watched.vmi (sym (ap (λ (f : Flags). f.vmi) says.0) ∙ unset)
-  unset_says u s reads Font says font among unset =
-      (ap is_some_part (sym says.1) ∙ some_part s.settings.job.font
+  unset_says u s reads Font says font among unset = (
+    ap is_some_part (sym says.1) ∙ some_part s.settings.job.font
         ∙ not_set (are_set s.settings.job.font) (λ set. false≢true (sym (font set) ∙ among_font reads among)),
-        sym (ap (λ (f : Flags). f.font) says.0) ∙ unset)
+    sym (ap (λ (f : Flags). f.font) says.0) ∙ unset,
+  )
   unset_says u s reads Copies says font among unset = both_of u.copies watched.copies (sym (ap (λ (f : Flags). f.copies) says.0) ∙ unset)
   unset_says u s reads Sides says font among unset = both_of u.sides watched.sides (sym (ap (λ (f : Flags). f.sides) says.0) ∙ unset)
   unset_says u s reads Tray says font among unset = both_of u.tray watched.tray (sym (ap (λ (f : Flags). f.tray) says.0) ∙ unset)
@@ -217,18 +218,18 @@ module _ (watched : Flags) where
     transition_comes u left s (Closes line sets change) (Closes line' sets' change') sound leaves says =
         let R : Field → Type 0 = Reads u (plain_state s) (Closes line' sets' change') in
         let comes_to : first_finding line'.before ≡ None → first_finding line'.after ≡ None → effect_of (plain_settings s.settings) (Closes line' sets' change') ≡ GoesThenCloses (plain_state line.state) sets change' =
-          λ b a. judged_plain s.settings line' (GoesThenCloses line'.state sets' change') b a
-            ∙ ap (λ (l : Line). GoesThenCloses l.state sets' change') sound.0.same ∙ ap (λ x. GoesThenCloses (plain_state line.state) x change') sound.2 in
+        λ b a. judged_plain s.settings line' (GoesThenCloses line'.state sets' change') b a
+        ∙ ap (λ (l : Line). GoesThenCloses l.state sets' change') sound.0.same ∙ ap (λ x. GoesThenCloses (plain_state line.state) x change') sound.2 in
         judged_comes u left R s line line' (GoesThenCloses line.state sets change) sound.0 leaves.0.0 says (λ f h. inl h)
         (λ b a. change_comes u left R (sets && fixed) line.state change leaves.0.1
-          (λ f fix mark c. inr (subst (BehindReads fixed (closing f u) (controlling f u)) (sym (comes_to b a)) (fix, mark, c))) leaves.1)
+        (λ f fix mark c. inr (subst (BehindReads fixed (closing f u) (controlling f u)) (sym (comes_to b a)) (fix, mark, c))) leaves.1)
     transition_comes u left s (Ends line) (Ends line') sound leaves says =
         let R : Field → Type 0 = Reads u (plain_state s) (Ends line') in
         let comes_to : first_finding line'.before ≡ None → first_finding line'.after ≡ None → effect_of (plain_settings s.settings) (Ends line') ≡ GoesThenEnds (plain_state line.state) =
-          λ b a. judged_plain s.settings line' (GoesThenEnds line'.state) b a ∙ ap (λ (l : Line). GoesThenEnds l.state) sound.same in
+        λ b a. judged_plain s.settings line' (GoesThenEnds line'.state) b a ∙ ap (λ (l : Line). GoesThenEnds l.state) sound.same in
         judged_comes u left R s line line' (GoesThenEnds line.state) sound leaves.0.0 says (λ f h. inl h)
         (λ b a. leads_on u left R (close line.state).ending leaves.1
-          (weaken u (λ f. closing f u (plain_state line.state)) R (λ f c. inr (subst (BehindReads fixed (closing f u) (controlling f u)) (sym (comes_to b a)) c)) (close line.state).ending (closes u line.state leaves.0.1)))
+        (weaken u (λ f. closing f u (plain_state line.state)) R (λ f c. inr (subst (BehindReads fixed (closing f u) (controlling f u)) (sym (comes_to b a)) c)) (close line.state).ending (closes u line.state leaves.0.1)))
     transition_comes u left s (Behind reads m) (Behind reads' m') sound leaves says =
         by (transition_comes u left s m m' sound.1 leaves.1 says) (first_unset s.settings reads) refl
       where
@@ -268,7 +269,7 @@ module _ (watched : Flags) where
           printing_comes codes u R (followed_by r (byte_run printer here code)) (followed_by r' (byte_run printer plainly code))
           (followed_plainly r r' (byte_run printer here code) (byte_run printer plainly code) p (byte_plainly printer defaults fixed close close' control control' closes_plainly controls_plainly sound parts code))
           (followed_comes u u R r (byte_run printer here code) c
-            (λ t is at. weaken u (λ f. LineReads f u (print_transparent printer (plain_state t) code)) R (λ f h. into f (inl (plain_state t, plain_done r r' p t is, h))) (byte_run printer here code t).ending (byte_comes code u t at)))
+          (λ t is at. weaken u (λ f. LineReads f u (print_transparent printer (plain_state t) code)) R (λ f h. into f (inl (plain_state t, plain_done r r' p t is, h))) (byte_run printer here code t).ending (byte_comes code u t at)))
           (λ f h. into f (inr h))
 
       move_comes : (to : ℤ × ℤ) (u : Untouched) (s : State) → Says u s → Comes u (λ f. LineReads f u (move_pen printer (plain_state s) to)) (move_run printer here to s).ending
@@ -411,14 +412,15 @@ module _ (watched : Flags) where
       let f2 : Flags = record f1 { orientation = false } in
       let f3 : Flags = record f2 { copies = false } in
       let f4 : Flags = record f3 { sides = false } in
-      let f5 : Flags = record f4 { tray = false } in
-      (ap (λ b. record begun { size = b }) set.0
-        ∙ ap (λ b. record f1 { orientation = b }) set.1
-        ∙ ap (λ b. record f2 { copies = b }) set.2
-        ∙ ap (λ b. record f3 { sides = b }) set.3
-        ∙ ap (λ b. record f4 { tray = b }) set.4
-        ∙ ap (λ (f : Flags). record f5 { vmi = f.vmi; font = f.font; line_termination = f.line_termination }) chosen.0,
-        chosen.1)
+      let f5 : Flags = record f4 { tray = false } in (
+        ap (λ b. record begun { size = b }) set.0
+            ∙ ap (λ b. record f1 { orientation = b }) set.1
+            ∙ ap (λ b. record f2 { copies = b }) set.2
+            ∙ ap (λ b. record f3 { sides = b }) set.3
+            ∙ ap (λ b. record f4 { tray = b }) set.4
+            ∙ ap (λ (f : Flags). record f5 { vmi = f.vmi; font = f.font; line_termination = f.line_termination }) chosen.0,
+        chosen.1,
+      )
 
   module _ (printer : Printer) (defaults : Settings) (sound : (item : Entry) → IsSoundItem printer defaults item) (parts : AreSoundParts printer) (items : (item : Entry) → LeavesItsUntouched printer item) (bytes : (code : ℕ) → ByteSetsNothing printer code) (moves : (to : ℤ × ℤ) → MoveSetsNothing printer to) (chosen : SaysUntouched watched all_untouched defaults) where
     module _ (macros : Store) where
@@ -453,8 +455,8 @@ module _ (watched : Flags) where
             let R : Field → Type 0 = λ f. BodyReads f unwatching close' (closing f) (suc left) level nesting u body (plain_state s) in
             followed_comes ends ends R (entries_run run body s) raster_ended
             (entries_come run (nested_run unwatching close' left (suc level) nesting) (item_leaves macros leaves nesting) (λ f. NestedReads f unwatching (conditions_in unwatching close' nesting inner') (closing f) (InnerReads f) nesting)
-              (nested_plainly printer defaults sound parts macros close close' inner inner' closes_plainly inner_plainly nesting)
-              (nested_comes inner inner' leaves InnerReads inner_plainly (body_comes left (suc level)) nesting) body u s says)
+            (nested_plainly printer defaults sound parts macros close close' inner inner' closes_plainly inner_plainly nesting)
+            (nested_comes inner inner' leaves InnerReads inner_plainly (body_comes left (suc level)) nesting) body u s says)
             (λ t is at. at)
 
       -- ---- a page and its overlay
@@ -580,8 +582,8 @@ module _ (watched : Flags) where
         ended_found (λ f n. ItemsRead f printer (plain_settings defaults) (EndReads f) n place (x ∷ placed) macros (plain_state s) u) left (λ f. JobItemReads f (unwatching macros) u x.item (plain_state s)) place x.place r.events r.peaks r.ending (items_run printer defaults finally placed next)
         (job_item_comes macros x.item u s says) (λ f at h. (at, h))
         (λ t is at field n found.
-          let rest = items_found finally EndReads place last placed next t left at field n found in
-          (rest.0, (plain_state t, plain_done r r' (job_item_plainly printer defaults sound parts macros x.item s) t is, rest.1)))
+        let rest = items_found finally EndReads place last placed next t left at field n found in
+        (rest.0, (plain_state t, plain_done r r' (job_item_plainly printer defaults sound parts macros x.item s) t is, rest.1)))
 
     end_found : (end place : ℕ) (macros : Store) (s : State) (u : Untouched) → Says u s → IsFound (λ f n. EndReads f printer (plain_settings defaults) end place n macros (plain_state s) u) place (end_run printer defaults end macros s).items
     end_found end place macros s u says =

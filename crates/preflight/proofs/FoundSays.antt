@@ -111,11 +111,12 @@ module _ (anywhere : (printer : Printer) (reading : Reading) → IsWatchedAlike 
       let more = more_through n last.0 (watched_items each reading) goes in
       let first_more = first_has_more n last.0 has less in
       let same = same_items anywhere plainly each panel reading allowed in
-      let plain = goes_plainly plainly each panel n last.0 reading (subst (GoesThrough n last.0) (sym same) goes) in
-      (goes_on n last.0 (plain_run each panel reading).items plain.0,
+      let plain = goes_plainly plainly each panel n last.0 reading (subst (GoesThrough n last.0) (sym same) goes) in (
+        goes_on n last.0 (plain_run each panel reading).items plain.0,
         one_more n first_items (plain_run each panel reading).items first_more (more_through n last.0 (plain_run each panel reading).items plain.0)
-        (plain.2 ∙ (ap (events_before n) same ∙ same_before others.0 0 n first_items (watched_items each reading) (λ v h. omega (arith, less, differs_no_sooner v (others.1 v h))) first_more more))
-        (plain.1 ∙ (ap (events_behind n) same ∙ same_there others.0 0 n first_items (watched_items each reading) (λ v h. omega (arith, less, differs_no_sooner v (others.1 v h))) first_more more)))
+            (plain.2 ∙ (ap (events_before n) same ∙ same_before others.0 0 n first_items (watched_items each reading) (λ v h. omega (arith, less, differs_no_sooner v (others.1 v h))) first_more more))
+            (plain.1 ∙ (ap (events_behind n) same ∙ same_there others.0 0 n first_items (watched_items each reading) (λ v h. omega (arith, less, differs_no_sooner v (others.1 v h))) first_more more)),
+      )
 
   each_alike : (each : Printer) → Contains fleet each → (panel : Panel) → IsAllowed each panel → ComesAlike its.count each panel
   each_alike each has panel allowed =
