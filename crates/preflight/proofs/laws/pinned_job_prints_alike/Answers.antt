@@ -8,6 +8,7 @@ use Rattle.page_machine.specs.Job.{plain_run, watched_run}
 use Rattle.page_machine.specs.Pinning.{pinned_reading, moved_reading}
 use Rattle.preflight.proofs.PinnedReading.{text_is_spelled, pinned_is_read, all_entries}
 use Rattle.preflight.proofs.PinnedVerdicts.{same_verdict}
+use Rattle.preflight.proofs.SameRuns.{moved_entries}
 use Rattle.preflight.proofs.laws.pinned_job_prints_alike.Goals as goal
 
 pub returns : goal.returns
@@ -17,6 +18,7 @@ returns c printer panel set job items place is all =
     let run = plain_run printer panel (moved_reading printer panel (entries items)) in
     record {
       read = subst (λ text. IsReading text reading) (sym (text_is_spelled panel (request_at printer.faces panel.font) true items all)) (pinned_is_read printer panel set job items place is);
+      moved = moved_entries panel (request_at printer.faces panel.font) 0 true (entries items);
       prints = λ from. alike unwatched from (entries items) (all_entries items all);
       verdict = λ room.
           let same = alike (watched printer) (first_panel printer) (entries items) (all_entries items all) room in
