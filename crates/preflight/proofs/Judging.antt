@@ -23,6 +23,7 @@ use Rattle.preflight.specs.declared.lockstep.Lockstep.TheVariants.{One, Several}
 use Rattle.preflight.specs.Carriers.Each.{Each}
 use Rattle.preflight.specs.Carriers.Lockstep.{AreRunning, AreIn, IsFresh, machines_of}
 use Rattle.preflight.specs.Carriers.Checking.{CameTo, GoesOn, HasCarriedOut, IsCertain, IsErrorOfCheck, IsErrorOfPiece, IsUnderWay, Judges, failure_of, printers_of}
+use Rattle.preflight.proofs.Promises.{FailsSay, keeps}
 use Rattle.preflight.proofs.PieceLemmas.{all_read, by_end, by_front, given_more, spell_more}
 use Rattle.preflight.proofs.StillOpen.{needs_read}
 
@@ -30,7 +31,7 @@ use Rattle.preflight.proofs.StillOpen.{needs_read}
 taken_none : (buf : List ℕ) (n : ℕ) → n ≡ 0 → length (take n buf) ≤ 4096
 taken_none buf n none = omega (arith, length-take n buf, none)
 
-module _ (fleet : List Printer) (failed : Bool) (given_before given_mid : List (List ℕ)) (before mid after : Option (List ℕ)) (reads total : ℕ) (old : LexerState) (machines : List MachineState) (counts : Counts) (way : IsUnderWay fleet failed given_before given_mid before mid reads total old machines counts) (given_after : List (List ℕ)) where
+module _ (says : FailsSay) (fleet : List Printer) (failed : Bool) (given_before given_mid : List (List ℕ)) (before mid after : Option (List ℕ)) (reads total : ℕ) (old : LexerState) (machines : List MachineState) (counts : Counts) (way : IsUnderWay fleet failed given_before given_mid before mid reads total old machines counts) (given_after : List (List ℕ)) where
   -- the read found the end
   pub judged_at_end : (buf : List ℕ) (n : ℕ) (verdict : Verdict) → given_after ≡ given_mid ++ take n buf ∷ [] → Consumes mid after (take n buf) → n ≡ 0 → IsAtEnd after → IsExact fleet way.bytes verdict × KeepsPromise fleet way.bytes verdict → IsCertain fleet given_before given_after before verdict
   judged_at_end buf n verdict given consumed none at_end holds =
@@ -58,7 +59,7 @@ module _ (fleet : List Printer) (failed : Bool) (given_before given_mid : List (
     certain_fail : length piece ≤ 4096 → (place profile : ℕ) (finding : Reason) → ((job : List ℕ) → MayBe false (way.bytes ++ piece) job → IsExact fleet job (Fail place profile finding)) → IsCertain fleet given_before given_after before (Fail place profile finding)
     certain_fail short place profile finding fails = record {
       exact = by_front given_before given_after more_pieces before after (way.bytes ++ piece) false (λ job. IsExact fleet job (Fail place profile finding)) more_given more_spelled more_read refl fails;
-      headline = by_front given_before given_after more_pieces before after (way.bytes ++ piece) false (λ job. KeepsPromise fleet job (Fail place profile finding)) more_given more_spelled more_read refl (λ job may. tt);
+      headline = by_front given_before given_after more_pieces before after (way.bytes ++ piece) false (λ job. KeepsPromise fleet job (Fail place profile finding)) more_given more_spelled more_read refl (λ job may. keeps says fleet job place profile finding (fails job may));
       needed = needs_read fleet failed given_before given_mid given_after before mid reads total old machines counts piece way given short;
     }
 

@@ -12,6 +12,7 @@ ghost use Rattle.preflight.specs.Carriers.Lockstep.{AreIn, AreRunning, counts_of
 
 use crate::check::{Progress, carry_out_piece, finish};
 use crate::error::Error;
+use crate::laws::fails_say;
 use crate::lockstep::Lockstep;
 use crate::source::PIECE;
 use crate::verdict::Verdict;
@@ -123,6 +124,7 @@ fn verdict_at_end<A: Allocator + Copy, P: Allocator>(
     ensures stopped { (error : Error) → standing ≡ Standing.Stopped error → result ≡ Err error }
     ensures errors { standing ≡ Standing.Open → IfErr result (λ error. error ≡ Error.Memory) }
 {
+    fails_say();
     match standing {
         Standing::Open => {
             let verdict = finish(lexer, machines, total)?;

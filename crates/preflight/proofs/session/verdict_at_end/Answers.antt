@@ -1,5 +1,6 @@
 use Rattle.preflight.specs.Carriers.Lockstep.{machines_of, counts_of}
 use Rattle.preflight.specs.Session.{SessionState}
+use Rattle.preflight.proofs.Promises.{keeps_both}
 use Rattle.preflight.proofs.Sessions.{session_ended, session_ends}
 use Rattle.preflight.proofs.session.verdict_at_end.Goals as goal
 
@@ -13,4 +14,4 @@ pub returns-in-Fails-clause-ended : goal.returns-in-Fails-clause-ended
 returns-in-Fails-clause-ended g c = λ fleet bytes checked.
     let machines = c.args.machines.now in
     let session : SessionState = record { lexer = c.args.lexer.now; machines = machines_of machines; counts = counts_of machines; total = c.args.total; standing = c.args.standing } in
-    (session_ended session c.in-Fails.place c.in-Fails.profile c.in-Fails.finding c.in-Fails.is fleet bytes checked, tt)
+    keeps_both c.fails_say.ensures fleet bytes c.in-Fails.place c.in-Fails.profile c.in-Fails.finding (session_ended session c.in-Fails.place c.in-Fails.profile c.in-Fails.finding c.in-Fails.is fleet bytes checked)
