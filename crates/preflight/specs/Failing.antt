@@ -34,12 +34,6 @@ GoesOn (suc count) (item ∷ items) = (item.finding ≡ None) × GoesOn count it
 abbrev pub events_by_item : List ItemRun → List (List Event)
 events_by_item items = map (λ item. item.events) items
 
--- on every printer of the fleet, from every panel that its profile allows, the plain run finds nothing and gives these events item by item
-abbrev pub FindsNothing : List Printer → Reading → List (List Event) → Type 0
-FindsNothing fleet reading events =
-    (printer : Printer) → Contains fleet printer → (panel : Panel) → IsAllowed printer panel →
-    (finding_of (plain_run printer panel reading).items ≡ None) × (events_by_item (plain_run printer panel reading).items ≡ events)
-
 -- the run goes through so many items and the next one, which stands at this place, and finds nothing
 abbrev pub GoesThrough : ℕ → ℕ → List ItemRun → Type 0
 GoesThrough before place [] = ⊥
@@ -123,6 +117,14 @@ pub record SaysDiffers (fleet : List Printer) (reading : Reading) (place number 
   pub lower : (each : Printer) (lower : ℕ) → IsNumbered fleet lower each → lower < number → (panel : Panel) → IsAllowed each panel →
       events_behind before (plain_run each panel reading).items ≡ events
   pub other : (panel : Panel) → IsAllowed printer panel → events_behind before (plain_run printer panel reading).items ≢ events
+
+-- ---- a fault of the bytes
+
+-- on every printer of the fleet, from every panel that its profile allows, the plain run finds nothing and gives these events item by item
+abbrev pub FindsNothing : List Printer → Reading → List (List Event) → Type 0
+FindsNothing fleet reading events =
+    (printer : Printer) → Contains fleet printer → (panel : Panel) → IsAllowed printer panel →
+    (finding_of (plain_run printer panel reading).items ≡ None) × (events_by_item (plain_run printer panel reading).items ≡ events)
 
 -- What a Fail says: of a finding, of a fault of the bytes, which comes behind items in which no printer finds anything and which print
 -- alike, and of a difference.

@@ -19,7 +19,8 @@ pub record SessionState : Type 0 where
   pub total : ℕ
   pub standing : Standing
 
--- What the bytes so far came to: what they decide was carried out on each printer; or every job that begins with them fails so.
+-- What the bytes so far came to: the items that were read of them were carried out on each printer, alike and without a finding; or
+-- every job that begins with them fails so.
 abbrev pub ChecksTo : Standing → List Printer → List ℕ → SessionState → Type 0
 ChecksTo Open fleet bytes session = HasCarriedOut fleet bytes session.lexer session.machines session.counts × (session.total ≡ length bytes)
 ChecksTo (Fails place profile finding) fleet bytes session = (job : List ℕ) → MayBe false bytes job → IsExact fleet job (Fail place profile finding)
