@@ -102,3 +102,12 @@ fn a_body_of_many_lines(rt: HostRuntime) -> Result<(), Fail> {
     assert!(rt; verdict == Ok(Pass(34, 160_000).verdict()));
     Ok(())
 }
+
+/// More printers than a byte counts.
+#[test]
+fn a_large_fleet(rt: HostRuntime) -> Result<(), Fail> {
+    let fleet = fleet_of(rt.alloc(), &[B; 300])?;
+    let verdict = verdict_on(rt.alloc(), &fleet, PAGE);
+    assert!(rt; verdict == Ok(Pass(1, 1).verdict()));
+    Ok(())
+}

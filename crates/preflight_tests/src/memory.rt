@@ -1,5 +1,6 @@
 //! Requests for memory that are refused.
 
+use crate::cut_texts::FIVE_JOBS;
 use crate::jobs::PAGE;
 use device_profile::Profile;
 use job_items::RECTANGLE;
@@ -29,6 +30,9 @@ const FRAME: &[u8] = b"\x1bE\x1b%0Bin;sp1;pu0,0pd100,100,0,200\x1b%0A";
 /// A macro of one line in a frame, which is executed and then runs as an overlay.
 const MACRO_OF_FRAME: &[u8] = b"\x1bE\x1b&f0X\x1b%0BIN;SP1;PD;\x1b%0A\x1b&f1X\x1b&f2x4X\x0c";
 
+/// A VMI that is set, and a macro that sets another, which is called before the cursor is pushed.
+const CALLED_SPACING: &[u8] = b"\x1bE\x1b&l8C\x1b&f1y0X\x1b&l6C\x1b&f1X\x1b&f1y3X\x1b&f0S";
+
 /// A character between lines of the job language.
 pub const WRAPPED: &[u8] =
     b"\x1b%-12345X@PJL JOB NAME=\"x\"\n@PJL ENTER LANGUAGE=PCL\n\x1bEA\x1b%-12345X@PJL EOJ\n\x1b%-12345X";
@@ -49,6 +53,10 @@ const ROWS: &[(&[Printer], &[u8], Expected, u64)] = &[
     (&[Printer::B, Printer::B], MACRO_OF_FRAME, Pass(1, 2), 7),
     (&[Printer::B], WRAPPED, Pass(1, 1), 1),
     (&[Printer::B, Printer::B], WRAPPED, Pass(1, 1), 3),
+    (&[Printer::B], FIVE_JOBS, Pass(5, 7), 3),
+    (&[Printer::B; 17], RECTANGLE, Pass(1, 1), 3),
+    // However many panel settings there are, the job is run once.
+    (&[Printer::Many], CALLED_SPACING, Pass(0, 0), 3),
 ];
 
 /// How many requests for memory the check makes, each of which was refused in turn.

@@ -1,5 +1,6 @@
 //! Readers and writers, those that fail among them, and a fleet of no printer.
 
+use crate::cut_texts::FIVE_JOBS;
 use crate::jobs::PAGE;
 use crate::memory::{TWO_PAGES, WRAPPED};
 use device_profile::{Field, Profile};
@@ -26,6 +27,12 @@ const READS: &[(&[Printer], &[u8], u64, Expected)] = &[
         Pass(2, 2),
     ),
     (&[Printer::B], WRAPPED, WRAPPED.len() as u64 + 1, Pass(1, 1)),
+    (
+        &[Printer::B],
+        FIVE_JOBS,
+        FIVE_JOBS.len() as u64 + 1,
+        Pass(5, 7),
+    ),
     // Nothing is read after the byte that decides a Fail.
     (
         &[Printer::A],

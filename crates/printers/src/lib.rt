@@ -1,6 +1,8 @@
 //! For the tests: printers and fleets, and texts of profiles with another line.
 #![tactic(auto)]
 
+mod many;
+
 use device_profile::{Profile, ProfileFault, Sample};
 use std::alloc::{AllocError, Global};
 
@@ -49,6 +51,8 @@ pub enum Printer {
     Returning,
     /// Sample B with lines of 7.5/48 inch and a light first face of pitch 10.5.
     Light,
+    /// A printer with 12,582,912 panel settings.
+    Many,
 }
 
 /// The names of printers in files of rows.
@@ -74,6 +78,7 @@ const NAMES: &[(&str, Printer)] = &[
     ("KOfA", Printer::KOfA),
     ("Returning", Printer::Returning),
     ("Light", Printer::Light),
+    ("Many", Printer::Many),
 ];
 
 /// The printer of this name.
@@ -212,6 +217,7 @@ pub fn profile_of(alloc: Global, printer: Printer) -> Result<Profile, ProfileFau
             return sample_with(alloc, Sample::B, VERSION_LINE, b"pclprofile 2\nlineterm 3");
         }
         Printer::Light => return light_printer(alloc),
+        Printer::Many => return Profile::read(alloc, many::TEXT),
     };
     printer_of(alloc, panel, page)
 }
