@@ -10,7 +10,7 @@ use clap::error::ErrorKind;
 use clap::{Arg, ArgAction, ArgMatches, Command};
 use preflight::{Error, Outlet, write_text};
 use std::alloc::{AllocError, Global};
-use subcommands::{Choice, Input, Status, tell};
+use subcommands::{Choice, Input, Status};
 
 /// What the words ask for.
 #[derive(Drop)]
@@ -131,7 +131,7 @@ fn command<'a>(alloc: Global) -> Result<Command<'a>, AllocError> {
 
 /// What the words ask for; the first is the program's own name. Where they ask for help or for the
 /// version, that is written on standard output, and where they are wrong, the reason on standard
-/// error.
+/// error. What stopped it is not told.
 pub fn read_words<'a, O: Outlet, E: Outlet>(
     alloc: Global,
     words: &'a [String],
@@ -145,10 +145,13 @@ pub fn read_words<'a, O: Outlet, E: Outlet>(
     ensures apart { IfOk result KeepsWhatItReads }
     ensures err { IfErr result IsEndOfWords }
     ensures help { result ≡ Err Status.Help → stderr.new ≡ stderr.old }
+    // Of another end than bad words nothing is told.
+    ensures quiet { IsFalse (E.failed stderr.new) → result ≢ Err Status.Words →
+        stderr.new ≡ stderr.old }
     ensures words { result ≡ Err Status.Words → stdout.new ≡ stdout.old }
 {
     let Ok(command) = command(alloc) else {
-        return Err(tell(Status::Stopped(Error::Memory), stderr));
+        return Err(Status::Stopped(Error::Memory));
     };
     let matches = match command.try_get_matches_from(words) {
         Ok(matches) => matches,
@@ -160,7 +163,7 @@ pub fn read_words<'a, O: Outlet, E: Outlet>(
         Err(fault) => return Err(refuse_choices(alloc, &fault, stderr)),
     };
     match overwritten(&request) {
-        Some(input) => Err(tell(Status::Overwrites(input), stderr)),
+        Some(input) => Err(Status::Overwrites(input)),
         None => Ok(request),
     }
 }
@@ -193,12 +196,14 @@ fn refuse_choices<E: Outlet>(alloc: Global, fault: &ChoiceFault<'_>, stderr: &mu
     requires { IsFalse (E.failed stderr.old) }
     ensures end { IsEndOfWords result }
     ensures no_help { result ≢ Status.Help }
+    ensures quiet { IsFalse (E.failed stderr.new) → result ≢ Status.Words →
+        stderr.new ≡ stderr.old }
 {
     if matches!(fault, ChoiceFault::Memory(_)) {
-        return tell(Status::Stopped(Error::Memory), stderr);
+        return Status::Stopped(Error::Memory);
     }
     let Ok(text) = format!(in alloc; "error: {fault}\n") else {
-        return tell(Status::Stopped(Error::Memory), stderr);
+        return Status::Stopped(Error::Memory);
     };
     match write_text(stderr, text.as_bytes()) {
         Ok(()) => Status::Words,
@@ -255,13 +260,15 @@ fn refuse<O: Outlet, E: Outlet>(
     requires stderr { IsFalse (E.failed stderr.old) }
     ensures end { IsEndOfWords result }
     ensures help { result ≡ Status.Help → stderr.new ≡ stderr.old }
+    ensures quiet { IsFalse (E.failed stderr.new) → result ≢ Status.Words →
+        stderr.new ≡ stderr.old }
     ensures words { result ≡ Status.Words → stdout.new ≡ stdout.old }
 {
     if error.kind() == ErrorKind::OutOfMemory {
-        return tell(Status::Stopped(Error::Memory), stderr);
+        return Status::Stopped(Error::Memory);
     }
     let Ok(text) = format!(in alloc; "{error}") else {
-        return tell(Status::Stopped(Error::Memory), stderr);
+        return Status::Stopped(Error::Memory);
     };
     if error.use_stderr() {
         return match write_text(stderr, text.as_bytes()) {
@@ -271,6 +278,6 @@ fn refuse<O: Outlet, E: Outlet>(
     }
     match write_text(stdout, text.as_bytes()) {
         Ok(()) => Status::Help,
-        Err(_) => tell(Status::Stopped(Error::Write), stderr),
+        Err(_) => Status::Stopped(Error::Write),
     }
 }

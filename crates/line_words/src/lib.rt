@@ -4,11 +4,9 @@
 mod figures;
 mod item_lines;
 mod mark_lines;
-mod reason;
 mod words;
 
 pub use figures::{push_named, push_number_word, push_value_word};
 pub use item_lines::{push_fault, push_item};
 pub use mark_lines::{push_mark, push_page};
-pub use reason::Reason;
 pub use words::push_reason;

@@ -6,7 +6,6 @@ use job_items::items_of;
 use page_env::Finding::Unset;
 use page_env::{Area, Bounds, Fill, Finding, Glyph, Mark, PageEnd};
 use page_machine::{Machine, MarkSink, OwnedMark, Start, Stop};
-use pcl_items::Place;
 use std::alloc::Global;
 use std::process::Abort;
 use std::test::Fail;
@@ -64,7 +63,7 @@ impl MarkSink for Recorder {
 #[derive(Clone, Copy)]
 enum Answer {
     Goes,
-    Found(Place, Finding),
+    Found(Finding),
     Refused,
     Stopped,
 }
@@ -123,7 +122,7 @@ const FROM_ANY_PANEL: &[Run] = &[
     Run {
         room: 1,
         steps: &[
-            (b"\x1bE\x0c", Found(2, Unset(Field::Size)), 1),
+            (b"\x1bE\x0c", Found(Unset(Field::Size)), 1),
             (b"\x1bE", Stopped, 1),
         ],
         mark: None,
@@ -256,7 +255,7 @@ fn is_answer(outcome: Result<(), Stop<Full>>, answer: Answer) -> bool {
         (Ok(()), Goes) | (Err(Stop::Refused(Full)), Refused) | (Err(Stop::Stopped), Stopped) => {
             true
         }
-        (Err(Stop::Found(place, found)), Found(at, finding)) => place == at && found == finding,
+        (Err(Stop::Found(found)), Found(finding)) => found == finding,
         _ => false,
     }
 }

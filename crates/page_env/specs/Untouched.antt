@@ -25,7 +25,7 @@ pub record PartFlags : Type 0 where
   pub weight : Bool
   pub typeface : Bool
 
--- the fields of the panel that no item has set, the font by its parts
+-- the fields of the panel that no item has set, the font by its parts; one that an item returns to its user default counts as not set
 pub record Untouched : Type 0 where
   pub size : Bool
   pub orientation : Bool
@@ -56,7 +56,8 @@ all_untouched = record {
 abbrev pub untouched_in_overlay : Untouched
 untouched_in_overlay = record all_untouched { size = false; orientation = false; copies = false; sides = false; tray = false }
 
--- What an item that is carried out leaves untouched: it sets a field or a part of the font, or returns it to the user default.
+-- What an item's own step leaves untouched, where it is carried out: it sets a field or a part of the font, or returns it to the user
+-- default. What a macro control runs is counted beside it.
 abbrev pub untouched_behind : Entry → Untouched → Untouched
 untouched_behind (Parameterized PageSize n) u = record u { size = false }
 untouched_behind (Parameterized OrientationCommand n) u = record u { orientation = false; vmi = true }
@@ -130,7 +131,7 @@ unset_parts parts = record {
   typeface = is_none parts.typeface;
 }
 
--- where these fields are watched, settings say by their flags what is untouched
+-- where these fields are watched, settings say what is untouched, by their flags, and of the font by the parts that the job has set
 abbrev pub SaysUntouched : Flags → Untouched → Settings → Type 0
 SaysUntouched watched u settings = (settings.unset ≡ unset_where watched u) × (unset_parts settings.job.font ≡ u.parts)
 
@@ -145,7 +146,7 @@ names_font (_ ∷ fields) = names_font fields
 abbrev pub IsReadAlike : State → List Field → List Field → Type 0
 IsReadAlike s reads plain = (plain ≡ reads) × (are_set s.settings.job.font ≡ true → names_font reads ≡ false)
 
--- A line that leads from what is untouched to what is left so, beside the same line where nothing is watched.
+-- the state that a line leads to says what is left untouched; beside it the same line where nothing is watched, which reads the same
 abbrev pub LineLeaves : Flags → State → Untouched → Line → Line → Type 0
 LineLeaves watched s left line plain = IsReadAlike s line.reads plain.reads × SaysUntouched watched left line.state.settings
 
@@ -161,12 +162,12 @@ TransitionLeaves watched s u left (Behind reads transition) (Behind reads' plain
     IsReadAlike s reads reads' × TransitionLeaves watched s u left transition plain
 TransitionLeaves watched s u left _ _ = ⊥
 
--- a macro control: its body may set what it will
+-- a macro control: where it runs a body, this may set what it will
 abbrev pub is_macro_control : Entry → Bool
 is_macro_control (Parameterized MacroControl n) = true
 is_macro_control _ = false
 
--- an item but a macro control leaves so much untouched, from every state
+-- an item but a macro control leaves so much untouched, from every state that says what was untouched before
 abbrev pub LeavesItsUntouched : Printer → Entry → Type 0
 LeavesItsUntouched printer item =
     (watched : Flags) (defaults : Settings) (u : Untouched) (s : State) →
@@ -174,7 +175,7 @@ LeavesItsUntouched printer item =
     TransitionLeaves watched s u (untouched_behind item u) (transition_of printer defaults s item)
     (transition_of printer (plain_settings defaults) (plain_state s) item)
 
--- a line sets nothing that is in the panel
+-- a line sets nothing that is in the panel, and reads the same where nothing is watched
 abbrev pub SetsNothing : (State → Line) → Type 0
 SetsNothing line =
     (watched : Flags) (u : Untouched) (s : State) → SaysUntouched watched u s.settings → LineLeaves watched s u (line s) (line (plain_state s))

@@ -1,4 +1,4 @@
--- How a run comes to a step that reads a field of the panel which no item has set.
+-- How a run comes to a step that reads a field of the panel which no item has set since it was last at its user default.
 use Rattle.std.specs.Prelude.{◌≡◌, ◌⊎◌, ℕ, ℤ, zero, suc, ◌&&◌, Bool, true, false, cond, is_some, Option, Some, None, List, [], ◌∷◌}
 use Rattle.std.specs.List.{Contains}
 use Rattle.pcl_items.specs.declared.command.Command.TheVariants.{MacroControl}
@@ -89,7 +89,7 @@ ReadsUntouched field u reads = Contains reads field × (is_untouched u field ≡
 abbrev pub LineReads : Field → Untouched → Line → Type 0
 LineReads field u line = (first_finding line.before ≡ None) × ReadsUntouched field u line.reads
 
--- an item's own step reads it
+-- an item's own step reads it, or it is read before that step is known
 abbrev pub StepReads : Field → Untouched → Transition → Type 0
 StepReads field u (Step line) = LineReads field u line
 StepReads field u (Closes line sets_paper change) = LineReads field u line
@@ -197,7 +197,7 @@ JobEndReads field context u s =
     (is_defining context.macros ≡ false)
     × TransitionReads (in_job context).fixes_paper (CloseReads field context u) (λ n t. ⊥) field u s (reset context.defaults s)
 
--- so many items are carried out or stored, and the next one, at this place, reads it
+-- so many items come to their end without a finding, and the next one, at this place, reads it, or where none is left what comes finally
 abbrev pub ItemsRead : Field → Printer → Settings → (ℕ → Store → State → Untouched → Type 0) → (before place : ℕ) → List Placed → Store → State → Untouched → Type 0
 ItemsRead field printer defaults finally before place [] macros s u = finally before macros s u
 ItemsRead field printer defaults finally zero place (x ∷ items) macros s u =

@@ -12,7 +12,7 @@ ghost use Rattle.page_machine.specs.Machine.{Defines};
 use crate::machine::Stop;
 use macro_store::{MacroStore, Refusal};
 use page_env::{Control, Finding, control_of};
-use pcl_items::{Command, Item, Place, SimpleItem};
+use pcl_items::{Command, Item, SimpleItem};
 use std::alloc::{AllocError, Allocator};
 
 /// What an item does to the definition that is open.
@@ -76,22 +76,21 @@ fn defining_of(item: &Item<'_>) -> Defining
 /// Stores the item, or ends the definition, or refuses the item.
 pub(crate) fn define<F, B: Allocator + Copy>(
     macros: &mut MacroStore<B>,
-    place: Place,
     item: &Item<'_>,
 ) -> Result<(), Stop<F>>
     requires { Admits macros.old (view item.now) }
-    ensures defines { Defines place (view item.now) macros.old macros.new result }
+    ensures defines { Defines (view item.now) macros.old macros.new result }
     ensures stands { (mode next : Mode) → StandsIn macros.old mode → follows mode (view item.now) ≡ Some next → OnOk result (StandsIn macros.new next) }
 {
     match defining_of(item) {
-        Defining::Refused => Err(Stop::Found(place, Finding::DefinitionOpen)),
+        Defining::Refused => Err(Stop::Found(Finding::DefinitionOpen)),
         Defining::Completed => {
             macros.commit();
             Ok(())
         }
         Defining::Stored => match macros.append(item) {
             Ok(()) => Ok(()),
-            Err(Refusal::MacroMemory) => Err(Stop::Found(place, Finding::MacroMemory)),
+            Err(Refusal::MacroMemory) => Err(Stop::Found(Finding::MacroMemory)),
             Err(Refusal::Memory(error)) => Err(Stop::Memory(error)),
         },
     }

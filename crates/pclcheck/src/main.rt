@@ -8,10 +8,13 @@ use preflight::{Error, Outlet, Watched, write_text};
 use std::process::ExitCode;
 use std::rt::{Env, Files};
 use std::{env, io};
-use subcommands::{
-    FileOutlet, FileSource, FileTexts, PanelSetting, Status, check, explain, list, pages, pin,
-    plain, tell,
-};
+use subcommands::check::check;
+use subcommands::explain::explain;
+use subcommands::list::list;
+use subcommands::pages::pages;
+use subcommands::pin::pin;
+use subcommands::plain::plain;
+use subcommands::{FileOutlet, FileSource, FileTexts, PanelSetting, Status, tell};
 
 fn main(rt: HostRuntime) -> ExitCode {
     let mut stdout = Watched::new(rt.stdout());
@@ -20,6 +23,7 @@ fn main(rt: HostRuntime) -> ExitCode {
         Ok(words) => run(&rt, words.as_slice(), &mut stdout, &mut stderr),
         Err(kind) => refuse_words(kind, &mut stderr),
     };
+    tell(status, &mut stderr);
     ExitCode::from(status.code())
 }
 
@@ -31,12 +35,13 @@ fn gather_words<R: Env + AllocGlobal>(rt: &R) -> Result<Vec<String>, io::ErrorKi
         .map_err(|_| io::ErrorKind::OutOfMemory)
 }
 
-/// Tells why no words were had: a word is no text, or want of memory.
+/// How the program ends where no words were had: want of memory, or a word that is no text, of which
+/// standard error tells.
 fn refuse_words<E: Outlet>(kind: io::ErrorKind, stderr: &mut E) -> Status
     requires { IsFalse (E.failed stderr.old) }
 {
     if kind == io::ErrorKind::OutOfMemory {
-        return tell(Status::Stopped(Error::Memory), stderr);
+        return Status::Stopped(Error::Memory);
     }
     match write_text(stderr, b"error: a word is not UTF-8 text\n") {
         Ok(()) => Status::Words,
@@ -59,21 +64,21 @@ fn run<R: Files + AllocGlobal, O: Outlet, E: Outlet>(
             let mut job = FileSource::new(rt, job);
             let mut texts = FileTexts::new(rt);
             let profiles = profiles.as_slice();
-            check(rt.alloc(), &mut job, &mut texts, profiles, stdout, stderr)
+            check(rt.alloc(), &mut job, &mut texts, profiles, stdout)
         }
         Ok(Request::List { job }) => {
             let mut job = FileSource::new(rt, job);
-            list(rt.alloc(), &mut job, stdout, stderr)
+            list(rt.alloc(), &mut job, stdout)
         }
         Ok(Request::Pages { job, profile }) => {
             let mut job = FileSource::new(rt, job);
             let mut texts = FileTexts::new(rt);
-            pages(rt.alloc(), &mut job, &mut texts, profile, stdout, stderr)
+            pages(rt.alloc(), &mut job, &mut texts, profile, stdout)
         }
         Ok(Request::Plain { job, out }) => {
             let mut job = FileSource::new(rt, job);
             let mut out = FileOutlet::new(rt, out);
-            plain(rt.alloc(), &mut job, &mut out, stdout, stderr)
+            plain(rt.alloc(), &mut job, &mut out, stdout)
         }
         Ok(
             Request::Pin {

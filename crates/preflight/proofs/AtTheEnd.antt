@@ -18,7 +18,7 @@ use Rattle.pcl_items.proofs.Stopping.{read_by_rules}
 use Rattle.device_profile.specs.Printer.{Printer}
 use Rattle.page_machine.specs.Event.{Event}
 use Rattle.page_machine.specs.Job.{events_of}
-use Rattle.preflight.specs.declared.verdict.Verdict.TheVariants.{Pass}
+use Rattle.verdict.specs.declared.verdict.Verdict.TheVariants.{Pass}
 use Rattle.preflight.specs.Pieces.{ByReads, HasEnd}
 use Rattle.preflight.specs.Wrong.{Wrong, first_run, first_wrong}
 use Rattle.preflight.specs.Verdict.{IsExact, verdict_by, verdict_of, runs_of}

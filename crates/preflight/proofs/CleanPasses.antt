@@ -13,7 +13,7 @@ use Rattle.page_machine.specs.Job.{ItemRun, JobRun, events_of, run_from, plain_r
 use Rattle.page_machine.specs.Laws.{RunsPlainly}
 use Rattle.page_machine.specs.Pages.{pages}
 use Rattle.page_machine.specs.Pinning.{finding_of}
-use Rattle.line_words.specs.declared.reason.Reason.TheVariants.{Differs}
+use Rattle.verdict.specs.declared.reason.Reason.TheVariants.{Differs}
 use Rattle.preflight.specs.Wrong.{Wrong, wrong, findings_in, differences_in, of_each, first_run, first_wrong, soonest}
 use Rattle.preflight.specs.Verdict.{watched_items, runs_of, verdict_by, verdict_of}
 use Rattle.preflight.specs.Failing.{events_by_item}

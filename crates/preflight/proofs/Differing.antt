@@ -13,7 +13,7 @@ use Rattle.page_machine.specs.Defining.{job_item_run, macros_after, job_end_run}
 use Rattle.page_machine.specs.Job.{ItemRun, JobRun, at_end, no_end, ended_item, with_macros, items_run, end_run, plain_run, watched_run}
 use Rattle.page_machine.specs.Laws.{IsSet, RunsPlainly}
 use Rattle.page_machine.specs.Pinning.{found_at, finding_of}
-use Rattle.line_words.specs.declared.reason.Reason.TheVariants.{Finding as FindingOfRun, Differs}
+use Rattle.verdict.specs.declared.reason.Reason.TheVariants.{Finding as FindingOfRun, Differs}
 use Rattle.preflight.specs.Same.{are_same}
 use Rattle.preflight.specs.Wrong.{Wrong, wrong, findings_in, differences_in}
 use Rattle.preflight.specs.Verdict.{watched_items}

@@ -7,9 +7,9 @@ use Rattle.page_env.specs.Settings.{watched}
 use Rattle.page_machine.specs.Job.{ItemRun, events_of, plain_run, watched_run}
 use Rattle.page_machine.specs.Laws.{IsWatchedAlike, RunsPlainly}
 use Rattle.page_machine.specs.Pinning.{finding_of}
-use Rattle.line_words.specs.declared.reason.Reason.{Reason}
-use Rattle.line_words.specs.declared.reason.Reason.TheVariants.{Fault}
-use Rattle.preflight.specs.declared.verdict.Verdict.TheVariants.{Fail}
+use Rattle.verdict.specs.declared.reason.Reason.{Reason}
+use Rattle.verdict.specs.declared.reason.Reason.TheVariants.{Fault}
+use Rattle.verdict.specs.declared.verdict.Verdict.TheVariants.{Fail}
 use Rattle.preflight.specs.Wrong.{Wrong, findings_in, differences_in, of_each, first_run, first_wrong}
 use Rattle.preflight.specs.Verdict.{watched_items, runs_of, verdict_by, verdict_of}
 use Rattle.preflight.specs.Failing.{events_by_item, FindsNothing, FailSays}
@@ -40,7 +40,7 @@ module _ (anywhere : (printer : Printer) (reading : Reading) → IsWatchedAlike 
       let its : watched_items printer reading ≡ first = all_contained (λ p. watched_items p reading ≡ first) fleet printer one.one has in
       let none : finding_of (watched_run printer panel reading).items ≡ None = ap finding_of (same_items anywhere plainly printer panel reading allowed ∙ its) ∙ no_finding first one.agreed in
       let plain : (plain_run printer panel reading).items ≡ first = plain_items anywhere plainly printer panel reading allowed (set_of (watched_run printer panel reading).ending (ends_without printer (watched printer) panel reading none)) ∙ its in
-      (ap finding_of plain ∙ no_finding first one.agreed, ap events_by_item plain)
+      (ap finding_of plain ∙ no_finding first one.agreed, none, ap events_by_item plain)
 
   fail_is : (a b c d : ℕ) (x y : Reason) → Fail a b x ≡ Fail c d y → (a ≡ c) × (b ≡ d) × (x ≡ y)
   fail_is a b c d x y e = (cc, cc, cc)

@@ -8,9 +8,9 @@ use Rattle.device_profile.specs.Printer.{Printer}
 use Rattle.page_env.specs.declared.finding.Finding.{Finding}
 use Rattle.page_machine.specs.Event.{Event}
 use Rattle.page_machine.specs.Job.{ItemRun, events_of}
-use Rattle.line_words.specs.declared.reason.Reason.{Reason}
-use Rattle.line_words.specs.declared.reason.Reason.TheVariants.{Differs, Fault as FaultOfBytes}
-use Rattle.preflight.specs.declared.verdict.Verdict.TheVariants.{Fail}
+use Rattle.verdict.specs.declared.reason.Reason.{Reason}
+use Rattle.verdict.specs.declared.reason.Reason.TheVariants.{Differs, Fault as FaultOfBytes}
+use Rattle.verdict.specs.declared.verdict.Verdict.TheVariants.{Fail}
 use Rattle.preflight.specs.Same.{are_same}
 use Rattle.preflight.specs.Wrong.{Wrong, wrong, found_or, findings_in, differences_in, of_each, first_run, all_wrong, sooner, soonest, first_wrong}
 use Rattle.preflight.specs.Verdict.{verdict_by, verdict_of, runs_of}

@@ -3,7 +3,7 @@ use Rattle.std.proofs.Common.{◌≡◌, inl, inr, ℕ, zero, suc, ◌+◌, List
 use Rattle.page_env.specs.declared.finding.Finding.{Finding}
 use Rattle.page_machine.specs.Job.{ItemRun}
 use Rattle.page_machine.specs.Pinning.{found_at, finding_of}
-use Rattle.line_words.specs.declared.reason.Reason.TheVariants.{Finding as FindingOfRun}
+use Rattle.verdict.specs.declared.reason.Reason.TheVariants.{Finding as FindingOfRun}
 use Rattle.preflight.specs.Wrong.{Wrong, found_or, findings_in}
 use Rattle.page_machine.specs.Reached.{FindsBehind}
 use Rattle.preflight.specs.Failing.{GoesOn, GoesThrough}

@@ -11,7 +11,7 @@ use Rattle.page_machine.specs.Job.{ItemRun, plain_run, watched_run}
 use Rattle.page_machine.specs.Laws.{IsSet, IsWatchedAlike, RunsPlainly}
 use Rattle.preflight.specs.Wrong.{Wrong, findings_in, differences_in, of_each, first_run, first_wrong}
 use Rattle.preflight.specs.Verdict.{watched_items, runs_of}
-use Rattle.preflight.specs.Failing.{IsNumbered, GoesOn, GoesThrough, events_before, events_behind, SaysUnset, FailSays}
+use Rattle.preflight.specs.Failing.{BothGoOn, BothGoThrough, IsNumbered, GoesThrough, events_before, events_behind, SaysUnset, FailSays}
 use Rattle.preflight.proofs.Soonest.{IsIn, in_left, in_right, least}
 use Rattle.preflight.proofs.Found.{IsItsFinding, its_finding, finding_behind, comes_behind, goes_on}
 use Rattle.preflight.proofs.RunEnds.{halts_there}
@@ -99,10 +99,10 @@ module _ (anywhere : (printer : Printer) (reading : Reading) → IsWatchedAlike 
 
   -- a printer goes through so many items with the events of the first one
   abbrev ComesAlike : ℕ → Printer → Panel → Type 0
-  ComesAlike count each panel = GoesOn count (plain_run each panel reading).items × (events_before count (plain_run each panel reading).items ≡ events_before count first_items)
+  ComesAlike count each panel = BothGoOn count each panel reading × (events_before count (plain_run each panel reading).items ≡ events_before count first_items)
 
   comes_alike : (each : Printer) → IsCounted findings_in found reading each → IsCounted differs differing reading each → (panel : Panel) → IsAllowed each panel → (count : ℕ) → count ≡ its.count → FindsBehind count w.place its.finding (watched_items of.printer reading) → ComesAlike count each panel
-  comes_alike each counted others panel allowed zero is there = (tt, refl)
+  comes_alike each counted others panel allowed zero is there = ((tt, tt), refl)
   comes_alike each counted others panel allowed (suc n) is there =
       let last = comes_behind n w.place its.finding (watched_items of.printer reading) there in
       let has = through_has n last.0 (watched_items of.printer reading) last.1 in
@@ -111,8 +111,9 @@ module _ (anywhere : (printer : Printer) (reading : Reading) → IsWatchedAlike 
       let more = more_through n last.0 (watched_items each reading) goes in
       let first_more = first_has_more n last.0 has less in
       let same = same_items anywhere plainly each panel reading allowed in
-      let plain = goes_plainly plainly each panel n last.0 reading (subst (GoesThrough n last.0) (sym same) goes) in (
-        goes_on n last.0 (plain_run each panel reading).items plain.0,
+      let watched_goes = subst (GoesThrough n last.0) (sym same) goes in
+      let plain = goes_plainly plainly each panel n last.0 reading watched_goes in (
+        (goes_on n last.0 (plain_run each panel reading).items plain.0, goes_on n last.0 (watched_run each panel reading).items watched_goes),
         one_more n first_items (plain_run each panel reading).items first_more (more_through n last.0 (plain_run each panel reading).items plain.0)
             (plain.2 ∙ (ap (events_before n) same ∙ same_before others.0 0 n first_items (watched_items each reading) (λ v h. omega (arith, less, differs_no_sooner v (others.1 v h))) first_more more))
             (plain.1 ∙ (ap (events_behind n) same ∙ same_there others.0 0 n first_items (watched_items each reading) (λ v h. omega (arith, less, differs_no_sooner v (others.1 v h))) first_more more)),
@@ -124,11 +125,12 @@ module _ (anywhere : (printer : Printer) (reading : Reading) → IsWatchedAlike 
 
   -- ---- at the item
 
-  lower_through : (each : Printer) (lower : ℕ) → IsNumbered fleet lower each → lower < w.profile → (panel : Panel) → IsAllowed each panel → GoesThrough its.count w.place (plain_run each panel reading).items
+  lower_through : (each : Printer) (lower : ℕ) → IsNumbered fleet lower each → lower < w.profile → (panel : Panel) → IsAllowed each panel → BothGoThrough its.count w.place each panel reading
   lower_through each lower at less panel allowed =
       let later = later_with_lower findings_in (λ n before items v h. (its_finding n before items v h).number_is) reading fleet w [] differing (λ h. h) soon each lower at less in
       let goes = comes_through each of.printer reading lower its.count w.place (finds_has its.count w.place its.finding (watched_items of.printer reading) its.there) (λ v h. omega (arith, later v h, its.before_is)) in
-      (goes_plainly plainly each panel its.count w.place reading (subst (GoesThrough its.count w.place) (sym (same_items anywhere plainly each panel reading allowed)) goes)).0
+      let watched_goes = subst (GoesThrough its.count w.place) (sym (same_items anywhere plainly each panel reading allowed)) goes in
+      ((goes_plainly plainly each panel its.count w.place reading watched_goes).0, watched_goes)
 
   there : (panel : Panel) → IsAllowed of.printer panel → FindsBehind its.count w.place its.finding (watched_run of.printer panel reading).items
   there panel allowed = subst (FindsBehind its.count w.place its.finding) (sym (same_items anywhere plainly of.printer panel reading allowed)) its.there

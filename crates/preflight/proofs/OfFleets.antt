@@ -5,7 +5,7 @@ use Rattle.std.proofs.lemmas.Bool.{cases_lt}
 use Rattle.pcl_items.specs.Reading.{Reading}
 use Rattle.device_profile.specs.Printer.{Printer}
 use Rattle.page_machine.specs.Job.{ItemRun}
-use Rattle.line_words.specs.declared.reason.Reason.TheVariants.{Finding as FindingOfRun, Differs}
+use Rattle.verdict.specs.declared.reason.Reason.TheVariants.{Finding as FindingOfRun, Differs}
 use Rattle.preflight.specs.Wrong.{Wrong, findings_in, of_each, first_run, soonest}
 use Rattle.preflight.specs.Verdict.{watched_items, runs_of}
 use Rattle.preflight.specs.Failing.{IsNumbered}

@@ -15,11 +15,11 @@ use Rattle.page_machine.specs.Run.{Peaks, Run, just, after, Ending, Done, Halts}
 use Rattle.page_machine.specs.Job.{JobRun, events_of, after_item, ended_item, at_end, reading_run}
 use Rattle.page_machine.specs.Follows.{TakesUpTo, Refuses}
 use Rattle.page_machine.specs.MachineState.{MachineState}
-use Rattle.page_machine.specs.Machine.{IsNew, TakesSome, item_of, end_of}
+use Rattle.page_machine.specs.Machine.{IsNew, TakesWhole, item_of, end_of}
 use Rattle.preflight.specs.declared.error.Error.{Error}
 use Rattle.preflight.specs.declared.outcome.Outcome.{Outcome}
 use Rattle.preflight.specs.declared.outcome.Outcome.TheVariants.{Done as AllDone, Fail}
-use Rattle.line_words.specs.declared.reason.Reason.TheVariants.{Finding as FindingOfRun}
+use Rattle.verdict.specs.declared.reason.Reason.TheVariants.{Finding as FindingOfRun}
 use Rattle.preflight.specs.declared.pages.PageText.{PageText}
 use Rattle.preflight.specs.Due.{Telling, pages_telling}
 use Rattle.preflight.specs.Outlet.{Written, AddsFront}
@@ -236,14 +236,14 @@ module _ {W A : Type 0} (failed : W → Bool) (written : W → Written) (machine
       let h = led new took.events took.leads in
       (events_text old.page took.events, h.puts, item_found machine old.page x finding took.events (took.peaks any_panel) (took.is any_panel))
 
-  -- memory was refused behind some of its events
-  pub tells_some : (x : Placed) (e : Error) → TakesSome takes old new (item_of machine x.item).run → Ended telling (StartsWith x) (written old.outlet.now) (written new.outlet.now) old.kept.now.items new.kept.now.items (Err e)
-  tells_some x e some =
-      let took = some.1 in
+  -- memory was refused behind its events
+  pub tells_whole : (x : Placed) (e : Error) → TakesWhole takes old new (item_of machine x.item).run → Ended telling (StartsWith x) (written old.outlet.now) (written new.outlet.now) old.kept.now.items new.kept.now.items (Err e)
+  tells_whole x e whole =
+      let took = whole.1 in
       let h = led new took.events took.leads in (
         events_text old.page took.events,
         Puts-cut-front (written old.outlet.now) (written new.outlet.now) old.kept.now.items new.kept.now.items (events_text old.page took.events) h.puts,
-        item_begun machine old.page x took.events (some.0 any_panel).events (ap (λ (r : Run). r.events) (took.is any_panel)),
+        item_begun machine old.page x took.events [] (ap (λ (r : Run). r.events) (took.is any_panel)),
       )
 
   -- an event was refused

@@ -34,7 +34,7 @@ spell_more pieces bytes piece some spelled = record {
 pub given_more : (before mid after pieces : List (List ℕ)) (piece : List ℕ) → mid ≡ before ++ pieces → after ≡ mid ++ piece ∷ [] → after ≡ before ++ (pieces ++ piece ∷ [])
 given_more before mid after pieces piece first second = second ∙ ap (λ front. front ++ piece ∷ []) first ∙ append_assoc before pieces (piece ∷ [])
 
-at_job : (pieces : List (List ℕ)) (before : Option (List ℕ)) (bytes : List ℕ) → MayBeBy pieces bytes → IfSome before (λ job. bytes ≡ job) → IfSome before (MayBeBy pieces)
+pub at_job : (pieces : List (List ℕ)) (before : Option (List ℕ)) (bytes : List ℕ) → MayBeBy pieces bytes → IfSome before (λ job. bytes ≡ job) → IfSome before (MayBeBy pieces)
 at_job pieces None bytes h same = tt
 at_job pieces (Some job) bytes h same = subst (MayBeBy pieces) same h
 
@@ -58,7 +58,7 @@ by_end given_before given_mid given_after pieces before bytes piece n P first se
       known = at_job (pieces ++ [] ∷ []) before bytes (subst (MayBeBy (pieces ++ [] ∷ [])) (append-nil bytes) (spelled.led ([] ∷ []) [] refl)) same;
     }
 
-at_front : (pieces : List (List ℕ)) (before after : Option (List ℕ)) (bytes : List ℕ) → Consumes before after bytes → ((more : List ℕ) → MayBeBy pieces (bytes ++ more)) → IfSome before (MayBeBy pieces)
+pub at_front : (pieces : List (List ℕ)) (before after : Option (List ℕ)) (bytes : List ℕ) → Consumes before after bytes → ((more : List ℕ) → MayBeBy pieces (bytes ++ more)) → IfSome before (MayBeBy pieces)
 at_front pieces None after bytes consumed h = tt
 at_front pieces (Some job) None bytes consumed h = absurd consumed
 at_front pieces (Some job) (Some rest) bytes consumed h = subst (MayBeBy pieces) (sym consumed) (h rest)

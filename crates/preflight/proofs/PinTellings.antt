@@ -4,7 +4,7 @@ use Rattle.device_profile.specs.declared.font.FontRequest.{FontRequest}
 use Rattle.device_profile.specs.declared.panel.Panel.{Panel}
 use Rattle.pcl_items.specs.Items.{Placed}
 use Rattle.pcl_items.specs.Reading.{Reading, Whole, Stopped, items_of, with_item}
-use Rattle.line_words.specs.declared.reason.Reason.TheVariants.{Unpinnable}
+use Rattle.verdict.specs.declared.reason.Reason.TheVariants.{Unpinnable}
 use Rattle.preflight.specs.declared.outcome.Outcome.{Outcome}
 use Rattle.preflight.specs.declared.outcome.Outcome.TheVariants.{Fail}
 use Rattle.preflight.specs.Texts.{reading_outcome}

@@ -5,9 +5,9 @@ use Rattle.page_env.specs.declared.finding.Finding.{Finding}
 use Rattle.page_machine.specs.Event.{Event}
 use Rattle.page_machine.specs.Job.{ItemRun, JobRun, events_of}
 use Rattle.page_machine.specs.Pinning.{found_at, finding_of, IsSameOutcome}
-use Rattle.line_words.specs.declared.reason.Reason.TheVariants.{Differs, Finding as FindingOfRun}
-use Rattle.preflight.specs.declared.verdict.Verdict.{Verdict}
-use Rattle.preflight.specs.declared.verdict.Verdict.TheVariants.{Fail}
+use Rattle.verdict.specs.declared.reason.Reason.TheVariants.{Differs, Finding as FindingOfRun}
+use Rattle.verdict.specs.declared.verdict.Verdict.{Verdict}
+use Rattle.verdict.specs.declared.verdict.Verdict.TheVariants.{Fail}
 use Rattle.preflight.specs.Verdict.{verdict_by}
 use Rattle.preflight.specs.Wrong.{Wrong, wrong, found_or, findings_in, differences_in, soonest, first_wrong}
 use Rattle.preflight.proofs.SameLemmas.{same_events}

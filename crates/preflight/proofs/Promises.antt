@@ -1,9 +1,12 @@
 -- What a Fail says of a job of which it is exact.
-use Rattle.std.proofs.Common.{◌≡◌, ℕ, List, sym}
+use Rattle.std.proofs.Common.{◌≡◌, ℕ, List, sym, subst}
 use Rattle.pcl_items.specs.Reading.{Reading}
 use Rattle.device_profile.specs.Printer.{Printer}
-use Rattle.line_words.specs.declared.reason.Reason.{Reason}
-use Rattle.preflight.specs.declared.verdict.Verdict.TheVariants.{Fail}
+use Rattle.verdict.specs.declared.reason.Reason.{Reason}
+use Rattle.verdict.specs.declared.failure.Failure.{Failure}
+use Rattle.verdict.specs.declared.verdict.Verdict.{Verdict}
+use Rattle.verdict.specs.declared.verdict.Verdict.TheVariants.{Fail}
+use Rattle.verdict.specs.Failing.{failing}
 use Rattle.preflight.specs.Failing.{FailSays}
 use Rattle.preflight.specs.Verdict.{IsExact, KeepsPromise, verdict_of}
 
@@ -14,5 +17,7 @@ FailsSay = (fleet : List Printer) (reading : Reading) (place number : ℕ) (reas
 pub keeps : FailsSay → (fleet : List Printer) (job : List ℕ) (place number : ℕ) (reason : Reason) → IsExact fleet job (Fail place number reason) → KeepsPromise fleet job (Fail place number reason)
 keeps says fleet job place number reason exact = (exact.0, exact.1, says fleet exact.0 place number reason (sym exact.2))
 
-pub keeps_both : FailsSay → (fleet : List Printer) (job : List ℕ) (place number : ℕ) (reason : Reason) → IsExact fleet job (Fail place number reason) → IsExact fleet job (Fail place number reason) × KeepsPromise fleet job (Fail place number reason)
-keeps_both says fleet job place number reason exact = (exact, keeps says fleet job place number reason exact)
+-- so does a verdict that is made of a failure
+pub keeps_failing : FailsSay → (fleet : List Printer) (job : List ℕ) (failure : Failure) (verdict : Verdict) → verdict ≡ failing failure → IsExact fleet job (failing failure) → IsExact fleet job verdict × KeepsPromise fleet job verdict
+keeps_failing says fleet job failure verdict is exact =
+    subst (λ v. IsExact fleet job v × KeepsPromise fleet job v) (sym is) (exact, keeps says fleet job failure.place failure.profile failure.reason exact)

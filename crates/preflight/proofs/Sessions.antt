@@ -1,135 +1,166 @@
--- What a piece makes of a session.
-use Rattle.std.proofs.Common.{◌≡◌, ◌+◌, ◌-◌, ℕ, false, List, [], ◌++◌, length, take, drop, refl, ap, sym, ◌∙◌, subst, append_assoc, append-nil, length-append, take-append-drop, length-drop, ◌≤◌, Result, IfOk, arith}
-use Rattle.std.proofs.lemmas.List.{take_rest, length-take-le}
-use Rattle.std.proofs.lemmas.Result.{IfOk-weaker}
-use Rattle.pcl_items.specs.LexerState.{LexerState}
+-- What a piece and the end make of a session.
+use Rattle.std.proofs.Common.{◌≡◌, ◌+◌, ◌-◌, ◌≤◌, ◌↔◌, ℕ, true, false, List, [], ◌∷◌, ◌++◌, length, take, drop, refl, ap, sym, ◌∙◌, subst, append_assoc, append-nil, length-append, take-append-drop, Option, None, Some, Result, Ok, Err, IfOk, IfErr, arith}
+use Rattle.std.proofs.lemmas.List.{take_rest}
+use Rattle.pcl_items.specs.LexerState.{WantsMore}
 use Rattle.pcl_items.specs.Lexing.{MayBe}
 use Rattle.device_profile.specs.Printer.{Printer}
-use Rattle.page_machine.specs.MachineState.{MachineState}
-use Rattle.sinks.specs.declared.counts.Counts.{Counts}
+use Rattle.preflight.specs.declared.session.Standing.{Standing}
+use Rattle.preflight.specs.declared.session.Standing.TheVariants.{Open, Judged, Stopped}
+use Rattle.preflight.specs.Pieces.{MayBeBy, Spell}
 use Rattle.preflight.specs.declared.error.Error.{Error}
-use Rattle.preflight.specs.declared.session.Standing.TheVariants.{Open, Fails}
-use Rattle.line_words.specs.declared.reason.Reason.{Reason}
-use Rattle.preflight.specs.declared.verdict.Verdict.TheVariants.{Fail}
-use Rattle.preflight.specs.Session.{SessionState, ChecksTo, HasChecked}
+use Rattle.preflight.specs.declared.error.Error.TheVariants.{Memory, Turns}
+use Rattle.preflight.specs.Carriers.Driving.{ComesByEnd, ComesByPiece}
+use Rattle.preflight.specs.Session.{SessionState, ChecksTo, HasChecked, ChecksOn, IsJudged, IsOutOfMemory}
 use Rattle.preflight.specs.Verdict.{IsExact, KeepsPromise}
-use Rattle.preflight.specs.declared.verdict.Verdict.{Verdict}
 use Rattle.preflight.specs.Carriers.Checking.{HasCarriedOut}
+use Rattle.preflight.proofs.PieceLemmas.{spell_more, spell_none}
+use Rattle.preflight.proofs.Promises.{FailsSay, keeps_failing}
+use Rattle.verdict.specs.Failing.{failing}
+use Rattle.verdict.specs.declared.failure.Failure.{Failure}
+use Rattle.verdict.specs.declared.verdict.Verdict.{Verdict}
 
--- ---- a piece, part by part
+-- ---- from one session to another
 
--- from here to there the front of a piece was carried out
-abbrev pub CarriesFront : LexerState → List MachineState → Counts → LexerState → List MachineState → Counts → List ℕ → Type 0
-CarriesFront lexer machines counts lexer' machines' counts' front =
-    (fleet : List Printer) (bytes : List ℕ) → HasCarriedOut fleet bytes lexer machines counts → HasCarriedOut fleet (bytes ++ front) lexer' machines' counts'
-
--- the piece but for the rest was carried out
-pub record CarriesBefore (lexer : LexerState) (machines : List MachineState) (counts : Counts) (lexer' : LexerState) (machines' : List MachineState) (counts' : Counts) (piece rest : List ℕ) : Type 0 where
-  pub front : List ℕ
-  pub split : piece ≡ front ++ rest
-  pub carries : CarriesFront lexer machines counts lexer' machines' counts' front
-
-pub carries_none : (lexer : LexerState) (machines : List MachineState) (counts : Counts) (piece : List ℕ) → CarriesBefore lexer machines counts lexer machines counts piece piece
-carries_none lexer machines counts piece = record {
-  front = [];
-  split = refl;
-  carries = λ fleet bytes carried. subst (λ l. HasCarriedOut fleet l lexer machines counts) (sym (append-nil bytes)) carried;
+-- no byte
+pub checks_on_none : (session : SessionState) → session.standing ≡ Open → session.lexer.ended ≡ false → WantsMore session.lexer → ChecksOn session [] session
+checks_on_none session is open_input wanted = record {
+  is_open = is;
+  total_is = omega arith;
+  open_input = open_input;
+  wants_more = wanted;
+  checked = λ fleet base h. subst (λ l. HasChecked fleet l session) (sym (append-nil base)) h;
 }
 
-pub carries_all : (lexer : LexerState) (machines : List MachineState) (counts : Counts) (lexer' : LexerState) (machines' : List MachineState) (counts' : Counts) (piece rest : List ℕ) → CarriesBefore lexer machines counts lexer' machines' counts' piece rest → rest ≡ [] → CarriesFront lexer machines counts lexer' machines' counts' piece
-carries_all lexer machines counts lexer' machines' counts' piece rest before none fleet bytes carried =
-    subst (λ l. HasCarriedOut fleet (bytes ++ l) lexer' machines' counts') (sym (before.split ∙ (ap (λ l. before.front ++ l) none ∙ append-nil before.front))) (before.carries fleet bytes carried)
+-- what stands behind a session that is open
+pub opened : (session : SessionState) (fleet : List Printer) (bytes : List ℕ) → session.standing ≡ Open → HasChecked fleet bytes session → HasCarriedOut fleet bytes session.lexer session.machines session.counts × (session.total ≡ length bytes)
+opened session fleet bytes is checked = subst (λ s. ChecksTo s fleet bytes session) is checked
 
--- the rest behind a part of it
-part_split : (front rest piece : List ℕ) (n : ℕ) → piece ≡ front ++ rest → piece ≡ (front ++ take n rest) ++ take (length rest - n) (drop n rest)
-part_split front rest piece n e =
-    e ∙ (ap (λ l. front ++ l) (sym (take-append-drop n rest)) ∙ (sym (append_assoc front (take n rest) (drop n rest)) ∙ ap (λ l. (front ++ take n rest) ++ l) (sym (take_rest rest n))))
-
-module _ (lexer : LexerState) (machines : List MachineState) (counts : Counts) (old : LexerState) (machines_mid : List MachineState) (counts_mid : Counts) (piece rest : List ℕ) (before : CarriesBefore lexer machines counts old machines_mid counts_mid piece rest) (n : ℕ) where
-  -- one more part is carried out
-  pub carries_more : (new : LexerState) (machines' : List MachineState) (counts' : Counts) → CarriesFront old machines_mid counts_mid new machines' counts' (take n rest) → CarriesBefore lexer machines counts new machines' counts' piece (take (length rest - n) (drop n rest))
-  carries_more new machines' counts' carries = record {
-    front = before.front ++ take n rest;
-    split = part_split before.front rest piece n before.split;
-    carries = λ fleet bytes carried.
-        subst (λ l. HasCarriedOut fleet l new machines' counts') (append_assoc bytes before.front (take n rest)) (carries fleet (bytes ++ before.front) (before.carries fleet bytes carried));
+module _ (first old new : SessionState) (bytes : List ℕ) (goes : ChecksOn first bytes old) where
+  -- one more piece is checked
+  pub checks_more : (piece : List ℕ) → new.standing ≡ Open → new.total ≡ old.total + length piece → new.lexer.ended ≡ false → WantsMore new.lexer
+      → ((fleet : List Printer) (base : List ℕ) → HasCarriedOut fleet base old.lexer old.machines old.counts → HasCarriedOut fleet (base ++ piece) new.lexer new.machines new.counts)
+      → ChecksOn first (bytes ++ piece) new
+  checks_more piece is total_is open_input wanted more = record {
+    is_open = is;
+    total_is = omega (arith, total_is, goes.total_is, length-append bytes piece);
+    open_input = open_input;
+    wants_more = wanted;
+    checked = λ fleet base h.
+        let before = opened old fleet (base ++ bytes) goes.is_open (goes.checked fleet base h) in
+        let same : (base ++ bytes) ++ piece ≡ base ++ (bytes ++ piece) = append_assoc base bytes piece in
+        subst (λ l. HasChecked fleet l new) same
+        (subst (λ s. ChecksTo s fleet ((base ++ bytes) ++ piece) new) (sym is) (more fleet (base ++ bytes) before.0, omega (arith, total_is, before.1, length-append (base ++ bytes) piece)));
   }
 
   -- or the job fails, whatever follows
-  pub part_fails : (verdict : Verdict) → ((fleet : List Printer) (bytes : List ℕ) → HasCarriedOut fleet bytes old machines_mid counts_mid → (job : List ℕ) → MayBe false (bytes ++ take n rest) job → IsExact fleet job verdict)
-      → (fleet : List Printer) (bytes : List ℕ) → HasCarriedOut fleet bytes lexer machines counts → (job : List ℕ) → MayBe false (bytes ++ piece) job → IsExact fleet job verdict
-  part_fails verdict fails fleet bytes carried job may =
-      let part : List ℕ = take n rest in
-      let later : List ℕ = take (length rest - n) (drop n rest) in
-      let all : bytes ++ piece ≡ ((bytes ++ before.front) ++ part) ++ later =
-      ap (λ l. bytes ++ l) (part_split before.front rest piece n before.split)
-      ∙ (sym (append_assoc bytes (before.front ++ part) later)
-      ∙ ap (λ l. l ++ later) (sym (append_assoc bytes before.front part))) in
-      fails fleet (bytes ++ before.front) (before.carries fleet bytes carried) job (
-        later ++ may.0,
-        may.1 ∙ (ap (λ l. l ++ may.0) all ∙ append_assoc ((bytes ++ before.front) ++ part) later may.0),
-        λ e. absurd cc,
-      )
+  pub judged_by_piece : FailsSay → (piece : List ℕ) (failure : Failure) (verdict : Verdict) → verdict ≡ failing failure → new.standing ≡ Judged verdict
+      → ((fleet : List Printer) (base : List ℕ) → HasCarriedOut fleet base old.lexer old.machines old.counts → (job : List ℕ) → MayBe false (base ++ piece) job → IsExact fleet job (failing failure))
+      → (pieces : List (List ℕ)) → Spell pieces (bytes ++ piece) → IsJudged first verdict pieces new
+  judged_by_piece says piece failure verdict is standing_is fails pieces spelled = record {
+    standing_is = standing_is;
+    right = λ fleet base h rest may.
+        let before = opened old fleet (base ++ bytes) goes.is_open (goes.checked fleet base h) in
+        let split = spelled.leads [] rest (subst (λ ps. MayBeBy ps rest) (sym (append-nil pieces)) may) in
+        let job_is : base ++ rest ≡ ((base ++ bytes) ++ piece) ++ split.0 =
+        ap (λ l. base ++ l) split.1
+        ∙ (sym (append_assoc base (bytes ++ piece) split.0)
+        ∙ ap (λ l. l ++ split.0) (sym (append_assoc base bytes piece))) in
+        keeps_failing says fleet (base ++ rest) failure verdict is (fails fleet (base ++ bytes) before.0 (base ++ rest) (split.0, job_is, λ e. let both : false ≡ true = e in absurd cc));
+  }
 
--- the places before and behind a part
-pub part_place : (old new : LexerState) (rest : List ℕ) (n total : ℕ) → n ≤ length rest → new.place + length new.rest ≡ old.place + length old.rest + length (take n rest) → old.place + length old.rest + length rest ≡ total
-    → new.place + length new.rest + length (take (length rest - n) (drop n rest)) ≡ total
-part_place old new rest n total few place so_far =
-    let part : length (take n rest) ≡ n = length-take-le n rest few in
-    let later : length (take (length rest - n) (drop n rest)) ≡ length rest - n = ap length (take_rest rest n) ∙ length-drop n rest in
-    omega (arith, few, so_far, place, part, later)
+  -- the end came
+  pub judged_at_end : (verdict : Verdict) → new.standing ≡ Judged verdict
+      → ((fleet : List Printer) (base : List ℕ) → HasCarriedOut fleet base old.lexer old.machines old.counts → old.total ≡ length base → IsExact fleet base verdict × KeepsPromise fleet base verdict)
+      → (pieces : List (List ℕ)) → Spell pieces bytes → IsJudged first verdict (pieces ++ [] ∷ []) new
+  judged_at_end verdict standing_is finishes pieces spelled = record {
+    standing_is = standing_is;
+    right = λ fleet base h rest may.
+        let before = opened old fleet (base ++ bytes) goes.is_open (goes.checked fleet base h) in
+        let split = spelled.leads ([] ∷ []) rest may in
+        let job_is : base ++ rest ≡ base ++ bytes = ap (λ l. base ++ l) (split.1 ∙ ap (λ more. bytes ++ more) split.2 ∙ append-nil bytes) in
+        subst (λ l. IsExact fleet l verdict × KeepsPromise fleet l verdict) (sym job_is) (finishes fleet (base ++ bytes) before.0 before.1);
+  }
 
--- ---- the session
+-- ---- a piece, part by part
 
-module _ (old new : SessionState) (piece : List ℕ) where
-  -- the piece was carried out
-  pub session_goes_on : old.standing ≡ Open → new.standing ≡ Open → new.total ≡ old.total + length piece → CarriesFront old.lexer old.machines old.counts new.lexer new.machines new.counts piece → (fleet : List Printer) (bytes : List ℕ) → HasChecked fleet bytes old → HasChecked fleet (bytes ++ piece) new
-  session_goes_on was is total carries fleet bytes checked =
-      let carried = subst (λ s. ChecksTo s fleet bytes old) was checked in
-      subst (λ s. ChecksTo s fleet (bytes ++ piece) new) (sym is)
-      (carries fleet bytes carried.0, total ∙ (ap (λ n. n + length piece) carried.1 ∙ sym (length-append bytes piece)))
+-- the rest begins with a part of it
+pub part_is : (rest : List ℕ) (n : ℕ) → rest ≡ take n rest ++ take (length rest - n) (drop n rest)
+part_is rest n = sym (take-append-drop n rest) ∙ ap (λ l. take n rest ++ l) (sym (take_rest rest n))
 
-  -- it makes the job fail
-  pub session_fails : (place profile : ℕ) (finding : Reason) → old.standing ≡ Open → new.standing ≡ Fails place profile finding → ((fleet : List Printer) (bytes : List ℕ) → HasCarriedOut fleet bytes old.lexer old.machines old.counts → (job : List ℕ) → MayBe false (bytes ++ piece) job → IsExact fleet job (Fail place profile finding)) → (fleet : List Printer) (bytes : List ℕ) → HasChecked fleet bytes old → HasChecked fleet (bytes ++ piece) new
-  session_fails place profile finding was is fails fleet bytes checked =
-      let carried = subst (λ s. ChecksTo s fleet bytes old) was checked in
-      subst (λ s. ChecksTo s fleet (bytes ++ piece) new) (sym is) (fails fleet bytes carried.0)
+pub part_split : (front rest piece : List ℕ) (n : ℕ) → piece ≡ front ++ rest → piece ≡ (front ++ take n rest) ++ take (length rest - n) (drop n rest)
+part_split front rest piece n e = e ∙ (ap (λ l. front ++ l) (part_is rest n) ∙ sym (append_assoc front (take n rest) (take (length rest - n) (drop n rest))))
 
--- a job that fails does so whatever follows
-pub session_failed : (session : SessionState) (piece : List ℕ) (place profile : ℕ) (finding : Reason) → session.standing ≡ Fails place profile finding → (fleet : List Printer) (bytes : List ℕ) → HasChecked fleet bytes session → HasChecked fleet (bytes ++ piece) session
-session_failed session piece place profile finding is fleet bytes checked =
-    let fails = subst (λ s. ChecksTo s fleet bytes session) is checked in
+module _ (first now : SessionState) (bytes part : List ℕ) (came : Option Verdict) (h : ComesByPiece ChecksOn IsJudged IsOutOfMemory first bytes part now (Ok came)) where
+  pub part_checked : came ≡ None → ChecksOn first (bytes ++ part) now
+  part_checked is = subst (λ o. ComesByPiece ChecksOn IsJudged IsOutOfMemory first bytes part now (Ok o)) is h
+
+  pub part_judged : (verdict : Verdict) → came ≡ Some verdict → (pieces : List (List ℕ)) → Spell pieces (bytes ++ part) → IsJudged first verdict pieces now
+  part_judged verdict is = subst (λ o. ComesByPiece ChecksOn IsJudged IsOutOfMemory first bytes part now (Ok o)) is h
+
+-- a session that is stopped answers the error that stopped it
+pub stopped_by : (error : Error) (standing : Standing) → error ≡ Memory → standing ≡ Stopped Memory → (e : Error) → let refused : Result Unit Error = Err error in let other : Result Unit Error = Err e in (refused ≡ other) ↔ (standing ≡ Stopped e)
+stopped_by error standing is stands e = (λ same. cc, λ same. cc)
+
+pub not_turns : (error : Error) → error ≡ Memory → let refused : Result Unit Error = Err error in let turns : Result Unit Error = Err Turns in refused ≡ turns → ⊥
+not_turns error is same = absurd cc
+
+-- ---- what a session says
+
+module _ (first now : SessionState) (fleet : List Printer) (base : List ℕ) (h : HasChecked fleet base first) where
+  -- the part of a piece behind this front came to the verdict, whatever the rest of the piece is
+  pub judged_in_part : (mid : SessionState) (front part later piece : List ℕ) (verdict : Verdict) → ChecksOn first front mid → piece ≡ front ++ (part ++ later) → 1 ≤ length part
+      → ((pieces : List (List ℕ)) → Spell pieces ([] ++ part) → IsJudged mid verdict pieces now) → HasChecked fleet (base ++ piece) now
+  judged_in_part mid front part later piece verdict goes piece_is some judged =
+      let spelled : Spell (part ∷ []) part = spell_more [] [] part (omega (arith, some)) spell_none in
+      let is = judged (part ∷ []) spelled in
+      subst (λ s. ChecksTo s fleet (base ++ piece) now) (sym is.standing_is)
+      (λ job may.
+      let more : List ℕ = later ++ may.0 in
+      let rest_is : (base ++ piece) ++ may.0 ≡ (base ++ front) ++ (part ++ more) =
+      ap (λ l. (base ++ l) ++ may.0) piece_is
+      ∙ (ap (λ l. l ++ may.0) (sym (append_assoc base front (part ++ later)))
+      ∙ (append_assoc (base ++ front) (part ++ later) may.0
+      ∙ ap (λ l. (base ++ front) ++ l) (append_assoc part later may.0))) in
+      subst (λ l. IsExact fleet l verdict × KeepsPromise fleet l verdict) (sym (may.1 ∙ rest_is))
+      (is.right fleet (base ++ front) (goes.checked fleet base h) (part ++ more) (spelled.led [] more tt)))
+
+  -- the end came behind no further piece
+  pub judged_now : (verdict : Verdict) → ((pieces : List (List ℕ)) → Spell pieces [] → IsJudged first verdict (pieces ++ [] ∷ []) now) → IsExact fleet base verdict × KeepsPromise fleet base verdict
+  judged_now verdict judged =
+      subst (λ l. IsExact fleet l verdict × KeepsPromise fleet l verdict) (append-nil base) ((judged [] spell_none).right fleet base h [] refl)
+
+  -- the verdict was known before
+  pub judged_before : (verdict : Verdict) → first.standing ≡ Judged verdict → IsExact fleet base verdict × KeepsPromise fleet base verdict
+  judged_before verdict is = subst (λ s. ChecksTo s fleet base first) is h base ([], sym (append-nil base), λ e. refl)
+
+-- a part that came to the verdict
+pub judged_standing : (mid now : SessionState) (part : List ℕ) (verdict : Verdict) → 1 ≤ length part → ((pieces : List (List ℕ)) → Spell pieces ([] ++ part) → IsJudged mid verdict pieces now) → now.standing ≡ Judged verdict
+judged_standing mid now part verdict some judged = (judged (part ∷ []) (spell_more [] [] part (omega (arith, some)) spell_none)).standing_is
+
+pub judged_not_stopped : (standing : Standing) (verdict : Verdict) → standing ≡ Judged verdict → (e : Error) → let fed : Result Unit Error = Ok record {} in let other : Result Unit Error = Err e in (fed ≡ other) ↔ (standing ≡ Stopped e)
+judged_not_stopped standing verdict is e = (λ same. absurd cc, λ same. absurd cc)
+
+pub judged_not_open : (standing : Standing) (verdict : Verdict) → standing ≡ Judged verdict → standing ≡ Open → ⊥
+judged_not_open standing verdict is open_is = absurd cc
+
+pub stopped_not_open : (standing : Standing) (error : Error) → standing ≡ Stopped error → standing ≡ Open → ⊥
+stopped_not_open standing error is open_is = absurd cc
+
+-- what the end came to, for a session that was open
+pub end_right : (first now : SessionState) (result : Result Verdict Error) → ComesByEnd IsJudged IsOutOfMemory first [] now result → IfOk result (λ verdict. (fleet : List Printer) (bytes : List ℕ) → HasChecked fleet bytes first → IsExact fleet bytes verdict × KeepsPromise fleet bytes verdict)
+end_right first now (Ok verdict) h = λ fleet bytes checked. judged_now first now fleet bytes checked verdict h
+end_right first now (Err error) h = tt
+
+pub end_error : (first now : SessionState) (result : Result Verdict Error) → ComesByEnd IsJudged IsOutOfMemory first [] now result → IfErr result (λ error. error ≡ Memory)
+end_error first now (Ok verdict) h = tt
+end_error first now (Err error) h = h.0.0
+
+-- once the verdict is known, a piece changes nothing
+pub still_judged : (session : SessionState) (piece : List ℕ) (verdict : Verdict) → session.standing ≡ Judged verdict → (fleet : List Printer) (bytes : List ℕ) → HasChecked fleet bytes session → HasChecked fleet (bytes ++ piece) session
+still_judged session piece verdict is fleet bytes h =
+    let known = subst (λ s. ChecksTo s fleet bytes session) is h in
     subst (λ s. ChecksTo s fleet (bytes ++ piece) session) (sym is)
-    (λ job may. fails job (piece ++ may.0, may.1 ∙ append_assoc bytes piece may.0, λ e. absurd cc))
-
--- ---- the end
-
--- what the end came to where nothing was wrong so far
-pub session_ends : (session : SessionState) (verdict : Verdict) → session.standing ≡ Open → ((fleet : List Printer) (bytes : List ℕ) → HasCarriedOut fleet bytes session.lexer session.machines session.counts → session.total ≡ length bytes → IsExact fleet bytes verdict × KeepsPromise fleet bytes verdict) → (fleet : List Printer) (bytes : List ℕ) → HasChecked fleet bytes session → IsExact fleet bytes verdict × KeepsPromise fleet bytes verdict
-session_ends session verdict is finishes fleet bytes checked =
-    let carried = subst (λ s. ChecksTo s fleet bytes session) is checked in
-    finishes fleet bytes carried.0 carried.1
-
-pub session_ended : (session : SessionState) (place profile : ℕ) (finding : Reason) → session.standing ≡ Fails place profile finding → (fleet : List Printer) (bytes : List ℕ) → HasChecked fleet bytes session → IsExact fleet bytes (Fail place profile finding)
-session_ended session place profile finding is fleet bytes checked =
-    subst (λ s. ChecksTo s fleet bytes session) is checked bytes ([], sym (append-nil bytes), λ e. refl)
-
--- the end of a session under another name
-module _ (inside entry : SessionState) (same : inside ≡ entry) (r : Result Verdict Error) (h : IfOk r (λ verdict. (fleet : List Printer) (bytes : List ℕ) → HasChecked fleet bytes inside → IsExact fleet bytes verdict × KeepsPromise fleet bytes verdict)) where
-  ended_so : IfOk r (λ verdict. (fleet : List Printer) (bytes : List ℕ) → HasChecked fleet bytes entry → IsExact fleet bytes verdict × KeepsPromise fleet bytes verdict)
-  ended_so = subst (λ s. IfOk r (λ verdict. (fleet : List Printer) (bytes : List ℕ) → HasChecked fleet bytes s → IsExact fleet bytes verdict × KeepsPromise fleet bytes verdict)) same h
-
-  pub ended_exact : IfOk r (λ verdict. (fleet : List Printer) (bytes : List ℕ) → HasChecked fleet bytes entry → IsExact fleet bytes verdict)
-  ended_exact =
-      IfOk-weaker r (λ verdict. (fleet : List Printer) (bytes : List ℕ) → HasChecked fleet bytes entry → IsExact fleet bytes verdict × KeepsPromise fleet bytes verdict)
-      (λ verdict. (fleet : List Printer) (bytes : List ℕ) → HasChecked fleet bytes entry → IsExact fleet bytes verdict)
-      (λ verdict ended fleet bytes checked. (ended fleet bytes checked).0) ended_so
-
-  pub ended_keeping : IfOk r (λ verdict. (fleet : List Printer) (bytes : List ℕ) → HasChecked fleet bytes entry → KeepsPromise fleet bytes verdict)
-  ended_keeping =
-      IfOk-weaker r (λ verdict. (fleet : List Printer) (bytes : List ℕ) → HasChecked fleet bytes entry → IsExact fleet bytes verdict × KeepsPromise fleet bytes verdict)
-      (λ verdict. (fleet : List Printer) (bytes : List ℕ) → HasChecked fleet bytes entry → KeepsPromise fleet bytes verdict)
-      (λ verdict ended fleet bytes checked. (ended fleet bytes checked).1) ended_so
+    (λ job may. known job (piece ++ may.0, may.1 ∙ append_assoc bytes piece may.0, λ e. absurd cc))
 
 -- a session that was begun
 pub session_begun : (session : SessionState) (fleet : List Printer) → session.standing ≡ Open → session.total ≡ 0 → HasCarriedOut fleet [] session.lexer session.machines session.counts → HasChecked fleet [] session

@@ -20,17 +20,16 @@ use Rattle.pcl_items.proofs.Stopping.{read_by_rules}
 use Rattle.device_profile.specs.Printer.{Printer}
 use Rattle.page_machine.specs.MachineState.{MachineState}
 use Rattle.sinks.specs.declared.counts.Counts.{Counts}
-use Rattle.line_words.specs.declared.reason.Reason.TheVariants.{Fault as FaultOfBytes}
-use Rattle.preflight.specs.declared.verdict.Verdict.{Verdict}
-use Rattle.preflight.specs.declared.verdict.Verdict.TheVariants.{Fail}
+use Rattle.verdict.specs.declared.reason.Reason.TheVariants.{Fault as FaultOfBytes}
+use Rattle.verdict.specs.declared.verdict.Verdict.{Verdict}
+use Rattle.verdict.specs.declared.verdict.Verdict.TheVariants.{Fail}
 use Rattle.preflight.specs.Pieces.{MayBeBy, Spell}
-use Rattle.preflight.specs.Verdict.{IsExact, IsFirst, LeavesOpen, NeedsEachRead, verdict_of}
-use Rattle.preflight.specs.Carriers.Checking.{HasCarriedOut, IsUnderWay}
+use Rattle.preflight.specs.Verdict.{IsExact, IsFirst, LeavesOpen, verdict_of}
+use Rattle.preflight.specs.Carriers.Checking.{HasCarriedOut}
 use Rattle.preflight.proofs.Answered.{is_all}
 use Rattle.preflight.proofs.Completed.{item_takes}
 use Rattle.preflight.proofs.FaultVerdicts.{stops_there}
 use Rattle.preflight.proofs.Fleets.{bytes_faulty}
-use Rattle.preflight.proofs.PieceLemmas.{given_more}
 
 -- ---- places
 
@@ -157,18 +156,7 @@ module _ (fleet : List Printer) (bytes : List ℕ) (lexer : LexerState) (machine
     not_opened (refuses more r ending) = not_refused more r ending
     not_opened (completes more entry len next e is_open) = not_completed more entry len next e is_open
 
-  leaves_open : (pieces : List (List ℕ)) → Spell pieces bytes → WantsMore lexer → LeavesOpen fleet pieces
+  pub leaves_open : (pieces : List (List ℕ)) → Spell pieces bytes → WantsMore lexer → LeavesOpen fleet pieces
   leaves_open pieces spelled wanted verdict exact =
       let known = λ (more : List ℕ). exact (bytes ++ more) (subst (λ ps. MayBeBy ps (bytes ++ more)) (append-nil pieces) (spelled.led [] more tt)) in
       not_opened verdict known (opened lexer.context lexer.rest wanted)
-
--- one more read was needed
-pub needs_read : (fleet : List Printer) (failed : Bool) (given_before given_mid given_after : List (List ℕ)) (before mid : Option (List ℕ)) (reads total : ℕ) (lexer : LexerState) (machines : List MachineState) (counts : Counts) (piece : List ℕ)
-    → IsUnderWay fleet failed given_before given_mid before mid reads total lexer machines counts → given_after ≡ given_mid ++ piece ∷ [] → length piece ≤ 4096 → NeedsEachRead fleet given_before given_after
-needs_read fleet failed given_before given_mid given_after before mid reads total lexer machines counts piece way given short = record {
-  before = way.pieces;
-  last = piece;
-  short = short;
-  given = given_more given_before given_mid given_after way.pieces piece way.given given;
-  left_open = leaves_open fleet way.bytes lexer machines counts way.carried way.open_input way.pieces way.spelled way.wants_more;
-}

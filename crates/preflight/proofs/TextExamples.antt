@@ -18,7 +18,7 @@ use Rattle.page_env.specs.declared.finding.Finding.TheVariants.{NotPrintable}
 use Rattle.page_env.specs.Places.{is_between, page_reads, page_and_line_reads}
 use Rattle.page_env.specs.Mark.{is_inside}
 use Rattle.preflight.specs.declared.outcome.Outcome.TheVariants.{Done, Fail}
-use Rattle.line_words.specs.declared.reason.Reason.TheVariants.{Fault, Finding as FindingOfRun}
+use Rattle.verdict.specs.declared.reason.Reason.TheVariants.{Fault, Finding as FindingOfRun}
 use Rattle.preflight.specs.Texts.{plain_text, list_text, reading_outcome}
 use Rattle.line_words.specs.MarkLines.{bounds_words}
 use Rattle.preflight.specs.PageTexts.{pages_text, pages_outcome}

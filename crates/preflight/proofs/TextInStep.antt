@@ -26,9 +26,8 @@ use Rattle.page_machine.specs.MachineState.{MachineState}
 use Rattle.page_machine.specs.TextRun.{machine_behind, glyph_events, PrintsText}
 use Rattle.sinks.specs.declared.counts.Counts.{Counts}
 use Rattle.sinks.specs.Counts.{counts_after, no_counts}
-use Rattle.preflight.specs.declared.lockstep.StepOutcome.TheVariants.{Alike}
 use Rattle.preflight.specs.Carriers.Each.{Each}
-use Rattle.preflight.specs.Carriers.Lockstep.{Execute, AreRunning, AreIn, Does, GoesInStep}
+use Rattle.preflight.specs.Carriers.Lockstep.{Execute, AreRunning, AreIn, Does, GoesAlike}
 use Rattle.preflight.specs.Carriers.TextInStep.{GoOnAll, PrintInStep}
 use Rattle.preflight.specs.Carriers.Checking.{Along, HasCarriedOut}
 use Rattle.preflight.proofs.Answered.{running_on, in_next}
@@ -186,7 +185,7 @@ record CarriedItems (fleet : List Printer) (items : List Placed) (machines : Lis
   along : Each (Along items done) fleet machines
 
 module _ (fleet : List Printer) where
-  item_on : (items : List Placed) (place code : ℕ) (machines mid : List MachineState) (counts between : Counts) → CarriedItems fleet items machines counts → GoesInStep (Execute (Text code)) machines mid counts between Alike → CarriedItems fleet (items ++ at place (Text code) ∷ []) mid between
+  item_on : (items : List Placed) (place code : ℕ) (machines mid : List MachineState) (counts between : Counts) → CarriedItems fleet items machines counts → GoesAlike (Execute (Text code)) machines mid counts between → CarriedItems fleet (items ++ at place (Text code) ∷ []) mid between
   item_on items place code machines mid counts between h step = record {
     done = h.done ++ done_item place step.0 ∷ [];
     agreed = agreed_more h.done place step.0 h.agreed;

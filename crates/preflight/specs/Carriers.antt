@@ -4,7 +4,8 @@ pub mod Each
 pub mod Lockstep
 pub mod TextInStep
 pub mod Checking
-pub mod Feeding
+pub mod Driving
 pub mod Telling
-pub mod ToldReads
+pub mod Told
 pub mod PageTelling
+pub mod Rooms

@@ -11,8 +11,8 @@ use Rattle.page_machine.specs.Event.{Event}
 use Rattle.page_machine.specs.Run.{Done}
 use Rattle.page_machine.specs.Job.{events_of, plain_run}
 use Rattle.page_machine.specs.Pages.{PrintedPage, pages}
-use Rattle.preflight.specs.declared.verdict.Verdict.{Verdict}
-use Rattle.preflight.specs.declared.verdict.Verdict.TheVariants.{Pass, Fail}
+use Rattle.verdict.specs.declared.verdict.Verdict.{Verdict}
+use Rattle.verdict.specs.declared.verdict.Verdict.TheVariants.{Pass, Fail}
 use Rattle.preflight.specs.Failing.{events_by_item}
 use Rattle.preflight.specs.Verdict.{verdict_of}
 

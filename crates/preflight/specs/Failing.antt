@@ -14,8 +14,8 @@ use Rattle.page_machine.specs.Job.{ItemRun, plain_run, watched_run}
 use Rattle.page_machine.specs.Laws.{IsNotUnset}
 use Rattle.page_machine.specs.Pinning.{finding_of}
 use Rattle.page_machine.specs.Reached.{FindsBehind, ComesToRead}
-use Rattle.line_words.specs.declared.reason.Reason.{Reason}
-use Rattle.line_words.specs.declared.reason.Reason.TheVariants.{Fault, Finding as FindingOfRun, Differs, Unpinnable}
+use Rattle.verdict.specs.declared.reason.Reason.{Reason}
+use Rattle.verdict.specs.declared.reason.Reason.TheVariants.{Fault, Finding as FindingOfRun, Differs, Unpinnable}
 
 -- the printer of this number in a fleet, counted from 1
 pub record IsNumbered (fleet : List Printer) (number : ℕ) (printer : Printer) : Type 0 where
@@ -39,6 +39,16 @@ abbrev pub GoesThrough : ℕ → ℕ → List ItemRun → Type 0
 GoesThrough before place [] = ⊥
 GoesThrough zero place (item ∷ items) = (item.finding ≡ None) × (item.place ≡ place)
 GoesThrough (suc before) place (item ∷ items) = (item.finding ≡ None) × GoesThrough before place items
+
+-- both runs of a printer from a panel, the plain one and the watched one, find nothing in so many items
+abbrev pub BothGoOn : ℕ → Printer → Panel → Reading → Type 0
+BothGoOn before printer panel reading =
+    GoesOn before (plain_run printer panel reading).items × GoesOn before (watched_run printer panel reading).items
+
+-- nor in the next one, which stands at this place
+abbrev pub BothGoThrough : ℕ → ℕ → Printer → Panel → Reading → Type 0
+BothGoThrough before place printer panel reading =
+    GoesThrough before place (plain_run printer panel reading).items × GoesThrough before place (watched_run printer panel reading).items
 
 -- the events of the item that stands behind so many others
 abbrev pub events_behind : ℕ → List ItemRun → List Event
@@ -74,34 +84,34 @@ pub record IsChosen (printer : Printer) (field : Field) : Type 0 where
   pub differ : with_value field value panel ≢ panel
 
 -- From every panel that the profile allows, the plain run comes without a finding to a step of this item that reads the field, which
--- no item has set since the last return to user defaults; and the panel of a valid profile chooses it.
+-- no item has set since it was last at its user default; and the panel of a valid profile chooses it.
 pub record SaysUnset (printer : Printer) (reading : Reading) (before place : ℕ) (field : Field) : Type 0 where
   pub reads : (panel : Panel) → IsAllowed printer panel → ComesToRead printer panel reading before place field
   pub chosen : IsTrue (is_valid printer) → IsChosen printer field
 
 -- ---- a finding
 
--- On every printer of the fleet, from every panel that its profile allows, the plain run goes through so many items, with the same
--- events, and on those of lower numbers through the next one, too. There, at this place, the watched run of the printer of this number
--- finds this; and so does the plain run, from every panel, unless it is Unset.
+-- On every printer of the fleet, from every panel that its profile allows, both runs go through so many items, with the same events,
+-- and on those of lower numbers through the next one, too. There, at this place, the watched run of the printer of this number finds
+-- this; and so does the plain run, unless it is Unset.
 pub record SaysFound (fleet : List Printer) (reading : Reading) (place number : ℕ) (finding : Finding) : Type 0 where
   pub printer : Printer
   pub is_numbered : IsNumbered fleet number printer
   pub before : ℕ
-  pub comes : (each : Printer) → Contains fleet each → (panel : Panel) → IsAllowed each panel → GoesOn before (plain_run each panel reading).items
+  pub comes : (each : Printer) → Contains fleet each → (panel : Panel) → IsAllowed each panel → BothGoOn before each panel reading
   pub shared : List (List Event)
   pub alike : (each : Printer) → Contains fleet each → (panel : Panel) → IsAllowed each panel →
       events_before before (plain_run each panel reading).items ≡ shared
   pub lower : (each : Printer) (lower : ℕ) → IsNumbered fleet lower each → lower < number → (panel : Panel) → IsAllowed each panel →
-      GoesThrough before place (plain_run each panel reading).items
+      BothGoThrough before place each panel reading
   pub watched : (panel : Panel) → IsAllowed printer panel → FindsBehind before place finding (watched_run printer panel reading).items
   pub plain : IsNotUnset finding → (panel : Panel) → IsAllowed printer panel → FindsBehind before place finding (plain_run printer panel reading).items
   pub unset : (field : Field) → finding ≡ Unset field → SaysUnset printer reading before place field
 
 -- ---- a difference
 
--- A printer differs at an item: on every printer of the fleet, from every panel that its profile allows, the plain run goes through it,
--- and gives the same events at each item before; there those of lower numbers, the first among them, give the same events, and the
+-- A printer differs at an item: on every printer of the fleet, from every panel that its profile allows, both runs go through it, and
+-- give the same events at each item before; there those of lower numbers, the first among them, give the same events, and the
 -- printer of this number gives others.
 pub record SaysDiffers (fleet : List Printer) (reading : Reading) (place number : ℕ) : Type 0 where
   pub before : ℕ
@@ -109,7 +119,7 @@ pub record SaysDiffers (fleet : List Printer) (reading : Reading) (place number 
   pub is_numbered : IsNumbered fleet number printer
   pub is_not_first : 1 < number
   pub through : (each : Printer) → Contains fleet each → (panel : Panel) → IsAllowed each panel →
-      GoesThrough before place (plain_run each panel reading).items
+      BothGoThrough before place each panel reading
   pub shared : List (List Event)
   pub alike : (each : Printer) → Contains fleet each → (panel : Panel) → IsAllowed each panel →
       events_before before (plain_run each panel reading).items ≡ shared
@@ -120,14 +130,16 @@ pub record SaysDiffers (fleet : List Printer) (reading : Reading) (place number 
 
 -- ---- a fault of the bytes
 
--- on every printer of the fleet, from every panel that its profile allows, the plain run finds nothing and gives these events item by item
+-- on every printer of the fleet, from every panel that its profile allows, both runs find nothing, and the plain one gives these events
+-- item by item
 abbrev pub FindsNothing : List Printer → Reading → List (List Event) → Type 0
 FindsNothing fleet reading events =
     (printer : Printer) → Contains fleet printer → (panel : Panel) → IsAllowed printer panel →
-    (finding_of (plain_run printer panel reading).items ≡ None) × (events_by_item (plain_run printer panel reading).items ≡ events)
+    (finding_of (plain_run printer panel reading).items ≡ None) × (finding_of (watched_run printer panel reading).items ≡ None)
+    × (events_by_item (plain_run printer panel reading).items ≡ events)
 
--- What a Fail says: of a finding, of a fault of the bytes, which comes behind items in which no printer finds anything and which print
--- alike, and of a difference.
+-- What a Fail says: of a finding; of a fault of the bytes, which comes behind items in which no run of the fleet finds anything and
+-- which print alike; and of a difference. No check answers Unpinnable.
 abbrev pub FailSays : List Printer → Reading → (place number : ℕ) → Reason → Type 0
 FailSays fleet reading place number (FindingOfRun finding) = SaysFound fleet reading place number finding
 FailSays fleet reading place number (Fault cause) =

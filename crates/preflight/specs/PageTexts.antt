@@ -9,7 +9,7 @@ use Rattle.page_machine.specs.Job.{ItemRun, events_of, plain_run}
 use Rattle.sinks.specs.Counts.{capped}
 use Rattle.preflight.specs.declared.outcome.Outcome.{Outcome}
 use Rattle.preflight.specs.declared.outcome.Outcome.TheVariants.{Fail}
-use Rattle.line_words.specs.declared.reason.Reason.TheVariants.{Finding as FindingOfRun}
+use Rattle.verdict.specs.declared.reason.Reason.TheVariants.{Finding as FindingOfRun}
 use Rattle.line_words.specs.MarkLines.{mark_line, page_line}
 use Rattle.preflight.specs.Texts.{reading_outcome}
 

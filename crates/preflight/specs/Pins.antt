@@ -9,7 +9,7 @@ use Rattle.pcl_items.specs.Reading.{Reading, items_of}
 use Rattle.page_env.specs.FontInForce.{request_at}
 use Rattle.page_env.specs.Pinned.{is_unpinnable}
 use Rattle.page_machine.specs.Pinning.{before, behind, is_due_behind}
-use Rattle.line_words.specs.declared.reason.Reason.TheVariants.{Unpinnable}
+use Rattle.verdict.specs.declared.reason.Reason.TheVariants.{Unpinnable}
 use Rattle.preflight.specs.declared.outcome.Outcome.{Outcome}
 use Rattle.preflight.specs.declared.outcome.Outcome.TheVariants.{Fail}
 use Rattle.preflight.specs.Due.{Telling}

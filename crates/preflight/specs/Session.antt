@@ -1,14 +1,17 @@
 -- What a session stands for, and what it says of the bytes that it was fed.
-use Rattle.std.specs.Prelude.{◌≡◌, ℕ, List, length, false}
-use Rattle.pcl_items.specs.LexerState.{LexerState}
+use Rattle.std.specs.Prelude.{◌≡◌, ◌+◌, ◌≤◌, ◌^◌, ℕ, List, ◌++◌, length, false}
+use Rattle.pcl_items.specs.LexerState.{LexerState, WantsMore}
 use Rattle.pcl_items.specs.Lexing.{MayBe}
 use Rattle.device_profile.specs.Printer.{Printer}
 use Rattle.page_machine.specs.MachineState.{MachineState}
 use Rattle.sinks.specs.declared.counts.Counts.{Counts}
 use Rattle.preflight.specs.declared.session.Standing.{Standing}
-use Rattle.preflight.specs.declared.session.Standing.TheVariants.{Open, Fails, Stopped}
-use Rattle.preflight.specs.declared.verdict.Verdict.TheVariants.{Fail}
-use Rattle.preflight.specs.Verdict.{IsExact}
+use Rattle.preflight.specs.declared.session.Standing.TheVariants.{Open, Judged, Stopped}
+use Rattle.preflight.specs.declared.error.Error.{Error}
+use Rattle.preflight.specs.declared.error.Error.TheVariants.{Memory}
+use Rattle.verdict.specs.declared.verdict.Verdict.{Verdict}
+use Rattle.preflight.specs.Pieces.{MayBeBy}
+use Rattle.preflight.specs.Verdict.{IsExact, KeepsPromise}
 use Rattle.preflight.specs.Carriers.Checking.{HasCarriedOut}
 
 -- the lexer and the machines with their counts, how many bytes were fed, and how far it has come
@@ -20,12 +23,36 @@ pub record SessionState : Type 0 where
   pub standing : Standing
 
 -- What the bytes so far came to: the items that were read of them were carried out on each printer, alike and without a finding; or
--- every job that begins with them fails so.
+-- this is the verdict on every job that begins with them.
 abbrev pub ChecksTo : Standing → List Printer → List ℕ → SessionState → Type 0
 ChecksTo Open fleet bytes session = HasCarriedOut fleet bytes session.lexer session.machines session.counts × (session.total ≡ length bytes)
-ChecksTo (Fails place profile finding) fleet bytes session = (job : List ℕ) → MayBe false bytes job → IsExact fleet job (Fail place profile finding)
+ChecksTo (Judged verdict) fleet bytes session = (job : List ℕ) → MayBe false bytes job → IsExact fleet job verdict × KeepsPromise fleet job verdict
 ChecksTo (Stopped error) fleet bytes session = Unit {0}
 
 -- the session was fed these bytes, for a check by this fleet
 abbrev pub HasChecked : List Printer → List ℕ → SessionState → Type 0
 HasChecked fleet bytes session = ChecksTo session.standing fleet bytes session
+
+-- ---- a session takes a job piece by piece
+
+-- nothing is wrong so far, and all pieces together with so many more bytes have at most 2^62
+abbrev pub HasRoom : SessionState → ℕ → Type 0
+HasRoom session more = (session.standing ≡ Open) × (session.total + more ≤ 2 ^ 62)
+
+-- From the one to the other by these bytes, which leave the verdict open.
+pub record ChecksOn (first : SessionState) (bytes : List ℕ) (now : SessionState) : Type 0 where
+  pub is_open : now.standing ≡ Open
+  pub total_is : now.total ≡ first.total + length bytes
+  pub open_input : now.lexer.ended ≡ false
+  pub wants_more : WantsMore now.lexer
+  pub checked : (fleet : List Printer) (base : List ℕ) → HasChecked fleet base first → HasChecked fleet (base ++ bytes) now
+
+-- From the one to the other, with the verdict on every job that may be by these pieces.
+pub record IsJudged (first : SessionState) (verdict : Verdict) (pieces : List (List ℕ)) (now : SessionState) : Type 0 where
+  pub standing_is : now.standing ≡ Judged verdict
+  pub right : (fleet : List Printer) (base : List ℕ) → HasChecked fleet base first → (rest : List ℕ) → MayBeBy pieces rest →
+      IsExact fleet (base ++ rest) verdict × KeepsPromise fleet (base ++ rest) verdict
+
+-- memory was refused, which the session answers from then on
+abbrev pub IsOutOfMemory : SessionState → Error → List ℕ → SessionState → Type 0
+IsOutOfMemory first error bytes now = (error ≡ Memory) × (now.standing ≡ Stopped Memory)

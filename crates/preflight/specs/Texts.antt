@@ -5,7 +5,7 @@ use Rattle.pcl_items.specs.Canon.{canon}
 use Rattle.pcl_items.specs.Reading.{Reading, Whole, Stopped, items_of}
 use Rattle.preflight.specs.declared.outcome.Outcome.{Outcome}
 use Rattle.preflight.specs.declared.outcome.Outcome.TheVariants.{Done, Fail}
-use Rattle.line_words.specs.declared.reason.Reason.TheVariants.{Fault}
+use Rattle.verdict.specs.declared.reason.Reason.TheVariants.{Fault}
 use Rattle.line_words.specs.ItemLines.{item_line, fault_line}
 
 -- bytes that are items to their end, or up to a fault

@@ -1,5 +1,5 @@
 //! Text that is kept until there is enough of it to be written.
-ghost use Rattle.std.specs.Prelude.{◌≡◌, [], IfErr, IsFalse, is_err};
+ghost use Rattle.std.specs.Prelude.{◌≡◌, ◌<◌, [], IfErr, IsFalse, OnOk, is_err, length};
 ghost use Rattle.preflight.specs.Carriers.Telling.{Passes};
 ghost use Rattle.preflight.specs.Outlet.{Writes};
 ghost use Rattle.preflight.specs.declared.error.Error.TheVariants.{Write};
@@ -34,6 +34,7 @@ pub fn write_enough<W: Outlet, A: Allocator>(
 ) -> Result<(), Error>
     requires { IsFalse (W.failed outlet.old) }
     ensures text { Passes (W.written outlet.old) (W.written outlet.new) kept.old.items kept.new.items result }
+    ensures few { OnOk result (length kept.new.items < 8192) }
     ensures err { IfErr result (λ error. error ≡ Write) }
     ensures status { W.failed outlet.new ≡ is_err result }
 {

@@ -1,8 +1,8 @@
 //! What comes of writing a text of a job.
 ghost use Rattle.std.specs.Prelude.{◌≡◌};
 
-use line_words::Reason;
 use pcl_items::LexFault;
+use verdict::Reason;
 
 /// What comes of writing a text of a job.
 #[derive(Clone, Copy, Debug, PartialEq, Eq)]

@@ -15,11 +15,12 @@ use crate::outlet::Outlet;
 use crate::report::{Report, tell_job};
 use crate::source::Source;
 use device_profile::{Panel, Profile};
-use line_words::{Reason, push_mark, push_page};
+use line_words::{push_mark, push_page};
 use page_env::{Finding, Mark, PageEnd};
 use page_machine::{Machine, MarkSink, Start, Stop};
 use pcl_items::{Item, LexFault, Place};
 use std::alloc::Allocator;
+use verdict::Reason;
 
 /// Writes a line for each mark and for each end of a page.
 #[derive(Drop)]
@@ -117,7 +118,7 @@ impl<P: Allocator, B: Allocator + Copy> Report for Pages<'_, P, B> {
                 self.page = text.page;
                 Ok(None)
             }
-            Err(Stop::Found(_, finding)) => Ok(Some(fails_at(place, finding))),
+            Err(Stop::Found(finding)) => Ok(Some(fails_at(place, finding))),
             // Whether the outlet failed or memory was refused, the outlet tells.
             Err(Stop::Refused(_)) => Err(refusal(text.outlet)),
             Err(Stop::Memory(_)) => Err(Error::Memory),
@@ -138,7 +139,7 @@ impl<P: Allocator, B: Allocator + Copy> Report for Pages<'_, P, B> {
         };
         match self.machine.finish(place, &mut text) {
             Ok(()) => Ok(Outcome::Done),
-            Err(Stop::Found(_, finding)) => Ok(fails_at(place, finding)),
+            Err(Stop::Found(finding)) => Ok(fails_at(place, finding)),
             // Whether the outlet failed or memory was refused, the outlet tells.
             Err(Stop::Refused(_)) => Err(refusal(text.outlet)),
             Err(Stop::Memory(_)) => Err(Error::Memory),

@@ -22,10 +22,10 @@ use crate::outlet::Outlet;
 use crate::report::{Report, tell_job};
 use crate::source::Source;
 use device_profile::{FontRequest, Panel, Profile};
-use line_words::Reason;
 use page_env::{Control, control_of};
 use pcl_items::{Command, Item, LexFault, Number, Place, SetLetter, Sign, SimpleItem, spell};
 use std::alloc::{AllocError, Allocator};
+use verdict::Reason;
 
 /// A whole number as values have it, in ten-thousandths.
 const WHOLE: u32 = 10_000;

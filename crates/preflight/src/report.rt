@@ -3,7 +3,8 @@ ghost use Rattle.std.specs.Prelude.{◌≡◌, ◌+◌, ◌^◌, ◌≤◌, ℕ,
 ghost use Rattle.pcl_items.specs.declared.item.Mode.{Mode};
 ghost use Rattle.pcl_items.specs.declared.item.Mode.TheVariants.{Pcl};
 ghost use Rattle.pcl_items.specs.Items.{at, view};
-ghost use Rattle.pcl_items.specs.LexerState.{WantsMore};
+ghost use Rattle.pcl_items.specs.LexerState.{WantsMore, at_start};
+ghost use Rattle.pcl_items.specs.Lexing.{HasRead};
 ghost use Rattle.pcl_items.specs.Modes.{mode_of};
 ghost use Rattle.pcl_items.specs.Reading.{Reading, Whole, Stopped};
 ghost use Rattle.preflight.specs.Due.{Telling, WritesDecided, WritesDue, WritesFront};
@@ -11,13 +12,14 @@ ghost use Rattle.preflight.specs.Outlet.{Written, is_err_of_write};
 ghost use Rattle.preflight.specs.Pieces.{ByReads};
 ghost use Rattle.preflight.specs.Source.{is_err_of_read};
 ghost use Rattle.preflight.specs.Carriers.Telling.{Admits, CameTo, Ended, Follows, HasTold, IsErrorOfTelling, IsErrorOfText, Tells};
-ghost use Rattle.preflight.specs.Carriers.ToldReads.{IsErrorOfRead, IsToldSoFar, TellsRead};
+ghost use Rattle.preflight.specs.Carriers.Told.{CanTell, IsCutOff, IsTold, TellsOn};
 
+use crate::driver::{Consumer, read_job};
 use crate::error::Error;
 use crate::kept::write_kept;
 use crate::outcome::Outcome;
 use crate::outlet::Outlet;
-use crate::source::{MOST_READS, PIECE, Source};
+use crate::source::Source;
 use pcl_items::{Item, LexFault, Lexed, Lexer, Place};
 use std::alloc::Allocator;
 
@@ -113,34 +115,10 @@ fn tell_items<R: Report, W: Outlet, A: Allocator>(
     }
 }
 
-/// The same, and writes all of it.
-fn tell_decided<R: Report, W: Outlet, A: Allocator>(
-    lexer: &mut Lexer<A>,
-    report: &mut R,
-    outlet: &mut W,
-    kept: &mut Vec<u8, A>,
-    total: u64,
-) -> Result<Option<Outcome>, Error>
-    requires working { IsFalse (W.failed outlet.old) }
-    requires mode { R.is_in report.old (mode_of lexer.old.context) }
-    ensures came { (first : Telling) (start : Written) (bytes : List ℕ) →
-        HasTold first start bytes lexer.old (R.telling report.old) (W.written outlet.old) kept.old.items → total ≡ length bytes →
-        CameTo first start lexer.old.ended bytes lexer.new (R.telling report.new) (W.written outlet.new) [] result }
-    ensures kept { IfOk result (λ _. kept.new.items ≡ []) }
-    ensures goes_on { result ≡ Ok None → (lexer.old.ended ≡ false) × WantsMore lexer.new × R.is_in report.new (mode_of lexer.new.context) }
-    ensures ended { lexer.new.ended ≡ lexer.old.ended }
-    ensures place { lexer.new.place + length lexer.new.rest ≡ lexer.old.place + length lexer.old.rest }
-    ensures status { W.failed outlet.new ≡ is_err_of_write result }
-    ensures err { IfErr result IsErrorOfTelling }
-{
-    let came = tell_items(lexer, report, outlet, kept, total)?;
-    write_kept(outlet, kept)?;
-    Ok(came)
-}
-
-/// A job that is read and told.
+/// A job that is told as it is taken.
 #[derive(Drop)]
-struct Told<A: Allocator> {
+struct Teller<'t, R: Report, A: Allocator> {
+    report: &'t mut R,
     lexer: Lexer<A>,
     /// Text that is to be written before the next read.
     kept: Vec<u8, A>,
@@ -148,42 +126,58 @@ struct Told<A: Allocator> {
     total: u64,
 }
 
-/// Reads a piece, and tells and writes what it decides. None means that more may come.
-fn tell_piece<S: Source, R: Report, W: Outlet, A: Allocator>(
-    told: &mut Told<A>,
-    reader: &mut S,
-    piece: &mut [u8; PIECE],
-    report: &mut R,
-    outlet: &mut W,
-) -> Result<Option<Outcome>, Error>
-    requires reading { IsFalse (S.failed reader.old) }
-    requires writing { IsFalse (W.failed outlet.old) }
-    requires mode { R.is_in report.old (mode_of told.old.lexer.context) }
-    requires kept { told.old.kept.items ≡ [] }
-    requires open_input { told.old.lexer.ended ≡ false }
-    requires wants_more { WantsMore told.old.lexer }
-    requires fed { told.old.lexer.place + length told.old.lexer.rest ≡ told.old.total }
-    requires room { told.old.total + 4096 ≤ 2 ^ 62 }
-    ensures came { (first : Telling) (start : Written) (given : List (List ℕ)) (before : Option (List ℕ)) (reads : ℕ) →
-        IsToldSoFar first start (S.failed reader.old) given (S.given reader.old) before (S.remaining reader.old) reads told.old.total told.old.lexer (R.telling report.old) (W.written outlet.old) →
-        TellsRead first start (S.failed reader.new) given (S.given reader.new) before (S.remaining reader.new) (reads + 1) told.new.total told.new.lexer (R.telling report.new) (W.written outlet.new) result }
-    ensures kept { IfOk result (λ _. told.new.kept.items ≡ []) }
-    ensures goes_on { result ≡ Ok None → R.is_in report.new (mode_of told.new.lexer.context) }
-    ensures read { S.failed reader.new ≡ is_err_of_read result }
-    ensures write { W.failed outlet.new ≡ is_err_of_write result }
-    ensures errors { IfErr result IsErrorOfRead }
-{
-    let count = match reader.read(piece) {
-        Ok(count) => count,
-        Err(_) => return Err(Error::Read),
-    };
-    if count == 0 {
-        told.lexer.end_input();
-        return tell_decided(&mut told.lexer, report, outlet, &mut told.kept, told.total);
+impl<R: Report, A: Allocator> Teller<'_, R, A> {
+    /// Tells the items that the bytes fed so far decide, and writes all of it. None means that they decide no more.
+    fn tell_decided<W: Outlet>(&mut self, outlet: &mut W) -> Result<Option<Outcome>, Error>
+        requires working { IsFalse (W.failed outlet.old) }
+        requires mode { R.is_in self.old.report.now (mode_of self.old.lexer.context) }
+        ensures came { (first : Telling) (start : Written) (bytes : List ℕ) →
+            HasTold first start bytes self.old.lexer (R.telling self.old.report.now) (W.written outlet.old) self.old.kept.items → self.old.total ≡ length bytes →
+            CameTo first start self.old.lexer.ended bytes self.new.lexer (R.telling self.new.report.now) (W.written outlet.new) [] result }
+        ensures kept { IfOk result (λ _. self.new.kept.items ≡ []) }
+        ensures goes_on { result ≡ Ok None → (self.old.lexer.ended ≡ false) × WantsMore self.new.lexer × R.is_in self.new.report.now (mode_of self.new.lexer.context) }
+        ensures ended { self.new.lexer.ended ≡ self.old.lexer.ended }
+        ensures place { self.new.lexer.place + length self.new.lexer.rest ≡ self.old.lexer.place + length self.old.lexer.rest }
+        ensures total { self.new.total ≡ self.old.total }
+        ensures status { W.failed outlet.new ≡ is_err_of_write result }
+        ensures err { IfErr result IsErrorOfTelling }
+    {
+        let (lexer, kept) = (&mut self.lexer, &mut self.kept);
+        let came = tell_items(lexer, self.report, outlet, kept, self.total)?;
+        write_kept(outlet, kept)?;
+        Ok(came)
     }
-    told.lexer.feed(&piece[..count])?;
-    told.total += count as u64;
-    tell_decided(&mut told.lexer, report, outlet, &mut told.kept, told.total)
+}
+
+impl<R: Report, W: Outlet, A: Allocator> Consumer<W> for Teller<'_, R, A> {
+    ghost use Rattle.preflight.specs.Carriers.Rooms.{teller_leaves};
+
+    type Answer = Outcome;
+
+    ghost has_room = { λ now more. CanTell (R.is_in now.0.report.now) (W.failed now.1) now.0.kept.items now.0.total now.0.lexer more };
+
+    ghost goes_on = { λ first bytes now. TellsOn (R.telling first.0.report.now) (W.written first.1) (R.is_in now.0.report.now) bytes
+        (R.telling now.0.report.now) (W.written now.1) (W.failed now.1) now.0.kept.items first.0.total now.0.total now.0.lexer };
+
+    ghost answers = { λ first outcome pieces now. IsTold (R.telling first.0.report.now) (W.written first.1) pieces (W.written now.1) (W.failed now.1) outcome };
+
+    ghost stops = { λ first error bytes now. IsCutOff (R.telling first.0.report.now) (W.written first.1) bytes (W.written now.1) (W.failed now.1) error };
+
+    fn piece(&mut self, outlet: &mut W, piece: &[u8]) -> Result<Option<Outcome>, Error> {
+        self.lexer.feed(piece)?;
+        self.total += piece.len() as u64;
+        self.tell_decided(outlet)
+    }
+
+    fn end(&mut self, outlet: &mut W) -> Result<Outcome, Error> {
+        self.lexer.end_input();
+        match self.tell_decided(outlet)? {
+            Some(outcome) => Ok(outcome),
+            None => unreachable!(),
+        }
+    }
+
+    ghost leaves_room = { λ first bytes now room more has goes fits. teller_leaves bytes room more has goes fits };
 }
 
 /// Reads a job to its end, and tells its items as they are read. What is told is written before the next read.
@@ -205,18 +199,11 @@ pub fn tell_job<S: Source, R: Report, W: Outlet, A: Allocator + Copy>(
     ensures long { IsErrOf result Error.Turns → ByReads (S.given reader.old) (S.given reader.new) (S.remaining reader.old) (λ job. 2 ^ 40 ≤ length job) }
     ensures errors { IfErr result IsErrorOfText }
 {
-    let mut told = Told {
+    let mut teller = Teller {
+        report,
         lexer: Lexer::new(alloc),
         kept: Vec::new(alloc),
         total: 0,
     };
-    let mut piece = [0u8; PIECE];
-    for _ in 0..MOST_READS {
-        let came = tell_piece(&mut told, reader, &mut piece, report, writer)?;
-        match came {
-            None => {}
-            Some(outcome) => return Ok(outcome),
-        }
-    }
-    Err(Error::Turns)
+    read_job(reader, &mut teller, writer)
 }

@@ -3,12 +3,12 @@ ghost use Rattle.std.specs.Prelude.{◌≡◌, false, IsFalse};
 
 use device_profile::Profile;
 use fakes::{CutSource, FailingOutlet, FailingSource};
-use line_words::Reason;
 use page_env::Finding;
 use pcl_items::Cause;
 use preflight::{Error, Outcome, Source, Watched, list_job, pages_of, pin_job, plain_job};
 use std::alloc::{Allocator, Global};
 use std::process::Abort;
+use verdict::Reason;
 
 /// A text of a job.
 #[derive(Clone, Copy, Debug)]

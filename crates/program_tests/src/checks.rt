@@ -10,7 +10,8 @@ use printers::{text_of_one_page, with_line};
 use std::alloc::Allocator;
 use std::process::Abort;
 use std::test::Fail;
-use subcommands::{Status, check};
+use subcommands::check::check;
+use subcommands::{Status, tell};
 
 // Texts that are wrong for the cause in their names.
 
@@ -143,7 +144,7 @@ const CHECKED: &[Row] = &[
     ),
 ];
 
-/// Runs `check`. It alone meets the clauses of that call, so that the tests have no part of them to carry.
+/// Runs `check`, and tells how it ended. It alone meets the clauses of that call, so that the tests have no part of them to carry.
 fn status_of<H: Allocator + Copy, J: Source, O: Outlet, E: Outlet>(
     heap: H,
     job: &mut J,
@@ -155,10 +156,11 @@ fn status_of<H: Allocator + Copy, J: Source, O: Outlet, E: Outlet>(
     requires job { IsFalse (J.failed job.old) }
     requires texts { texts.old.has_failed ≡ false }
     requires stdout { IsFalse (O.failed stdout.old) }
-    requires stderr { IsFalse (E.failed stderr.old) }
     requires words { words.now ≢ [] }
 {
-    check(heap, job, texts, words, stdout, stderr)
+    let status = check(heap, job, texts, words, stdout);
+    tell(status, stderr);
+    status
 }
 
 /// Runs `check`, and compares what it did. A read of the job fails only where all texts were had and no line tells of a verdict.

@@ -9,10 +9,12 @@ use preflight::{Outlet, Source, Watched};
 use refusing::Refusing;
 use std::alloc::Allocator;
 use std::process::Abort;
-use subcommands::{
-    Choice, Create, FileOutlet, FileSource, Open, PanelSetting, Status, check, list, pages, pin,
-    plain,
-};
+use subcommands::check::check;
+use subcommands::list::list;
+use subcommands::pages::pages;
+use subcommands::pin::pin;
+use subcommands::plain::plain;
+use subcommands::{Choice, Create, FileOutlet, FileSource, Open, PanelSetting, Status, tell};
 
 /// A subcommand.
 #[derive(Clone, Copy, Debug)]
@@ -37,7 +39,7 @@ fn texts() -> [Named<'static>; 4] {
     ]
 }
 
-/// Runs a subcommand.
+/// Runs a subcommand, and tells how it ended.
 fn status_of<H: Allocator + Copy, J: Open, W: Create, O: Outlet, E: Outlet>(
     command: Command,
     heap: H,
@@ -53,16 +55,18 @@ fn status_of<H: Allocator + Copy, J: Open, W: Create, O: Outlet, E: Outlet>(
 {
     let named = texts();
     let mut texts = KeptTexts::new(&named);
-    match command {
-        Command::Check => check(heap, job, &mut texts, &["a", "b"], stdout, stderr),
-        Command::List => list(heap, job, stdout, stderr),
-        Command::Pages(word) => pages(heap, job, &mut texts, word, stdout, stderr),
-        Command::Plain => plain(heap, job, out, stdout, stderr),
+    let status = match command {
+        Command::Check => check(heap, job, &mut texts, &["a", "b"], stdout),
+        Command::List => list(heap, job, stdout),
+        Command::Pages(word) => pages(heap, job, &mut texts, word, stdout),
+        Command::Plain => plain(heap, job, out, stdout),
         Command::Pin(profile, choices) => {
             let setting = PanelSetting { profile, choices };
             pin(heap, job, &mut texts, &setting, out, stdout, stderr)
         }
-    }
+    };
+    tell(status, stderr);
+    status
 }
 
 /// A file of a row.
@@ -526,7 +530,8 @@ fn files_are_opened_and_created(rt: HostRuntime) {
         let mut out = FileOutlet::new(&rt, to);
         let mut stdout = Watched::new(Vec::new(rt.alloc()));
         let mut stderr = Watched::new(Vec::new(rt.alloc()));
-        let status = plain(rt.alloc(), &mut job, &mut out, &mut stdout, &mut stderr);
+        let status = plain(rt.alloc(), &mut job, &mut out, &mut stdout);
+        tell(status, &mut stderr);
         let is_told = status.code() == *code && stderr.get_ref().as_slice() == *error;
         assert!(rt; is_told, "{from} to {to}");
     }
@@ -538,6 +543,7 @@ fn a_full_file_is_told(rt: HostRuntime) {
     let mut out = FileOutlet::new(&rt, "/dev/full");
     let mut stdout = Watched::new(Vec::new(rt.alloc()));
     let mut stderr = Watched::new(Vec::new(rt.alloc()));
-    let status = plain(rt.alloc(), &mut job, &mut out, &mut stdout, &mut stderr);
+    let status = plain(rt.alloc(), &mut job, &mut out, &mut stdout);
+    tell(status, &mut stderr);
     assert!(rt; status.code() == 3 && stderr.get_ref().as_slice() == WRITE);
 }

@@ -5,7 +5,8 @@ use preflight::Watched;
 use std::alloc::Global;
 use std::process::Abort;
 use std::test::Fail;
-use subcommands::{Status, explain};
+use subcommands::explain::explain;
+use subcommands::{Status, tell};
 
 /// The numbers and names of the faults and findings.
 const CODES: &[(&str, &str)] = &[
@@ -142,6 +143,7 @@ fn each_write_of_an_explanation_fails_in_turn(rt: HostRuntime) -> Result<(), Fai
         let mut stdout = FailingOutlet::new(rt.alloc(), writes as u64);
         let mut stderr = Watched::new(Vec::new(rt.alloc()));
         let status = explain(Some("30"), &mut stdout, &mut stderr);
+        tell(status, &mut stderr);
         let told = (status.code(), stderr.get_ref().as_slice());
         assert_eq!(rt; told, (3, b"ERROR write\n".as_slice()));
         assert!(rt; text.starts_with(stdout.taken()) && stdout.taken().len() / 7 == writes);

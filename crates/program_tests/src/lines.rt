@@ -1,7 +1,6 @@
 //! The lines that the program writes.
 
 use device_profile::{Cause as ProfileCause, Field};
-use line_words::Reason;
 use page_env::Finding;
 use pcl_items::{Cause, Group, Name};
 use preflight::{Error, Outlet, Verdict, Watched};
@@ -9,6 +8,7 @@ use std::alloc::{AllocError, Global};
 use std::process::Abort;
 use std::test::Fail;
 use subcommands::{Status, line_of, tell};
+use verdict::Reason;
 
 /// What is wrong, and the line of a Fail at byte 24 of printer 1.
 const REASONS: &[(Reason, &[u8])] = &[
@@ -170,13 +170,13 @@ const ENDS: &[(Status, u8, &[u8])] = &[
 /// Tells a status on a standard error that takes all, and on one of each smaller size, which takes the front of the line.
 fn check_line(rt: &(impl Abort + AllocGlobal), status: Status, code: u8, line: &[u8]) {
     let mut stderr = Watched::new(Vec::new(rt.alloc()));
-    let told = tell(status, &mut stderr);
-    assert_eq!(rt; (told.code(), stderr.get_ref().as_slice()), (code, line));
+    tell(status, &mut stderr);
+    assert_eq!(rt; (status.code(), stderr.get_ref().as_slice()), (code, line));
     let mut taken = [0u8; 64];
     for room in 0..line.len().min(taken.len()) {
         let mut stderr = Watched::new(&mut taken[..room]);
-        let told = tell(status, &mut stderr);
-        let answer = (told.code(), stderr.has_failed(), &taken[..room]);
+        tell(status, &mut stderr);
+        let answer = (status.code(), stderr.has_failed(), &taken[..room]);
         assert_eq!(rt; answer, (code, true, &line[..room]));
     }
 }

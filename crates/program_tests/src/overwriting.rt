@@ -7,7 +7,9 @@ use std::process::Abort;
 use std::rt::{Env, Files};
 use std::test::Fail;
 use std::{env, fs};
-use subcommands::{FileOutlet, FileSource, FileTexts, Input, PanelSetting, Status, pin, plain};
+use subcommands::pin::pin;
+use subcommands::plain::plain;
+use subcommands::{FileOutlet, FileSource, FileTexts, Input, PanelSetting, Status};
 
 const JOB: &[u8] = b"\x1bE\x1b&l02A";
 
@@ -32,16 +34,9 @@ fn plain_in<R: Files + AllocGlobal>(rt: &R, folder: &str, out: &str) -> Result<S
     let job = format!(in rt.alloc(); "{folder}/job")?;
     let out = format!(in rt.alloc(); "{folder}/{out}")?;
     let mut stdout = Watched::new(Vec::new(rt.alloc()));
-    let mut stderr = Watched::new(Vec::new(rt.alloc()));
     let mut source = FileSource::new(rt, job.as_str());
     let mut outlet = FileOutlet::new(rt, out.as_str());
-    Ok(plain(
-        rt.alloc(),
-        &mut source,
-        &mut outlet,
-        &mut stdout,
-        &mut stderr,
-    ))
+    Ok(plain(rt.alloc(), &mut source, &mut outlet, &mut stdout))
 }
 
 /// How `pin` ends for the job and the profile of a folder and this OUT in it.

@@ -6,7 +6,7 @@ use preflight::Watched;
 use std::alloc::{AllocError, Global};
 use std::process::Abort;
 use std::test::Fail;
-use subcommands::{Choice, Input, Status};
+use subcommands::{Choice, Input, Status, tell};
 
 fn strings(alloc: Global, words: &[&str]) -> Result<Vec<String>, AllocError> {
     let mut strings = Vec::new(alloc);
@@ -129,6 +129,7 @@ fn check_ended(rt: &impl Abort, alloc: Global, rows: &[Ended]) -> Result<(), Fai
         let mut stderr = Watched::new(Vec::new(alloc));
         let answer = read_words(alloc, words.as_slice(), &mut stdout, &mut stderr).err();
         assert_eq!(rt; answer, Some(*status), "{asked:?}");
+        tell(*status, &mut stderr);
         let is_help = has_parts(stdout.get_ref().as_slice(), parts);
         let is_told = stderr.get_ref().is_empty() == (*status == Status::Help);
         assert!(rt; is_help && is_told, "{asked:?}");

@@ -7,10 +7,6 @@ use Rattle.preflight.proofs.OutletLemmas.{Adds-none}
 use Rattle.preflight.specs.Outlet.{Written, Adds, AddsFront, Writes}
 use Rattle.subcommands.proofs.WriteLemmas.{pieces_more, Writes-cut}
 use Rattle.subcommands.specs.Explanations.{complaint}
-use Rattle.preflight.specs.declared.error.Error.{Error}
-use Rattle.subcommands.specs.Status.{status_line}
-use Rattle.subcommands.specs.declared.status.Status.{Status}
-use Rattle.subcommands.specs.declared.status.Status.TheVariants.{Words, Stopped}
 
 -- what is written of one text: all of it, or nothing
 abbrev pub told : (List ℕ → Bool) → List ℕ → List ℕ
@@ -56,7 +52,7 @@ told_to_the_end p f xs i failed a b h all =
 
 -- the pieces of the line on a code that nothing has
 pub Writes-unknown : (failed : Bool) (a b : Written) (code first : List ℕ) → first ≡ code →
-    Writes failed a b (codes "error: no fault and no finding has the number or the name '" ++ (first ++ codes "'; 'pclcheck explain' writes all\n")) → Writes failed a b (complaint Words (Some code))
+    Writes failed a b (codes "error: no fault and no finding has the number or the name '" ++ (first ++ codes "'; 'pclcheck explain' writes all\n")) → Writes failed a b (complaint (Some code))
 Writes-unknown failed a b code first e written =
     subst (λ l. Writes failed a b (codes "error: no fault and no finding has the number or the name '" ++ (l ++ codes "'; 'pclcheck explain' writes all\n"))) e written
 
@@ -74,13 +70,6 @@ pub none_at_all : {X : Type 0} (p : X → Bool) (xs : List X) (i : ℕ) → leng
 none_at_all p xs i h before = ap (list_any p) (sym (take_all i xs h)) ∙ before
 
 -- what was told of a code that nothing has
-pub told_unknown : (failed : Bool) (a b : Written) (code : Option (Bor (List ℕ))) (word : Bor (List ℕ)) (status : Status) → code ≡ Some word → status ≡ Words →
-    Writes failed a b (complaint Words (Some word.now)) → Writes failed a b (complaint status (option_map (λ word. word.now) code))
-told_unknown failed a b code word status is ends written =
-    subst (λ s. Writes failed a b (complaint s (option_map (λ word. word.now) code))) (sym ends)
-    (subst (λ c. Writes failed a b (complaint Words (option_map (λ word. word.now) c))) (sym is) written)
-
--- what was told of a stop
-pub told_stop : (failed : Bool) (a b : Written) (code : Option (List ℕ)) (error : Error) (status : Status) → status ≡ Stopped error →
-    Writes failed a b (status_line (Stopped error)) → Writes failed a b (complaint status code)
-told_stop failed a b code error status is written = subst (λ s. Writes failed a b (complaint s code)) (sym is) written
+pub told_unknown : (failed : Bool) (a b : Written) (code : Option (Bor (List ℕ))) (word : Bor (List ℕ)) → code ≡ Some word →
+    Writes failed a b (complaint (Some word.now)) → Writes failed a b (complaint (option_map (λ word. word.now) code))
+told_unknown failed a b code word is written = subst (λ c. Writes failed a b (complaint (option_map (λ word. word.now) c))) (sym is) written

@@ -7,7 +7,7 @@ use Rattle.device_profile.specs.declared.fault.ProfileFault.TheVariants.{Fault, 
 use Rattle.device_profile.specs.Printer.{Printer}
 use Rattle.device_profile.specs.Text.{IsErrorOfText}
 use Rattle.preflight.specs.declared.error.Error.TheVariants.{Memory, Read, Write, Turns, NoProfile}
-use Rattle.preflight.specs.declared.verdict.Verdict.{Verdict}
+use Rattle.verdict.specs.declared.verdict.Verdict.{Verdict}
 use Rattle.preflight.specs.Outlet.{Written}
 use Rattle.subcommands.specs.declared.status.Status.{Status}
 use Rattle.subcommands.specs.declared.status.Status.TheVariants.{Pass, Fail, Help, Words, Overwrites, NotAllowed, Profile, Stopped}

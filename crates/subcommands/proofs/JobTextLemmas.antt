@@ -1,5 +1,5 @@
 -- Lemmas on what is left of a text of a job.
-use Rattle.std.proofs.Common.{◌≡◌, ◌≢◌, inl, inr, ℕ, Bool, List, [], Option, None, Some, Err, refl, sym, ◌∙◌, ap, subst, append-nil}
+use Rattle.std.proofs.Common.{◌≡◌, ◌≢◌, inl, inr, ℕ, Bool, List, [], Option, None, Some, Result, Ok, Err, IfErr, IfOk, refl, sym, ◌∙◌, ap, subst, append-nil}
 use Rattle.std.specs.Io.KnownBytes.{Consumes}
 use Rattle.pcl_items.specs.declared.item.Mode.TheVariants.{Pcl}
 use Rattle.pcl_items.specs.Grammar.{here}
@@ -10,14 +10,17 @@ use Rattle.preflight.specs.declared.error.Error.TheVariants.{Memory, Read, Write
 use Rattle.preflight.specs.declared.outcome.Outcome.{Outcome}
 use Rattle.preflight.specs.declared.outcome.Outcome.TheVariants.{Done, Fail as FailsOf}
 use Rattle.preflight.specs.Due.{Telling, WritesFront}
-use Rattle.preflight.specs.Outlet.{Written, Writes}
+use Rattle.std.specs.Prelude.{IsFalse, OnOk, ◌||◌}
+use Rattle.std.proofs.Math.Bool.{or-false}
+use Rattle.preflight.specs.Outlet.{Written, Stays, Writes, is_err_of_write}
 use Rattle.preflight.proofs.OutletLemmas.{Adds-none}
 use Rattle.subcommands.specs.declared.status.Status.{Status}
 use Rattle.subcommands.specs.declared.status.Status.TheVariants.{Pass, Fail, Help, Words, Overwrites, NotAllowed, Profile, Stopped}
 use Rattle.subcommands.specs.Fleet.{IsEndOfProfile}
 use Rattle.subcommands.specs.declared.choices.Choice.{Choice}
 use Rattle.subcommands.specs.Choices.{choice_line, chosen_panel}
-use Rattle.subcommands.specs.JobTexts.{Reads, reads_by, Stands, StandsInFront, LeavesAtStopBeside, LeavesLine, LeavesPages, LeavesPagesOf, LeavesPinned, LeavesTextAndLine, TellsOfChoice, TellsOfPin}
+use Rattle.subcommands.specs.JobTexts.{EndsBy, Reads, reads_by, Stands, StandsInFront, LeavesAtStopBeside, LeavesLine, LeavesOut, LeavesPages, LeavesPagesOf, LeavesPinned, LeavesPinnedOf, LeavesTextAndLine, TellsOfChoice, TellsOfPin}
+use Rattle.subcommands.specs.Status.{is_stop_of_write, IsEndOfOpening}
 use Rattle.subcommands.proofs.LeavesLemmas.{Stays-none}
 
 nothing_spelled : IsReading [] (Whole [] 0)
@@ -83,6 +86,81 @@ told (FailsOf place profile finding) (Stopped Write) telling job old new start e
 told (FailsOf place profile finding) (Stopped Turns) telling job old new start end stands line = absurd line
 told (FailsOf place profile finding) (Stopped NoProfile) telling job old new start end stands line = absurd line
 
+-- the work on a text ended, and its outcome was told
+pub ended : {O : Type 0} (written : O → Written) (before after : O) (work : Result Outcome Error) (status : Status) (telling : Telling) (job : Reads) (old new : Written) →
+    IfOk work (Stands telling job old new) → IfErr work (λ _. StandsInFront telling job old new) → IfErr work (λ error. error ≢ NoProfile) →
+    IfOk work (λ outcome. LeavesLine outcome status (written before) (written after)) → IfErr work (λ error. (status ≡ Stopped error) × (after ≡ before)) →
+    LeavesTextAndLine status telling job old new (written before) (written after)
+ended written before after (Ok outcome) status telling job old new stands front known line stop = told outcome status telling job old new (written before) (written after) stands line
+ended written before after (Err error) status telling job old new stands front known line stop =
+    subst (λ s. LeavesTextAndLine s telling job old new (written before) (written after)) (sym stop.0)
+    (subst (λ o. LeavesAtStopBeside error telling job old new (written before) (written o)) (sym stop.1)
+    (stopped_within error telling job old new (written before) known front))
+
+-- so where the line goes behind the text: a write failed just where it stopped at one
+pub ended_write : {O : Type 0} (failed : O → Bool) (before after : O) (work : Result Outcome Error) (status : Status) → failed before ≡ is_err_of_write work →
+    IfErr work (λ error. (status ≡ Stopped error) × (after ≡ before)) → OnOk work (failed after ≡ is_stop_of_write status) → failed after ≡ is_stop_of_write status
+ended_write failed before after (Ok outcome) status is stop told = told
+ended_write failed before after (Err error) status is stop told = ap failed stop.1 ∙ is ∙ ap is_stop_of_write (sym stop.0)
+
+-- and where it goes elsewhere
+pub ended_write_beside : {O : Type 0} (failed : O → Bool) (before after : O) (work : Result Outcome Error) (status : Status) (out_failed : Bool) → out_failed ≡ is_err_of_write work → IsFalse (failed before) →
+    IfErr work (λ error. (status ≡ Stopped error) × (after ≡ before)) → OnOk work (failed after ≡ is_stop_of_write status) → (out_failed || failed after) ≡ is_stop_of_write status
+ended_write_beside failed before after (Ok outcome) status out_failed is sound stop told = ap (λ b. b || failed after) is ∙ told
+ended_write_beside failed before after (Err error) status out_failed is sound stop told =
+    ap (λ b. out_failed || b) (ap failed stop.1 ∙ sound) ∙ or-false out_failed ∙ is ∙ ap is_stop_of_write (sym stop.0)
+
+-- what takes the line has not failed where there is an outcome
+pub sound_for_line : (work : Result Outcome Error) (failed : Bool) → failed ≡ is_err_of_write work → OnOk work (IsFalse failed)
+sound_for_line (Ok outcome) failed is = is
+sound_for_line (Err error) failed is = tt
+
+pub sound_beside : (work : Result Outcome Error) (failed : Bool) → IsFalse failed → OnOk work (IsFalse failed)
+sound_beside (Ok outcome) failed sound = sound
+sound_beside (Err error) failed sound = tt
+
+-- the job could not be opened or OUT not be created, or OUT is a file that is read
+pub opening_left : (status : Status) (telling : Telling) (given given' : List (List ℕ)) (remaining remaining' : Option (List ℕ)) (old new start : Written) → IsEndOfOpening status →
+    given' ≡ given → remaining' ≡ remaining → new ≡ old → LeavesOut status telling (reads_by given given' remaining remaining') old new start start
+opening_left (Overwrites input) telling given given' remaining remaining' old new start end e f k = ((e, subst (Stays old) (sym k) (Stays-none old)), Stays-none start)
+opening_left (Stopped Read) telling given given' remaining remaining' old new start end e f k =
+    subst (λ w. LeavesAtStopBeside Read telling (reads_by given given' remaining remaining') old w start start) (sym k)
+    (stopped_at_read telling given given' remaining remaining' old start e f)
+opening_left (Stopped Write) telling given given' remaining remaining' old new start end e f k =
+    stopped_at_write telling given given' remaining remaining' old new start e f k
+opening_left (Stopped Memory) telling given given' remaining remaining' old new start end e f k = absurd end
+opening_left (Stopped Turns) telling given given' remaining remaining' old new start end e f k = absurd end
+opening_left (Stopped NoProfile) telling given given' remaining remaining' old new start end e f k = absurd end
+opening_left Pass telling given given' remaining remaining' old new start end e f k = absurd end
+opening_left Fail telling given given' remaining remaining' old new start end e f k = absurd end
+opening_left Help telling given given' remaining remaining' old new start end e f k = absurd end
+opening_left Words telling given given' remaining remaining' old new start end e f k = absurd end
+opening_left (NotAllowed choice) telling given given' remaining remaining' old new start end e f k = absurd end
+opening_left (Profile number line cause) telling given given' remaining remaining' old new start end e f k = absurd end
+
+-- a text that was left with its line was left in OUT
+pub out_left : (status : Status) (telling : Telling) (job : Reads) (old new start end : Written) → LeavesTextAndLine status telling job old new start end → LeavesOut status telling job old new start end
+out_left Pass telling job old new start end left = left
+out_left Fail telling job old new start end left = left
+out_left Help telling job old new start end left = left
+out_left Words telling job old new start end left = left
+out_left (Overwrites input) telling job old new start end left = absurd left
+out_left (NotAllowed choice) telling job old new start end left = left
+out_left (Profile number line cause) telling job old new start end left = left
+out_left (Stopped error) telling job old new start end left = left
+
+-- what was left of a pinned job was left where the panel may have each choice
+pub pinned_left : (status : Status) (IsPrinter : Printer → Type 0) (choices : List Choice) (job : Reads) (old new start end : Written) →
+    LeavesPinnedOf status IsPrinter choices job old new start end → LeavesPinned status IsPrinter choices job old new start end
+pinned_left Pass IsPrinter choices job old new start end left = left
+pinned_left Fail IsPrinter choices job old new start end left = left
+pinned_left Help IsPrinter choices job old new start end left = left
+pinned_left Words IsPrinter choices job old new start end left = left
+pinned_left (Overwrites input) IsPrinter choices job old new start end left = left
+pinned_left (NotAllowed choice) IsPrinter choices job old new start end left = absurd left.4
+pinned_left (Profile number line cause) IsPrinter choices job old new start end left = absurd left.4
+pinned_left (Stopped error) IsPrinter choices job old new start end left = inr left
+
 -- what was left for a printer was left where the job was read
 pub pages_left : (status : Status) (IsPrinter : Printer → Type 0) (job : Reads) (old new : Written) → LeavesPagesOf status IsPrinter job old new → LeavesPages status IsPrinter job old new
 pages_left Pass IsPrinter job old new left = left
@@ -123,13 +201,40 @@ choice_told Words printer choice IsPrinter choices failed old new named refused 
 choice_told (Overwrites input) printer choice IsPrinter choices failed old new named refused line = absurd line
 choice_told (Profile number row cause) printer choice IsPrinter choices failed old new named refused line = absurd line
 
-pub choice_refused : (status : Status) (printer : Printer) (choice : Choice) (IsPrinter : Printer → Type 0) (choices : List Choice) (failed : Bool) (old new : Written) (given : List (List ℕ)) (remaining : Option (List ℕ)) (a b : Written) →
-    TellsOfChoice status printer choice failed old new → LeavesPinned status IsPrinter choices (reads_by given given remaining remaining) a a b b
-choice_refused (NotAllowed told) printer choice IsPrinter choices failed old new given remaining a b line = ((refl, Stays-none a), Stays-none b)
-choice_refused (Stopped error) printer choice IsPrinter choices failed old new given remaining a b line = inl ((refl, Stays-none a), Stays-none b)
-choice_refused Pass printer choice IsPrinter choices failed old new given remaining a b line = absurd line
-choice_refused Fail printer choice IsPrinter choices failed old new given remaining a b line = absurd line
-choice_refused Help printer choice IsPrinter choices failed old new given remaining a b line = absurd line
-choice_refused Words printer choice IsPrinter choices failed old new given remaining a b line = absurd line
-choice_refused (Overwrites input) printer choice IsPrinter choices failed old new given remaining a b line = absurd line
-choice_refused (Profile number row cause) printer choice IsPrinter choices failed old new given remaining a b line = absurd line
+pub choice_refused : (status : Status) (printer : Printer) (choice : Choice) (IsPrinter : Printer → Type 0) (choices : List Choice) (failed : Bool) (old new : Written) (given : List (List ℕ)) (remaining : Option (List ℕ)) (a b : Written) (read_failed write_failed : Bool) →
+    IsFalse read_failed → IsFalse write_failed → TellsOfChoice status printer choice failed old new →
+    EndsBy status (λ job. LeavesPinned status IsPrinter choices job a a b b) (reads_by given given remaining remaining) read_failed write_failed
+choice_refused (NotAllowed told) printer choice IsPrinter choices failed old new given remaining a b read_failed write_failed no_read no_write line = record {
+  left = ((refl, Stays-none a), Stays-none b);
+  read = no_read;
+  write = no_write;
+  turns = λ is. absurd (subst (λ s. TellsOfChoice s printer choice failed old new) is line);
+}
+choice_refused (Stopped Memory) printer choice IsPrinter choices failed old new given remaining a b read_failed write_failed no_read no_write line = record {
+  left = inl ((refl, Stays-none a), Stays-none b);
+  read = no_read;
+  write = no_write;
+  turns = λ is. absurd (subst (λ s. TellsOfChoice s printer choice failed old new) is line);
+}
+choice_refused (Stopped Read) printer choice IsPrinter choices failed old new given remaining a b read_failed write_failed no_read no_write line = absurd line
+choice_refused (Stopped Write) printer choice IsPrinter choices failed old new given remaining a b read_failed write_failed no_read no_write line = absurd line
+choice_refused (Stopped Turns) printer choice IsPrinter choices failed old new given remaining a b read_failed write_failed no_read no_write line = absurd line
+choice_refused (Stopped NoProfile) printer choice IsPrinter choices failed old new given remaining a b read_failed write_failed no_read no_write line = absurd line
+choice_refused Pass printer choice IsPrinter choices failed old new given remaining a b read_failed write_failed no_read no_write line = absurd line
+choice_refused Fail printer choice IsPrinter choices failed old new given remaining a b read_failed write_failed no_read no_write line = absurd line
+choice_refused Help printer choice IsPrinter choices failed old new given remaining a b read_failed write_failed no_read no_write line = absurd line
+choice_refused Words printer choice IsPrinter choices failed old new given remaining a b read_failed write_failed no_read no_write line = absurd line
+choice_refused (Overwrites input) printer choice IsPrinter choices failed old new given remaining a b read_failed write_failed no_read no_write line = absurd line
+choice_refused (Profile number row cause) printer choice IsPrinter choices failed old new given remaining a b read_failed write_failed no_read no_write line = absurd line
+
+-- where the profile is not had, nothing was pinned
+pub no_pinned : (number : ℕ) (text : Option (List ℕ)) (status : Status) (IsPrinter : Printer → Type 0) (choices : List Choice) (given : List (List ℕ)) (remaining : Option (List ℕ)) (a b : Written) → IsEndOfProfile number text status →
+    LeavesPinned status IsPrinter choices (reads_by given given remaining remaining) a a b b
+no_pinned number text (Profile refused line cause) IsPrinter choices given remaining a b end = ((refl, Stays-none a), Stays-none b)
+no_pinned number text (Stopped error) IsPrinter choices given remaining a b end = inl ((refl, Stays-none a), Stays-none b)
+no_pinned number text Pass IsPrinter choices given remaining a b end = absurd end
+no_pinned number text Fail IsPrinter choices given remaining a b end = absurd end
+no_pinned number text Help IsPrinter choices given remaining a b end = absurd end
+no_pinned number text Words IsPrinter choices given remaining a b end = absurd end
+no_pinned number text (Overwrites input) IsPrinter choices given remaining a b end = absurd end
+no_pinned number text (NotAllowed choice) IsPrinter choices given remaining a b end = absurd end

@@ -3,9 +3,9 @@ use Rattle.std.specs.Prelude.{ℕ, List, Option}
 use Rattle.device_profile.specs.Printer.{Printer}
 use Rattle.preflight.specs.declared.error.Error.{Error}
 use Rattle.preflight.specs.declared.error.Error.TheVariants.{Memory, Read, Write, Turns, NoProfile}
-use Rattle.line_words.specs.declared.reason.Reason.{Reason}
-use Rattle.preflight.specs.declared.verdict.Verdict.{Verdict}
-use Rattle.preflight.specs.declared.verdict.Verdict.TheVariants.{Pass as PassOf, Fail as FailOf}
+use Rattle.verdict.specs.declared.reason.Reason.{Reason}
+use Rattle.verdict.specs.declared.verdict.Verdict.{Verdict}
+use Rattle.verdict.specs.declared.verdict.Verdict.TheVariants.{Pass as PassOf, Fail as FailOf}
 use Rattle.preflight.specs.Outlet.{Written, Adds, AddsFront, Stays}
 use Rattle.preflight.specs.Pieces.{ByReads}
 use Rattle.preflight.specs.Verdict.{IsExact, KeepsPromise, NeedsEachRead}

@@ -1,9 +1,8 @@
 -- What the command `explain` writes.
-use Rattle.std.specs.Prelude.{ℕ, List, ◌++◌, filter, codes, Bool, true, false, not, ◌||◌, ◌==◌, Option, Some, None, if◌then◌else◌}
+use Rattle.std.specs.Prelude.{ℕ, List, [], ◌++◌, filter, codes, Bool, true, false, not, ◌||◌, ◌==◌, Option, Some, None, if◌then◌else◌}
 use Rattle.std.specs.List.{before_first, after_first, concat, list_any}
 use Rattle.std.specs.Str.{bytes_eq, str_eq_ignore_ascii_case}
 use Rattle.preflight.specs.declared.error.Error.TheVariants.{Write}
-use Rattle.subcommands.specs.Status.{status_line}
 use Rattle.subcommands.specs.declared.status.Status.{Status}
 use Rattle.subcommands.specs.declared.status.Status.TheVariants.{Help, Words, Stopped}
 
@@ -36,7 +35,7 @@ is_unknown texts (Some code) = not (list_any (is_about code) texts)
 abbrev pub end_of_explain : Bool → Bool → Status
 end_of_explain unknown failed = if unknown then Words else (if failed then Stopped Write else Help)
 
--- what it tells on standard error where it ends so
-abbrev pub complaint : Status → Option (List ℕ) → List ℕ
-complaint Words (Some code) = codes "error: no fault and no finding has the number or the name '" ++ code ++ codes "'; 'pclcheck explain' writes all\n"
-complaint status code = status_line status
+-- what it tells on standard error of a code that is unknown
+abbrev pub complaint : Option (List ℕ) → List ℕ
+complaint None = []
+complaint (Some code) = codes "error: no fault and no finding has the number or the name '" ++ code ++ codes "'; 'pclcheck explain' writes all\n"

@@ -1,13 +1,13 @@
 -- What the subcommands leave that write a text of a job.
-use Rattle.std.specs.Prelude.{◌≡◌, ◌≢◌, ◌⊎◌, ℕ, Bool, List, [], ◌∷◌, Option, Ok, Err, ⊤}
+use Rattle.std.specs.Prelude.{◌≡◌, ◌≢◌, ◌⊎◌, ℕ, ◌+◌, ◌^◌, Bool, List, [], ◌∷◌, length, Option, Ok, Err, ⊤}
 use Rattle.device_profile.specs.declared.panel.Panel.{Panel}
 use Rattle.device_profile.specs.Printer.{Printer, first_panel}
 use Rattle.preflight.specs.declared.error.Error.{Error}
 use Rattle.preflight.specs.declared.error.Error.TheVariants.{Memory, Read, Write, Turns, NoProfile}
 use Rattle.preflight.specs.declared.outcome.Outcome.{Outcome}
 use Rattle.preflight.specs.declared.outcome.Outcome.TheVariants.{Done, Fail as FailsOf}
-use Rattle.line_words.specs.declared.reason.Reason.{Reason}
-use Rattle.preflight.specs.declared.verdict.Verdict.TheVariants.{Fail as FailOf}
+use Rattle.verdict.specs.declared.reason.Reason.{Reason}
+use Rattle.verdict.specs.declared.verdict.Verdict.TheVariants.{Fail as FailOf}
 use Rattle.preflight.specs.Due.{Telling, WritesDue, WritesFront, pages_telling}
 use Rattle.preflight.specs.Pins.{pinned_telling}
 use Rattle.preflight.specs.Outlet.{Written, Adds, AddsFront, Stays, Writes}
@@ -17,7 +17,7 @@ use Rattle.subcommands.specs.declared.choices.Choice.{Choice}
 use Rattle.subcommands.specs.Choices.{choice_line, chosen_panel}
 use Rattle.subcommands.specs.Fleet.{DescribeBy, Describes, IsRefused}
 use Rattle.subcommands.specs.Lines.{verdict_line}
-use Rattle.subcommands.specs.Status.{status_line}
+use Rattle.subcommands.specs.Status.{is_stop_of_read, is_stop_of_write}
 
 -- what a job is read from: what its reads gave before and after, and the bytes left before and after, where these are known
 pub record Reads : Type 0 where
@@ -28,6 +28,14 @@ pub record Reads : Type 0 where
 
 abbrev pub reads_by : List (List ℕ) → List (List ℕ) → Option (List ℕ) → Option (List ℕ) → Reads
 reads_by before after remaining left = record { before = before; after = after; remaining = remaining; left = left }
+
+-- How a command on a text of a job ends by this status. What it leaves, by what was read of the job, has this fact; it stopped at a read
+-- or at a write just where one failed, and for its turns after 2^40 reads.
+pub record EndsBy (status : Status) (Left : Reads → Type 0) (job : Reads) (read_failed write_failed : Bool) : Type 0 where
+  pub left : Left job
+  pub read : read_failed ≡ is_stop_of_read status
+  pub write : write_failed ≡ is_stop_of_write status
+  pub turns : status ≡ Stopped Turns → length job.after ≡ length job.before + 2 ^ 40
 
 -- the whole text of the job stands there, and this came of it
 abbrev pub Stands : Telling → Reads → Written → Written → Outcome → Type 0
@@ -129,17 +137,17 @@ LeavesPinned (Stopped error) IsPrinter choices job old new start end =
     IsUntouchedBeside job old new start end ⊎ LeavesPinnedOf (Stopped error) IsPrinter choices job old new start end
 LeavesPinned status IsPrinter choices job old new start end = LeavesPinnedOf status IsPrinter choices job old new start end
 
--- what tells on standard error of a choice that the panel may not have: its line, or that memory ran out
+-- what is told on standard error of a choice that the panel may not have: its line; without memory for it nothing
 abbrev pub TellsOfChoice : Status → Printer → Choice → Bool → Written → Written → Type 0
 TellsOfChoice (NotAllowed told) printer choice failed old new = (told ≡ choice) × Writes failed old new (choice_line printer choice)
-TellsOfChoice (Stopped Memory) printer choice failed old new = Writes failed old new (status_line (Stopped Memory))
+TellsOfChoice (Stopped Memory) printer choice failed old new = ⊤
 TellsOfChoice _ printer choice failed old new = ⊥
 
--- what `pin` writes on standard error where it ends by this status, for a printer with this fact
+-- what `pin` writes on standard error where it ends for a choice, for a printer with this fact
 abbrev pub TellsOfPin : Status → (Printer → Type 0) → List Choice → Bool → Written → Written → Type 0
 TellsOfPin (NotAllowed choice) IsPrinter choices failed old new =
     (printer : Printer) × IsPrinter printer × (chosen_panel printer choices ≡ Err choice) × Writes failed old new (choice_line printer choice)
-TellsOfPin status IsPrinter choices failed old new = Writes failed old new (status_line status)
+TellsOfPin _ IsPrinter choices failed old new = ⊤
 
 -- where the profile is refused, it is the first one, and that is what is wrong with it
 abbrev pub RefusesOne : Option (List ℕ) → Status → Type 0

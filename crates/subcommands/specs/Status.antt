@@ -1,5 +1,5 @@
 -- How the program ends.
-use Rattle.std.specs.Prelude.{ℕ, List, [], ◌++◌, codes, decimal, Bool, false, true, Result, Ok, Err}
+use Rattle.std.specs.Prelude.{ℕ, List, [], ◌++◌, codes, decimal, Bool, false, true, Result, Ok, Err, ⊤}
 use Rattle.device_profile.specs.declared.fault.Cause.{Cause}
 use Rattle.device_profile.specs.declared.fault.Cause.TheVariants.{Version, Unknown, Repeated, Range, Missing, NoGeometry}
 use Rattle.device_profile.specs.declared.fault.ProfileFault.{ProfileFault}
@@ -72,6 +72,11 @@ is_refusal (Profile number line cause) = true
 is_refusal (NotAllowed choice) = true
 is_refusal _ = false
 
+-- a choice that the profile does not allow
+abbrev pub is_refused_choice : Status → Bool
+is_refused_choice (NotAllowed choice) = true
+is_refused_choice _ = false
+
 -- OUT is a file that is read
 abbrev pub is_overwriting : Status → Bool
 is_overwriting (Overwrites input) = true
@@ -91,6 +96,25 @@ is_stop_of_write _ = false
 abbrev pub is_err_at_read : {T : Type 0} → Result T Status → Bool
 is_err_at_read (Ok x) = false
 is_err_at_read (Err status) = is_stop_of_read status
+
+-- the result is that the work stopped at a write that failed
+abbrev pub is_err_at_write : {T : Type 0} → Result T Status → Bool
+is_err_at_write (Ok x) = false
+is_err_at_write (Err status) = is_stop_of_write status
+
+-- how the work on a text of a job ends: the job passes or fails, or the work stopped
+abbrev pub IsEndOfText : Status → Type 0
+IsEndOfText Pass = ⊤
+IsEndOfText Fail = ⊤
+IsEndOfText (Stopped error) = ⊤
+IsEndOfText _ = ⊥
+
+-- why there is no open job beside an OUT that was created: OUT is a file that is read, a read failed, or a write
+abbrev pub IsEndOfOpening : Status → Type 0
+IsEndOfOpening (Overwrites input) = ⊤
+IsEndOfOpening (Stopped Read) = ⊤
+IsEndOfOpening (Stopped Write) = ⊤
+IsEndOfOpening _ = ⊥
 
 -- how the program ends where the text of the profile of this number gives none
 abbrev pub refusal_of : ℕ → ProfileFault → Status

@@ -1,9 +1,10 @@
-//! The program's subcommands, over what they read and write: sources, texts and outlets.
+//! The program's subcommands, over what they read and write: sources, texts and outlets. Each
+//! command is a function of a module of its name.
 #![tactic(auto)]
 
-mod checking;
+pub mod check;
 mod choices;
-mod explaining;
+pub mod explain;
 mod explanations;
 mod file_id;
 mod file_outlet;
@@ -12,18 +13,16 @@ mod file_texts;
 mod fleet;
 mod front;
 mod lines;
-mod listing;
+pub mod list;
 mod opening;
 mod outcome;
-mod paging;
-mod pinning;
-mod spelling;
+pub mod pages;
+pub mod pin;
+pub mod plain;
 mod status;
 mod texts;
 
-pub use checking::check;
 pub use choices::{Choice, PANEL_FIELDS, PanelSetting, field_word};
-pub use explaining::explain;
 pub use explanations::EXPLANATIONS;
 pub use file_id::FileId;
 pub use file_outlet::FileOutlet;
@@ -31,10 +30,6 @@ pub use file_source::FileSource;
 pub use file_texts::FileTexts;
 pub use front::read_front;
 pub use lines::line_of;
-pub use listing::list;
 pub use opening::{Create, Open};
-pub use paging::pages;
-pub use pinning::pin;
-pub use spelling::plain;
 pub use status::{Input, Status, tell};
 pub use texts::{MOST_OF_TEXT, ProfileTexts};

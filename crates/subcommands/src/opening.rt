@@ -1,9 +1,11 @@
 //! Sources that are opened, and outlets that are created, apart from what is read and written.
-ghost use Rattle.std.specs.Prelude.{◌≡◌, Bool, false, IsFalse, IsSome, IsTrue, None, OnOk, Option, is_err};
+ghost use Rattle.std.specs.Prelude.{◌≡◌, ◌⊎◌, Bool, false, IfErr, IsFalse, IsSome, IsTrue, None, OnOk, Option, is_err};
+ghost use Rattle.subcommands.specs.Status.{is_err_at_read, is_err_at_write, is_overwriting, IsEndOfOpening};
 ghost use Rattle.subcommands.specs.declared.file_id.FileId.{FileId};
 
 use crate::file_id::FileId;
-use preflight::{Outlet, Source, Watched};
+use crate::status::{Input, Status};
+use preflight::{Error, Outlet, Source, Watched};
 use std::io;
 use std::io::{Read, Write};
 
@@ -44,8 +46,44 @@ pub trait Create: Outlet {
     fn leads_to(&self, file: FileId) -> bool;
 }
 
+/// Opens JOB and creates OUT, unless OUT is JOB or the file that the profile came from, if from one.
+pub(crate) fn open_and_create<S: Open, W: Create>(
+    job: &mut S,
+    profile: Option<FileId>,
+    out: &mut W,
+) -> Result<(), Status>
+    requires job { IsFalse (S.failed job.old) }
+    requires out { IsFalse (W.failed out.old) }
+    ensures err { IfErr result IsEndOfOpening }
+    ensures created { OnOk result (S.opens job.old job.new × W.creates out.old out.new) }
+    // OUT is as it was, or the job was opened.
+    ensures opened { (out.new ≡ out.old) ⊎ S.opens job.old job.new }
+    // Where OUT is a file that is read, the job was opened, and OUT is as it was.
+    ensures kept { IfErr result (λ status. IsTrue (is_overwriting status) →
+        (out.new ≡ out.old) × S.opens job.old job.new × (IsSome (S.file job.new) ⊎ IsSome profile)) }
+    ensures given { S.given job.new ≡ S.given job.old }
+    ensures remaining { S.remaining job.new ≡ S.remaining job.old }
+    ensures written { W.written out.new ≡ W.written out.old }
+    ensures read { S.failed job.new ≡ is_err_at_read result }
+    ensures write { W.failed out.new ≡ is_err_at_write result }
+{
+    if job.open().is_err() {
+        return Err(Status::Stopped(Error::Read));
+    }
+    if overwrites(out, job.file()) {
+        return Err(Status::Overwrites(Input::Job));
+    }
+    if overwrites(out, profile) {
+        return Err(Status::Overwrites(Input::Profile));
+    }
+    if out.create().is_err() {
+        return Err(Status::Stopped(Error::Write));
+    }
+    Ok(())
+}
+
 /// Whether a file, if there is one, would be written once the outlet is created.
-pub(crate) fn overwrites<W: Create>(out: &W, file: Option<FileId>) -> bool
+fn overwrites<W: Create>(out: &W, file: Option<FileId>) -> bool
     ensures { IsTrue result → IsSome file }
 {
     match file {

@@ -1,15 +1,42 @@
-//! How the program ends by the outcome of a text.
-ghost use Rattle.std.specs.Prelude.{◌≡◌, IsFalse};
+//! How the program ends by the work on a text.
+ghost use Rattle.std.specs.Prelude.{◌≡◌, IsErrOf, IsFalse, IfErr, IfOk, OnOk};
+ghost use Rattle.preflight.specs.Source.{is_err_of_read};
 ghost use Rattle.subcommands.specs.JobTexts.{LeavesLine};
-ghost use Rattle.subcommands.specs.Status.{is_stop_of_write};
+ghost use Rattle.subcommands.specs.Status.{is_stop_of_read, is_stop_of_write, IsEndOfText};
 
 use crate::lines::line_of;
 use crate::status::Status;
 use preflight::{Error, Outcome, Outlet, Verdict, write_text};
 use std::alloc::Allocator;
 
+/// How the program ends by the work on a text: by what stopped it, or by its outcome, for which the
+/// line of a failure is written.
+pub fn end_by<O: Outlet, A: Allocator + Copy>(
+    alloc: A,
+    work: Result<Outcome, Error>,
+    stdout: &mut O,
+) -> Status
+    requires { OnOk work (IsFalse (O.failed stdout.old)) }
+    ensures end { IsEndOfText result }
+    ensures ok { IfOk work (λ outcome.
+        LeavesLine outcome result (O.written stdout.old) (O.written stdout.new)) }
+    ensures err { IfErr work (λ error. (result ≡ Status.Stopped error) × (stdout.new ≡ stdout.old)) }
+    ensures read { is_stop_of_read result ≡ is_err_of_read work }
+    ensures write { OnOk work (O.failed stdout.new ≡ is_stop_of_write result) }
+    ensures turns { result ≡ Status.Stopped Error.Turns → IsErrOf work Error.Turns }
+{
+    match work {
+        Ok(outcome) => end_by_outcome(alloc, outcome, stdout),
+        Err(error) => Status::Stopped(error),
+    }
+}
+
 /// Writes the line of a failure. Of a job that was gone through to its end there is none.
-pub fn end_by<O: Outlet, A: Allocator + Copy>(alloc: A, outcome: Outcome, stdout: &mut O) -> Status
+fn end_by_outcome<O: Outlet, A: Allocator + Copy>(
+    alloc: A,
+    outcome: Outcome,
+    stdout: &mut O,
+) -> Status
     requires { IsFalse (O.failed stdout.old) }
     ensures line { LeavesLine outcome result (O.written stdout.old) (O.written stdout.new) }
     ensures write { O.failed stdout.new ≡ is_stop_of_write result }

@@ -1,5 +1,5 @@
 //! How the program ends.
-ghost use Rattle.std.specs.Prelude.{◌≡◌, IsFalse, map};
+ghost use Rattle.std.specs.Prelude.{◌≡◌, IsFalse, IsTrue, map};
 ghost use Rattle.std.specs.List.{concat};
 ghost use Rattle.preflight.specs.Outlet.{Writes};
 ghost use Rattle.preflight.specs.declared.error.Error.TheVariants.{Memory};
@@ -80,13 +80,16 @@ impl<T: Drop> From<AllocFailed<T>> for Status {
     }
 }
 
-/// Writes the line of a status, as far as it can be written, and hands the status back.
-pub fn tell<E: Outlet>(status: Status, stderr: &mut E) -> Status
-    requires { IsFalse (E.failed stderr.old) }
-    ensures same { result ≡ status }
-    ensures line { Writes (E.failed stderr.new) (E.written stderr.old) (E.written stderr.new) (status_line status) }
+/// Writes the line of a status, as far as it can be written.
+pub fn tell<E: Outlet>(status: Status, stderr: &mut E)
+    ensures line { IsFalse (E.failed stderr.old) →
+        Writes (E.failed stderr.new) (E.written stderr.old) (E.written stderr.new) (status_line status) }
+    ensures failed { IsTrue (E.failed stderr.old) → stderr.new ≡ stderr.old }
 {
-    // Where standard error takes nothing either, the status alone is left to tell.
+    if stderr.has_failed() {
+        return;
+    }
+    // Where standard error takes nothing, the status alone is left to tell.
     let _ = match status {
         Status::Profile {
             number,
@@ -99,7 +102,6 @@ pub fn tell<E: Outlet>(status: Status, stderr: &mut E) -> Status
             (),
         ),
     };
-    status
 }
 
 fn error_line(error: Error) -> &'static [u8]

@@ -5,13 +5,13 @@ ghost use Rattle.std.specs.Prelude.{◌≤◌, ◌<◌, length};
 
 use device_profile::Profile;
 use fakes::{CutSource, FailingSource};
-use line_words::Reason;
 use page_env::Finding;
 use pcl_items::Cause;
 use preflight::{Error, Session, Verdict, Watched, check_job};
 use std::alloc::Global;
 use std::fmt;
 use std::test::Fail;
+use verdict::Reason;
 
 /// What a row expects of a check.
 #[derive(Clone, Copy)]

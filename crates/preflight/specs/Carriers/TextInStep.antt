@@ -6,8 +6,7 @@ use Rattle.page_env.specs.declared.text_run.Look.{Look}
 use Rattle.page_env.specs.TextRun.{AllGo}
 use Rattle.page_machine.specs.MachineState.{MachineState}
 use Rattle.sinks.specs.declared.counts.Counts.{Counts}
-use Rattle.preflight.specs.declared.lockstep.StepOutcome.TheVariants.{Alike}
-use Rattle.preflight.specs.Carriers.Lockstep.{Execute, GoesInStep}
+use Rattle.preflight.specs.Carriers.Lockstep.{Execute, GoesAlike}
 
 -- the bytes go on each of the machines, as characters of one look, and no definition is open
 abbrev pub GoOnAll : Look → List ℕ → List MachineState → Type 0
@@ -18,4 +17,4 @@ GoOnAll look codes machines =
 abbrev pub PrintInStep : List ℕ → List MachineState → List MachineState → Counts → Counts → Type 0
 PrintInStep [] old new counts counts' = (new ≡ old) × (counts' ≡ counts)
 PrintInStep (code ∷ codes) old new counts counts' =
-    (mid : List MachineState) × (between : Counts) × GoesInStep (Execute (Text code)) old mid counts between Alike × PrintInStep codes mid new between counts'
+    (mid : List MachineState) × (between : Counts) × GoesAlike (Execute (Text code)) old mid counts between × PrintInStep codes mid new between counts'

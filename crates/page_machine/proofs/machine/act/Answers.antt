@@ -9,8 +9,8 @@ pub returns-then-is_open-clause-carries : goal.returns-then-is_open-clause-carri
 returns-then-is_open-clause-carries g c =
     let item : Entry = view c.args.item.now in
     let machine : MachineState = fields_of c.args.profile.now c.args.defaults.now c.args.page.now c.args.macros.now in
-    Carries-is _ _ _ _ _ _ _ _ _ _ _ (item-is_stored item machine (sym c.is_open.ensures ∙ c.if-is_open.true))
-    (Carries-defines g.S.MarkSink.takes g.S.MarkSink.refuses _ c.args.place _ c.args.page.now item c.args.macros.now c.define.new.macros c.define.result c.define.ensures.defines)
+    Carries-is _ _ _ _ _ _ _ _ _ _ (item-is_stored item machine (sym c.is_open.ensures ∙ c.if-is_open.true))
+    (Carries-defines g.S.MarkSink.takes g.S.MarkSink.refuses _ _ c.args.page.now item c.args.macros.now c.define.new.macros c.define.result c.define.ensures.defines)
 
 pub returns-then-is_open-clause-stands : goal.returns-then-is_open-clause-stands
 returns-then-is_open-clause-stands g c = c.define.ensures.stands

@@ -20,8 +20,8 @@ returns-in-Ok-Stepped-clause-carries g c =
     let open_is : is_defining machine.macros ≡ false = ap (λ d. is_some d) c.requires.no_definition in
     let field = rw c.in-Ok-Stepped.is at c.in-Ok-Stepped.field-0-is in
     let stepped : c.run_own_step-carried.result ≡ Ok Stepped = c.in-Ok-Stepped.is ∙ ap Ok field in
-    Carries-is _ _ _ c.args.place _ _ _ (alone item machine) _ _ _ (item-is_alone item machine open_is (c.run_own_step-carried.ensures.leaves stepped))
-    (Carries-done _ _ _ c.args.place _ _ _ (alone item machine) _ tt _
+    Carries-is _ _ _ _ _ _ (alone item machine) _ _ _ (item-is_alone item machine open_is (c.run_own_step-carried.ensures.leaves stepped))
+    (Carries-done _ _ _ _ _ _ (alone item machine) _ tt _
     (Follows-is _ _ _ _ _ _ _ _ _ (λ panel. c.run_own_step-carried.ensures.runs (in_job (context_of machine panel)) panel ∙ ap (λ result. effect_run (in_job (context_of machine panel)) (effect_at panel (settings_at panel c.args.defaults.now) c.run_own_step-carried.new.page result)) stepped)
     (Follows-stepped _ _ _ _ c.run_own_step-carried.new.page tt)) refl)
 
@@ -30,9 +30,9 @@ returns-in-Err-clause-carries g c =
     let item : Entry = view c.args.item.now in
     let machine : MachineState = fields_of c.args.profile.now c.args.defaults.now c.args.page.now c.args.macros.now in
     let open_is : is_defining machine.macros ≡ false = ap (λ d. is_some d) c.requires.no_definition in
-    rw c.stop_at.ensures
-    (Carries-is _ _ _ c.args.place _ _ _ (carried item machine) _ _ _ (item-is_carried item machine open_is)
-    (Carries-halted _ _ _ c.args.place _ _ _ (carried item machine) _ _
+    rw c.stop_of.ensures
+    (Carries-is _ _ _ _ _ _ (carried item machine) _ _ _ (item-is_carried item machine open_is)
+    (Carries-halted _ _ _ _ _ _ (carried item machine) _ _
     (Follows-is _ _ _ _ _ _ _ _ _ (λ panel. c.run_own_step-carried.ensures.runs (in_job (context_of machine panel)) panel)
     (rw c.depth.ensures at c.in-Err.ensures 1 (λ panel. effect_at panel (settings_at panel c.args.defaults.now) c.run_own_step-carried.new.page c.run_own_step-carried.result) (λ panel. refl)))))
 
@@ -41,8 +41,8 @@ returns-in-Ok-keep-clause-carries g c =
     let item : Entry = view c.args.item.now in
     let machine : MachineState = fields_of c.args.profile.now c.args.defaults.now c.args.page.now c.args.macros.now in
     let open_is : is_defining machine.macros ≡ false = ap (λ d. is_some d) c.requires.no_definition in
-    Carries-is _ _ _ c.args.place _ _ _ (carried item machine) _ _ _ (item-is_carried item machine open_is)
-    (Carries-done _ _ _ c.args.place _ _ _ (carried item machine) _ _ _
+    Carries-is _ _ _ _ _ _ (carried item machine) _ _ _ (item-is_carried item machine open_is)
+    (Carries-done _ _ _ _ _ _ (carried item machine) _ _ _
     (Follows-is _ _ _ _ _ _ _ _ _ (λ panel. c.run_own_step-carried.ensures.runs (in_job (context_of machine panel)) panel)
     (rw c.depth.ensures at c.in-Ok.ensures 1 (λ panel. effect_at panel (settings_at panel c.args.defaults.now) c.run_own_step-carried.new.page c.run_own_step-carried.result) (λ panel. refl)))
     c.in-Ok-keep.ensures.ok)
@@ -52,8 +52,8 @@ returns-in-Err-keep-clause-carries g c =
     let item : Entry = view c.args.item.now in
     let machine : MachineState = fields_of c.args.profile.now c.args.defaults.now c.args.page.now c.args.macros.now in
     let open_is : is_defining machine.macros ≡ false = ap (λ d. is_some d) c.requires.no_definition in
-    Carries-is _ _ _ c.args.place _ _ _ (carried item machine) _ _ _ (item-is_carried item machine open_is)
-    (Carries-memory _ _ _ c.args.place _ _ _ (carried item machine) _ _ _ c.in-Err-keep.ensures.err
+    Carries-is _ _ _ _ _ _ (carried item machine) _ _ _ (item-is_carried item machine open_is)
+    (Carries-memory _ _ _ _ _ _ (carried item machine) _ _ _ c.in-Err-keep.ensures.err
     (Follows-is _ _ _ _ _ _ _ _ _ (λ panel. c.run_own_step-carried.ensures.runs (in_job (context_of machine panel)) panel)
     (rw c.depth.ensures at c.in-Ok.ensures 1 (λ panel. effect_at panel (settings_at panel c.args.defaults.now) c.run_own_step-carried.new.page c.run_own_step-carried.result) (λ panel. refl))))
 

@@ -1,7 +1,7 @@
 use Rattle.std.proofs.Common.{◌≡◌, ◌∙◌, None, Option, refl, sym, subst, arith}
 use Rattle.pcl_items.specs.LexerState.{LexerState}
 use Rattle.pcl_items.specs.Lexing.{IsNext, answer_of}
-use Rattle.preflight.specs.declared.check.Progress.{Progress}
+use Rattle.verdict.specs.declared.failure.Failure.{Failure}
 use Rattle.preflight.specs.Carriers.Lockstep.{machines_of, counts_of}
 use Rattle.preflight.proofs.Answered.{ComesOn, comes_on, read_admitted}
 use Rattle.preflight.proofs.check.carry_out_commands.Goals.{in-Some+in_ok-failed, in_default+in-Some-next_control+in_ok-failed-2, in_default+in_default-next_control+in-Some-next_pair+in_ok-failed-3}
@@ -37,21 +37,21 @@ returns-in-Some-failed-clause-came g c =
     let so_far = c.loop-read.invariant in
     let before : ComesOn None c.args.lexer.now c.loop-read.lexer (machines_of c.args.machines.now) (machines_of c.loop-read.machines) (counts_of c.args.machines.now) (counts_of c.loop-read.machines) =
     record { came = so_far.through; ended = so_far.ended; place = so_far.place; no_more = so_far.no_more } in
-    let Came : Option Progress → LexerState → _ → Type 0 =
+    let Came : Option Failure → LexerState → _ → Type 0 =
     λ failed lexer machines. ComesOn failed c.args.lexer.now lexer (machines_of c.args.machines.now) (machines_of machines) (counts_of c.args.machines.now) (counts_of machines) in
     let one : Came c.match-next_command.failed c.match-next_command.lexer c.match-next_command.machines = elim c.match-next_command.branch [
       | in-Some+in_ok-failed w ↦
           let next = w.in-Some.ensures.command in
           met Came _ _ _ _ _ _ w.failed-is w.lexer-is w.machines-is
-          (comes_on _ _ _ _ _ _ _ _ _ _ w.in-Some.read before next (w.in_ok-failed.ensures _ _ next so_far.through.modes))
+          (comes_on c.one_reading.ensures c.watched_runs_are_alike.ensures _ _ _ _ _ _ _ _ _ _ w.in-Some.read before next w.in_ok-failed.ensures)
       | in_default+in-Some-next_control+in_ok-failed-2 w ↦
           let next = subst (λ old. IsNext old (answer_of w.in-Some-next_control.read) w.next_control.new.self) w.in_default.ensures.none w.in-Some-next_control.ensures.control in
           met Came _ _ _ _ _ _ w.failed-is w.lexer-is w.machines-is
-          (comes_on _ _ _ _ _ _ _ _ _ _ w.in-Some-next_control.read before next (w.in_ok-failed-2.ensures _ _ next so_far.through.modes))
+          (comes_on c.one_reading.ensures c.watched_runs_are_alike.ensures _ _ _ _ _ _ _ _ _ _ w.in-Some-next_control.read before next w.in_ok-failed-2.ensures)
       | in_default+in_default-next_control+in-Some-next_pair+in_ok-failed-3 w ↦
           let next = subst (λ old. IsNext old (answer_of w.in-Some-next_pair.read) w.next_pair.new.self) (w.in_default-next_control.ensures.none ∙ w.in_default.ensures.none) w.in-Some-next_pair.ensures.pair in
           met Came _ _ _ _ _ _ w.failed-is w.lexer-is w.machines-is
-          (comes_on _ _ _ _ _ _ _ _ _ _ w.in-Some-next_pair.read before next (w.in_ok-failed-3.ensures _ _ next so_far.through.modes))
+          (comes_on c.one_reading.ensures c.watched_runs_are_alike.ensures _ _ _ _ _ _ _ _ _ _ w.in-Some-next_pair.read before next w.in_ok-failed-3.ensures)
     ] in
     one.came
 
@@ -60,20 +60,20 @@ loop-read-preserved g c =
     let so_far = c.loop-read.invariant in
     let before : ComesOn None c.args.lexer.now c.loop-read.lexer (machines_of c.args.machines.now) (machines_of c.loop-read.machines) (counts_of c.args.machines.now) (counts_of c.loop-read.machines) =
     record { came = so_far.through; ended = so_far.ended; place = so_far.place; no_more = so_far.no_more } in
-    let Came : Option Progress → LexerState → _ → Type 0 =
+    let Came : Option Failure → LexerState → _ → Type 0 =
     λ failed lexer machines. ComesOn failed c.args.lexer.now lexer (machines_of c.args.machines.now) (machines_of machines) (counts_of c.args.machines.now) (counts_of machines) in
     let one : Came c.match-next_command.failed c.match-next_command.lexer c.match-next_command.machines = elim c.match-next_command.branch [
       | in-Some+in_ok-failed w ↦
           let next = w.in-Some.ensures.command in
           met Came _ _ _ _ _ _ w.failed-is w.lexer-is w.machines-is
-          (comes_on _ _ _ _ _ _ _ _ _ _ w.in-Some.read before next (w.in_ok-failed.ensures _ _ next so_far.through.modes))
+          (comes_on c.one_reading.ensures c.watched_runs_are_alike.ensures _ _ _ _ _ _ _ _ _ _ w.in-Some.read before next w.in_ok-failed.ensures)
       | in_default+in-Some-next_control+in_ok-failed-2 w ↦
           let next = subst (λ old. IsNext old (answer_of w.in-Some-next_control.read) w.next_control.new.self) w.in_default.ensures.none w.in-Some-next_control.ensures.control in
           met Came _ _ _ _ _ _ w.failed-is w.lexer-is w.machines-is
-          (comes_on _ _ _ _ _ _ _ _ _ _ w.in-Some-next_control.read before next (w.in_ok-failed-2.ensures _ _ next so_far.through.modes))
+          (comes_on c.one_reading.ensures c.watched_runs_are_alike.ensures _ _ _ _ _ _ _ _ _ _ w.in-Some-next_control.read before next w.in_ok-failed-2.ensures)
       | in_default+in_default-next_control+in-Some-next_pair+in_ok-failed-3 w ↦
           let next = subst (λ old. IsNext old (answer_of w.in-Some-next_pair.read) w.next_pair.new.self) (w.in_default-next_control.ensures.none ∙ w.in_default.ensures.none) w.in-Some-next_pair.ensures.pair in
           met Came _ _ _ _ _ _ w.failed-is w.lexer-is w.machines-is
-          (comes_on _ _ _ _ _ _ _ _ _ _ w.in-Some-next_pair.read before next (w.in_ok-failed-3.ensures _ _ next so_far.through.modes))
+          (comes_on c.one_reading.ensures c.watched_runs_are_alike.ensures _ _ _ _ _ _ _ _ _ _ w.in-Some-next_pair.read before next w.in_ok-failed-3.ensures)
     ] in
     record { through = rw c.in-None.is at one.came; ended = one.ended; place = one.place; no_more = one.no_more }

@@ -1,64 +1,69 @@
-use Rattle.std.proofs.Common.{ap, sym, subst, Ok, arith}
-use Rattle.pcl_items.specs.Modes.{mode_of}
+use Rattle.std.proofs.Common.{◌≡◌, ◌+◌, ℕ, List, IfErr, length, refl, ap, sym, subst}
 use Rattle.pcl_items.specs.LexerState.{LexerState}
-use Rattle.std.proofs.lemmas.Result.{err_from_is_err_and}
-use Rattle.preflight.proofs.Feeding.{fed_none}
-use Rattle.preflight.proofs.PieceLemmas.{by_length}
+use Rattle.pcl_items.specs.Modes.{mode_of}
+use Rattle.preflight.specs.declared.error.Error.{Error}
+use Rattle.preflight.specs.declared.error.Error.TheVariants.{Read, Turns}
+use Rattle.preflight.specs.Due.{WritesDecided, WritesFront}
+use Rattle.preflight.specs.Outlet.{is_write}
+use Rattle.preflight.specs.Carriers.Told.{IsCutOff, TellsOn}
+use Rattle.preflight.proofs.Driving.{answer_gives, by_whose, of_read, own_read, stop_gives, write_status}
 use Rattle.preflight.proofs.Tellings.{nothing_decided, told_none}
-use Rattle.preflight.proofs.ToldReads.{same_read, told_on, told_over, told_so_far}
-use Rattle.preflight.proofs.WrittenTexts.{if_err}
+use Rattle.preflight.proofs.WrittenTexts.{decided_told, due_by, front_by, front_told}
 use Rattle.preflight.proofs.report.tell_job.Goals as goal
 
-pub loop-init : goal.loop-init
-loop-init g c = record {
-  way = record {
-    fed = fed_none (g.S.Source.failed c.args.reader.now) (g.S.Source.given c.args.reader.now) (g.S.Source.remaining c.args.reader.now) c.new.result c.requires.reading c.new.ensures.start c.new.ensures.wants_more;
-    told = told_none (g.R.Report.telling c.args.report.now) (g.W.Outlet.written c.args.writer.now) c.new.result c.new.ensures.reads;
-    no_more = nothing_decided;
-  };
-  writing = c.requires.writing;
-  kept = c.new-2.ensures.items;
+pub read_job-requires-clause-fresh : goal.read_job-requires-clause-fresh
+read_job-requires-clause-fresh g c = record {
+  told = told_none (g.R.Report.telling c.args.report.now) (g.W.Outlet.written c.args.writer.now) c.new.result c.new.ensures.reads;
+  no_more = nothing_decided;
+  total_is = refl;
+  begun = refl;
+  working = c.requires.writing;
+  nothing_kept = c.new-2.ensures.items;
   mode = subst (λ (s : LexerState). g.R.Report.is_in c.args.report.now (mode_of s.context)) (sym c.new.ensures.start) c.requires.mode;
+  open_input = ap (λ (s : LexerState). s.ended) c.new.ensures.start;
+  wants_more = c.new.ensures.wants_more;
+  fed = ap (λ (s : LexerState). s.place + length s.rest) c.new.ensures.start;
 }
 
-pub loop-preserved : goal.loop-preserved
-loop-preserved g c =
-    let so_far = c.loop.invariant in
-    let went = c.in_ok-came.ensures in
-    record {
-      way = told_on _ _ _ _ _ _ _ _ _ _ _ _ c.in_ok-came.came (went.came _ _ _ _ _ so_far.way) c.in-None.is;
-      writing = went.write;
-      kept = went.kept;
-      mode = went.goes_on (ap Ok c.in-None.is);
-    }
-
-pub tell_piece-requires-clause-room : goal.tell_piece-requires-clause-room
-tell_piece-requires-clause-room g c = omega (arith, c.loop.invariant.way.fed.most, c.loop-test.true)
-
-pub returns-in_err-came-clause-front : goal.returns-in_err-came-clause-front
-returns-in_err-came-clause-front g c = if_err c.from_residual.result (c.in_err-came.ensures.came _ _ _ _ _ c.loop.invariant.way).0
-
-pub returns-in_err-came-clause-decided : goal.returns-in_err-came-clause-decided
-returns-in_err-came-clause-decided g c = λ is. (c.in_err-came.ensures.came _ _ _ _ _ c.loop.invariant.way).1 (same_read c.from_residual.result c.in_err-came.field-0.0 c.from_residual.ensures.1 is)
-
-pub returns-in-Some-clause-written : goal.returns-in-Some-clause-written
-returns-in-Some-clause-written g c =
-    told_over _ _ _ _ _ _ _ _ _ _ _ _ c.in_ok-came.came (c.in_ok-came.ensures.came _ _ _ _ _ c.loop.invariant.way) c.in-Some.outcome c.in-Some.is
+pub returns-clause-written : goal.returns-clause-written
+returns-clause-written g c =
+    answer_gives c.read_job.result c.read_job.ensures.answered
+    (λ outcome is. due_by _ _ _ _ _ _ _ _ outcome is.given_is is.known is.answered)
 
 pub returns-clause-front : goal.returns-clause-front
-returns-clause-front g c = told_so_far _ _ _ _ _ _ _ _ _ _ _ _ c.loop.invariant.way
+returns-clause-front g c =
+    let new = c.read_job.new in
+    let Open : List ℕ → Type 0 = λ bytes. TellsOn (g.R.Report.telling c.args.report.now) (g.W.Outlet.written c.args.writer.now) (g.R.Report.is_in new.consumer.report.now) bytes (g.R.Report.telling new.consumer.report.now) (g.W.Outlet.written new.outlet) (g.W.Outlet.failed new.outlet) new.consumer.kept.items 0 new.consumer.total new.consumer.lexer in
+    let CutOff : List ℕ → Error → Type 0 = λ bytes error. IsCutOff (g.R.Report.telling c.args.report.now) (g.W.Outlet.written c.args.writer.now) bytes (g.W.Outlet.written new.outlet) (g.W.Outlet.failed new.outlet) error in
+    let Front : Error → Type 0 = λ _. WritesFront (g.R.Report.telling c.args.report.now) (g.S.Source.given c.args.reader.now) (g.S.Source.given c.read_job.new.reader) (g.S.Source.remaining c.args.reader.now) (g.S.Source.remaining c.read_job.new.reader) (g.W.Outlet.written c.args.writer.now) (g.W.Outlet.written c.read_job.new.outlet) in
+    stop_gives c.read_job.result c.read_job.ensures.stopped
+    (λ error is.
+    by_whose (Open is.bytes) (CutOff is.bytes) Front error is.came
+    (λ h. front_told _ _ _ _ _ _ _ is.pieces is.bytes is.given_is is.joined is.consumed _ _ _ _ _ _ _ h)
+    (λ h. front_told _ _ _ _ _ _ _ is.pieces is.bytes is.given_is is.joined is.consumed _ _ _ _ _ _ _ h)
+    (λ e h. front_by _ _ _ _ _ _ _ is.pieces is.bytes is.given_is is.joined is.consumed h.front))
 
-pub returns-clause-long : goal.returns-clause-long
-returns-clause-long g c =
-    let way = c.loop.invariant.way.fed in
-    λ _. by_length _ _ way.pieces _ _ way.bytes way.given way.spelled way.consumed (omega (arith, way.total_is, way.least))
+pub returns-clause-decided : goal.returns-clause-decided
+returns-clause-decided g c =
+    let new = c.read_job.new in
+    let Open : List ℕ → Type 0 = λ bytes. TellsOn (g.R.Report.telling c.args.report.now) (g.W.Outlet.written c.args.writer.now) (g.R.Report.is_in new.consumer.report.now) bytes (g.R.Report.telling new.consumer.report.now) (g.W.Outlet.written new.outlet) (g.W.Outlet.failed new.outlet) new.consumer.kept.items 0 new.consumer.total new.consumer.lexer in
+    let CutOff : List ℕ → Error → Type 0 = λ bytes error. IsCutOff (g.R.Report.telling c.args.report.now) (g.W.Outlet.written c.args.writer.now) bytes (g.W.Outlet.written new.outlet) (g.W.Outlet.failed new.outlet) error in
+    let Decided : Error → Type 0 = λ error. error ≡ Read → WritesDecided (g.R.Report.telling c.args.report.now) (g.S.Source.given c.args.reader.now) (g.S.Source.given c.read_job.new.reader) (g.S.Source.remaining c.args.reader.now) (g.S.Source.remaining c.read_job.new.reader) (g.W.Outlet.written c.args.writer.now) (g.W.Outlet.written c.read_job.new.outlet) in
+    let decided : IfErr c.read_job.result Decided = stop_gives c.read_job.result c.read_job.ensures.stopped
+    (λ error is.
+    by_whose (Open is.bytes) (λ e. CutOff is.bytes e × (e ≡ Read → ⊥)) Decided error (own_read (Open is.bytes) (CutOff is.bytes) error is.came)
+    (λ h _. decided_told _ _ _ _ _ _ _ is.pieces is.bytes is.given_is is.joined is.consumed _ _ _ _ _ _ _ h)
+    (λ h turns. let both : Turns ≡ Read = turns in absurd cc)
+    (λ e h read. absurd (h.1 read))) in
+    λ is. of_read c.read_job.result Decided decided is refl
 
-pub returns-in_err-came-clause-read : goal.returns-in_err-came-clause-read
-returns-in_err-came-clause-read g c =
-    let same = err_from_is_err_and c.from_residual.result c.from_residual.ensures.1 in
-    rw (same.1, same.2) c.in_err-came.ensures.read
-
-pub returns-in_err-came-clause-write : goal.returns-in_err-came-clause-write
-returns-in_err-came-clause-write g c =
-    let same = err_from_is_err_and c.from_residual.result c.from_residual.ensures.1 in
-    rw (same.1, same.2) c.in_err-came.ensures.write
+pub returns-clause-write : goal.returns-clause-write
+returns-clause-write g c =
+    let new = c.read_job.new in
+    let Open : List ℕ → Type 0 = λ bytes. TellsOn (g.R.Report.telling c.args.report.now) (g.W.Outlet.written c.args.writer.now) (g.R.Report.is_in new.consumer.report.now) bytes (g.R.Report.telling new.consumer.report.now) (g.W.Outlet.written new.outlet) (g.W.Outlet.failed new.outlet) new.consumer.kept.items 0 new.consumer.total new.consumer.lexer in
+    let CutOff : List ℕ → Error → Type 0 = λ bytes error. IsCutOff (g.R.Report.telling c.args.report.now) (g.W.Outlet.written c.args.writer.now) bytes (g.W.Outlet.written new.outlet) (g.W.Outlet.failed new.outlet) error in
+    let failed = g.W.Outlet.failed new.outlet in
+    write_status c.read_job.result failed
+    (answer_gives c.read_job.result c.read_job.ensures.answered (λ outcome is. is.answered.working))
+    (stop_gives c.read_job.result c.read_job.ensures.stopped
+    (λ error is. by_whose (Open is.bytes) (CutOff is.bytes) (λ e. failed ≡ is_write e) error is.came (λ h. h.working) (λ h. h.working) (λ e h. h.status)))

@@ -27,9 +27,9 @@ returns-in-Ok g c =
     } in
     let after : MachineState = record fields { page = c.act.new.page; macros = c.act.new.macros; mode = c.args.mode } in
     let leaves : unwrap_or (follows fields.mode (view c.args.item.now)) fields.mode ≡ c.args.mode = ap (λ o. unwrap_or o fields.mode) (ap (λ machine. follows machine.mode (view c.args.item.now)) c.self.view_is ∙ c.requires.admitted) in
-    CarriesOn-done g.S.MarkSink.takes g.S.MarkSink.refuses _ (λ machine. item_of machine (view c.args.item.now)) c.args.place false _ _ fields c.args.self.now c.self.view_is (ap (λ machine. machine.stopped) c.self.view_is ∙ c.requires.running) c.act.new.page c.act.new.macros c.args.mode leaves after _ _
+    CarriesOn-done g.S.MarkSink.takes g.S.MarkSink.refuses _ (λ machine. item_of machine (view c.args.item.now)) false _ _ fields c.args.self.now c.self.view_is (ap (λ machine. machine.stopped) c.self.view_is ∙ c.requires.running) c.act.new.page c.act.new.macros c.args.mode leaves after _ _
     (ap (λ stopped. record after { stopped = stopped }) (ap (λ machine. machine.stopped) c.self.view_is ∙ c.requires.running))
-    (Carries-is _ _ _ c.args.place _ _ _ (item_of (fields_of fields.printer fields.defaults fields.page fields.macros) (view c.args.item.now)) _ (item_of fields (view c.args.item.now)) _ ((λ panel. refl), refl, refl) c.in-Ok.ensures.carries)
+    (Carries-is _ _ _ _ _ _ (item_of (fields_of fields.printer fields.defaults fields.page fields.macros) (view c.args.item.now)) _ (item_of fields (view c.args.item.now)) _ ((λ panel. refl), refl, refl) c.in-Ok.ensures.carries)
 
 pub returns-in-Err : goal.returns-in-Err
 returns-in-Err g c =
@@ -42,5 +42,5 @@ returns-in-Err g c =
       stopped = c.self.inside.stopped;
     } in
     let after : MachineState = record fields { page = c.act.new.page; macros = c.act.new.macros; stopped = true } in
-    CarriesOn-stopped g.S.MarkSink.takes g.S.MarkSink.refuses _ (λ machine. item_of machine (view c.args.item.now)) c.args.place false _ _ fields c.args.self.now c.self.view_is (ap (λ machine. machine.stopped) c.self.view_is ∙ c.requires.running) c.act.new.page c.act.new.macros _ refl after _ refl
-    (Carries-is _ _ _ c.args.place _ _ _ (item_of (fields_of fields.printer fields.defaults fields.page fields.macros) (view c.args.item.now)) _ (item_of fields (view c.args.item.now)) _ ((λ panel. refl), refl, refl) c.in-Err.ensures.carries)
+    CarriesOn-stopped g.S.MarkSink.takes g.S.MarkSink.refuses _ (λ machine. item_of machine (view c.args.item.now)) false _ _ fields c.args.self.now c.self.view_is (ap (λ machine. machine.stopped) c.self.view_is ∙ c.requires.running) c.act.new.page c.act.new.macros _ refl after _ refl
+    (Carries-is _ _ _ _ _ _ (item_of (fields_of fields.printer fields.defaults fields.page fields.macros) (view c.args.item.now)) _ (item_of fields (view c.args.item.now)) _ ((λ panel. refl), refl, refl) c.in-Err.ensures.carries)

@@ -36,8 +36,8 @@ pub returns-in-Err-Found-clause-told : goal.returns-in-Err-Found-clause-told
 returns-in-Err-Found-clause-told g c =
     let sink = c.finish.new.sink in
     let is = c.in-Err-Found.is ∙ ap Err c.in-Err-Found.field-0-is in
-    let carried = subst (CarriesOn (TakesLine g.W.Outlet.failed g.W.Outlet.written) (RefusesLine g.W.Outlet.written) (end_of c.args.self.now.machine) c.args.place true _ c.finish.new.sink c.args.self.now.machine c.finish.new.self) is c.finish.ensures in
-    let took = carried.3 in
+    let carried = subst (CarriesOn (TakesLine g.W.Outlet.failed g.W.Outlet.written) (RefusesLine g.W.Outlet.written) (end_of c.args.self.now.machine) true _ c.finish.new.sink c.args.self.now.machine c.finish.new.self) is c.finish.ensures in
+    let took = carried.2 in
     let led = led_all g.W.Outlet.failed g.W.Outlet.written _ sink took.events c.requires.working took.leads in
     let same_outlet = led.same_outlet in
     let same_kept = led.same_kept in
@@ -50,8 +50,8 @@ pub returns-in-Err-Found-clause-status : goal.returns-in-Err-Found-clause-status
 returns-in-Err-Found-clause-status g c =
     let sink = c.finish.new.sink in
     let is = c.in-Err-Found.is ∙ ap Err c.in-Err-Found.field-0-is in
-    let carried = subst (CarriesOn (TakesLine g.W.Outlet.failed g.W.Outlet.written) (RefusesLine g.W.Outlet.written) (end_of c.args.self.now.machine) c.args.place true _ c.finish.new.sink c.args.self.now.machine c.finish.new.self) is c.finish.ensures in
-    let took = carried.3 in
+    let carried = subst (CarriesOn (TakesLine g.W.Outlet.failed g.W.Outlet.written) (RefusesLine g.W.Outlet.written) (end_of c.args.self.now.machine) true _ c.finish.new.sink c.args.self.now.machine c.finish.new.self) is c.finish.ensures in
+    let took = carried.2 in
     let led = led_all g.W.Outlet.failed g.W.Outlet.written _ sink took.events c.requires.working took.leads in
     let same_outlet = led.same_outlet in
     let same_kept = led.same_kept in
@@ -62,7 +62,7 @@ pub returns-in-Err-Refused-clause-told : goal.returns-in-Err-Refused-clause-told
 returns-in-Err-Refused-clause-told g c =
     let sink = c.finish.new.sink in
     let is = c.in-Err-Refused.is ∙ ap Err c.in-Err-Refused.field-0-is in
-    let carried = subst (CarriesOn (TakesLine g.W.Outlet.failed g.W.Outlet.written) (RefusesLine g.W.Outlet.written) (end_of c.args.self.now.machine) c.args.place true _ c.finish.new.sink c.args.self.now.machine c.finish.new.self) is c.finish.ensures in
+    let carried = subst (CarriesOn (TakesLine g.W.Outlet.failed g.W.Outlet.written) (RefusesLine g.W.Outlet.written) (end_of c.args.self.now.machine) true _ c.finish.new.sink c.args.self.now.machine c.finish.new.self) is c.finish.ensures in
     let refused = carried.2 in
     let led = led_all g.W.Outlet.failed g.W.Outlet.written _ refused.mid refused.before.events c.requires.working refused.before.leads in
     let same_outlet = refused.refused.0 ∙ led.same_outlet in
@@ -76,7 +76,7 @@ pub returns-in-Err-Refused-clause-status : goal.returns-in-Err-Refused-clause-st
 returns-in-Err-Refused-clause-status g c =
     let sink = c.finish.new.sink in
     let is = c.in-Err-Refused.is ∙ ap Err c.in-Err-Refused.field-0-is in
-    let carried = subst (CarriesOn (TakesLine g.W.Outlet.failed g.W.Outlet.written) (RefusesLine g.W.Outlet.written) (end_of c.args.self.now.machine) c.args.place true _ c.finish.new.sink c.args.self.now.machine c.finish.new.self) is c.finish.ensures in
+    let carried = subst (CarriesOn (TakesLine g.W.Outlet.failed g.W.Outlet.written) (RefusesLine g.W.Outlet.written) (end_of c.args.self.now.machine) true _ c.finish.new.sink c.args.self.now.machine c.finish.new.self) is c.finish.ensures in
     let refused = carried.2 in
     let led = led_all g.W.Outlet.failed g.W.Outlet.written _ refused.mid refused.before.events c.requires.working refused.before.leads in
     let same_outlet = refused.refused.0 ∙ led.same_outlet in

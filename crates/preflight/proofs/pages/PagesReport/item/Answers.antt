@@ -5,7 +5,7 @@ use Rattle.preflight.specs.declared.error.Error.TheVariants.{Memory}
 use Rattle.preflight.specs.Outlet.{is_write}
 use Rattle.preflight.specs.Carriers.PageTelling.{pages_from, RefusesLine, TakesLine}
 use Rattle.preflight.specs.Carriers.Telling.{Ended, StartsWith, Tells}
-use Rattle.preflight.proofs.PageTellings.{led_all, tells_finding, tells_item, tells_refused, tells_some}
+use Rattle.preflight.proofs.PageTellings.{led_all, tells_finding, tells_item, tells_refused, tells_whole}
 use Rattle.preflight.proofs.Tellings.{same_places}
 use Rattle.preflight.proofs.pages.PagesReport.item.Goals as goal
 
@@ -35,8 +35,8 @@ pub returns-in-Err-Found-clause-told : goal.returns-in-Err-Found-clause-told
 returns-in-Err-Found-clause-told g c =
     let sink = c.step.new.sink in
     let is = c.in-Err-Found.is ∙ ap Err c.in-Err-Found.field-0-is in
-    let carried = subst (CarriesOn (TakesLine g.W.Outlet.failed g.W.Outlet.written) (RefusesLine g.W.Outlet.written) (item_of c.args.self.now.machine (view c.args.item.now)) c.args.place false _ c.step.new.sink c.args.self.now.machine c.step.new.self) is c.step.ensures in
-    let took = carried.3 in
+    let carried = subst (CarriesOn (TakesLine g.W.Outlet.failed g.W.Outlet.written) (RefusesLine g.W.Outlet.written) (item_of c.args.self.now.machine (view c.args.item.now)) false _ c.step.new.sink c.args.self.now.machine c.step.new.self) is c.step.ensures in
+    let took = carried.2 in
     let led = led_all g.W.Outlet.failed g.W.Outlet.written _ sink took.events c.requires.working took.leads in
     let same_outlet = led.same_outlet in
     let same_kept = led.same_kept in
@@ -49,8 +49,8 @@ pub returns-in-Err-Found-clause-status : goal.returns-in-Err-Found-clause-status
 returns-in-Err-Found-clause-status g c =
     let sink = c.step.new.sink in
     let is = c.in-Err-Found.is ∙ ap Err c.in-Err-Found.field-0-is in
-    let carried = subst (CarriesOn (TakesLine g.W.Outlet.failed g.W.Outlet.written) (RefusesLine g.W.Outlet.written) (item_of c.args.self.now.machine (view c.args.item.now)) c.args.place false _ c.step.new.sink c.args.self.now.machine c.step.new.self) is c.step.ensures in
-    let took = carried.3 in
+    let carried = subst (CarriesOn (TakesLine g.W.Outlet.failed g.W.Outlet.written) (RefusesLine g.W.Outlet.written) (item_of c.args.self.now.machine (view c.args.item.now)) false _ c.step.new.sink c.args.self.now.machine c.step.new.self) is c.step.ensures in
+    let took = carried.2 in
     let led = led_all g.W.Outlet.failed g.W.Outlet.written _ sink took.events c.requires.working took.leads in
     let same_outlet = led.same_outlet in
     let same_kept = led.same_kept in
@@ -61,7 +61,7 @@ pub returns-in-Err-Refused-clause-told : goal.returns-in-Err-Refused-clause-told
 returns-in-Err-Refused-clause-told g c =
     let sink = c.step.new.sink in
     let is = c.in-Err-Refused.is ∙ ap Err c.in-Err-Refused.field-0-is in
-    let carried = subst (CarriesOn (TakesLine g.W.Outlet.failed g.W.Outlet.written) (RefusesLine g.W.Outlet.written) (item_of c.args.self.now.machine (view c.args.item.now)) c.args.place false _ c.step.new.sink c.args.self.now.machine c.step.new.self) is c.step.ensures in
+    let carried = subst (CarriesOn (TakesLine g.W.Outlet.failed g.W.Outlet.written) (RefusesLine g.W.Outlet.written) (item_of c.args.self.now.machine (view c.args.item.now)) false _ c.step.new.sink c.args.self.now.machine c.step.new.self) is c.step.ensures in
     let refused = carried.2 in
     let led = led_all g.W.Outlet.failed g.W.Outlet.written _ refused.mid refused.before.events c.requires.working refused.before.leads in
     let same_outlet = refused.refused.0 ∙ led.same_outlet in
@@ -75,7 +75,7 @@ pub returns-in-Err-Refused-clause-status : goal.returns-in-Err-Refused-clause-st
 returns-in-Err-Refused-clause-status g c =
     let sink = c.step.new.sink in
     let is = c.in-Err-Refused.is ∙ ap Err c.in-Err-Refused.field-0-is in
-    let carried = subst (CarriesOn (TakesLine g.W.Outlet.failed g.W.Outlet.written) (RefusesLine g.W.Outlet.written) (item_of c.args.self.now.machine (view c.args.item.now)) c.args.place false _ c.step.new.sink c.args.self.now.machine c.step.new.self) is c.step.ensures in
+    let carried = subst (CarriesOn (TakesLine g.W.Outlet.failed g.W.Outlet.written) (RefusesLine g.W.Outlet.written) (item_of c.args.self.now.machine (view c.args.item.now)) false _ c.step.new.sink c.args.self.now.machine c.step.new.self) is c.step.ensures in
     let refused = carried.2 in
     let led = led_all g.W.Outlet.failed g.W.Outlet.written _ refused.mid refused.before.events c.requires.working refused.before.leads in
     let same_outlet = refused.refused.0 ∙ led.same_outlet in
@@ -87,7 +87,7 @@ pub returns-in-Err-Memory-clause-told : goal.returns-in-Err-Memory-clause-told
 returns-in-Err-Memory-clause-told g c =
     let sink = c.step.new.sink in
     let is = c.in-Err-Memory.is ∙ ap Err c.in-Err-Memory.field-0-is in
-    let carried = subst (CarriesOn (TakesLine g.W.Outlet.failed g.W.Outlet.written) (RefusesLine g.W.Outlet.written) (item_of c.args.self.now.machine (view c.args.item.now)) c.args.place false _ c.step.new.sink c.args.self.now.machine c.step.new.self) is c.step.ensures in
+    let carried = subst (CarriesOn (TakesLine g.W.Outlet.failed g.W.Outlet.written) (RefusesLine g.W.Outlet.written) (item_of c.args.self.now.machine (view c.args.item.now)) false _ c.step.new.sink c.args.self.now.machine c.step.new.self) is c.step.ensures in
     let some = carried.3 in
     let took = some.1 in
     let led = led_all g.W.Outlet.failed g.W.Outlet.written _ sink took.events c.requires.working took.leads in
@@ -96,13 +96,13 @@ returns-in-Err-Memory-clause-told g c =
     let outlet_is : sink.outlet.now ≡ c.outlet-in-Err-Memory-1.given.0 = search rules in
     let kept_is : sink.kept.now ≡ c.kept-in-Err-Memory-1.given.0 = search rules in
     same_places (λ outlet kept. Ended (pages_from c.args.self.now.machine c.args.self.now.page) (StartsWith (at c.args.place (view c.args.item.now))) (g.W.Outlet.written c.args.outlet.now) (g.W.Outlet.written outlet) c.args.kept.now.items kept.items (Err Memory)) sink.outlet.now c.outlet-in-Err-Memory-1.given.0 sink.kept.now c.kept-in-Err-Memory-1.given.0 outlet_is kept_is
-    (tells_some g.W.Outlet.failed g.W.Outlet.written c.args.self.now.machine _ sink c.requires.working (at c.args.place (view c.args.item.now)) Memory some)
+    (tells_whole g.W.Outlet.failed g.W.Outlet.written c.args.self.now.machine _ sink c.requires.working (at c.args.place (view c.args.item.now)) Memory some)
 
 pub returns-in-Err-Memory-clause-status : goal.returns-in-Err-Memory-clause-status
 returns-in-Err-Memory-clause-status g c =
     let sink = c.step.new.sink in
     let is = c.in-Err-Memory.is ∙ ap Err c.in-Err-Memory.field-0-is in
-    let carried = subst (CarriesOn (TakesLine g.W.Outlet.failed g.W.Outlet.written) (RefusesLine g.W.Outlet.written) (item_of c.args.self.now.machine (view c.args.item.now)) c.args.place false _ c.step.new.sink c.args.self.now.machine c.step.new.self) is c.step.ensures in
+    let carried = subst (CarriesOn (TakesLine g.W.Outlet.failed g.W.Outlet.written) (RefusesLine g.W.Outlet.written) (item_of c.args.self.now.machine (view c.args.item.now)) false _ c.step.new.sink c.args.self.now.machine c.step.new.self) is c.step.ensures in
     let some = carried.3 in
     let took = some.1 in
     let led = led_all g.W.Outlet.failed g.W.Outlet.written _ sink took.events c.requires.working took.leads in

@@ -1,19 +1,27 @@
-use Rattle.std.proofs.Common.{ap, ◌∙◌}
-use Rattle.preflight.specs.Session.{SessionState}
-use Rattle.preflight.proofs.Sessions.{ended_exact, ended_keeping}
+use Rattle.std.proofs.Common.{ℕ, List}
+use Rattle.std.proofs.lemmas.Result.{IfOk-weaker}
+use Rattle.device_profile.specs.Printer.{Printer}
+use Rattle.preflight.specs.Session.{HasChecked}
+use Rattle.preflight.specs.Verdict.{IsExact, KeepsPromise}
 use Rattle.preflight.proofs.session.Session.end.Goals as goal
 
 pub returns-clause-exact : goal.returns-clause-exact
-returns-clause-exact g c = ended_exact _ _ c.self.view_is c.verdict_at_end.result c.verdict_at_end.ensures.ended
+returns-clause-exact g c =
+    IfOk-weaker c.verdict.result (λ verdict. (fleet : List Printer) (bytes : List ℕ) → HasChecked fleet bytes c.args.self → IsExact fleet bytes verdict × KeepsPromise fleet bytes verdict)
+    (λ verdict. (fleet : List Printer) (bytes : List ℕ) → HasChecked fleet bytes c.args.self → IsExact fleet bytes verdict)
+    (λ verdict ended fleet bytes checked. (ended fleet bytes checked).0) c.verdict.ensures.ended
 
 pub returns-clause-headline : goal.returns-clause-headline
-returns-clause-headline g c = ended_keeping _ _ c.self.view_is c.verdict_at_end.result c.verdict_at_end.ensures.ended
+returns-clause-headline g c =
+    IfOk-weaker c.verdict.result (λ verdict. (fleet : List Printer) (bytes : List ℕ) → HasChecked fleet bytes c.args.self → IsExact fleet bytes verdict × KeepsPromise fleet bytes verdict)
+    (λ verdict. (fleet : List Printer) (bytes : List ℕ) → HasChecked fleet bytes c.args.self → KeepsPromise fleet bytes verdict)
+    (λ verdict ended fleet bytes checked. (ended fleet bytes checked).1) c.verdict.ensures.ended
 
-pub returns-clause-after_fail : goal.returns-clause-after_fail
-returns-clause-after_fail g c = λ place profile finding is. c.verdict_at_end.ensures.fails place profile finding (ap (λ (s : SessionState). s.standing) c.self.view_is ∙ is)
+pub returns-clause-after_verdict : goal.returns-clause-after_verdict
+returns-clause-after_verdict g c = c.verdict.ensures.judged
 
 pub returns-clause-after_error : goal.returns-clause-after_error
-returns-clause-after_error g c = λ error is. c.verdict_at_end.ensures.stopped error (ap (λ (s : SessionState). s.standing) c.self.view_is ∙ is)
+returns-clause-after_error g c = c.verdict.ensures.stopped
 
 pub returns-clause-errors : goal.returns-clause-errors
-returns-clause-errors g c = λ is. c.verdict_at_end.ensures.errors (ap (λ (s : SessionState). s.standing) c.self.view_is ∙ is)
+returns-clause-errors g c = c.verdict.ensures.errors

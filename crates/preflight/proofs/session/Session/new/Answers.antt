@@ -4,6 +4,7 @@ use Rattle.pcl_items.specs.LexerState.{LexerState}
 use Rattle.pcl_items.specs.Modes.{mode_of}
 use Rattle.preflight.specs.Carriers.Checking.{HasCarriedOut}
 use Rattle.preflight.specs.Carriers.Lockstep.{AreIn, machines_of, counts_of}
+use Rattle.preflight.proofs.Sessions.{checks_on_none}
 use Rattle.preflight.proofs.UnderWay.{all_in, all_running, carried_none, first_and_others}
 use Rattle.preflight.proofs.session.Session.new.Goals as goal
 
@@ -31,3 +32,8 @@ returns-in_ok-machines-in-len1-up-clause-none g c =
           (carried_none others lexer.result (machines_of machines.machines) (counts_of machines.machines) (omega arith) lexer.ensures.reads machines.ensures.machines machines.ensures.counts),
       refl,
     )
+
+pub returns-in_ok-machines-in-len1-up-clause-fresh : goal.returns-in_ok-machines-in-len1-up-clause-fresh
+returns-in_ok-machines-in-len1-up-clause-fresh g c =
+    let lexer = c.new-in-len1-up in
+    checks_on_none _ refl (ap (λ (s : LexerState). s.ended) lexer.ensures.start) lexer.ensures.wants_more

@@ -1,0 +1,76 @@
+//! The command `check`.
+ghost use Rattle.std.specs.Prelude.{◌≡◌, ◌≢◌, ◌+◌, ◌^◌, [], ◌||◌, length, map, IfOk, IfErr, IsErrOf, IsFalse, IsTrue};
+ghost use Rattle.preflight.specs.Outlet.{Adds, is_err_of_write};
+ghost use Rattle.preflight.specs.Source.{is_err_of_read};
+ghost use Rattle.subcommands.specs.Check.{read_by, texts_by, IsRight, IsRightFor, Leaves, LeavesAtStop};
+ghost use Rattle.subcommands.specs.Fleet.{RefusesBy, RefusesFirst, ReachesSome};
+ghost use Rattle.subcommands.specs.Lines.{verdict_line};
+ghost use Rattle.subcommands.specs.Status.{is_refusal, is_stop_of_read, is_stop_of_write};
+
+use crate::fleet::read_fleet;
+use crate::lines::line_of;
+use crate::status::Status;
+use crate::texts::ProfileTexts;
+use device_profile::Profile;
+use preflight::{Error, Outlet, Source, Verdict, check_job, write_text};
+use std::alloc::Allocator;
+
+/// The command `check`: one line on standard output, by the verdict on the job for the printers
+/// that the words PROFILE name. Each profile is read and judged before the next one, and the job
+/// is read after all of them.
+pub fn check<S: Source, T: ProfileTexts, O: Outlet, A: Allocator + Copy>(
+    alloc: A,
+    job: &mut S,
+    texts: &mut T,
+    profiles: &[&str],
+    stdout: &mut O,
+) -> Status
+    requires job { IsFalse (S.failed job.old) }
+    requires texts { IsFalse (T.failed texts.old) }
+    requires stdout { IsFalse (O.failed stdout.old) }
+    requires some { profiles.now ≢ [] }
+    ensures line { Leaves result
+        (IsRightFor (texts_by (map (λ word. T.text_of texts.old word.now) profiles.now) (T.given texts.old) (T.given texts.new)) (read_by (S.given job.old) (S.given job.new) (S.remaining job.old)))
+        (O.written stdout.old) (O.written stdout.new) }
+    ensures refusal { RefusesFirst (map (λ word. T.text_of texts.old word.now) profiles.now) result }
+    ensures refused { RefusesBy (T.given texts.old) (T.given texts.new) result }
+    ensures reached { IsTrue (T.failed texts.new) → ReachesSome (map (λ word. T.text_of texts.old word.now) profiles.now) }
+    ensures unread { IsTrue (is_refusal result || T.failed texts.new) → job.new ≡ job.old }
+    ensures read { (S.failed job.new || T.failed texts.new) ≡ is_stop_of_read result }
+    ensures write { O.failed stdout.new ≡ is_stop_of_write result }
+    ensures turns { result ≡ Status.Stopped Error.Turns → length (S.given job.new) ≡ length (S.given job.old) + 2 ^ 40 }
+{
+    let fleet = match read_fleet(alloc, texts, profiles) {
+        Ok(fleet) => fleet,
+        Err(status) => return status,
+    };
+    match write_verdict(alloc, job, fleet.as_slice(), stdout) {
+        Ok(Verdict::Pass { .. }) => Status::Pass,
+        Ok(Verdict::Fail { .. }) => Status::Fail,
+        Err(error) => Status::Stopped(error),
+    }
+}
+
+/// Checks a job for a fleet, and writes the line of the verdict.
+fn write_verdict<S: Source, O: Outlet, A: Allocator + Copy>(
+    alloc: A,
+    job: &mut S,
+    fleet: &[Profile<A>],
+    stdout: &mut O,
+) -> Result<Verdict, Error>
+    requires job { IsFalse (S.failed job.old) }
+    requires stdout { IsFalse (O.failed stdout.old) }
+    requires some { fleet.now ≢ [] }
+    ensures ok { IfOk result (λ verdict. IsRight (read_by (S.given job.old) (S.given job.new) (S.remaining job.old)) fleet.now verdict
+        × Adds (O.written stdout.old) (O.written stdout.new) (verdict_line verdict)) }
+    ensures err { IfErr result (λ error. LeavesAtStop error (IsRight (read_by (S.given job.old) (S.given job.new) (S.remaining job.old)) fleet.now)
+        (O.written stdout.old) (O.written stdout.new)) }
+    ensures read { S.failed job.new ≡ is_err_of_read result }
+    ensures write { O.failed stdout.new ≡ is_err_of_write result }
+    ensures turns { IsErrOf result Error.Turns → length (S.given job.new) ≡ length (S.given job.old) + 2 ^ 40 }
+{
+    let verdict = check_job(alloc, job, fleet)?;
+    let line = line_of(alloc, verdict)?;
+    write_text(stdout, line.as_slice())?;
+    Ok(verdict)
+}

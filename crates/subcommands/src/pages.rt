@@ -1,0 +1,43 @@
+//! The command `pages`.
+ghost use Rattle.std.specs.Prelude.{◌≡◌, ◌||◌, IsFalse, IsTrue};
+ghost use Rattle.subcommands.specs.Fleet.{RefusesRead};
+ghost use Rattle.subcommands.specs.JobTexts.{reads_by, EndsBy, IsNamed, LeavesPages, RefusesOne};
+ghost use Rattle.subcommands.specs.Status.{is_refusal};
+
+use crate::fleet::read_profile;
+use crate::outcome::end_by;
+use crate::status::Status;
+use crate::texts::ProfileTexts;
+use preflight::{Outlet, Source, pages_of};
+use std::alloc::Allocator;
+
+/// The command `pages`: the pages of the job on standard output, from the first panel of the printer
+/// that the word PROFILE names. The profile is read and judged before the job is read.
+pub fn pages<S: Source, T: ProfileTexts, O: Outlet, A: Allocator + Copy>(
+    alloc: A,
+    job: &mut S,
+    texts: &mut T,
+    profile: &str,
+    stdout: &mut O,
+) -> Status
+    requires job { IsFalse (S.failed job.old) }
+    requires texts { IsFalse (T.failed texts.old) }
+    requires stdout { IsFalse (O.failed stdout.old) }
+    ensures ends { EndsBy result
+        (λ job. LeavesPages result
+        (IsNamed (T.text_of texts.old profile.now) (T.given texts.old) (T.given texts.new))
+        job (O.written stdout.old) (O.written stdout.new))
+        (reads_by (S.given job.old) (S.given job.new) (S.remaining job.old) (S.remaining job.new))
+        (S.failed job.new || T.failed texts.new) (O.failed stdout.new) }
+    ensures refusal { RefusesOne (T.text_of texts.old profile.now) result }
+    ensures refused { RefusesRead (T.given texts.old) (T.given texts.new) 1 result }
+    ensures unread { IsTrue (is_refusal result || T.failed texts.new) → job.new ≡ job.old }
+{
+    let profile = match read_profile(alloc, texts, profile, 1) {
+        Ok(profile) => profile,
+        Err(status) => return status,
+    };
+    let panel = profile.first_panel();
+    let work = pages_of(alloc, job, &profile, &panel, stdout);
+    end_by(alloc, work, stdout)
+}

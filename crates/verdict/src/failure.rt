@@ -1,0 +1,53 @@
+//! What is wrong with a job, and where.
+ghost use Rattle.std.specs.Prelude.{◌≡◌};
+ghost use Rattle.verdict.specs.Failing.{failing};
+
+use crate::reason::Reason;
+use crate::verdict::Verdict;
+use page_env::Finding;
+use pcl_items::LexFault;
+
+/// What is wrong with a job, and where.
+#[derive(Clone, Copy, Debug, PartialEq, Eq)]
+pub struct Failure {
+    /// In bytes from the job's start.
+    pub place: u64,
+    /// The number of the profile that it is wrong for, from 1, or 0 for a fault of the bytes.
+    pub profile: u64,
+    pub reason: Reason,
+}
+
+impl Failure {
+    /// The failure of a job with a fault of its bytes.
+    pub fn of_fault(fault: LexFault) -> Failure
+        ensures { result ≡ record { place = fault.place; profile = 0; reason = Reason.Fault fault.cause } }
+    {
+        Failure {
+            place: fault.place,
+            profile: 0,
+            reason: Reason::Fault(fault.cause),
+        }
+    }
+
+    /// The failure of a job by what the item at this place comes to on the printer of this number.
+    pub fn of_finding(place: u64, profile: u64, finding: Finding) -> Failure
+        ensures { result ≡ record { place = place; profile = profile; reason = Reason.Finding finding } }
+    {
+        Failure {
+            place,
+            profile,
+            reason: Reason::Finding(finding),
+        }
+    }
+
+    /// The verdict on the job.
+    pub fn verdict(self) -> Verdict
+        ensures { result ≡ failing self }
+    {
+        Verdict::Fail {
+            place: self.place,
+            profile: self.profile,
+            finding: self.reason,
+        }
+    }
+}
