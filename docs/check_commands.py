@@ -20,7 +20,8 @@ COMMANDS = ROOT / "crates" / "pcl_items" / "src" / "command.rt"
 FRAMES = ROOT / "crates" / "pcl_items" / "src" / "frame.rt"
 ITEMS = ROOT / "crates" / "pcl_items" / "src" / "item.rt"
 MACROS = ROOT / "crates" / "page_env" / "src" / "macros.rt"
-WORDS = ROOT / "crates" / "line_words" / "src" / "words.rt"
+NUMBERS = [ROOT / "crates" / "verdict" / "src" / name for name in ("numbers.rt", "reason.rt")]
+NAMES = ROOT / "crates" / "line_words" / "src" / "words.rt"
 EXPLANATIONS = ROOT / "crates" / "subcommands" / "src" / "explanations.rt"
 
 # The kinds of items that stand in no table of bytes, as the table of commands writes them.
@@ -125,10 +126,13 @@ def controls_of_code():
 
 def findings_of_code():
     """The numbers and names that the program writes, as `12 Unset`."""
-    found = re.findall(r'b"(\d+ [A-Z][A-Za-z]*)\(?"', WORDS.read_text(encoding="utf-8"))
-    if not found:
-        raise Unreadable(f"{WORDS.relative_to(ROOT)} has no findings in the form that is read")
-    return found
+    variant = r"((?:Cause|Finding|Reason)::\w+)(?:\(_\))?"
+    numbers = [pair for path in NUMBERS for pair in re.findall(rf"{variant} => (\d+),", path.read_text(encoding="utf-8"))]
+    names = re.findall(rf'{variant} => b"([A-Z]\w+)",', NAMES.read_text(encoding="utf-8"))
+    name_of = {variant: name for variant, name in names}
+    if not numbers or sorted(variant for variant, _ in numbers) != sorted(name_of):
+        raise Unreadable(f"{NAMES.relative_to(ROOT)} has not the names of the findings that have numbers")
+    return [f"{number} {name_of[variant]}" for variant, number in numbers]
 
 
 def explanations_of_code():

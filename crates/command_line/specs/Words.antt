@@ -2,18 +2,14 @@
 use Rattle.std.specs.Prelude.{◌≢◌, [], ⊤}
 use Rattle.preflight.specs.declared.error.Error.TheVariants.{Memory, Write}
 use Rattle.subcommands.specs.declared.status.Status.{Status}
-use Rattle.subcommands.specs.declared.status.Status.TheVariants.{Help, Words, Overwrites, Stopped}
+use Rattle.subcommands.specs.declared.status.Status.TheVariants.{Help, Usage, Overwrites, Stopped}
 use Rattle.command_line.specs.declared.words.Request.{Request}
-use Rattle.command_line.specs.declared.words.Request.TheVariants.{Check, List, Pages, Plain, Pin, Explain}
+use Rattle.command_line.specs.declared.words.Request.TheVariants.{Check, Plain, Pin}
 
 -- a check names one printer at least
 abbrev pub NamesSome : Request → Type 0
 NamesSome (Check job profiles) = profiles.items ≢ []
-NamesSome (List job) = ⊤
-NamesSome (Pages job profile) = ⊤
-NamesSome (Plain job out) = ⊤
-NamesSome (Pin job profile choices out) = ⊤
-NamesSome (Explain code) = ⊤
+NamesSome _ = ⊤
 
 -- a text of a job goes to no path that is read
 abbrev pub KeepsWhatItReads : Request → Type 0
@@ -24,7 +20,7 @@ KeepsWhatItReads _ = ⊤
 -- help or the version, bad words, an OUT that is read, no memory, or a text that could not be written
 abbrev pub IsEndOfWords : Status → Type 0
 IsEndOfWords Help = ⊤
-IsEndOfWords Words = ⊤
+IsEndOfWords Usage = ⊤
 IsEndOfWords (Overwrites input) = ⊤
 IsEndOfWords (Stopped Memory) = ⊤
 IsEndOfWords (Stopped Write) = ⊤

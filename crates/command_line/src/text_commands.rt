@@ -8,7 +8,7 @@ use clap::{Arg, ArgAction, ArgMatches, Command};
 use std::alloc::{AllocError, Global};
 
 const LIST_EXPLANATION: &str = "Output, a line for each item:
-  PLACE SPELLING           the number of bytes before the item, and its one spelling, in which
+  PLACE SPELLING           the number of bytes before the item, and its canonical spelling, in which
                            each byte that shows nothing, and the backslash, is \\x and two digits
   PLACE FAULT NUMBER NAME  the last line, where the bytes are wrong from there on
 
@@ -128,7 +128,7 @@ pub fn pages_command<'a>(alloc: Global) -> Result<Command<'a>, AllocError> {
 /// The words of the command `plain`.
 pub fn plain_command<'a>(alloc: Global) -> Result<Command<'a>, AllocError> {
     Command::new(alloc, "plain")
-        .about("Writes a job again, with each item in its one spelling")
+        .about("Writes a job again, with each item in its canonical spelling")
         .after_help(PLAIN_EXPLANATION)
         .arg(job(alloc))?
         .arg(out(alloc))

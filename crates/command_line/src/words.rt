@@ -29,12 +29,13 @@ pub enum Request<'a> {
         job: &'a str,
         profile: &'a str,
     },
-    /// The items of the job at a path, each in its one spelling, in a file at a path.
+    /// The items of the job at a path, each in its canonical spelling, in a file at a path.
     Plain {
         job: &'a str,
         out: &'a str,
     },
-    /// The items of the job at a path, pinned to the panel that is chosen of the printer that a word names, in a file at a path.
+    /// The items of the job at a path, pinned to the panel that is chosen of the printer that a
+    /// word names, in a file at a path.
     Pin {
         job: &'a str,
         profile: &'a str,
@@ -138,17 +139,17 @@ pub fn read_words<'a, O: Outlet, E: Outlet>(
     stdout: &mut O,
     stderr: &mut E,
 ) -> Result<Request<'a>, Status>
-    requires stdout { IsFalse (O.failed stdout.old) }
-    requires stderr { IsFalse (E.failed stderr.old) }
+    requires stdout { IsFalse (O.state stdout.old).failed }
+    requires stderr { IsFalse (E.state stderr.old).failed }
     ensures ok { OnOk result ((stdout.new ≡ stdout.old) × (stderr.new ≡ stderr.old)) }
     ensures some { IfOk result NamesSome }
     ensures apart { IfOk result KeepsWhatItReads }
     ensures err { IfErr result IsEndOfWords }
     ensures help { result ≡ Err Status.Help → stderr.new ≡ stderr.old }
     // Of another end than bad words nothing is told.
-    ensures quiet { IsFalse (E.failed stderr.new) → result ≢ Err Status.Words →
+    ensures quiet { IsFalse (E.state stderr.new).failed → result ≢ Err Status.Usage →
         stderr.new ≡ stderr.old }
-    ensures words { result ≡ Err Status.Words → stdout.new ≡ stdout.old }
+    ensures words { result ≡ Err Status.Usage → stdout.new ≡ stdout.old }
 {
     let Ok(command) = command(alloc) else {
         return Err(Status::Stopped(Error::Memory));
@@ -159,7 +160,7 @@ pub fn read_words<'a, O: Outlet, E: Outlet>(
     };
     let request = match request_of(alloc, &matches) {
         Ok(Some(request)) => request,
-        Ok(None) => return Err(Status::Words),
+        Ok(None) => return Err(Status::Usage),
         Err(fault) => return Err(refuse_choices(alloc, &fault, stderr)),
     };
     match overwritten(&request) {
@@ -193,10 +194,10 @@ fn overwritten(request: &Request<'_>) -> Option<Input>
 
 /// Writes why the words of `--panel` choose nothing.
 fn refuse_choices<E: Outlet>(alloc: Global, fault: &ChoiceFault<'_>, stderr: &mut E) -> Status
-    requires { IsFalse (E.failed stderr.old) }
+    requires { IsFalse (E.state stderr.old).failed }
     ensures end { IsEndOfWords result }
     ensures no_help { result ≢ Status.Help }
-    ensures quiet { IsFalse (E.failed stderr.new) → result ≢ Status.Words →
+    ensures quiet { IsFalse (E.state stderr.new).failed → result ≢ Status.Usage →
         stderr.new ≡ stderr.old }
 {
     if matches!(fault, ChoiceFault::Memory(_)) {
@@ -206,7 +207,7 @@ fn refuse_choices<E: Outlet>(alloc: Global, fault: &ChoiceFault<'_>, stderr: &mu
         return Status::Stopped(Error::Memory);
     };
     match write_text(stderr, text.as_bytes()) {
-        Ok(()) => Status::Words,
+        Ok(()) => Status::Usage,
         Err(_) => Status::Stopped(Error::Write),
     }
 }
@@ -256,13 +257,13 @@ fn refuse<O: Outlet, E: Outlet>(
     stdout: &mut O,
     stderr: &mut E,
 ) -> Status
-    requires stdout { IsFalse (O.failed stdout.old) }
-    requires stderr { IsFalse (E.failed stderr.old) }
+    requires stdout { IsFalse (O.state stdout.old).failed }
+    requires stderr { IsFalse (E.state stderr.old).failed }
     ensures end { IsEndOfWords result }
     ensures help { result ≡ Status.Help → stderr.new ≡ stderr.old }
-    ensures quiet { IsFalse (E.failed stderr.new) → result ≢ Status.Words →
+    ensures quiet { IsFalse (E.state stderr.new).failed → result ≢ Status.Usage →
         stderr.new ≡ stderr.old }
-    ensures words { result ≡ Status.Words → stdout.new ≡ stdout.old }
+    ensures words { result ≡ Status.Usage → stdout.new ≡ stdout.old }
 {
     if error.kind() == ErrorKind::OutOfMemory {
         return Status::Stopped(Error::Memory);
@@ -272,7 +273,7 @@ fn refuse<O: Outlet, E: Outlet>(
     };
     if error.use_stderr() {
         return match write_text(stderr, text.as_bytes()) {
-            Ok(()) => Status::Words,
+            Ok(()) => Status::Usage,
             Err(_) => Status::Stopped(Error::Write),
         };
     }

@@ -3,10 +3,9 @@
 
 ghost use Rattle.std.specs.Prelude.{◌≡◌, Some, None, false};
 
-use given::Given;
-use preflight::{Outlet, Source};
 use std::alloc::Global;
 use std::io;
+use streams::{Given, Outlet, Source};
 
 /// Gives its bytes one at a time, and fails at a read of the caller's choice.
 #[derive(Drop)]
@@ -31,11 +30,11 @@ impl<'a> FailingSource<'a> {
 }
 
 impl Source for FailingSource<'_> {
-    ghost remaining = { λ source. Some source.rest.now };
-
-    ghost given = { λ source. source.given.pieces };
-
-    ghost failed = { λ source. source.has_failed };
+    ghost state = { λ source. record {
+      given = source.given.pieces;
+      remaining = Some source.rest.now;
+      failed = source.has_failed;
+    } };
 
     fn read(&mut self, buf: &mut [u8]) -> io::Result<usize> {
         if self.reads_left == 0 {
@@ -89,9 +88,11 @@ impl FailingOutlet {
 const MOST_TAKEN: usize = 7;
 
 impl Outlet for FailingOutlet {
-    ghost written = { λ outlet. record { taken = outlet.taken.items; contents = Some outlet.taken.items } };
-
-    ghost failed = { λ outlet. outlet.has_failed };
+    ghost state = { λ outlet. record {
+      taken = outlet.taken.items;
+      contents = Some outlet.taken.items;
+      failed = outlet.has_failed;
+    } };
 
     fn write(&mut self, piece: &[u8]) -> io::Result<usize> {
         if self.writes_left == 0 {
@@ -130,11 +131,11 @@ impl<'a> CutSource<'a> {
 }
 
 impl Source for CutSource<'_> {
-    ghost remaining = { λ _. None };
-
-    ghost given = { λ source. source.given.pieces };
-
-    ghost failed = { λ _. false };
+    ghost state = { λ source. record {
+      given = source.given.pieces;
+      remaining = None;
+      failed = false;
+    } };
 
     fn read(&mut self, buf: &mut [u8]) -> io::Result<usize> {
         if self.first.is_empty() {

@@ -3,8 +3,9 @@ use Rattle.std.specs.Prelude.{ℕ, List, [], ◌∷◌, ◌++◌, codes, decimal
 use Rattle.pcl_items.specs.declared.fault.Cause.{Cause}
 use Rattle.pcl_items.specs.Canon.{canon}
 use Rattle.pcl_items.specs.Items.{Placed}
+use Rattle.verdict.specs.declared.reason.Reason.TheVariants.{Fault}
 use Rattle.line_words.specs.Figures.{escaped_byte}
-use Rattle.line_words.specs.Reason.{cause_words}
+use Rattle.line_words.specs.Reason.{reason_words}
 
 -- an item: its place and its spelling
 abbrev pub item_line : Placed → List ℕ
@@ -12,4 +13,4 @@ item_line x = decimal x.place ++ 32 ∷ flat_map escaped_byte (canon x.item) ++ 
 
 -- a fault: its place, its number and its name
 abbrev pub fault_line : ℕ → Cause → List ℕ
-fault_line place cause = decimal place ++ codes " FAULT " ++ cause_words cause ++ 10 ∷ []
+fault_line place cause = decimal place ++ codes " FAULT " ++ reason_words (Fault cause) ++ 10 ∷ []

@@ -4,9 +4,10 @@ ghost use Rattle.pcl_items.specs.Items.{Entry, amount, at, view};
 ghost use Rattle.line_words.specs.ItemLines.{item_line, fault_line};
 
 use crate::figures::{push_amount, push_escaped, push_number};
-use crate::words::push_cause;
+use crate::words::push_reason;
 use pcl_items::{Command, Item, LexFault, Number, Place, SimpleItem, spell};
 use std::alloc::{AllocError, Allocator};
+use verdict::Reason;
 
 /// Appends the line of an item. `spelling` is room for its spelling, so that none is asked for at each item.
 pub fn push_item<A: Allocator, B: Allocator>(
@@ -60,6 +61,6 @@ pub fn push_fault<A: Allocator>(text: &mut Vec<u8, A>, fault: LexFault) -> Resul
 {
     push_number(text, fault.place)?;
     text.extend_from_slice(b" FAULT ")?;
-    push_cause(text, fault.cause)?;
+    push_reason(text, Reason::Fault(fault.cause))?;
     text.extend_from_slice(b"\n")
 }

@@ -5,26 +5,49 @@ ghost use Rattle.std.specs.Prelude.{IsFalse};
 
 use command_line::{Request, read_words};
 use preflight::{Error, Outlet, Watched, write_text};
+use std::os::fd::{AsRawFd, IntoRawFd, RawFd};
 use std::process::ExitCode;
 use std::rt::{Env, Files};
-use std::{env, io};
+use std::{env, fs, io};
+use streams::{FileOutlet, FileSource};
 use subcommands::check::check;
 use subcommands::explain::explain;
 use subcommands::list::list;
 use subcommands::pages::pages;
 use subcommands::pin::pin;
 use subcommands::plain::plain;
-use subcommands::{FileOutlet, FileSource, FileTexts, PanelSetting, Status, tell};
+use subcommands::{FileTexts, PanelSetting, Status, tell};
+
+/// The descriptors of the standard streams are those below this one.
+const STANDARD_STREAMS: RawFd = 3;
 
 fn main(rt: HostRuntime) -> ExitCode {
+    fill_closed_streams(&rt);
     let mut stdout = Watched::new(rt.stdout());
     let mut stderr = Watched::new(rt.stderr());
     let status = match gather_words(&rt) {
         Ok(words) => run(&rt, words.as_slice(), &mut stdout, &mut stderr),
-        Err(kind) => refuse_words(kind, &mut stderr),
+        Err(kind) => refuse_usage(kind, &mut stderr),
     };
     tell(status, &mut stderr);
     ExitCode::from(status.code())
+}
+
+/// Opens the root directory in the place of each standard stream that is closed.
+///
+/// A file that is opened later would else be taken for that stream. A directory gives and takes no
+/// bytes, and nor does what is opened at `/dev/stdin` and the like then.
+fn fill_closed_streams(rt: &HostRuntime) {
+    for _ in 0..STANDARD_STREAMS {
+        let Ok(directory) = fs::open(rt, "/") else {
+            return;
+        };
+        if directory.as_raw_fd() >= STANDARD_STREAMS {
+            return;
+        }
+        // It stays open as long as the program runs.
+        directory.into_raw_fd();
+    }
 }
 
 /// The words that the program was started with.
@@ -35,16 +58,16 @@ fn gather_words<R: Env + AllocGlobal>(rt: &R) -> Result<Vec<String>, io::ErrorKi
         .map_err(|_| io::ErrorKind::OutOfMemory)
 }
 
-/// How the program ends where no words were had: want of memory, or a word that is no text, of which
-/// standard error tells.
-fn refuse_words<E: Outlet>(kind: io::ErrorKind, stderr: &mut E) -> Status
-    requires { IsFalse (E.failed stderr.old) }
+/// How the program ends where no words were had: want of memory, or a word that is no text, of
+/// which standard error tells.
+fn refuse_usage<E: Outlet>(kind: io::ErrorKind, stderr: &mut E) -> Status
+    requires { IsFalse (E.state stderr.old).failed }
 {
     if kind == io::ErrorKind::OutOfMemory {
         return Status::Stopped(Error::Memory);
     }
     match write_text(stderr, b"error: a word is not UTF-8 text\n") {
-        Ok(()) => Status::Words,
+        Ok(()) => Status::Usage,
         Err(error) => Status::Stopped(error),
     }
 }
@@ -56,8 +79,8 @@ fn run<R: Files + AllocGlobal, O: Outlet, E: Outlet>(
     stdout: &mut O,
     stderr: &mut E,
 ) -> Status
-    requires stdout { IsFalse (O.failed stdout.old) }
-    requires stderr { IsFalse (E.failed stderr.old) }
+    requires stdout { IsFalse (O.state stdout.old).failed }
+    requires stderr { IsFalse (E.state stderr.old).failed }
 {
     match read_words(rt.alloc(), words, stdout, stderr) {
         Ok(Request::Check { job, profiles }) => {

@@ -19,10 +19,11 @@ use Rattle.device_profile.specs.Printer.{Printer}
 use Rattle.page_machine.specs.Event.{Event}
 use Rattle.page_machine.specs.Job.{events_of}
 use Rattle.verdict.specs.declared.verdict.Verdict.TheVariants.{Pass}
-use Rattle.preflight.specs.Pieces.{ByReads, HasEnd}
+use Rattle.streams.specs.Pieces.{ByReads, HasEnd}
+use Rattle.streams.specs.Source.{SourceState}
 use Rattle.preflight.specs.Wrong.{Wrong, first_run, first_wrong}
 use Rattle.preflight.specs.Verdict.{IsExact, verdict_by, verdict_of, runs_of}
-use Rattle.preflight.proofs.PieceLemmas.{ended_or_open}
+use Rattle.streams.proofs.Pieces.{ended_or_open}
 use Rattle.preflight.proofs.StillOpen.{byte_0, behind_whole}
 
 -- ---- how far bytes are read that may go on
@@ -109,9 +110,9 @@ module _ (fleet : List Printer) (bytes : List ℕ) (pages marks : ℕ) (one : (j
   not_all_pass : ⊥
   not_all_pass = still_fails (first_of false so_far.context so_far.rest) refl so_far.still
 
-pub pass_is_ended : ((bytes : List ℕ) → HasOneReading bytes) → (fleet : List Printer) (old new : List (List ℕ)) (remaining : Option (List ℕ)) (pages marks : ℕ) → ByReads old new remaining (λ job. IsExact fleet job (Pass pages marks)) → HasEnd old new
-pass_is_ended one fleet old new remaining pages marks by =
+pub pass_is_ended : ((bytes : List ℕ) → HasOneReading bytes) → (fleet : List Printer) (old new : SourceState) (pages marks : ℕ) → ByReads old new (λ job. IsExact fleet job (Pass pages marks)) → HasEnd old new
+pass_is_ended one fleet old new pages marks by =
     elim (ended_or_open by.pieces) [
-      | inl ended ↦ (ended.0, ended.1, by.given ∙ ap (λ ps. old ++ ps) ended.2)
+      | inl ended ↦ (ended.0, ended.1, by.given ∙ ap (λ ps. old.given ++ ps) ended.2)
       | inr open_ ↦ absurd (not_all_pass fleet open_.0 pages marks one (λ more. by.each (open_.0 ++ more) (open_.1 more)))
     ]

@@ -18,7 +18,7 @@ use Rattle.preflight.specs.Wrong.{Wrong, wrong, findings_in, differences_in, of_
 use Rattle.preflight.specs.Verdict.{watched_items, runs_of, verdict_by, verdict_of}
 use Rattle.preflight.specs.Failing.{events_by_item}
 use Rattle.preflight.specs.Clean.{IsClean, LeavesNothing, AreClean, IsPass, PassesWhereClean}
-use Rattle.preflight.proofs.SameLemmas.{same_events}
+use Rattle.preflight.proofs.Same.{same_events}
 use Rattle.preflight.proofs.Side.{Agreed, agreed_findings}
 use Rattle.preflight.proofs.Passing.{all_contained}
 use Rattle.preflight.proofs.Parts.{AreOne, are_one}

@@ -18,7 +18,7 @@ use Rattle.preflight.specs.Same.{are_same}
 use Rattle.preflight.specs.Wrong.{Wrong, wrong, findings_in, differences_in}
 use Rattle.preflight.specs.Verdict.{watched_items}
 use Rattle.preflight.specs.Failing.{GoesThrough, events_before, events_behind}
-use Rattle.preflight.proofs.SameLemmas.{events_decide}
+use Rattle.preflight.proofs.Same.{events_decide}
 use Rattle.preflight.proofs.Soonest.{IsIn}
 use Rattle.preflight.proofs.RunEnds.{set_of, ends_without}
 

@@ -13,7 +13,7 @@ use Rattle.preflight.specs.Wrong.{Wrong, findings_in, differences_in, of_each, f
 use Rattle.preflight.specs.Verdict.{watched_items, runs_of}
 use Rattle.preflight.specs.Failing.{IsNumbered, GoesThrough, events_before, events_behind, SaysDiffers, FailSays}
 use Rattle.preflight.proofs.Soonest.{IsIn, in_right, in_front, least}
-use Rattle.preflight.proofs.SameLemmas.{same_events}
+use Rattle.preflight.proofs.Same.{same_events}
 use Rattle.preflight.proofs.Differing.{IsDifference, its_difference, comes_through, goes_plainly, same_before, same_there, more_through}
 use Rattle.preflight.proofs.FirstPanels.{same_items}
 use Rattle.preflight.proofs.Side.{same_differences}

@@ -1,16 +1,17 @@
 -- The reads of a job: its start, one more piece, and its end.
 use Rattle.std.specs.Prelude.{IsErrOf}
-use Rattle.preflight.specs.Outlet.{is_err_of_write, is_write}
-use Rattle.std.proofs.Common.{Bool, false, ◌≡◌, ◌+◌, ◌≤◌, ◌<◌, ℕ, List, [], ◌∷◌, ◌++◌, length, take, refl, ap, sym, ◌∙◌, subst, append-nil, Option, None, Some, Result, Ok, Err, IfOk, IfErr, arith, length-append}
+use Rattle.preflight.specs.Errors.{is_err_of_write, is_write}
+use Rattle.std.proofs.Common.{Bool, false, ◌≡◌, ◌≢◌, ◌+◌, ◌≤◌, ◌<◌, ℕ, List, [], ◌∷◌, ◌++◌, length, take, refl, ap, sym, ◌∙◌, subst, append-nil, Option, None, Some, Result, Ok, Err, IfOk, IfErr, arith, length-append}
 use Rattle.std.specs.Io.KnownBytes.{Consumes, IsAtEnd, Keeps}
 use Rattle.std.specs.List.{concat}
 use Rattle.std.proofs.KnownBytes.{Consumes-kept, Consumes-nil, Consumes-trans}
 use Rattle.preflight.specs.declared.error.Error.{Error}
 use Rattle.preflight.specs.declared.error.Error.TheVariants.{Memory, Read, Write, Turns, NoProfile}
-use Rattle.preflight.specs.Pieces.{ByReads, MayBeBy, Spell}
+use Rattle.streams.specs.Pieces.{ByReads, MayBeBy, Spell}
+use Rattle.streams.specs.Source.{SourceState}
 use Rattle.preflight.specs.Carriers.Driving.{ComesByEnd, ComesByPiece, IsAnswered, IsErrorOfPiece, IsStopped, IsUnderWay, StopsBy}
-use Rattle.preflight.proofs.OutletLemmas.{concat_more}
-use Rattle.preflight.proofs.PieceLemmas.{all_read, at_front, at_job, by_length, given_more, spell_none, spell_more}
+use Rattle.streams.proofs.OutletLemmas.{concat_more}
+use Rattle.streams.proofs.Pieces.{all_read, at_front, at_job, by_length, given_more, spell_none, spell_more}
 
 -- an error of what takes the pieces stops it there
 own_error : (Open : Type 0) (Stops : Error → Type 0) (error : Error) → Stops error → IsErrorOfPiece error → StopsBy Open Stops error
@@ -20,55 +21,55 @@ own_error Open Stops Write h own = h
 own_error Open Stops Turns h own = absurd own
 own_error Open Stops NoProfile h own = absurd own
 
-module _ {C : Type 0} (goes_on : C → List ℕ → C → Type 0) (stops : C → Error → List ℕ → C → Type 0) (first : C) (given : List (List ℕ)) (remaining : Option (List ℕ)) where
+module _ {C : Type 0} (goes_on : C → List ℕ → C → Type 0) (stops : C → Error → List ℕ → C → Type 0) (first : C) (source : SourceState) where
   -- nothing was read
-  pub under_way_none : goes_on first [] first → IsUnderWay goes_on first first given given remaining remaining 0
+  pub under_way_none : goes_on first [] first → IsUnderWay goes_on first first source source 0
   under_way_none fresh = record {
     pieces = [];
     bytes = [];
-    given_is = sym (append-nil given);
+    given_is = sym (append-nil source.given);
     joined = refl;
     spelled = spell_none;
     count = refl;
-    consumed = Consumes-nil remaining;
+    consumed = Consumes-nil source.remaining;
     most = omega arith;
     least = omega arith;
     left_open = fresh;
   }
 
-  module _ (now : C) (mid : List (List ℕ)) (left : Option (List ℕ)) (reads : ℕ) (way : IsUnderWay goes_on first now given mid remaining left reads) where
+  module _ (now : C) (mid : SourceState) (reads : ℕ) (way : IsUnderWay goes_on first now source mid reads) where
     -- no more is read
-    pub stopped_turning : IsStopped goes_on stops first now Turns given mid remaining left
+    pub stopped_turning : IsStopped goes_on stops first now Turns source mid
     stopped_turning = record { pieces = way.pieces; bytes = way.bytes; given_is = way.given_is; joined = way.joined; consumed = way.consumed; came = way.left_open }
 
     -- the job is as long as it has reads
-    pub as_long : {n : ℕ} → n ≤ reads → ByReads given mid remaining (λ job. n ≤ length job)
-    as_long few = by_length given mid way.pieces remaining left way.bytes way.given_is way.spelled way.consumed (omega (arith, few, way.least))
+    pub as_long : {n : ℕ} → n ≤ reads → ByReads source mid (λ job. n ≤ length job)
+    as_long few = by_length source mid way.pieces way.bytes way.given_is way.spelled way.consumed (omega (arith, few, way.least))
 
-    module _ (after : List (List ℕ)) (left' : Option (List ℕ)) where
+    module _ (after : SourceState) where
       -- a read failed
-      pub stopped_unread : after ≡ mid ++ [] → Keeps left left' → IsStopped goes_on stops first now Read given after remaining left'
+      pub stopped_unread : after.given ≡ mid.given ++ [] → Keeps mid.remaining after.remaining → IsStopped goes_on stops first now Read source after
       stopped_unread none keeps = record {
         pieces = way.pieces;
         bytes = way.bytes;
-        given_is = none ∙ (append-nil mid ∙ way.given_is);
+        given_is = none ∙ (append-nil mid.given ∙ way.given_is);
         joined = way.joined;
-        consumed = Consumes-kept remaining left left' way.bytes way.consumed keeps;
+        consumed = Consumes-kept source.remaining mid.remaining after.remaining way.bytes way.consumed keeps;
         came = way.left_open;
       }
 
-      module _ (piece : List ℕ) (given_is : after ≡ mid ++ piece ∷ []) (consumed : Consumes left left' piece) where
-        all_given : after ≡ given ++ (way.pieces ++ piece ∷ [])
-        all_given = given_more given mid after way.pieces piece way.given_is given_is
+      module _ (piece : List ℕ) (given_is : after.given ≡ mid.given ++ piece ∷ []) (consumed : Consumes mid.remaining after.remaining piece) where
+        all_given : after.given ≡ source.given ++ (way.pieces ++ piece ∷ [])
+        all_given = given_more source.given mid.given after.given way.pieces piece way.given_is given_is
 
         all_joined : concat (way.pieces ++ piece ∷ []) ≡ way.bytes ++ piece
         all_joined = concat_more way.pieces piece ∙ ap (λ l. l ++ piece) way.joined
 
-        all_consumed : Consumes remaining left' (way.bytes ++ piece)
-        all_consumed = Consumes-trans remaining left left' way.bytes piece way.consumed consumed
+        all_consumed : Consumes source.remaining after.remaining (way.bytes ++ piece)
+        all_consumed = Consumes-trans source.remaining mid.remaining after.remaining way.bytes piece way.consumed consumed
 
         -- the piece came to an error
-        pub stopped_by_piece : (next : C) (error : Error) → stops first error (way.bytes ++ piece) next → IsErrorOfPiece error → IsStopped goes_on stops first next error given after remaining left'
+        pub stopped_by_piece : (next : C) (error : Error) → stops first error (way.bytes ++ piece) next → IsErrorOfPiece error → IsStopped goes_on stops first next error source after
         stopped_by_piece next error h own = record {
           pieces = way.pieces ++ piece ∷ [];
           bytes = way.bytes ++ piece;
@@ -83,7 +84,7 @@ module _ {C : Type 0} (goes_on : C → List ℕ → C → Type 0) (stops : C →
           all_spelled = spell_more way.pieces way.bytes piece some way.spelled
 
           -- the answer is still open
-          pub under_way_more : (next : C) → goes_on first (way.bytes ++ piece) next → IsUnderWay goes_on first next given after remaining left' (reads + 1)
+          pub under_way_more : (next : C) → goes_on first (way.bytes ++ piece) next → IsUnderWay goes_on first next source after (reads + 1)
           under_way_more next goes = record {
             pieces = way.pieces ++ piece ∷ [];
             bytes = way.bytes ++ piece;
@@ -97,11 +98,11 @@ module _ {C : Type 0} (goes_on : C → List ℕ → C → Type 0) (stops : C →
             left_open = goes;
           }
 
-          pub still_open : {A : Type 0} (answers : C → A → List (List ℕ) → C → Type 0) (next : C) (came : Option A) → came ≡ None → ComesByPiece goes_on answers stops first way.bytes piece next (Ok came) → IsUnderWay goes_on first next given after remaining left' (reads + 1)
+          pub still_open : {A : Type 0} (answers : C → A → List (List ℕ) → C → Type 0) (next : C) (came : Option A) → came ≡ None → ComesByPiece goes_on answers stops first way.bytes piece next (Ok came) → IsUnderWay goes_on first next source after (reads + 1)
           still_open answers next came is h = under_way_more next (subst (λ o. ComesByPiece goes_on answers stops first way.bytes piece next (Ok o)) is h)
 
           -- the piece came to the answer
-          pub answered_by_piece : {A : Type 0} (answers : C → A → List (List ℕ) → C → Type 0) (next : C) (came : Option A) (answer : A) → came ≡ Some answer → ComesByPiece goes_on answers stops first way.bytes piece next (Ok came) → IsAnswered goes_on answers first next answer given after remaining
+          pub answered_by_piece : {A : Type 0} (answers : C → A → List (List ℕ) → C → Type 0) (next : C) (came : Option A) (answer : A) → came ≡ Some answer → ComesByPiece goes_on answers stops first way.bytes piece next (Ok came) → IsAnswered goes_on answers first next answer source after
           answered_by_piece answers next came answer is h = record {
             before = way.pieces;
             last = piece;
@@ -112,35 +113,35 @@ module _ {C : Type 0} (goes_on : C → List ℕ → C → Type 0) (stops : C →
             between = now;
             left_open = way.left_open;
             answered = subst (λ o. ComesByPiece goes_on answers stops first way.bytes piece next (Ok o)) is h (way.pieces ++ piece ∷ []) all_spelled;
-            known = at_front (way.pieces ++ piece ∷ []) remaining left' (way.bytes ++ piece) all_consumed
+            known = at_front (way.pieces ++ piece ∷ []) source.remaining after.remaining (way.bytes ++ piece) all_consumed
                 (λ more. subst (λ ps. MayBeBy ps ((way.bytes ++ piece) ++ more)) (append-nil (way.pieces ++ piece ∷ [])) (all_spelled.led [] more tt));
           }
 
       -- the end was read
-      module _ (buf : List ℕ) (n : ℕ) (none : n ≡ 0) (given_is : after ≡ mid ++ take n buf ∷ []) (consumed : Consumes left left' (take n buf)) where
+      module _ (buf : List ℕ) (n : ℕ) (none : n ≡ 0) (given_is : after.given ≡ mid.given ++ take n buf ∷ []) (consumed : Consumes mid.remaining after.remaining (take n buf)) where
         no_byte : take n buf ≡ []
         no_byte = ap (λ m. take m buf) none
 
-        pub stopped_by_end : {A : Type 0} (answers : C → A → List (List ℕ) → C → Type 0) (next : C) (result : Result A Error) → ComesByEnd answers stops first way.bytes next result → IfErr result (λ error. IsStopped goes_on stops first next error given after remaining left')
+        pub stopped_by_end : {A : Type 0} (answers : C → A → List (List ℕ) → C → Type 0) (next : C) (result : Result A Error) → ComesByEnd answers stops first way.bytes next result → IfErr result (λ error. IsStopped goes_on stops first next error source after)
         stopped_by_end answers next (Ok answer) h = tt
         stopped_by_end answers next (Err error) h =
             let same : way.bytes ≡ way.bytes ++ take n buf = sym (ap (λ l. way.bytes ++ l) no_byte ∙ append-nil way.bytes) in
             stopped_by_piece (take n buf) given_is consumed next error (subst (λ l. stops first error l next) same h.0) h.1
 
-        pub answered_by_end : {A : Type 0} (answers : C → A → List (List ℕ) → C → Type 0) (next : C) (result : Result A Error) → IsAtEnd left' → ComesByEnd answers stops first way.bytes next result → IfOk result (λ answer. IsAnswered goes_on answers first next answer given after remaining)
+        pub answered_by_end : {A : Type 0} (answers : C → A → List (List ℕ) → C → Type 0) (next : C) (result : Result A Error) → IsAtEnd after.remaining → ComesByEnd answers stops first way.bytes next result → IfOk result (λ answer. IsAnswered goes_on answers first next answer source after)
         answered_by_end answers next (Err error) at_end h = tt
         answered_by_end answers next (Ok answer) at_end h = record {
           before = way.pieces;
           last = [];
-          given_is = given_more given mid after way.pieces [] way.given_is (given_is ∙ ap (λ l. mid ++ l ∷ []) no_byte);
+          given_is = given_more source.given mid.given after.given way.pieces [] way.given_is (given_is ∙ ap (λ l. mid.given ++ l ∷ []) no_byte);
           short = omega arith;
           bytes = way.bytes;
           spelled = way.spelled;
           between = now;
           left_open = way.left_open;
           answered = h way.pieces way.spelled;
-          known = at_job (way.pieces ++ [] ∷ []) remaining way.bytes (subst (MayBeBy (way.pieces ++ [] ∷ [])) (append-nil way.bytes) (way.spelled.led ([] ∷ []) [] refl))
-              (all_read remaining left left' way.bytes buf n way.consumed consumed none at_end);
+          known = at_job (way.pieces ++ [] ∷ []) source.remaining way.bytes (subst (MayBeBy (way.pieces ++ [] ∷ [])) (append-nil way.bytes) (way.spelled.led ([] ∷ []) [] refl))
+              (all_read source.remaining mid.remaining after.remaining way.bytes buf n way.consumed consumed none at_end);
         }
 
 -- ---- what an answer or a stop gives
@@ -160,6 +161,10 @@ by_whose Open Stops P Read h read turns own = read h
 by_whose Open Stops P Write h read turns own = own Write h
 by_whose Open Stops P Turns h read turns own = turns h
 by_whose Open Stops P NoProfile h read turns own = absurd h
+
+-- no error is that of an empty fleet
+pub never_none : (Open : Type 0) (Stops : Error → Type 0) (e : Error) → StopsBy Open Stops e → e ≢ NoProfile
+never_none Open Stops e h = λ is. subst (StopsBy Open Stops) is h
 
 -- an error that is not of the reads is none of theirs
 pub own_read : (Open : Type 0) (Stops : Error → Type 0) (e : Error) → StopsBy Open Stops e → StopsBy Open (λ e. Stops e × (e ≡ Read → ⊥)) e

@@ -1,23 +1,23 @@
 -- What the reads of a job came to for a session to which nothing was fed.
-use Rattle.std.proofs.Common.{◌≡◌, ◌≢◌, ℕ, List, [], ◌∷◌, ◌++◌, subst, Option, Result, Ok, Err, IfOk, IfErr, IfSome}
-use Rattle.std.specs.Prelude.{IsErrOf}
+use Rattle.std.proofs.Common.{◌≡◌, ◌≢◌, ℕ, List, [], ◌∷◌, ◌++◌, subst, Result, Ok, Err, IfOk, IfErr, IfSome}
 use Rattle.std.proofs.lemmas.Result.{IfOk-weaker}
 use Rattle.device_profile.specs.Printer.{Printer}
 use Rattle.preflight.specs.declared.error.Error.{Error}
-use Rattle.preflight.specs.declared.error.Error.TheVariants.{Memory, Read, Write, Turns, NoProfile}
-use Rattle.preflight.specs.Pieces.{ByReads}
+use Rattle.preflight.specs.declared.error.Error.TheVariants.{Memory, Write}
+use Rattle.streams.specs.Pieces.{ByReads}
+use Rattle.streams.specs.Source.{SourceState}
 use Rattle.preflight.specs.Session.{SessionState, ChecksOn, HasChecked, IsJudged, IsOutOfMemory}
 use Rattle.preflight.specs.Verdict.{IsExact, KeepsPromise, NeedsEachRead}
 use Rattle.preflight.specs.Carriers.Driving.{IsAnswered, IsStopped, StopsBy}
-use Rattle.preflight.proofs.PieceLemmas.{known_by}
+use Rattle.streams.proofs.Pieces.{known_by}
 use Rattle.preflight.proofs.Sessions.{opened}
 use Rattle.preflight.proofs.StillOpen.{leaves_open}
 use Rattle.verdict.specs.declared.verdict.Verdict.{Verdict}
 
 -- a fact by the reads is one of a job that was known
-pub known_ok : (old new : List (List ℕ)) (remaining : Option (List ℕ)) (P : List ℕ → Verdict → Type 0) (r : Result Verdict Error) → IfOk r (λ verdict. ByReads old new remaining (λ job. P job verdict)) → IfOk r (λ verdict. IfSome remaining (λ job. P job verdict))
-known_ok old new remaining P (Ok verdict) h = known_by old new remaining (λ job. P job verdict) h
-known_ok old new remaining P (Err e) h = tt
+pub known_ok : (old new : SourceState) (P : List ℕ → Verdict → Type 0) (r : Result Verdict Error) → IfOk r (λ verdict. ByReads old new (λ job. P job verdict)) → IfOk r (λ verdict. IfSome old.remaining (λ job. P job verdict))
+known_ok old new P (Ok verdict) h = known_by old new (λ job. P job verdict) h
+known_ok old new P (Err e) h = tt
 
 -- a session takes its pieces beside an outlet of nothing
 abbrev Beside : Type 0
@@ -32,20 +32,20 @@ Judges first verdict pieces now = IsJudged first.0 verdict pieces now.0
 abbrev Stops : Beside → Error → List ℕ → Beside → Type 0
 Stops first error bytes now = IsOutOfMemory first.0 error bytes now.0
 
-module _ (fleet : List Printer) (session now : Beside) (fresh : HasChecked fleet [] session.0) (old new : List (List ℕ)) (remaining : Option (List ℕ)) (r : Result Verdict Error) (h : IfOk r (λ verdict. IsAnswered Goes Judges session now verdict old new remaining)) where
+module _ (fleet : List Printer) (session now : Beside) (fresh : HasChecked fleet [] session.0) (old new : SourceState) (r : Result Verdict Error) (h : IfOk r (λ verdict. IsAnswered Goes Judges session now verdict old new)) where
   abbrev Answer : Verdict → Type 0
-  Answer verdict = IsAnswered Goes Judges session now verdict old new remaining
+  Answer verdict = IsAnswered Goes Judges session now verdict old new
 
-  pub exact : IfOk r (λ verdict. ByReads old new remaining (λ job. IsExact fleet job verdict))
-  exact = IfOk-weaker r Answer (λ verdict. ByReads old new remaining (λ job. IsExact fleet job verdict)) by h
+  pub exact : IfOk r (λ verdict. ByReads old new (λ job. IsExact fleet job verdict))
+  exact = IfOk-weaker r Answer (λ verdict. ByReads old new (λ job. IsExact fleet job verdict)) by h
     where
-      by : (verdict : Verdict) → Answer verdict → ByReads old new remaining (λ job. IsExact fleet job verdict)
+      by : (verdict : Verdict) → Answer verdict → ByReads old new (λ job. IsExact fleet job verdict)
       by verdict is = record { pieces = is.before ++ is.last ∷ []; given = is.given_is; each = λ job may. (is.answered.right fleet [] fresh job may).0; known = is.known }
 
-  pub headline : IfOk r (λ verdict. ByReads old new remaining (λ job. KeepsPromise fleet job verdict))
-  headline = IfOk-weaker r Answer (λ verdict. ByReads old new remaining (λ job. KeepsPromise fleet job verdict)) by h
+  pub headline : IfOk r (λ verdict. ByReads old new (λ job. KeepsPromise fleet job verdict))
+  headline = IfOk-weaker r Answer (λ verdict. ByReads old new (λ job. KeepsPromise fleet job verdict)) by h
     where
-      by : (verdict : Verdict) → Answer verdict → ByReads old new remaining (λ job. KeepsPromise fleet job verdict)
+      by : (verdict : Verdict) → Answer verdict → ByReads old new (λ job. KeepsPromise fleet job verdict)
       by verdict is = record { pieces = is.before ++ is.last ∷ []; given = is.given_is; each = λ job may. (is.answered.right fleet [] fresh job may).1; known = is.known }
 
   pub needed : IfOk r (λ _. NeedsEachRead fleet old new)
@@ -54,20 +54,20 @@ module _ (fleet : List Printer) (session now : Beside) (fresh : HasChecked fleet
       by : (verdict : Verdict) → Answer verdict → NeedsEachRead fleet old new
       by verdict is =
           let goes = is.left_open in
-          let carried = opened is.between.0 fleet is.bytes goes.is_open (goes.checked fleet [] fresh) in
+          let executed = opened is.between.0 fleet is.bytes goes.is_open (goes.checked fleet [] fresh) in
           record {
             before = is.before;
             last = is.last;
             given = is.given_is;
             short = is.short;
-            left_open = leaves_open fleet is.bytes is.between.0.lexer is.between.0.machines is.between.0.counts carried.0 goes.open_input is.before is.spelled goes.wants_more;
+            left_open = leaves_open fleet is.bytes is.between.0.lexer is.between.0.machines is.between.0.counts executed.0 goes.open_input is.before is.spelled goes.wants_more;
           }
 
 -- ---- where it stopped
 
-module _ (session now : Beside) (old new : List (List ℕ)) (remaining left : Option (List ℕ)) where
+module _ (session now : Beside) (old new : SourceState) where
   abbrev Stop : Error → Type 0
-  Stop error = IsStopped Goes Stops session now error old new remaining left
+  Stop error = IsStopped Goes Stops session now error old new
 
   not_write : (error : Error) → Stop error → error ≢ Write
   not_write error h is =

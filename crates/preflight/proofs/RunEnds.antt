@@ -22,19 +22,19 @@ IsCarriedOn P =
     (place : ℕ) (events : List Event) (peaks : Peaks) (ending : Ending) (next : State → JobRun) → ((s : State) → P (next s)) →
     P (ended_item place events peaks ending next)
 
-module _ (P : JobRun → Type 0) (carried_on : IsCarriedOn P) (last : (s : State) → P (at_end s)) (printer : Printer) where
+module _ (P : JobRun → Type 0) (executed_on : IsCarriedOn P) (last : (s : State) → P (at_end s)) (printer : Printer) where
   of_items : (defaults : Settings) (finally : Store → State → JobRun) → ((macros : Store) (s : State) → P (finally macros s)) →
       (items : List Placed) (macros : Store) (s : State) → P (items_run printer defaults finally items macros s)
   of_items defaults finally h [] macros s = h macros s
   of_items defaults finally h (x ∷ items) macros s =
       let r : Run = job_item_run (with_macros printer defaults macros) x.item s in
       let next : Store = macros_after s.settings.job.macro_id x.item macros in
-      carried_on x.place r.events r.peaks r.ending (items_run printer defaults finally items next) (of_items defaults finally h items next)
+      executed_on x.place r.events r.peaks r.ending (items_run printer defaults finally items next) (of_items defaults finally h items next)
 
   of_end : (defaults : Settings) (place : ℕ) (macros : Store) (s : State) → P (end_run printer defaults place macros s)
   of_end defaults place macros s =
       let r : Run = job_end_run (with_macros printer defaults macros) s in
-      carried_on place r.events r.peaks r.ending at_end last
+      executed_on place r.events r.peaks r.ending at_end last
 
   pub of_every_run : (flags : Flags) (panel : Panel) (reading : Reading) → P (run_from printer flags panel reading)
   of_every_run flags panel (Whole items place) =

@@ -4,16 +4,16 @@ use Rattle.std.proofs.lemmas.List.{take_rest}
 use Rattle.pcl_items.specs.LexerState.{WantsMore}
 use Rattle.pcl_items.specs.Lexing.{MayBe}
 use Rattle.device_profile.specs.Printer.{Printer}
-use Rattle.preflight.specs.declared.session.Standing.{Standing}
-use Rattle.preflight.specs.declared.session.Standing.TheVariants.{Open, Judged, Stopped}
-use Rattle.preflight.specs.Pieces.{MayBeBy, Spell}
+use Rattle.preflight.specs.declared.standing.Standing.{Standing}
+use Rattle.preflight.specs.declared.standing.Standing.TheVariants.{Open, Judged, Stopped}
+use Rattle.streams.specs.Pieces.{MayBeBy, Spell}
 use Rattle.preflight.specs.declared.error.Error.{Error}
 use Rattle.preflight.specs.declared.error.Error.TheVariants.{Memory, Turns}
-use Rattle.preflight.specs.Carriers.Driving.{ComesByEnd, ComesByPiece}
+use Rattle.preflight.specs.Carriers.Driving.{ComesByEnd, ComesByPiece, IsErrorOfPiece}
 use Rattle.preflight.specs.Session.{SessionState, ChecksTo, HasChecked, ChecksOn, IsJudged, IsOutOfMemory}
 use Rattle.preflight.specs.Verdict.{IsExact, KeepsPromise}
-use Rattle.preflight.specs.Carriers.Checking.{HasCarriedOut}
-use Rattle.preflight.proofs.PieceLemmas.{spell_more, spell_none}
+use Rattle.preflight.specs.Carriers.Checking.{HasExecuted}
+use Rattle.streams.proofs.Pieces.{spell_more, spell_none}
 use Rattle.preflight.proofs.Promises.{FailsSay, keeps_failing}
 use Rattle.verdict.specs.Failing.{failing}
 use Rattle.verdict.specs.declared.failure.Failure.{Failure}
@@ -32,13 +32,13 @@ checks_on_none session is open_input wanted = record {
 }
 
 -- what stands behind a session that is open
-pub opened : (session : SessionState) (fleet : List Printer) (bytes : List ℕ) → session.standing ≡ Open → HasChecked fleet bytes session → HasCarriedOut fleet bytes session.lexer session.machines session.counts × (session.total ≡ length bytes)
+pub opened : (session : SessionState) (fleet : List Printer) (bytes : List ℕ) → session.standing ≡ Open → HasChecked fleet bytes session → HasExecuted fleet bytes session.lexer session.machines session.counts × (session.total ≡ length bytes)
 opened session fleet bytes is checked = subst (λ s. ChecksTo s fleet bytes session) is checked
 
 module _ (first old new : SessionState) (bytes : List ℕ) (goes : ChecksOn first bytes old) where
   -- one more piece is checked
   pub checks_more : (piece : List ℕ) → new.standing ≡ Open → new.total ≡ old.total + length piece → new.lexer.ended ≡ false → WantsMore new.lexer
-      → ((fleet : List Printer) (base : List ℕ) → HasCarriedOut fleet base old.lexer old.machines old.counts → HasCarriedOut fleet (base ++ piece) new.lexer new.machines new.counts)
+      → ((fleet : List Printer) (base : List ℕ) → HasExecuted fleet base old.lexer old.machines old.counts → HasExecuted fleet (base ++ piece) new.lexer new.machines new.counts)
       → ChecksOn first (bytes ++ piece) new
   checks_more piece is total_is open_input wanted more = record {
     is_open = is;
@@ -54,7 +54,7 @@ module _ (first old new : SessionState) (bytes : List ℕ) (goes : ChecksOn firs
 
   -- or the job fails, whatever follows
   pub judged_by_piece : FailsSay → (piece : List ℕ) (failure : Failure) (verdict : Verdict) → verdict ≡ failing failure → new.standing ≡ Judged verdict
-      → ((fleet : List Printer) (base : List ℕ) → HasCarriedOut fleet base old.lexer old.machines old.counts → (job : List ℕ) → MayBe false (base ++ piece) job → IsExact fleet job (failing failure))
+      → ((fleet : List Printer) (base : List ℕ) → HasExecuted fleet base old.lexer old.machines old.counts → (job : List ℕ) → MayBe false (base ++ piece) job → IsExact fleet job (failing failure))
       → (pieces : List (List ℕ)) → Spell pieces (bytes ++ piece) → IsJudged first verdict pieces new
   judged_by_piece says piece failure verdict is standing_is fails pieces spelled = record {
     standing_is = standing_is;
@@ -70,7 +70,7 @@ module _ (first old new : SessionState) (bytes : List ℕ) (goes : ChecksOn firs
 
   -- the end came
   pub judged_at_end : (verdict : Verdict) → new.standing ≡ Judged verdict
-      → ((fleet : List Printer) (base : List ℕ) → HasCarriedOut fleet base old.lexer old.machines old.counts → old.total ≡ length base → IsExact fleet base verdict × KeepsPromise fleet base verdict)
+      → ((fleet : List Printer) (base : List ℕ) → HasExecuted fleet base old.lexer old.machines old.counts → old.total ≡ length base → IsExact fleet base verdict × KeepsPromise fleet base verdict)
       → (pieces : List (List ℕ)) → Spell pieces bytes → IsJudged first verdict (pieces ++ [] ∷ []) new
   judged_at_end verdict standing_is finishes pieces spelled = record {
     standing_is = standing_is;
@@ -163,5 +163,9 @@ still_judged session piece verdict is fleet bytes h =
     (λ job may. known job (piece ++ may.0, may.1 ∙ append_assoc bytes piece may.0, λ e. absurd cc))
 
 -- a session that was begun
-pub session_begun : (session : SessionState) (fleet : List Printer) → session.standing ≡ Open → session.total ≡ 0 → HasCarriedOut fleet [] session.lexer session.machines session.counts → HasChecked fleet [] session
-session_begun session fleet is none carried = subst (λ s. ChecksTo s fleet [] session) (sym is) (carried, none)
+pub session_begun : (session : SessionState) (fleet : List Printer) → session.standing ≡ Open → session.total ≡ 0 → HasExecuted fleet [] session.lexer session.machines session.counts → HasChecked fleet [] session
+session_begun session fleet is none executed = subst (λ s. ChecksTo s fleet [] session) (sym is) (executed, none)
+
+-- the error that a session stopped with is want of memory
+pub out_of_memory : (standing : Standing) (error : Error) → standing ≡ Stopped error → error ≡ Memory → ((error ≡ Memory) × (standing ≡ Stopped Memory)) × IsErrorOfPiece error
+out_of_memory standing error is memory = ((memory, is ∙ ap Stopped memory), subst IsErrorOfPiece (sym memory) tt)

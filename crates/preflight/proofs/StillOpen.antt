@@ -1,5 +1,5 @@
 -- Bytes that decide no further item and no fault leave the verdict open: they go on in two ways.
-use Rattle.std.proofs.Common.{◌≡◌, ◌+◌, ◌≤◌, ◌<◌, ℕ, Bool, true, false, List, Option, None, Some, [], ◌∷◌, ◌++◌, length, refl, ap, sym, ◌∙◌, subst, append-nil, arith}
+use Rattle.std.proofs.Common.{◌≡◌, ◌+◌, ◌≤◌, ◌<◌, ℕ, Bool, true, false, List, Option, None, Some, [], ◌∷◌, ◌++◌, refl, ap, sym, ◌∙◌, subst, append-nil, arith}
 use Rattle.pcl_items.specs.declared.fault.Cause.{Cause}
 use Rattle.pcl_items.specs.declared.fault.Cause.TheVariants.{NotInProfile}
 use Rattle.pcl_items.specs.declared.fault.Name.TheVariants as names
@@ -23,9 +23,9 @@ use Rattle.sinks.specs.declared.counts.Counts.{Counts}
 use Rattle.verdict.specs.declared.reason.Reason.TheVariants.{Fault as FaultOfBytes}
 use Rattle.verdict.specs.declared.verdict.Verdict.{Verdict}
 use Rattle.verdict.specs.declared.verdict.Verdict.TheVariants.{Fail}
-use Rattle.preflight.specs.Pieces.{MayBeBy, Spell}
+use Rattle.streams.specs.Pieces.{MayBeBy, Spell}
 use Rattle.preflight.specs.Verdict.{IsExact, IsFirst, LeavesOpen, verdict_of}
-use Rattle.preflight.specs.Carriers.Checking.{HasCarriedOut}
+use Rattle.preflight.specs.Carriers.Checking.{HasExecuted}
 use Rattle.preflight.proofs.Answered.{is_all}
 use Rattle.preflight.proofs.Completed.{item_takes}
 use Rattle.preflight.proofs.FaultVerdicts.{stops_there}
@@ -94,7 +94,7 @@ byte_1 (Numbered x gap n) ends = absurd ends
 pub behind_whole : (c : Context) (rest more : List ℕ) (cause : Cause) → rest ≡ [] → IsFault true (first_of true c more) c more cause → IsFault true (first_of true c (rest ++ more)) c (rest ++ more) cause
 behind_whole c rest more cause f h = subst (λ (l : List ℕ). IsFault true (first_of true c (l ++ more)) c (l ++ more) cause) (sym f) h
 
-module _ (fleet : List Printer) (bytes : List ℕ) (lexer : LexerState) (machines : List MachineState) (counts : Counts) (carried : HasCarriedOut fleet bytes lexer machines counts) (goes_on : lexer.ended ≡ false) where
+module _ (fleet : List Printer) (bytes : List ℕ) (lexer : LexerState) (machines : List MachineState) (counts : Counts) (executed : HasExecuted fleet bytes lexer machines counts) (goes_on : lexer.ended ≡ false) where
   abbrev place_here : ℕ
   place_here = item_place lexer.context lexer.place
 
@@ -103,12 +103,12 @@ module _ (fleet : List Printer) (bytes : List ℕ) (lexer : LexerState) (machine
   fault_behind more cause fault =
       let all : List ℕ = bytes ++ more in
       let behind : LexerState = record { rest = lexer.rest ++ more; place = lexer.place; context = lexer.context; ended = true; held = 0 } in
-      let reads : HasRead behind all carried.items = record { reads = grows true more goes_on carried.reads.reads } in
-      let reading : Reading = Stopped carried.items place_here cause in
+      let reads : HasRead behind all executed.items = record { reads = grows true more goes_on executed.reads.reads } in
+      let reading : Reading = Stopped executed.items place_here cause in
       let there : IsReadFrom Pcl 0 all reading = record { last = lexer.context; end = lexer.place; rest = lexer.rest ++ more; reads = reads.reads; at_end = refl; fault = fault } in
       let is : IsReading all reading = (read_by_rules all reading).sound there in
       bytes_faulty fleet all behind machines counts
-      (record { some = carried.some; items = carried.items; reads = reads; done = carried.done; agreed = carried.agreed; counts_are = carried.counts_are; along = carried.along })
+      (record { some = executed.some; items = executed.items; reads = reads; done = executed.done; agreed = executed.agreed; counts_are = executed.counts_are; along = executed.along })
       true place_here cause
       (λ job may. subst (λ (j : List ℕ). IsReading j reading) (sym (may.1 ∙ ap (λ rest. all ++ rest) (may.2 refl) ∙ append-nil all)) is)
       all (is_all true all)
@@ -132,9 +132,9 @@ module _ (fleet : List Printer) (bytes : List ℕ) (lexer : LexerState) (machine
         let fault = subst (λ (f : First). IsFault true f lexer.context (lexer.rest ++ more) r.cause) (sym r.is) refl in
         let stops = stops_here r.cause (is_fault more r.cause fault) bytes (subst (λ (l : List ℕ). IsExact fleet l verdict) (append-nil bytes) (known [])) in
         let end = open_end lexer.context lexer.place lexer.rest ending in
-        let all = read_behind end.reading (closes carried.reads.reads) end.read in
-        let last = one_only bytes (with_items carried.items end.reading) (Stopped stops.0 place_here r.cause) all stops.1 in
-        r.other (behind_end carried.items end.reading end.at_end stops.0 place_here r.cause last)
+        let all = read_behind end.reading (closes executed.reads.reads) end.read in
+        let last = one_only bytes (with_items executed.items end.reading) (Stopped stops.0 place_here r.cause) all stops.1 in
+        r.other (behind_end executed.items end.reading end.at_end stops.0 place_here r.cause last)
 
     -- they may go on to an item, and end with a fault there, or with none, and then with this or that byte
     not_completed : (more : List ℕ) (entry : Entry) (len : ℕ) (next : Context) → first_of true lexer.context (lexer.rest ++ more) ≡ Begins entry len next → first_of true lexer.context lexer.rest ≡ Open → ⊥
@@ -145,7 +145,7 @@ module _ (fleet : List Printer) (bytes : List ℕ) (lexer : LexerState) (machine
             let ends : IsFault true (first_of true lexer.context lexer.rest) lexer.context lexer.rest cause = subst (λ (f : First). IsFault true f lexer.context lexer.rest cause) (sym is_open) at_end in
             let fault = subst (λ (l : List ℕ). IsFault true (first_of true lexer.context l) lexer.context l cause) (sym (append-nil lexer.rest)) ends in
             let stops = stops_here cause (is_fault [] cause fault) (bytes ++ more) (known more) in
-            no_stop (bytes ++ more) carried.items stops.0 lexer.context lexer.place (lexer.rest ++ more) entry len next cause (item_takes lexer.context lexer.rest more entry len next is_open e lexer.place) (grows true more goes_on carried.reads.reads) e stops.1
+            no_stop (bytes ++ more) executed.items stops.0 lexer.context lexer.place (lexer.rest ++ more) entry len next cause (item_takes lexer.context lexer.rest more entry len next is_open e lexer.place) (grows true more goes_on executed.reads.reads) e stops.1
         by_end None at_end =
             let whole = whole_end lexer.context lexer.rest at_end in
             let by_0 = is_fault (0 ∷ []) (NotInProfile (names.Byte 0)) (behind_whole lexer.context lexer.rest (0 ∷ []) (NotInProfile (names.Byte 0)) whole.1 (byte_0 lexer.context whole.0)) in

@@ -59,7 +59,7 @@ fails_at_the_fault : reading_outcome (reading_of page_length) ≡ Fail 7 0 (Faul
 unfolding first_of after_escape after_introducer after_parenthesis command_in without_group field_at amount_of read_on reading_of digits
 fails_at_the_fault = refl
 
--- the usual wrapping, each line in its one spelling
+-- the usual wrapping, each line in its canonical spelling
 plain_lines : plain_text (reading_of (exit_text ++ codes "@PJL JOB NAME=\"x\"" ++ 13 ∷ 10 ∷ codes "@PJL ENTER LANGUAGE = PCL" ++ 13 ∷ 10 ∷ escape ∷ 69 ∷ exit_text))
     ≡ exit_text ++ codes "@PJL JOB NAME=\"x\"\n@PJL ENTER LANGUAGE=PCL\n" ++ escape ∷ 69 ∷ exit_text
 unfolding first_of after_escape read_on reading_of at_line line_of trimmed in_words is_word past_part parts_behind is_language

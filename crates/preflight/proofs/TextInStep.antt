@@ -29,7 +29,7 @@ use Rattle.sinks.specs.Counts.{counts_after, no_counts}
 use Rattle.preflight.specs.Carriers.Each.{Each}
 use Rattle.preflight.specs.Carriers.Lockstep.{Execute, AreRunning, AreIn, Does, GoesAlike}
 use Rattle.preflight.specs.Carriers.TextInStep.{GoOnAll, PrintInStep}
-use Rattle.preflight.specs.Carriers.Checking.{Along, HasCarriedOut}
+use Rattle.preflight.specs.Carriers.Checking.{Along, HasExecuted}
 use Rattle.preflight.proofs.Answered.{running_on, in_next}
 use Rattle.preflight.proofs.Printers.{done_item, along_more}
 use Rattle.preflight.proofs.Fleets.{each_along, each_push, agreed_more, counts_more}
@@ -175,9 +175,9 @@ pub changed_all : {X : Type 0} (P : X → X → Type 0) (i : ℕ) (old new : Lis
 changed_all P i old new h end =
     subst (λ (l : List _). Each P l new) (take_all i old (omega (arith, end, h.0))) (subst (λ (l : List _). Each P (take i old) l) (take_all i new end) h.2)
 
--- ---- what was carried out behind bytes of text
+-- ---- what was executed behind bytes of text
 
--- items that were carried out on each printer of a fleet, wherever they were read
+-- items that were executed on each printer of a fleet, wherever they were read
 record CarriedItems (fleet : List Printer) (items : List Placed) (machines : List MachineState) (counts : Counts) : Type 0 where
   done : List ItemRun
   agreed : AllByRecursion (λ item. item.finding ≡ None) done
@@ -202,14 +202,14 @@ module _ (fleet : List Printer) where
       subst (λ l. CarriedItems fleet l machines' counts') (append_assoc items (at place (Text code) ∷ []) (text_items (place + 1) codes))
       (items_on codes (items ++ at place (Text code) ∷ []) (place + 1) step.0 machines' step.1 counts' (item_on items place code machines step.0 counts step.1 h step.2) step.3)
 
-  pub text_done : (bytes codes : List ℕ) (old new : LexerState) (machines machines' : List MachineState) (counts counts' : Counts) → Passes old codes new → PrintInStep codes machines machines' counts counts' → HasCarriedOut fleet bytes old machines counts → HasCarriedOut fleet bytes new machines' counts'
-  text_done bytes codes old new machines machines' counts counts' passes step carried =
-      let h : CarriedItems fleet (carried.items ++ text_items old.place codes) machines' counts' =
-      items_on codes carried.items old.place machines machines' counts counts' (record { done = carried.done; agreed = carried.agreed; counts_are = carried.counts_are; along = carried.along }) step in
+  pub text_done : (bytes codes : List ℕ) (old new : LexerState) (machines machines' : List MachineState) (counts counts' : Counts) → Passes old codes new → PrintInStep codes machines machines' counts counts' → HasExecuted fleet bytes old machines counts → HasExecuted fleet bytes new machines' counts'
+  text_done bytes codes old new machines machines' counts counts' passes step executed =
+      let h : CarriedItems fleet (executed.items ++ text_items old.place codes) machines' counts' =
+      items_on codes executed.items old.place machines machines' counts counts' (record { done = executed.done; agreed = executed.agreed; counts_are = executed.counts_are; along = executed.along }) step in
       record {
-        some = carried.some;
-        items = carried.items ++ text_items old.place codes;
-        reads = passes.reads bytes carried.items carried.reads;
+        some = executed.some;
+        items = executed.items ++ text_items old.place codes;
+        reads = passes.reads bytes executed.items executed.reads;
         done = h.done;
         agreed = h.agreed;
         counts_are = h.counts_are;

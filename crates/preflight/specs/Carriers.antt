@@ -5,7 +5,7 @@ pub mod Lockstep
 pub mod TextInStep
 pub mod Checking
 pub mod Driving
-pub mod Telling
-pub mod Told
-pub mod PageTelling
+pub mod Rendering
+pub mod Rendered
+pub mod PageRendering
 pub mod Rooms

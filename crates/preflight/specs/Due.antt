@@ -1,5 +1,5 @@
 -- What was written of a job, against the text that is due.
-use Rattle.std.specs.Prelude.{◌≡◌, ℕ, List, [], ◌++◌, Option, false}
+use Rattle.std.specs.Prelude.{◌≡◌, ◌≢◌, ◌+◌, ◌^◌, ◌≤◌, ℕ, List, [], ◌++◌, length, false, Result, IfOk, IfErr, IsErrOf}
 use Rattle.std.specs.List.{concat}
 use Rattle.std.specs.Io.KnownBytes.{Consumes}
 use Rattle.pcl_items.specs.declared.fault.Cause.{Cause}
@@ -8,54 +8,76 @@ use Rattle.pcl_items.specs.Lexing.{Decides, Undecided}
 use Rattle.pcl_items.specs.Reading.{Reading, Stopped, IsReading}
 use Rattle.device_profile.specs.declared.panel.Panel.{Panel}
 use Rattle.device_profile.specs.Printer.{Printer}
+use Rattle.preflight.specs.declared.error.Error.{Error}
+use Rattle.preflight.specs.declared.error.Error.TheVariants.{Read, Turns, NoProfile}
 use Rattle.preflight.specs.declared.outcome.Outcome.{Outcome}
-use Rattle.preflight.specs.Outlet.{Written, Adds, AddsFront}
+use Rattle.preflight.specs.Errors.{is_err_of_read, is_err_of_write}
+use Rattle.streams.specs.Outlet.{OutletState, Adds, AddsFront}
 use Rattle.preflight.specs.PageTexts.{pages_text, pages_outcome}
-use Rattle.preflight.specs.Pieces.{ByReads}
+use Rattle.streams.specs.Pieces.{ByReads}
+use Rattle.streams.specs.Source.{SourceState}
 use Rattle.preflight.specs.Texts.{plain_text, list_text, reading_outcome}
 
 -- what is due to be written of a job by its reading, and what comes of it
-pub record Telling : Type 0 where
+pub record Rendering : Type 0 where
   pub text : Reading → List ℕ
   pub outcome : Reading → Outcome
 
 -- the text is what is due for the job's one reading, and the outcome is what comes of it
-abbrev pub IsDue : Telling → List ℕ → List ℕ → Outcome → Type 0
-IsDue telling job text outcome = (reading : Reading) × IsReading job reading × (text ≡ telling.text reading) × (outcome ≡ telling.outcome reading)
+abbrev pub IsDue : Rendering → List ℕ → List ℕ → Outcome → Type 0
+IsDue rendering job text outcome = (reading : Reading) × IsReading job reading × (text ≡ rendering.text reading) × (outcome ≡ rendering.outcome reading)
 
 -- A text was written, and nothing else, and of every job that may be by what the reads gave it is what is due.
-pub record WritesDue (telling : Telling) (given given' : List (List ℕ)) (remaining : Option (List ℕ)) (old new : Written) (outcome : Outcome) : Type 0 where
+pub record WritesDue (rendering : Rendering) (source source' : SourceState)
+    (outlet outlet' : OutletState) (outcome : Outcome) : Type 0 where
   pub text : List ℕ
-  pub adds : Adds old new text
-  pub due : ByReads given given' remaining (λ job. IsDue telling job text outcome)
+  pub adds : Adds outlet outlet' text
+  pub due : ByReads source source' (λ job. IsDue rendering job text outcome)
 
 -- Some front was written, and nothing else, of what is due for the bytes that the reads gave, taken as a whole job.
-pub record WritesFront (telling : Telling) (given given' : List (List ℕ)) (remaining remaining' : Option (List ℕ)) (old new : Written) : Type 0 where
+pub record WritesFront (rendering : Rendering) (source source' : SourceState)
+    (outlet outlet' : OutletState) : Type 0 where
   pub pieces : List (List ℕ)
-  pub given_is : given' ≡ given ++ pieces
-  pub consumed : Consumes remaining remaining' (concat pieces)
+  pub given_is : source'.given ≡ source.given ++ pieces
+  pub consumed : Consumes source.remaining source'.remaining (concat pieces)
   pub reading : Reading
   pub spelled : IsReading (concat pieces) reading
-  pub front : AddsFront old new (telling.text reading)
+  pub front : AddsFront outlet outlet' (rendering.text reading)
 
 -- All that is due of the items was written, and nothing else, which the bytes that the reads gave decide: what is due of a job
 -- that stops behind them, but for what the fault itself adds.
-pub record WritesDecided (telling : Telling) (given given' : List (List ℕ)) (remaining remaining' : Option (List ℕ)) (old new : Written) : Type 0 where
+pub record WritesDecided (rendering : Rendering) (source source' : SourceState)
+    (outlet outlet' : OutletState) : Type 0 where
   pub pieces : List (List ℕ)
-  pub given_is : given' ≡ given ++ pieces
-  pub consumed : Consumes remaining remaining' (concat pieces)
+  pub given_is : source'.given ≡ source.given ++ pieces
+  pub consumed : Consumes source.remaining source'.remaining (concat pieces)
   pub items : List Placed
   pub decided : Decides false (concat pieces) items
   pub no_more : Undecided (concat pieces) items
   pub text : List ℕ
-  pub adds : Adds old new text
-  pub due : (place : ℕ) (cause : Cause) → telling.text (Stopped items place cause) ≡ text ++ telling.text (Stopped [] place cause)
+  pub adds : Adds outlet outlet' text
+  pub due : (place : ℕ) (cause : Cause) → rendering.text (Stopped items place cause) ≡ text ++ rendering.text (Stopped [] place cause)
 
-abbrev pub plain_telling : Telling
-plain_telling = record { text = plain_text; outcome = reading_outcome }
+-- What a call that writes a text of a job leaves, with this result. Of every job that may be by what
+-- the reads gave, the text was written that is due, and nothing else; after an error a front of what
+-- is due for the bytes that were read, and after a failed read all that these bytes decide. A read or
+-- a write has failed just where the error says so; `Turns` means 2^40 reads without an end.
+pub record Renders (rendering : Rendering) (source source' : SourceState)
+    (outlet outlet' : OutletState) (result : Result Outcome Error) : Type 0 where
+  pub written : IfOk result (WritesDue rendering source source' outlet outlet')
+  pub front : IfErr result (λ _. WritesFront rendering source source' outlet outlet')
+  pub decided : IsErrOf result Read → WritesDecided rendering source source' outlet outlet'
+  pub read : source'.failed ≡ is_err_of_read result
+  pub write : outlet'.failed ≡ is_err_of_write result
+  pub turns : IsErrOf result Turns → length source'.given ≡ length source.given + 2 ^ 40
+  pub long : IsErrOf result Turns → ByReads source source' (λ job. 2 ^ 40 ≤ length job)
+  pub never_no_profile : IfErr result (λ error. error ≢ NoProfile)
 
-abbrev pub list_telling : Telling
-list_telling = record { text = list_text; outcome = reading_outcome }
+abbrev pub plain_rendering : Rendering
+plain_rendering = record { text = plain_text; outcome = reading_outcome }
 
-abbrev pub pages_telling : Printer → Panel → Telling
-pages_telling printer panel = record { text = pages_text printer panel; outcome = pages_outcome printer panel }
+abbrev pub list_rendering : Rendering
+list_rendering = record { text = list_text; outcome = reading_outcome }
+
+abbrev pub pages_rendering : Printer → Panel → Rendering
+pages_rendering printer panel = record { text = pages_text printer panel; outcome = pages_outcome printer panel }

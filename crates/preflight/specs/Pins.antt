@@ -12,10 +12,10 @@ use Rattle.page_machine.specs.Pinning.{before, behind, is_due_behind}
 use Rattle.verdict.specs.declared.reason.Reason.TheVariants.{Unpinnable}
 use Rattle.preflight.specs.declared.outcome.Outcome.{Outcome}
 use Rattle.preflight.specs.declared.outcome.Outcome.TheVariants.{Fail}
-use Rattle.preflight.specs.Due.{Telling}
+use Rattle.preflight.specs.Due.{Rendering}
 use Rattle.preflight.specs.Texts.{reading_outcome}
 
--- an item, with what belongs before and behind it, each in its one spelling
+-- an item, with what belongs before and behind it, each in its canonical spelling
 abbrev pub pinned_item : Panel → FontRequest → Bool → Entry → List ℕ
 pinned_item panel request due item = flat_map canon (before panel request due item) ++ canon item ++ flat_map canon (behind panel item)
 
@@ -35,9 +35,9 @@ abbrev pub pinned_outcome : Reading → Outcome
 pinned_outcome reading = unpinnable_or (find (λ x. is_unpinnable x.item) (items_of reading)) (reading_outcome reading)
 
 -- a job that is pinned to a panel whose font has this request, where a prologue is due or not
-abbrev pub pins_from : Panel → FontRequest → Bool → Telling
+abbrev pub pins_from : Panel → FontRequest → Bool → Rendering
 pins_from panel request due = record { text = λ reading. pinned_text panel request due (items_of reading); outcome = pinned_outcome }
 
 -- a job that is pinned to a panel of a printer: at its start a prologue is due
-abbrev pub pinned_telling : Printer → Panel → Telling
-pinned_telling printer panel = pins_from panel (request_at printer.faces panel.font) true
+abbrev pub pinned_rendering : Printer → Panel → Rendering
+pinned_rendering printer panel = pins_from panel (request_at printer.faces panel.font) true

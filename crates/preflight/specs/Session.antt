@@ -5,14 +5,14 @@ use Rattle.pcl_items.specs.Lexing.{MayBe}
 use Rattle.device_profile.specs.Printer.{Printer}
 use Rattle.page_machine.specs.MachineState.{MachineState}
 use Rattle.sinks.specs.declared.counts.Counts.{Counts}
-use Rattle.preflight.specs.declared.session.Standing.{Standing}
-use Rattle.preflight.specs.declared.session.Standing.TheVariants.{Open, Judged, Stopped}
+use Rattle.preflight.specs.declared.standing.Standing.{Standing}
+use Rattle.preflight.specs.declared.standing.Standing.TheVariants.{Open, Judged, Stopped}
 use Rattle.preflight.specs.declared.error.Error.{Error}
 use Rattle.preflight.specs.declared.error.Error.TheVariants.{Memory}
 use Rattle.verdict.specs.declared.verdict.Verdict.{Verdict}
-use Rattle.preflight.specs.Pieces.{MayBeBy}
+use Rattle.streams.specs.Pieces.{MayBeBy}
 use Rattle.preflight.specs.Verdict.{IsExact, KeepsPromise}
-use Rattle.preflight.specs.Carriers.Checking.{HasCarriedOut}
+use Rattle.preflight.specs.Carriers.Checking.{HasExecuted}
 
 -- the lexer and the machines with their counts, how many bytes were fed, and how far it has come
 pub record SessionState : Type 0 where
@@ -22,10 +22,10 @@ pub record SessionState : Type 0 where
   pub total : ℕ
   pub standing : Standing
 
--- What the bytes so far came to: the items that were read of them were carried out on each printer, alike and without a finding; or
+-- What the bytes so far came to: the items that were read of them were executed on each printer, alike and without a finding; or
 -- this is the verdict on every job that begins with them.
 abbrev pub ChecksTo : Standing → List Printer → List ℕ → SessionState → Type 0
-ChecksTo Open fleet bytes session = HasCarriedOut fleet bytes session.lexer session.machines session.counts × (session.total ≡ length bytes)
+ChecksTo Open fleet bytes session = HasExecuted fleet bytes session.lexer session.machines session.counts × (session.total ≡ length bytes)
 ChecksTo (Judged verdict) fleet bytes session = (job : List ℕ) → MayBe false bytes job → IsExact fleet job verdict × KeepsPromise fleet job verdict
 ChecksTo (Stopped error) fleet bytes session = Unit {0}
 

@@ -13,7 +13,7 @@ abbrev pub reading_outcome : Reading → Outcome
 reading_outcome (Whole items place) = Done
 reading_outcome (Stopped items place cause) = Fail place 0 (Fault cause)
 
--- each item in its one spelling
+-- each item in its canonical spelling
 abbrev pub plain_text : Reading → List ℕ
 plain_text reading = flat_map (λ (x : Placed). canon x.item) (items_of reading)
 

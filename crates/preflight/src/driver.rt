@@ -1,12 +1,18 @@
 //! Reads a job in pieces, and hands them to what takes them.
 ghost use Rattle.std.specs.Prelude.{◌≡◌, ◌+◌, ◌<◌, ◌≤◌, ◌^◌, ℕ, List, [], length, IfOk, IfErr, IsErrOf, IsFalse};
 ghost use Rattle.preflight.specs.declared.error.Error.{Error};
-ghost use Rattle.preflight.specs.Pieces.{ByReads};
-ghost use Rattle.preflight.specs.Source.{is_err_of_read};
+ghost use Rattle.preflight.specs.Errors.{is_err_of_read};
+ghost use Rattle.streams.specs.Pieces.{ByReads};
 ghost use Rattle.preflight.specs.Carriers.Driving.{ComesByEnd, ComesByPiece, IsAnswered, IsStopped};
 
 use crate::error::Error;
-use crate::source::{MOST_READS, PIECE, Source};
+use streams::Source;
+
+/// So many bytes are asked for in one read.
+pub(crate) const PIECE: usize = 4096;
+
+/// After so many reads without an end no more are made.
+const MOST_READS: u64 = 1 << 40;
 
 /// What takes a job piece by piece, and then its end, and may write to an outlet meanwhile.
 pub trait Consumer<O> {
@@ -31,7 +37,8 @@ pub trait Consumer<O> {
         requires short { length piece.now ≤ 4096 }
         requires room { has_room (self.old, outlet.old) (length piece.now) }
         ensures { (first : Self × O) (bytes : List ℕ) → goes_on first bytes (self.old, outlet.old) →
-            ComesByPiece goes_on answers stops first bytes piece.now (self.new, outlet.new) result };
+            ComesByPiece goes_on answers stops first bytes piece.now
+            (self.new, outlet.new) result };
 
     /// Takes the end of the job.
     fn end(&mut self, outlet: &mut O) -> Result<Self::Answer, Error>
@@ -40,26 +47,34 @@ pub trait Consumer<O> {
             ComesByEnd answers stops first bytes (self.new, outlet.new) result };
 
     // Of the room that there was at first, the bytes leave the rest.
-    ghost leaves_room: { (first : Self × O) (bytes : List ℕ) (now : Self × O) (room more : ℕ) → has_room first room →
+    ghost leaves_room: { (first : Self × O) (bytes : List ℕ) (now : Self × O) (room more : ℕ) →
+        has_room first room →
         goes_on first bytes now → length bytes + more ≤ room → has_room now more };
 }
 
 /// Reads a job until there is an answer, or to its end. Nothing is read behind the answer.
 ///
-/// An error is that of the consumer, `Read` where a read failed, or `Turns` after 2^40 reads without an end.
+/// An error is that of the consumer, `Read` where a read failed, or `Turns` after 2^40 reads
+/// without an end.
 pub fn read_job<S: Source, O, C: Consumer<O>>(
     reader: &mut S,
     consumer: &mut C,
     outlet: &mut O,
 ) -> Result<C::Answer, Error>
-    requires working { IsFalse (S.failed reader.old) }
+    requires working { IsFalse (S.state reader.old).failed }
     requires room { C.has_room (consumer.old, outlet.old) (2 ^ 52) }
     requires fresh { C.goes_on (consumer.old, outlet.old) [] (consumer.old, outlet.old) }
-    ensures answered { IfOk result (λ answer. IsAnswered C.goes_on C.answers (consumer.old, outlet.old) (consumer.new, outlet.new) answer (S.given reader.old) (S.given reader.new) (S.remaining reader.old)) }
-    ensures stopped { IfErr result (λ error. IsStopped C.goes_on C.stops (consumer.old, outlet.old) (consumer.new, outlet.new) error (S.given reader.old) (S.given reader.new) (S.remaining reader.old) (S.remaining reader.new)) }
-    ensures read { S.failed reader.new ≡ is_err_of_read result }
-    ensures turns { IsErrOf result Error.Turns → length (S.given reader.new) ≡ length (S.given reader.old) + 2 ^ 40 }
-    ensures long { IsErrOf result Error.Turns → ByReads (S.given reader.old) (S.given reader.new) (S.remaining reader.old) (λ job. 2 ^ 40 ≤ length job) }
+    ensures answered { IfOk result (λ answer. IsAnswered C.goes_on C.answers
+        (consumer.old, outlet.old) (consumer.new, outlet.new) answer
+        (S.state reader.old) (S.state reader.new)) }
+    ensures stopped { IfErr result (λ error. IsStopped C.goes_on C.stops
+        (consumer.old, outlet.old) (consumer.new, outlet.new) error
+        (S.state reader.old) (S.state reader.new)) }
+    ensures read { (S.state reader.new).failed ≡ is_err_of_read result }
+    ensures turns { IsErrOf result Error.Turns →
+        length (S.state reader.new).given ≡ length (S.state reader.old).given + 2 ^ 40 }
+    ensures long { IsErrOf result Error.Turns →
+        ByReads (S.state reader.old) (S.state reader.new) (λ job. 2 ^ 40 ≤ length job) }
 {
     let mut piece = [0u8; PIECE];
     for _ in 0..MOST_READS {

@@ -1,12 +1,13 @@
 //! Text that is kept until there is enough of it to be written.
 ghost use Rattle.std.specs.Prelude.{◌≡◌, ◌<◌, [], IfErr, IsFalse, OnOk, is_err, length};
-ghost use Rattle.preflight.specs.Carriers.Telling.{Passes};
-ghost use Rattle.preflight.specs.Outlet.{Writes};
+ghost use Rattle.preflight.specs.Carriers.Rendering.{PutsKept};
+ghost use Rattle.preflight.specs.Writing.{Writes};
 ghost use Rattle.preflight.specs.declared.error.Error.TheVariants.{Write};
 
 use crate::error::Error;
-use crate::outlet::{Outlet, write_text};
+use crate::writing::write_text;
 use std::alloc::Allocator;
+use streams::Outlet;
 
 /// So many bytes of text are written at once.
 const ENOUGH: usize = 8192;
@@ -16,11 +17,11 @@ pub fn write_kept<W: Outlet, A: Allocator>(
     outlet: &mut W,
     kept: &mut Vec<u8, A>,
 ) -> Result<(), Error>
-    requires { IsFalse (W.failed outlet.old) }
-    ensures text { Writes (W.failed outlet.new) (W.written outlet.old) (W.written outlet.new) kept.old.items }
-    ensures kept { IsFalse (W.failed outlet.new) → kept.new.items ≡ [] }
+    requires { IsFalse (W.state outlet.old).failed }
+    ensures text { Writes (W.state outlet.old) (W.state outlet.new) kept.old.items }
+    ensures kept { IsFalse (W.state outlet.new).failed → kept.new.items ≡ [] }
     ensures err { IfErr result (λ error. error ≡ Write) }
-    ensures status { W.failed outlet.new ≡ is_err result }
+    ensures status { (W.state outlet.new).failed ≡ is_err result }
 {
     write_text(outlet, kept.as_slice())?;
     kept.clear();
@@ -32,11 +33,12 @@ pub fn write_enough<W: Outlet, A: Allocator>(
     outlet: &mut W,
     kept: &mut Vec<u8, A>,
 ) -> Result<(), Error>
-    requires { IsFalse (W.failed outlet.old) }
-    ensures text { Passes (W.written outlet.old) (W.written outlet.new) kept.old.items kept.new.items result }
+    requires { IsFalse (W.state outlet.old).failed }
+    ensures text { PutsKept (W.state outlet.old) (W.state outlet.new)
+        kept.old.items kept.new.items result }
     ensures few { OnOk result (length kept.new.items < 8192) }
     ensures err { IfErr result (λ error. error ≡ Write) }
-    ensures status { W.failed outlet.new ≡ is_err result }
+    ensures status { (W.state outlet.new).failed ≡ is_err result }
 {
     if kept.len() < ENOUGH {
         return Ok(());

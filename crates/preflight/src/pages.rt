@@ -1,25 +1,22 @@
 //! The pages of a job on one printer, from one panel.
-ghost use Rattle.std.specs.Prelude.{◌≡◌, ◌≢◌, ◌+◌, ◌^◌, ◌≤◌, length, IfOk, IfErr, IsErrOf, IsFalse, false};
+ghost use Rattle.std.specs.Prelude.{◌≡◌, IsFalse, false};
 ghost use Rattle.device_profile.specs.Printer.{IsAllowed};
-ghost use Rattle.preflight.specs.Carriers.PageTelling.{pages_from, TakesLine, RefusesLine};
-ghost use Rattle.preflight.specs.Carriers.Telling.{IsErrorOfTelling, Passes};
-ghost use Rattle.preflight.specs.Due.{WritesDecided, WritesDue, WritesFront, pages_telling};
-ghost use Rattle.preflight.specs.Outlet.{is_err_of_write, is_write};
-ghost use Rattle.preflight.specs.Pieces.{ByReads};
-ghost use Rattle.preflight.specs.Source.{is_err_of_read};
+ghost use Rattle.preflight.specs.Carriers.PageRendering.{pages_from, TakesLine, RefusesLine};
+ghost use Rattle.preflight.specs.Carriers.Rendering.{IsErrorOfRendering, PutsKept};
+ghost use Rattle.preflight.specs.Due.{Renders, pages_rendering};
+ghost use Rattle.preflight.specs.Errors.{is_err_of_write, is_write};
 
 use crate::error::Error;
 use crate::kept::write_enough;
 use crate::outcome::Outcome;
-use crate::outlet::Outlet;
-use crate::report::{Report, tell_job};
-use crate::source::Source;
+use crate::render::{Renderer, render_job};
 use device_profile::{Panel, Profile};
 use line_words::{push_mark, push_page};
 use page_env::{Finding, Mark, PageEnd};
 use page_machine::{Machine, MarkSink, Start, Stop};
 use pcl_items::{Item, LexFault, Place};
 use std::alloc::Allocator;
+use streams::{Outlet, Source};
 use verdict::Reason;
 
 /// Writes a line for each mark and for each end of a page.
@@ -34,9 +31,11 @@ struct PageText<'t, W: Outlet, A: Allocator> {
 impl<W: Outlet, A: Allocator> PageText<'_, W, A> {
     /// Writes the text that is kept, where there is enough of it.
     fn write_enough(&mut self) -> Result<(), Error>
-        ensures text { Passes (W.written self.old.outlet.now) (W.written self.new.outlet.now) self.old.kept.now.items self.new.kept.now.items result }
-        ensures status { W.failed self.new.outlet.now ≡ is_err_of_write result }
-        ensures same { (self.new.outlet.ghost_name ≡ self.old.outlet.ghost_name) × (self.new.kept.ghost_name ≡ self.old.kept.ghost_name) }
+        ensures text { PutsKept (W.state self.old.outlet.now) (W.state self.new.outlet.now)
+            self.old.kept.now.items self.new.kept.now.items result }
+        ensures status { (W.state self.new.outlet.now).failed ≡ is_err_of_write result }
+        ensures same { (self.new.outlet.ghost_name ≡ self.old.outlet.ghost_name)
+            × (self.new.kept.ghost_name ≡ self.old.kept.ghost_name) }
         ensures page { self.new.page ≡ self.old.page }
     {
         if self.outlet.has_failed() {
@@ -49,9 +48,9 @@ impl<W: Outlet, A: Allocator> PageText<'_, W, A> {
 impl<W: Outlet, A: Allocator> MarkSink for PageText<'_, W, A> {
     type Fault = Error;
 
-    ghost takes = { TakesLine W.failed W.written };
+    ghost takes = { TakesLine W.state };
 
-    ghost refuses = { RefusesLine W.written };
+    ghost refuses = { RefusesLine W.state };
 
     fn mark(&mut self, mark: &Mark<'_>) -> Result<(), Error> {
         push_mark(self.kept, mark)?;
@@ -65,7 +64,7 @@ impl<W: Outlet, A: Allocator> MarkSink for PageText<'_, W, A> {
     }
 }
 
-/// Carries out the items on a machine that knows the panel, and writes what they mark.
+/// Executes the items on a machine that knows the panel, and writes what they mark.
 #[derive(Drop)]
 struct Pages<'p, P: Allocator, B: Allocator + Copy> {
     machine: Machine<'p, P, B>,
@@ -75,8 +74,8 @@ struct Pages<'p, P: Allocator, B: Allocator + Copy> {
 
 /// Why a line was refused: the outlet failed, or else memory was refused.
 fn refusal<W: Outlet>(outlet: &W) -> Error
-    ensures status { W.failed outlet.now ≡ is_write result }
-    ensures error { IsErrorOfTelling result }
+    ensures status { (W.state outlet.now).failed ≡ is_write result }
+    ensures error { IsErrorOfRendering result }
 {
     if outlet.has_failed() {
         Error::Write
@@ -96,8 +95,8 @@ fn fails_at(place: Place, finding: Finding) -> Outcome
     }
 }
 
-impl<P: Allocator, B: Allocator + Copy> Report for Pages<'_, P, B> {
-    ghost telling = { λ pages. pages_from pages.machine pages.page };
+impl<P: Allocator, B: Allocator + Copy> Renderer for Pages<'_, P, B> {
+    ghost rendering = { λ pages. pages_from pages.machine pages.page };
 
     ghost is_in = { λ pages mode. (pages.machine.stopped ≡ false) × (pages.machine.mode ≡ mode) };
 
@@ -157,12 +156,12 @@ impl<P: Allocator, B: Allocator + Copy> Report for Pages<'_, P, B> {
     }
 }
 
-/// Writes the pages of a job on a printer from a panel that its profile allows: a line for each mark, in the order of
-/// the job, and one for the end of each page.
+/// Writes the pages of a job on a printer from a panel that its profile allows: a line for each
+/// mark, in the order of the job, and one for the end of each page.
 ///
-/// The first finding ends it, or else a fault of the bytes; what was marked before is then written. After an error a
-/// front of the text is written: `Memory` where the allocator refused a request, `Read` and `Write` where a read or a
-/// write failed, `Turns` after 2^40 reads without an end.
+/// The first finding ends it, or else a fault of the bytes; what was marked before is then written.
+/// After an error a front of the text is written: `Memory` where the allocator refused a request,
+/// `Read` and `Write` where a read or a write failed, `Turns` after 2^40 reads without an end.
 pub fn pages_of<S: Source, W: Outlet, A: Allocator + Copy, P: Allocator>(
     alloc: A,
     reader: &mut S,
@@ -170,26 +169,15 @@ pub fn pages_of<S: Source, W: Outlet, A: Allocator + Copy, P: Allocator>(
     panel: &Panel,
     writer: &mut W,
 ) -> Result<Outcome, Error>
-    requires reading { IsFalse (S.failed reader.old) }
-    requires writing { IsFalse (W.failed writer.old) }
+    requires reading { IsFalse (S.state reader.old).failed }
+    requires writing { IsFalse (W.state writer.old).failed }
     requires allowed { IsAllowed profile.now panel.now }
-
-    // Of every job that may be by what the reads gave, the events of its run from this panel were written, and nothing else.
-    ensures written { IfOk result (WritesDue (pages_telling profile.now panel.now) (S.given reader.old) (S.given reader.new) (S.remaining reader.old) (W.written writer.old) (W.written writer.new)) }
-    // After an error, a front of what is due for the bytes that were read.
-    ensures front { IfErr result (λ _. WritesFront (pages_telling profile.now panel.now) (S.given reader.old) (S.given reader.new) (S.remaining reader.old) (S.remaining reader.new) (W.written writer.old) (W.written writer.new)) }
-    // After a failed read, all that the bytes decide which were read.
-    ensures decided { IsErrOf result Error.Read → WritesDecided (pages_telling profile.now panel.now) (S.given reader.old) (S.given reader.new) (S.remaining reader.old) (S.remaining reader.new) (W.written writer.old) (W.written writer.new) }
-
-    ensures read { S.failed reader.new ≡ is_err_of_read result }
-    ensures write { W.failed writer.new ≡ is_err_of_write result }
-    ensures turns { IsErrOf result Error.Turns → length (S.given reader.new) ≡ length (S.given reader.old) + 2 ^ 40 }
-    ensures long { IsErrOf result Error.Turns → ByReads (S.given reader.old) (S.given reader.new) (S.remaining reader.old) (λ job. 2 ^ 40 ≤ length job) }
-    ensures never_no_profile { IfErr result (λ error. error ≢ Error.NoProfile) }
+    ensures { Renders (pages_rendering profile.now panel.now)
+        (S.state reader.old) (S.state reader.new) (W.state writer.old) (W.state writer.new) result }
 {
     let mut pages = Pages {
         machine: Machine::new(alloc, profile, Start::At(*panel)),
         page: 1,
     };
-    tell_job(alloc, reader, &mut pages, writer)
+    render_job(alloc, reader, &mut pages, writer)
 }

@@ -1,5 +1,5 @@
 //! Jobs that are pinned to one panel.
-ghost use Rattle.std.specs.Prelude.{◌≡◌, ◌≢◌, ◌+◌, ◌^◌, ◌≤◌, ◌++◌, ℕ, length, map, flat_map, IfOk, IfErr, IsErrOf, IsFalse, IsTrue, OnOk};
+ghost use Rattle.std.specs.Prelude.{◌≡◌, ◌+◌, ◌≤◌, ◌++◌, map, flat_map, IsFalse, IsTrue, OnOk};
 ghost use Rattle.device_profile.specs.Faces.{is_request};
 ghost use Rattle.device_profile.specs.Printer.{HasItsValues, IsAllowed};
 ghost use Rattle.page_env.specs.JobControl.{is_reset};
@@ -9,22 +9,18 @@ ghost use Rattle.pcl_items.specs.Canon.{canon};
 ghost use Rattle.pcl_items.specs.Items.{Parameterized, SymbolSet, simple_view, view};
 ghost use Rattle.pcl_items.specs.declared.command.Command.TheVariants.{FontWeight};
 ghost use Rattle.pcl_items.specs.Value.{most};
-ghost use Rattle.preflight.specs.Due.{WritesDecided, WritesDue, WritesFront};
-ghost use Rattle.preflight.specs.Outlet.{is_err_of_write};
-ghost use Rattle.preflight.specs.Pieces.{ByReads};
-ghost use Rattle.preflight.specs.Pins.{pinned_item, pins_from, pinned_telling};
-ghost use Rattle.preflight.specs.Source.{is_err_of_read};
+ghost use Rattle.preflight.specs.Due.{Renders};
+ghost use Rattle.preflight.specs.Pins.{pinned_item, pins_from, pinned_rendering};
 
 use crate::error::Error;
 use crate::kept::write_enough;
 use crate::outcome::Outcome;
-use crate::outlet::Outlet;
-use crate::report::{Report, tell_job};
-use crate::source::Source;
+use crate::render::{Renderer, render_job};
 use device_profile::{FontRequest, Panel, Profile};
 use page_env::{Control, control_of};
 use pcl_items::{Command, Item, LexFault, Number, Place, SetLetter, Sign, SimpleItem, spell};
 use std::alloc::{AllocError, Allocator};
+use streams::{Outlet, Source};
 use verdict::Reason;
 
 /// A whole number as values have it, in ten-thousandths.
@@ -55,7 +51,8 @@ fn sent(command: Command, ten_thousandths: u32) -> SimpleItem
 impl Settings {
     /// The symbol set of the request.
     fn symbol_set(&self) -> SimpleItem
-        ensures { simple_view result ≡ SymbolSet (unsigned self.now.request.symbol_set.number) self.now.request.symbol_set.letter }
+        ensures { simple_view result ≡ SymbolSet (unsigned self.now.request.symbol_set.number)
+            self.now.request.symbol_set.letter }
     {
         let letter = SetLetter {
             code: self.request.symbol_set.letter,
@@ -69,7 +66,8 @@ impl Settings {
 
     /// The stroke weight of the request, which may be negative.
     fn weight(&self) -> SimpleItem
-        ensures { simple_view result ≡ Parameterized FontWeight (weight_amount self.now.request.weight) }
+        ensures { simple_view result ≡ Parameterized FontWeight
+            (weight_amount self.now.request.weight) }
     {
         let weight = self.request.weight;
         let number = Number {
@@ -109,9 +107,10 @@ impl Settings {
     }
 }
 
-/// Appends items, each in its one spelling.
+/// Appends items, each in its canonical spelling.
 fn push_items<A: Allocator>(text: &mut Vec<u8, A>, items: &[SimpleItem]) -> Result<(), AllocError>
-    ensures { OnOk result (text.new.items ≡ text.old.items ++ flat_map canon (map simple_view items.now)) }
+    ensures { OnOk result (text.new.items ≡ text.old.items ++ flat_map canon
+        (map simple_view items.now)) }
 {
     for item in items {
         spell(&Item::Simple(*item), text)?;
@@ -156,8 +155,8 @@ fn is_orientation(item: &Item<'_>) -> bool
     )
 }
 
-/// Whether there is no pinned job for an item: it returns to the panel's font, or enables an overlay, which begins with what the
-/// panel has.
+/// Whether there is no pinned job for an item: it returns to the panel's font, or enables an
+/// overlay, which begins with what the panel has.
 fn is_unpinnable(item: &Item<'_>) -> bool
     ensures { result ≡ is_unpinnable (view item.now) }
 {
@@ -170,7 +169,7 @@ fn is_unpinnable(item: &Item<'_>) -> bool
     }
 }
 
-/// Writes each item in its one spelling, and what sets what the panel chooses.
+/// Writes each item in its canonical spelling, and what sets what the panel chooses.
 #[derive(Clone, Copy)]
 struct Pinning {
     settings: Settings,
@@ -185,7 +184,9 @@ impl Pinning {
         text: &mut Vec<u8, A>,
         item: &Item<'_>,
     ) -> Result<(), AllocError>
-        ensures { OnOk result (text.new.items ≡ text.old.items ++ flat_map canon (before self.now.settings.panel self.now.settings.request self.now.is_due (view item.now))) }
+        ensures { OnOk result (text.new.items ≡ text.old.items ++ flat_map canon
+            (before self.now.settings.panel self.now.settings.request self.now.is_due
+            (view item.now))) }
     {
         if self.is_due && !needs_no_prologue(item) {
             push_items(text, &self.settings.prologue())
@@ -200,7 +201,8 @@ impl Pinning {
         text: &mut Vec<u8, A>,
         item: &Item<'_>,
     ) -> Result<(), AllocError>
-        ensures { OnOk result (text.new.items ≡ text.old.items ++ flat_map canon (behind self.now.settings.panel (view item.now))) }
+        ensures { OnOk result (text.new.items ≡ text.old.items ++ flat_map canon
+            (behind self.now.settings.panel (view item.now))) }
     {
         if is_orientation(item) {
             let spacing = sent(Command::VerticalMotionIndex, self.settings.panel.vmi);
@@ -212,7 +214,9 @@ impl Pinning {
 
     /// Appends an item, with what belongs before and behind it.
     fn push<A: Allocator>(&self, text: &mut Vec<u8, A>, item: &Item<'_>) -> Result<(), AllocError>
-        ensures { OnOk result (text.new.items ≡ text.old.items ++ pinned_item self.now.settings.panel self.now.settings.request self.now.is_due (view item.now)) }
+        ensures { OnOk result
+            (text.new.items ≡ text.old.items ++ pinned_item self.now.settings.panel
+            self.now.settings.request self.now.is_due (view item.now)) }
     {
         self.push_before(text, item)?;
         spell(item, text)?;
@@ -220,8 +224,9 @@ impl Pinning {
     }
 }
 
-impl Report for Pinning {
-    ghost telling = { λ pinning. pins_from pinning.settings.panel pinning.settings.request pinning.is_due };
+impl Renderer for Pinning {
+    ghost rendering = { λ pinning. pins_from pinning.settings.panel pinning.settings.request
+        pinning.is_due };
 
     ghost is_in = { λ _ _. Unit {0} };
 
@@ -264,13 +269,15 @@ impl Report for Pinning {
     }
 }
 
-/// Writes the items of a job, each in its one spelling, with commands that set all that a panel chooses, up to the end of the job
-/// or up to a fault of its bytes.
+/// Writes the items of a job, each in its canonical spelling, with commands that set all that a
+/// panel chooses, up to the end of the job or up to a fault of its bytes.
 ///
-/// The job that is written prints from each panel of the printer as this one prints from the given panel, which its profile has to
-/// allow. An item for which that cannot be had, `ESC (3@` or one that enables an overlay, ends it as `Unpinnable`. What an item comes
-/// to on a page is not looked at. After an error a front of the text is written: `Memory` where the allocator refused a request,
-/// `Read` and `Write` where a read or a write failed, `Turns` after 2^40 reads without an end.
+/// The job that is written prints from each panel of the printer as this one prints from the given
+/// panel, which its profile has to allow. An item for which that cannot be had, `ESC (3@` or one
+/// that enables an overlay, ends it as `Unpinnable`. What an item comes to on a page is not looked
+/// at. After an error a front of the text is written: `Memory` where the allocator refused a
+/// request, `Read` and `Write` where a read or a write failed, `Turns` after 2^40 reads without an
+/// end.
 pub fn pin_job<S: Source, W: Outlet, A: Allocator + Copy, P: Allocator>(
     alloc: A,
     reader: &mut S,
@@ -278,22 +285,11 @@ pub fn pin_job<S: Source, W: Outlet, A: Allocator + Copy, P: Allocator>(
     panel: &Panel,
     writer: &mut W,
 ) -> Result<Outcome, Error>
-    requires reading { IsFalse (S.failed reader.old) }
-    requires writing { IsFalse (W.failed writer.old) }
+    requires reading { IsFalse (S.state reader.old).failed }
+    requires writing { IsFalse (W.state writer.old).failed }
     requires allowed { IsAllowed profile.now panel.now }
-
-    // Of every job that may be by what the reads gave, the items were written, pinned to this panel, and nothing else.
-    ensures written { IfOk result (WritesDue (pinned_telling profile.now panel.now) (S.given reader.old) (S.given reader.new) (S.remaining reader.old) (W.written writer.old) (W.written writer.new)) }
-    // After an error, a front of what is due for the bytes that were read.
-    ensures front { IfErr result (λ _. WritesFront (pinned_telling profile.now panel.now) (S.given reader.old) (S.given reader.new) (S.remaining reader.old) (S.remaining reader.new) (W.written writer.old) (W.written writer.new)) }
-    // After a failed read, all that the bytes decide which were read.
-    ensures decided { IsErrOf result Error.Read → WritesDecided (pinned_telling profile.now panel.now) (S.given reader.old) (S.given reader.new) (S.remaining reader.old) (S.remaining reader.new) (W.written writer.old) (W.written writer.new) }
-
-    ensures read { S.failed reader.new ≡ is_err_of_read result }
-    ensures write { W.failed writer.new ≡ is_err_of_write result }
-    ensures turns { IsErrOf result Error.Turns → length (S.given reader.new) ≡ length (S.given reader.old) + 2 ^ 40 }
-    ensures long { IsErrOf result Error.Turns → ByReads (S.given reader.old) (S.given reader.new) (S.remaining reader.old) (λ job. 2 ^ 40 ≤ length job) }
-    ensures never_no_profile { IfErr result (λ error. error ≢ Error.NoProfile) }
+    ensures { Renders (pinned_rendering profile.now panel.now)
+        (S.state reader.old) (S.state reader.new) (W.state writer.old) (W.state writer.new) result }
 {
     let Some(face) = profile.face(panel.font) else {
         unreachable!()
@@ -306,5 +302,5 @@ pub fn pin_job<S: Source, W: Outlet, A: Allocator + Copy, P: Allocator>(
         settings,
         is_due: true,
     };
-    tell_job(alloc, reader, &mut pinning, writer)
+    render_job(alloc, reader, &mut pinning, writer)
 }

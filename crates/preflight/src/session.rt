@@ -9,12 +9,12 @@ ghost use Rattle.preflight.specs.Session.{ChecksOn, HasChecked, HasRoom, IsJudge
 ghost use Rattle.preflight.specs.Verdict.{IsExact, KeepsPromise};
 ghost use Rattle.preflight.specs.Carriers.Lockstep.{AreIn, AreRunning, counts_of, machines_of};
 
-use crate::check::{carry_out_decided, finish};
-use crate::driver::Consumer;
+use crate::check::{execute_decided, finish};
+use crate::driver::{Consumer, PIECE};
 use crate::error::Error;
 use crate::laws::fails_say;
 use crate::lockstep::Lockstep;
-use crate::source::PIECE;
+use crate::standing::Standing;
 use device_profile::Profile;
 use pcl_items::Lexer;
 use std::alloc::Allocator;
@@ -24,20 +24,9 @@ use verdict::Verdict;
 /// All pieces of a job together have at most so many bytes.
 const MOST_BYTES: u64 = 1 << 62;
 
-/// How far a session has come.
-#[derive(Clone, Copy)]
-pub enum Standing {
-    /// Nothing is wrong so far.
-    Open,
-    /// This is the verdict, whatever follows.
-    Judged(Verdict),
-    /// An error stopped it, which it answers for good.
-    Stopped(Error),
-}
-
 /// A check of a job that is fed in pieces, for a fleet of printers.
 ///
-/// Each item is carried out on every printer as soon as the pieces decide it.
+/// Each item is executed on every printer as soon as the pieces decide it.
 #[derive(Drop)]
 pub struct Session<'p, A: Allocator + Copy, P: Allocator> {
     lexer: Lexer<A>,
@@ -51,7 +40,7 @@ impl<'p, A: Allocator + Copy, P: Allocator> Model for Session<'p, A, P> {
     ghost use Rattle.std.specs.Prelude.{◌≡◌, ◌≤◌, ◌+◌, ◌^◌, length, false};
     ghost use Rattle.pcl_items.specs.LexerState.{WantsMore};
     ghost use Rattle.pcl_items.specs.Modes.{mode_of};
-    ghost use Rattle.preflight.specs.declared.session.Standing.TheVariants.{Open};
+    ghost use Rattle.preflight.specs.declared.standing.Standing.TheVariants.{Open};
     ghost use Rattle.preflight.specs.Session.{SessionState};
     ghost use Rattle.preflight.specs.Carriers.Lockstep.{AreIn, AreRunning, counts_of, machines_of};
 
@@ -66,23 +55,28 @@ impl<'p, A: Allocator + Copy, P: Allocator> Model for Session<'p, A, P> {
     } };
 
     ghost invariant = { λ session. session.standing ≡ Open →
-        (session.lexer.ended ≡ false) × WantsMore session.lexer × AreRunning (machines_of session.machines)
+        (session.lexer.ended ≡ false) × WantsMore session.lexer
+        × AreRunning (machines_of session.machines)
         × AreIn (mode_of session.lexer.context) (machines_of session.machines)
-        × (session.lexer.place + length session.lexer.rest ≡ session.total) × (session.total ≤ 2 ^ 62) };
+        × (session.lexer.place + length session.lexer.rest ≡ session.total)
+        × (session.total ≤ 2 ^ 62) };
 }
 
 impl<'p, A: Allocator + Copy, P: Allocator> Session<'p, A, P> {
-    ghost use Rattle.preflight.specs.declared.session.Standing.TheVariants as standings;
+    ghost use Rattle.preflight.specs.declared.standing.Standing.TheVariants as standings;
 
     /// A check to which nothing was fed.
     ///
-    /// The error is `NoProfile` for an empty fleet, or `Memory` where the allocator refused a request.
+    /// The error is `NoProfile` for an empty fleet, or `Memory` where the allocator refused a
+    /// request.
     pub fn new(alloc: A, fleet: &'p [Profile<P>]) -> Result<Self, Error>
         ensures none { IfOk result (λ session. HasChecked fleet.now [] session) }
         ensures fresh { IfOk result (λ session. ChecksOn session [] session) }
-        ensures begun { IfOk result (λ session. (session.standing ≡ standings.Open) × (session.total ≡ 0)) }
+        ensures begun { IfOk result (λ session. (session.standing ≡ standings.Open)
+            × (session.total ≡ 0)) }
         ensures no_profile { IsErrOf result Error.NoProfile ↔ (fleet.now ≡ []) }
-        ensures errors { IfErr result (λ error. (error ≡ Error.NoProfile) ⊎ (error ≡ Error.Memory)) }
+        ensures errors { IfErr result (λ error. (error ≡ Error.NoProfile)
+            ⊎ (error ≡ Error.Memory)) }
     {
         match fleet {
             [] => Err(Error::NoProfile),
@@ -100,17 +94,24 @@ impl<'p, A: Allocator + Copy, P: Allocator> Session<'p, A, P> {
 
     /// Takes the next piece of the job, of any length.
     ///
-    /// `Turns` means that the pieces would have more than 2^62 bytes together, which is judged before the piece is looked
-    /// at, and `Memory` that the allocator refused a request. After an error the session answers it for good, and once the
-    /// job fails a piece changes nothing.
+    /// `Turns` means that the pieces would have more than 2^62 bytes together, which is judged
+    /// before the piece is looked at, and `Memory` that the allocator refused a request. After an
+    /// error the session answers it for good, and once the job fails a piece changes nothing.
     pub fn feed(&mut self, piece: &[u8]) -> Result<(), Error>
-        ensures fed { OnOk result ((fleet : List Printer) (bytes : List ℕ) → HasChecked fleet bytes self.old → HasChecked fleet (bytes ++ piece.now) self.new) }
-        ensures stopped { (error : Error) → (result ≡ Err error) ↔ (self.new.standing ≡ standings.Stopped error) }
-        ensures after_error { (error : Error) → self.old.standing ≡ standings.Stopped error → self.new ≡ self.old }
-        ensures after_verdict { (verdict : Verdict) → self.old.standing ≡ standings.Judged verdict → self.new ≡ self.old }
-        ensures turns { self.old.standing ≡ standings.Open → IsErrOf result Error.Turns ↔ (2 ^ 62 < self.old.total + length piece.now) }
-        ensures errors { self.old.standing ≡ standings.Open → IfErr result (λ error. (error ≡ Error.Turns) ⊎ (error ≡ Error.Memory)) }
-        ensures total { self.new.standing ≡ standings.Open → self.new.total ≡ self.old.total + length piece.now }
+        ensures fed { OnOk result ((fleet : List Printer) (bytes : List ℕ) →
+            HasChecked fleet bytes self.old → HasChecked fleet (bytes ++ piece.now) self.new) }
+        ensures stopped { (error : Error) → (result ≡ Err error) ↔
+            (self.new.standing ≡ standings.Stopped error) }
+        ensures after_error { (error : Error) → self.old.standing ≡ standings.Stopped error →
+            self.new ≡ self.old }
+        ensures after_verdict { (verdict : Verdict) → self.old.standing ≡ standings.Judged verdict →
+            self.new ≡ self.old }
+        ensures turns { self.old.standing ≡ standings.Open → IsErrOf result Error.Turns ↔
+            (2 ^ 62 < self.old.total + length piece.now) }
+        ensures errors { self.old.standing ≡ standings.Open →
+            IfErr result (λ error. (error ≡ Error.Turns) ⊎ (error ≡ Error.Memory)) }
+        ensures total { self.new.standing ≡ standings.Open → self.new.total ≡
+            self.old.total + length piece.now }
     {
         match self.standing {
             Standing::Open => {}
@@ -135,14 +136,19 @@ impl<'p, A: Allocator + Copy, P: Allocator> Session<'p, A, P> {
 
     /// The verdict on the job that was fed, whole.
     ///
-    /// It is the verdict that `check_job` gives on the same bytes. The error is the one that stopped the session, or
-    /// `Memory` where the allocator refuses a request now.
+    /// It is the verdict that `check_job` gives on the same bytes. The error is the one that
+    /// stopped the session, or `Memory` where the allocator refuses a request now.
     pub fn end(mut self) -> Result<Verdict, Error>
-        ensures exact { IfOk result (λ verdict. (fleet : List Printer) (bytes : List ℕ) → HasChecked fleet bytes self.entry → IsExact fleet bytes verdict) }
-        ensures headline { IfOk result (λ verdict. (fleet : List Printer) (bytes : List ℕ) → HasChecked fleet bytes self.entry → KeepsPromise fleet bytes verdict) }
-        ensures after_verdict { (verdict : Verdict) → self.entry.standing ≡ standings.Judged verdict → result ≡ Ok verdict }
-        ensures after_error { (error : Error) → self.entry.standing ≡ standings.Stopped error → result ≡ Err error }
-        ensures errors { self.entry.standing ≡ standings.Open → IfErr result (λ error. error ≡ Error.Memory) }
+        ensures exact { IfOk result (λ verdict. (fleet : List Printer) (bytes : List ℕ) →
+            HasChecked fleet bytes self.entry → IsExact fleet bytes verdict) }
+        ensures headline { IfOk result (λ verdict. (fleet : List Printer) (bytes : List ℕ) →
+            HasChecked fleet bytes self.entry → KeepsPromise fleet bytes verdict) }
+        ensures after_verdict { (verdict : Verdict) → self.entry.standing ≡
+            standings.Judged verdict → result ≡ Ok verdict }
+        ensures after_error { (error : Error) → self.entry.standing ≡ standings.Stopped error →
+            result ≡ Err error }
+        ensures errors { self.entry.standing ≡ standings.Open →
+            IfErr result (λ error. error ≡ Error.Memory) }
     {
         self.verdict()
     }
@@ -150,11 +156,15 @@ impl<'p, A: Allocator + Copy, P: Allocator> Session<'p, A, P> {
     /// The verdict on what was fed, where no piece follows.
     // It only borrows the session, so that the proof of each way out need not free it.
     fn verdict(&mut self) -> Result<Verdict, Error>
-        ensures ended { IfOk result (λ verdict. (fleet : List Printer) (bytes : List ℕ) → HasChecked fleet bytes self.old →
+        ensures ended { IfOk result (λ verdict. (fleet : List Printer) (bytes : List ℕ) →
+            HasChecked fleet bytes self.old →
             IsExact fleet bytes verdict × KeepsPromise fleet bytes verdict) }
-        ensures judged { (verdict : Verdict) → self.old.standing ≡ standings.Judged verdict → result ≡ Ok verdict }
-        ensures stopped { (error : Error) → self.old.standing ≡ standings.Stopped error → result ≡ Err error }
-        ensures errors { self.old.standing ≡ standings.Open → IfErr result (λ error. error ≡ Error.Memory) }
+        ensures judged { (verdict : Verdict) → self.old.standing ≡ standings.Judged verdict →
+            result ≡ Ok verdict }
+        ensures stopped { (error : Error) → self.old.standing ≡ standings.Stopped error → result ≡
+            Err error }
+        ensures errors { self.old.standing ≡ standings.Open →
+            IfErr result (λ error. error ≡ Error.Memory) }
     {
         fails_say();
         match self.standing {
@@ -185,32 +195,28 @@ impl<A: Allocator + Copy, P: Allocator> Consumer<()> for Session<'_, A, P> {
             return Err(Error::Memory);
         }
         self.total += piece.len() as u64;
-        match carry_out_decided(&mut self.lexer, &mut self.machines) {
-            Ok(None) => Ok(None),
-            Ok(Some(failure)) => {
-                let verdict = failure.verdict();
-                self.standing = Standing::Judged(verdict);
-                Ok(Some(verdict))
-            }
-            Err(_) => {
-                self.standing = Standing::Stopped(Error::Memory);
-                Err(Error::Memory)
-            }
+        execute_decided(&mut self.lexer, &mut self.machines, &mut self.standing);
+        match self.standing {
+            Standing::Open => Ok(None),
+            Standing::Judged(verdict) => Ok(Some(verdict)),
+            Standing::Stopped(error) => Err(error),
         }
     }
 
     fn end(&mut self, _outlet: &mut ()) -> Result<Verdict, Error> {
-        match finish(&mut self.lexer, &mut self.machines, self.total) {
-            Ok(verdict) => {
-                self.standing = Standing::Judged(verdict);
-                Ok(verdict)
-            }
-            Err(_) => {
-                self.standing = Standing::Stopped(Error::Memory);
-                Err(Error::Memory)
-            }
+        finish(
+            &mut self.lexer,
+            &mut self.machines,
+            self.total,
+            &mut self.standing,
+        );
+        match self.standing {
+            Standing::Open => unreachable!(),
+            Standing::Judged(verdict) => Ok(verdict),
+            Standing::Stopped(error) => Err(error),
         }
     }
 
-    ghost leaves_room = { λ first bytes now room more has goes fits. session_leaves first.0 bytes now.0 room more has goes fits };
+    ghost leaves_room = { λ first bytes now room more has goes fits.
+        session_leaves first.0 bytes now.0 room more has goes fits };
 }

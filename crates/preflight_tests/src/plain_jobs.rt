@@ -1,4 +1,4 @@
-//! Jobs in the one spelling of their items.
+//! Jobs in the canonical spelling of their items.
 
 use crate::texts::Ending::{Done, Fault};
 use crate::texts::Text::Plain;

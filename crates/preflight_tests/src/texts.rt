@@ -60,7 +60,7 @@ pub fn write_text_of<S: Source, A: Allocator + Copy, P: Allocator>(
     profile: &Profile<P>,
     outlet: &mut FailingOutlet,
 ) -> Result<Outcome, Error>
-    requires job { IsFalse (S.failed job.old) }
+    requires job { IsFalse (S.state job.old).failed }
     requires outlet { outlet.old.has_failed ≡ false }
 {
     match text {
@@ -89,7 +89,7 @@ fn assert_text<S: Source>(
     source: &mut S,
     row: TextRow,
 )
-    requires { IsFalse (S.failed source.old) }
+    requires { IsFalse (S.state source.old).failed }
 {
     let (job, wanted, ending) = row;
     let mut outlet = FailingOutlet::new(alloc, u64::MAX);

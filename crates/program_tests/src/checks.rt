@@ -153,9 +153,9 @@ fn status_of<H: Allocator + Copy, J: Source, O: Outlet, E: Outlet>(
     stdout: &mut O,
     stderr: &mut E,
 ) -> Status
-    requires job { IsFalse (J.failed job.old) }
+    requires job { IsFalse (J.state job.old).failed }
     requires texts { texts.old.has_failed ≡ false }
-    requires stdout { IsFalse (O.failed stdout.old) }
+    requires stdout { IsFalse (O.state stdout.old).failed }
     requires words { words.now ≢ [] }
 {
     let status = check(heap, job, texts, words, stdout);

@@ -9,12 +9,13 @@ use preflight::{Outlet, Source, Watched};
 use refusing::Refusing;
 use std::alloc::Allocator;
 use std::process::Abort;
+use streams::{Create, FileOutlet, FileSource, Open};
 use subcommands::check::check;
 use subcommands::list::list;
 use subcommands::pages::pages;
 use subcommands::pin::pin;
 use subcommands::plain::plain;
-use subcommands::{Choice, Create, FileOutlet, FileSource, Open, PanelSetting, Status, tell};
+use subcommands::{Choice, PanelSetting, Status, tell};
 
 /// A subcommand.
 #[derive(Clone, Copy, Debug)]
@@ -48,10 +49,10 @@ fn status_of<H: Allocator + Copy, J: Open, W: Create, O: Outlet, E: Outlet>(
     stdout: &mut O,
     stderr: &mut E,
 ) -> Status
-    requires job { IsFalse (J.failed job.old) }
-    requires out { IsFalse (W.failed out.old) }
-    requires stdout { IsFalse (O.failed stdout.old) }
-    requires stderr { IsFalse (E.failed stderr.old) }
+    requires job { IsFalse (J.state job.old).failed }
+    requires out { IsFalse (W.state out.old).failed }
+    requires stdout { IsFalse (O.state stdout.old).failed }
+    requires stderr { IsFalse (E.state stderr.old).failed }
 {
     let named = texts();
     let mut texts = KeptTexts::new(&named);

@@ -132,7 +132,7 @@ fn words_that_are_no_code(rt: HostRuntime) {
         let mut stderr = Watched::new(Vec::new(rt.alloc()));
         let status = explain(Some(*word), &mut stdout, &mut stderr);
         let written = (stdout.get_ref().len(), stderr.get_ref().as_slice());
-        assert_eq!(rt; (status, written), (Status::Words, (0, *line)), "{word}");
+        assert_eq!(rt; (status, written), (Status::Usage, (0, *line)), "{word}");
     }
 }
 

@@ -1,9 +1,8 @@
 //! Readers and writers that may be missing, as files are.
 ghost use Rattle.std.specs.Prelude.{◌≡◌, ◌||◌, false, None, ⊤};
 
-use preflight::{Outlet, Source};
 use std::io;
-use subcommands::{Create, FileId, Open};
+use streams::{Create, FileId, Open, Outlet, Source};
 
 /// A reader or a writer. Where it is missing it can be neither opened nor created.
 #[derive(Drop)]
@@ -44,11 +43,9 @@ impl<T> File<T> {
 }
 
 impl<S: Source> Source for File<S> {
-    ghost remaining = { λ file. S.remaining file.inner };
-
-    ghost given = { λ file. S.given file.inner };
-
-    ghost failed = { λ file. file.was_missed || S.failed file.inner };
+    ghost state = { λ file. record (S.state file.inner) {
+      failed = file.was_missed || (S.state file.inner).failed;
+    } };
 
     fn read(&mut self, buf: &mut [u8]) -> io::Result<usize> {
         self.inner.read(buf)
@@ -78,9 +75,9 @@ impl<S: Source> Open for File<S> {
 }
 
 impl<O: Outlet> Outlet for File<O> {
-    ghost written = { λ file. O.written file.inner };
-
-    ghost failed = { λ file. file.was_missed || O.failed file.inner };
+    ghost state = { λ file. record (O.state file.inner) {
+      failed = file.was_missed || (O.state file.inner).failed;
+    } };
 
     fn write(&mut self, piece: &[u8]) -> io::Result<usize> {
         self.inner.write(piece)

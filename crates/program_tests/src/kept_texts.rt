@@ -1,10 +1,10 @@
 //! Texts in memory under the words that name them.
 ghost use Rattle.std.specs.Prelude.{◌≡◌, None, false};
 
-use given::Given;
-use preflight::{Error, Source, Watched};
+use preflight::Error;
 use std::alloc::Allocator;
-use subcommands::{MOST_OF_TEXT, ProfileTexts, read_front};
+use streams::{Given, Latched, Source};
+use subcommands::{ProfileTexts, read_text_from};
 
 /// A word and the text that it names.
 pub type Named<'a> = (&'a str, &'a [u8]);
@@ -14,6 +14,8 @@ pub type Named<'a> = (&'a str, &'a [u8]);
 pub struct KeptTexts<'a> {
     texts: &'a [Named<'a>],
     given: Given,
+    /// What the reads of the last text gave.
+    reads: Given,
     pub has_failed: bool,
     /// How many texts were asked for.
     pub asked: u64,
@@ -26,6 +28,7 @@ impl<'a> KeptTexts<'a> {
         KeptTexts {
             texts,
             given: Given::new(),
+            reads: Given::new(),
             has_failed: false,
             asked: 0,
         }
@@ -47,6 +50,8 @@ impl ProfileTexts for KeptTexts<'_> {
 
     ghost given = { λ kept. kept.given.pieces };
 
+    ghost reads = { λ kept. kept.reads.pieces };
+
     ghost failed = { λ kept. kept.has_failed };
 
     fn read_text<A: Allocator>(&mut self, alloc: A, word: &str) -> Result<Vec<u8, A>, Error> {
@@ -55,9 +60,10 @@ impl ProfileTexts for KeptTexts<'_> {
             self.has_failed = true;
             return Err(Error::Read);
         };
-        let mut source = Watched::new(text);
-        let result = read_front(alloc, &mut source, MOST_OF_TEXT);
+        let mut source = Latched::new(text);
+        let result = read_text_from(alloc, &mut source);
         self.has_failed = source.has_failed();
+        self.reads = source.into_given();
         if let Ok(text) = &result {
             self.given = self.given.and(text.as_slice());
         }

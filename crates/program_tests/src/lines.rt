@@ -160,7 +160,7 @@ const ENDS: &[(Status, u8, &[u8])] = &[
     (Status::Pass, 0, b""),
     (Status::Help, 0, b""),
     (Status::Fail, 1, b""),
-    (Status::Words, 2, b""),
+    (Status::Usage, 2, b""),
     (Status::Stopped(Error::Memory), 3, b"ERROR memory\n"),
     (Status::Stopped(Error::Read), 3, b"ERROR read\n"),
     (Status::Stopped(Error::Write), 3, b"ERROR write\n"),

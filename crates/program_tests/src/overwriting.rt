@@ -7,9 +7,10 @@ use std::process::Abort;
 use std::rt::{Env, Files};
 use std::test::Fail;
 use std::{env, fs};
+use streams::{FileOutlet, FileSource};
 use subcommands::pin::pin;
 use subcommands::plain::plain;
-use subcommands::{FileOutlet, FileSource, FileTexts, Input, PanelSetting, Status};
+use subcommands::{FileTexts, Input, PanelSetting, Status};
 
 const JOB: &[u8] = b"\x1bE\x1b&l02A";
 

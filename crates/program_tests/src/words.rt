@@ -52,29 +52,29 @@ const HELPS: &[Ended] = &[
 
 /// Words that name no subcommand, and words that are wrong for a check.
 const WRONG_FOR_CHECKS: &[Ended] = &[
-    (&["pclcheck"], Status::Words, &[]),
-    (&["pclcheck", "frob"], Status::Words, &[]),
-    (&["pclcheck", "check"], Status::Words, &[]),
-    (&["pclcheck", "check", "job.pcl"], Status::Words, &[]),
+    (&["pclcheck"], Status::Usage, &[]),
+    (&["pclcheck", "frob"], Status::Usage, &[]),
+    (&["pclcheck", "check"], Status::Usage, &[]),
+    (&["pclcheck", "check", "job.pcl"], Status::Usage, &[]),
     (
         &["pclcheck", "check", "--fast", "job.pcl", "@A"],
-        Status::Words,
+        Status::Usage,
         &[],
     ),
 ];
 
 /// Words that are wrong for a text.
 const WRONG_FOR_TEXTS: &[Ended] = &[
-    (&["pclcheck", "explain", "12", "13"], Status::Words, &[]),
-    (&["pclcheck", "list"], Status::Words, &[]),
-    (&["pclcheck", "list", "job.pcl", "@A"], Status::Words, &[]),
-    (&["pclcheck", "pages", "job.pcl"], Status::Words, &[]),
+    (&["pclcheck", "explain", "12", "13"], Status::Usage, &[]),
+    (&["pclcheck", "list"], Status::Usage, &[]),
+    (&["pclcheck", "list", "job.pcl", "@A"], Status::Usage, &[]),
+    (&["pclcheck", "pages", "job.pcl"], Status::Usage, &[]),
     (
         &["pclcheck", "pages", "job.pcl", "@A", "@B"],
-        Status::Words,
+        Status::Usage,
         &[],
     ),
-    (&["pclcheck", "plain", "job.pcl"], Status::Words, &[]),
+    (&["pclcheck", "plain", "job.pcl"], Status::Usage, &[]),
     (
         &["pclcheck", "plain", "job.pcl", "job.pcl"],
         Status::Overwrites(Input::Job),
@@ -82,10 +82,10 @@ const WRONG_FOR_TEXTS: &[Ended] = &[
     ),
     (
         &["pclcheck", "plain", "job.pcl", "out.pcl", "@A"],
-        Status::Words,
+        Status::Usage,
         &[],
     ),
-    (&["pclcheck", "pin", "job.pcl", "@A"], Status::Words, &[]),
+    (&["pclcheck", "pin", "job.pcl", "@A"], Status::Usage, &[]),
     (
         &["pclcheck", "pin", "job.pcl", "@A", "job.pcl"],
         Status::Overwrites(Input::Job),
@@ -204,7 +204,7 @@ fn words_that_choose_at_a_panel(rt: HostRuntime) -> Result<(), Fail> {
                 choices.as_slice(),
                 wanted,
             ),
-            (Err(Status::Words), Err(part)) => has_parts(stderr.get_ref().as_slice(), &[part]),
+            (Err(Status::Usage), Err(part)) => has_parts(stderr.get_ref().as_slice(), &[part]),
             _ => false,
         };
         assert!(rt; is_right, "{panel}");

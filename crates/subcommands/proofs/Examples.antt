@@ -1,4 +1,4 @@
--- Words and refusals, computed from the definitions alone.
+-- Usage and refusals, computed from the definitions alone.
 use Rattle.std.proofs.Common.{◌≡◌, [], ◌∷◌, Some, None, refl}
 use Rattle.std.specs.Prelude.{codes}
 use Rattle.device_profile.specs.declared.fault.Cause.TheVariants.{Version}

@@ -3,9 +3,10 @@ use Rattle.std.proofs.Common.{◌≡◌, ◌<◌, ◌≤◌, ◌+◌, ℕ, List,
 use Rattle.std.proofs.lemmas.List.{take_all}
 use Rattle.std.proofs.lemmas.List.Folds.{list_any_more}
 use Rattle.std.specs.List.{concat, list_any}
-use Rattle.preflight.proofs.OutletLemmas.{Adds-none}
-use Rattle.preflight.specs.Outlet.{Written, Adds, AddsFront, Writes}
-use Rattle.subcommands.proofs.WriteLemmas.{pieces_more, Writes-cut}
+use Rattle.streams.proofs.OutletLemmas.{Adds-none}
+use Rattle.streams.specs.Outlet.{OutletState, Adds, AddsFront}
+use Rattle.preflight.specs.Writing.{Writes}
+use Rattle.subcommands.proofs.Writing.{pieces_more, Writes-cut}
 use Rattle.subcommands.specs.Explanations.{complaint}
 
 -- what is written of one text: all of it, or nothing
@@ -27,34 +28,34 @@ told_whole p text e = ap (λ b. if b then text else []) (sym e)
 told_none : (p : List ℕ → Bool) (text : List ℕ) → p text ≡ false → [] ≡ told p text
 told_none p text e = ap (λ b. if b then text else []) (sym e)
 
-module _ {X : Type 0} (p : List ℕ → Bool) (f : X → List ℕ) (xs : List X) (i : ℕ) (d : X) (a b c : Written) (h : i < length xs) (before : Adds a b (concat (map (λ x. told p (f x)) (take i xs)))) where
+module _ {X : Type 0} (p : List ℕ → Bool) (f : X → List ℕ) (xs : List X) (i : ℕ) (d : X) (a b c : OutletState) (h : i < length xs) (before : Adds a b (concat (map (λ x. told p (f x)) (take i xs)))) where
   -- one more text that passes was written whole
   pub told_more : (text : List ℕ) → text ≡ f (get_or xs i d) → p (f (get_or xs i d)) ≡ true → Adds b c text → Adds a c (concat (map (λ x. told p (f x)) (take (i + 1) xs)))
   told_more text is e more = pieces_more (λ x. told p (f x)) xs i d a b c h before (subst (Adds b c) (is ∙ told_whole p (f (get_or xs i d)) e) more)
 
   -- the writer failed at one more text
-  pub told_cut : (failed : Bool) (text : List ℕ) → failed ≡ true → text ≡ f (get_or xs i d) → p (f (get_or xs i d)) ≡ true → AddsFront b c text → Writes failed a c (concat (filter p (map f xs)))
-  told_cut failed text failure is e cut =
-      subst (Writes failed a c) (told_all p f xs)
-      (Writes-cut (λ x. told p (f x)) xs i d failed a b c h failure before (subst (AddsFront b c) (is ∙ told_whole p (f (get_or xs i d)) e) cut))
+  pub told_cut : (text : List ℕ) → c.failed ≡ true → text ≡ f (get_or xs i d) → p (f (get_or xs i d)) ≡ true → AddsFront b c text → Writes a c (concat (filter p (map f xs)))
+  told_cut text failure is e cut =
+      subst (Writes a c) (told_all p f xs)
+      (Writes-cut (λ x. told p (f x)) xs i d a b c h failure before (subst (AddsFront b c) (is ∙ told_whole p (f (get_or xs i d)) e) cut))
 
 -- one more text does not pass, and was not written
-pub told_past : {X : Type 0} (p : List ℕ → Bool) (f : X → List ℕ) (xs : List X) (i : ℕ) (d : X) (a b : Written) → i < length xs →
+pub told_past : {X : Type 0} (p : List ℕ → Bool) (f : X → List ℕ) (xs : List X) (i : ℕ) (d : X) (a b : OutletState) → i < length xs →
     Adds a b (concat (map (λ x. told p (f x)) (take i xs))) → p (f (get_or xs i d)) ≡ false → Adds a b (concat (map (λ x. told p (f x)) (take (i + 1) xs)))
 told_past p f xs i d a b h before e =
     pieces_more (λ x. told p (f x)) xs i d a b b h before (subst (Adds b b) (told_none p (f (get_or xs i d)) e) (Adds-none b))
 
 -- all was written
-pub told_to_the_end : {X : Type 0} (p : List ℕ → Bool) (f : X → List ℕ) (xs : List X) (i : ℕ) (failed : Bool) (a b : Written) → length xs ≤ i → Adds a b (concat (map (λ x. told p (f x)) (take i xs))) → Writes failed a b (concat (filter p (map f xs)))
-told_to_the_end p f xs i failed a b h all =
+pub told_to_the_end : {X : Type 0} (p : List ℕ → Bool) (f : X → List ℕ) (xs : List X) (i : ℕ) (a b : OutletState) → length xs ≤ i → Adds a b (concat (map (λ x. told p (f x)) (take i xs))) → Writes a b (concat (filter p (map f xs)))
+told_to_the_end p f xs i a b h all =
     let adds = subst (Adds a b) (ap (λ l. concat (map (λ x. told p (f x)) l)) (take_all i xs h) ∙ told_all p f xs) all in
     record { front = (concat (filter p (map f xs)), [], sym (append-nil (concat (filter p (map f xs)))), adds); whole = λ working. adds }
 
 -- the pieces of the line on a code that nothing has
-pub Writes-unknown : (failed : Bool) (a b : Written) (code first : List ℕ) → first ≡ code →
-    Writes failed a b (codes "error: no fault and no finding has the number or the name '" ++ (first ++ codes "'; 'pclcheck explain' writes all\n")) → Writes failed a b (complaint (Some code))
-Writes-unknown failed a b code first e written =
-    subst (λ l. Writes failed a b (codes "error: no fault and no finding has the number or the name '" ++ (l ++ codes "'; 'pclcheck explain' writes all\n"))) e written
+pub Writes-unknown : (a b : OutletState) (code first : List ℕ) → first ≡ code →
+    Writes a b (codes "error: no fault and no finding has the number or the name '" ++ (first ++ codes "'; 'pclcheck explain' writes all\n")) → Writes a b (complaint (Some code))
+Writes-unknown a b code first e written =
+    subst (λ l. Writes a b (codes "error: no fault and no finding has the number or the name '" ++ (l ++ codes "'; 'pclcheck explain' writes all\n"))) e written
 
 -- a test of what elements stand for
 pub any_of_map : {X : Type 0} (p : List ℕ → Bool) (f : X → List ℕ) (xs : List X) → list_any p (map f xs) ≡ list_any (λ x. p (f x)) xs
@@ -70,6 +71,6 @@ pub none_at_all : {X : Type 0} (p : X → Bool) (xs : List X) (i : ℕ) → leng
 none_at_all p xs i h before = ap (list_any p) (sym (take_all i xs h)) ∙ before
 
 -- what was told of a code that nothing has
-pub told_unknown : (failed : Bool) (a b : Written) (code : Option (Bor (List ℕ))) (word : Bor (List ℕ)) → code ≡ Some word →
-    Writes failed a b (complaint (Some word.now)) → Writes failed a b (complaint (option_map (λ word. word.now) code))
-told_unknown failed a b code word is written = subst (λ c. Writes failed a b (complaint (option_map (λ word. word.now) c))) (sym is) written
+pub told_unknown : (a b : OutletState) (code : Option (Bor (List ℕ))) (word : Bor (List ℕ)) → code ≡ Some word →
+    Writes a b (complaint (Some word.now)) → Writes a b (complaint (option_map (λ word. word.now) code))
+told_unknown a b code word is written = subst (λ c. Writes a b (complaint (option_map (λ word. word.now) c))) (sym is) written

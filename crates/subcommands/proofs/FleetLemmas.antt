@@ -8,13 +8,13 @@ use Rattle.device_profile.specs.Printer.{Printer}
 use Rattle.device_profile.specs.Text.{IsErrorOfText}
 use Rattle.preflight.specs.declared.error.Error.TheVariants.{Memory, Read, Write, Turns, NoProfile}
 use Rattle.verdict.specs.declared.verdict.Verdict.{Verdict}
-use Rattle.preflight.specs.Outlet.{Written}
+use Rattle.streams.specs.Outlet.{OutletState}
 use Rattle.subcommands.specs.declared.status.Status.{Status}
-use Rattle.subcommands.specs.declared.status.Status.TheVariants.{Pass, Fail, Help, Words, Overwrites, NotAllowed, Profile, Stopped}
+use Rattle.subcommands.specs.declared.status.Status.TheVariants.{Pass, Fail, Help, Usage, Overwrites, NotAllowed, Profile, Stopped}
 use Rattle.subcommands.specs.Check.{Leaves}
 use Rattle.subcommands.specs.Status.{is_stop_of_write, refusal_of}
 use Rattle.subcommands.specs.Fleet.{Describes, DescribeBy, DescribeFleet, IsReached, IsRefused, IsEndOfProfile, IsEndOfFleet, RefusesBy, RefusesRead}
-use Rattle.subcommands.proofs.LeavesLemmas.{Stays-none}
+use Rattle.subcommands.proofs.Leaves.{Stays-none}
 
 -- one more text describes one more printer
 DescribeFleet-more : (texts : List (Option (List ℕ))) (printers : List Printer) (text : Option (List ℕ)) (printer : Printer) →
@@ -70,7 +70,7 @@ end_reached f words i d printers (Stopped NoProfile) h before end = absurd end
 end_reached f words i d printers Pass h before end = absurd end
 end_reached f words i d printers Fail h before end = absurd end
 end_reached f words i d printers Help h before end = absurd end
-end_reached f words i d printers Words h before end = absurd end
+end_reached f words i d printers Usage h before end = absurd end
 end_reached f words i d printers (Overwrites input) h before end = absurd end
 end_reached f words i d printers (NotAllowed choice) h before end = absurd end
 
@@ -126,7 +126,7 @@ behind_described start mid after printers i (Stopped error) described count refu
 behind_described start mid after printers i Pass described count refused = tt
 behind_described start mid after printers i Fail described count refused = tt
 behind_described start mid after printers i Help described count refused = tt
-behind_described start mid after printers i Words described count refused = tt
+behind_described start mid after printers i Usage described count refused = tt
 behind_described start mid after printers i (Overwrites input) described count refused = tt
 behind_described start mid after printers i (NotAllowed choice) described count refused = tt
 
@@ -138,7 +138,7 @@ refused_behind f words i start mid after printers status h named described refus
     behind_described start mid after printers i status described count refused
 
 -- where there is no fleet, no line is written
-pub no_line : (texts : List (Option (List ℕ))) (status : Status) (P : Verdict → Type 0) (a : Written) → IsEndOfFleet texts status → Leaves status P a a
+pub no_line : (texts : List (Option (List ℕ))) (status : Status) (P : Verdict → Type 0) (a : OutletState) → IsEndOfFleet texts status → Leaves status P a a
 no_line texts (Profile number line cause) P a end = Stays-none a
 no_line texts (Stopped Memory) P a end = Stays-none a
 no_line texts (Stopped Read) P a end = Stays-none a
@@ -148,7 +148,7 @@ no_line texts (Stopped NoProfile) P a end = absurd end
 no_line texts Pass P a end = absurd end
 no_line texts Fail P a end = absurd end
 no_line texts Help P a end = absurd end
-no_line texts Words P a end = absurd end
+no_line texts Usage P a end = absurd end
 no_line texts (Overwrites input) P a end = absurd end
 no_line texts (NotAllowed choice) P a end = absurd end
 
@@ -163,7 +163,7 @@ no_write texts (Stopped NoProfile) end = absurd end
 no_write texts Pass end = refl
 no_write texts Fail end = refl
 no_write texts Help end = refl
-no_write texts Words end = refl
+no_write texts Usage end = refl
 no_write texts (Overwrites input) end = refl
 no_write texts (NotAllowed choice) end = refl
 
@@ -178,6 +178,6 @@ no_write_before number text (Stopped NoProfile) end = absurd end
 no_write_before number text Pass end = refl
 no_write_before number text Fail end = refl
 no_write_before number text Help end = refl
-no_write_before number text Words end = refl
+no_write_before number text Usage end = refl
 no_write_before number text (Overwrites input) end = refl
 no_write_before number text (NotAllowed choice) end = refl

@@ -1,9 +1,10 @@
 mod ChoiceLemmas
 mod Examples
 mod ExplainLemmas
+mod ExplainedReasons
 mod FleetLemmas
 mod FrontLemmas
-mod JobTextLemmas
-mod LeavesLemmas
+mod JobTexts
+mod Leaves
 mod TextLemmas
-mod WriteLemmas
+mod Writing

@@ -6,22 +6,14 @@ use Rattle.preflight.specs.declared.error.Error.TheVariants.{Memory, Read, Write
 use Rattle.verdict.specs.declared.reason.Reason.{Reason}
 use Rattle.verdict.specs.declared.verdict.Verdict.{Verdict}
 use Rattle.verdict.specs.declared.verdict.Verdict.TheVariants.{Pass as PassOf, Fail as FailOf}
-use Rattle.preflight.specs.Outlet.{Written, Adds, AddsFront, Stays}
-use Rattle.preflight.specs.Pieces.{ByReads}
+use Rattle.streams.specs.Outlet.{OutletState, Adds, AddsFront, Stays}
+use Rattle.streams.specs.Pieces.{ByReads}
+use Rattle.streams.specs.Source.{SourceState}
 use Rattle.preflight.specs.Verdict.{IsExact, KeepsPromise, NeedsEachRead}
 use Rattle.subcommands.specs.declared.status.Status.{Status}
-use Rattle.subcommands.specs.declared.status.Status.TheVariants.{Pass, Fail, Help, Words, Overwrites, NotAllowed, Profile, Stopped}
+use Rattle.subcommands.specs.declared.status.Status.TheVariants.{Pass, Fail, Help, Usage, Overwrites, NotAllowed, Profile, Stopped}
 use Rattle.subcommands.specs.Fleet.{DescribeBy, DescribeFleet}
 use Rattle.subcommands.specs.Lines.{verdict_line}
-
--- what a job is read from: what its reads gave before and after, and its bytes, where these are known
-pub record Source : Type 0 where
-  pub before : List (List ℕ)
-  pub after : List (List ℕ)
-  pub remaining : Option (List ℕ)
-
-abbrev pub read_by : List (List ℕ) → List (List ℕ) → Option (List ℕ) → Source
-read_by before after remaining = record { before = before; after = after; remaining = remaining }
 
 -- the texts of profiles: those that are known, in order, and those that were read before and after
 pub record Texts : Type 0 where
@@ -33,17 +25,17 @@ abbrev pub texts_by : List (Option (List ℕ)) → List (List ℕ) → List (Lis
 texts_by known before after = record { known = known; before = before; after = after }
 
 -- of every job that may be by what the reads gave, the verdict is exact and keeps its promise; and each read was needed
-pub record IsRight (job : Source) (fleet : List Printer) (verdict : Verdict) : Type 0 where
-  pub exact : ByReads job.before job.after job.remaining (λ bytes. IsExact fleet bytes verdict)
-  pub promise : ByReads job.before job.after job.remaining (λ bytes. KeepsPromise fleet bytes verdict)
-  pub needed : NeedsEachRead fleet job.before job.after
+pub record IsRight (job job' : SourceState) (fleet : List Printer) (verdict : Verdict) : Type 0 where
+  pub exact : ByReads job job' (λ bytes. IsExact fleet bytes verdict)
+  pub promise : ByReads job job' (λ bytes. KeepsPromise fleet bytes verdict)
+  pub needed : NeedsEachRead fleet job job'
 
 -- the verdict is right for a fleet that the texts of its profiles describe
-abbrev pub IsRightFor : Texts → Source → Verdict → Type 0
-IsRightFor texts job verdict = (fleet : List Printer) × DescribeFleet texts.known fleet × DescribeBy texts.before texts.after fleet × IsRight job fleet verdict
+abbrev pub IsRightFor : Texts → SourceState → SourceState → Verdict → Type 0
+IsRightFor texts job job' verdict = (fleet : List Printer) × DescribeFleet texts.known fleet × DescribeBy texts.before texts.after fleet × IsRight job job' fleet verdict
 
 -- where a write failed, a front of the line of a verdict with this fact stands there, and otherwise nothing new
-abbrev pub LeavesAtStop : Error → (Verdict → Type 0) → Written → Written → Type 0
+abbrev pub LeavesAtStop : Error → (Verdict → Type 0) → OutletState → OutletState → Type 0
 LeavesAtStop Memory P old new = Stays old new
 LeavesAtStop Read P old new = Stays old new
 LeavesAtStop Write P old new = (verdict : Verdict) × P verdict × AddsFront old new (verdict_line verdict)
@@ -51,11 +43,11 @@ LeavesAtStop Turns P old new = Stays old new
 LeavesAtStop NoProfile P old new = ⊥
 
 -- what a check that ends by this status leaves on standard output: the line of a verdict with this fact, where it has one
-abbrev pub Leaves : Status → (Verdict → Type 0) → Written → Written → Type 0
+abbrev pub Leaves : Status → (Verdict → Type 0) → OutletState → OutletState → Type 0
 Leaves Pass P old new = (pages : ℕ) × (marks : ℕ) × P (PassOf pages marks) × Adds old new (verdict_line (PassOf pages marks))
 Leaves Fail P old new = (place : ℕ) × (profile : ℕ) × (finding : Reason) × P (FailOf place profile finding) × Adds old new (verdict_line (FailOf place profile finding))
 Leaves Help P old new = ⊥
-Leaves Words P old new = ⊥
+Leaves Usage P old new = ⊥
 Leaves (Overwrites input) P old new = ⊥
 Leaves (NotAllowed choice) P old new = ⊥
 Leaves (Profile number line cause) P old new = Stays old new

@@ -1,10 +1,13 @@
 -- What the command `explain` writes.
-use Rattle.std.specs.Prelude.{ℕ, List, [], ◌++◌, filter, codes, Bool, true, false, not, ◌||◌, ◌==◌, Option, Some, None, if◌then◌else◌}
+use Rattle.std.specs.Prelude.{◌≡◌, ℕ, List, [], ◌∷◌, ◌++◌, decimal, filter, map, codes, Bool, true, false, not, ◌||◌, ◌==◌, Option, Some, None, if◌then◌else◌}
 use Rattle.std.specs.List.{before_first, after_first, concat, list_any}
 use Rattle.std.specs.Str.{bytes_eq, str_eq_ignore_ascii_case}
+use Rattle.verdict.specs.declared.reason.Reason.{Reason}
+use Rattle.verdict.specs.Numbers.{reason_number}
+use Rattle.line_words.specs.Reason.{bare_name}
 use Rattle.preflight.specs.declared.error.Error.TheVariants.{Write}
 use Rattle.subcommands.specs.declared.status.Status.{Status}
-use Rattle.subcommands.specs.declared.status.Status.TheVariants.{Help, Words, Stopped}
+use Rattle.subcommands.specs.declared.status.Status.TheVariants.{Help, Usage, Stopped}
 
 -- an explanation begins with its number, a space, its name and the end of the line
 abbrev pub number_of : List ℕ → List ℕ
@@ -33,9 +36,31 @@ is_unknown texts (Some code) = not (list_any (is_about code) texts)
 
 -- how the command ends: whether the code is unknown, and whether a write failed
 abbrev pub end_of_explain : Bool → Bool → Status
-end_of_explain unknown failed = if unknown then Words else (if failed then Stopped Write else Help)
+end_of_explain unknown failed = if unknown then Usage else (if failed then Stopped Write else Help)
 
 -- what it tells on standard error of a code that is unknown
 abbrev pub complaint : Option (List ℕ) → List ℕ
 complaint None = []
 complaint (Some code) = codes "error: no fault and no finding has the number or the name '" ++ code ++ codes "'; 'pclcheck explain' writes all\n"
+
+-- ---- of what they tell
+
+-- number and name of a fault or a finding, which begin its explanation as a line
+abbrev pub head_of : Reason → List ℕ
+head_of reason = decimal (reason_number reason) ++ codes " " ++ bare_name reason
+
+abbrev pub first_line : List ℕ → List ℕ
+first_line text = before_first (λ byte. byte == 10) text
+
+-- by the number of the reason one text is asked for, and by its name the same, which begins with the two
+pub record IsExplained (texts : List (List ℕ)) (reason : Reason) : Type 0 where
+  pub text : List ℕ
+  pub by_number : filter (is_about (decimal (reason_number reason))) texts ≡ text ∷ []
+  pub by_name : filter (is_about (bare_name reason)) texts ≡ text ∷ []
+  pub begins : first_line text ≡ head_of reason
+
+-- each reason is explained, and each text begins with the line of some reason
+pub record ExplainReasons (texts : List (List ℕ)) : Type 0 where
+  pub each : (reason : Reason) → IsExplained texts reason
+  pub reasons : List Reason
+  pub only : map first_line texts ≡ map head_of reasons

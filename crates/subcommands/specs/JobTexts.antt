@@ -8,81 +8,67 @@ use Rattle.preflight.specs.declared.outcome.Outcome.{Outcome}
 use Rattle.preflight.specs.declared.outcome.Outcome.TheVariants.{Done, Fail as FailsOf}
 use Rattle.verdict.specs.declared.reason.Reason.{Reason}
 use Rattle.verdict.specs.declared.verdict.Verdict.TheVariants.{Fail as FailOf}
-use Rattle.preflight.specs.Due.{Telling, WritesDue, WritesFront, pages_telling}
-use Rattle.preflight.specs.Pins.{pinned_telling}
-use Rattle.preflight.specs.Outlet.{Written, Adds, AddsFront, Stays, Writes}
+use Rattle.preflight.specs.Due.{Rendering, WritesDue, WritesFront, pages_rendering}
+use Rattle.preflight.specs.Pins.{pinned_rendering}
+use Rattle.streams.specs.Outlet.{OutletState, Adds, AddsFront, Stays}
+use Rattle.streams.specs.Source.{SourceState}
+use Rattle.preflight.specs.Writing.{Writes}
 use Rattle.subcommands.specs.declared.status.Status.{Status}
-use Rattle.subcommands.specs.declared.status.Status.TheVariants.{Pass, Fail, Help, Words, Overwrites, NotAllowed, Profile, Stopped}
+use Rattle.subcommands.specs.declared.status.Status.TheVariants.{Pass, Fail, Help, Usage, Overwrites, NotAllowed, Profile, Stopped}
 use Rattle.subcommands.specs.declared.choices.Choice.{Choice}
 use Rattle.subcommands.specs.Choices.{choice_line, chosen_panel}
 use Rattle.subcommands.specs.Fleet.{DescribeBy, Describes, IsRefused}
 use Rattle.subcommands.specs.Lines.{verdict_line}
 use Rattle.subcommands.specs.Status.{is_stop_of_read, is_stop_of_write}
 
--- what a job is read from: what its reads gave before and after, and the bytes left before and after, where these are known
-pub record Reads : Type 0 where
-  pub before : List (List ℕ)
-  pub after : List (List ℕ)
-  pub remaining : Option (List ℕ)
-  pub left : Option (List ℕ)
-
-abbrev pub reads_by : List (List ℕ) → List (List ℕ) → Option (List ℕ) → Option (List ℕ) → Reads
-reads_by before after remaining left = record { before = before; after = after; remaining = remaining; left = left }
-
--- How a command on a text of a job ends by this status. What it leaves, by what was read of the job, has this fact; it stopped at a read
--- or at a write just where one failed, and for its turns after 2^40 reads.
-pub record EndsBy (status : Status) (Left : Reads → Type 0) (job : Reads) (read_failed write_failed : Bool) : Type 0 where
-  pub left : Left job
+-- How a command on a text of a job ends by this status. What it leaves, by what was read of the job,
+-- has this fact; it stopped at a read or at a write just where one failed, and for its turns after
+-- 2^40 reads.
+pub record EndsBy (status : Status) (Left : SourceState → SourceState → Type 0)
+    (job job' : SourceState) (read_failed write_failed : Bool) : Type 0 where
+  pub left : Left job job'
   pub read : read_failed ≡ is_stop_of_read status
   pub write : write_failed ≡ is_stop_of_write status
-  pub turns : status ≡ Stopped Turns → length job.after ≡ length job.before + 2 ^ 40
-
--- the whole text of the job stands there, and this came of it
-abbrev pub Stands : Telling → Reads → Written → Written → Outcome → Type 0
-Stands telling job old new outcome = WritesDue telling job.before job.after job.remaining old new outcome
-
--- a front stands there of the text of the bytes that were read, taken as a whole job
-abbrev pub StandsInFront : Telling → Reads → Written → Written → Type 0
-StandsInFront telling job old new = WritesFront telling job.before job.after job.remaining job.left old new
+  pub turns : status ≡ Stopped Turns → length job'.given ≡ length job.given + 2 ^ 40
 
 -- the whole text of a job that fails stands there, and of the line of this failure the fact holds
-abbrev pub StandsUpToFailure : Telling → Reads → Written → Written → (List ℕ → Type 0) → Type 0
-StandsUpToFailure telling job old new P = (place : ℕ) × (profile : ℕ) × (finding : Reason) × Stands telling job old new (FailsOf place profile finding) × P (verdict_line (FailOf place profile finding))
+abbrev pub StandsUpToFailure : Rendering → SourceState → SourceState → OutletState → OutletState → (List ℕ → Type 0) → Type 0
+StandsUpToFailure rendering job job' old new P = (place : ℕ) × (profile : ℕ) × (finding : Reason) × WritesDue rendering job job' old new (FailsOf place profile finding) × P (verdict_line (FailOf place profile finding))
 
 -- what a subcommand that ends by this status leaves of a text alone
-abbrev pub LeavesText : Status → Telling → Reads → Written → Written → Type 0
-LeavesText Pass telling job old new = Stands telling job old new Done
-LeavesText Fail telling job old new = (place : ℕ) × (profile : ℕ) × (finding : Reason) × Stands telling job old new (FailsOf place profile finding)
-LeavesText Help telling job old new = ⊥
-LeavesText Words telling job old new = ⊥
-LeavesText (Overwrites input) telling job old new = ⊥
-LeavesText (NotAllowed choice) telling job old new = ⊥
-LeavesText (Profile number line cause) telling job old new = ⊥
-LeavesText (Stopped error) telling job old new = (error ≢ NoProfile) × StandsInFront telling job old new
+abbrev pub LeavesText : Status → Rendering → SourceState → SourceState → OutletState → OutletState → Type 0
+LeavesText Pass rendering job job' old new = WritesDue rendering job job' old new Done
+LeavesText Fail rendering job job' old new = (place : ℕ) × (profile : ℕ) × (finding : Reason) × WritesDue rendering job job' old new (FailsOf place profile finding)
+LeavesText Help rendering job job' old new = ⊥
+LeavesText Usage rendering job job' old new = ⊥
+LeavesText (Overwrites input) rendering job job' old new = ⊥
+LeavesText (NotAllowed choice) rendering job job' old new = ⊥
+LeavesText (Profile number line cause) rendering job job' old new = ⊥
+LeavesText (Stopped error) rendering job job' old new = (error ≢ NoProfile) × WritesFront rendering job job' old new
 
 -- What is left where work stopped, of a text and, apart from it, of the line of its failure: a front of the text and no line; or
 -- the whole text and of the line nothing or, where a write failed, a front.
-abbrev pub LeavesAtStopBeside : Error → Telling → Reads → Written → Written → Written → Written → Type 0
-LeavesAtStopBeside Memory telling job old new start end = (StandsInFront telling job old new × Stays start end) ⊎ StandsUpToFailure telling job old new (λ line. Stays start end)
-LeavesAtStopBeside Read telling job old new start end = StandsInFront telling job old new × Stays start end
-LeavesAtStopBeside Write telling job old new start end = (StandsInFront telling job old new × Stays start end) ⊎ StandsUpToFailure telling job old new (AddsFront start end)
-LeavesAtStopBeside Turns telling job old new start end = StandsInFront telling job old new × Stays start end
-LeavesAtStopBeside NoProfile telling job old new start end = ⊥
+abbrev pub LeavesAtStopBeside : Error → Rendering → SourceState → SourceState → OutletState → OutletState → OutletState → OutletState → Type 0
+LeavesAtStopBeside Memory rendering job job' old new start end = (WritesFront rendering job job' old new × Stays start end) ⊎ StandsUpToFailure rendering job job' old new (λ line. Stays start end)
+LeavesAtStopBeside Read rendering job job' old new start end = WritesFront rendering job job' old new × Stays start end
+LeavesAtStopBeside Write rendering job job' old new start end = (WritesFront rendering job job' old new × Stays start end) ⊎ StandsUpToFailure rendering job job' old new (AddsFront start end)
+LeavesAtStopBeside Turns rendering job job' old new start end = WritesFront rendering job job' old new × Stays start end
+LeavesAtStopBeside NoProfile rendering job job' old new start end = ⊥
 
 -- what a subcommand that ends by this status leaves of a text between old and new, and of the line of its failure, where it
 -- has one, between start and end
-abbrev pub LeavesTextAndLine : Status → Telling → Reads → Written → Written → Written → Written → Type 0
-LeavesTextAndLine Pass telling job old new start end = Stands telling job old new Done × Stays start end
-LeavesTextAndLine Fail telling job old new start end = StandsUpToFailure telling job old new (Adds start end)
-LeavesTextAndLine Help telling job old new start end = ⊥
-LeavesTextAndLine Words telling job old new start end = ⊥
-LeavesTextAndLine (Overwrites input) telling job old new start end = ⊥
-LeavesTextAndLine (NotAllowed choice) telling job old new start end = ⊥
-LeavesTextAndLine (Profile number line cause) telling job old new start end = ⊥
-LeavesTextAndLine (Stopped error) telling job old new start end = LeavesAtStopBeside error telling job old new start end
+abbrev pub LeavesTextAndLine : Status → Rendering → SourceState → SourceState → OutletState → OutletState → OutletState → OutletState → Type 0
+LeavesTextAndLine Pass rendering job job' old new start end = WritesDue rendering job job' old new Done × Stays start end
+LeavesTextAndLine Fail rendering job job' old new start end = StandsUpToFailure rendering job job' old new (Adds start end)
+LeavesTextAndLine Help rendering job job' old new start end = ⊥
+LeavesTextAndLine Usage rendering job job' old new start end = ⊥
+LeavesTextAndLine (Overwrites input) rendering job job' old new start end = ⊥
+LeavesTextAndLine (NotAllowed choice) rendering job job' old new start end = ⊥
+LeavesTextAndLine (Profile number line cause) rendering job job' old new start end = ⊥
+LeavesTextAndLine (Stopped error) rendering job job' old new start end = LeavesAtStopBeside error rendering job job' old new start end
 
 -- what is left of the line of an outcome, where the program then ends by this status
-abbrev pub LeavesLine : Outcome → Status → Written → Written → Type 0
+abbrev pub LeavesLine : Outcome → Status → OutletState → OutletState → Type 0
 LeavesLine Done Pass start end = Stays start end
 LeavesLine (FailsOf place profile finding) Fail start end = Adds start end (verdict_line (FailOf place profile finding))
 LeavesLine (FailsOf place profile finding) (Stopped Memory) start end = Stays start end
@@ -96,58 +82,58 @@ abbrev pub IsNamed : Option (List ℕ) → List (List ℕ) → List (List ℕ) �
 IsNamed text before after printer = Describes text printer × DescribeBy before after (printer ∷ [])
 
 -- nothing was read of the job, and nothing written
-abbrev pub IsUntouched : Reads → Written → Written → Type 0
-IsUntouched job old new = (job.after ≡ job.before) × Stays old new
+abbrev pub IsUntouched : SourceState → SourceState → OutletState → OutletState → Type 0
+IsUntouched job job' old new = (job'.given ≡ job.given) × Stays old new
 
 -- what `pages` leaves for a printer with this fact: the pages from the first panel of it, and behind them the line of the failure
-abbrev pub LeavesPagesOf : Status → (Printer → Type 0) → Reads → Written → Written → Type 0
-LeavesPagesOf status IsPrinter job old new = (printer : Printer) × IsPrinter printer × (behind : Written) × LeavesTextAndLine status (pages_telling printer (first_panel printer)) job old behind behind new
+abbrev pub LeavesPagesOf : Status → (Printer → Type 0) → SourceState → SourceState → OutletState → OutletState → Type 0
+LeavesPagesOf status IsPrinter job job' old new = (printer : Printer) × IsPrinter printer × (behind : OutletState) × LeavesTextAndLine status (pages_rendering printer (first_panel printer)) job job' old behind behind new
 
 -- what `pages` leaves on standard output where it ends by this status
-abbrev pub LeavesPages : Status → (Printer → Type 0) → Reads → Written → Written → Type 0
-LeavesPages (Profile number line cause) IsPrinter job old new = IsUntouched job old new
-LeavesPages (Stopped error) IsPrinter job old new = IsUntouched job old new ⊎ LeavesPagesOf (Stopped error) IsPrinter job old new
-LeavesPages status IsPrinter job old new = LeavesPagesOf status IsPrinter job old new
+abbrev pub LeavesPages : Status → (Printer → Type 0) → SourceState → SourceState → OutletState → OutletState → Type 0
+LeavesPages (Profile number line cause) IsPrinter job job' old new = IsUntouched job job' old new
+LeavesPages (Stopped error) IsPrinter job job' old new = IsUntouched job job' old new ⊎ LeavesPagesOf (Stopped error) IsPrinter job job' old new
+LeavesPages status IsPrinter job job' old new = LeavesPagesOf status IsPrinter job job' old new
 
 -- ---- a text in OUT
 
 -- nothing was read of the job, and nothing written, in OUT or on standard output
-abbrev pub IsUntouchedBeside : Reads → Written → Written → Written → Written → Type 0
-IsUntouchedBeside job old new start end = IsUntouched job old new × Stays start end
+abbrev pub IsUntouchedBeside : SourceState → SourceState → OutletState → OutletState → OutletState → OutletState → Type 0
+IsUntouchedBeside job job' old new start end = IsUntouched job job' old new × Stays start end
 
 -- what is left of a text in OUT, and beside it of the line of the failure, where OUT may be a file that is read
-abbrev pub LeavesOut : Status → Telling → Reads → Written → Written → Written → Written → Type 0
-LeavesOut (Overwrites input) telling job old new start end = IsUntouchedBeside job old new start end
-LeavesOut status telling job old new start end = LeavesTextAndLine status telling job old new start end
+abbrev pub LeavesOut : Status → Rendering → SourceState → SourceState → OutletState → OutletState → OutletState → OutletState → Type 0
+LeavesOut (Overwrites input) rendering job job' old new start end = IsUntouchedBeside job job' old new start end
+LeavesOut status rendering job job' old new start end = LeavesTextAndLine status rendering job job' old new start end
 
 -- ---- a pinned job
 
 -- what `pin` leaves for a printer with this fact: the job that is pinned to the panel that is chosen, and beside it the line of the
 -- failure
-abbrev pub LeavesPinnedOf : Status → (Printer → Type 0) → List Choice → Reads → Written → Written → Written → Written → Type 0
-LeavesPinnedOf status IsPrinter choices job old new start end =
+abbrev pub LeavesPinnedOf : Status → (Printer → Type 0) → List Choice → SourceState → SourceState → OutletState → OutletState → OutletState → OutletState → Type 0
+LeavesPinnedOf status IsPrinter choices job job' old new start end =
     (printer : Printer) × (panel : Panel) × IsPrinter printer × (chosen_panel printer choices ≡ Ok panel)
-    × LeavesOut status (pinned_telling printer panel) job old new start end
+    × LeavesOut status (pinned_rendering printer panel) job job' old new start end
 
 -- what `pin` leaves where it ends by this status
-abbrev pub LeavesPinned : Status → (Printer → Type 0) → List Choice → Reads → Written → Written → Written → Written → Type 0
-LeavesPinned (Profile number line cause) IsPrinter choices job old new start end = IsUntouchedBeside job old new start end
-LeavesPinned (NotAllowed choice) IsPrinter choices job old new start end = IsUntouchedBeside job old new start end
-LeavesPinned (Stopped error) IsPrinter choices job old new start end =
-    IsUntouchedBeside job old new start end ⊎ LeavesPinnedOf (Stopped error) IsPrinter choices job old new start end
-LeavesPinned status IsPrinter choices job old new start end = LeavesPinnedOf status IsPrinter choices job old new start end
+abbrev pub LeavesPinned : Status → (Printer → Type 0) → List Choice → SourceState → SourceState → OutletState → OutletState → OutletState → OutletState → Type 0
+LeavesPinned (Profile number line cause) IsPrinter choices job job' old new start end = IsUntouchedBeside job job' old new start end
+LeavesPinned (NotAllowed choice) IsPrinter choices job job' old new start end = IsUntouchedBeside job job' old new start end
+LeavesPinned (Stopped error) IsPrinter choices job job' old new start end =
+    IsUntouchedBeside job job' old new start end ⊎ LeavesPinnedOf (Stopped error) IsPrinter choices job job' old new start end
+LeavesPinned status IsPrinter choices job job' old new start end = LeavesPinnedOf status IsPrinter choices job job' old new start end
 
 -- what is told on standard error of a choice that the panel may not have: its line; without memory for it nothing
-abbrev pub TellsOfChoice : Status → Printer → Choice → Bool → Written → Written → Type 0
-TellsOfChoice (NotAllowed told) printer choice failed old new = (told ≡ choice) × Writes failed old new (choice_line printer choice)
-TellsOfChoice (Stopped Memory) printer choice failed old new = ⊤
-TellsOfChoice _ printer choice failed old new = ⊥
+abbrev pub TellsOfChoice : Status → Printer → Choice → OutletState → OutletState → Type 0
+TellsOfChoice (NotAllowed told) printer choice old new = (told ≡ choice) × Writes old new (choice_line printer choice)
+TellsOfChoice (Stopped Memory) printer choice old new = ⊤
+TellsOfChoice _ printer choice old new = ⊥
 
 -- what `pin` writes on standard error where it ends for a choice, for a printer with this fact
-abbrev pub TellsOfPin : Status → (Printer → Type 0) → List Choice → Bool → Written → Written → Type 0
-TellsOfPin (NotAllowed choice) IsPrinter choices failed old new =
-    (printer : Printer) × IsPrinter printer × (chosen_panel printer choices ≡ Err choice) × Writes failed old new (choice_line printer choice)
-TellsOfPin _ IsPrinter choices failed old new = ⊤
+abbrev pub TellsOfPin : Status → (Printer → Type 0) → List Choice → OutletState → OutletState → Type 0
+TellsOfPin (NotAllowed choice) IsPrinter choices old new =
+    (printer : Printer) × IsPrinter printer × (chosen_panel printer choices ≡ Err choice) × Writes old new (choice_line printer choice)
+TellsOfPin _ IsPrinter choices old new = ⊤
 
 -- where the profile is refused, it is the first one, and that is what is wrong with it
 abbrev pub RefusesOne : Option (List ℕ) → Status → Type 0

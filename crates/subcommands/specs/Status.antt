@@ -6,19 +6,18 @@ use Rattle.device_profile.specs.declared.fault.ProfileFault.{ProfileFault}
 use Rattle.device_profile.specs.declared.fault.ProfileFault.TheVariants.{Fault, Memory as NoMemory}
 use Rattle.preflight.specs.declared.error.Error.{Error}
 use Rattle.preflight.specs.declared.error.Error.TheVariants.{Memory, Read, Write, Turns, NoProfile}
-use Rattle.preflight.specs.Source.{is_read}
-use Rattle.preflight.specs.Outlet.{is_write}
+use Rattle.preflight.specs.Errors.{is_read, is_write}
 use Rattle.subcommands.specs.declared.status.Status.{Status}
 use Rattle.subcommands.specs.declared.status.Input.{Input}
 use Rattle.subcommands.specs.declared.status.Input.TheVariants.{Job, Profile as TheProfile}
-use Rattle.subcommands.specs.declared.status.Status.TheVariants.{Pass, Fail, Help, Words, Overwrites, NotAllowed, Profile, Stopped}
+use Rattle.subcommands.specs.declared.status.Status.TheVariants.{Pass, Fail, Help, Usage, Overwrites, NotAllowed, Profile, Stopped}
 
 -- the number that the system is told
 abbrev pub code_of : Status → ℕ
 code_of Pass = 0
 code_of Fail = 1
 code_of Help = 0
-code_of Words = 2
+code_of Usage = 2
 code_of (Overwrites input) = 2
 code_of (NotAllowed choice) = 2
 code_of (Profile number line cause) = 2
@@ -54,7 +53,7 @@ abbrev pub status_line : Status → List ℕ
 status_line Pass = []
 status_line Fail = []
 status_line Help = []
-status_line Words = []
+status_line Usage = []
 status_line (Overwrites input) = overwriting_line input
 status_line (NotAllowed choice) = []
 status_line (Profile number line cause) = refusal_line number line cause

@@ -1,11 +1,12 @@
 -- The texts of profiles, and the words that name them.
-use Rattle.std.specs.Prelude.{[], ◌∷◌, Result, Ok, Err, ℕ, List, Option, Some, None, option_map, codes, if◌then◌else◌, ⊤}
+use Rattle.std.specs.Prelude.{◌≡◌, [], ◌∷◌, take, Result, Ok, Err, ℕ, List, Option, Some, None, option_map, codes, if◌then◌else◌, ⊤}
 use Rattle.std.specs.Str.{bytes_eq}
 use Rattle.device_profile.specs.declared.sample.Sample.{Sample}
 use Rattle.device_profile.specs.declared.sample.Sample.TheVariants.{A, B, C, D}
 use Rattle.device_profile.specs.SampleTexts.{sample_text}
 use Rattle.preflight.specs.declared.error.Error.{Error}
 use Rattle.preflight.specs.declared.error.Error.TheVariants.{Memory, Read}
+use Rattle.streams.specs.Pieces.{MayBeBy}
 
 -- an error in reading a text: no memory, or a read that failed
 abbrev pub IsErrorOfReading : Error → Type 0
@@ -24,6 +25,11 @@ sample_named word =
 -- the text that a word names on this machine, where it is known: a file's is not
 abbrev pub text_named : List ℕ → Option (List ℕ)
 text_named word = option_map sample_text (sample_named word)
+
+-- these bytes are the text of which reads gave these pieces: of whatever may be by these they are the
+-- first 65,537, or all, where it has no more
+abbrev pub IsTextBy : List (List ℕ) → List ℕ → Type 0
+IsTextBy pieces text = (input : List ℕ) → MayBeBy pieces input → text ≡ take 65_537 input
 
 -- the text that was read; where it could not be, none
 abbrev pub text_read : {T : Type 0} → (T → List ℕ) → Result T Error → List (List ℕ)

@@ -1,8 +1,8 @@
 //! The command `check`.
 ghost use Rattle.std.specs.Prelude.{◌≡◌, ◌≢◌, ◌+◌, ◌^◌, [], ◌||◌, length, map, IfOk, IfErr, IsErrOf, IsFalse, IsTrue};
-ghost use Rattle.preflight.specs.Outlet.{Adds, is_err_of_write};
-ghost use Rattle.preflight.specs.Source.{is_err_of_read};
-ghost use Rattle.subcommands.specs.Check.{read_by, texts_by, IsRight, IsRightFor, Leaves, LeavesAtStop};
+ghost use Rattle.preflight.specs.Errors.{is_err_of_read, is_err_of_write};
+ghost use Rattle.streams.specs.Outlet.{Adds};
+ghost use Rattle.subcommands.specs.Check.{texts_by, IsRight, IsRightFor, Leaves, LeavesAtStop};
 ghost use Rattle.subcommands.specs.Fleet.{RefusesBy, RefusesFirst, ReachesSome};
 ghost use Rattle.subcommands.specs.Lines.{verdict_line};
 ghost use Rattle.subcommands.specs.Status.{is_refusal, is_stop_of_read, is_stop_of_write};
@@ -25,20 +25,24 @@ pub fn check<S: Source, T: ProfileTexts, O: Outlet, A: Allocator + Copy>(
     profiles: &[&str],
     stdout: &mut O,
 ) -> Status
-    requires job { IsFalse (S.failed job.old) }
+    requires job { IsFalse (S.state job.old).failed }
     requires texts { IsFalse (T.failed texts.old) }
-    requires stdout { IsFalse (O.failed stdout.old) }
+    requires stdout { IsFalse (O.state stdout.old).failed }
     requires some { profiles.now ≢ [] }
     ensures line { Leaves result
-        (IsRightFor (texts_by (map (λ word. T.text_of texts.old word.now) profiles.now) (T.given texts.old) (T.given texts.new)) (read_by (S.given job.old) (S.given job.new) (S.remaining job.old)))
-        (O.written stdout.old) (O.written stdout.new) }
-    ensures refusal { RefusesFirst (map (λ word. T.text_of texts.old word.now) profiles.now) result }
+        (IsRightFor (texts_by (map (λ word. T.text_of texts.old word.now) profiles.now)
+        (T.given texts.old) (T.given texts.new)) (S.state job.old) (S.state job.new))
+        (O.state stdout.old) (O.state stdout.new) }
+    ensures refusal { RefusesFirst (map (λ word. T.text_of texts.old word.now) profiles.now)
+        result }
     ensures refused { RefusesBy (T.given texts.old) (T.given texts.new) result }
-    ensures reached { IsTrue (T.failed texts.new) → ReachesSome (map (λ word. T.text_of texts.old word.now) profiles.now) }
+    ensures reached { IsTrue (T.failed texts.new) →
+        ReachesSome (map (λ word. T.text_of texts.old word.now) profiles.now) }
     ensures unread { IsTrue (is_refusal result || T.failed texts.new) → job.new ≡ job.old }
-    ensures read { (S.failed job.new || T.failed texts.new) ≡ is_stop_of_read result }
-    ensures write { O.failed stdout.new ≡ is_stop_of_write result }
-    ensures turns { result ≡ Status.Stopped Error.Turns → length (S.given job.new) ≡ length (S.given job.old) + 2 ^ 40 }
+    ensures read { ((S.state job.new).failed || T.failed texts.new) ≡ is_stop_of_read result }
+    ensures write { (O.state stdout.new).failed ≡ is_stop_of_write result }
+    ensures turns { result ≡ Status.Stopped Error.Turns →
+        length (S.state job.new).given ≡ length (S.state job.old).given + 2 ^ 40 }
 {
     let fleet = match read_fleet(alloc, texts, profiles) {
         Ok(fleet) => fleet,
@@ -58,16 +62,19 @@ fn write_verdict<S: Source, O: Outlet, A: Allocator + Copy>(
     fleet: &[Profile<A>],
     stdout: &mut O,
 ) -> Result<Verdict, Error>
-    requires job { IsFalse (S.failed job.old) }
-    requires stdout { IsFalse (O.failed stdout.old) }
+    requires job { IsFalse (S.state job.old).failed }
+    requires stdout { IsFalse (O.state stdout.old).failed }
     requires some { fleet.now ≢ [] }
-    ensures ok { IfOk result (λ verdict. IsRight (read_by (S.given job.old) (S.given job.new) (S.remaining job.old)) fleet.now verdict
-        × Adds (O.written stdout.old) (O.written stdout.new) (verdict_line verdict)) }
-    ensures err { IfErr result (λ error. LeavesAtStop error (IsRight (read_by (S.given job.old) (S.given job.new) (S.remaining job.old)) fleet.now)
-        (O.written stdout.old) (O.written stdout.new)) }
-    ensures read { S.failed job.new ≡ is_err_of_read result }
-    ensures write { O.failed stdout.new ≡ is_err_of_write result }
-    ensures turns { IsErrOf result Error.Turns → length (S.given job.new) ≡ length (S.given job.old) + 2 ^ 40 }
+    ensures ok { IfOk result (λ verdict. IsRight (S.state job.old)
+        (S.state job.new) fleet.now verdict
+        × Adds (O.state stdout.old) (O.state stdout.new) (verdict_line verdict)) }
+    ensures err { IfErr result (λ error. LeavesAtStop error
+        (IsRight (S.state job.old) (S.state job.new) fleet.now)
+        (O.state stdout.old) (O.state stdout.new)) }
+    ensures read { (S.state job.new).failed ≡ is_err_of_read result }
+    ensures write { (O.state stdout.new).failed ≡ is_err_of_write result }
+    ensures turns { IsErrOf result Error.Turns →
+        length (S.state job.new).given ≡ length (S.state job.old).given + 2 ^ 40 }
 {
     let verdict = check_job(alloc, job, fleet)?;
     let line = line_of(alloc, verdict)?;

@@ -15,7 +15,8 @@ pub struct Choice {
     pub value: u32,
 }
 
-/// The printer that a word names, and what is chosen at its panel. Each other field has its first value.
+/// The printer that a word names, and what is chosen at its panel. Each other field has its first
+/// value.
 #[derive(Clone, Copy)]
 pub struct PanelSetting<'a> {
     /// The word PROFILE.
@@ -75,7 +76,8 @@ fn is_choice<A: Allocator>(profile: &Profile<A>, choice: Choice) -> bool
     profile.allowed(choice.field).contains(&choice.value)
 }
 
-/// The first panel with each chosen value in its field, or the first choice that the panel may not have.
+/// The first panel with each chosen value in its field, or the first choice that the panel may not
+/// have.
 pub(crate) fn chosen_panel<A: Allocator>(
     profile: &Profile<A>,
     choices: &[Choice],
@@ -114,7 +116,8 @@ fn push_choice_words<A: Allocator>(
     field: Field,
     values: &[u32],
 ) -> Result<(), AllocError>
-    ensures { OnOk result (line.new.items ≡ line.old.items ++ flat_map (choice_word field) values.now) }
+    ensures { OnOk result (line.new.items ≡ line.old.items ++ flat_map
+        (choice_word field) values.now) }
 {
     for value in values {
         push_choice_word(line, field, *value)?;

@@ -1,7 +1,7 @@
 //! The program's command `explain`.
 ghost use Rattle.std.specs.Prelude.{◌≡◌, ◌==◌, ◌<◌, map, option_map, is_err, IfErr, IsFalse, IsTrue};
 ghost use Rattle.std.specs.List.{before_first, after_first, list_any};
-ghost use Rattle.preflight.specs.Outlet.{Writes};
+ghost use Rattle.preflight.specs.Writing.{Writes};
 ghost use Rattle.subcommands.specs.Explanations.{complaint, end_of_explain, explanation, is_about, is_asked, is_unknown};
 
 use crate::explanations::EXPLANATIONS;
@@ -12,15 +12,24 @@ use preflight::{Error, Outlet, write_text};
 /// number or name, or what all mean. A code that none has is a usage error, of which standard error
 /// tells.
 pub fn explain<O: Outlet, E: Outlet>(code: Option<&str>, stdout: &mut O, stderr: &mut E) -> Status
-    requires stdout { IsFalse (O.failed stdout.old) }
-    requires stderr { IsFalse (E.failed stderr.old) }
-    ensures text { IsFalse (is_unknown (map (λ text. text.now) EXPLANATIONS) (option_map (λ word. word.now) code.entry)) →
-        Writes (O.failed stdout.new) (O.written stdout.old) (O.written stdout.new) (explanation (map (λ text. text.now) EXPLANATIONS) (option_map (λ word. word.now) code.entry)) }
-    ensures untouched { IsTrue (is_unknown (map (λ text. text.now) EXPLANATIONS) (option_map (λ word. word.now) code.entry)) → stdout.new ≡ stdout.old }
-    ensures status { result ≡ end_of_explain (is_unknown (map (λ text. text.now) EXPLANATIONS) (option_map (λ word. word.now) code.entry)) (O.failed stdout.new) }
-    ensures complaint { IsTrue (is_unknown (map (λ text. text.now) EXPLANATIONS) (option_map (λ word. word.now) code.entry)) →
-        Writes (E.failed stderr.new) (E.written stderr.old) (E.written stderr.new) (complaint (option_map (λ word. word.now) code.entry)) }
-    ensures quiet { IsFalse (is_unknown (map (λ text. text.now) EXPLANATIONS) (option_map (λ word. word.now) code.entry)) → stderr.new ≡ stderr.old }
+    requires stdout { IsFalse (O.state stdout.old).failed }
+    requires stderr { IsFalse (E.state stderr.old).failed }
+    ensures text { IsFalse (is_unknown (map (λ text. text.now) EXPLANATIONS)
+        (option_map (λ word. word.now) code.entry)) →
+        Writes (O.state stdout.old) (O.state stdout.new)
+        (explanation (map (λ text. text.now) EXPLANATIONS)
+        (option_map (λ word. word.now) code.entry)) }
+    ensures untouched { IsTrue (is_unknown (map (λ text. text.now) EXPLANATIONS)
+        (option_map (λ word. word.now) code.entry)) → stdout.new ≡ stdout.old }
+    ensures status { result ≡ end_of_explain
+        (is_unknown (map (λ text. text.now) EXPLANATIONS)
+        (option_map (λ word. word.now) code.entry)) (O.state stdout.new).failed }
+    ensures complaint { IsTrue (is_unknown (map (λ text. text.now) EXPLANATIONS)
+        (option_map (λ word. word.now) code.entry)) →
+        Writes (E.state stderr.old) (E.state stderr.new)
+        (complaint (option_map (λ word. word.now) code.entry)) }
+    ensures quiet { IsFalse (is_unknown (map (λ text. text.now) EXPLANATIONS)
+        (option_map (λ word. word.now) code.entry)) → stderr.new ≡ stderr.old }
 {
     explain_from(&EXPLANATIONS, code, stdout, stderr)
 }
@@ -32,15 +41,24 @@ fn explain_from<O: Outlet, E: Outlet>(
     stdout: &mut O,
     stderr: &mut E,
 ) -> Status
-    requires stdout { IsFalse (O.failed stdout.old) }
-    requires stderr { IsFalse (E.failed stderr.old) }
-    ensures text { IsFalse (is_unknown (map (λ text. text.now) explanations.now) (option_map (λ word. word.now) code.entry)) →
-        Writes (O.failed stdout.new) (O.written stdout.old) (O.written stdout.new) (explanation (map (λ text. text.now) explanations.now) (option_map (λ word. word.now) code.entry)) }
-    ensures untouched { IsTrue (is_unknown (map (λ text. text.now) explanations.now) (option_map (λ word. word.now) code.entry)) → stdout.new ≡ stdout.old }
-    ensures status { result ≡ end_of_explain (is_unknown (map (λ text. text.now) explanations.now) (option_map (λ word. word.now) code.entry)) (O.failed stdout.new) }
-    ensures complaint { IsTrue (is_unknown (map (λ text. text.now) explanations.now) (option_map (λ word. word.now) code.entry)) →
-        Writes (E.failed stderr.new) (E.written stderr.old) (E.written stderr.new) (complaint (option_map (λ word. word.now) code.entry)) }
-    ensures quiet { IsFalse (is_unknown (map (λ text. text.now) explanations.now) (option_map (λ word. word.now) code.entry)) → stderr.new ≡ stderr.old }
+    requires stdout { IsFalse (O.state stdout.old).failed }
+    requires stderr { IsFalse (E.state stderr.old).failed }
+    ensures text { IsFalse (is_unknown (map (λ text. text.now) explanations.now)
+        (option_map (λ word. word.now) code.entry)) →
+        Writes (O.state stdout.old) (O.state stdout.new)
+        (explanation (map (λ text. text.now) explanations.now)
+        (option_map (λ word. word.now) code.entry)) }
+    ensures untouched { IsTrue (is_unknown (map (λ text. text.now) explanations.now)
+        (option_map (λ word. word.now) code.entry)) → stdout.new ≡ stdout.old }
+    ensures status { result ≡ end_of_explain
+        (is_unknown (map (λ text. text.now) explanations.now)
+        (option_map (λ word. word.now) code.entry)) (O.state stdout.new).failed }
+    ensures complaint { IsTrue (is_unknown (map (λ text. text.now) explanations.now)
+        (option_map (λ word. word.now) code.entry)) →
+        Writes (E.state stderr.old) (E.state stderr.new)
+        (complaint (option_map (λ word. word.now) code.entry)) }
+    ensures quiet { IsFalse (is_unknown (map (λ text. text.now) explanations.now)
+        (option_map (λ word. word.now) code.entry)) → stderr.new ≡ stderr.old }
 {
     if let Some(word) = code {
         if !is_known(explanations, word) {
@@ -67,10 +85,12 @@ fn is_known(texts: &[&str], code: &str) -> bool
 
 /// Writes the explanations that are asked for, one behind another.
 fn write_asked<O: Outlet>(texts: &[&str], code: Option<&str>, stdout: &mut O) -> Result<(), Error>
-    requires { IsFalse (O.failed stdout.old) }
-    ensures text { Writes (O.failed stdout.new) (O.written stdout.old) (O.written stdout.new) (explanation (map (λ text. text.now) texts.now) (option_map (λ word. word.now) code.entry)) }
+    requires { IsFalse (O.state stdout.old).failed }
+    ensures text { Writes (O.state stdout.old) (O.state stdout.new)
+        (explanation (map (λ text. text.now) texts.now)
+        (option_map (λ word. word.now) code.entry)) }
     ensures err { IfErr result (λ error. error ≡ Error.Write) }
-    ensures status { O.failed stdout.new ≡ is_err result }
+    ensures status { (O.state stdout.new).failed ≡ is_err result }
 {
     for text in texts {
         if is_asked(code, text) {
@@ -99,7 +119,8 @@ fn is_about(code: &str, text: &str) -> bool
     number == code || name.eq_ignore_ascii_case(code)
 }
 
-/// What stands before the first such character, and behind it; where there is none, all and nothing.
+/// What stands before the first such character, and behind it; where there is none, all and
+/// nothing.
 fn cut(text: &str, character: char) -> (&str, &str)
     requires { character < 128 }
     ensures before { result.0.now ≡ before_first (λ byte. byte == character) text.now }
@@ -110,9 +131,9 @@ fn cut(text: &str, character: char) -> (&str, &str)
 
 /// Tells that no explanation is about a code.
 fn refuse<E: Outlet>(code: &str, stderr: &mut E) -> Status
-    requires { IsFalse (E.failed stderr.old) }
-    ensures status { result ≡ Status.Words }
-    ensures line { Writes (E.failed stderr.new) (E.written stderr.old) (E.written stderr.new) (complaint (Some code.now)) }
+    requires { IsFalse (E.state stderr.old).failed }
+    ensures status { result ≡ Status.Usage }
+    ensures line { Writes (E.state stderr.old) (E.state stderr.new) (complaint (Some code.now)) }
 {
     let pieces: [&[u8]; 3] = [
         b"error: no fault and no finding has the number or the name '",
@@ -121,5 +142,5 @@ fn refuse<E: Outlet>(code: &str, stderr: &mut E) -> Status
     ];
     // Where standard error takes nothing, the status alone is left to tell.
     let _ = write_pieces(stderr, &pieces);
-    Status::Words
+    Status::Usage
 }

@@ -1,4 +1,6 @@
 //! What faults and findings mean.
+ghost use Rattle.std.specs.Prelude.{map};
+ghost use Rattle.subcommands.specs.Explanations.{ExplainReasons};
 
 /// The faults of a job's bytes and the findings of a printer, in the order of their numbers: for each
 /// its number and name, when it comes, what to change, and where HP's PCL 5 Printer Language Technical
@@ -336,3 +338,9 @@ pub const EXPLANATIONS: [&str; 32] = [
            Automatic Overlay
 ",
 ];
+
+/// By the number of each fault and finding one explanation is asked for, and by its name the same,
+/// which begins with the two; and each explanation is of one of them.
+pub fn reasons_are_explained()
+    ensures { ExplainReasons (map (λ text. text.now) EXPLANATIONS) }
+{}

@@ -1,25 +1,23 @@
 //! The texts of profiles on this machine: built-in samples and files.
 ghost use Rattle.std.specs.Prelude.{◌≡◌, ◌≤◌, [], false, take, length, IfOk, IfErr, IfSome};
-ghost use Rattle.preflight.specs.Source.{is_err_of_read};
-ghost use Rattle.subcommands.specs.Texts.{IsErrorOfReading, sample_named, text_named};
+ghost use Rattle.preflight.specs.Errors.{is_err_of_read};
+ghost use Rattle.subcommands.specs.Texts.{IsErrorOfReading, IsTextBy, sample_named, text_named};
 
-use crate::file_id::FileId;
-use crate::file_source::FileSource;
-use crate::front::read_front;
-use crate::opening::Open;
-use crate::texts::{MOST_OF_TEXT, ProfileTexts};
+use crate::texts::{ProfileTexts, read_text_from};
 use device_profile::Sample;
-use given::Given;
-use preflight::{Error, Source, Watched};
+use preflight::Error;
 use std::alloc::Allocator;
 use std::marker::Model;
 use std::rt::Files;
+use streams::{FileId, FileSource, Given, Latched, Open, Source};
 
 /// The built-in samples under `@A` to `@D`, and the files under their paths.
 #[derive(Drop)]
 pub struct FileTexts<'a, R: Files> {
     files: &'a R,
     given: Given,
+    /// What the reads of the last text gave.
+    reads: Given,
     has_failed: bool,
     /// The file of the last text, if it was one.
     file: Option<FileId>,
@@ -30,7 +28,11 @@ impl<'a, R: Files> Model for FileTexts<'a, R> {
 
     ghost Value = { FileState };
 
-    ghost view = { λ texts. record { given = texts.given.pieces; has_failed = texts.has_failed } };
+    ghost view = { λ texts. record {
+      given = texts.given.pieces;
+      reads = texts.reads.pieces;
+      has_failed = texts.has_failed;
+    } };
 }
 
 impl<'a, R: Files> FileTexts<'a, R> {
@@ -42,29 +44,34 @@ impl<'a, R: Files> FileTexts<'a, R> {
         FileTexts {
             files,
             given: Given::new(),
+            reads: Given::new(),
             has_failed: false,
             file: None,
         }
     }
 
     fn read_named<A: Allocator>(&mut self, alloc: A, word: &str) -> Result<Vec<u8, A>, Error>
-        ensures bytes { IfOk result (λ text. IfSome (text_named word.now) (λ known. text.items ≡ take 65_537 known)) }
+        ensures bytes { IfOk result (λ text. IfSome (text_named word.now)
+            (λ known. text.items ≡ take 65_537 known)) }
+        ensures reads { IfOk result (λ text. IsTextBy self.new.reads text.items) }
         ensures most { IfOk result (λ text. length text.items ≤ 65_537) }
         ensures errors { IfErr result IsErrorOfReading }
         ensures given { self.new.given ≡ self.old.given }
         ensures status { self.new.has_failed ≡ is_err_of_read result }
     {
         if let Some(sample) = sample_named(word) {
-            let mut source = Watched::new(sample.text());
-            let result = read_front(alloc, &mut source, MOST_OF_TEXT);
+            let mut source = Latched::new(sample.text());
+            let result = read_text_from(alloc, &mut source);
             self.has_failed = source.has_failed();
+            self.reads = source.into_given();
             self.file = None;
             return result;
         }
         let mut file = FileSource::new(self.files, word);
-        let result = read_front(alloc, &mut file, MOST_OF_TEXT);
+        let result = read_text_from(alloc, &mut file);
         self.has_failed = file.has_failed();
         self.file = file.file();
+        self.reads = file.into_given();
         result
     }
 }
@@ -73,6 +80,8 @@ impl<R: Files> ProfileTexts for FileTexts<'_, R> {
     ghost text_of = { λ _. text_named };
 
     ghost given = { λ texts. texts.given };
+
+    ghost reads = { λ texts. texts.reads };
 
     ghost failed = { λ texts. texts.has_failed };
 

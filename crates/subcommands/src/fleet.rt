@@ -43,7 +43,8 @@ pub fn read_profile<T: ProfileTexts, A: Allocator + Copy>(
     number: u64,
 ) -> Result<Profile<A>, Status>
     requires { IsFalse (T.failed texts.old) }
-    ensures profile { MatchResult result (Describes (T.text_of texts.old word.now)) (IsEndOfProfile number (T.text_of texts.old word.now)) }
+    ensures profile { MatchResult result (Describes (T.text_of texts.old word.now))
+        (IsEndOfProfile number (T.text_of texts.old word.now)) }
     ensures given { MatchResult result
         (λ profile. DescribeBy (T.given texts.old) (T.given texts.new) (profile ∷ []))
         (RefusesRead (T.given texts.old) (T.given texts.new) number) }

@@ -1,8 +1,8 @@
 //! The front of what a source has.
 ghost use Rattle.std.specs.Prelude.{◌≡◌, ◌≤◌, take, length, IfOk, IfErr, IfSome, IsFalse};
 ghost use Rattle.std.specs.Io.KnownBytes.{Consumes};
-ghost use Rattle.preflight.specs.Pieces.{ByReads};
-ghost use Rattle.preflight.specs.Source.{is_err_of_read};
+ghost use Rattle.preflight.specs.Errors.{is_err_of_read};
+ghost use Rattle.streams.specs.Pieces.{ByReads};
 ghost use Rattle.subcommands.specs.Texts.{IsErrorOfReading};
 
 use preflight::{Error, Source};
@@ -18,13 +18,16 @@ pub fn read_front<S: Source, A: Allocator>(
     source: &mut S,
     most: usize,
 ) -> Result<Vec<u8, A>, Error>
-    requires { IsFalse (S.failed source.old) }
-    ensures bytes { IfOk result (λ front. IfSome (S.remaining source.old) (λ input. front.items ≡ take most input)) }
-    ensures given { IfOk result (λ front. ByReads (S.given source.old) (S.given source.new) (S.remaining source.old) (λ input. front.items ≡ take most input)) }
-    ensures taken { IfOk result (λ front. Consumes (S.remaining source.old) (S.remaining source.new) front.items) }
+    requires { IsFalse (S.state source.old).failed }
+    ensures bytes { IfOk result (λ front. IfSome (S.state source.old).remaining
+        (λ input. front.items ≡ take most input)) }
+    ensures given { IfOk result (λ front. ByReads (S.state source.old) (S.state source.new)
+        (λ input. front.items ≡ take most input)) }
+    ensures taken { IfOk result (λ front. Consumes (S.state source.old).remaining
+        (S.state source.new).remaining front.items) }
     ensures most { IfOk result (λ front. length front.items ≤ most) }
     ensures errors { IfErr result IsErrorOfReading }
-    ensures read { S.failed source.new ≡ is_err_of_read result }
+    ensures read { (S.state source.new).failed ≡ is_err_of_read result }
 {
     let mut front = Vec::new(alloc);
     let mut piece = [0u8; PIECE];

@@ -1,10 +1,11 @@
 //! The command `list`.
 ghost use Rattle.std.specs.Prelude.{IsFalse};
-ghost use Rattle.preflight.specs.Due.{list_telling};
-ghost use Rattle.subcommands.specs.JobTexts.{reads_by, EndsBy, LeavesText};
+ghost use Rattle.preflight.specs.Due.{list_rendering};
+ghost use Rattle.subcommands.specs.JobTexts.{EndsBy, LeavesText};
 
+use crate::render::render;
 use crate::status::Status;
-use preflight::{Outcome, Outlet, Source, list_job};
+use preflight::{Listing, Outlet, Source};
 use std::alloc::Allocator;
 
 /// The command `list`: a line on standard output for each item of the job, its place and its
@@ -14,16 +15,13 @@ pub fn list<S: Source, O: Outlet, A: Allocator + Copy>(
     job: &mut S,
     stdout: &mut O,
 ) -> Status
-    requires job { IsFalse (S.failed job.old) }
-    requires stdout { IsFalse (O.failed stdout.old) }
+    requires job { IsFalse (S.state job.old).failed }
+    requires stdout { IsFalse (O.state stdout.old).failed }
     ensures ends { EndsBy result
-        (λ job. LeavesText result list_telling job (O.written stdout.old) (O.written stdout.new))
-        (reads_by (S.given job.old) (S.given job.new) (S.remaining job.old) (S.remaining job.new))
-        (S.failed job.new) (O.failed stdout.new) }
+        (λ old new. LeavesText result list_rendering old new (O.state stdout.old)
+        (O.state stdout.new))
+        (S.state job.old) (S.state job.new)
+        (S.state job.new).failed (O.state stdout.new).failed }
 {
-    match list_job(alloc, job, stdout) {
-        Ok(Outcome::Done) => Status::Pass,
-        Ok(Outcome::Fail { .. }) => Status::Fail,
-        Err(error) => Status::Stopped(error),
-    }
+    render(alloc, job, &mut Listing::new(alloc), stdout)
 }

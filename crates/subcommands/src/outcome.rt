@@ -1,6 +1,6 @@
 //! How the program ends by the work on a text.
 ghost use Rattle.std.specs.Prelude.{◌≡◌, IsErrOf, IsFalse, IfErr, IfOk, OnOk};
-ghost use Rattle.preflight.specs.Source.{is_err_of_read};
+ghost use Rattle.preflight.specs.Errors.{is_err_of_read};
 ghost use Rattle.subcommands.specs.JobTexts.{LeavesLine};
 ghost use Rattle.subcommands.specs.Status.{is_stop_of_read, is_stop_of_write, IsEndOfText};
 
@@ -16,13 +16,14 @@ pub fn end_by<O: Outlet, A: Allocator + Copy>(
     work: Result<Outcome, Error>,
     stdout: &mut O,
 ) -> Status
-    requires { OnOk work (IsFalse (O.failed stdout.old)) }
+    requires { OnOk work (IsFalse (O.state stdout.old).failed) }
     ensures end { IsEndOfText result }
     ensures ok { IfOk work (λ outcome.
-        LeavesLine outcome result (O.written stdout.old) (O.written stdout.new)) }
-    ensures err { IfErr work (λ error. (result ≡ Status.Stopped error) × (stdout.new ≡ stdout.old)) }
+        LeavesLine outcome result (O.state stdout.old) (O.state stdout.new)) }
+    ensures err { IfErr work (λ error. (result ≡ Status.Stopped error)
+        × (stdout.new ≡ stdout.old)) }
     ensures read { is_stop_of_read result ≡ is_err_of_read work }
-    ensures write { OnOk work (O.failed stdout.new ≡ is_stop_of_write result) }
+    ensures write { OnOk work ((O.state stdout.new).failed ≡ is_stop_of_write result) }
     ensures turns { result ≡ Status.Stopped Error.Turns → IsErrOf work Error.Turns }
 {
     match work {
@@ -37,9 +38,9 @@ fn end_by_outcome<O: Outlet, A: Allocator + Copy>(
     outcome: Outcome,
     stdout: &mut O,
 ) -> Status
-    requires { IsFalse (O.failed stdout.old) }
-    ensures line { LeavesLine outcome result (O.written stdout.old) (O.written stdout.new) }
-    ensures write { O.failed stdout.new ≡ is_stop_of_write result }
+    requires { IsFalse (O.state stdout.old).failed }
+    ensures line { LeavesLine outcome result (O.state stdout.old) (O.state stdout.new) }
+    ensures write { (O.state stdout.new).failed ≡ is_stop_of_write result }
 {
     let Outcome::Fail {
         place,

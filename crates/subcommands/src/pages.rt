@@ -1,7 +1,7 @@
 //! The command `pages`.
 ghost use Rattle.std.specs.Prelude.{◌≡◌, ◌||◌, IsFalse, IsTrue};
 ghost use Rattle.subcommands.specs.Fleet.{RefusesRead};
-ghost use Rattle.subcommands.specs.JobTexts.{reads_by, EndsBy, IsNamed, LeavesPages, RefusesOne};
+ghost use Rattle.subcommands.specs.JobTexts.{EndsBy, IsNamed, LeavesPages, RefusesOne};
 ghost use Rattle.subcommands.specs.Status.{is_refusal};
 
 use crate::fleet::read_profile;
@@ -11,8 +11,8 @@ use crate::texts::ProfileTexts;
 use preflight::{Outlet, Source, pages_of};
 use std::alloc::Allocator;
 
-/// The command `pages`: the pages of the job on standard output, from the first panel of the printer
-/// that the word PROFILE names. The profile is read and judged before the job is read.
+/// The command `pages`: the pages of the job on standard output, from the first panel of the
+/// printer that the word PROFILE names. The profile is read and judged before the job is read.
 pub fn pages<S: Source, T: ProfileTexts, O: Outlet, A: Allocator + Copy>(
     alloc: A,
     job: &mut S,
@@ -20,15 +20,15 @@ pub fn pages<S: Source, T: ProfileTexts, O: Outlet, A: Allocator + Copy>(
     profile: &str,
     stdout: &mut O,
 ) -> Status
-    requires job { IsFalse (S.failed job.old) }
+    requires job { IsFalse (S.state job.old).failed }
     requires texts { IsFalse (T.failed texts.old) }
-    requires stdout { IsFalse (O.failed stdout.old) }
+    requires stdout { IsFalse (O.state stdout.old).failed }
     ensures ends { EndsBy result
-        (λ job. LeavesPages result
+        (λ old new. LeavesPages result
         (IsNamed (T.text_of texts.old profile.now) (T.given texts.old) (T.given texts.new))
-        job (O.written stdout.old) (O.written stdout.new))
-        (reads_by (S.given job.old) (S.given job.new) (S.remaining job.old) (S.remaining job.new))
-        (S.failed job.new || T.failed texts.new) (O.failed stdout.new) }
+        old new (O.state stdout.old) (O.state stdout.new))
+        (S.state job.old) (S.state job.new)
+        ((S.state job.new).failed || T.failed texts.new) (O.state stdout.new).failed }
     ensures refusal { RefusesOne (T.text_of texts.old profile.now) result }
     ensures refused { RefusesRead (T.given texts.old) (T.given texts.new) 1 result }
     ensures unread { IsTrue (is_refusal result || T.failed texts.new) → job.new ≡ job.old }

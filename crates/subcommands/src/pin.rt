@@ -1,18 +1,19 @@
 //! The command `pin`.
 ghost use Rattle.std.specs.Prelude.{◌≡◌, ◌⊎◌, ◌||◌, IsFalse, IsTrue};
 ghost use Rattle.subcommands.specs.Fleet.{RefusesRead};
-ghost use Rattle.subcommands.specs.JobTexts.{reads_by, EndsBy, IsNamed, LeavesPinned, RefusesOne, TellsOfChoice, TellsOfPin};
+ghost use Rattle.subcommands.specs.JobTexts.{EndsBy, IsNamed, LeavesPinned, RefusesOne, TellsOfChoice, TellsOfPin};
 ghost use Rattle.subcommands.specs.Status.{is_answer, is_overwriting, is_refusal, is_refused_choice};
 
 use crate::choices::{Choice, PanelSetting, choice_line, chosen_panel};
 use crate::fleet::read_profile;
-use crate::opening::{Create, Open, open_and_create};
+use crate::opening::open_and_create;
 use crate::outcome::end_by;
 use crate::status::Status;
 use crate::texts::ProfileTexts;
 use device_profile::Profile;
-use preflight::{Error, Outlet, pin_job, write_text};
+use preflight::{Error, pin_job, write_text};
 use std::alloc::Allocator;
+use streams::{Create, Open, Outlet};
 
 /// The command `pin`: the items of the job in OUT, pinned to the panel of the printer that is
 /// chosen, and for a fault of the bytes or an item that cannot be pinned its line on standard
@@ -28,19 +29,20 @@ pub fn pin<S: Open, T: ProfileTexts, W: Create, O: Outlet, E: Outlet, A: Allocat
     stdout: &mut O,
     stderr: &mut E,
 ) -> Status
-    requires job { IsFalse (S.failed job.old) }
+    requires job { IsFalse (S.state job.old).failed }
     requires texts { IsFalse (T.failed texts.old) }
-    requires out { IsFalse (W.failed out.old) }
-    requires stdout { IsFalse (O.failed stdout.old) }
-    requires stderr { IsFalse (E.failed stderr.old) }
+    requires out { IsFalse (W.state out.old).failed }
+    requires stdout { IsFalse (O.state stdout.old).failed }
+    requires stderr { IsFalse (E.state stderr.old).failed }
     ensures ends { EndsBy result
-        (λ job. LeavesPinned result
+        (λ old new. LeavesPinned result
         (IsNamed (T.text_of texts.old setting.now.profile.now)
         (T.given texts.old) (T.given texts.new))
-        setting.now.choices.now job
-        (W.written out.old) (W.written out.new) (O.written stdout.old) (O.written stdout.new))
-        (reads_by (S.given job.old) (S.given job.new) (S.remaining job.old) (S.remaining job.new))
-        (S.failed job.new || T.failed texts.new) (W.failed out.new || O.failed stdout.new) }
+        setting.now.choices.now old new
+        (W.state out.old) (W.state out.new) (O.state stdout.old) (O.state stdout.new))
+        (S.state job.old) (S.state job.new)
+        ((S.state job.new).failed || T.failed texts.new)
+        ((W.state out.new).failed || (O.state stdout.new).failed) }
     ensures refusal { RefusesOne (T.text_of texts.old setting.now.profile.now) result }
     ensures refused { RefusesRead (T.given texts.old) (T.given texts.new) 1 result }
     ensures unread { IsTrue (is_refusal result || T.failed texts.new) → job.new ≡ job.old }
@@ -53,8 +55,7 @@ pub fn pin<S: Open, T: ProfileTexts, W: Create, O: Outlet, E: Outlet, A: Allocat
     ensures choice { TellsOfPin result
         (IsNamed (T.text_of texts.old setting.now.profile.now)
         (T.given texts.old) (T.given texts.new))
-        setting.now.choices.now
-        (E.failed stderr.new) (E.written stderr.old) (E.written stderr.new) }
+        setting.now.choices.now (E.state stderr.old) (E.state stderr.new) }
     ensures quiet { IsFalse (is_refused_choice result) → stderr.new ≡ stderr.old }
 {
     let profile = match read_profile(alloc, texts, setting.profile, 1) {
@@ -79,9 +80,9 @@ fn refuse_choice<E: Outlet, A: Allocator, P: Allocator>(
     choice: Choice,
     stderr: &mut E,
 ) -> Status
-    requires { IsFalse (E.failed stderr.old) }
+    requires { IsFalse (E.state stderr.old).failed }
     ensures choice { TellsOfChoice result profile.now choice
-        (E.failed stderr.new) (E.written stderr.old) (E.written stderr.new) }
+        (E.state stderr.old) (E.state stderr.new) }
     ensures quiet { IsFalse (is_refused_choice result) → stderr.new ≡ stderr.old }
 {
     let Ok(line) = choice_line(alloc, profile, choice) else {

@@ -1,7 +1,7 @@
 //! How the program ends.
 ghost use Rattle.std.specs.Prelude.{◌≡◌, IsFalse, IsTrue, map};
 ghost use Rattle.std.specs.List.{concat};
-ghost use Rattle.preflight.specs.Outlet.{Writes};
+ghost use Rattle.preflight.specs.Writing.{Writes};
 ghost use Rattle.preflight.specs.declared.error.Error.TheVariants.{Memory};
 ghost use Rattle.subcommands.specs.Status.{code_of, cause_name, error_line, overwriting_line, refusal_line, status_line};
 ghost use Rattle.subcommands.specs.declared.status.Status.TheVariants.{Stopped};
@@ -30,8 +30,8 @@ pub enum Status {
     Fail,
     /// Help, the version or an explanation was written.
     Help,
-    /// The words ask for nothing that there is.
-    Words,
+    /// A usage error: the words ask for nothing that there is.
+    Usage,
     /// OUT is a file that is read.
     Overwrites(Input),
     /// The panel of the printer may not have this value.
@@ -55,7 +55,7 @@ impl Status {
         match self {
             Status::Pass | Status::Help => 0,
             Status::Fail => 1,
-            Status::Words
+            Status::Usage
             | Status::Overwrites(_)
             | Status::NotAllowed(_)
             | Status::Profile { .. } => 2,
@@ -82,9 +82,9 @@ impl<T: Drop> From<AllocFailed<T>> for Status {
 
 /// Writes the line of a status, as far as it can be written.
 pub fn tell<E: Outlet>(status: Status, stderr: &mut E)
-    ensures line { IsFalse (E.failed stderr.old) →
-        Writes (E.failed stderr.new) (E.written stderr.old) (E.written stderr.new) (status_line status) }
-    ensures failed { IsTrue (E.failed stderr.old) → stderr.new ≡ stderr.old }
+    ensures line { IsFalse (E.state stderr.old).failed →
+        Writes (E.state stderr.old) (E.state stderr.new) (status_line status) }
+    ensures failed { IsTrue (E.state stderr.old).failed → stderr.new ≡ stderr.old }
 {
     if stderr.has_failed() {
         return;
@@ -98,7 +98,7 @@ pub fn tell<E: Outlet>(status: Status, stderr: &mut E)
         } => write_refusal(stderr, number, line, cause),
         Status::Stopped(error) => write_text(stderr, error_line(error)),
         Status::Overwrites(input) => write_text(stderr, overwriting_line(input)),
-        Status::Pass | Status::Fail | Status::Help | Status::Words | Status::NotAllowed(_) => Ok(
+        Status::Pass | Status::Fail | Status::Help | Status::Usage | Status::NotAllowed(_) => Ok(
             (),
         ),
     };
@@ -132,8 +132,8 @@ fn write_refusal<E: Outlet>(
     line: u64,
     cause: Cause,
 ) -> Result<(), Error>
-    requires { IsFalse (E.failed stderr.old) }
-    ensures { Writes (E.failed stderr.new) (E.written stderr.old) (E.written stderr.new) (refusal_line number line cause) }
+    requires { IsFalse (E.state stderr.old).failed }
+    ensures { Writes (E.state stderr.old) (E.state stderr.new) (refusal_line number line cause) }
 {
     let mut number_digits = Buffer::new();
     let mut line_digits = Buffer::new();
@@ -164,8 +164,9 @@ fn cause_name(cause: Cause) -> &'static [u8]
 
 /// Writes pieces of a text one after the other.
 pub fn write_pieces<E: Outlet>(outlet: &mut E, pieces: &[&[u8]]) -> Result<(), Error>
-    requires { IsFalse (E.failed outlet.old) }
-    ensures { Writes (E.failed outlet.new) (E.written outlet.old) (E.written outlet.new) (concat (map (λ piece. piece.now) pieces.now)) }
+    requires { IsFalse (E.state outlet.old).failed }
+    ensures { Writes (E.state outlet.old) (E.state outlet.new)
+        (concat (map (λ piece. piece.now) pieces.now)) }
 {
     for piece in pieces {
         write_text(outlet, piece)?;

@@ -40,6 +40,18 @@ impl Failure {
         }
     }
 
+    /// The failure of a job by the item at this place, which gives other marks or pages on the printer of this number than on the
+    /// first.
+    pub fn of_difference(place: u64, profile: u64) -> Failure
+        ensures { result ≡ record { place = place; profile = profile; reason = Reason.Differs } }
+    {
+        Failure {
+            place,
+            profile,
+            reason: Reason::Differs,
+        }
+    }
+
     /// The verdict on the job.
     pub fn verdict(self) -> Verdict
         ensures { result ≡ failing self }

@@ -2,6 +2,7 @@
 #![tactic(auto)]
 
 mod failure;
+mod numbers;
 mod reason;
 mod verdict;
 

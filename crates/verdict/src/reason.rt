@@ -1,4 +1,8 @@
 //! Why a job fails.
+ghost use Rattle.std.specs.Prelude.{◌≡◌};
+ghost use Rattle.verdict.specs.Numbers.{reason_number};
+
+use crate::numbers::{cause_number, number_of};
 use page_env::Finding;
 use pcl_items::Cause;
 
@@ -13,4 +17,18 @@ pub enum Reason {
     Differs,
     /// The item at the place returns to what the panel has, so there is no pinned job.
     Unpinnable,
+}
+
+impl Reason {
+    /// The number of the fault or the finding.
+    pub fn number(self) -> u8
+        ensures { result ≡ reason_number self }
+    {
+        match self {
+            Reason::Fault(cause) => cause_number(cause),
+            Reason::Finding(finding) => number_of(finding),
+            Reason::Differs => 33,
+            Reason::Unpinnable => 35,
+        }
+    }
 }

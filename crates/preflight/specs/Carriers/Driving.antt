@@ -4,7 +4,8 @@ use Rattle.std.specs.List.{concat}
 use Rattle.std.specs.Io.KnownBytes.{Consumes}
 use Rattle.preflight.specs.declared.error.Error.{Error}
 use Rattle.preflight.specs.declared.error.Error.TheVariants.{Memory, Read, Write, Turns, NoProfile}
-use Rattle.preflight.specs.Pieces.{MayBeBy, Spell}
+use Rattle.streams.specs.Pieces.{MayBeBy, Spell}
+use Rattle.streams.specs.Source.{SourceState}
 
 -- an error of what takes the pieces
 abbrev pub IsErrorOfPiece : Error → Type 0
@@ -28,30 +29,30 @@ ComesByEnd answers stops first bytes now (Ok answer) = (pieces : List (List ℕ)
 ComesByEnd answers stops first bytes now (Err error) = stops first error bytes now × IsErrorOfPiece error
 
 -- What the reads gave so far is these bytes, in so many pieces, and they leave the answer open.
-pub record IsUnderWay {C : Type 0} (goes_on : C → List ℕ → C → Type 0) (first now : C) (given given' : List (List ℕ)) (remaining left : Option (List ℕ)) (reads : ℕ) : Type 0 where
+pub record IsUnderWay {C : Type 0} (goes_on : C → List ℕ → C → Type 0) (first now : C) (source source' : SourceState) (reads : ℕ) : Type 0 where
   pub pieces : List (List ℕ)
   pub bytes : List ℕ
-  pub given_is : given' ≡ given ++ pieces
+  pub given_is : source'.given ≡ source.given ++ pieces
   pub joined : concat pieces ≡ bytes
   pub spelled : Spell pieces bytes
   pub count : length pieces ≡ reads
-  pub consumed : Consumes remaining left bytes
+  pub consumed : Consumes source.remaining source'.remaining bytes
   pub most : length bytes ≤ 4096 * reads
   pub least : reads ≤ length bytes
   pub left_open : goes_on first bytes now
 
 -- The answer on every job that may be by what the reads gave. What those before the last one gave left it open.
-pub record IsAnswered {C A : Type 0} (goes_on : C → List ℕ → C → Type 0) (answers : C → A → List (List ℕ) → C → Type 0) (first now : C) (answer : A) (given given' : List (List ℕ)) (remaining : Option (List ℕ)) : Type 0 where
+pub record IsAnswered {C A : Type 0} (goes_on : C → List ℕ → C → Type 0) (answers : C → A → List (List ℕ) → C → Type 0) (first now : C) (answer : A) (source source' : SourceState) : Type 0 where
   pub before : List (List ℕ)
   pub last : List ℕ
-  pub given_is : given' ≡ given ++ (before ++ last ∷ [])
+  pub given_is : source'.given ≡ source.given ++ (before ++ last ∷ [])
   pub short : length last ≤ 4096
   pub bytes : List ℕ
   pub spelled : Spell before bytes
   pub between : C
   pub left_open : goes_on first bytes between
   pub answered : answers first answer (before ++ last ∷ []) now
-  pub known : IfSome remaining (MayBeBy (before ++ last ∷ []))
+  pub known : IfSome source.remaining (MayBeBy (before ++ last ∷ []))
 
 -- whose error it was: that of what takes the pieces, or of the reads, where the bytes before leave the answer open
 abbrev pub StopsBy : Type 0 → (Error → Type 0) → Error → Type 0
@@ -62,10 +63,10 @@ StopsBy Open Stops Turns = Open
 StopsBy Open Stops NoProfile = ⊥
 
 -- The reads gave these bytes, and then it stopped.
-pub record IsStopped {C : Type 0} (goes_on : C → List ℕ → C → Type 0) (stops : C → Error → List ℕ → C → Type 0) (first now : C) (error : Error) (given given' : List (List ℕ)) (remaining left : Option (List ℕ)) : Type 0 where
+pub record IsStopped {C : Type 0} (goes_on : C → List ℕ → C → Type 0) (stops : C → Error → List ℕ → C → Type 0) (first now : C) (error : Error) (source source' : SourceState) : Type 0 where
   pub pieces : List (List ℕ)
   pub bytes : List ℕ
-  pub given_is : given' ≡ given ++ pieces
+  pub given_is : source'.given ≡ source.given ++ pieces
   pub joined : concat pieces ≡ bytes
-  pub consumed : Consumes remaining left bytes
+  pub consumed : Consumes source.remaining source'.remaining bytes
   pub came : StopsBy (goes_on first bytes now) (λ e. stops first e bytes now) error

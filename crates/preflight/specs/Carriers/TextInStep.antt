@@ -13,7 +13,7 @@ abbrev pub GoOnAll : Look → List ℕ → List MachineState → Type 0
 GoOnAll look codes machines =
     AllByRecursion (λ machine. AllGo machine.printer look machine.page codes × (machine.macros.definition ≡ None)) machines
 
--- each of the bytes is an item that all machines carry out with the same events, which are counted
+-- each of the bytes is an item that all machines execute with the same events, which are counted
 abbrev pub PrintInStep : List ℕ → List MachineState → List MachineState → Counts → Counts → Type 0
 PrintInStep [] old new counts counts' = (new ≡ old) × (counts' ≡ counts)
 PrintInStep (code ∷ codes) old new counts counts' =

@@ -4,6 +4,6 @@ use Rattle.preflight.proofs.driver.read_job.Given as goal
 
 abbrev pub invariant-loop : goal.invariant-loop
 invariant-loop g l = record {
-  way : IsUnderWay g.C.Consumer.goes_on (l.initial.consumer, l.initial.outlet) (l.consumer, l.outlet) (g.S.Source.given l.initial.reader) (g.S.Source.given l.reader) (g.S.Source.remaining l.initial.reader) (g.S.Source.remaining l.reader) l.counter;
-  working : IsFalse (g.S.Source.failed l.reader);
+  way : IsUnderWay g.C.Consumer.goes_on (l.initial.consumer, l.initial.outlet) (l.consumer, l.outlet) (g.S.Source.state l.initial.reader) (g.S.Source.state l.reader) l.counter;
+  working : IsFalse (g.S.Source.state l.reader).failed;
 }

@@ -2,7 +2,7 @@ use Rattle.std.proofs.Common.{◌||◌, ◌∙◌, ap, sym, subst}
 use Rattle.subcommands.specs.Fleet.{DescribeBy, DescribeFleet, IsEndOfFleet}
 use Rattle.subcommands.specs.Status.{is_err_at_read}
 use Rattle.subcommands.proofs.FleetLemmas.{DescribeFleet-some, no_line, no_write}
-use Rattle.subcommands.proofs.LeavesLemmas.{LeavesAtStop-more}
+use Rattle.subcommands.proofs.Leaves.{LeavesAtStop-more}
 use Rattle.subcommands.proofs.check.check.Goals as goal
 
 pub write_verdict-requires-clause-some : goal.write_verdict-requires-clause-some

@@ -3,4 +3,4 @@ use Rattle.subcommands.proofs.ExplainLemmas.{Writes-unknown}
 use Rattle.subcommands.proofs.explain.refuse.Goals as goal
 
 pub returns-clause-line : goal.returns-clause-line
-returns-clause-line g c = Writes-unknown _ _ _ c.args.code.now c.as_bytes.result.now (search rules) c.write_pieces.ensures
+returns-clause-line g c = Writes-unknown _ _ c.args.code.now c.as_bytes.result.now (search rules) c.write_pieces.ensures

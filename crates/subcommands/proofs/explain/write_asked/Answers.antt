@@ -1,5 +1,5 @@
 use Rattle.std.proofs.Common.{rules, option_map, sym, ◌∙◌}
-use Rattle.preflight.proofs.OutletLemmas.{Adds-none}
+use Rattle.streams.proofs.OutletLemmas.{Adds-none}
 use Rattle.subcommands.proofs.ExplainLemmas.{told_cut, told_more, told_past, told_to_the_end}
 use Rattle.subcommands.specs.Explanations.{is_asked}
 use Rattle.subcommands.proofs.explain.write_asked.Goals.{then-is_asked+in_ok-write_text, else-is_asked}
@@ -8,7 +8,7 @@ use Rattle.subcommands.proofs.explain.write_asked.Goals as goal
 pub returns-in_err-write_text-clause-text : goal.returns-in_err-write_text-clause-text
 returns-in_err-write_text-clause-text g c =
     told_cut (is_asked (option_map (λ word. word.now) c.args.code)) (λ text. text.now) c.args.texts.now c.loop-text.text-index _ _ _ _ (search rules)
-    c.loop-text.invariant.1 _ _ (search rules) c.as_bytes.ensures.value (search rules) c.write_text.ensures.text.front
+    c.loop-text.invariant.1 _ (search rules) c.as_bytes.ensures.value (search rules) c.write_text.ensures.text.front
 
 pub loop-text-init : goal.loop-text-init
 loop-text-init g c = (search rules, Adds-none _)
@@ -30,4 +30,4 @@ loop-text-preserved g c =
 
 pub returns-clause-text : goal.returns-clause-text
 returns-clause-text g c =
-    told_to_the_end (is_asked (option_map (λ word. word.now) c.args.code)) (λ text. text.now) c.args.texts.now c.loop-text.text-index _ _ _ c.loop-text-test.false c.loop-text.invariant.1
+    told_to_the_end (is_asked (option_map (λ word. word.now) c.args.code)) (λ text. text.now) c.args.texts.now c.loop-text.text-index _ _ c.loop-text-test.false c.loop-text.invariant.1

@@ -1,9 +1,11 @@
 use Rattle.std.proofs.Common.{◌||◌, ◌∙◌, ap, sym, subst}
 use Rattle.std.proofs.Math.Bool.{or-false}
-use Rattle.preflight.specs.Pins.{pinned_telling}
-use Rattle.subcommands.specs.JobTexts.{IsNamed, reads_by}
+use Rattle.streams.specs.Outlet.{OutletState}
+use Rattle.preflight.specs.Pins.{pinned_rendering}
+use Rattle.streams.specs.Source.{SourceState}
+use Rattle.subcommands.specs.JobTexts.{IsNamed}
 use Rattle.subcommands.specs.Status.{is_err_at_read, is_err_at_write, IsEndOfOpening}
-use Rattle.subcommands.proofs.JobTextLemmas.{choice_refused, choice_told, ended, ended_write_beside, no_pinned, opening_left, out_left, pinned_left, sound_beside}
+use Rattle.subcommands.proofs.JobTexts.{choice_refused, choice_told, ended, ended_write_beside, no_pinned, opening_left, out_left, pinned_left, rendered_from, sound_beside}
 use Rattle.subcommands.specs.Fleet.{IsEndOfProfile}
 use Rattle.subcommands.proofs.FleetLemmas.{no_write_before}
 use Rattle.subcommands.proofs.pin.pin.Goals as goal
@@ -13,24 +15,24 @@ end_by-requires g c = sound_beside c.pin_job-work.result _ c.requires.stdout
 
 pub returns-in-Err-clause-ends : goal.returns-in-Err-clause-ends
 returns-in-Err-clause-ends g c = record {
-  left = no_pinned 1 _ c.in-Err.status _ _ _ _ _ _ c.in-Err.ensures.profile;
+  left = no_pinned 1 _ c.in-Err.status _ _ _ _ _ c.in-Err.ensures.profile;
   read = ap (λ failed. failed || g.T.ProfileTexts.failed c.read_profile.new.texts) c.requires.job ∙ (c.read_profile.ensures.read ∙ ap is_err_at_read c.in-Err.is);
-  write = ap (λ failed. failed || g.O.Outlet.failed c.args.stdout.now) c.requires.out ∙ (c.requires.stdout ∙ no_write_before 1 _ c.in-Err.status c.in-Err.ensures.profile);
+  write = ap (λ failed. failed || (g.O.Outlet.state c.args.stdout.now).failed) c.requires.out ∙ (c.requires.stdout ∙ no_write_before 1 _ c.in-Err.status c.in-Err.ensures.profile);
   turns = λ is. absurd (subst (IsEndOfProfile 1 _) is c.in-Err.ensures.profile);
 }
 
 pub returns-in-Err-chosen_panel-clause-ends : goal.returns-in-Err-chosen_panel-clause-ends
 returns-in-Err-chosen_panel-clause-ends g c =
     let named = IsNamed (g.T.ProfileTexts.text_of c.args.texts.now c.args.setting.now.profile.now) (g.T.ProfileTexts.given c.args.texts.now) (g.T.ProfileTexts.given c.read_profile.new.texts) in
-    choice_refused c.refuse_choice.result c.in-Ok.profile c.in-Err-chosen_panel.choice named _ _ _ _ _ _ _ _ _ _
+    choice_refused c.refuse_choice.result c.in-Ok.profile c.in-Err-chosen_panel.choice named _ _ _ _ _ _ _ _
     (ap (λ failed. failed || g.T.ProfileTexts.failed c.read_profile.new.texts) c.requires.job ∙ (c.read_profile.ensures.read ∙ ap is_err_at_read c.in-Ok.is))
-    (ap (λ failed. failed || g.O.Outlet.failed c.args.stdout.now) c.requires.out ∙ c.requires.stdout)
+    (ap (λ failed. failed || (g.O.Outlet.state c.args.stdout.now).failed) c.requires.out ∙ c.requires.stdout)
     c.refuse_choice.ensures.choice
 
 pub returns-in-Err-chosen_panel-clause-choice : goal.returns-in-Err-chosen_panel-clause-choice
 returns-in-Err-chosen_panel-clause-choice g c =
     let named = IsNamed (g.T.ProfileTexts.text_of c.args.texts.now c.args.setting.now.profile.now) (g.T.ProfileTexts.given c.args.texts.now) (g.T.ProfileTexts.given c.read_profile.new.texts) in
-    choice_told c.refuse_choice.result c.in-Ok.profile c.in-Err-chosen_panel.choice named _ _ _ _
+    choice_told c.refuse_choice.result c.in-Ok.profile c.in-Err-chosen_panel.choice named _ _ _
     (c.in-Ok.ensures.profile, c.in-Ok.ensures.given) (sym c.in-Err-chosen_panel.ensures.value) c.refuse_choice.ensures.choice
 
 pub returns-in-Err-open_and_create-clause-ends : goal.returns-in-Err-open_and_create-clause-ends
@@ -40,19 +42,19 @@ returns-in-Err-open_and_create-clause-ends g c =
     let printer = c.in-Ok.profile in
     let panel = c.in-Ok-chosen_panel.panel in
     record {
-      left = pinned_left status _ _ _ _ _ _ _ (
+      left = pinned_left status _ _ _ _ _ _ _ _ (
         printer,
         panel,
         (c.in-Ok.ensures.profile, c.in-Ok.ensures.given),
         sym c.in-Ok-chosen_panel.ensures.value,
-        opening_left status (pinned_telling printer panel) _ _ _ _ _ _ _ c.in-Err-open_and_create.ensures.err opening.given opening.remaining opening.written,
+        opening_left status (pinned_rendering printer panel) _ _ _ _ _ _ _ c.in-Err-open_and_create.ensures.err opening.source opening.outlet,
       );
       read =
-          ap (λ failed. g.S.Source.failed c.open_and_create.new.job || failed) (c.read_profile.ensures.read ∙ ap is_err_at_read c.in-Ok.is)
-          ∙ or-false (g.S.Source.failed c.open_and_create.new.job) ∙ opening.read ∙ ap is_err_at_read c.in-Err-open_and_create.is;
+          ap (λ failed. (g.S.Source.state c.open_and_create.new.job).failed || failed) (c.read_profile.ensures.read ∙ ap is_err_at_read c.in-Ok.is)
+          ∙ or-false (g.S.Source.state c.open_and_create.new.job).failed ∙ ap (λ (s : SourceState). s.failed) opening.source ∙ ap is_err_at_read c.in-Err-open_and_create.is;
       write =
-          ap (λ failed. g.W.Outlet.failed c.open_and_create.new.out || failed) c.requires.stdout ∙ or-false (g.W.Outlet.failed c.open_and_create.new.out)
-          ∙ opening.write ∙ ap is_err_at_write c.in-Err-open_and_create.is;
+          ap (λ failed. (g.W.Outlet.state c.open_and_create.new.out).failed || failed) c.requires.stdout ∙ or-false (g.W.Outlet.state c.open_and_create.new.out).failed
+          ∙ ap (λ (o : OutletState). o.failed) opening.outlet ∙ ap is_err_at_write c.in-Err-open_and_create.is;
       turns = λ is. absurd (subst IsEndOfOpening is c.in-Err-open_and_create.ensures.err);
     }
 
@@ -61,28 +63,28 @@ returns-clause-ends g c =
     let named = IsNamed (g.T.ProfileTexts.text_of c.args.texts.now c.args.setting.now.profile.now) (g.T.ProfileTexts.given c.args.texts.now) (g.T.ProfileTexts.given c.read_profile.new.texts) in
     let printer = c.in-Ok.profile in
     let panel = c.in-Ok-chosen_panel.panel in
-    let opening = c.open_and_create.ensures in
-    let told = c.pin_job-work.ensures in
     let work = c.pin_job-work.result in
-    let job = reads_by (g.S.Source.given c.args.job.now) (g.S.Source.given c.pin_job-work.new.reader) (g.S.Source.remaining c.args.job.now) (g.S.Source.remaining c.pin_job-work.new.reader) in
-    let old = g.W.Outlet.written c.args.out.now in
-    let new = g.W.Outlet.written c.pin_job-work.new.writer in
-    let start = g.O.Outlet.written c.args.stdout.now in
-    let end = g.O.Outlet.written c.end_by.new.stdout in
+    let job = g.S.Source.state c.args.job.now in
+    let job' = g.S.Source.state c.pin_job-work.new.reader in
+    let old = g.W.Outlet.state c.args.out.now in
+    let new = g.W.Outlet.state c.pin_job-work.new.writer in
+    let start = g.O.Outlet.state c.args.stdout.now in
+    let end = g.O.Outlet.state c.end_by.new.stdout in
+    let opening = c.in_default.ensures in
+    let rendered = rendered_from (pinned_rendering printer panel) job _ job' old _ new work c.requires.job opening.source c.requires.out opening.outlet c.pin_job-work.ensures in
     record {
-      left = pinned_left c.end_by.result named c.args.setting.now.choices.now job old new start end (
+      left = pinned_left c.end_by.result named c.args.setting.now.choices.now job job' old new start end (
         printer,
         panel,
         (c.in-Ok.ensures.profile, c.in-Ok.ensures.given),
         sym c.in-Ok-chosen_panel.ensures.value,
-        out_left c.end_by.result (pinned_telling printer panel) job old new start end
-            (ended g.O.Outlet.written c.args.stdout.now c.end_by.new.stdout work c.end_by.result (pinned_telling printer panel) job old new
-            (rw (opening.given, opening.remaining, opening.written) at told.written) (rw (opening.given, opening.remaining, opening.written) at told.front)
-            told.never_no_profile c.end_by.ensures.ok c.end_by.ensures.err),
+        out_left c.end_by.result (pinned_rendering printer panel) job job' old new start end
+            (ended g.O.Outlet.state c.args.stdout.now c.end_by.new.stdout work c.end_by.result (pinned_rendering printer panel) job job' old new
+            rendered c.end_by.ensures.ok c.end_by.ensures.err),
       );
       read =
-          ap (λ failed. g.S.Source.failed c.pin_job-work.new.reader || failed) (c.read_profile.ensures.read ∙ ap is_err_at_read c.in-Ok.is)
-          ∙ or-false (g.S.Source.failed c.pin_job-work.new.reader) ∙ told.read ∙ sym c.end_by.ensures.read;
-      write = ended_write_beside g.O.Outlet.failed c.args.stdout.now c.end_by.new.stdout work c.end_by.result _ told.write c.requires.stdout c.end_by.ensures.err c.end_by.ensures.write;
-      turns = λ is. rw opening.given at told.turns (c.end_by.ensures.turns is);
+          ap (λ failed. job'.failed || failed) (c.read_profile.ensures.read ∙ ap is_err_at_read c.in-Ok.is)
+          ∙ or-false job'.failed ∙ rendered.read ∙ sym c.end_by.ensures.read;
+      write = ended_write_beside g.O.Outlet.state c.args.stdout.now c.end_by.new.stdout work c.end_by.result _ rendered.write c.requires.stdout c.end_by.ensures.err c.end_by.ensures.write;
+      turns = λ is. rendered.turns (c.end_by.ensures.turns is);
     }

@@ -1,10 +1,10 @@
 use Rattle.std.proofs.Common.{rules}
-use Rattle.subcommands.proofs.WriteLemmas.{pieces_more, Writes-cut}
+use Rattle.subcommands.proofs.Writing.{pieces_more, Writes-cut}
 use Rattle.subcommands.proofs.status.write_pieces.Goals as goal
 
 pub returns-in_err-write_text : goal.returns-in_err-write_text
 returns-in_err-write_text g c =
-    Writes-cut (λ piece. piece.now) c.args.pieces.now c.loop-piece.piece-index _ _ _ _ _ (search rules) (search rules) c.loop-piece.invariant.1 c.write_text.ensures.text.front
+    Writes-cut (λ piece. piece.now) c.args.pieces.now c.loop-piece.piece-index _ _ _ _ (search rules) (search rules) c.loop-piece.invariant.1 c.write_text.ensures.text.front
 
 pub loop-piece-preserved : goal.loop-piece-preserved
 loop-piece-preserved g c =

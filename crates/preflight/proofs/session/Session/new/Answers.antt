@@ -2,10 +2,10 @@ use Rattle.std.proofs.Common.{◌+◌, ◌-◌, List, [], ◌∷◌, take, drop,
 use Rattle.device_profile.specs.Printer.{Printer}
 use Rattle.pcl_items.specs.LexerState.{LexerState}
 use Rattle.pcl_items.specs.Modes.{mode_of}
-use Rattle.preflight.specs.Carriers.Checking.{HasCarriedOut}
+use Rattle.preflight.specs.Carriers.Checking.{HasExecuted}
 use Rattle.preflight.specs.Carriers.Lockstep.{AreIn, machines_of, counts_of}
 use Rattle.preflight.proofs.Sessions.{checks_on_none}
-use Rattle.preflight.proofs.UnderWay.{all_in, all_running, carried_none, first_and_others}
+use Rattle.preflight.proofs.UnderWay.{all_in, all_running, executed_none, first_and_others}
 use Rattle.preflight.proofs.session.Session.new.Goals as goal
 
 pub invariant_of-result : goal.invariant_of-result
@@ -28,8 +28,8 @@ returns-in_ok-machines-in-len1-up-clause-none g c =
     let machines = c.in_ok-machines-in-len1-up in
     let others : List Printer = c.first-item.result ∷ take (length c.args.fleet.now - 1) (drop 1 c.args.fleet.now) in
     let fleet = first_and_others c.args.fleet.now c.first-item.result c.in-len1-up.len_at_least c.first-item.is in (
-      subst (λ printers. HasCarriedOut printers [] lexer.result (machines_of machines.machines) (counts_of machines.machines)) (sym fleet)
-          (carried_none others lexer.result (machines_of machines.machines) (counts_of machines.machines) (omega arith) lexer.ensures.reads machines.ensures.machines machines.ensures.counts),
+      subst (λ printers. HasExecuted printers [] lexer.result (machines_of machines.machines) (counts_of machines.machines)) (sym fleet)
+          (executed_none others lexer.result (machines_of machines.machines) (counts_of machines.machines) (omega arith) lexer.ensures.reads machines.ensures.machines machines.ensures.counts),
       refl,
     )
 

@@ -1,14 +1,25 @@
-use Rattle.std.proofs.Common.{refl, sym, subst}
-use Rattle.preflight.specs.declared.session.Standing.TheVariants.{Judged}
+use Rattle.std.proofs.Common.{sym, subst}
 use Rattle.preflight.specs.Carriers.Lockstep.{counts_of, machines_of}
 use Rattle.preflight.specs.Session.{ChecksOn, SessionState}
-use Rattle.preflight.proofs.Sessions.{judged_at_end}
+use Rattle.preflight.proofs.Sessions.{judged_at_end, out_of_memory}
+use Rattle.preflight.proofs.Standings.{judged_ends, not_open_ends, stopped_ends}
+use Rattle.preflight.proofs.session.SessionConsumerUnit.end.Goals.{in-Judged, in-Stopped}
 use Rattle.preflight.proofs.session.SessionConsumerUnit.end.Goals as goal
 
-pub returns-in-Ok : goal.returns-in-Ok
-returns-in-Ok g c = λ first bytes goes.
+pub returns : goal.returns
+returns g c = λ first bytes goes.
     let inside = c.self.inside in
     let new = c.finish.new in
     let old : SessionState = record { lexer = inside.lexer; machines = machines_of inside.machines; counts = counts_of inside.machines; total = inside.total; standing = inside.standing } in
-    let after : SessionState = record { lexer = new.lexer; machines = machines_of new.machines; counts = counts_of new.machines; total = inside.total; standing = Judged c.in-Ok.verdict } in
-    judged_at_end first.0 old after bytes (subst (ChecksOn first.0 bytes) (sym c.self.view_is) goes) c.in-Ok.verdict refl c.in-Ok.ensures
+    let after : SessionState = record { lexer = new.lexer; machines = machines_of new.machines; counts = counts_of new.machines; total = inside.total; standing = new.standing } in
+    elim c.match-self.branch [
+      | in-Judged w ↦
+          let verdict = w.in-Judged.verdict in
+          rw w.result-is (judged_at_end first.0 old after bytes (subst (ChecksOn first.0 bytes) (sym c.self.view_is) goes) verdict w.in-Judged.is (judged_ends new.standing _ verdict w.in-Judged.is c.finish.ensures))
+      | in-Stopped w ↦
+          let error = w.in-Stopped.error in
+          rw w.result-is (out_of_memory new.standing error w.in-Stopped.is (stopped_ends new.standing _ error w.in-Stopped.is c.finish.ensures))
+    ]
+
+pub unreachable-requires : goal.unreachable-requires
+unreachable-requires g c = not_open_ends c.finish.new.standing _ c.in-Open.is c.finish.ensures

@@ -1,0 +1,198 @@
+-- What the machines of a fleet did, one after another.
+use Rattle.std.proofs.Common.{◌≡◌, ◌≢◌, ◌↔◌, IsFalse, inl, inr, ◌+◌, ◌<◌, ◌≤◌, ℕ, zero, suc, Bool, true, false, List, [], ◌∷◌, ◌++◌, length, take, drop, set, get_or, Option, None, Some, Result, Err, refl, ap, sym, ◌∙◌, subst, append_assoc, append-nil, arith}
+use Rattle.std.specs.Option.{option_or}
+use Rattle.std.specs.Bool.{then_some}
+use Rattle.std.specs.List.{AllByRecursion}
+use Rattle.std.proofs.lemmas.List.{take_more_set, drop_more, drop-set-lt, drop-drop, take_all, drop_all}
+use Rattle.page_env.specs.declared.finding.Finding.{Finding}
+use Rattle.page_machine.specs.declared.machine.Stop.{Stop}
+use Rattle.page_machine.specs.declared.machine.Stop.TheVariants as stops
+use Rattle.page_machine.specs.Event.{Event, TakesAll}
+use Rattle.page_machine.specs.Run.{just, Done}
+use Rattle.page_machine.specs.Follows.{TakesUpTo}
+use Rattle.page_env.specs.Settings.{state_at}
+use Rattle.page_machine.specs.MachineState.{MachineState}
+use Rattle.page_machine.specs.Machine.{CarriesOn}
+use Rattle.sinks.specs.declared.counts.Counts.{Counts}
+use Rattle.verdict.specs.declared.failure.Failure.{Failure}
+use Rattle.verdict.specs.declared.reason.Reason.{Reason}
+use Rattle.verdict.specs.declared.reason.Reason.TheVariants as reasons
+use Rattle.sinks.specs.Counts.{counts_after}
+use Rattle.sinks.specs.Recorder.{Recorded, recorded_all}
+use Rattle.sinks.proofs.Recording.{recorder_takes, TakesAll-recorded}
+use Rattle.preflight.specs.Carriers.Each.{Each}
+use Rattle.preflight.specs.Carriers.Lockstep.{Action, carrying_of, is_last, Does, IsDone, Finds, FoundFrom, DiffersFrom, WrongFrom, IsWrong, Compared, GoesInStep}
+
+-- ---- one machine
+
+module _ {S : Type 0} (takes : S → Event → S → Type 0) (action : Action) (sink sink' : S) (machine machine' : MachineState) where
+  pub does_of : machine' ≡ record machine { page = machine'.page; macros = (carrying_of machine action).macros; mode = (carrying_of machine action).mode; stopped = is_last action } → (took : TakesUpTo takes sink sink' (carrying_of machine action).run (λ panel. just [] (Done (state_at panel machine'.page)))) → Does action took.events machine machine'
+  does_of is took = record { is = is; peaks = took.peaks; run = took.is }
+
+  pub finds_of : {F : Type 0} (refuses : S → Event → S → Type 0) (result : Result Unit (Stop F)) (finding : Finding) → result ≡ Err (stops.Found finding) → CarriesOn takes refuses (carrying_of machine action) (is_last action) sink sink' machine machine' result → Finds action finding machine
+  finds_of refuses result finding is carries =
+      let h = subst (λ r. CarriesOn takes refuses (carrying_of machine action) (is_last action) sink sink' machine machine' r) is carries in
+      record { events = h.2.events; peaks = h.2.peaks; run = h.2.is }
+
+pub done_of : (action : Action) (events : List Event) (machine machine' : MachineState) → Does action events machine machine' → IsDone action machine
+done_of action events machine machine' does = record { events = events; emits = record { new = machine'; does = does } }
+
+-- ---- the first machine, and then the others
+
+-- what is wrong for one of the others is wrong first
+wrong_in_step : (action : Action) (events : List Event) (first first' : MachineState) (others : List MachineState) (number : ℕ) (reason : Reason) → Does action events first first' → WrongFrom action events 2 others number reason → IsWrong action (first ∷ others) number reason
+wrong_in_step action events first first' others number (reasons.Finding finding) does h = inr (done_of action events first first' does, h)
+wrong_in_step action events first first' others number reasons.Differs does h = (events, record { new = first'; does = does }, inr (record { new = first'; does = does }, h))
+wrong_in_step action events first first' others number (reasons.Fault cause) does h = absurd h
+wrong_in_step action events first first' others number reasons.Unpinnable does h = absurd h
+
+pub in_step : (action : Action) (place : ℕ) (events : List Event) (first first' : MachineState) (others others' : List MachineState) (counts counts' : Counts) (failed : Option Failure) → Does action events first first' → counts' ≡ counts_after events counts → Compared action place events 2 others others' failed → GoesInStep action place (first ∷ others) (first' ∷ others') counts counts' failed
+in_step action place events first first' others others' counts counts' None does counted h = (events, (does, h), counted)
+in_step action place events first first' others others' counts counts' (Some failure) does counted h = (h.0, wrong_in_step action events first first' others failure.profile failure.reason does h.1)
+
+-- the first machine's events are recorded, and the others' compared with the record
+pub step_recorded : (action : Action) (place : ℕ) (first first' : MachineState) (others others' : List MachineState) (before cleared after : Recorded) (given events : List Event) (failed : Option Failure) → cleared ≡ record before { events = [] } → Does action given first first' → TakesAll recorder_takes cleared given after → events ≡ after.events → Compared action place events 2 others others' failed → GoesInStep action place (first ∷ others) (first' ∷ others') before.counts after.counts failed
+step_recorded action place first first' others others' before cleared after given events failed clear does leads recorded h =
+    let all : after ≡ record { events = given; counts = counts_after given before.counts } = TakesAll-recorded cleared after given leads ∙ ap (recorded_all given) clear in
+    in_step action place given first first' others others' before.counts after.counts failed does (ap (λ (r : Recorded). r.counts) all)
+    (subst (λ es. Compared action place es 2 others others' failed) (recorded ∙ ap (λ (r : Recorded). r.events) all) h)
+
+-- a slice of all elements that was written back
+pub written_back : {X : Type 0} (n : ℕ) (old new : List X) → length new ≡ n → length old ≡ n → take n (new ++ drop (length new) old) ≡ new
+written_back n old new new_len old_len =
+    ap (λ xs. take n (new ++ xs)) (drop_all (length new) old (omega (arith, new_len, old_len)))
+    ∙ (ap (take n) (append-nil new) ∙ take_all n new (omega (arith, new_len)))
+
+-- what a comparer tells of the events that it took
+pub differ_of : (given events : List Event) (differs : Bool) → IsFalse differs ↔ (given ≡ events) → differs ≡ true → given ≢ events
+differ_of given events differs told is same = let both : false ≡ true = sym (told.1 same) ∙ is in absurd cc
+
+-- ---- the others
+
+-- why an action is wrong from the machine of number n on, where the first that gave other events so far has this number
+abbrev pub WrongWhere : Action → List Event → ℕ → Option ℕ → List MachineState → ℕ → Reason → Type 0
+WrongWhere action events n None old number reason = WrongFrom action events n old number reason
+WrongWhere action events n (Some other) old number (reasons.Finding finding) = FoundFrom action finding number n old
+WrongWhere action events n (Some other) old number reasons.Differs = (number ≡ other) × AllByRecursion (IsDone action) old
+WrongWhere action events n (Some other) old number (reasons.Fault cause) = ⊥
+WrongWhere action events n (Some other) old number reasons.Unpinnable = ⊥
+
+-- all gave the same events, where none gave others so far
+abbrev pub AllAlike : Action → List Event → Option ℕ → List MachineState → List MachineState → Type 0
+AllAlike action events None old new = Each (Does action events) old new
+AllAlike action events (Some other) old new = ⊥
+
+-- what an action comes to from there on
+abbrev pub GoesOnTo : Action → ℕ → List Event → ℕ → Option ℕ → List MachineState → List MachineState → Option Failure → Type 0
+GoesOnTo action place events n other old new None = AllAlike action events other old new
+GoesOnTo action place events n other old new (Some failure) = (failure.place ≡ place) × WrongWhere action events n other old failure.profile failure.reason
+
+module _ (action : Action) (events given : List Event) (n : ℕ) (machine machine' : MachineState) (does : Does action given machine machine') (old new : List MachineState) where
+  same_does : given ≡ events → Does action events machine machine'
+  same_does e = subst (λ es. Does action es machine machine') e does
+
+  done : IsDone action machine
+  done = done_of action given machine machine' does
+
+  alike_on : (other : Option ℕ) (differs : Bool) → (differs ≡ false → given ≡ events) → AllAlike action events (option_or other (then_some differs n)) old new → AllAlike action events other (machine ∷ old) (machine' ∷ new)
+  alike_on None false same h = (same_does (same refl), h)
+  alike_on None true same h = absurd h
+  alike_on (Some other) differs same h = absurd h
+
+  wrong_on : (other : Option ℕ) (differs : Bool) (number : ℕ) (reason : Reason) → (differs ≡ false → given ≡ events) → (differs ≡ true → given ≢ events) → WrongWhere action events (n + 1) (option_or other (then_some differs n)) old number reason → WrongWhere action events n other (machine ∷ old) number reason
+  wrong_on None false number (reasons.Finding finding) same differ h = inr (done, h)
+  wrong_on None false number reasons.Differs same differ h = inr (record { new = machine'; does = same_does (same refl) }, h)
+  wrong_on None false number (reasons.Fault cause) same differ h = absurd h
+  wrong_on None false number reasons.Unpinnable same differ h = absurd h
+  wrong_on None true number (reasons.Finding finding) same differ h = inr (done, h)
+  wrong_on None true number reasons.Differs same differ h =
+      inl (h.0, record { others = given; emits = record { new = machine'; does = does }; differ = differ refl }, h.1)
+  wrong_on None true number (reasons.Fault cause) same differ h = absurd h
+  wrong_on None true number reasons.Unpinnable same differ h = absurd h
+  wrong_on (Some other) differs number (reasons.Finding finding) same differ h = inr (done, h)
+  wrong_on (Some other) differs number reasons.Differs same differ h = (h.0, (done, h.1))
+  wrong_on (Some other) differs number (reasons.Fault cause) same differ h = absurd h
+  wrong_on (Some other) differs number reasons.Unpinnable same differ h = absurd h
+
+  -- a machine gave the same events, or others
+  pub goes_on : (place : ℕ) (other : Option ℕ) (differs : Bool) (failed : Option Failure) → (differs ≡ false → given ≡ events) → (differs ≡ true → given ≢ events) → GoesOnTo action place events (n + 1) (option_or other (then_some differs n)) old new failed → GoesOnTo action place events n other (machine ∷ old) (machine' ∷ new) failed
+  goes_on place other differs None same differ h = alike_on other differs same h
+  goes_on place other differs (Some failure) same differ h = (h.0, wrong_on other differs failure.profile failure.reason same differ h.1)
+
+-- a machine has a finding
+stops_at : (action : Action) (events : List Event) (n : ℕ) (other : Option ℕ) (finding : Finding) (machine : MachineState) (old : List MachineState) → Finds action finding machine → WrongWhere action events n other (machine ∷ old) n (reasons.Finding finding)
+stops_at action events n None finding machine old finds = inl (refl, finds)
+stops_at action events n (Some other) finding machine old finds = inl (refl, finds)
+
+-- ---- the machines so far
+
+-- the machines from i on are as they were, and what the action comes to from there on, it comes to as a whole
+pub record SoFar (action : Action) (place : ℕ) (events : List Event) (i : ℕ) (other : Option ℕ) (old new : List MachineState) : Type 0 where
+  pub rest : drop i new ≡ drop i old
+  pub leads : (later : List MachineState) (failed : Option Failure) → GoesOnTo action place events (i + 2) other (drop i old) later failed → Compared action place events 2 old (take i new ++ later) failed
+
+-- what no machine has come to yet
+compared : (action : Action) (place : ℕ) (events : List Event) (old new : List MachineState) (failed : Option Failure) → GoesOnTo action place events 2 None old new failed → Compared action place events 2 old new failed
+compared action place events old new None h = h
+compared action place events old new (Some failure) h = h
+
+pub none_so_far : (action : Action) (place : ℕ) (events : List Event) (old : List MachineState) → SoFar action place events 0 None old old
+none_so_far action place events old = record { rest = refl; leads = λ later failed h. compared action place events old later failed h }
+
+module _ (action : Action) (place : ℕ) (events given : List Event) (i : ℕ) (other : Option ℕ) (old new : List MachineState) (default machine' : MachineState) (so_far : SoFar action place events i other old new) (inside : i < length new) where
+  abbrev machine : MachineState
+  machine = get_or new i default
+
+  rest_more : drop (i + 1) new ≡ drop (i + 1) old
+  rest_more = sym (drop-drop 1 i new) ∙ (ap (drop 1) so_far.rest ∙ drop-drop 1 i old)
+
+  pub next_is : drop i old ≡ machine ∷ drop (i + 1) old
+  next_is =
+      sym so_far.rest
+      ∙ (drop_more new i default inside
+      ∙ ap (λ xs. machine ∷ xs) rest_more)
+
+  -- the machine executed the action
+  pub so_far_more : (differs : Bool) → Does action given machine machine' → (differs ≡ false → given ≡ events) → (differs ≡ true → given ≢ events) → SoFar action place events (i + 1) (option_or other (then_some differs (i + 2))) old (set new i machine')
+  so_far_more differs does same differ = record {
+    rest = drop-set-lt (i + 1) new i machine' (omega arith) ∙ rest_more;
+    leads = λ later failed h.
+        let n : i + 1 + 2 ≡ i + 2 + 1 = omega arith in
+        let front : take (i + 1) (set new i machine') ++ later ≡ take i new ++ machine' ∷ later =
+        ap (λ (xs : List MachineState). xs ++ later) (take_more_set new i machine' inside) ∙ append_assoc (take i new) (machine' ∷ []) later in
+        let on : GoesOnTo action place events (i + 2) other (machine ∷ drop (i + 1) old) (machine' ∷ later) failed =
+        goes_on action events given (i + 2) machine machine' does (drop (i + 1) old) later place other differs failed same differ
+        (subst (λ k. GoesOnTo action place events k (option_or other (then_some differs (i + 2))) (drop (i + 1) old) later failed) n h) in
+        subst (λ xs. Compared action place events 2 old xs failed) (sym front)
+        (so_far.leads (machine' ∷ later) failed (subst (λ xs. GoesOnTo action place events (i + 2) other xs (machine' ∷ later) failed) (sym next_is) on));
+  }
+
+  -- the machine has a finding
+  pub stops_so_far : (finding : Finding) → Finds action finding machine → WrongFrom action events 2 old (i + 2) (reasons.Finding finding)
+  stops_so_far finding finds =
+      let failure : Failure = record { place = place; profile = i + 2; reason = reasons.Finding finding } in
+      let wrong = so_far.leads [] (Some failure)
+      (refl, subst (λ xs. WrongWhere action events (i + 2) other xs (i + 2) (reasons.Finding finding)) (sym next_is) (stops_at action events (i + 2) other finding machine (drop (i + 1) old) finds)) in
+      wrong.1
+
+-- what holds of all elements holds of the one that stands there
+pub all_there : {X : Type 0} (P : X → Type 0) (i : ℕ) (xs : List X) (x : X) (rest : List X) → drop i xs ≡ x ∷ rest → AllByRecursion P xs → P x
+all_there P zero [] x rest e h = absurd cc
+all_there P zero (y ∷ ys) x rest e h = let same : y ≡ x = cc in subst P same h.0
+all_there P (suc i) [] x rest e h = absurd cc
+all_there P (suc i) (y ∷ ys) x rest e h = all_there P i ys x rest e h.1
+
+-- all machines executed the action
+pub all_so_far : (action : Action) (place : ℕ) (events : List Event) (i : ℕ) (old new : List MachineState) → SoFar action place events i None old new → length new ≤ i → Each (Does action events) old new
+all_so_far action place events i old new so_far end =
+    let none : drop i old ≡ [] = sym so_far.rest ∙ drop_all i new end in
+    let all : take i new ++ [] ≡ new = append-nil (take i new) ∙ take_all i new end in
+    subst (λ xs. Each (Does action events) old xs) all
+    (so_far.leads [] None (subst (λ xs. AllAlike action events None xs []) (sym none) tt))
+
+pub other_so_far : (action : Action) (place : ℕ) (events : List Event) (i other : ℕ) (old new : List MachineState) → SoFar action place events i (Some other) old new → length new ≤ i → DiffersFrom action events other 2 old
+other_so_far action place events i other old new so_far end =
+    let none : drop i old ≡ [] = sym so_far.rest ∙ drop_all i new end in
+    let failure : Failure = record { place = place; profile = other; reason = reasons.Differs } in
+    let wrong = so_far.leads [] (Some failure) (refl, subst (λ xs. WrongWhere action events (i + 2) (Some other) xs other reasons.Differs) (sym none) (refl, tt)) in
+    wrong.1

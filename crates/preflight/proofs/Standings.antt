@@ -1,0 +1,71 @@
+-- What a standing tells.
+use Rattle.std.proofs.Common.{◌≡◌, true, false, Option, None, Some, refl, subst, sym}
+use Rattle.verdict.specs.declared.verdict.Verdict.{Verdict}
+use Rattle.preflight.specs.declared.error.Error.{Error}
+use Rattle.preflight.specs.declared.error.Error.TheVariants.{Memory}
+use Rattle.preflight.specs.declared.standing.Standing.{Standing}
+use Rattle.preflight.specs.declared.standing.Standing.TheVariants.{Open, Judged, Stopped}
+use Rattle.preflight.specs.Standing.{Ends, StandsBy, is_open}
+use Rattle.verdict.specs.Failing.{failing}
+use Rattle.verdict.specs.declared.failure.Failure.{Failure}
+
+module _ (P : Option Failure → Type 0) where
+  -- it stands open
+  pub open_by : (standing : Standing) → standing ≡ Open → P None → StandsBy standing P
+  open_by standing is h = subst (λ s. StandsBy s P) (sym is) h
+
+  -- the job failed
+  pub failed_by : (standing : Standing) (failure : Failure) → standing ≡ Judged (failing failure) → P (Some failure) → StandsBy standing P
+  failed_by standing failure is h = subst (λ s. StandsBy s P) (sym is) (failure, refl, h)
+
+  -- memory was refused
+  pub refused_by : (standing : Standing) → standing ≡ Stopped Memory → StandsBy standing P
+  refused_by standing is = subst (λ s. StandsBy s P) (sym is) refl
+
+  -- what holds where it stands open
+  pub where_open : (standing : Standing) → is_open standing ≡ true → StandsBy standing P → P None
+  where_open Open is h = h
+  where_open (Judged verdict) is h = absurd cc
+  where_open (Stopped error) is h = absurd cc
+
+-- what follows with no failure, and with each, follows however it stands
+pub stands_on : (P Q : Option Failure → Type 0) (standing : Standing) → ((failed : Option Failure) → P failed → Q failed) → StandsBy standing P → StandsBy standing Q
+stands_on P Q Open on h = on None h
+stands_on P Q (Judged verdict) on h = (h.0, h.1, on (Some h.0) h.2)
+stands_on P Q (Stopped error) on h = h
+
+-- one that is open is Open
+pub open_is : (standing : Standing) → is_open standing ≡ true → standing ≡ Open
+open_is Open is = refl
+open_is (Judged verdict) is = absurd cc
+open_is (Stopped error) is = absurd cc
+
+-- what follows with each failure follows where it stands open no more
+pub closed_on : (P Q : Option Failure → Type 0) (standing : Standing) → is_open standing ≡ false → ((failure : Failure) → P (Some failure) → Q (Some failure)) → StandsBy standing P → StandsBy standing Q
+closed_on P Q Open is on h = absurd cc
+closed_on P Q (Judged verdict) is on h = (h.0, h.1, on h.0 h.2)
+closed_on P Q (Stopped error) is on h = h
+
+-- what follows of the verdict of each failure holds where it stands open no more
+pub ends_by : (P : Option Failure → Type 0) (Q : Verdict → Type 0) (standing : Standing) → is_open standing ≡ false → ((failure : Failure) (verdict : Verdict) → verdict ≡ failing failure → P (Some failure) → Q verdict) → StandsBy standing P → Ends standing Q
+ends_by P Q Open is on h = absurd cc
+ends_by P Q (Judged verdict) is on h = on h.0 verdict h.1 h.2
+ends_by P Q (Stopped error) is on h = h
+
+module _ (standing : Standing) where
+  -- what holds of the verdict that is known
+  pub judged_stands : (P : Option Failure → Type 0) (verdict : Verdict) → standing ≡ Judged verdict → StandsBy standing P → (failure : Failure) × (verdict ≡ failing failure) × P (Some failure)
+  judged_stands P verdict is h = subst (λ s. StandsBy s P) is h
+
+  pub judged_ends : (Q : Verdict → Type 0) (verdict : Verdict) → standing ≡ Judged verdict → Ends standing Q → Q verdict
+  judged_ends Q verdict is h = subst (λ s. Ends s Q) is h
+
+  -- the error is want of memory
+  pub stopped_stands : (P : Option Failure → Type 0) (error : Error) → standing ≡ Stopped error → StandsBy standing P → error ≡ Memory
+  stopped_stands P error is h = subst (λ s. StandsBy s P) is h
+
+  pub stopped_ends : (Q : Verdict → Type 0) (error : Error) → standing ≡ Stopped error → Ends standing Q → error ≡ Memory
+  stopped_ends Q error is h = subst (λ s. Ends s Q) is h
+
+  pub not_open_ends : (Q : Verdict → Type 0) → standing ≡ Open → Ends standing Q → ⊥
+  not_open_ends Q is h = subst (λ s. Ends s Q) is h

@@ -1,0 +1,12 @@
+use Rattle.std.proofs.Common.{◌≡◌, map}
+use Rattle.page_machine.specs.Owned.{event_of}
+use Rattle.preflight.specs.Carriers.Lockstep.{action_of}
+use Rattle.preflight.specs.declared.standing.Standing.TheVariants.{Open}
+use Rattle.preflight.proofs.Executing.{SoFar}
+use Rattle.preflight.proofs.lockstep.execute_by_others.Given as goal
+
+abbrev pub invariant-loop-index : goal.invariant-loop-index
+invariant-loop-index g l = record {
+  stands_open : l.standing ≡ Open;
+  so_far : SoFar (action_of l.task) l.place (map event_of l.events) l.index l.first_other l.initial.others l.others;
+}

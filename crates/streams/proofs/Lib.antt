@@ -1,0 +1,3 @@
+mod Walks
+pub mod OutletLemmas
+pub mod Pieces

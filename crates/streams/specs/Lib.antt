@@ -1,0 +1,5 @@
+pub mod Source
+pub mod Pieces
+pub mod Outlet
+pub mod Latched
+pub mod Files

@@ -1,0 +1,22 @@
+//! Input and output: sources and outlets with the histories of their reads and writes, and readers,
+//! writers and files as these.
+#![tactic(auto)]
+
+mod file_id;
+mod file_outlet;
+mod file_source;
+mod given;
+mod latched;
+mod opened;
+mod opening;
+mod outlet;
+mod source;
+
+pub use file_id::FileId;
+pub use file_outlet::FileOutlet;
+pub use file_source::FileSource;
+pub use given::Given;
+pub use latched::Latched;
+pub use opening::{Create, Open};
+pub use outlet::Outlet;
+pub use source::Source;

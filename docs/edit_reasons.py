@@ -1,0 +1,98 @@
+#!/usr/bin/env python3
+"""Tells by what each must-fail edit is refused: by a goal of a clause, or only since a proof file
+names something that the edit took away, which shows nothing of the contract.
+
+    python3 docs/edit_reasons.py [CRATE/NAME ..]     without names: all edits
+
+It tries each edit in a copy of the tree with `rt check`, begun with what the tree's own checks
+have kept, and reads every message whole. A line for each edit; status 1 where one is refused by a
+name alone, or not refused. The gate tries the same edits, but tells one line of each.
+"""
+import os
+import re
+import shutil
+import subprocess
+import sys
+import tempfile
+from pathlib import Path
+
+ROOT = Path(__file__).resolve().parent.parent
+# What a message says whose only reason is a name that is gone, or a proof that rests on one.
+GONE = re.compile(r"has no field|has no `|is not in scope|cannot be named|that can be named"
+                  r"|was not admitted|were not admitted|was not checked|were not checked")
+BEGINS = re.compile(r"(note: )?(\./)?(proofs|src|specs)/\S+:\d+:\d+:")
+UNPROVED = re.compile(r"it is not proved that")
+
+
+def parts_of(edit: Path) -> list[tuple[str, str, str]]:
+    """The files of an edit, with the text that goes and the one that comes."""
+    parts, file, old = [], "", ""
+    for line in edit.read_text().splitlines():
+        kind, _, text = line.partition(": ")
+        if kind == "file":
+            file = text.strip()
+        elif kind == "old":
+            old = text
+        elif kind == "new":
+            parts.append((file, old, text))
+    return parts
+
+
+def messages(output: str) -> list[str]:
+    """The errors and open goals of a check, each with the lines that go on with it."""
+    found: list[str] = []
+    open_message = False
+    for line in output.splitlines():
+        if BEGINS.match(line) and (": error" in line or UNPROVED.search(line)):
+            found.append(line)
+            open_message = True
+        elif open_message and line.startswith("  "):
+            found[-1] += " " + line.strip()
+        else:
+            open_message = False
+    return found
+
+
+def reason_of(tree: Path, edit: Path) -> tuple[str, str]:
+    """By what the edit is refused in this copy of the tree, and the message that shows it."""
+    crate = tree / "crates" / edit.parent.parent.name
+    kept = {}
+    for file, old, new in parts_of(edit):
+        path = crate / file
+        text = path.read_text()
+        kept.setdefault(path, text)
+        if text.count(old) != 1:
+            return "not to be applied", f"{file} has the old text {text.count(old)} times"
+        path.write_text(text.replace(old, new))
+    try:
+        run = subprocess.run(["rt", "check"], cwd=crate, capture_output=True, text=True)
+    finally:
+        for path, text in kept.items():
+            path.write_text(text)
+    if run.returncode == 0:
+        return "not refused", ""
+    told = messages(run.stdout + run.stderr)
+    goals = [message for message in told if not GONE.search(message)]
+    if goals:
+        return "a goal", goals[0]
+    return ("a name alone", told[0]) if told else ("no message", run.stdout[-200:])
+
+
+def main() -> int:
+    names = sys.argv[1:]
+    edits = [edit for edit in sorted(ROOT.glob("crates/*/must-fail/*.edit"))
+             if not names or f"{edit.parent.parent.name}/{edit.stem}" in names]
+    wrong = 0
+    with tempfile.TemporaryDirectory() as folder:
+        tree = Path(folder) / "tree"
+        shutil.copytree(ROOT, tree, ignore=shutil.ignore_patterns(".git"))
+        for edit in edits:
+            kind, message = reason_of(tree, edit)
+            wrong += kind != "a goal"
+            print(f"{edit.parent.parent.name}/{edit.stem}: {kind}: {message[:300]}", flush=True)
+    print(f"{len(edits)} edits, {wrong} of them not refused by a goal")
+    return 1 if wrong or not edits else 0
+
+
+if __name__ == "__main__":
+    sys.exit(main())
