@@ -127,11 +127,12 @@ def controls_of_code():
 def findings_of_code():
     """The numbers and names that the program writes, as `12 Unset`."""
     variant = r"((?:Cause|Finding|Reason)::\w+)(?:\(_\))?"
-    numbers = [pair for path in NUMBERS for pair in re.findall(rf"{variant} => (\d+),", path.read_text(encoding="utf-8"))]
+    tables = "".join(path.read_text(encoding="utf-8") for path in NUMBERS)
+    numbers = re.findall(rf"{variant} => (\d+),", tables)
     names = re.findall(rf'{variant} => b"([A-Z]\w+)",', NAMES.read_text(encoding="utf-8"))
     name_of = {variant: name for variant, name in names}
     if not numbers or sorted(variant for variant, _ in numbers) != sorted(name_of):
-        raise Unreadable(f"{NAMES.relative_to(ROOT)} has not the names of the findings that have numbers")
+        raise Unreadable(f"{NAMES.relative_to(ROOT)} has other findings than have numbers")
     return [f"{number} {name_of[variant]}" for variant, number in numbers]
 
 

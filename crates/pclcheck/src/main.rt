@@ -1,22 +1,18 @@
 //! A preflight checker for print jobs.
 #![tactic(auto)]
 
+mod requests;
+
 ghost use Rattle.std.specs.Prelude.{IsFalse};
 
-use command_line::{Request, read_words};
+use crate::requests::fulfil;
+use command_line::read_words;
 use preflight::{Error, Outlet, Watched, write_text};
 use std::os::fd::{AsRawFd, IntoRawFd, RawFd};
 use std::process::ExitCode;
 use std::rt::{Env, Files};
 use std::{env, fs, io};
-use streams::{FileOutlet, FileSource};
-use subcommands::check::check;
-use subcommands::explain::explain;
-use subcommands::list::list;
-use subcommands::pages::pages;
-use subcommands::pin::pin;
-use subcommands::plain::plain;
-use subcommands::{FileTexts, PanelSetting, Status, tell};
+use subcommands::{Status, tell};
 
 /// The descriptors of the standard streams are those below this one.
 const STANDARD_STREAMS: RawFd = 3;
@@ -72,7 +68,7 @@ fn refuse_usage<E: Outlet>(kind: io::ErrorKind, stderr: &mut E) -> Status
     }
 }
 
-/// Carries out what the words ask for.
+/// Does what the words ask for.
 fn run<R: Files + AllocGlobal, O: Outlet, E: Outlet>(
     rt: &R,
     words: &[String],
@@ -83,50 +79,7 @@ fn run<R: Files + AllocGlobal, O: Outlet, E: Outlet>(
     requires stderr { IsFalse (E.state stderr.old).failed }
 {
     match read_words(rt.alloc(), words, stdout, stderr) {
-        Ok(Request::Check { job, profiles }) => {
-            let mut job = FileSource::new(rt, job);
-            let mut texts = FileTexts::new(rt);
-            let profiles = profiles.as_slice();
-            check(rt.alloc(), &mut job, &mut texts, profiles, stdout)
-        }
-        Ok(Request::List { job }) => {
-            let mut job = FileSource::new(rt, job);
-            list(rt.alloc(), &mut job, stdout)
-        }
-        Ok(Request::Pages { job, profile }) => {
-            let mut job = FileSource::new(rt, job);
-            let mut texts = FileTexts::new(rt);
-            pages(rt.alloc(), &mut job, &mut texts, profile, stdout)
-        }
-        Ok(Request::Plain { job, out }) => {
-            let mut job = FileSource::new(rt, job);
-            let mut out = FileOutlet::new(rt, out);
-            plain(rt.alloc(), &mut job, &mut out, stdout)
-        }
-        Ok(
-            Request::Pin {
-                job,
-                profile,
-                choices,
-                out,
-            },
-        ) => {
-            let mut job = FileSource::new(rt, job);
-            let mut texts = FileTexts::new(rt);
-            let choices = choices.as_slice();
-            let setting = PanelSetting { profile, choices };
-            let mut out = FileOutlet::new(rt, out);
-            pin(
-                rt.alloc(),
-                &mut job,
-                &mut texts,
-                &setting,
-                &mut out,
-                stdout,
-                stderr,
-            )
-        }
-        Ok(Request::Explain { code }) => explain(code, stdout, stderr),
+        Ok(request) => fulfil(rt, &request, stdout, stderr),
         Err(status) => status,
     }
 }

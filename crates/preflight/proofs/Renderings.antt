@@ -8,7 +8,6 @@ use Rattle.pcl_items.specs.declared.item.Mode.{Mode}
 use Rattle.pcl_items.specs.Grammar.{follows}
 use Rattle.pcl_items.specs.declared.lexer.Lexed.{Lexed}
 use Rattle.pcl_items.specs.declared.lexer.Lexed.TheVariants as answers
-use Rattle.pcl_items.specs.Canon.{canon}
 use Rattle.pcl_items.specs.Items.{Entry, Placed, view, at}
 use Rattle.pcl_items.specs.Laws.{HasOneReading}
 use Rattle.pcl_items.specs.LexerState.{LexerState}
@@ -19,9 +18,9 @@ use Rattle.pcl_items.proofs.Readings.{one_reading}
 use Rattle.pcl_items.proofs.Steps.{decides}
 use Rattle.preflight.specs.declared.error.Error.{Error}
 use Rattle.preflight.specs.declared.outcome.Outcome.{Outcome}
-use Rattle.preflight.specs.Due.{Rendering, plain_rendering, list_rendering}
+use Rattle.preflight.specs.Due.{Rendering, list_rendering}
 use Rattle.streams.specs.Outlet.{OutletState, Adds, AddsFront}
-use Rattle.preflight.specs.Texts.{reading_outcome, plain_text, list_text}
+use Rattle.preflight.specs.Texts.{reading_outcome, list_text}
 use Rattle.line_words.specs.ItemLines.{item_line, fault_line}
 use Rattle.preflight.specs.Carriers.Rendering.{RendersItem, StaysIn, MayCome, RenderedTo, Puts, RestGoesOn, BeginsWith, StartsWith, Ended, behind, HasRendered, HasEnded, IsFrontFor}
 use Rattle.streams.proofs.OutletLemmas.{Adds-none, Adds-trans}
@@ -149,14 +148,7 @@ end_none rendering Is old kept kept' r is = ended_err rendering Is old old kept 
 pub last_told : (rendering : Rendering) (reading : Reading) (old : OutletState) (kept kept' text : List ℕ) (outcome : Outcome) → kept' ≡ kept ++ text → rendering.text reading ≡ text → rendering.outcome reading ≡ outcome → Ended rendering (λ r. r ≡ reading) old old kept kept' (Ok outcome)
 last_told rendering reading old kept kept' text outcome e due comes = (text, Puts-kept old kept kept' text e, record { due = λ r is. ap rendering.text is ∙ due; outcome_is = λ r is. ap rendering.outcome is ∙ comes })
 
--- items by themselves
-pub plain_goes : (x : Placed) → RestGoesOn plain_rendering plain_rendering x (canon x.item)
-plain_goes x = record { due = by_rest; outcome = same_outcome x; fault = λ place cause. refl }
-  where
-    by_rest : (rest : Reading) → plain_text (with_item x rest) ≡ canon x.item ++ plain_text rest
-    by_rest (Whole items place) = refl
-    by_rest (Stopped items place cause) = refl
-
+-- an item of the list
 pub list_goes : (x : Placed) → RestGoesOn list_rendering list_rendering x (item_line x)
 list_goes x = record { due = by_rest; outcome = same_outcome x; fault = λ place cause. refl }
   where

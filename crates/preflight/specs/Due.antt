@@ -1,11 +1,11 @@
 -- What was written of a job, against the text that is due.
-use Rattle.std.specs.Prelude.{◌≡◌, ◌≢◌, ◌+◌, ◌^◌, ◌≤◌, ℕ, List, [], ◌++◌, length, false, Result, IfOk, IfErr, IsErrOf}
+use Rattle.std.specs.Prelude.{◌≡◌, ◌≢◌, ◌+◌, ◌^◌, ◌≤◌, ℕ, List, [], ◌++◌, length, flat_map, false, Result, IfOk, IfErr, IsErrOf}
 use Rattle.std.specs.List.{concat}
 use Rattle.std.specs.Io.KnownBytes.{Consumes}
 use Rattle.pcl_items.specs.declared.fault.Cause.{Cause}
 use Rattle.pcl_items.specs.Items.{Placed}
 use Rattle.pcl_items.specs.Lexing.{Decides, Undecided}
-use Rattle.pcl_items.specs.Reading.{Reading, Stopped, IsReading}
+use Rattle.pcl_items.specs.Reading.{Reading, Stopped, IsReading, items_of}
 use Rattle.device_profile.specs.declared.panel.Panel.{Panel}
 use Rattle.device_profile.specs.Printer.{Printer}
 use Rattle.preflight.specs.declared.error.Error.{Error}
@@ -72,6 +72,10 @@ pub record Renders (rendering : Rendering) (source source' : SourceState)
   pub turns : IsErrOf result Turns → length source'.given ≡ length source.given + 2 ^ 40
   pub long : IsErrOf result Turns → ByReads source source' (λ job. 2 ^ 40 ≤ length job)
   pub never_no_profile : IfErr result (λ error. error ≢ NoProfile)
+
+-- each item by itself, and nothing for a fault
+abbrev pub item_by_item : (Placed → List ℕ) → Rendering
+item_by_item text_of = record { text = λ reading. flat_map text_of (items_of reading); outcome = reading_outcome }
 
 abbrev pub plain_rendering : Rendering
 plain_rendering = record { text = plain_text; outcome = reading_outcome }

@@ -1,52 +1,30 @@
 //! The items of a job in their canonical spelling.
 ghost use Rattle.std.specs.Prelude.{IsFalse};
+ghost use Rattle.pcl_items.specs.Canon.{canon};
 ghost use Rattle.preflight.specs.Due.{Renders, plain_rendering};
 
 use crate::error::Error;
-use crate::kept::write_enough;
+use crate::item_texts::{ItemByItem, ItemText};
 use crate::outcome::Outcome;
-use crate::render::{Renderer, render_job};
-use pcl_items::{Item, LexFault, Place, spell};
-use std::alloc::Allocator;
+use crate::render::render_job;
+use pcl_items::{Item, Place, spell};
+use std::alloc::{AllocError, Allocator};
 use streams::{Outlet, Source};
 
 /// Writes each item in its canonical spelling.
 #[derive(Clone, Copy)]
 struct Plain;
 
-impl Renderer for Plain {
-    ghost rendering = { λ _. plain_rendering };
+impl ItemText for Plain {
+    ghost text = { λ x. canon x.item };
 
-    ghost is_in = { λ _ _. Unit {0} };
-
-    fn item<W: Outlet, A: Allocator>(
+    fn push<A: Allocator>(
         &mut self,
-        outlet: &mut W,
         kept: &mut Vec<u8, A>,
         _place: Place,
         item: &Item<'_>,
-    ) -> Result<Option<Outcome>, Error> {
-        spell(item, kept)?;
-        write_enough(outlet, kept)?;
-        Ok(None)
-    }
-
-    fn end<W: Outlet, A: Allocator>(
-        &mut self,
-        _outlet: &mut W,
-        _kept: &mut Vec<u8, A>,
-        _place: Place,
-    ) -> Result<Outcome, Error> {
-        Ok(Outcome::Done)
-    }
-
-    fn fault<W: Outlet, A: Allocator>(
-        &mut self,
-        _outlet: &mut W,
-        _kept: &mut Vec<u8, A>,
-        fault: LexFault,
-    ) -> Result<Outcome, Error> {
-        Ok(Outcome::of_fault(fault))
+    ) -> Result<(), AllocError> {
+        spell(item, kept)
     }
 }
 
@@ -66,5 +44,5 @@ pub fn plain_job<S: Source, W: Outlet, A: Allocator + Copy>(
     ensures { Renders plain_rendering (S.state reader.old) (S.state reader.new)
         (W.state writer.old) (W.state writer.new) result }
 {
-    render_job(alloc, reader, &mut Plain, writer)
+    render_job(alloc, reader, &mut ItemByItem(Plain), writer)
 }

@@ -52,7 +52,7 @@ head_of reason = decimal (reason_number reason) ++ codes " " ++ bare_name reason
 abbrev pub first_line : List ℕ → List ℕ
 first_line text = before_first (λ byte. byte == 10) text
 
--- by the number of the reason one text is asked for, and by its name the same, which begins with the two
+-- by the number of the reason one text is asked for, by its name the same, and it begins with both
 pub record IsExplained (texts : List (List ℕ)) (reason : Reason) : Type 0 where
   pub text : List ℕ
   pub by_number : filter (is_about (decimal (reason_number reason))) texts ≡ text ∷ []

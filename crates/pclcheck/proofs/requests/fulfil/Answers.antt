@@ -1,0 +1,19 @@
+use Rattle.std.proofs.Common.{ap, map, refl}
+use Rattle.subcommands.specs.Texts.{text_named}
+use Rattle.pclcheck.proofs.Fulfilling.{asked, check_left}
+use Rattle.pclcheck.proofs.requests.fulfil.Goals as goal
+
+pub returns-in-Check : goal.returns-in-Check
+returns-in-Check g c =
+    asked _ _ _ _ _ _ _ _ c.in-Check.is
+    (check_left _ _ _ _ _ _ _ _ _ (ap (map (λ word. text_named word.now)) c.as_slice.ensures.value) c.new-texts.ensures.given c.new-job.ensures c.check.ensures.line c.check.ensures.refused c.check.ensures.write, refl)
+
+pub returns-in-Explain : goal.returns-in-Explain
+returns-in-Explain g c =
+    asked _ _ _ _ _ _ _ _ c.in-Explain.is record {
+      text = λ known. c.explain.ensures.text known;
+      untouched = λ unknown. ap g.O.Outlet.state (c.explain.ensures.untouched unknown);
+      status_is = c.explain.ensures.status;
+      complaint = λ unknown. c.explain.ensures.complaint unknown;
+      quiet = λ known. ap g.E.Outlet.state (c.explain.ensures.quiet known);
+    }

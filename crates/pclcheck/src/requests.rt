@@ -1,0 +1,68 @@
+//! What the program does by request, on files.
+ghost use Rattle.std.specs.Prelude.{IsFalse, map};
+ghost use Rattle.command_line.specs.Words.{NamesSome};
+ghost use Rattle.pclcheck.specs.Requests.{Fulfils};
+
+use command_line::Request;
+use std::rt::Files;
+use streams::{FileOutlet, FileSource, Outlet};
+use subcommands::check::check;
+use subcommands::explain::explain;
+use subcommands::list::list;
+use subcommands::pages::pages;
+use subcommands::pin::pin;
+use subcommands::plain::plain;
+use subcommands::{EXPLANATIONS, FileTexts, PanelSetting, Status};
+
+/// Does what is asked for. Its files are opened by the subcommands, as late as these say.
+pub fn fulfil<R: Files + AllocGlobal, O: Outlet, E: Outlet>(
+    rt: &R,
+    request: &Request<'_>,
+    stdout: &mut O,
+    stderr: &mut E,
+) -> Status
+    requires stdout { IsFalse (O.state stdout.old).failed }
+    requires stderr { IsFalse (E.state stderr.old).failed }
+    requires some { NamesSome request.now }
+    ensures { Fulfils (map (λ text. text.now) EXPLANATIONS) request.now result
+        (O.state stdout.old) (O.state stdout.new) (E.state stderr.old) (E.state stderr.new) }
+{
+    let alloc = rt.alloc();
+    match request {
+        Request::Check { job, profiles } => {
+            let mut job = FileSource::new(rt, job);
+            let mut texts = FileTexts::new(rt);
+            check(alloc, &mut job, &mut texts, profiles.as_slice(), stdout)
+        }
+        Request::List { job } => {
+            let mut job = FileSource::new(rt, job);
+            list(alloc, &mut job, stdout)
+        }
+        Request::Pages { job, profile } => {
+            let mut job = FileSource::new(rt, job);
+            let mut texts = FileTexts::new(rt);
+            pages(alloc, &mut job, &mut texts, profile, stdout)
+        }
+        Request::Plain { job, out } => {
+            let mut job = FileSource::new(rt, job);
+            let mut out = FileOutlet::new(rt, out);
+            plain(alloc, &mut job, &mut out, stdout)
+        }
+        Request::Pin {
+            job,
+            profile,
+            choices,
+            out,
+        } => {
+            let choices = choices.as_slice();
+            let setting = PanelSetting { profile, choices };
+            let mut job = FileSource::new(rt, job);
+            let mut texts = FileTexts::new(rt);
+            let mut out = FileOutlet::new(rt, out);
+            pin(
+                alloc, &mut job, &mut texts, &setting, &mut out, stdout, stderr,
+            )
+        }
+        Request::Explain { code } => explain(*code, stdout, stderr),
+    }
+}

@@ -1,0 +1,104 @@
+"""Runs the sessions that the documents show, and some stored runs, with a program.
+
+    python3 crosscheck/sessions.py PROGRAM
+
+A session is a line that begins with `$ ` and the lines behind it, up to an empty line or the next
+one: what is then written on standard output and standard error. A stored run also tells the exit
+status and keeps the two streams apart. Prints a line for each that differs, and at last
+`N run, M differ`. The exit status is 0 where M is 0, else 1.
+"""
+
+import re
+import shutil
+import subprocess
+import sys
+import tempfile
+from pathlib import Path
+from typing import Iterator, List, Tuple
+
+ROOT = Path(__file__).resolve().parent.parent
+DOCUMENTS = ("README.md", "examples/README.md")
+# Lines that say where the sessions are given, and what the word `pclcheck` is there.
+SETTING = re.compile(r"cd examples$|alias pclcheck=")
+
+# Words, exit status, standard output, standard error.
+STORED = (
+    ("check ruled_form.pcl @B", 0, "PASS pages=2 marks=36\n", ""),
+    ("check invoice.pcl front_desk.profile export_desk.profile", 1,
+     "FAIL at=2 profile=2 11 NotOnDevice\n", ""),
+    ("check unset_size.pcl @A", 1, "FAIL at=2 profile=1 12 Unset(Size)\n", ""),
+    ("check ruled_form.pcl @B invoice.pcl", 2, "", "ERROR profile 2 1 Version\n"),
+    ("check gone.pcl @B", 3, "", "ERROR read\n"),
+    ("check ruled_form.pcl gone.profile", 3, "", "ERROR read\n"),
+    ("list short.pcl", 0, "0 \\x1bE\n2 A\n3 \\x1b&l2A\n8 \\x0c\n", ""),
+    ("list faulty.pcl", 1, "0 A\n1 FAULT 3 NotInProfile(Q)\n", ""),
+    ("list gone.pcl", 3, "", "ERROR read\n"),
+    ("pages empty.pcl @B", 0, "", ""),
+    ("pages unset_size.pcl gone.profile", 3, "", "ERROR read\n"),
+    ("plain short.pcl short.pcl", 2, "", "error: OUT is JOB itself, which would be lost\n"),
+    ("explain 999", 2, "", "error: no fault and no finding has the number or the name '999'; "
+                           "'pclcheck explain' writes all\n"),
+)
+FILES = {"short.pcl": b"\x1bEA\x1b&l2A\x0c", "faulty.pcl": b"A\x1bQ", "empty.pcl": b""}
+
+
+def sessions(document: Path) -> Iterator[Tuple[str, str]]:
+    """The commands of a document, each with what it writes, without the indent of the block."""
+    command, written, indent = None, [], ""
+    for line in document.read_text().splitlines() + [""]:
+        if command is not None and re.match(r" *(\$ |```|$)", line):
+            yield command, "".join(f"{part}\n" for part in written)
+            command = None
+        begins = re.match(r"( *)\$ (.*)$", line)
+        if begins:
+            indent, command = begins.groups()
+            written = []
+        elif command is not None:
+            written.append(line.removeprefix(indent))
+
+
+def shown(session: Tuple[str, str], folder: Path) -> List[str]:
+    """What differs in a session."""
+    command, due = session
+    run = subprocess.run(["sh", "-c", f'PATH=.:$PATH; {command}'], cwd=folder, text=True,
+                         stdout=subprocess.PIPE, stderr=subprocess.STDOUT)
+    return [] if run.stdout == due else [f"$ {command}: {run.stdout!r}, due {due!r}"]
+
+
+def stored(row: Tuple[str, int, str, str], folder: Path) -> List[str]:
+    """What differs in a stored run."""
+    words, *due = row
+    run = subprocess.run(["./pclcheck", *words.split()], cwd=folder, text=True,
+                         capture_output=True)
+    came = [run.returncode, run.stdout, run.stderr]
+    return [] if came == due else [f"pclcheck {words}: {came}, due {due}"]
+
+
+def main() -> int:
+    if len(sys.argv) != 2:
+        print(__doc__.strip(), file=sys.stderr)
+        return 2
+    program = Path(sys.argv[1]).resolve()
+    differing, count = [], 0
+    with tempfile.TemporaryDirectory(prefix="sessions-") as name:
+        folder = Path(name) / "examples"
+        shutil.copytree(ROOT / "examples", folder)
+        (folder / "pclcheck").symlink_to(program)
+        for file, text in FILES.items():
+            (folder / file).write_bytes(text)
+        for document in DOCUMENTS:
+            for session in sessions(ROOT / document):
+                if not SETTING.match(session[0]):
+                    differing += shown(session, folder)
+                    count += 1
+        for row in STORED:
+            differing += stored(row, folder)
+            count += 1
+    for line in differing:
+        print("differs:", line)
+    print(f"{count} run, {len(differing)} differ")
+    return 1 if differing or not count else 0
+
+
+if __name__ == "__main__":
+    sys.exit(main())
