@@ -1,12 +1,11 @@
 //! Numbers and bytes as they stand in lines of text.
-ghost use Rattle.std.specs.Prelude.{◌≡◌, ◌++◌, ◌∷◌, [], ◌+◌, ◌%◌, ◌≤◌, ◌<◌, ℕ, OnOk, decimal, flat_map, take};
-ghost use Rattle.std.specs.Fmt.{signed_decimal};
-ghost use Rattle.pcl_items.specs.Canon.{amount_text, magnitude_text, with_point, without_zeros, four_decimals};
+ghost use Rattle.std.specs.Prelude.{◌≡◌, ◌++◌, ◌+◌, ◌%◌, ◌<◌, OnOk, decimal, flat_map};
+ghost use Rattle.pcl_items.specs.Canon.{amount_text, magnitude_text};
 ghost use Rattle.pcl_items.specs.Items.{amount};
 ghost use Rattle.line_words.specs.Figures.{escaped_byte, hex_byte, hex_digit, length_word, named, number_word, signed_word, value_word};
 
 use itoa::Buffer;
-use pcl_items::{Number, Sign};
+use pcl_items::{Number, Sign, decimals_text};
 use std::alloc::{AllocError, Allocator};
 use tick_length::Length;
 
@@ -57,51 +56,6 @@ pub fn push_length_word<A: Allocator>(
     push_ticks_word(text, length.ticks())
 }
 
-/// The last decimal digit of a number.
-fn last_digit(n: u32) -> u8
-    ensures { result ≡ 48 + n % 10 }
-{
-    b'0' + (n % 10) as u8
-}
-
-/// How much is shown of a point and four decimals: no zeros at the end, and no point that is last.
-fn shown(text: &[u8; 5]) -> usize
-    ensures within { result ≤ 5 }
-    ensures shown { (a b c d : ℕ) → text.now ≡ 46 ∷ a ∷ b ∷ c ∷ d ∷ [] → take result text.now ≡ with_point (without_zeros (a ∷ b ∷ c ∷ d ∷ [])) }
-{
-    let [_, tenth, hundredth, thousandth, last] = *text;
-    if last != b'0' {
-        5
-    } else if thousandth != b'0' {
-        4
-    } else if hundredth != b'0' {
-        3
-    } else if tenth != b'0' {
-        2
-    } else {
-        0
-    }
-}
-
-/// Appends a point and the decimals of so many ten-thousandths, where there are some.
-#[tactic(auto, using(pcl_items::proofs::WholeNumbers::no_decimals))]
-fn push_decimals<A: Allocator>(text: &mut Vec<u8, A>, n: u32) -> Result<(), AllocError>
-    ensures { OnOk result (text.new.items ≡ text.old.items ++ with_point (without_zeros (four_decimals n))) }
-{
-    // Most numbers are whole.
-    if n % 10_000 == 0 {
-        return Ok(());
-    }
-    let all = [
-        b'.',
-        last_digit(n / 1000),
-        last_digit(n / 100),
-        last_digit(n / 10),
-        last_digit(n),
-    ];
-    text.extend_from_slice(&all[..shown(&all)])
-}
-
 /// Appends a whole number.
 #[tactic(auto, using(std::proofs::lemmas::Fmt::decimal_digit))]
 fn push_whole<A: Allocator>(text: &mut Vec<u8, A>, n: u32) -> Result<(), AllocError>
@@ -120,7 +74,10 @@ fn push_value<A: Allocator>(text: &mut Vec<u8, A>, n: u32) -> Result<(), AllocEr
     ensures { OnOk result (text.new.items ≡ text.old.items ++ magnitude_text n) }
 {
     push_whole(text, n / 10_000)?;
-    push_decimals(text, n)
+    match decimals_text(n) {
+        Some(decimals) => text.extend_from_slice(&decimals),
+        None => Ok(()),
+    }
 }
 
 /// Appends a space and a value of so many ten-thousandths.

@@ -15,6 +15,7 @@ ghost use Rattle.pcl_items.specs.Spelled.{StandsAt, NothingStands, IsSpelled};
 
 use crate::ahead::{byte_in, next_ahead, with_its_data};
 use crate::command::{Command, DataCommand};
+use crate::decimals::decimals_text;
 use crate::first::{Context, First, begins_line, first_between};
 use crate::frame::{Coordinate, Coordinates, Handover, Mnemonic, Motion, Setting};
 use crate::item::{Item, Mode, PjlLine, SetLetter, SimpleItem};
@@ -48,51 +49,15 @@ fn append(text: &mut HeadText, bytes: &[u8])
     };
 }
 
-/// The last decimal digit of a number.
-fn last_digit(n: u32) -> u8
-    ensures { result ≡ 48 + n % 10 }
-{
-    b'0' + (n % 10) as u8
-}
-
-/// How much is shown of a point and four decimals: no zeros at the end, and no point that is last.
-fn shown(text: &[u8; 5]) -> usize
-    ensures within { result ≤ 5 }
-    ensures shown { (a b c d : ℕ) → text.now ≡ 46 ∷ a ∷ b ∷ c ∷ d ∷ [] → take result text.now ≡ with_point (without_zeros (a ∷ b ∷ c ∷ d ∷ [])) }
-{
-    let [_, tenth, hundredth, thousandth, last] = *text;
-    if last != b'0' {
-        5
-    } else if thousandth != b'0' {
-        4
-    } else if hundredth != b'0' {
-        3
-    } else if tenth != b'0' {
-        2
-    } else {
-        0
-    }
-}
-
 /// Appends a point and the decimals of a number, where it has some.
-#[tactic(auto, using(crate::proofs::WholeNumbers::no_decimals))]
 fn append_decimals(text: &mut HeadText, n: u32)
     requires { array_vec_len text.old ≤ 10 }
     ensures text { text.new.items ≡ text.old.items ++ with_point (without_zeros (four_decimals n)) }
     ensures len { array_vec_len text.new ≤ array_vec_len text.old + 5 }
 {
-    // Most numbers are whole.
-    if n % 10_000 == 0 {
-        return;
+    if let Some(decimals) = decimals_text(n) {
+        append(text, &decimals);
     }
-    let all = [
-        b'.',
-        last_digit(n / 1000),
-        last_digit(n / 100),
-        last_digit(n / 10),
-        last_digit(n),
-    ];
-    append(text, &all[..shown(&all)]);
 }
 
 /// Appends a whole number.
