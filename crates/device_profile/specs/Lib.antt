@@ -8,6 +8,7 @@ pub mod Faces
 pub mod LineFault
 pub mod GeometryLine
 pub mod Laws
+pub mod Name
 pub mod FaceFields
 pub mod FaceLine
 pub mod Draft
