@@ -3,6 +3,7 @@
 
     python3 bench/run.py                     every kind of job, and the commands, as tables
     python3 bench/run.py --commands          the commands alone
+    python3 bench/run.py --many              many jobs in one run alone
     python3 bench/run.py --only lines        one kind; the option may come often
     python3 bench/run.py --size 32           jobs of 32 MiB
     python3 bench/run.py --program PATH      another build of the program
@@ -22,6 +23,9 @@ stops where one does not.
 - The commands are run on one kind of job, for one printer. What they write is thrown away: standard
   output, and the OUT of `plain` and `pin`. To check: by how many times their instructions a byte are those of
   `check`. Their peak memory is that on a job of an eighth of the size, and on one of the whole size.
+- Many jobs: 2,000 jobs of the same kind, each of whole pages and at least 4,096 bytes, are checked in one run
+  for two printers, and beside it one job that is their bytes one behind another. More a job: what the run over
+  many takes longer, for each of its jobs.
 """
 
 import argparse
@@ -73,6 +77,11 @@ COUNTED_SIZES = (MEBIBYTE // 4, MEBIBYTE // 2)
 # The commands of the program, and the kind of job on which they are compared.
 COMMANDS = ("check", "list", "plain", "pages", "pin")
 KIND_OF_COMMANDS = "mix"
+
+# How many jobs are checked in one run, of how many bytes each at least, and for how many printers.
+MANY_JOBS = 2000
+SIZE_OF_MANY = 4096
+PRINTERS_OF_MANY = 2
 
 # So many functions of a profile are printed.
 PROFILE_ROWS = 20
@@ -358,6 +367,59 @@ class Run:
 
 
 @dataclass(frozen=True)
+class ManyRun:
+    """A check of the jobs that a file of names has, in one run. Where all pass, its status is 0."""
+
+    names: Path
+    jobs: int
+    size: int
+
+    def words(self):
+        """The words behind the program's name."""
+        return ["check", *["-p", PRINTER] * PRINTERS_OF_MANY, "--files0-from", str(self.names)]
+
+    def stdout(self):
+        """Where standard output goes."""
+        return subprocess.DEVNULL
+
+    def require_pass(self, status, _output):
+        """Fails where a job does not pass."""
+        if status != 0:
+            raise BenchError(f"one of {self.jobs} jobs does not pass check: status {status}")
+
+
+def write_many(folder):
+    """Writes jobs of one kind, one more with the bytes of all, and for each run a file of names."""
+    whole = Path(folder) / "whole.pcl"
+    paths, size = [], 0
+    pages = itertools.count()
+    with whole.open("wb") as file:
+        for number in range(MANY_JOBS):
+            job = small_job(pages)
+            path = Path(folder) / f"{number}.pcl"
+            path.write_bytes(job)
+            file.write(job)
+            paths.append(path)
+            size += len(job)
+    return names_file(folder, "many", paths, size), names_file(folder, "one", [whole], size)
+
+
+def small_job(pages):
+    """A job of the next whole pages, of so many bytes at least."""
+    job = RESET
+    while len(job) < SIZE_OF_MANY:
+        job += b"".join(KINDS[KIND_OF_COMMANDS](next(pages)))
+    return job + RESET
+
+
+def names_file(folder, name, paths, size):
+    """The run over these jobs."""
+    names = Path(folder) / f"{name}.names"
+    names.write_bytes(b"".join(os.fsencode(path) + b"\0" for path in paths))
+    return ManyRun(names, len(paths), size)
+
+
+@dataclass(frozen=True)
 class Program:
     """The program that is measured."""
 
@@ -455,6 +517,15 @@ COLUMNS_OF_COMMANDS = {
     "Peak memory": ">11",
 }
 
+COLUMNS_OF_MANY = {
+    "Jobs": "<4",
+    "Printers": ">8",
+    "Bytes": ">9",
+    "Seconds": ">7",
+    "More a job": ">10",
+    "Peak memory": ">11",
+}
+
 
 def print_head(columns):
     """Prints the head of a table."""
@@ -513,6 +584,18 @@ def print_commands(program, folder, size):
         print_row(COLUMNS_OF_COMMANDS, [command, *numbers])
 
 
+def print_many(program, folder):
+    """Prints what many jobs cost in one run, and the same bytes in one job."""
+    print_head(COLUMNS_OF_MANY)
+    many, one = write_many(folder)
+    alone = program.best_seconds(one)
+    for run, seconds in ((one, alone), (many, program.best_seconds(many))):
+        more = "" if run is one else f"{1000 * (seconds - alone) / run.jobs:.3f} ms"
+        memory = mebibytes(program.peak_memory(run))
+        numbers = [run.size, f"{seconds:.2f}", more, memory]
+        print_row(COLUMNS_OF_MANY, [run.jobs, PRINTERS_OF_MANY, *numbers])
+
+
 def tenths(number):
     """A number with one decimal; a dash where there is none."""
     return "-" if number is None else f"{number:.1f}"
@@ -562,6 +645,7 @@ def arguments():
     parser.add_argument("--only", action="append", choices=KINDS, help="a kind of job")
     parser.add_argument("--size", type=float, default=8, help="the size of a job in MiB")
     parser.add_argument("--commands", action="store_true", help="the commands alone")
+    parser.add_argument("--many", action="store_true", help="many jobs in one run alone")
     parser.add_argument("--profile", action="store_true", help="the functions that cost most")
     return parser.parse_args()
 
@@ -575,12 +659,18 @@ def print_all(program, folder, words):
             print_profile(program, folder, kind)
         return
     print(f"Processor: {processor()}\n")
-    if not words.commands:
-        print_table(program, folder, kinds, size)
-    if not words.commands and not words.only:
-        print()
-    if words.commands or not words.only:
-        print_commands(program, folder, size)
+    is_whole = not (words.commands or words.many or words.only)
+    tables = []
+    if words.only or is_whole:
+        tables.append(lambda: print_table(program, folder, kinds, size))
+    if words.commands or is_whole:
+        tables.append(lambda: print_commands(program, folder, size))
+    if words.many or is_whole:
+        tables.append(lambda: print_many(program, folder))
+    for number, table in enumerate(tables):
+        if number:
+            print()
+        table()
 
 
 def main():

@@ -21,6 +21,7 @@ DOCUMENTS = ("README.md", "examples/README.md")
 # Lines that say where the sessions are given, and what the word `pclcheck` is there.
 SETTING = re.compile(r"cd examples$|alias pclcheck=")
 
+GONE = "No such file or directory (os error 2)"
 # Words, exit status, standard output, standard error.
 STORED = (
     ("check ruled_form.pcl @B", 0, "PASS pages=2 marks=36\n", ""),
@@ -30,6 +31,26 @@ STORED = (
     ("check ruled_form.pcl @B invoice.pcl", 2, "", "ERROR profile 2 1 Version\n"),
     ("check gone.pcl @B", 3, "", "ERROR read\n"),
     ("check ruled_form.pcl gone.profile", 3, "", "ERROR read\n"),
+    ("check -f shop.fleet ruled_form.pcl unset_size.pcl", 1,
+     "PASS pages=2 marks=36 ruled_form.pcl\n"
+     "FAIL at=2 printer=back-office 12 Unset(Size) unset_size.pcl\n", ""),
+    ("check -f shop.fleet --exit-zero unset_size.pcl", 0,
+     "FAIL at=2 printer=back-office 12 Unset(Size) unset_size.pcl\n", ""),
+    ("check --each unset_size.pcl @A @B", 1,
+     "FAIL at=2 printer=A 12 Unset(Size) unset_size.pcl\n"
+     "PASS pages=2 marks=36 printer=B unset_size.pcl\n", ""),
+    ("check -p @B gone.pcl ruled_form.pcl faulty.pcl", 3,
+     f"ERROR read gone.pcl: {GONE}\nPASS pages=2 marks=36 ruled_form.pcl\n"
+     "FAIL at=1 3 NotInProfile(Q) faulty.pcl\n", ""),
+    ("check -p @B -p invoice.pcl ruled_form.pcl", 2, "",
+     "ERROR profile 2 invoice.pcl:1 Version\n"),
+    ("check -p @B -p gone.profile ruled_form.pcl", 3, "",
+     f"ERROR read profile gone.profile: {GONE}\n"),
+    ("check -f gone.fleet ruled_form.pcl", 2, "", f"ERROR read fleet gone.fleet: {GONE}\n"),
+    ("check -f empty.pcl ruled_form.pcl", 2, "", "ERROR fleet empty.pcl: names no printer\n"),
+    ("check -p @B --files0-from gone", 3, "", f"ERROR read names gone: {GONE}\n"),
+    ("check --each -p @A -p @B -", 2, "",
+     "error: standard input can be read only once; --each reads a job for each printer\n"),
     ("list short.pcl", 0, "0 \\x1bE\n2 A\n3 \\x1b&l2A\n8 \\x0c\n", ""),
     ("list faulty.pcl", 1, "0 A\n1 FAULT 3 NotInProfile(Q)\n", ""),
     ("list gone.pcl", 3, "", "ERROR read\n"),

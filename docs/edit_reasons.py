@@ -2,11 +2,12 @@
 """Tells by what each must-fail edit is refused: by a goal of a clause, or only since a proof file
 names something that the edit took away, which shows nothing of the contract.
 
-    python3 docs/edit_reasons.py [CRATE/NAME ..]     without names: all edits
+    python3 docs/edit_reasons.py [--log FILE] [CRATE/NAME ..]     without names: all edits
 
-It tries each edit in a copy of the tree with `rt check`, begun with what the tree's own checks
-have kept, and reads every message whole. A line for each edit; status 1 where one is refused by a
-name alone, or not refused. The gate tries the same edits, but tells one line of each.
+The gate tells one line of each edit. Where FILE holds what it told, an edit whose line says that a
+goal is not proved is settled by it. Each other edit is tried in a copy of the tree with `rt check`,
+begun with what the tree's own checks have kept, and every message is read whole. A line for each
+edit; status 1 where one is refused by a name alone, or not refused.
 """
 import os
 import re
@@ -22,6 +23,9 @@ GONE = re.compile(r"has no field|has no `|is not in scope|cannot be named|that c
                   r"|was not admitted|were not admitted|was not checked|were not checked")
 BEGINS = re.compile(r"(note: )?(\./)?(proofs|src|specs)/\S+:\d+:\d+:")
 UNPROVED = re.compile(r"it is not proved that")
+# What the gate tells of an edit, and what its line says where a goal refuses it.
+TOLD = re.compile(r"rt: must-fail (\S+)\.edit: refused, as it must be: (.*)")
+BY_GOAL = re.compile(r"it is not proved that|as printed, the two types|`search`: no proof of")
 
 
 def parts_of(edit: Path) -> list[tuple[str, str, str]]:
@@ -78,8 +82,17 @@ def reason_of(tree: Path, edit: Path) -> tuple[str, str]:
     return ("a name alone", told[0]) if told else ("no message", run.stdout[-200:])
 
 
+def settled(log: str) -> dict[str, str]:
+    """The edits that a goal refuses by what the gate told, with its lines."""
+    told = (TOLD.match(line) for line in Path(log).read_text().splitlines())
+    return {found[1]: found[2] for found in told if found and BY_GOAL.search(found[2])}
+
+
 def main() -> int:
     names = sys.argv[1:]
+    known = {}
+    if names[:1] == ["--log"]:
+        known, names = settled(names[1]), names[2:]
     edits = [edit for edit in sorted(ROOT.glob("crates/*/must-fail/*.edit"))
              if not names or f"{edit.parent.parent.name}/{edit.stem}" in names]
     wrong = 0
@@ -87,9 +100,10 @@ def main() -> int:
         tree = Path(folder) / "tree"
         shutil.copytree(ROOT, tree, ignore=shutil.ignore_patterns(".git"))
         for edit in edits:
-            kind, message = reason_of(tree, edit)
+            name = f"{edit.parent.parent.name}/{edit.stem}"
+            kind, message = ("a goal", known[name]) if name in known else reason_of(tree, edit)
             wrong += kind != "a goal"
-            print(f"{edit.parent.parent.name}/{edit.stem}: {kind}: {message[:300]}", flush=True)
+            print(f"{name}: {kind}: {message[:300]}", flush=True)
     print(f"{len(edits)} edits, {wrong} of them not refused by a goal")
     return 1 if wrong or not edits else 0
 

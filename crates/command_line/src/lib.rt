@@ -1,6 +1,7 @@
 //! What the words of the command line ask for.
 #![tactic(auto)]
 
+mod check_words;
 mod panel_words;
 mod text_commands;
 mod words;

@@ -2,9 +2,10 @@
 ghost use Rattle.std.specs.Prelude.{◌≡◌, ◌≢◌, IsFalse, OnOk, IfOk, IfErr, IfSome, is_some};
 ghost use Rattle.command_line.specs.Words.{IsEndOfWords, KeepsWhatItReads, NamesSome};
 
+use crate::check_words::{EXPLANATION, check_command, check_request};
 use crate::panel_words::ChoiceFault;
 use crate::text_commands::{
-    job, list_command, pages_command, pin_command, pin_request, plain_command, text_request,
+    list_command, pages_command, pin_command, pin_request, plain_command, text_request,
 };
 use clap::error::ErrorKind;
 use clap::{Arg, ArgAction, ArgMatches, Command};
@@ -19,6 +20,17 @@ pub enum Request<'a> {
     Check {
         job: &'a str,
         profiles: Vec<&'a str>,
+    },
+    /// A check of the jobs at paths, or under the names that a file has, each for all printers that
+    /// words and the files of fleets name, or where `is_each` is set for each of them by itself.
+    CheckMany {
+        jobs: Vec<&'a str>,
+        /// The file of names, each ended by a zero byte.
+        names_from: Option<&'a str>,
+        printers: Vec<&'a str>,
+        fleets: Vec<&'a str>,
+        is_each: bool,
+        exit_zero: bool,
     },
     /// The items of the job at a path.
     List {
@@ -49,52 +61,6 @@ pub enum Request<'a> {
 }
 
 const VERSION: &str = "0.1.0";
-
-const EXPLANATION: &str = "Output of check, one line:
-  PASS pages=N marks=N         the job prints alike on every printer, however its panel was set
-  FAIL at=N profile=N FINDING  the first thing that is wrong, by its number and its name;
-                               'pclcheck explain NUMBER' tells what it means
-
-  at=       the number of bytes before the command
-  profile=  the printer's number among the words, from 1;
-            0: the bytes themselves are wrong, whatever the printer
-
-On standard error, where there is no verdict:
-  ERROR profile N LINE CAUSE  the text of printer N is refused at this line, or as a whole with line 0;
-                              CAUSE is Version, Unknown, Repeated, Range, Missing or NoGeometry
-  ERROR read                  the job or a profile could not be read
-  ERROR write, memory, turns  a write failed, memory ran out, or no end after 2^40 reads
-
-A profile is a text whose first line is 'pclprofile 1', or 'pclprofile 2' where it also lists what
-the panel may have for line termination (lineterm).
-
-Samples, small made-up printers for trying out:
-  @A  letter and A4, portrait and landscape, chosen at its panel
-  @B  letter, portrait
-  @C  as @B, but 6 or 8 lines an inch and one of two fonts, chosen at its panel
-  @D  as @B, but its first font is narrower
-
-Exit status:
-  0  the job passes, or an explanation, help or the version was asked for
-  1  the job fails
-  2  usage error, or a profile that is refused
-  3  a read or a write failed, memory ran out, or no end after 2^40 reads";
-
-/// The words of the command `check`.
-fn check_command<'a>(alloc: Global) -> Result<Command<'a>, AllocError> {
-    let profiles = Arg::new(alloc, "PROFILE")
-        .required(true)
-        .num_args(1..)
-        .action(ArgAction::Append)
-        .help(
-            "The printers: each is the path of a profile, or @A, @B, @C or @D for a built-in sample",
-        );
-    Command::new(alloc, "check")
-        .about("Checks a job for a fleet of printers, and writes one line: PASS or FAIL")
-        .after_help(EXPLANATION)
-        .arg(job(alloc))?
-        .arg(profiles)
-}
 
 const EXPLAIN_EXPLANATION: &str =
     "CODE is a number, or a name without what stands behind it in brackets, in any letter case.
@@ -230,24 +196,6 @@ fn request_of<'a>(
         return Ok(Some(Request::Explain { code }));
     }
     Ok(text_request(matches))
-}
-
-/// The request of the words behind `check`.
-fn check_request<'a>(
-    alloc: Global,
-    found: &ArgMatches<'a>,
-) -> Result<Option<Request<'a>>, ChoiceFault<'a>>
-    ensures { IfOk result (λ request. IfSome request NamesSome) }
-{
-    let (Some(job), Some(words)) = (found.get_str("JOB"), found.get_strs("PROFILE")) else {
-        return Ok(None);
-    };
-    if words.is_empty() {
-        return Ok(None);
-    }
-    let mut profiles = Vec::new(alloc);
-    profiles.extend_from_slice(words)?;
-    Ok(Some(Request::Check { job, profiles }))
 }
 
 /// Writes why the words were refused, or the help or the version that they asked for.

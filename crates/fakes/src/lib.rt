@@ -1,7 +1,7 @@
 //! For the tests: a reader and a writer that fail when they are told to, and a reader of two pieces.
 #![tactic(auto)]
 
-ghost use Rattle.std.specs.Prelude.{◌≡◌, Some, None, false};
+ghost use Rattle.std.specs.Prelude.{◌≡◌, Some, None, [], false};
 
 use std::alloc::Global;
 use std::io;
@@ -18,6 +18,7 @@ pub struct FailingSource<'a> {
 
 impl<'a> FailingSource<'a> {
     pub fn new(bytes: &'a [u8], reads: u64) -> FailingSource<'a>
+        ensures unread { result.given.pieces ≡ [] }
         ensures working { result.has_failed ≡ false }
     {
         FailingSource {

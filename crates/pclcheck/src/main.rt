@@ -1,6 +1,7 @@
 //! A preflight checker for print jobs.
 #![tactic(auto)]
 
+mod many;
 mod requests;
 
 ghost use Rattle.std.specs.Prelude.{IsFalse};
@@ -8,6 +9,7 @@ ghost use Rattle.std.specs.Prelude.{IsFalse};
 use crate::requests::fulfil;
 use command_line::read_words;
 use preflight::{Error, Outlet, Watched, write_text};
+use std::io::Input;
 use std::os::fd::{AsRawFd, IntoRawFd, RawFd};
 use std::process::ExitCode;
 use std::rt::{Env, Files};
@@ -69,7 +71,7 @@ fn refuse_usage<E: Outlet>(kind: io::ErrorKind, stderr: &mut E) -> Status
 }
 
 /// Does what the words ask for.
-fn run<R: Files + AllocGlobal, O: Outlet, E: Outlet>(
+fn run<R: Files + Input + AllocGlobal, O: Outlet, E: Outlet>(
     rt: &R,
     words: &[String],
     stdout: &mut O,

@@ -3,7 +3,9 @@ ghost use Rattle.std.specs.Prelude.{IsFalse, map};
 ghost use Rattle.command_line.specs.Words.{NamesSome};
 ghost use Rattle.pclcheck.specs.Requests.{Fulfils};
 
+use crate::many::{Asked, check_asked};
 use command_line::Request;
+use std::io::Input;
 use std::rt::Files;
 use streams::{FileOutlet, FileSource, Outlet};
 use subcommands::check::check;
@@ -15,7 +17,7 @@ use subcommands::plain::plain;
 use subcommands::{EXPLANATIONS, FileTexts, PanelSetting, Status};
 
 /// Does what is asked for. Its files are opened by the subcommands, as late as these say.
-pub fn fulfil<R: Files + AllocGlobal, O: Outlet, E: Outlet>(
+pub fn fulfil<R: Files + Input + AllocGlobal, O: Outlet, E: Outlet>(
     rt: &R,
     request: &Request<'_>,
     stdout: &mut O,
@@ -33,6 +35,24 @@ pub fn fulfil<R: Files + AllocGlobal, O: Outlet, E: Outlet>(
             let mut job = FileSource::new(rt, job);
             let mut texts = FileTexts::new(rt);
             check(alloc, &mut job, &mut texts, profiles.as_slice(), stdout)
+        }
+        Request::CheckMany {
+            jobs,
+            names_from,
+            printers,
+            fleets,
+            is_each,
+            exit_zero,
+        } => {
+            let asked = Asked {
+                jobs: jobs.as_slice(),
+                names_from: *names_from,
+                printers: printers.as_slice(),
+                fleets: fleets.as_slice(),
+                is_each: *is_each,
+                exit_zero: *exit_zero,
+            };
+            check_asked(rt, &asked, stdout, stderr)
         }
         Request::List { job } => {
             let mut job = FileSource::new(rt, job);

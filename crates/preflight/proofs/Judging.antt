@@ -8,6 +8,7 @@ use Rattle.streams.specs.Pieces.{ByReads}
 use Rattle.streams.specs.Source.{SourceState}
 use Rattle.preflight.specs.Session.{SessionState, ChecksOn, HasChecked, IsJudged, IsOutOfMemory}
 use Rattle.preflight.specs.Verdict.{IsExact, KeepsPromise, NeedsEachRead}
+use Rattle.preflight.specs.Culprit.{IsTold}
 use Rattle.preflight.specs.Carriers.Driving.{IsAnswered, IsStopped, StopsBy}
 use Rattle.streams.proofs.Pieces.{known_by}
 use Rattle.preflight.proofs.Sessions.{opened}
@@ -47,6 +48,12 @@ module _ (fleet : List Printer) (session now : Beside) (fresh : HasChecked fleet
     where
       by : (verdict : Verdict) → Answer verdict → ByReads old new (λ job. KeepsPromise fleet job verdict)
       by verdict is = record { pieces = is.before ++ is.last ∷ []; given = is.given_is; each = λ job may. (is.answered.right fleet [] fresh job may).1; known = is.known }
+
+  pub told : IfOk r (λ verdict. ByReads old new (λ job. IsTold job verdict now.0.culprit))
+  told = IfOk-weaker r Answer (λ verdict. ByReads old new (λ job. IsTold job verdict now.0.culprit)) by h
+    where
+      by : (verdict : Verdict) → Answer verdict → ByReads old new (λ job. IsTold job verdict now.0.culprit)
+      by verdict is = record { pieces = is.before ++ is.last ∷ []; given = is.given_is; each = λ job may. (is.answered.right fleet [] fresh job may).2; known = is.known }
 
   pub needed : IfOk r (λ _. NeedsEachRead fleet old new)
   needed = IfOk-weaker r Answer (λ _. NeedsEachRead fleet old new) by h

@@ -34,6 +34,12 @@ stands_on P Q Open on h = on None h
 stands_on P Q (Judged verdict) on h = (h.0, h.1, on (Some h.0) h.2)
 stands_on P Q (Stopped error) on h = h
 
+-- so does what follows with no failure, and with each where it stands open no more
+pub stands_apart : (P Q : Option Failure → Type 0) (standing : Standing) → (P None → Q None) → ((failure : Failure) → is_open standing ≡ false → P (Some failure) → Q (Some failure)) → StandsBy standing P → StandsBy standing Q
+stands_apart P Q Open on fails h = on h
+stands_apart P Q (Judged verdict) on fails h = (h.0, h.1, fails h.0 refl h.2)
+stands_apart P Q (Stopped error) on fails h = h
+
 -- one that is open is Open
 pub open_is : (standing : Standing) → is_open standing ≡ true → standing ≡ Open
 open_is Open is = refl

@@ -1,5 +1,5 @@
 //! A check of a job that is fed in pieces.
-ghost use Rattle.std.specs.Prelude.{◌≡◌, ◌++◌, ◌<◌, ◌≤◌, ◌+◌, ◌^◌, ◌↔◌, ◌≢◌, ◌⊎◌, ℕ, List, [], length, IfOk, IfErr, IsErrOf, Ok, Err, OnOk, false};
+ghost use Rattle.std.specs.Prelude.{◌≡◌, ◌++◌, ◌<◌, ◌≤◌, ◌+◌, ◌^◌, ◌↔◌, ◌≢◌, ◌⊎◌, ℕ, List, [], length, None, IfOk, IfErr, IsErrOf, Ok, Err, OnOk, false};
 ghost use Rattle.pcl_items.specs.LexerState.{WantsMore};
 ghost use Rattle.pcl_items.specs.Modes.{mode_of};
 ghost use Rattle.device_profile.specs.Printer.{Printer};
@@ -7,9 +7,11 @@ ghost use Rattle.preflight.specs.declared.error.Error.{Error};
 ghost use Rattle.verdict.specs.declared.verdict.Verdict.{Verdict};
 ghost use Rattle.preflight.specs.Session.{ChecksOn, HasChecked, HasRoom, IsJudged, IsOutOfMemory};
 ghost use Rattle.preflight.specs.Verdict.{IsExact, KeepsPromise};
+ghost use Rattle.preflight.specs.Culprit.{IsRight, IsTold};
 ghost use Rattle.preflight.specs.Carriers.Lockstep.{AreIn, AreRunning, counts_of, machines_of};
 
 use crate::check::{execute_decided, finish};
+use crate::culprit::{Culprit, Judgement};
 use crate::driver::{Consumer, PIECE};
 use crate::error::Error;
 use crate::laws::fails_say;
@@ -34,10 +36,12 @@ pub struct Session<'p, A: Allocator + Copy, P: Allocator> {
     /// How many bytes were fed.
     total: u64,
     standing: Standing,
+    /// The item that the job fails at.
+    culprit: Option<Culprit>,
 }
 
 impl<'p, A: Allocator + Copy, P: Allocator> Model for Session<'p, A, P> {
-    ghost use Rattle.std.specs.Prelude.{◌≡◌, ◌≤◌, ◌+◌, ◌^◌, length, false};
+    ghost use Rattle.std.specs.Prelude.{◌≡◌, ◌≤◌, ◌+◌, ◌^◌, length, None, false};
     ghost use Rattle.pcl_items.specs.LexerState.{WantsMore};
     ghost use Rattle.pcl_items.specs.Modes.{mode_of};
     ghost use Rattle.preflight.specs.declared.standing.Standing.TheVariants.{Open};
@@ -52,6 +56,7 @@ impl<'p, A: Allocator + Copy, P: Allocator> Model for Session<'p, A, P> {
       counts = counts_of session.machines;
       total = session.total;
       standing = session.standing;
+      culprit = session.culprit;
     } };
 
     ghost invariant = { λ session. session.standing ≡ Open →
@@ -59,7 +64,8 @@ impl<'p, A: Allocator + Copy, P: Allocator> Model for Session<'p, A, P> {
         × AreRunning (machines_of session.machines)
         × AreIn (mode_of session.lexer.context) (machines_of session.machines)
         × (session.lexer.place + length session.lexer.rest ≡ session.total)
-        × (session.total ≤ 2 ^ 62) };
+        × (session.total ≤ 2 ^ 62)
+        × (session.culprit ≡ None) };
 }
 
 impl<'p, A: Allocator + Copy, P: Allocator> Session<'p, A, P> {
@@ -87,6 +93,7 @@ impl<'p, A: Allocator + Copy, P: Allocator> Session<'p, A, P> {
                     machines,
                     total: 0,
                     standing: Standing::Open,
+                    culprit: None,
                 })
             }
         }
@@ -134,6 +141,17 @@ impl<'p, A: Allocator + Copy, P: Allocator> Session<'p, A, P> {
         Ok(())
     }
 
+    /// The item that the job fails at, whatever follows.
+    ///
+    /// It is None while nothing is wrong, and for a fault of the bytes. After an error it says
+    /// nothing.
+    pub fn culprit(&self) -> Option<Culprit>
+        ensures value { result ≡ self.now.culprit }
+        ensures open { self.now.standing ≡ standings.Open → result ≡ None }
+    {
+        self.culprit
+    }
+
     /// The verdict on the job that was fed, whole.
     ///
     /// It is the verdict that `check_job` gives on the same bytes. The error is the one that
@@ -153,14 +171,38 @@ impl<'p, A: Allocator + Copy, P: Allocator> Session<'p, A, P> {
         self.verdict()
     }
 
+    /// The verdict on the job that was fed, as `end` gives it, and the item that the job fails at.
+    pub fn end_telling(mut self) -> Result<Judgement, Error>
+        ensures exact { IfOk result (λ answer. (fleet : List Printer) (bytes : List ℕ) →
+            HasChecked fleet bytes self.entry → IsExact fleet bytes answer.verdict) }
+        ensures headline { IfOk result (λ answer. (fleet : List Printer) (bytes : List ℕ) →
+            HasChecked fleet bytes self.entry → KeepsPromise fleet bytes answer.verdict) }
+        ensures told { IfOk result (λ answer. (fleet : List Printer) (bytes : List ℕ) →
+            HasChecked fleet bytes self.entry → IsTold bytes answer.verdict answer.culprit) }
+        ensures after_verdict { (verdict : Verdict) → self.entry.standing ≡
+            standings.Judged verdict → result ≡
+            Ok (record { verdict = verdict; culprit = self.entry.culprit }) }
+        ensures after_error { (error : Error) → self.entry.standing ≡ standings.Stopped error →
+            result ≡ Err error }
+        ensures errors { self.entry.standing ≡ standings.Open →
+            IfErr result (λ error. error ≡ Error.Memory) }
+    {
+        let verdict = self.verdict()?;
+        Ok(Judgement {
+            verdict,
+            culprit: self.culprit,
+        })
+    }
+
     /// The verdict on what was fed, where no piece follows.
     // It only borrows the session, so that the proof of each way out need not free it.
     fn verdict(&mut self) -> Result<Verdict, Error>
         ensures ended { IfOk result (λ verdict. (fleet : List Printer) (bytes : List ℕ) →
-            HasChecked fleet bytes self.old →
-            IsExact fleet bytes verdict × KeepsPromise fleet bytes verdict) }
+            HasChecked fleet bytes self.old → IsRight fleet bytes verdict self.new.culprit) }
         ensures judged { (verdict : Verdict) → self.old.standing ≡ standings.Judged verdict →
             result ≡ Ok verdict }
+        ensures kept { (verdict : Verdict) → self.old.standing ≡ standings.Judged verdict →
+            self.new ≡ self.old }
         ensures stopped { (error : Error) → self.old.standing ≡ standings.Stopped error → result ≡
             Err error }
         ensures errors { self.old.standing ≡ standings.Open →
@@ -195,7 +237,12 @@ impl<A: Allocator + Copy, P: Allocator> Consumer<()> for Session<'_, A, P> {
             return Err(Error::Memory);
         }
         self.total += piece.len() as u64;
-        execute_decided(&mut self.lexer, &mut self.machines, &mut self.standing);
+        execute_decided(
+            &mut self.lexer,
+            &mut self.machines,
+            &mut self.standing,
+            &mut self.culprit,
+        );
         match self.standing {
             Standing::Open => Ok(None),
             Standing::Judged(verdict) => Ok(Some(verdict)),
@@ -209,6 +256,7 @@ impl<A: Allocator + Copy, P: Allocator> Consumer<()> for Session<'_, A, P> {
             &mut self.machines,
             self.total,
             &mut self.standing,
+            &mut self.culprit,
         );
         match self.standing {
             Standing::Open => unreachable!(),

@@ -4,6 +4,8 @@
 #[cfg(test)]
 mod bodies;
 #[cfg(test)]
+mod culprits;
+#[cfg(test)]
 mod cut_texts;
 #[cfg(test)]
 mod frames;

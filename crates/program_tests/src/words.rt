@@ -63,6 +63,37 @@ const WRONG_FOR_CHECKS: &[Ended] = &[
     ),
 ];
 
+/// Words behind `check` that are wrong for many jobs.
+const WRONG_FOR_MANY: &[&[&str]] = &[
+    // No printer.
+    &["--each"],
+    &["--each", "job.pcl"],
+    &["--exit-zero", "job.pcl"],
+    &["-p"],
+    &["job.pcl", "-p"],
+    &["job.pcl", "--fleet"],
+    // No job.
+    &["-p", "@A"],
+    &["--fleet", "shop.fleet", "--each"],
+    // Names of a file beside a job, and names without a printer.
+    &["--files0-from", "names", "-p", "@A", "job.pcl"],
+    &["--files0-from", "names", "@A"],
+    &["--files0-from", "names"],
+    &["-p", "@A", "--files0-from"],
+    // What may come once, and a flag with a value.
+    &[
+        "--files0-from",
+        "names",
+        "--files0-from",
+        "names",
+        "-p",
+        "@A",
+    ],
+    &["--each=yes", "job.pcl", "@A"],
+    &["--exit-zero=1", "job.pcl", "@A"],
+    &["-e", "job.pcl", "@A"],
+];
+
 /// Words that are wrong for a text.
 const WRONG_FOR_TEXTS: &[Ended] = &[
     (&["pclcheck", "explain", "12", "13"], Status::Usage, &[]),
@@ -106,6 +137,9 @@ const HELP: &[&str] = &[
     "at=   ",
     "profile=  ",
     "ERROR profile N LINE CAUSE",
+    "check -f shop.fleet --each ",
+    "FAIL at=N printer=NAME FINDING JOB",
+    "ERROR read fleet FILE: WHY",
     "@A  ",
     "@B  ",
     "@C  ",
@@ -145,6 +179,29 @@ fn words_that_ask_for_help(rt: HostRuntime) -> Result<(), Fail> {
 #[test]
 fn words_that_are_wrong_for_a_check(rt: HostRuntime) -> Result<(), Fail> {
     check_ended(&rt, rt.alloc(), WRONG_FOR_CHECKS)
+}
+
+/// The words of the program, with these behind `check`.
+fn strings_of_check(alloc: Global, behind: &[&str]) -> Result<Vec<String>, AllocError> {
+    let mut words = strings(alloc, &["pclcheck", "check"])?;
+    for word in behind {
+        words.push(String::from_str(alloc, word)?)?;
+    }
+    Ok(words)
+}
+
+#[test]
+fn words_that_are_wrong_for_many(rt: HostRuntime) -> Result<(), Fail> {
+    for behind in WRONG_FOR_MANY {
+        let words = strings_of_check(rt.alloc(), behind)?;
+        let mut stdout = Watched::new(Vec::new(rt.alloc()));
+        let mut stderr = Watched::new(Vec::new(rt.alloc()));
+        let answer = read_words(rt.alloc(), words.as_slice(), &mut stdout, &mut stderr).err();
+        assert_eq!(rt; answer, Some(Status::Usage), "{behind:?}");
+        let is_told = stderr.get_ref().as_slice().starts_with(b"error: ");
+        assert!(rt; is_told && stdout.get_ref().is_empty(), "{behind:?}");
+    }
+    Ok(())
 }
 
 #[test]
@@ -301,6 +358,112 @@ fn words_that_ask_for_a_text(rt: HostRuntime) -> Result<(), Fail> {
             Ok(_) | Err(_) => ("", "", None, None),
         };
         assert_eq!(rt; found, *wanted);
+    }
+    Ok(())
+}
+
+/// Jobs, the file of their names, printers, fleets, whether each printer has its own lines, and
+/// whether a FAIL counts as a PASS.
+type Many = (
+    &'static [&'static str],
+    Option<&'static str>,
+    &'static [&'static str],
+    &'static [&'static str],
+    bool,
+    bool,
+);
+
+/// Words behind `check` that ask for many jobs, and what they ask for.
+const MANY: &[(&[&str], Many)] = &[
+    (
+        &["-p", "@A", "job.pcl"],
+        (&["job.pcl"], None, &["@A"], &[], false, false),
+    ),
+    (
+        &[
+            "a",
+            "-p",
+            "@A",
+            "b",
+            "--printer",
+            "x",
+            "c",
+            "--printer=y",
+            "-pz",
+        ],
+        (
+            &["a", "b", "c"],
+            None,
+            &["@A", "x", "y", "z"],
+            &[],
+            false,
+            false,
+        ),
+    ),
+    (
+        &["-f", "shop", "@A", "--fleet=in/desk", "b"],
+        (&["@A", "b"], None, &[], &["shop", "in/desk"], false, false),
+    ),
+    (
+        &["--fleet", "shop", "--printer", "@A", "--", "-x", "--each"],
+        (&["-x", "--each"], None, &["@A"], &["shop"], false, false),
+    ),
+    (
+        &["--files0-from", "names", "-p", "@A"],
+        (&[], Some("names"), &["@A"], &[], false, false),
+    ),
+    (
+        &["--exit-zero", "-f", "shop", "--files0-from=-", "--each"],
+        (&[], Some("-"), &[], &["shop"], true, true),
+    ),
+    (
+        &["--each", "-", "-p", "@A"],
+        (&["-"], None, &["@A"], &[], true, false),
+    ),
+    // One job, and printers behind it.
+    (
+        &["--each", "job.pcl", "@A", "b.profile"],
+        (&["job.pcl"], None, &["@A", "b.profile"], &[], true, false),
+    ),
+    (
+        &["job.pcl", "@A", "--exit-zero"],
+        (&["job.pcl"], None, &["@A"], &[], false, true),
+    ),
+];
+
+/// Whether a request is this one.
+fn asks_for(request: &Request<'_>, wanted: &Many) -> bool {
+    let Request::CheckMany {
+        jobs,
+        names_from,
+        printers,
+        fleets,
+        is_each,
+        exit_zero,
+    } = request
+    else {
+        return false;
+    };
+    let (wanted_jobs, wanted_names, wanted_printers, wanted_fleets, each, zero) = wanted;
+    jobs.as_slice() == *wanted_jobs
+        && names_from == wanted_names
+        && printers.as_slice() == *wanted_printers
+        && fleets.as_slice() == *wanted_fleets
+        && is_each == each
+        && exit_zero == zero
+}
+
+#[test]
+fn words_that_ask_for_many(rt: HostRuntime) -> Result<(), Fail> {
+    for (behind, wanted) in MANY {
+        let words = strings_of_check(rt.alloc(), behind)?;
+        let mut stdout = Watched::new(Vec::new(rt.alloc()));
+        let mut stderr = Watched::new(Vec::new(rt.alloc()));
+        let is_asked = match read_words(rt.alloc(), words.as_slice(), &mut stdout, &mut stderr) {
+            Ok(request) => asks_for(&request, wanted),
+            Err(_) => false,
+        };
+        assert!(rt; is_asked, "{behind:?}");
     }
     Ok(())
 }

@@ -19,7 +19,7 @@ pub record FileOutletState : Type 0 where
 
 abbrev pub is_open : {F : Type 0} → Opened F → Bool
 is_open NotYet = false
-is_open Failed = false
+is_open (Failed error) = false
 is_open (Done file) = true
 
 -- nothing is read of it
@@ -28,7 +28,7 @@ no_source = record { given = []; remaining = None; failed = false }
 
 abbrev pub source_of : {F : Type 0} → Opened F → SourceState
 source_of NotYet = no_source
-source_of Failed = record no_source { failed = true }
+source_of (Failed error) = record no_source { failed = true }
 source_of (Done file) = record { given = file.given; remaining = None; failed = file.has_failed }
 
 -- nothing is written to it
@@ -37,5 +37,5 @@ no_outlet = record { taken = []; contents = None; failed = false }
 
 abbrev pub outlet_of : {F : Type 0} → Opened F → OutletState
 outlet_of NotYet = no_outlet
-outlet_of Failed = record no_outlet { failed = true }
+outlet_of (Failed error) = record no_outlet { failed = true }
 outlet_of (Done file) = record { taken = file.taken; contents = None; failed = file.has_failed }

@@ -58,7 +58,7 @@ impl<'a, R: Files> FileOutlet<'a, R> {
                 Ok(())
             }
             Err(error) => {
-                self.created = Opened::Failed;
+                self.created = Opened::Failed(error);
                 Err(error)
             }
         }
@@ -72,9 +72,10 @@ impl<R: Files> Outlet for FileOutlet<'_, R> {
     fn write(&mut self, piece: &[u8]) -> io::Result<usize> {
         match &mut self.created {
             Opened::Done(file) => file.write(piece),
-            Opened::NotYet | Opened::Failed => {
-                self.created = Opened::Failed;
-                Err(io::Error::from(io::ErrorKind::NotFound))
+            Opened::NotYet | Opened::Failed(_) => {
+                let error = io::Error::from(io::ErrorKind::NotFound);
+                self.created = Opened::Failed(error);
+                Err(error)
             }
         }
     }
@@ -83,7 +84,7 @@ impl<R: Files> Outlet for FileOutlet<'_, R> {
         match &self.created {
             Opened::Done(file) => file.has_failed(),
             Opened::NotYet => false,
-            Opened::Failed => true,
+            Opened::Failed(_) => true,
         }
     }
 }

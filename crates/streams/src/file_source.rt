@@ -54,7 +54,7 @@ impl<'a, R: Files> FileSource<'a, R> {
     {
         match self.opened {
             Opened::Done(file) => file.into_given(),
-            Opened::NotYet | Opened::Failed => Given::new(),
+            Opened::NotYet | Opened::Failed(_) => Given::new(),
         }
     }
 
@@ -74,7 +74,7 @@ impl<'a, R: Files> FileSource<'a, R> {
                 Ok(())
             }
             Err(error) => {
-                self.opened = Opened::Failed;
+                self.opened = Opened::Failed(error);
                 Err(error)
             }
         }
@@ -88,7 +88,7 @@ impl<R: Files> Source for FileSource<'_, R> {
         self.open_once()?;
         match &mut self.opened {
             Opened::Done(file) => file.read(buf),
-            Opened::NotYet | Opened::Failed => unreachable!(),
+            Opened::NotYet | Opened::Failed(_) => unreachable!(),
         }
     }
 
@@ -96,7 +96,15 @@ impl<R: Files> Source for FileSource<'_, R> {
         match &self.opened {
             Opened::Done(file) => file.has_failed(),
             Opened::NotYet => false,
-            Opened::Failed => true,
+            Opened::Failed(_) => true,
+        }
+    }
+
+    fn error(&self) -> Option<io::Error> {
+        match &self.opened {
+            Opened::Done(file) => file.error(),
+            Opened::NotYet => None,
+            Opened::Failed(error) => Some(*error),
         }
     }
 }

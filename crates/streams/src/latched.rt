@@ -15,6 +15,8 @@ pub struct Latched<T> {
     given: Given,
     taken: Given,
     has_failed: bool,
+    /// Why the last read failed.
+    error: Option<io::Error>,
 }
 
 impl<T> Model for Latched<T> {
@@ -44,6 +46,7 @@ impl<T> Latched<T> {
             given: Given::new(),
             taken: Given::new(),
             has_failed: false,
+            error: None,
         }
     }
 
@@ -73,8 +76,9 @@ impl<T: Read> Source for Latched<T> {
 
     fn read(&mut self, buf: &mut [u8]) -> io::Result<usize> {
         let result = self.inner.read(buf);
-        if let Ok(count) = &result {
-            self.given = self.given.and(&buf[..*count]);
+        match &result {
+            Ok(count) => self.given = self.given.and(&buf[..*count]),
+            Err(error) => self.error = Some(*error),
         }
         self.has_failed = result.is_err();
         result
@@ -82,6 +86,10 @@ impl<T: Read> Source for Latched<T> {
 
     fn has_failed(&self) -> bool {
         self.has_failed
+    }
+
+    fn error(&self) -> Option<io::Error> {
+        self.error
     }
 }
 

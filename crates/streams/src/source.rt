@@ -19,4 +19,9 @@ pub trait Source {
     /// Whether a read has failed.
     fn has_failed(&self) -> bool
         ensures { result ≡ (state self.now).failed };
+
+    /// Why the last read failed, where the system tells it.
+    fn error(&self) -> Option<io::Error> {
+        None
+    }
 }

@@ -10,7 +10,7 @@ use Rattle.preflight.specs.declared.error.Error.TheVariants.{Memory, Read, Write
 use Rattle.verdict.specs.declared.verdict.Verdict.{Verdict}
 use Rattle.streams.specs.Outlet.{OutletState}
 use Rattle.subcommands.specs.declared.status.Status.{Status}
-use Rattle.subcommands.specs.declared.status.Status.TheVariants.{Pass, Fail, Help, Usage, Overwrites, NotAllowed, Profile, Stopped}
+use Rattle.subcommands.specs.declared.status.Status.TheVariants.{Pass, Fail, Help, Usage, Overwrites, NotAllowed, Told, Profile, Stopped}
 use Rattle.subcommands.specs.Check.{Leaves}
 use Rattle.subcommands.specs.Status.{is_stop_of_write, refusal_of}
 use Rattle.subcommands.specs.Fleet.{Describes, DescribeBy, DescribeFleet, IsReached, IsRefused, IsEndOfProfile, IsEndOfFleet, RefusesBy, RefusesRead}
@@ -73,6 +73,7 @@ end_reached f words i d printers Help h before end = absurd end
 end_reached f words i d printers Usage h before end = absurd end
 end_reached f words i d printers (Overwrites input) h before end = absurd end
 end_reached f words i d printers (NotAllowed choice) h before end = absurd end
+end_reached f words i d printers (Told trouble) h before end = absurd end
 
 pub fleet_ends : {X : Type 0} (start now : List ℕ → Option (List ℕ)) (bytes : X → List ℕ) (words : List X) (i : ℕ) (d : X) (printers : List Printer) (status : Status) → i < length words → now ≡ start →
     DescribeFleet (map (λ word. start (bytes word)) (take i words)) printers → IsEndOfProfile (i + 1) (now (bytes (get_or words i d))) status →
@@ -129,6 +130,7 @@ behind_described start mid after printers i Help described count refused = tt
 behind_described start mid after printers i Usage described count refused = tt
 behind_described start mid after printers i (Overwrites input) described count refused = tt
 behind_described start mid after printers i (NotAllowed choice) described count refused = tt
+behind_described start mid after printers i (Told trouble) described count refused = tt
 
 -- the texts of words describe as many printers as there are words
 pub refused_behind : {X : Type 0} (f : X → Option (List ℕ)) (words : List X) (i : ℕ) (start mid after : List (List ℕ)) (printers : List Printer) (status : Status) → i < length words →
@@ -151,6 +153,7 @@ no_line texts Help P a end = absurd end
 no_line texts Usage P a end = absurd end
 no_line texts (Overwrites input) P a end = absurd end
 no_line texts (NotAllowed choice) P a end = absurd end
+no_line texts (Told trouble) P a end = absurd end
 
 -- nor did a write fail
 pub no_write : (texts : List (Option (List ℕ))) (status : Status) → IsEndOfFleet texts status → false ≡ is_stop_of_write status
@@ -166,6 +169,7 @@ no_write texts Help end = refl
 no_write texts Usage end = refl
 no_write texts (Overwrites input) end = refl
 no_write texts (NotAllowed choice) end = refl
+no_write texts (Told trouble) end = refl
 
 -- where a profile is not had, no write failed
 pub no_write_before : (number : ℕ) (text : Option (List ℕ)) (status : Status) → IsEndOfProfile number text status → false ≡ is_stop_of_write status
@@ -181,3 +185,4 @@ no_write_before number text Help end = refl
 no_write_before number text Usage end = refl
 no_write_before number text (Overwrites input) end = refl
 no_write_before number text (NotAllowed choice) end = refl
+no_write_before number text (Told trouble) end = refl

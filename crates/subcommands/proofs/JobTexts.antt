@@ -18,7 +18,7 @@ use Rattle.streams.specs.Source.{SourceState}
 use Rattle.preflight.specs.Writing.{Writes}
 use Rattle.std.proofs.KnownBytes.{Appends-nil, Keeps-refl}
 use Rattle.subcommands.specs.declared.status.Status.{Status}
-use Rattle.subcommands.specs.declared.status.Status.TheVariants.{Pass, Fail, Help, Usage, Overwrites, NotAllowed, Profile, Stopped}
+use Rattle.subcommands.specs.declared.status.Status.TheVariants.{Pass, Fail, Help, Usage, Overwrites, NotAllowed, Told, Profile, Stopped}
 use Rattle.subcommands.specs.Fleet.{IsEndOfProfile}
 use Rattle.subcommands.specs.declared.choices.Choice.{Choice}
 use Rattle.subcommands.specs.Choices.{choice_line, chosen_panel}
@@ -63,6 +63,7 @@ told Done Help rendering job job' old new start end stands line = absurd line
 told Done Usage rendering job job' old new start end stands line = absurd line
 told Done (Overwrites input) rendering job job' old new start end stands line = absurd line
 told Done (NotAllowed choice) rendering job job' old new start end stands line = absurd line
+told Done (Told trouble) rendering job job' old new start end stands line = absurd line
 told Done (Profile number row cause) rendering job job' old new start end stands line = absurd line
 told Done (Stopped error) rendering job job' old new start end stands line = absurd line
 told (FailsOf place profile finding) Pass rendering job job' old new start end stands line = absurd line
@@ -71,6 +72,7 @@ told (FailsOf place profile finding) Help rendering job job' old new start end s
 told (FailsOf place profile finding) Usage rendering job job' old new start end stands line = absurd line
 told (FailsOf place profile finding) (Overwrites input) rendering job job' old new start end stands line = absurd line
 told (FailsOf place profile finding) (NotAllowed choice) rendering job job' old new start end stands line = absurd line
+told (FailsOf place profile finding) (Told trouble) rendering job job' old new start end stands line = absurd line
 told (FailsOf place profile finding) (Profile number row cause) rendering job job' old new start end stands line = absurd line
 told (FailsOf place profile finding) (Stopped Memory) rendering job job' old new start end stands line = inr (place, profile, finding, stands, line)
 told (FailsOf place profile finding) (Stopped Read) rendering job job' old new start end stands line = absurd line
@@ -125,6 +127,7 @@ at_opening Fail rendering job read_failed old write_failed start end = absurd en
 at_opening Help rendering job read_failed old write_failed start end = absurd end
 at_opening Usage rendering job read_failed old write_failed start end = absurd end
 at_opening (NotAllowed choice) rendering job read_failed old write_failed start end = absurd end
+at_opening (Told trouble) rendering job read_failed old write_failed start end = absurd end
 at_opening (Profile number line cause) rendering job read_failed old write_failed start end = absurd end
 
 pub opening_left : (status : Status) (rendering : Rendering) (job job' : SourceState) (read_failed : Bool) (old new : OutletState) (write_failed : Bool) (start : OutletState) → IsEndOfOpening status →
@@ -149,6 +152,7 @@ out_left Help rendering job job' old new start end left = left
 out_left Usage rendering job job' old new start end left = left
 out_left (Overwrites input) rendering job job' old new start end left = absurd left
 out_left (NotAllowed choice) rendering job job' old new start end left = left
+out_left (Told trouble) rendering job job' old new start end left = left
 out_left (Profile number line cause) rendering job job' old new start end left = left
 out_left (Stopped error) rendering job job' old new start end left = left
 
@@ -161,6 +165,7 @@ pinned_left Help IsPrinter choices job job' old new start end left = left
 pinned_left Usage IsPrinter choices job job' old new start end left = left
 pinned_left (Overwrites input) IsPrinter choices job job' old new start end left = left
 pinned_left (NotAllowed choice) IsPrinter choices job job' old new start end left = absurd left.4
+pinned_left (Told trouble) IsPrinter choices job job' old new start end left = absurd left.4
 pinned_left (Profile number line cause) IsPrinter choices job job' old new start end left = absurd left.4
 pinned_left (Stopped error) IsPrinter choices job job' old new start end left = inr left
 
@@ -172,6 +177,7 @@ pages_left Help IsPrinter job job' old new left = left
 pages_left Usage IsPrinter job job' old new left = left
 pages_left (Overwrites input) IsPrinter job job' old new left = left
 pages_left (NotAllowed choice) IsPrinter job job' old new left = left
+pages_left (Told trouble) IsPrinter job job' old new left = left
 pages_left (Profile number line cause) IsPrinter job job' old new left = absurd left.3
 pages_left (Stopped error) IsPrinter job job' old new left = inr left
 
@@ -186,6 +192,7 @@ no_pages number text Help IsPrinter job a end = absurd end
 no_pages number text Usage IsPrinter job a end = absurd end
 no_pages number text (Overwrites input) IsPrinter job a end = absurd end
 no_pages number text (NotAllowed choice) IsPrinter job a end = absurd end
+no_pages number text (Told trouble) IsPrinter job a end = absurd end
 
 -- a choice that the panel may not have is told, or that memory ran out; nothing was read of the job then, and nothing written
 pub choice_told : (status : Status) (printer : Printer) (choice : Choice) (IsPrinter : Printer → Type 0) (choices : List Choice) (old new : OutletState) → IsPrinter printer → chosen_panel printer choices ≡ Err choice →
@@ -203,6 +210,7 @@ choice_told Help printer choice IsPrinter choices old new named refused line = a
 choice_told Usage printer choice IsPrinter choices old new named refused line = absurd line
 choice_told (Overwrites input) printer choice IsPrinter choices old new named refused line = absurd line
 choice_told (Profile number row cause) printer choice IsPrinter choices old new named refused line = absurd line
+choice_told (Told trouble) printer choice IsPrinter choices old new named refused line = absurd line
 
 pub choice_refused : (status : Status) (printer : Printer) (choice : Choice) (IsPrinter : Printer → Type 0) (choices : List Choice) (old new : OutletState) (job : SourceState) (a b : OutletState) (read_failed write_failed : Bool) →
     IsFalse read_failed → IsFalse write_failed → TellsOfChoice status printer choice old new →
@@ -229,6 +237,7 @@ choice_refused Help printer choice IsPrinter choices old new job a b read_failed
 choice_refused Usage printer choice IsPrinter choices old new job a b read_failed write_failed no_read no_write line = absurd line
 choice_refused (Overwrites input) printer choice IsPrinter choices old new job a b read_failed write_failed no_read no_write line = absurd line
 choice_refused (Profile number row cause) printer choice IsPrinter choices old new job a b read_failed write_failed no_read no_write line = absurd line
+choice_refused (Told trouble) printer choice IsPrinter choices old new job a b read_failed write_failed no_read no_write line = absurd line
 
 -- where the profile is not had, nothing was pinned
 pub no_pinned : (number : ℕ) (text : Option (List ℕ)) (status : Status) (IsPrinter : Printer → Type 0) (choices : List Choice) (job : SourceState) (a b : OutletState) → IsEndOfProfile number text status →
@@ -241,3 +250,4 @@ no_pinned number text Help IsPrinter choices job a b end = absurd end
 no_pinned number text Usage IsPrinter choices job a b end = absurd end
 no_pinned number text (Overwrites input) IsPrinter choices job a b end = absurd end
 no_pinned number text (NotAllowed choice) IsPrinter choices job a b end = absurd end
+no_pinned number text (Told trouble) IsPrinter choices job a b end = absurd end

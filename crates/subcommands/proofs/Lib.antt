@@ -4,6 +4,7 @@ mod ExplainLemmas
 mod ExplainedReasons
 mod FleetLemmas
 mod FrontLemmas
+mod JobChecks
 mod JobTexts
 mod Leaves
 mod TextLemmas

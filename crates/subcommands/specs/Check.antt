@@ -11,7 +11,7 @@ use Rattle.streams.specs.Pieces.{ByReads}
 use Rattle.streams.specs.Source.{SourceState}
 use Rattle.preflight.specs.Verdict.{IsExact, KeepsPromise, NeedsEachRead}
 use Rattle.subcommands.specs.declared.status.Status.{Status}
-use Rattle.subcommands.specs.declared.status.Status.TheVariants.{Pass, Fail, Help, Usage, Overwrites, NotAllowed, Profile, Stopped}
+use Rattle.subcommands.specs.declared.status.Status.TheVariants.{Pass, Fail, Help, Usage, Overwrites, NotAllowed, Told, Profile, Stopped}
 use Rattle.subcommands.specs.Fleet.{DescribeBy, DescribeFleet}
 use Rattle.subcommands.specs.Lines.{verdict_line}
 
@@ -50,5 +50,6 @@ Leaves Help P old new = ⊥
 Leaves Usage P old new = ⊥
 Leaves (Overwrites input) P old new = ⊥
 Leaves (NotAllowed choice) P old new = ⊥
+Leaves (Told trouble) P old new = ⊥
 Leaves (Profile number line cause) P old new = Stays old new
 Leaves (Stopped error) P old new = LeavesAtStop error P old new

@@ -14,7 +14,7 @@ use Rattle.streams.specs.Outlet.{OutletState, Adds, AddsFront, Stays}
 use Rattle.streams.specs.Source.{SourceState}
 use Rattle.preflight.specs.Writing.{Writes}
 use Rattle.subcommands.specs.declared.status.Status.{Status}
-use Rattle.subcommands.specs.declared.status.Status.TheVariants.{Pass, Fail, Help, Usage, Overwrites, NotAllowed, Profile, Stopped}
+use Rattle.subcommands.specs.declared.status.Status.TheVariants.{Pass, Fail, Help, Usage, Overwrites, NotAllowed, Told, Profile, Stopped}
 use Rattle.subcommands.specs.declared.choices.Choice.{Choice}
 use Rattle.subcommands.specs.Choices.{choice_line, chosen_panel}
 use Rattle.subcommands.specs.Fleet.{DescribeBy, Describes, IsRefused}
@@ -43,6 +43,7 @@ LeavesText Help rendering job job' old new = ⊥
 LeavesText Usage rendering job job' old new = ⊥
 LeavesText (Overwrites input) rendering job job' old new = ⊥
 LeavesText (NotAllowed choice) rendering job job' old new = ⊥
+LeavesText (Told trouble) rendering job job' old new = ⊥
 LeavesText (Profile number line cause) rendering job job' old new = ⊥
 LeavesText (Stopped error) rendering job job' old new = (error ≢ NoProfile) × WritesFront rendering job job' old new
 
@@ -64,6 +65,7 @@ LeavesTextAndLine Help rendering job job' old new start end = ⊥
 LeavesTextAndLine Usage rendering job job' old new start end = ⊥
 LeavesTextAndLine (Overwrites input) rendering job job' old new start end = ⊥
 LeavesTextAndLine (NotAllowed choice) rendering job job' old new start end = ⊥
+LeavesTextAndLine (Told trouble) rendering job job' old new start end = ⊥
 LeavesTextAndLine (Profile number line cause) rendering job job' old new start end = ⊥
 LeavesTextAndLine (Stopped error) rendering job job' old new start end = LeavesAtStopBeside error rendering job job' old new start end
 

@@ -1,9 +1,16 @@
+pub mod Asked
 pub mod Check
+pub mod CheckMany
 pub mod Choices
 pub mod Explanations
+pub mod FileJobs
 pub mod FileState
 pub mod Fleet
+pub mod JobChecks
+pub mod JobLines
 pub mod JobTexts
 pub mod Lines
+pub mod NamedTexts
+pub mod Refusals
 pub mod Status
 pub mod Texts

@@ -1,5 +1,5 @@
 -- How the program ends.
-use Rattle.std.specs.Prelude.{ℕ, List, [], ◌++◌, codes, decimal, Bool, false, true, Result, Ok, Err, ⊤}
+use Rattle.std.specs.Prelude.{ℕ, List, [], ◌∷◌, ◌++◌, codes, decimal, Bool, false, true, Result, Ok, Err, ⊤}
 use Rattle.device_profile.specs.declared.fault.Cause.{Cause}
 use Rattle.device_profile.specs.declared.fault.Cause.TheVariants.{Version, Unknown, Repeated, Range, Missing, NoGeometry}
 use Rattle.device_profile.specs.declared.fault.ProfileFault.{ProfileFault}
@@ -9,8 +9,9 @@ use Rattle.preflight.specs.declared.error.Error.TheVariants.{Memory, Read, Write
 use Rattle.preflight.specs.Errors.{is_read, is_write}
 use Rattle.subcommands.specs.declared.status.Status.{Status}
 use Rattle.subcommands.specs.declared.status.Input.{Input}
+use Rattle.subcommands.specs.declared.status.Trouble.TheVariants.{Refused, NoVerdict}
 use Rattle.subcommands.specs.declared.status.Input.TheVariants.{Job, Profile as TheProfile}
-use Rattle.subcommands.specs.declared.status.Status.TheVariants.{Pass, Fail, Help, Usage, Overwrites, NotAllowed, Profile, Stopped}
+use Rattle.subcommands.specs.declared.status.Status.TheVariants.{Pass, Fail, Help, Usage, Overwrites, NotAllowed, Told, Profile, Stopped}
 
 -- the number that the system is told
 abbrev pub code_of : Status → ℕ
@@ -20,15 +21,20 @@ code_of Help = 0
 code_of Usage = 2
 code_of (Overwrites input) = 2
 code_of (NotAllowed choice) = 2
+code_of (Told Refused) = 2
+code_of (Told NoVerdict) = 3
 code_of (Profile number line cause) = 2
 code_of (Stopped error) = 3
 
+abbrev pub error_words : Error → List ℕ
+error_words Memory = codes "ERROR memory"
+error_words Read = codes "ERROR read"
+error_words Write = codes "ERROR write"
+error_words Turns = codes "ERROR turns"
+error_words NoProfile = codes "ERROR no profile"
+
 abbrev pub error_line : Error → List ℕ
-error_line Memory = codes "ERROR memory\n"
-error_line Read = codes "ERROR read\n"
-error_line Write = codes "ERROR write\n"
-error_line Turns = codes "ERROR turns\n"
-error_line NoProfile = codes "ERROR no profile\n"
+error_line error = error_words error ++ 10 ∷ []
 
 abbrev pub cause_name : Cause → List ℕ
 cause_name Version = codes "Version"
@@ -56,6 +62,7 @@ status_line Help = []
 status_line Usage = []
 status_line (Overwrites input) = overwriting_line input
 status_line (NotAllowed choice) = []
+status_line (Told trouble) = []
 status_line (Profile number line cause) = refusal_line number line cause
 status_line (Stopped error) = error_line error
 

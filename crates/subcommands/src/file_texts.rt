@@ -7,6 +7,7 @@ use crate::texts::{ProfileTexts, read_text_from};
 use device_profile::Sample;
 use preflight::Error;
 use std::alloc::Allocator;
+use std::io;
 use std::marker::Model;
 use std::rt::Files;
 use streams::{FileId, FileSource, Given, Latched, Open, Source};
@@ -21,6 +22,8 @@ pub struct FileTexts<'a, R: Files> {
     has_failed: bool,
     /// The file of the last text, if it was one.
     file: Option<FileId>,
+    /// Why the last text could not be read.
+    error: Option<io::Error>,
 }
 
 impl<'a, R: Files> Model for FileTexts<'a, R> {
@@ -47,6 +50,7 @@ impl<'a, R: Files> FileTexts<'a, R> {
             reads: Given::new(),
             has_failed: false,
             file: None,
+            error: None,
         }
     }
 
@@ -71,6 +75,7 @@ impl<'a, R: Files> FileTexts<'a, R> {
         let result = read_text_from(alloc, &mut file);
         self.has_failed = file.has_failed();
         self.file = file.file();
+        self.error = file.error();
         self.reads = file.into_given();
         result
     }
@@ -95,6 +100,10 @@ impl<R: Files> ProfileTexts for FileTexts<'_, R> {
 
     fn file(&self) -> Option<FileId> {
         self.file
+    }
+
+    fn error(&self) -> Option<io::Error> {
+        self.error
     }
 }
 

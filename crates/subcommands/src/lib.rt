@@ -3,27 +3,40 @@
 #![tactic(auto)]
 
 pub mod check;
+pub mod check_jobs;
 mod choices;
 pub mod explain;
 mod explanations;
+mod file_jobs;
 mod file_texts;
 mod fleet;
+pub mod fleet_file;
 mod front;
+mod groups;
+mod job_checks;
+mod job_lines;
+mod jobs;
 mod lines;
 pub mod list;
+mod named_texts;
 mod opening;
 mod outcome;
 pub mod pages;
 pub mod pin;
 pub mod plain;
+mod refusals;
 pub mod render;
 mod status;
+mod system_words;
 mod texts;
 
 pub use choices::{Choice, PANEL_FIELDS, PanelSetting, field_word};
 pub use explanations::{EXPLANATIONS, reasons_are_explained};
+pub use file_jobs::{FileJobs, JobSource};
 pub use file_texts::FileTexts;
 pub use front::read_front;
+pub use jobs::Jobs;
 pub use lines::line_of;
-pub use status::{Input, Status, tell};
+pub use refusals::{refuse_input_twice, tell_unread_names};
+pub use status::{Input, Status, Trouble, tell};
 pub use texts::{ProfileTexts, read_text_from};

@@ -3,7 +3,7 @@ ghost use Rattle.std.specs.Prelude.{◌≡◌, IsFalse, IsTrue, map};
 ghost use Rattle.std.specs.List.{concat};
 ghost use Rattle.preflight.specs.Writing.{Writes};
 ghost use Rattle.preflight.specs.declared.error.Error.TheVariants.{Memory};
-ghost use Rattle.subcommands.specs.Status.{code_of, cause_name, error_line, overwriting_line, refusal_line, status_line};
+ghost use Rattle.subcommands.specs.Status.{code_of, cause_name, error_line, error_words, overwriting_line, refusal_line, status_line};
 ghost use Rattle.subcommands.specs.declared.status.Status.TheVariants.{Stopped};
 
 use crate::choices::Choice;
@@ -45,6 +45,17 @@ pub enum Status {
     },
     /// The work stopped before its end.
     Stopped(Error),
+    /// A trouble of which what it is about was told.
+    Told(Trouble),
+}
+
+/// What stands in the way of verdicts, and was told with the name of what it is about.
+#[derive(Clone, Copy, Debug, PartialEq, Eq)]
+pub enum Trouble {
+    /// A profile or a fleet is refused.
+    Refused,
+    /// A job has no verdict, or a profile could not be read.
+    NoVerdict,
 }
 
 impl Status {
@@ -58,8 +69,9 @@ impl Status {
             Status::Usage
             | Status::Overwrites(_)
             | Status::NotAllowed(_)
-            | Status::Profile { .. } => 2,
-            Status::Stopped(_) => 3,
+            | Status::Profile { .. }
+            | Status::Told(Trouble::Refused) => 2,
+            Status::Stopped(_) | Status::Told(Trouble::NoVerdict) => 3,
         }
     }
 }
@@ -96,23 +108,27 @@ pub fn tell<E: Outlet>(status: Status, stderr: &mut E)
             line,
             cause,
         } => write_refusal(stderr, number, line, cause),
-        Status::Stopped(error) => write_text(stderr, error_line(error)),
+        Status::Stopped(error) => write_pieces(stderr, &[error_words(error), b"\n"]),
         Status::Overwrites(input) => write_text(stderr, overwriting_line(input)),
-        Status::Pass | Status::Fail | Status::Help | Status::Usage | Status::NotAllowed(_) => Ok(
-            (),
-        ),
+        Status::Pass
+        | Status::Fail
+        | Status::Help
+        | Status::Usage
+        | Status::NotAllowed(_)
+        | Status::Told(_) => Ok(()),
     };
 }
 
-fn error_line(error: Error) -> &'static [u8]
-    ensures { result.now ≡ error_line error }
+/// Why work stopped, in words.
+pub fn error_words(error: Error) -> &'static [u8]
+    ensures { result.now ≡ error_words error }
 {
     match error {
-        Error::Memory => b"ERROR memory\n",
-        Error::Read => b"ERROR read\n",
-        Error::Write => b"ERROR write\n",
-        Error::Turns => b"ERROR turns\n",
-        Error::NoProfile => b"ERROR no profile\n",
+        Error::Memory => b"ERROR memory",
+        Error::Read => b"ERROR read",
+        Error::Write => b"ERROR write",
+        Error::Turns => b"ERROR turns",
+        Error::NoProfile => b"ERROR no profile",
     }
 }
 
@@ -149,7 +165,7 @@ fn write_refusal<E: Outlet>(
     write_pieces(stderr, &pieces)
 }
 
-fn cause_name(cause: Cause) -> &'static [u8]
+pub fn cause_name(cause: Cause) -> &'static [u8]
     ensures { result.now ≡ cause_name cause }
 {
     match cause {

@@ -6,6 +6,7 @@ ghost use Rattle.subcommands.specs.Texts.{IsErrorOfReading, IsTextBy, text_read}
 use crate::front::read_front;
 use preflight::Error;
 use std::alloc::Allocator;
+use std::io;
 use streams::{FileId, Source};
 
 /// So many bytes of a text are read at most: one more than a text may have, which tells that it
@@ -43,6 +44,11 @@ pub trait ProfileTexts {
 
     /// The file that the last text was read from, if it was one.
     fn file(&self) -> Option<FileId> {
+        None
+    }
+
+    /// Why the last text could not be read, where the system tells it.
+    fn error(&self) -> Option<io::Error> {
         None
     }
 }

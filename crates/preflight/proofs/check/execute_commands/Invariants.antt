@@ -1,4 +1,4 @@
-use Rattle.std.proofs.Common.{◌≡◌}
+use Rattle.std.proofs.Common.{◌≡◌, IsTrue}
 use Rattle.pcl_items.specs.Reading.{left}
 use Rattle.preflight.specs.Carriers.Checking.{ComesThrough}
 use Rattle.preflight.specs.Carriers.Lockstep.{machines_of, counts_of}
@@ -10,7 +10,8 @@ abbrev pub invariant-loop-is_open : goal.invariant-loop-is_open
 invariant-loop-is_open g l = record {
   tells : l.is_open ≡ is_open l.standing;
   further : IsFurther l.initial.lexer l.lexer;
-  came : StandsBy l.standing (λ failed. ComesThrough failed l.initial.lexer l.lexer (machines_of l.initial.machines) (machines_of l.machines) (counts_of l.initial.machines) (counts_of l.machines));
+  untold : IsTrue l.is_open → l.culprit ≡ l.initial.culprit;
+  came : StandsBy l.standing (λ failed. ComesThrough failed l.culprit l.initial.lexer l.lexer (machines_of l.initial.machines) (machines_of l.machines) (counts_of l.initial.machines) (counts_of l.machines));
 }
 
 abbrev pub decreases-loop-is_open : goal.decreases-loop-is_open

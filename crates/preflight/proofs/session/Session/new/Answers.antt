@@ -20,6 +20,7 @@ invariant_of-result g c = λ _.
       subst (λ (s : LexerState). AreIn (mode_of s.context) machines) (sym lexer.ensures.start) (all_in printers machines fresh),
       ap (λ (s : LexerState). s.place + length s.rest) lexer.ensures.start,
       omega arith,
+      refl,
     )
 
 pub returns-in_ok-machines-in-len1-up-clause-none : goal.returns-in_ok-machines-in-len1-up-clause-none

@@ -10,8 +10,8 @@ pub returns : goal.returns
 returns g c = λ first bytes goes.
     let inside = c.self.inside in
     let new = c.finish.new in
-    let old : SessionState = record { lexer = inside.lexer; machines = machines_of inside.machines; counts = counts_of inside.machines; total = inside.total; standing = inside.standing } in
-    let after : SessionState = record { lexer = new.lexer; machines = machines_of new.machines; counts = counts_of new.machines; total = inside.total; standing = new.standing } in
+    let old : SessionState = record { lexer = inside.lexer; machines = machines_of inside.machines; counts = counts_of inside.machines; total = inside.total; standing = inside.standing; culprit = inside.culprit } in
+    let after : SessionState = record { lexer = new.lexer; machines = machines_of new.machines; counts = counts_of new.machines; total = inside.total; standing = new.standing; culprit = new.culprit } in
     elim c.match-self.branch [
       | in-Judged w ↦
           let verdict = w.in-Judged.verdict in

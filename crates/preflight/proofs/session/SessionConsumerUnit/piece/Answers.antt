@@ -3,6 +3,7 @@ use Rattle.pcl_items.specs.LexerState.{LexerState}
 use Rattle.pcl_items.specs.Lexing.{MayBe}
 use Rattle.preflight.specs.Standing.{is_open}
 use Rattle.preflight.specs.Verdict.{IsExact}
+use Rattle.preflight.specs.Culprit.{IsTold}
 use Rattle.verdict.specs.Failing.{failing}
 use Rattle.preflight.specs.Carriers.Lockstep.{counts_of, machines_of}
 use Rattle.preflight.specs.Session.{ChecksOn, SessionState}
@@ -23,8 +24,8 @@ returns g c = λ first bytes goes.
     let inside = c.self.inside in
     let piece = c.args.piece.now in
     let new = c.execute_decided.new in
-    let old : SessionState = record { lexer = inside.lexer; machines = machines_of inside.machines; counts = counts_of inside.machines; total = inside.total; standing = inside.standing } in
-    let after : SessionState = record { lexer = new.lexer; machines = machines_of new.machines; counts = counts_of new.machines; total = inside.total + length piece; standing = new.standing } in
+    let old : SessionState = record { lexer = inside.lexer; machines = machines_of inside.machines; counts = counts_of inside.machines; total = inside.total; standing = inside.standing; culprit = inside.culprit } in
+    let after : SessionState = record { lexer = new.lexer; machines = machines_of new.machines; counts = counts_of new.machines; total = inside.total + length piece; standing = new.standing; culprit = new.culprit } in
     let before : ChecksOn first.0 bytes old = subst (ChecksOn first.0 bytes) (sym c.self.view_is) goes in
     let fed = fed_ok c.feed.result (sym c.is_err.ensures.value ∙ c.if-is_err.false) c.feed.ensures.ok in
     let reads = fed_ok c.feed.result (sym c.is_err.ensures.value ∙ c.if-is_err.false) c.feed.ensures.reads in
@@ -37,7 +38,7 @@ returns g c = λ first bytes goes.
           rw w.result-is
           (checks_more first.0 old after bytes before piece w.in-Open.is refl (went.ended ∙ not_ended) on.0
           (λ fleet base executed.
-          let came = came_open _ _ new.lexer _ (machines_of new.machines) _ (counts_of new.machines) new.standing is went.came fleet (base ++ piece)
+          let came = came_open _ _ _ new.lexer _ (machines_of new.machines) _ (counts_of new.machines) new.standing is went.came fleet (base ++ piece)
           (executed_fed fleet base piece inside.lexer c.feed.new.self (machines_of inside.machines) (counts_of inside.machines) reads executed) in
           came.0))
       | in-Judged w ↦
@@ -46,7 +47,7 @@ returns g c = λ first bytes goes.
           rw w.result-is
           (judged_by_piece first.0 old after bytes before c.fails_say.ensures piece judged.0 verdict judged.1 w.in-Judged.is
           (λ fleet base executed.
-          subst (λ ended. (job : List ℕ) → MayBe ended (base ++ piece) job → IsExact fleet job (failing judged.0)) not_ended
+          subst (λ ended. (job : List ℕ) → MayBe ended (base ++ piece) job → IsExact fleet job (failing judged.0) × IsTold job (failing judged.0) new.culprit) not_ended
           (judged.2 fleet (base ++ piece) (executed_fed fleet base piece inside.lexer c.feed.new.self (machines_of inside.machines) (counts_of inside.machines) reads executed))))
       | in-Stopped w ↦
           let error = w.in-Stopped.error in

@@ -1,4 +1,4 @@
-use Rattle.preflight.proofs.lockstep.Lockstep.execute.Goals as goal
+use Rattle.preflight.proofs.lockstep.Lockstep.execute_inline.Goals as goal
 
 pub returns-in-One-clause-came : goal.returns-in-One-clause-came
 returns-in-One-clause-came g c = rw c.in-One.is c.execute.ensures.came

@@ -1,0 +1,258 @@
+-- Lemmas on the lines of many jobs.
+use Rattle.std.proofs.Common.{◌≡◌, ◌≢◌, ◌<◌, ◌+◌, ◌-◌, suc, min, if◌then◌else◌, IfOk, IfErr, IsErrOf, length-drop, zero, ℕ, List, [], ◌∷◌, ◌++◌, map, flat_map, fold, take, drop, length, get_or, Bool, true, false, Option, Some, Result, Ok, Err, refl, sym, ◌∙◌, ap, append_assoc, append-nil, subst, arith}
+use Rattle.std.proofs.Math.Seq.{split_at}
+use Rattle.std.specs.List.{AllByRecursion, range_with_len}
+use Rattle.std.proofs.lemmas.List.{drop-map, length-take, map-append, map_more, take-map}
+use Rattle.device_profile.specs.Printer.{Printer}
+use Rattle.preflight.specs.Verdict.{IsExact, KeepsPromise, NeedsEachRead}
+use Rattle.streams.specs.Pieces.{ByReads}
+use Rattle.std.proofs.lemmas.Grind.{flat_map-append, fold-append}
+use Rattle.std.proofs.lemmas.List.FromFn.{map-range_with_len_more}
+use Rattle.preflight.specs.declared.error.Error.{Error}
+use Rattle.preflight.specs.declared.error.Error.TheVariants.{Memory, Read, Write, Turns, NoProfile}
+use Rattle.verdict.specs.declared.verdict.Verdict.{Verdict}
+use Rattle.streams.specs.Outlet.{OutletState, Adds, AddsFront}
+use Rattle.streams.specs.Source.{SourceState}
+use Rattle.streams.proofs.OutletLemmas.{Adds-none, Adds-trans}
+use Rattle.subcommands.specs.declared.job_checks.Ending.{Ending}
+use Rattle.subcommands.specs.declared.job_checks.Ending.TheVariants.{Passes, Fails, HasNoVerdict}
+use Rattle.subcommands.specs.JobChecks.{CutsOne, Groups, IsRightLine, IsRightResult, Line, Tells, TellsAll, TellsFront, TellsOne, due_of, ending_of, group_count, keyed, line_text, of_group, worse, worst}
+use Rattle.device_profile.specs.Name.{printer_name}
+use Rattle.subcommands.specs.CheckMany.{AreOfTexts}
+use Rattle.subcommands.specs.Fleet.{DescribeBy, DescribeFleet, IsEndOfFleet}
+use Rattle.subcommands.specs.Texts.{IsErrorOfReading}
+use Rattle.subcommands.specs.declared.status.Status.{Status}
+use Rattle.subcommands.specs.declared.status.Status.TheVariants.{Stopped}
+use Rattle.subcommands.specs.JobLines.{job_line}
+
+-- ---- the worst of endings
+
+worse-assoc : (a b c : Ending) → worse (worse a b) c ≡ worse a (worse b c)
+worse-assoc Passes b c = refl
+worse-assoc Fails Passes c = refl
+worse-assoc Fails Fails Passes = refl
+worse-assoc Fails Fails Fails = refl
+worse-assoc Fails Fails HasNoVerdict = refl
+worse-assoc Fails HasNoVerdict c = refl
+worse-assoc HasNoVerdict b c = refl
+
+worse-passes : (a : Ending) → worse a Passes ≡ a
+worse-passes Passes = refl
+worse-passes Fails = refl
+worse-passes HasNoVerdict = refl
+
+module _ (exit_zero : Bool) where
+  abbrev one_more : Ending → Line → Ending
+  one_more ending line = worse ending (ending_of exit_zero line.result)
+
+  fold_worse : (start : Ending) (lines : List Line) → fold one_more start lines ≡ worse start (worst exit_zero lines)
+  fold_worse start [] = sym (worse-passes start)
+  fold_worse start (line ∷ lines) =
+      fold_worse (one_more start line) lines
+      ∙ worse-assoc start (ending_of exit_zero line.result) (worst exit_zero lines)
+      ∙ ap (worse start) (sym (fold_worse (ending_of exit_zero line.result) lines))
+
+  pub worst-append : (xs ys : List Line) → worst exit_zero (xs ++ ys) ≡ worse (worst exit_zero xs) (worst exit_zero ys)
+  worst-append xs ys = fold-append one_more Passes xs ys ∙ fold_worse (worst exit_zero xs) ys
+
+-- ---- lines behind lines
+
+All-append : {X : Type 0} (P : X → Type 0) (xs ys : List X) → AllByRecursion P xs → AllByRecursion P ys → AllByRecursion P (xs ++ ys)
+All-append P [] ys first second = second
+All-append P (x ∷ xs) ys first second = (first.0, All-append P xs ys first.1 second)
+
+abbrev key : Line → List ℕ × ℕ
+key line = (line.job, line.group)
+
+module _ (groups : Groups) (exit_zero : Bool) (start : List ℕ → SourceState) where
+  pub tells_none : (out : OutletState) → TellsAll groups exit_zero [] start Passes out out
+  tells_none out = ([], record { in_order = refl; right = tt; written = Adds-none out }, refl)
+
+  module _ (due due' : List (List ℕ × ℕ)) (out mid out' : OutletState) where
+    tells_both : (lines lines' : List Line) → Tells groups start due lines out mid → Tells groups start due' lines' mid out' → Tells groups start (due ++ due') (lines ++ lines') out out'
+    tells_both lines lines' first second = record {
+      in_order = map-append key lines lines' ∙ ap (λ ks. ks ++ map key lines') first.in_order ∙ ap (λ ks. due ++ ks) second.in_order;
+      right = All-append (IsRightLine groups start) lines lines' first.right second.right;
+      written = subst (Adds out out') (sym (flat_map-append (line_text groups) lines lines'))
+          (Adds-trans out mid out' (flat_map (line_text groups) lines) (flat_map (line_text groups) lines') first.written second.written);
+    }
+
+    pub tells_more : (ending ending' : Ending) → TellsAll groups exit_zero due start ending out mid → TellsAll groups exit_zero due' start ending' mid out' → TellsAll groups exit_zero (due ++ due') start (worse ending ending') out out'
+    tells_more ending ending' first second = (
+      first.0 ++ second.0,
+      tells_both first.0 second.0 first.1 second.1,
+      ap (λ e. worse e ending') first.2 ∙ ap (worse (worst exit_zero first.0)) second.2 ∙ sym (worst-append exit_zero first.0 second.0),
+    )
+
+    -- behind lines that stand there some front was written
+    pub front_behind : (later : List (List ℕ × ℕ)) (ending : Ending) → TellsAll groups exit_zero due start ending out mid → TellsFront groups start due' mid out' → TellsFront groups start (due ++ (due' ++ later)) out out'
+    front_behind later ending first second =
+        let text = flat_map (line_text groups) first.0 in
+        let more = second.written in
+        record {
+          lines = first.0 ++ second.lines;
+          later = second.later ++ later;
+          in_order =
+              ap (λ ks. ks ++ (second.later ++ later)) (map-append key first.0 second.lines ∙ ap (λ ks. ks ++ map key second.lines) first.1.in_order)
+              ∙ append_assoc due (map key second.lines) (second.later ++ later)
+              ∙ ap (λ ks. due ++ ks) (sym (append_assoc (map key second.lines) second.later later) ∙ ap (λ ks. ks ++ later) second.in_order);
+          right = All-append (IsRightLine groups start) first.0 second.lines first.1.right second.right;
+          written = (
+            text ++ more.0,
+            more.1,
+            flat_map-append (line_text groups) first.0 second.lines ∙ ap (λ t. text ++ t) more.2 ∙ sym (append_assoc text more.0 more.1),
+            Adds-trans out mid out' text more.0 first.1.written more.3,
+          );
+        }
+
+  -- ---- one line
+
+  module _ (job : List ℕ) (number : ℕ) (out out' : OutletState) where
+    abbrev pub group : Groups
+    group = record { fleet = of_group groups.is_each groups.fleet number; names = of_group groups.is_each groups.names number; is_each = groups.is_each }
+
+    pub tells_one : (result : Result Verdict Error) (ending : Ending) → ending ≡ ending_of exit_zero result → TellsOne group (start job) job result (Adds out out') → TellsAll groups exit_zero ((job, number) ∷ []) start ending out out'
+    tells_one result ending is told =
+        let line : Line = record { job = job; group = number; result = result; cause = told.0 } in (
+          line ∷ [],
+          record { in_order = refl; right = (told.1, tt); written = subst (Adds out out') (sym (append-nil (line_text groups line))) told.2 },
+          is,
+        )
+
+    pub cuts_one : (error : Error) → CutsOne error group (start job) job out out' → TellsFront groups start ((job, number) ∷ []) out out'
+    cuts_one Memory same = record {
+      lines = [];
+      later = (job, number) ∷ [];
+      in_order = refl;
+      right = tt;
+      written = ([], [], refl, subst (λ o. Adds out o []) (sym same) (Adds-none out));
+    }
+    cuts_one Write cut =
+        let line : Line = record { job = job; group = number; result = cut.0; cause = cut.1.0 } in
+        record {
+          lines = line ∷ [];
+          later = [];
+          in_order = refl;
+          right = (cut.1.1, tt);
+          written = subst (AddsFront out out') (sym (append-nil (line_text groups line))) cut.1.2;
+        }
+    cuts_one Read cut = absurd cut
+    cuts_one Turns cut = absurd cut
+    cuts_one NoProfile cut = absurd cut
+
+  -- ---- the lines of a job, and those of all
+
+  -- the group of this number is the next one
+  pub next_group : (job : List ℕ) (number : ℕ) → map (keyed job) (range_with_len 0 (number + 1)) ≡ map (keyed job) (range_with_len 0 number) ++ (job, number) ∷ []
+  next_group job number = map-range_with_len_more (keyed job) 0 number number (omega arith)
+
+  -- and there are others behind it
+  pub groups_behind : (job : List ℕ) (first number count : ℕ) → first + number ≡ count → map (keyed job) (range_with_len 0 count) ≡ map (keyed job) (range_with_len 0 first) ++ map (keyed job) (range_with_len first number)
+  groups_behind job first zero count is =
+      ap (λ k. map (keyed job) (range_with_len 0 k)) (let same : count ≡ first = omega (arith, is) in same) ∙ sym (append-nil _)
+  groups_behind job first (suc number) count is =
+      groups_behind job (first + 1) number count (omega (arith, is))
+      ∙ ap (λ ks. ks ++ map (keyed job) (range_with_len (first + 1) number)) (next_group job first)
+      ∙ append_assoc (map (keyed job) (range_with_len 0 first)) ((job, first) ∷ []) (map (keyed job) (range_with_len (first + 1) number))
+
+  pub next_job : {X : Type 0} (name : X → List ℕ) (names : List X) (i : ℕ) (d : X) → i < length names → flat_map (due_of groups) (map name (take (i + 1) names)) ≡ flat_map (due_of groups) (map name (take i names)) ++ due_of groups (name (get_or names i d))
+  next_job name names i d h =
+      ap (flat_map (due_of groups)) (map_more name names i d h)
+      ∙ flat_map-append (due_of groups) (map name (take i names)) (name (get_or names i d) ∷ [])
+      ∙ ap (λ ks. flat_map (due_of groups) (map name (take i names)) ++ ks) (append-nil (due_of groups (name (get_or names i d))))
+
+  pub jobs_behind : {X : Type 0} (name : X → List ℕ) (names : List X) (i : ℕ) (d : X) → i < length names → flat_map (due_of groups) (map name names) ≡ flat_map (due_of groups) (map name (take i names)) ++ (due_of groups (name (get_or names i d)) ++ flat_map (due_of groups) (map name (drop (suc i) names)))
+  jobs_behind name names i d h =
+      ap (λ l. flat_map (due_of groups) (map name l)) (split_at names i d h)
+      ∙ ap (flat_map (due_of groups)) (map-append name (take i names) (get_or names i d ∷ drop (suc i) names))
+      ∙ flat_map-append (due_of groups) (map name (take i names)) (name (get_or names i d) ∷ map name (drop (suc i) names))
+
+-- ---- what a check answers
+
+-- it is right for the fleet, where it has a verdict
+pub right_result : (fleet : List Printer) (start after : SourceState) (r : Result Verdict Error)
+    → IfOk r (λ verdict. ByReads start after (λ job. IsExact fleet job verdict)) → IfOk r (λ verdict. ByReads start after (λ job. KeepsPromise fleet job verdict)) → IfOk r (λ verdict. NeedsEachRead fleet start after)
+    → IfErr r (λ error. error ≢ Write) → (IsErrOf r NoProfile → fleet ≡ []) → fleet ≢ [] → IsRightResult fleet start r
+right_result fleet start after (Ok verdict) exact promise needed never none some = (after, record { exact = exact; promise = promise; needed = needed })
+right_result fleet start after (Err Memory) exact promise needed never none some = tt
+right_result fleet start after (Err Read) exact promise needed never none some = tt
+right_result fleet start after (Err Turns) exact promise needed never none some = tt
+right_result fleet start after (Err Write) exact promise needed never none some = absurd (never refl)
+right_result fleet start after (Err NoProfile) exact promise needed never none some = absurd (some (none refl))
+
+-- a group has printers where there are some
+pub of_group-some : {X : Type 0} (is_each : Bool) (all : List X) (number : ℕ) → all ≢ [] → number < (if is_each then length all else 1) → of_group is_each all number ≢ []
+of_group-some true all number some inside = λ none. absurd (omega (arith, inside, ap length none, length-take 1 (drop number all), length-drop number all))
+of_group-some false all number some inside = some
+
+-- the names of a group are those of its elements
+pub map_of_group : {X Y : Type 0} (f : X → Y) (is_each : Bool) (all : List X) (number : ℕ) → map f (of_group is_each all number) ≡ of_group is_each (map f all) number
+map_of_group f true all number = sym (take-map f 1 (drop number all)) ∙ ap (take 1) (sym (drop-map f number all))
+map_of_group f false all number = refl
+
+-- ---- a loop over the jobs, and over the groups of one
+
+module _ (groups : Groups) (exit_zero : Bool) (start : List ℕ → SourceState) where
+  pub jobs_more : {X : Type 0} (name : X → List ℕ) (names : List X) (i : ℕ) (d : X) (out mid out' : OutletState) (ending ending' : Ending) → i < length names
+      → TellsAll groups exit_zero (flat_map (due_of groups) (map name (take i names))) start ending out mid → TellsAll groups exit_zero (due_of groups (name (get_or names i d))) start ending' mid out'
+      → TellsAll groups exit_zero (flat_map (due_of groups) (map name (take (i + 1) names))) start (worse ending ending') out out'
+  jobs_more name names i d out mid out' ending ending' h before more =
+      subst (λ due. TellsAll groups exit_zero due start (worse ending ending') out out') (sym (next_job groups exit_zero start name names i d h))
+      (tells_more groups exit_zero start (flat_map (due_of groups) (map name (take i names))) (due_of groups (name (get_or names i d))) out mid out' ending ending' before more)
+
+  pub jobs_cut : {X : Type 0} (name : X → List ℕ) (names : List X) (i : ℕ) (d : X) (out mid out' : OutletState) (ending : Ending) → i < length names
+      → TellsAll groups exit_zero (flat_map (due_of groups) (map name (take i names))) start ending out mid → TellsFront groups start (due_of groups (name (get_or names i d))) mid out'
+      → TellsFront groups start (flat_map (due_of groups) (map name names)) out out'
+  jobs_cut name names i d out mid out' ending h before cut =
+      subst (λ due. TellsFront groups start due out out') (sym (jobs_behind groups exit_zero start name names i d h))
+      (front_behind groups exit_zero start (flat_map (due_of groups) (map name (take i names))) (due_of groups (name (get_or names i d))) out mid out' (flat_map (due_of groups) (map name (drop (suc i) names))) ending before cut)
+
+  module _ (job : List ℕ) (number : ℕ) (out mid out' : OutletState) (ending : Ending) (before : TellsAll groups exit_zero (map (keyed job) (range_with_len 0 number)) start ending out mid) where
+    pub groups_more : (answer : Result Verdict Error) (ending' : Ending) → ending' ≡ ending_of exit_zero answer → TellsOne (group groups exit_zero start job number mid out') (start job) job answer (Adds mid out')
+        → TellsAll groups exit_zero (map (keyed job) (range_with_len 0 (number + 1))) start (worse ending ending') out out'
+    groups_more answer ending' is told =
+        subst (λ due. TellsAll groups exit_zero due start (worse ending ending') out out') (sym (next_group groups exit_zero start job number))
+        (tells_more groups exit_zero start (map (keyed job) (range_with_len 0 number)) ((job, number) ∷ []) out mid out' ending ending' before (tells_one groups exit_zero start job number mid out' answer ending' is told))
+
+    pub groups_cut : (error : Error) → number < group_count groups → CutsOne error (group groups exit_zero start job number mid out') (start job) job mid out'
+        → TellsFront groups start (due_of groups job) out out'
+    groups_cut error inside cut =
+        let rest : number + 1 + (group_count groups - (number + 1)) ≡ group_count groups = omega (arith, inside) in
+        let later : List (List ℕ × ℕ) = map (keyed job) (range_with_len (number + 1) (group_count groups - (number + 1))) in
+        subst (λ due. TellsFront groups start due out out')
+        (sym (append_assoc (map (keyed job) (range_with_len 0 number)) ((job, number) ∷ []) later)
+        ∙ ap (λ ks. ks ++ later) (sym (next_group groups exit_zero start job number))
+        ∙ sym (groups_behind groups exit_zero start job (number + 1) (group_count groups - (number + 1)) (group_count groups) rest))
+        (front_behind groups exit_zero start (map (keyed job) (range_with_len 0 number)) ((job, number) ∷ []) out mid out' later ending before (cuts_one groups exit_zero start job number mid out' error cut))
+
+-- where it is an error, this holds
+pub where_err : (r : Result Ending Error) (P : Type 0) → P → IfErr r (λ error. P)
+where_err (Ok ending) P p = tt
+where_err (Err error) P p = p
+
+pub cut_at : (r : Result Ending Error) (error : Error) (P : Error → Type 0) → r ≡ Err error → P error → IfErr r P
+cut_at r error P is p = subst (λ r. IfErr r P) (sym is) p
+
+pub cut_in_writing : (error : Error) (group : Groups) (start : SourceState) (job : List ℕ) (out out' : OutletState) → error ≡ Write → (answer : Result Verdict Error) → TellsOne group start job answer (AddsFront out out') → CutsOne error group start job out out'
+cut_in_writing error group start job out out' is answer told = subst (λ e. CutsOne e group start job out out') (sym is) (answer, told)
+
+-- ---- the printers of texts
+
+pub of_texts : (known : List (Option (List ℕ))) (groups : Groups) (fleet : List Printer) (names given : List (List ℕ)) → groups.fleet ≡ fleet → groups.names ≡ names → DescribeFleet known fleet → DescribeBy [] given fleet → names ≡ map printer_name given → AreOfTexts known groups
+of_texts known groups fleet names given fleet_is names_are described by named = record {
+  described = subst (DescribeFleet known) (sym fleet_is) described;
+  texts = given;
+  read = subst (DescribeFleet (map (λ text. Some text) given)) (sym fleet_is) (subst (λ texts. DescribeFleet (map (λ text. Some text) texts) fleet) (sym by.1) by.2);
+  names_are = names_are ∙ named;
+}
+
+-- an error for which there is no fleet is one of reading a text
+end_error : (known : List (Option (List ℕ))) (error : Error) → IsEndOfFleet known (Stopped error) → IsErrorOfReading error
+end_error known Memory end = tt
+end_error known Read end = tt
+end_error known Write end = absurd end
+end_error known Turns end = absurd end
+end_error known NoProfile end = absurd end
+
+pub error_of_end : (known : List (Option (List ℕ))) (status : Status) (error : Error) → status ≡ Stopped error → IsEndOfFleet known status → IsErrorOfReading error
+error_of_end known status error is end = end_error known error (subst (IsEndOfFleet known) is end)

@@ -1,0 +1,212 @@
+//! The command `check` for many jobs.
+ghost use Rattle.std.specs.Prelude.{◌≡◌, ◌≢◌, ◌-◌, ℕ, List, [], Option, IsFalse, get_or, map, option_map};
+ghost use Rattle.subcommands.specs.Asked.{asked_for};
+ghost use Rattle.subcommands.specs.CheckMany.{LeavesLines, LeavesMany, TellsLine, TellsRefusal, TellsStop, status_of};
+ghost use Rattle.subcommands.specs.Fleet.{IsEndOfFleet};
+ghost use Rattle.subcommands.specs.Texts.{IsErrorOfReading};
+ghost use Rattle.subcommands.specs.Refusals.{refused_profile, unread_profile};
+
+use crate::fleet::read_fleet;
+use crate::groups::Group;
+use crate::job_checks::{Ending, check_jobs};
+use crate::jobs::Jobs;
+use crate::named_texts::NamedTexts;
+use crate::refusals::{push_refused_profile, push_unread_profile};
+use crate::status::{Status, Trouble};
+use crate::system_words::system_words;
+use crate::texts::ProfileTexts;
+use device_profile::Cause;
+use preflight::{Error, Outlet, write_text};
+use std::alloc::Allocator;
+
+/// Jobs and printers by the words that name them, and how they are checked.
+#[derive(Clone, Copy)]
+pub struct ManyJobs<'w, 'n> {
+    pub jobs: &'w [&'n [u8]],
+    pub printers: &'w [&'w str],
+    /// Each printer has lines of its own.
+    pub is_each: bool,
+    /// A FAIL counts as a PASS.
+    pub exit_zero: bool,
+}
+
+impl ManyJobs<'_, '_> {
+    /// Whether standard input, which can be read once, would be read again; `has_names` tells that
+    /// the names of the jobs are read from it.
+    pub fn needs_input_twice(&self, has_names: bool) -> bool {
+        let is_read_apart = self.is_each && self.printers.len() > 1;
+        let mut is_read = has_names;
+        for job in self.jobs {
+            if *job == b"-".as_slice() {
+                if is_read || is_read_apart {
+                    return true;
+                }
+                is_read = true;
+            }
+        }
+        false
+    }
+}
+
+/// The command `check` for many jobs: a line on standard output for each job, or where `is_each` is
+/// set for each job and printer, as soon as it is known.
+///
+/// All profiles are read and judged before the first job. Of one that is refused or cannot be read
+/// standard error tells, with the word that names it.
+pub fn check_many<'n, J: Jobs<'n>, T: ProfileTexts, O: Outlet, E: Outlet, A: Allocator + Copy>(
+    alloc: A,
+    jobs: &J,
+    texts: &mut T,
+    asked: &ManyJobs<'_, 'n>,
+    stdout: &mut O,
+    stderr: &mut E,
+) -> Status
+    requires texts { IsFalse (T.failed texts.old) }
+    requires stdout { IsFalse (O.state stdout.old).failed }
+    requires stderr { IsFalse (E.state stderr.old).failed }
+    requires some { asked.now.printers.now ≢ [] }
+    ensures { LeavesMany (map (λ word. T.text_of texts.old word.now) asked.now.printers.now)
+        (asked_for asked.now) (J.start jobs.now) result
+        (O.state stdout.old) (O.state stdout.new) (E.state stderr.old) (E.state stderr.new) }
+{
+    let mut named = NamedTexts::new(alloc, texts);
+    let fleet = match read_fleet(alloc, &mut named, asked.printers) {
+        Ok(fleet) => fleet,
+        Err(status) => {
+            let told = system_words(alloc, named.error());
+            let word = word_of(asked.printers, named.asked());
+            return tell_refusal(alloc, asked.printers, word, told, status, stderr);
+        }
+    };
+    let names = named.into_names();
+    let printers = Group::new(fleet.as_slice(), names.as_slice(), asked.is_each);
+    check_for(alloc, jobs, asked, &printers, stdout)
+}
+
+/// Checks the jobs that are asked for, for these printers.
+fn check_for<'n, J: Jobs<'n>, O: Outlet, A: Allocator + Copy>(
+    alloc: A,
+    jobs: &J,
+    asked: &ManyJobs<'_, 'n>,
+    printers: &Group<'_, A>,
+    stdout: &mut O,
+) -> Status
+    requires stdout { IsFalse (O.state stdout.old).failed }
+    requires some { printers.now.fleet ≢ [] }
+    ensures { LeavesLines (asked_for asked.now) printers.now (J.start jobs.now) result
+        (O.state stdout.old) (O.state stdout.new) }
+{
+    match check_jobs(alloc, jobs, asked.jobs, printers, asked.exit_zero, stdout) {
+        Ok(ending) => status_of(ending),
+        Err(error) => Status::Stopped(error),
+    }
+}
+
+/// How the program ends by how the jobs count.
+fn status_of(ending: Ending) -> Status
+    ensures { result ≡ status_of ending }
+{
+    match ending {
+        Ending::Passes => Status::Pass,
+        Ending::Fails => Status::Fail,
+        Ending::HasNoVerdict => Status::Told(Trouble::NoVerdict),
+    }
+}
+
+/// Tells standard error why there is no fleet: of the first profile that is refused, or of the one
+/// of this word, which could not be read, with what the system says of that.
+fn tell_refusal<E: Outlet, A: Allocator + Copy>(
+    alloc: A,
+    words: &[&str],
+    word: &str,
+    told: Option<String<A>>,
+    status: Status,
+    stderr: &mut E,
+) -> Status
+    requires stderr { IsFalse (E.state stderr.old).failed }
+    requires end { (known : List (Option (List ℕ))) × IsEndOfFleet known status }
+    ensures { TellsRefusal status (map (λ word. word.now) words.now) result
+        (E.state stderr.old) (E.state stderr.new) }
+{
+    match status {
+        Status::Profile {
+            number,
+            line,
+            cause,
+        } => tell_refused(alloc, number, word_of(words, number), line, cause, stderr),
+        Status::Stopped(error) => tell_stop(alloc, word, told, error, stderr),
+        _ => status,
+    }
+}
+
+/// Tells standard error of the profile of this word, where it could not be read.
+fn tell_stop<E: Outlet, A: Allocator + Copy>(
+    alloc: A,
+    word: &str,
+    told: Option<String<A>>,
+    error: Error,
+    stderr: &mut E,
+) -> Status
+    requires stderr { IsFalse (E.state stderr.old).failed }
+    requires end { IsErrorOfReading error }
+    ensures { TellsStop error result (E.state stderr.old) (E.state stderr.new) }
+{
+    match (error, told) {
+        (Error::Read, Some(told)) => tell_unread(alloc, word, Some(told.as_bytes()), stderr),
+        (Error::Read, None) => tell_unread(alloc, word, None, stderr),
+        (error, _) => Status::Stopped(error),
+    }
+}
+
+/// Tells standard error of a profile that is refused.
+fn tell_refused<E: Outlet, A: Allocator + Copy>(
+    alloc: A,
+    number: u64,
+    word: &str,
+    line: u64,
+    cause: Cause,
+    stderr: &mut E,
+) -> Status
+    requires { IsFalse (E.state stderr.old).failed }
+    ensures { TellsLine result Trouble.Refused (refused_profile number word.now line cause)
+        (E.state stderr.old) (E.state stderr.new) }
+{
+    let mut text = Vec::new(alloc);
+    if push_refused_profile(&mut text, number, word, line, cause).is_err() {
+        return Status::Stopped(Error::Memory);
+    }
+    // Where standard error takes nothing, the status alone is left to tell.
+    let _ = write_text(stderr, text.as_slice());
+    Status::Told(Trouble::Refused)
+}
+
+/// Tells standard error of a profile that could not be read.
+fn tell_unread<E: Outlet, A: Allocator + Copy>(
+    alloc: A,
+    word: &str,
+    cause: Option<&[u8]>,
+    stderr: &mut E,
+) -> Status
+    requires { IsFalse (E.state stderr.old).failed }
+    ensures { TellsLine result Trouble.NoVerdict
+        (unread_profile word.now (option_map (λ words. words.now) cause.entry))
+        (E.state stderr.old) (E.state stderr.new) }
+{
+    let mut text = Vec::new(alloc);
+    if push_unread_profile(&mut text, word, cause).is_err() {
+        return Status::Stopped(Error::Memory);
+    }
+    // Where standard error takes nothing, the status alone is left to tell.
+    let _ = write_text(stderr, text.as_slice());
+    Status::Told(Trouble::NoVerdict)
+}
+
+/// The word of this number, from 1.
+fn word_of<'w>(words: &[&'w str], number: u64) -> &'w str
+    ensures { result.now ≡ get_or (map (λ word. word.now) words.now) (number - 1) [] }
+{
+    match words.get(number.saturating_sub(1) as usize) {
+        Some(word) => word,
+        None => "",
+    }
+}

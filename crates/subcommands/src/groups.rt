@@ -1,0 +1,102 @@
+//! The printers that jobs are checked for.
+ghost use Rattle.std.specs.Prelude.{◌≡◌, map};
+ghost use Rattle.subcommands.specs.JobChecks.{group_count, of_group};
+
+use device_profile::Profile;
+use std::alloc::Allocator;
+use std::marker::Model;
+
+/// Printers with their names, which stand in the same order.
+#[derive(Drop)]
+pub struct Group<'f, A: Allocator> {
+    profiles: &'f [Profile<A>],
+    names: &'f [Vec<u8, A>],
+    is_each: bool,
+}
+
+impl<'f, A: Allocator> Model for Group<'f, A> {
+    ghost use Rattle.std.specs.Prelude.{map};
+    ghost use Rattle.subcommands.specs.JobChecks.{Groups};
+
+    ghost Value = { Groups };
+
+    ghost view = { λ group. record {
+      fleet = group.profiles.now;
+      names = map (λ name. name.items) group.names.now;
+      is_each = group.is_each;
+    } };
+}
+
+impl<'f, A: Allocator> Group<'f, A> {
+    /// Printers and their names; where `is_each` is set each has lines of its own, which name it.
+    pub fn new(profiles: &'f [Profile<A>], names: &'f [Vec<u8, A>], is_each: bool) -> Group<'f, A>
+        ensures { result ≡ record {
+          fleet = profiles.now;
+          names = map (λ name. name.items) names.now;
+          is_each = is_each;
+        } }
+    {
+        Group {
+            profiles,
+            names,
+            is_each,
+        }
+    }
+
+    /// The profiles.
+    pub fn profiles(&self) -> &'f [Profile<A>]
+        ensures { result.now ≡ self.now.fleet }
+    {
+        self.profiles
+    }
+
+    /// The names.
+    pub fn names(&self) -> &'f [Vec<u8, A>]
+        ensures { map (λ name. name.items) result.now ≡ self.now.names }
+    {
+        self.names
+    }
+
+    /// Whether each printer has lines of its own.
+    pub fn is_each(&self) -> bool
+        ensures { result ≡ self.now.is_each }
+    {
+        self.is_each
+    }
+
+    /// In how many groups the printers are checked: all together, or each by itself.
+    pub fn count(&self) -> usize
+        ensures { result ≡ group_count self.now }
+    {
+        if self.is_each { self.profiles.len() } else { 1 }
+    }
+
+    /// The group of this number, from 0.
+    #[tactic(auto, using(crate::proofs::JobChecks::map_of_group))]
+    pub fn part(&self, number: usize) -> Group<'f, A>
+        ensures { result ≡ record {
+          fleet = of_group self.now.is_each self.now.fleet number;
+          names = of_group self.now.is_each self.now.names number;
+          is_each = self.now.is_each;
+        } }
+    {
+        Group {
+            profiles: of_group(self.is_each, self.profiles, number),
+            names: of_group(self.is_each, self.names, number),
+            is_each: self.is_each,
+        }
+    }
+}
+
+/// What a group has of all: where each is by itself the element of this number, else all.
+fn of_group<T>(is_each: bool, all: &[T], number: usize) -> &[T]
+    ensures { result.now ≡ of_group is_each all.now number }
+{
+    if !is_each {
+        all
+    } else if number < all.len() {
+        &all[number..number + 1]
+    } else {
+        &[]
+    }
+}

@@ -1,0 +1,19 @@
+//! Jobs under their names.
+ghost use Rattle.std.specs.Prelude.{◌≡◌, ℕ, List, IsFalse};
+ghost use Rattle.streams.specs.Source.{SourceState};
+
+use streams::Source;
+
+/// Jobs under the words that name them.
+pub trait Jobs<'n> {
+    /// What a job is read from.
+    type Job: Source + Drop;
+
+    // What the source of a name is like before its first read.
+    ghost start: { Self → List ℕ → SourceState };
+
+    /// The job that a word names, of which nothing is read yet.
+    fn job(&self, name: &'n [u8]) -> Self::Job
+        ensures working { IsFalse (Self.Job.state result).failed }
+        ensures start { Self.Job.state result ≡ start self.now name.now };
+}
