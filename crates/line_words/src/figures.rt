@@ -5,7 +5,7 @@ ghost use Rattle.pcl_items.specs.Items.{amount};
 ghost use Rattle.line_words.specs.Figures.{escaped_byte, hex_byte, hex_digit, length_word, named, number_word, signed_word, value_word};
 
 use itoa::Buffer;
-use pcl_items::{Number, Sign, decimals_text};
+use pcl_items::{Number, Sign, point_and_decimals, shown};
 use std::alloc::{AllocError, Allocator};
 use tick_length::Length;
 
@@ -70,14 +70,16 @@ fn push_whole<A: Allocator>(text: &mut Vec<u8, A>, n: u32) -> Result<(), AllocEr
 }
 
 /// Appends a value of so many ten-thousandths.
+#[tactic(auto, using(pcl_items::proofs::WholeNumbers::no_decimals))]
 fn push_value<A: Allocator>(text: &mut Vec<u8, A>, n: u32) -> Result<(), AllocError>
     ensures { OnOk result (text.new.items ≡ text.old.items ++ magnitude_text n) }
 {
     push_whole(text, n / 10_000)?;
-    match decimals_text(n) {
-        Some(decimals) => text.extend_from_slice(&decimals),
-        None => Ok(()),
+    // Most numbers are whole.
+    if n % 10_000 == 0 {
+        return Ok(());
     }
+    text.extend_from_slice(shown(&point_and_decimals(n)))
 }
 
 /// Appends a space and a value of so many ten-thousandths.

@@ -15,7 +15,7 @@ ghost use Rattle.pcl_items.specs.Spelled.{StandsAt, NothingStands, IsSpelled};
 
 use crate::ahead::{byte_in, next_ahead, with_its_data};
 use crate::command::{Command, DataCommand};
-use crate::decimals::decimals_text;
+use crate::decimals::{point_and_decimals, shown};
 use crate::first::{Context, First, begins_line, first_between};
 use crate::frame::{Coordinate, Coordinates, Handover, Mnemonic, Motion, Setting};
 use crate::item::{Item, Mode, PjlLine, SetLetter, SimpleItem};
@@ -50,14 +50,17 @@ fn append(text: &mut HeadText, bytes: &[u8])
 }
 
 /// Appends a point and the decimals of a number, where it has some.
+#[tactic(auto, using(crate::proofs::WholeNumbers::no_decimals))]
 fn append_decimals(text: &mut HeadText, n: u32)
     requires { array_vec_len text.old ≤ 10 }
     ensures text { text.new.items ≡ text.old.items ++ with_point (without_zeros (four_decimals n)) }
     ensures len { array_vec_len text.new ≤ array_vec_len text.old + 5 }
 {
-    if let Some(decimals) = decimals_text(n) {
-        append(text, &decimals);
+    // Most numbers are whole.
+    if n % 10_000 == 0 {
+        return;
     }
+    append(text, shown(&point_and_decimals(n)));
 }
 
 /// Appends a whole number.
