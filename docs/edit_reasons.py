@@ -25,7 +25,8 @@ BEGINS = re.compile(r"(note: )?(\./)?(proofs|src|specs)/\S+:\d+:\d+:")
 UNPROVED = re.compile(r"it is not proved that")
 # What the gate tells of an edit, and what its line says where a goal refuses it.
 TOLD = re.compile(r"rt: must-fail (\S+)\.edit: refused, as it must be: (.*)")
-BY_GOAL = re.compile(r"it is not proved that|as printed, the two types|`search`: no proof of")
+BY_GOAL = re.compile(r"it is not proved that|as printed, the two types|`search`: no proof of|"
+                     r"computed as (far as they go, the two types|a goal is, one side reads)")
 
 
 def parts_of(edit: Path) -> list[tuple[str, str, str]]:
