@@ -1,1 +1,2 @@
+pub mod ManyWords
 pub mod Words

@@ -1,15 +1,16 @@
 -- What the words ask for, and how their reading ends where they ask for no work.
-use Rattle.std.specs.Prelude.{◌≢◌, [], ◌++◌, ⊤}
+use Rattle.std.specs.Prelude.{◌≢◌, [], ⊤}
 use Rattle.preflight.specs.declared.error.Error.TheVariants.{Memory, Write}
 use Rattle.subcommands.specs.declared.status.Status.{Status}
 use Rattle.subcommands.specs.declared.status.Status.TheVariants.{Help, Usage, Overwrites, Stopped}
 use Rattle.command_line.specs.declared.words.Request.{Request}
 use Rattle.command_line.specs.declared.words.Request.TheVariants.{Check, CheckMany, Plain, Pin}
+use Rattle.command_line.specs.ManyWords.{NamesPrinter}
 
 -- a check names one printer at least, or a text that does
 abbrev pub NamesSome : Request → Type 0
 NamesSome (Check job profiles) = profiles.items ≢ []
-NamesSome (CheckMany jobs names_from printers fleets is_each exit_zero) = printers.items ++ fleets.items ≢ []
+NamesSome (CheckMany many) = NamesPrinter many
 NamesSome _ = ⊤
 
 -- a text of a job goes to no path that is read

@@ -2,6 +2,7 @@
 ghost use Rattle.std.specs.Prelude.{IfOk, IfSome};
 ghost use Rattle.command_line.specs.Words.{NamesSome};
 
+use crate::many_words::{asks_for_many, read_many, with_many_options};
 use crate::panel_words::ChoiceFault;
 use crate::words::Request;
 use clap::{Arg, ArgAction, ArgMatches, Command};
@@ -17,6 +18,18 @@ pub const EXPLANATION: &str = "Examples:
       a sample; empty lines and lines that begin with # are passed over
   pclcheck check -f shop.fleet --each a.pcl b.pcl
       a line for each job and printer, with the verdict for that printer alone
+  pclcheck check -f shop.fleet --format words a.pcl b.pcl
+      a.pcl: each printer prints this job (pages=1 marks=16)
+      b.pcl: desk refuses this job at byte 0, ESC *b1Y: no raster is started (25 RasterNotStarted)
+  pclcheck check -f shop.fleet --format json a.pcl
+      {\"job\":\"a.pcl\",\"marks\":16,\"pages\":1,\"verdict\":\"PASS\"}
+  pclcheck check -f shop.fleet --explain c.pcl
+      FAIL at=5 printer=desk 24 DefinitionOpen c.pcl
+      24 DefinitionOpen
+        When:    ESC E, the universal exit, the macro control 0 or the end of the
+                 bytes comes while a macro definition is open.
+        Change:  End the definition before it by ESC &f1X.
+        Manual:  \"Macros\", Macro Control
   pclcheck check -f shop.fleet --exit-zero a.pcl b.pcl
       for a script that reads the lines: a status other than 0 says that a verdict is missing
   find . -name '*.pcl' -print0 | pclcheck check -f shop.fleet --files0-from -
@@ -33,7 +46,8 @@ Output of check, one line:
   profile=  the printer's number among the words, from 1;
             0: the bytes themselves are wrong, whatever the printer
 
-With -p, -f, --each or --exit-zero, a line for each job, in the order of the words:
+With -p, -f, --each, --format, --explain or --exit-zero, a line for each job, in the order of the
+words:
   PASS pages=N marks=N JOB
   FAIL at=N printer=NAME FINDING JOB  NAME by its profile; no printer= where the bytes are wrong
   ERROR read JOB: WHY                 the job could not be read; those behind it are checked
@@ -42,6 +56,11 @@ With -p, -f, --each or --exit-zero, a line for each job, in the order of the wor
   With --each, printer=NAME stands in each line. In JOB a byte that shows nothing and the
   backslash are \\x and two digits.
 
+  --format words: a sentence for the line, of at most 1,000 bytes; of a long JOB it has the end.
+  --format json: an object with job and verdict; of a PASS pages and marks; of a FAIL at, profile,
+  printer, code, finding, field, command and explanation; of an ERROR error and cause. In its job
+  each backslash is doubled; a JOB that is no UTF-8 text stands there as in a line.
+
 On standard error, where there is no verdict:
   ERROR profile N LINE CAUSE  the text of printer N is refused at this line, or as a whole: 0;
                               CAUSE is Version, Unknown, Repeated, Range, Missing or NoGeometry
@@ -49,7 +68,8 @@ On standard error, where there is no verdict:
   ERROR write, memory, turns  a write failed, memory ran out, or no end after 2^40 reads
 
   For many jobs: ERROR profile N PROFILE:LINE CAUSE, ERROR read profile PROFILE: WHY,
-  ERROR read fleet FILE: WHY, ERROR fleet FILE: WHY and ERROR read names FILE: WHY
+  ERROR read fleet FILE: WHY, ERROR fleet FILE: WHY and ERROR read names FILE: WHY. With --format
+  words a profile has a sentence, which ends with (ERROR profile N CAUSE) or (ERROR read).
 
 A profile is a text whose first line is 'pclprofile 1', or 'pclprofile 2' where it also lists what
 the panel may have for line termination (lineterm).
@@ -78,70 +98,12 @@ pub fn check_command<'a>(alloc: Global) -> Result<Command<'a>, AllocError> {
         .num_args(1..)
         .action(ArgAction::Append)
         .help("The printers: paths of profiles, or samples @A to @D; with -p or -f further jobs");
-    Command::new(alloc, "check")
+    let command = Command::new(alloc, "check")
         .about("Checks jobs for a fleet of printers, and writes a line for each: PASS or FAIL")
         .after_help(EXPLANATION)
         .arg(job)?
-        .arg(profiles)?
-        .arg(printer(alloc)?)?
-        .arg(fleet(alloc)?)?
-        .arg(names(alloc)?)?
-        .arg(each(alloc)?)?
-        .arg(exit_zero(alloc)?)
-}
-
-/// The option `-p`.
-fn printer<'a>(alloc: Global) -> Result<Arg<'a>, AllocError> {
-    Ok(
-        Arg::new(alloc, "PRINTER")
-            .short('p')
-            .long("printer")
-            .value_name("PROFILE")
-            .action(ArgAction::Append)
-            .help("A printer; with it every word is a job. May come often"),
-    )
-}
-
-/// The option `-f`.
-fn fleet<'a>(alloc: Global) -> Result<Arg<'a>, AllocError> {
-    Ok(
-        Arg::new(alloc, "FLEET")
-            .short('f')
-            .long("fleet")
-            .value_name("FILE")
-            .action(ArgAction::Append)
-            .help("A text with a profile a line; as -p, and behind those of -p"),
-    )
-}
-
-/// The option `--files0-from`.
-fn names<'a>(alloc: Global) -> Result<Arg<'a>, AllocError> {
-    Arg::new(alloc, "NAMES")
-        .long("files0-from")
-        .value_name("FILE")
-        .action(ArgAction::Set)
-        .help("The paths of the jobs, each ended by a zero byte; - is standard input")
-        .conflicts_with("JOB")
-}
-
-/// The option `--each`.
-fn each<'a>(alloc: Global) -> Result<Arg<'a>, AllocError> {
-    Ok(
-        Arg::new(alloc, "EACH")
-            .long("each")
-            .action(ArgAction::SetTrue)
-            .help("A line for each printer, with its own verdict"),
-    )
-}
-
-/// The option `--exit-zero`.
-fn exit_zero<'a>(alloc: Global) -> Result<Arg<'a>, AllocError> {
-    Ok(
-        Arg::new(alloc, "ZERO")
-            .long("exit-zero")
-            .action(ArgAction::SetTrue)
-            .help("Ends with 0 where a job fails, too"),
-    )
+        .arg(profiles)?;
+    with_many_options(alloc, command)
 }
 
 /// The request of the words behind `check`.
@@ -152,7 +114,7 @@ pub fn check_request<'a>(
     ensures { IfOk result (λ request. IfSome request NamesSome) }
 {
     if asks_for_many(found) {
-        return many_request(alloc, found);
+        return Ok(read_many(alloc, found)?.map(Request::CheckMany));
     }
     let (Some(job), Some(words)) = (found.get_str("JOB"), found.get_strs("PROFILE")) else {
         return Ok(None);
@@ -163,48 +125,4 @@ pub fn check_request<'a>(
     let mut profiles = Vec::new(alloc);
     profiles.extend_from_slice(words)?;
     Ok(Some(Request::Check { job, profiles }))
-}
-
-/// Whether the words ask for more than one job for all of its printers together.
-fn asks_for_many(found: &ArgMatches<'_>) -> bool {
-    names_printers(found) || found.get_flag("EACH") || found.get_flag("ZERO")
-}
-
-/// Whether printers come by options, so that every word is a job.
-fn names_printers(found: &ArgMatches<'_>) -> bool {
-    found.contains_id("PRINTER") || found.contains_id("FLEET")
-}
-
-/// The request of words that ask for many.
-fn many_request<'a>(
-    alloc: Global,
-    found: &ArgMatches<'a>,
-) -> Result<Option<Request<'a>>, ChoiceFault<'a>>
-    ensures { IfOk result (λ request. IfSome request NamesSome) }
-{
-    let mut jobs = Vec::new(alloc);
-    let mut printers = Vec::new(alloc);
-    if let Some(job) = found.get_str("JOB") {
-        jobs.push(job)?;
-    }
-    let words = found.get_strs("PROFILE").unwrap_or(&[]);
-    if names_printers(found) {
-        jobs.extend_from_slice(words)?;
-        printers.extend_from_slice(found.get_strs("PRINTER").unwrap_or(&[]))?;
-    } else {
-        printers.extend_from_slice(words)?;
-    }
-    let mut fleets = Vec::new(alloc);
-    fleets.extend_from_slice(found.get_strs("FLEET").unwrap_or(&[]))?;
-    if printers.is_empty() && fleets.is_empty() {
-        return Ok(None);
-    }
-    Ok(Some(Request::CheckMany {
-        jobs,
-        names_from: found.get_str("NAMES"),
-        printers,
-        fleets,
-        is_each: found.get_flag("EACH"),
-        exit_zero: found.get_flag("ZERO"),
-    }))
 }

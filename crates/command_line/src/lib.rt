@@ -2,8 +2,10 @@
 #![tactic(auto)]
 
 mod check_words;
+mod many_words;
 mod panel_words;
 mod text_commands;
 mod words;
 
+pub use many_words::{Form, ManyWords};
 pub use words::{Request, read_words};

@@ -3,6 +3,7 @@ ghost use Rattle.std.specs.Prelude.{◌≡◌, ◌≢◌, IsFalse, OnOk, IfOk, I
 ghost use Rattle.command_line.specs.Words.{IsEndOfWords, KeepsWhatItReads, NamesSome};
 
 use crate::check_words::{EXPLANATION, check_command, check_request};
+use crate::many_words::ManyWords;
 use crate::panel_words::ChoiceFault;
 use crate::text_commands::{
     list_command, pages_command, pin_command, pin_request, plain_command, text_request,
@@ -21,17 +22,8 @@ pub enum Request<'a> {
         job: &'a str,
         profiles: Vec<&'a str>,
     },
-    /// A check of the jobs at paths, or under the names that a file has, each for all printers that
-    /// words and the files of fleets name, or where `is_each` is set for each of them by itself.
-    CheckMany {
-        jobs: Vec<&'a str>,
-        /// The file of names, each ended by a zero byte.
-        names_from: Option<&'a str>,
-        printers: Vec<&'a str>,
-        fleets: Vec<&'a str>,
-        is_each: bool,
-        exit_zero: bool,
-    },
+    /// A check of many jobs.
+    CheckMany(ManyWords<'a>),
     /// The items of the job at a path.
     List {
         job: &'a str,

@@ -28,6 +28,13 @@ impl<'a> FailingSource<'a> {
             has_failed: false,
         }
     }
+
+    /// What its reads gave.
+    pub fn into_given(self) -> Given
+        ensures { result.pieces ≡ self.entry.given.pieces }
+    {
+        self.given
+    }
 }
 
 impl Source for FailingSource<'_> {

@@ -1,16 +1,19 @@
 -- What a subcommand leaves is what its request comes to.
-use Rattle.std.proofs.Common.{◌≡◌, ◌++◌, ℕ, Bool, List, [], Option, inl, inr, map, refl, subst, sym}
+use Rattle.std.proofs.Common.{◌≡◌, ℕ, IsFalse, List, [], Option, inl, map, subst, sym}
 use Rattle.streams.specs.Files.{no_source}
 use Rattle.streams.specs.Outlet.{OutletState}
 use Rattle.streams.specs.Source.{SourceState}
 use Rattle.subcommands.specs.Check.{IsRightFor, Leaves, texts_by}
-use Rattle.subcommands.specs.CheckMany.{Asked, IsEndOfAsking, LeavesMany}
+use Rattle.subcommands.specs.CheckMany.{Asked, LeavesMany}
 use Rattle.subcommands.specs.Fleet.{RefusesBy}
+use Rattle.subcommands.specs.JobChecks.{work}
 use Rattle.subcommands.specs.Status.{is_stop_of_write}
 use Rattle.subcommands.specs.Texts.{text_named}
 use Rattle.subcommands.specs.declared.status.Status.{Status}
 use Rattle.command_line.specs.declared.words.Request.{Request}
-use Rattle.pclcheck.specs.Requests.{Fulfils, LeavesCheck, LeavesChecks}
+use Rattle.pclcheck.specs.Checks.{LeavesAsked}
+use Rattle.pclcheck.specs.Inputs.{reads_input_again}
+use Rattle.pclcheck.specs.Requests.{Fulfils, LeavesCheck}
 
 -- of files of which nothing was read
 pub check_left : (known known' : List (Option (List ℕ))) (given given' : List (List ℕ)) (before after : SourceState) (status : Status) (out out' : OutletState) → known' ≡ known → given ≡ [] → before ≡ no_source
@@ -29,18 +32,15 @@ check_left known known' given given' before after status out out' same none new 
 pub asked : (texts : List (List ℕ)) (request is : Request) (status : Status) (out out' err err' : OutletState) → request ≡ is → Fulfils texts is status out out' err err' → Fulfils texts request status out out' err err'
 asked texts request is status out out' err err' e h = subst (λ r. Fulfils texts r status out out' err err') (sym e) h
 
--- of the words, and of what fleets and a file of names have behind them
-pub checks_left : (jobs printers of_names of_fleets : List (List ℕ)) (is_each exit_zero : Bool) (known : List (Option (List ℕ))) (many : Asked) (status : Status) (out out' err err' : OutletState)
-    → many.jobs ≡ jobs ++ of_names → many.printers ≡ printers ++ of_fleets → many.is_each ≡ is_each → many.exit_zero ≡ exit_zero → known ≡ map text_named many.printers
-    → LeavesMany known many (λ name. no_source) status out out' err err' → LeavesChecks jobs printers is_each exit_zero status out out' err err'
-checks_left jobs printers of_names of_fleets is_each exit_zero known many status out out' err err' of_jobs of_printers each zero_is known_is left =
-    let same : many ≡ record { jobs = jobs ++ of_names; printers = printers ++ of_fleets; is_each = is_each; exit_zero = exit_zero } = λ i. record { jobs = of_jobs i; printers = of_printers i; is_each = each i; exit_zero = zero_is i } in
-    record {
-      of_names = of_names;
-      of_fleets = of_fleets;
-      left = inl (subst (λ (asked : Asked). LeavesMany (map text_named asked.printers) asked (λ name. no_source) status out out' err err') same (subst (λ texts. LeavesMany texts many (λ name. no_source) status out out' err err') known_is left));
-    }
-
--- nothing was had to check
-pub none_left : (jobs printers : List (List ℕ)) (is_each exit_zero : Bool) (status : Status) (out err err' : OutletState) → IsEndOfAsking status → LeavesChecks jobs printers is_each exit_zero status out out err err'
-none_left jobs printers is_each exit_zero status out err err' end = record { of_names = []; of_fleets = []; left = inr (end, refl) }
+-- of jobs of which none was read, where the printers are those that words name
+pub asked_left : (known : List (Option (List ℕ))) (names_from : Option (List ℕ)) (asked : Asked) (before ended : List SourceState) (status : Status) (out out' told err err' : OutletState)
+    → IsFalse (reads_input_again names_from asked) → known ≡ map text_named asked.printers → before ≡ [] → told ≡ err
+    → LeavesMany known asked (λ name. no_source) status (work out before) (work out' ended) told err' → LeavesAsked names_from asked status out out' err err'
+asked_left known names_from asked before ended status out out' told err err' once known_is none quiet left =
+    inl (
+      once,
+      ended,
+      subst (λ texts. LeavesMany texts asked (λ name. no_source) status (work out []) (work out' ended) err err') known_is
+          (subst (λ jobs. LeavesMany known asked (λ name. no_source) status (work out jobs) (work out' ended) err err') none
+          (subst (λ e. LeavesMany known asked (λ name. no_source) status (work out before) (work out' ended) e err') quiet left)),
+    )

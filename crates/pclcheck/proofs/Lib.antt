@@ -1,1 +1,4 @@
+mod Asking
 mod Fulfilling
+mod NameLemmas
+mod WordLemmas

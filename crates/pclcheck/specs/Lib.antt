@@ -1,1 +1,4 @@
+pub mod Checks
+pub mod Inputs
+pub mod Names
 pub mod Requests

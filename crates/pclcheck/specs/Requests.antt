@@ -1,5 +1,5 @@
 -- What the program leaves of what it is asked for. Nothing is known of its files beforehand, so this is said for some reads of them.
-use Rattle.std.specs.Prelude.{◌≡◌, ◌⊎◌, ◌||◌, ◌++◌, Bool, List, [], ℕ, Option, map, option_map, IsFalse, IsTrue}
+use Rattle.std.specs.Prelude.{◌≡◌, ◌||◌, List, [], ℕ, Option, map, option_map, IsFalse, IsTrue}
 use Rattle.command_line.specs.declared.words.Request.{Request}
 use Rattle.command_line.specs.declared.words.Request.TheVariants.{Check, CheckMany, List as ListOf, Pages, Plain, Pin, Explain}
 use Rattle.preflight.specs.Due.{Rendering, list_rendering, plain_rendering}
@@ -7,7 +7,6 @@ use Rattle.streams.specs.Files.{no_outlet, no_source}
 use Rattle.streams.specs.Outlet.{OutletState}
 use Rattle.streams.specs.Source.{SourceState}
 use Rattle.subcommands.specs.Check.{IsRightFor, Leaves, texts_by}
-use Rattle.subcommands.specs.CheckMany.{Asked, IsEndOfAsking, LeavesMany}
 use Rattle.preflight.specs.Writing.{Writes}
 use Rattle.subcommands.specs.Explanations.{complaint, end_of_explain, explanation, is_unknown}
 use Rattle.subcommands.specs.Fleet.{RefusesBy}
@@ -16,6 +15,7 @@ use Rattle.subcommands.specs.Status.{is_stop_of_read, is_stop_of_write}
 use Rattle.subcommands.specs.Texts.{text_named}
 use Rattle.subcommands.specs.declared.choices.Choice.{Choice}
 use Rattle.subcommands.specs.declared.status.Status.{Status}
+use Rattle.pclcheck.specs.Checks.{LeavesChecks, asking}
 
 -- a check for the printers of these texts, so far as they are known: the line of a verdict that is right for all of them
 pub record LeavesCheck (known : List (Option (List ℕ))) (status : Status) (out out' : OutletState) : Type 0 where
@@ -24,16 +24,6 @@ pub record LeavesCheck (known : List (Option (List ℕ))) (status : Status) (out
   pub line : Leaves status (IsRightFor (texts_by known [] texts) no_source job) out out'
   pub refused : RefusesBy [] texts status
   pub write : out'.failed ≡ is_stop_of_write status
-
--- What is left of a check of many jobs: it is that of a check of these words and of those that fleets and a file of names hold; or
--- one of these could not be had, and no line is written.
-pub record LeavesChecks (jobs printers : List (List ℕ)) (is_each exit_zero : Bool) (status : Status) (out out' err err' : OutletState) : Type 0 where
-  pub of_names : List (List ℕ)
-  pub of_fleets : List (List ℕ)
-  pub left :
-      let asked : Asked = record { jobs = jobs ++ of_names; printers = printers ++ of_fleets; is_each = is_each; exit_zero = exit_zero } in
-      LeavesMany (map text_named asked.printers) asked (λ name. no_source) status out out' err err'
-      ⊎ (IsEndOfAsking status × (out' ≡ out))
 
 -- what is due of a job by this rendering
 pub record LeavesRendered (rendering : Rendering) (status : Status) (out out' : OutletState) : Type 0 where
@@ -71,8 +61,7 @@ pub record LeavesExplanation (texts : List (List ℕ)) (code : Option (List ℕ)
 -- what a request comes to, on standard output and on standard error; an explanation is one of these texts
 abbrev pub Fulfils : List (List ℕ) → Request → Status → OutletState → OutletState → OutletState → OutletState → Type 0
 Fulfils texts (Check job profiles) status out out' err err' = LeavesCheck (map (λ word. text_named word.now) profiles.items) status out out' × (err' ≡ err)
-Fulfils texts (CheckMany jobs names_from printers fleets is_each exit_zero) status out out' err err' =
-    LeavesChecks (map (λ word. word.now) jobs.items) (map (λ word. word.now) printers.items) is_each exit_zero status out out' err err'
+Fulfils texts (CheckMany words) status out out' err err' = LeavesChecks (asking texts words) status out out' err err'
 Fulfils texts (ListOf job) status out out' err err' = LeavesRendered list_rendering status out out' × (err' ≡ err)
 Fulfils texts (Pages job profile) status out out' err err' = LeavesPagesFor profile.now status out out' × (err' ≡ err)
 Fulfils texts (Plain job file) status out out' err err' = LeavesPlain status out out' × (err' ≡ err)

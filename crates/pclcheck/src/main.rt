@@ -1,7 +1,9 @@
 //! A preflight checker for print jobs.
 #![tactic(auto)]
 
+mod inputs;
 mod many;
+mod names;
 mod requests;
 
 ghost use Rattle.std.specs.Prelude.{IsFalse};

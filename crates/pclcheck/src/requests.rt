@@ -3,7 +3,7 @@ ghost use Rattle.std.specs.Prelude.{IsFalse, map};
 ghost use Rattle.command_line.specs.Words.{NamesSome};
 ghost use Rattle.pclcheck.specs.Requests.{Fulfils};
 
-use crate::many::{Asked, check_asked};
+use crate::many::check_asked;
 use command_line::Request;
 use std::io::Input;
 use std::rt::Files;
@@ -36,24 +36,7 @@ pub fn fulfil<R: Files + Input + AllocGlobal, O: Outlet, E: Outlet>(
             let mut texts = FileTexts::new(rt);
             check(alloc, &mut job, &mut texts, profiles.as_slice(), stdout)
         }
-        Request::CheckMany {
-            jobs,
-            names_from,
-            printers,
-            fleets,
-            is_each,
-            exit_zero,
-        } => {
-            let asked = Asked {
-                jobs: jobs.as_slice(),
-                names_from: *names_from,
-                printers: printers.as_slice(),
-                fleets: fleets.as_slice(),
-                is_each: *is_each,
-                exit_zero: *exit_zero,
-            };
-            check_asked(rt, &asked, stdout, stderr)
-        }
+        Request::CheckMany(words) => check_asked(rt, words, stdout, stderr),
         Request::List { job } => {
             let mut job = FileSource::new(rt, job);
             list(alloc, &mut job, stdout)

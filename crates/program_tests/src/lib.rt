@@ -12,9 +12,15 @@ mod file_texts;
 #[cfg(test)]
 mod files;
 #[cfg(test)]
+mod fleets;
+#[cfg(test)]
+mod kept_jobs;
+#[cfg(test)]
 mod kept_texts;
 #[cfg(test)]
 mod lines;
+#[cfg(test)]
+mod many_jobs;
 #[cfg(test)]
 mod overwriting;
 #[cfg(test)]

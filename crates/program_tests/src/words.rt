@@ -1,6 +1,6 @@
 //! What the words of the command line ask for.
 
-use command_line::{Request, read_words};
+use command_line::{Form, Request, read_words};
 use device_profile::Field;
 use preflight::Watched;
 use std::alloc::{AllocError, Global};
@@ -92,6 +92,13 @@ const WRONG_FOR_MANY: &[&[&str]] = &[
     &["--each=yes", "job.pcl", "@A"],
     &["--exit-zero=1", "job.pcl", "@A"],
     &["-e", "job.pcl", "@A"],
+    &["--explain=1", "job.pcl", "@A"],
+    // A form that there is not, none, or two.
+    &["--format", "xml", "job.pcl", "@A"],
+    &["--format=LINE", "job.pcl", "@A"],
+    &["--format", "job.pcl", "@A"],
+    &["job.pcl", "@A", "--format"],
+    &["--format=line", "--format=json", "job.pcl", "@A"],
 ];
 
 /// Words that are wrong for a text.
@@ -433,24 +440,16 @@ const MANY: &[(&[&str], Many)] = &[
 
 /// Whether a request is this one.
 fn asks_for(request: &Request<'_>, wanted: &Many) -> bool {
-    let Request::CheckMany {
-        jobs,
-        names_from,
-        printers,
-        fleets,
-        is_each,
-        exit_zero,
-    } = request
-    else {
+    let Request::CheckMany(many) = request else {
         return false;
     };
-    let (wanted_jobs, wanted_names, wanted_printers, wanted_fleets, each, zero) = wanted;
-    jobs.as_slice() == *wanted_jobs
-        && names_from == wanted_names
-        && printers.as_slice() == *wanted_printers
-        && fleets.as_slice() == *wanted_fleets
-        && is_each == each
-        && exit_zero == zero
+    let (jobs, names_from, printers, fleets, is_each, exit_zero) = wanted;
+    many.jobs.as_slice() == *jobs
+        && many.names_from == *names_from
+        && many.printers.as_slice() == *printers
+        && many.fleets.as_slice() == *fleets
+        && many.is_each == *is_each
+        && many.exit_zero == *exit_zero
 }
 
 #[test]
@@ -464,6 +463,51 @@ fn words_that_ask_for_many(rt: HostRuntime) -> Result<(), Fail> {
             Err(_) => false,
         };
         assert!(rt; is_asked, "{behind:?}");
+    }
+    Ok(())
+}
+
+/// Words behind `check`, the form that they ask for, and whether a FAIL gets its explanation.
+const FORMS: &[(&[&str], Form, bool)] = &[
+    (&["job.pcl", "-p", "@A"], Form::Line, false),
+    (&["--format", "line", "job.pcl", "@A"], Form::Line, false),
+    (
+        &["job.pcl", "@A", "@B", "--format=words"],
+        Form::Words,
+        false,
+    ),
+    (
+        &["--format=json", "-f", "shop", "a", "b"],
+        Form::Json,
+        false,
+    ),
+    (&["--explain", "job.pcl", "@A"], Form::Line, true),
+    (
+        &["a", "--explain", "-p", "@A", "--format", "words"],
+        Form::Words,
+        true,
+    ),
+];
+
+/// Whether a request is of this form, and a FAIL gets its explanation where it is to.
+fn is_told_in(request: &Request<'_>, form: Form, explains: bool) -> bool {
+    match request {
+        Request::CheckMany(many) => many.form == form && many.explains == explains,
+        _ => false,
+    }
+}
+
+#[test]
+fn words_that_ask_for_a_form(rt: HostRuntime) -> Result<(), Fail> {
+    for (behind, form, explains) in FORMS {
+        let words = strings_of_check(rt.alloc(), behind)?;
+        let mut stdout = Watched::new(Vec::new(rt.alloc()));
+        let mut stderr = Watched::new(Vec::new(rt.alloc()));
+        let is_told = match read_words(rt.alloc(), words.as_slice(), &mut stdout, &mut stderr) {
+            Ok(request) => is_told_in(&request, *form, *explains),
+            Err(_) => false,
+        };
+        assert!(rt; is_told, "{behind:?}");
     }
     Ok(())
 }

@@ -1,13 +1,13 @@
 -- Lemmas on what is explained.
-use Rattle.std.proofs.Common.{◌≡◌, ◌<◌, ◌≤◌, ◌+◌, ℕ, List, [], ◌∷◌, ◌++◌, map, take, length, get_or, filter, append-nil, Bor, option_map, ◌||◌, Bool, true, false, Option, Some, refl, sym, ◌∙◌, ap, subst, codes, if◌then◌else◌}
-use Rattle.std.proofs.lemmas.List.{take_all}
+use Rattle.std.proofs.Common.{◌≡◌, ◌<◌, ◌≤◌, ◌+◌, ℕ, List, [], ◌∷◌, ◌++◌, map, take, drop, length, get_or, filter, append-nil, Bor, option_map, ◌||◌, Bool, true, false, Option, Some, refl, sym, ◌∙◌, ap, subst, codes, if◌then◌else◌}
+use Rattle.std.proofs.lemmas.List.{drop_all, drop_more, take_all}
 use Rattle.std.proofs.lemmas.List.Folds.{list_any_more}
 use Rattle.std.specs.List.{concat, list_any}
 use Rattle.streams.proofs.OutletLemmas.{Adds-none}
 use Rattle.streams.specs.Outlet.{OutletState, Adds, AddsFront}
 use Rattle.preflight.specs.Writing.{Writes}
 use Rattle.subcommands.proofs.Writing.{pieces_more, Writes-cut}
-use Rattle.subcommands.specs.Explanations.{complaint}
+use Rattle.subcommands.specs.Explanations.{complaint, explained_by, is_about}
 
 -- what is written of one text: all of it, or nothing
 abbrev pub told : (List ℕ → Bool) → List ℕ → List ℕ
@@ -74,3 +74,20 @@ none_at_all p xs i h before = ap (list_any p) (sym (take_all i xs h)) ∙ before
 pub told_unknown : (a b : OutletState) (code : Option (Bor (List ℕ))) (word : Bor (List ℕ)) → code ≡ Some word →
     Writes a b (complaint (Some word.now)) → Writes a b (complaint (option_map (λ word. word.now) code))
 told_unknown a b code word is written = subst (λ c. Writes a b (complaint (option_map (λ word. word.now) c))) (sym is) written
+
+-- What the texts from one on say of a code is what that one says, if it is about the code, or what those behind it do.
+module _ {X : Type 0} (code : List ℕ) (f : X → List ℕ) (xs : List X) (i : ℕ) (d : X) (word : List ℕ) (same : word ≡ code) (h : i < length xs) (told : Bool) (is : told ≡ is_about word (f (get_or xs i d))) where
+  pub explained_at : told ≡ true → explained_by code (map f (drop i xs)) ≡ f (get_or xs i d)
+  explained_at holds =
+      ap (λ l. explained_by code (map f l)) (drop_more xs i d h)
+      ∙ ap (λ b. if b then f (get_or xs i d) else explained_by code (map f (drop (i + 1) xs)))
+      (subst (λ c. is_about c (f (get_or xs i d)) ≡ true) same (sym is ∙ holds))
+
+  pub explained_behind : told ≡ false → explained_by code (map f (drop i xs)) ≡ explained_by code (map f (drop (i + 1) xs))
+  explained_behind fails =
+      ap (λ l. explained_by code (map f l)) (drop_more xs i d h)
+      ∙ ap (λ b. if b then f (get_or xs i d) else explained_by code (map f (drop (i + 1) xs)))
+      (subst (λ c. is_about c (f (get_or xs i d)) ≡ false) same (sym is ∙ fails))
+
+pub explained_past : {X : Type 0} (code : List ℕ) (f : X → List ℕ) (xs : List X) (i : ℕ) → length xs ≤ i → explained_by code (map f (drop i xs)) ≡ []
+explained_past code f xs i h = ap (λ l. explained_by code (map f l)) (drop_all i xs h)

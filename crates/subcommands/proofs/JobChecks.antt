@@ -5,25 +5,27 @@ use Rattle.std.specs.List.{AllByRecursion, range_with_len}
 use Rattle.std.proofs.lemmas.List.{drop-map, length-take, map-append, map_more, take-map}
 use Rattle.device_profile.specs.Printer.{Printer}
 use Rattle.preflight.specs.Verdict.{IsExact, KeepsPromise, NeedsEachRead}
+use Rattle.subcommands.specs.Check.{IsRight}
 use Rattle.streams.specs.Pieces.{ByReads}
 use Rattle.std.proofs.lemmas.Grind.{flat_map-append, fold-append}
 use Rattle.std.proofs.lemmas.List.FromFn.{map-range_with_len_more}
 use Rattle.preflight.specs.declared.error.Error.{Error}
 use Rattle.preflight.specs.declared.error.Error.TheVariants.{Memory, Read, Write, Turns, NoProfile}
-use Rattle.verdict.specs.declared.verdict.Verdict.{Verdict}
+use Rattle.preflight.specs.declared.culprit.Judgement.{Judgement}
 use Rattle.streams.specs.Outlet.{OutletState, Adds, AddsFront}
 use Rattle.streams.specs.Source.{SourceState}
 use Rattle.streams.proofs.OutletLemmas.{Adds-none, Adds-trans}
 use Rattle.subcommands.specs.declared.job_checks.Ending.{Ending}
 use Rattle.subcommands.specs.declared.job_checks.Ending.TheVariants.{Passes, Fails, HasNoVerdict}
-use Rattle.subcommands.specs.JobChecks.{CutsOne, Groups, IsRightLine, IsRightResult, Line, Tells, TellsAll, TellsFront, TellsOne, due_of, ending_of, group_count, keyed, line_text, of_group, worse, worst}
+use Rattle.subcommands.specs.JobChecks.{CutsOne, Groups, IsErrorOfJob, IsRightLine, Line, Tells, TellsAll, TellsFront, TellsOne, Work, afters, due_of, ending_of, group_count, keyed, line_text, of_group, work, worse, worst}
 use Rattle.device_profile.specs.Name.{printer_name}
 use Rattle.subcommands.specs.CheckMany.{AreOfTexts}
 use Rattle.subcommands.specs.Fleet.{DescribeBy, DescribeFleet, IsEndOfFleet}
 use Rattle.subcommands.specs.Texts.{IsErrorOfReading}
 use Rattle.subcommands.specs.declared.status.Status.{Status}
 use Rattle.subcommands.specs.declared.status.Status.TheVariants.{Stopped}
-use Rattle.subcommands.specs.JobLines.{job_line}
+use Rattle.subcommands.specs.Reports.{verdict_of}
+use Rattle.subcommands.specs.Telling.{HowTold}
 
 -- ---- the worst of endings
 
@@ -43,14 +45,14 @@ worse-passes HasNoVerdict = refl
 
 module _ (exit_zero : Bool) where
   abbrev one_more : Ending → Line → Ending
-  one_more ending line = worse ending (ending_of exit_zero line.result)
+  one_more ending line = worse ending (ending_of exit_zero (verdict_of line.answer))
 
   fold_worse : (start : Ending) (lines : List Line) → fold one_more start lines ≡ worse start (worst exit_zero lines)
   fold_worse start [] = sym (worse-passes start)
   fold_worse start (line ∷ lines) =
       fold_worse (one_more start line) lines
-      ∙ worse-assoc start (ending_of exit_zero line.result) (worst exit_zero lines)
-      ∙ ap (worse start) (sym (fold_worse (ending_of exit_zero line.result) lines))
+      ∙ worse-assoc start (ending_of exit_zero (verdict_of line.answer)) (worst exit_zero lines)
+      ∙ ap (worse start) (sym (fold_worse (ending_of exit_zero (verdict_of line.answer)) lines))
 
   pub worst-append : (xs ys : List Line) → worst exit_zero (xs ++ ys) ≡ worse (worst exit_zero xs) (worst exit_zero ys)
   worst-append xs ys = fold-append one_more Passes xs ys ∙ fold_worse (worst exit_zero xs) ys
@@ -64,34 +66,40 @@ All-append P (x ∷ xs) ys first second = (first.0, All-append P xs ys first.1 s
 abbrev key : Line → List ℕ × ℕ
 key line = (line.job, line.group)
 
-module _ (groups : Groups) (exit_zero : Bool) (start : List ℕ → SourceState) where
-  pub tells_none : (out : OutletState) → TellsAll groups exit_zero [] start Passes out out
-  tells_none out = ([], record { in_order = refl; right = tt; written = Adds-none out }, refl)
+abbrev after_of : Line → SourceState
+after_of line = line.after
 
-  module _ (due due' : List (List ℕ × ℕ)) (out mid out' : OutletState) where
-    tells_both : (lines lines' : List Line) → Tells groups start due lines out mid → Tells groups start due' lines' mid out' → Tells groups start (due ++ due') (lines ++ lines') out out'
+module _ (groups : Groups) (telling : HowTold) (start : List ℕ → SourceState) where
+  pub tells_none : (old : Work) → TellsAll groups telling [] start Passes old old
+  tells_none old = ([], record { in_order = refl; right = tt; written = Adds-none old.out; ended = sym (append-nil old.ended) }, refl)
+
+  module _ (due due' : List (List ℕ × ℕ)) (old mid new : Work) where
+    tells_both : (lines lines' : List Line) → Tells groups telling start due lines old mid → Tells groups telling start due' lines' mid new → Tells groups telling start (due ++ due') (lines ++ lines') old new
     tells_both lines lines' first second = record {
       in_order = map-append key lines lines' ∙ ap (λ ks. ks ++ map key lines') first.in_order ∙ ap (λ ks. due ++ ks) second.in_order;
       right = All-append (IsRightLine groups start) lines lines' first.right second.right;
-      written = subst (Adds out out') (sym (flat_map-append (line_text groups) lines lines'))
-          (Adds-trans out mid out' (flat_map (line_text groups) lines) (flat_map (line_text groups) lines') first.written second.written);
+      written = subst (Adds old.out new.out) (sym (flat_map-append (line_text groups telling) lines lines'))
+          (Adds-trans old.out mid.out new.out (flat_map (line_text groups telling) lines) (flat_map (line_text groups telling) lines') first.written second.written);
+      ended = second.ended ∙ ap (λ es. es ++ afters lines') first.ended ∙ append_assoc old.ended (afters lines) (afters lines')
+          ∙ ap (λ es. old.ended ++ es) (sym (map-append after_of lines lines'));
     }
 
-    pub tells_more : (ending ending' : Ending) → TellsAll groups exit_zero due start ending out mid → TellsAll groups exit_zero due' start ending' mid out' → TellsAll groups exit_zero (due ++ due') start (worse ending ending') out out'
+    pub tells_more : (ending ending' : Ending) → TellsAll groups telling due start ending old mid → TellsAll groups telling due' start ending' mid new → TellsAll groups telling (due ++ due') start (worse ending ending') old new
     tells_more ending ending' first second = (
       first.0 ++ second.0,
       tells_both first.0 second.0 first.1 second.1,
-      ap (λ e. worse e ending') first.2 ∙ ap (worse (worst exit_zero first.0)) second.2 ∙ sym (worst-append exit_zero first.0 second.0),
+      ap (λ e. worse e ending') first.2 ∙ ap (worse (worst telling.exit_zero first.0)) second.2 ∙ sym (worst-append telling.exit_zero first.0 second.0),
     )
 
     -- behind lines that stand there some front was written
-    pub front_behind : (later : List (List ℕ × ℕ)) (ending : Ending) → TellsAll groups exit_zero due start ending out mid → TellsFront groups start due' mid out' → TellsFront groups start (due ++ (due' ++ later)) out out'
+    pub front_behind : (later : List (List ℕ × ℕ)) (ending : Ending) → TellsAll groups telling due start ending old mid → TellsFront groups telling start due' mid new → TellsFront groups telling start (due ++ (due' ++ later)) old new
     front_behind later ending first second =
-        let text = flat_map (line_text groups) first.0 in
+        let text = flat_map (line_text groups telling) first.0 in
         let more = second.written in
         record {
           lines = first.0 ++ second.lines;
           later = second.later ++ later;
+          untold = second.untold;
           in_order =
               ap (λ ks. ks ++ (second.later ++ later)) (map-append key first.0 second.lines ∙ ap (λ ks. ks ++ map key second.lines) first.1.in_order)
               ∙ append_assoc due (map key second.lines) (second.later ++ later)
@@ -100,41 +108,48 @@ module _ (groups : Groups) (exit_zero : Bool) (start : List ℕ → SourceState)
           written = (
             text ++ more.0,
             more.1,
-            flat_map-append (line_text groups) first.0 second.lines ∙ ap (λ t. text ++ t) more.2 ∙ sym (append_assoc text more.0 more.1),
-            Adds-trans out mid out' text more.0 first.1.written more.3,
+            flat_map-append (line_text groups telling) first.0 second.lines ∙ ap (λ t. text ++ t) more.2 ∙ sym (append_assoc text more.0 more.1),
+            Adds-trans old.out mid.out new.out text more.0 first.1.written more.3,
           );
+          ended = second.ended ∙ ap (λ es. es ++ (afters second.lines ++ second.untold)) first.1.ended
+              ∙ append_assoc old.ended (afters first.0) (afters second.lines ++ second.untold)
+              ∙ ap (λ es. old.ended ++ es) (sym (append_assoc (afters first.0) (afters second.lines) second.untold) ∙ ap (λ es. es ++ second.untold) (sym (map-append after_of first.0 second.lines)));
         }
 
   -- ---- one line
 
-  module _ (job : List ℕ) (number : ℕ) (out out' : OutletState) where
+  module _ (job : List ℕ) (number : ℕ) (after : SourceState) (old new : Work) (ended : new.ended ≡ old.ended ++ after ∷ []) where
     abbrev pub group : Groups
     group = record { fleet = of_group groups.is_each groups.fleet number; names = of_group groups.is_each groups.names number; is_each = groups.is_each }
 
-    pub tells_one : (result : Result Verdict Error) (ending : Ending) → ending ≡ ending_of exit_zero result → TellsOne group (start job) job result (Adds out out') → TellsAll groups exit_zero ((job, number) ∷ []) start ending out out'
-    tells_one result ending is told =
-        let line : Line = record { job = job; group = number; result = result; cause = told.0 } in (
+    pub tells_one : (answer : Result Judgement Error) (ending : Ending) → ending ≡ ending_of telling.exit_zero (verdict_of answer) → TellsOne group telling (start job) after job answer (Adds old.out new.out) → TellsAll groups telling ((job, number) ∷ []) start ending old new
+    tells_one answer ending is told =
+        let line : Line = record { job = job; group = number; after = after; answer = answer; cause = told.0 } in (
           line ∷ [],
-          record { in_order = refl; right = (told.1, tt); written = subst (Adds out out') (sym (append-nil (line_text groups line))) told.2 },
+          record { in_order = refl; right = (told.1, tt); written = subst (Adds old.out new.out) (sym (append-nil (line_text groups telling line))) told.2; ended = ended },
           is,
         )
 
-    pub cuts_one : (error : Error) → CutsOne error group (start job) job out out' → TellsFront groups start ((job, number) ∷ []) out out'
+    pub cuts_one : (error : Error) → CutsOne error group telling (start job) after job old.out new.out → TellsFront groups telling start ((job, number) ∷ []) old new
     cuts_one Memory same = record {
       lines = [];
       later = (job, number) ∷ [];
+      untold = after ∷ [];
       in_order = refl;
       right = tt;
-      written = ([], [], refl, subst (λ o. Adds out o []) (sym same) (Adds-none out));
+      written = ([], [], refl, subst (λ o. Adds old.out o []) (sym same) (Adds-none old.out));
+      ended = ended;
     }
     cuts_one Write cut =
-        let line : Line = record { job = job; group = number; result = cut.0; cause = cut.1.0 } in
+        let line : Line = record { job = job; group = number; after = after; answer = cut.0; cause = cut.1.0 } in
         record {
           lines = line ∷ [];
           later = [];
+          untold = [];
           in_order = refl;
           right = (cut.1.1, tt);
-          written = subst (AddsFront out out') (sym (append-nil (line_text groups line))) cut.1.2;
+          written = subst (AddsFront old.out new.out) (sym (append-nil (line_text groups telling line))) cut.1.2;
+          ended = ended;
         }
     cuts_one Read cut = absurd cut
     cuts_one Turns cut = absurd cut
@@ -169,16 +184,21 @@ module _ (groups : Groups) (exit_zero : Bool) (start : List ℕ → SourceState)
 
 -- ---- what a check answers
 
+-- why a job has no verdict, where there are printers
+pub error_of_job : {T : Type 0} (fleet : List Printer) (r : Result T Error) → IfErr r (λ error. error ≢ Write) → (IsErrOf r NoProfile → fleet ≡ []) → fleet ≢ [] → IfErr r IsErrorOfJob
+error_of_job fleet (Ok x) never none some = tt
+error_of_job fleet (Err Memory) never none some = tt
+error_of_job fleet (Err Read) never none some = tt
+error_of_job fleet (Err Turns) never none some = tt
+error_of_job fleet (Err Write) never none some = absurd (never refl)
+error_of_job fleet (Err NoProfile) never none some = absurd (some (none refl))
+
 -- it is right for the fleet, where it has a verdict
-pub right_result : (fleet : List Printer) (start after : SourceState) (r : Result Verdict Error)
-    → IfOk r (λ verdict. ByReads start after (λ job. IsExact fleet job verdict)) → IfOk r (λ verdict. ByReads start after (λ job. KeepsPromise fleet job verdict)) → IfOk r (λ verdict. NeedsEachRead fleet start after)
-    → IfErr r (λ error. error ≢ Write) → (IsErrOf r NoProfile → fleet ≡ []) → fleet ≢ [] → IsRightResult fleet start r
-right_result fleet start after (Ok verdict) exact promise needed never none some = (after, record { exact = exact; promise = promise; needed = needed })
-right_result fleet start after (Err Memory) exact promise needed never none some = tt
-right_result fleet start after (Err Read) exact promise needed never none some = tt
-right_result fleet start after (Err Turns) exact promise needed never none some = tt
-right_result fleet start after (Err Write) exact promise needed never none some = absurd (never refl)
-right_result fleet start after (Err NoProfile) exact promise needed never none some = absurd (some (none refl))
+pub right_verdict : (fleet : List Printer) (start after : SourceState) (r : Result Judgement Error)
+    → IfOk r (λ answer. ByReads start after (λ job. IsExact fleet job answer.verdict)) → IfOk r (λ answer. ByReads start after (λ job. KeepsPromise fleet job answer.verdict)) → IfOk r (λ answer. NeedsEachRead fleet start after)
+    → IfOk r (λ answer. IsRight start after fleet answer.verdict)
+right_verdict fleet start after (Ok answer) exact promise needed = record { exact = exact; promise = promise; needed = needed }
+right_verdict fleet start after (Err error) exact promise needed = tt
 
 -- a group has printers where there are some
 pub of_group-some : {X : Type 0} (is_each : Bool) (all : List X) (number : ℕ) → all ≢ [] → number < (if is_each then length all else 1) → of_group is_each all number ≢ []
@@ -192,38 +212,40 @@ map_of_group f false all number = refl
 
 -- ---- a loop over the jobs, and over the groups of one
 
-module _ (groups : Groups) (exit_zero : Bool) (start : List ℕ → SourceState) where
-  pub jobs_more : {X : Type 0} (name : X → List ℕ) (names : List X) (i : ℕ) (d : X) (out mid out' : OutletState) (ending ending' : Ending) → i < length names
-      → TellsAll groups exit_zero (flat_map (due_of groups) (map name (take i names))) start ending out mid → TellsAll groups exit_zero (due_of groups (name (get_or names i d))) start ending' mid out'
-      → TellsAll groups exit_zero (flat_map (due_of groups) (map name (take (i + 1) names))) start (worse ending ending') out out'
-  jobs_more name names i d out mid out' ending ending' h before more =
-      subst (λ due. TellsAll groups exit_zero due start (worse ending ending') out out') (sym (next_job groups exit_zero start name names i d h))
-      (tells_more groups exit_zero start (flat_map (due_of groups) (map name (take i names))) (due_of groups (name (get_or names i d))) out mid out' ending ending' before more)
+module _ (groups : Groups) (telling : HowTold) (start : List ℕ → SourceState) where
+  pub jobs_more : {X : Type 0} (name : X → List ℕ) (names : List X) (i : ℕ) (d : X) (old mid new : Work) (ending ending' : Ending) → i < length names → (start' : List ℕ → SourceState) → start' ≡ start
+      → TellsAll groups telling (flat_map (due_of groups) (map name (take i names))) start ending old mid → TellsAll groups telling (due_of groups (name (get_or names i d))) start' ending' mid new
+      → TellsAll groups telling (flat_map (due_of groups) (map name (take (i + 1) names))) start (worse ending ending') old new
+  jobs_more name names i d old mid new ending ending' h start' same before more =
+      subst (λ due. TellsAll groups telling due start (worse ending ending') old new) (sym (next_job groups telling start name names i d h))
+      (tells_more groups telling start (flat_map (due_of groups) (map name (take i names))) (due_of groups (name (get_or names i d))) old mid new ending ending' before
+      (subst (λ s. TellsAll groups telling (due_of groups (name (get_or names i d))) s ending' mid new) same more))
 
-  pub jobs_cut : {X : Type 0} (name : X → List ℕ) (names : List X) (i : ℕ) (d : X) (out mid out' : OutletState) (ending : Ending) → i < length names
-      → TellsAll groups exit_zero (flat_map (due_of groups) (map name (take i names))) start ending out mid → TellsFront groups start (due_of groups (name (get_or names i d))) mid out'
-      → TellsFront groups start (flat_map (due_of groups) (map name names)) out out'
-  jobs_cut name names i d out mid out' ending h before cut =
-      subst (λ due. TellsFront groups start due out out') (sym (jobs_behind groups exit_zero start name names i d h))
-      (front_behind groups exit_zero start (flat_map (due_of groups) (map name (take i names))) (due_of groups (name (get_or names i d))) out mid out' (flat_map (due_of groups) (map name (drop (suc i) names))) ending before cut)
+  pub jobs_cut : {X : Type 0} (name : X → List ℕ) (names : List X) (i : ℕ) (d : X) (old mid new : Work) (ending : Ending) → i < length names → (start' : List ℕ → SourceState) → start' ≡ start
+      → TellsAll groups telling (flat_map (due_of groups) (map name (take i names))) start ending old mid → TellsFront groups telling start' (due_of groups (name (get_or names i d))) mid new
+      → TellsFront groups telling start (flat_map (due_of groups) (map name names)) old new
+  jobs_cut name names i d old mid new ending h start' same before cut =
+      subst (λ due. TellsFront groups telling start due old new) (sym (jobs_behind groups telling start name names i d h))
+      (front_behind groups telling start (flat_map (due_of groups) (map name (take i names))) (due_of groups (name (get_or names i d))) old mid new (flat_map (due_of groups) (map name (drop (suc i) names))) ending before
+      (subst (λ s. TellsFront groups telling s (due_of groups (name (get_or names i d))) mid new) same cut))
 
-  module _ (job : List ℕ) (number : ℕ) (out mid out' : OutletState) (ending : Ending) (before : TellsAll groups exit_zero (map (keyed job) (range_with_len 0 number)) start ending out mid) where
-    pub groups_more : (answer : Result Verdict Error) (ending' : Ending) → ending' ≡ ending_of exit_zero answer → TellsOne (group groups exit_zero start job number mid out') (start job) job answer (Adds mid out')
-        → TellsAll groups exit_zero (map (keyed job) (range_with_len 0 (number + 1))) start (worse ending ending') out out'
+  module _ (job : List ℕ) (number : ℕ) (after : SourceState) (old mid new : Work) (ending : Ending) (ended : new.ended ≡ mid.ended ++ after ∷ []) (before : TellsAll groups telling (map (keyed job) (range_with_len 0 number)) start ending old mid) where
+    pub groups_more : (answer : Result Judgement Error) (ending' : Ending) → ending' ≡ ending_of telling.exit_zero (verdict_of answer) → TellsOne (group groups telling start job number after mid new ended) telling (start job) after job answer (Adds mid.out new.out)
+        → TellsAll groups telling (map (keyed job) (range_with_len 0 (number + 1))) start (worse ending ending') old new
     groups_more answer ending' is told =
-        subst (λ due. TellsAll groups exit_zero due start (worse ending ending') out out') (sym (next_group groups exit_zero start job number))
-        (tells_more groups exit_zero start (map (keyed job) (range_with_len 0 number)) ((job, number) ∷ []) out mid out' ending ending' before (tells_one groups exit_zero start job number mid out' answer ending' is told))
+        subst (λ due. TellsAll groups telling due start (worse ending ending') old new) (sym (next_group groups telling start job number))
+        (tells_more groups telling start (map (keyed job) (range_with_len 0 number)) ((job, number) ∷ []) old mid new ending ending' before (tells_one groups telling start job number after mid new ended answer ending' is told))
 
-    pub groups_cut : (error : Error) → number < group_count groups → CutsOne error (group groups exit_zero start job number mid out') (start job) job mid out'
-        → TellsFront groups start (due_of groups job) out out'
+    pub groups_cut : (error : Error) → number < group_count groups → CutsOne error (group groups telling start job number after mid new ended) telling (start job) after job mid.out new.out
+        → TellsFront groups telling start (due_of groups job) old new
     groups_cut error inside cut =
         let rest : number + 1 + (group_count groups - (number + 1)) ≡ group_count groups = omega (arith, inside) in
         let later : List (List ℕ × ℕ) = map (keyed job) (range_with_len (number + 1) (group_count groups - (number + 1))) in
-        subst (λ due. TellsFront groups start due out out')
+        subst (λ due. TellsFront groups telling start due old new)
         (sym (append_assoc (map (keyed job) (range_with_len 0 number)) ((job, number) ∷ []) later)
-        ∙ ap (λ ks. ks ++ later) (sym (next_group groups exit_zero start job number))
-        ∙ sym (groups_behind groups exit_zero start job (number + 1) (group_count groups - (number + 1)) (group_count groups) rest))
-        (front_behind groups exit_zero start (map (keyed job) (range_with_len 0 number)) ((job, number) ∷ []) out mid out' later ending before (cuts_one groups exit_zero start job number mid out' error cut))
+        ∙ ap (λ ks. ks ++ later) (sym (next_group groups telling start job number))
+        ∙ sym (groups_behind groups telling start job (number + 1) (group_count groups - (number + 1)) (group_count groups) rest))
+        (front_behind groups telling start (map (keyed job) (range_with_len 0 number)) ((job, number) ∷ []) old mid new later ending before (cuts_one groups telling start job number after mid new ended error cut))
 
 -- where it is an error, this holds
 pub where_err : (r : Result Ending Error) (P : Type 0) → P → IfErr r (λ error. P)
@@ -233,8 +255,8 @@ where_err (Err error) P p = p
 pub cut_at : (r : Result Ending Error) (error : Error) (P : Error → Type 0) → r ≡ Err error → P error → IfErr r P
 cut_at r error P is p = subst (λ r. IfErr r P) (sym is) p
 
-pub cut_in_writing : (error : Error) (group : Groups) (start : SourceState) (job : List ℕ) (out out' : OutletState) → error ≡ Write → (answer : Result Verdict Error) → TellsOne group start job answer (AddsFront out out') → CutsOne error group start job out out'
-cut_in_writing error group start job out out' is answer told = subst (λ e. CutsOne e group start job out out') (sym is) (answer, told)
+pub cut_in_writing : (error : Error) (group : Groups) (telling : HowTold) (start after : SourceState) (job : List ℕ) (out out' : OutletState) → error ≡ Write → (answer : Result Judgement Error) → TellsOne group telling start after job answer (AddsFront out out') → CutsOne error group telling start after job out out'
+cut_in_writing error group telling start after job out out' is answer told = subst (λ e. CutsOne e group telling start after job out out') (sym is) (answer, told)
 
 -- ---- the printers of texts
 

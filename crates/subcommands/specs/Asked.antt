@@ -1,12 +1,21 @@
 -- What is asked of a check of many jobs, by the words.
 use Rattle.std.specs.Prelude.{map}
 use Rattle.subcommands.specs.declared.check_jobs.ManyJobs.{ManyJobs}
+use Rattle.subcommands.specs.declared.telling.Telling.{Telling}
 use Rattle.subcommands.specs.CheckMany.{Asked}
+use Rattle.subcommands.specs.Telling.{HowTold}
+
+abbrev pub told_by : Telling → HowTold
+told_by telling = record {
+  format = telling.format;
+  explanations = map (λ text. text.now) telling.explanations.now;
+  exit_zero = telling.exit_zero;
+}
 
 abbrev pub asked_for : ManyJobs → Asked
 asked_for many = record {
   jobs = map (λ name. name.now) many.jobs.now;
   printers = map (λ word. word.now) many.printers.now;
   is_each = many.is_each;
-  exit_zero = many.exit_zero;
+  telling = told_by many.telling;
 }

@@ -1,5 +1,5 @@
 -- How a check of many jobs ends.
-use Rattle.std.specs.Prelude.{◌≡◌, ◌-◌, ◌⊎◌, ℕ, Bool, List, [], map, flat_map, get_or, Option, Some, ⊤}
+use Rattle.std.specs.Prelude.{◌≡◌, ◌-◌, ◌⊎◌, ℕ, Bool, List, [], map, flat_map, get_or, Option, Some}
 use Rattle.device_profile.specs.Name.{printer_name}
 use Rattle.preflight.specs.declared.error.Error.{Error}
 use Rattle.preflight.specs.declared.error.Error.TheVariants.{Memory, Read}
@@ -9,12 +9,16 @@ use Rattle.streams.specs.Source.{SourceState}
 use Rattle.subcommands.specs.declared.job_checks.Ending.{Ending}
 use Rattle.subcommands.specs.declared.job_checks.Ending.TheVariants.{Passes, Fails, HasNoVerdict}
 use Rattle.subcommands.specs.declared.status.Status.{Status}
-use Rattle.subcommands.specs.declared.status.Status.TheVariants.{Pass, Fail, Profile, Stopped, Told, Usage}
+use Rattle.subcommands.specs.declared.status.Status.TheVariants.{Pass, Fail, Profile, Stopped, Told}
 use Rattle.subcommands.specs.declared.status.Trouble.{Trouble}
 use Rattle.subcommands.specs.declared.status.Trouble.TheVariants.{Refused, NoVerdict}
 use Rattle.subcommands.specs.Fleet.{DescribeFleet, IsEndOfFleet}
-use Rattle.subcommands.specs.JobChecks.{Groups, IsErrorOfLine, TellsAll, TellsFront, due_of}
-use Rattle.subcommands.specs.Refusals.{refused_profile, unread_profile}
+use Rattle.subcommands.specs.JobChecks.{Groups, IsErrorOfLine, TellsAll, TellsFront, Work, due_of}
+use Rattle.subcommands.specs.Telling.{HowTold}
+use Rattle.subcommands.specs.Refusals.{refused_profile, refused_profile_sentence, unread_profile, unread_profile_sentence}
+use Rattle.subcommands.specs.declared.telling.Format.{Format}
+use Rattle.subcommands.specs.declared.telling.Format.TheVariants.{Line, Words, Json}
+use Rattle.device_profile.specs.declared.fault.Cause.{Cause}
 
 -- how the program ends by how the jobs count
 abbrev pub status_of : Ending → Status
@@ -29,19 +33,19 @@ pub record AreOfTexts (known : List (Option (List ℕ))) (groups : Groups) : Typ
   pub read : DescribeFleet (map (λ text. Some text) texts) groups.fleet
   pub names_are : groups.names ≡ map printer_name texts
 
--- what is asked for: the names of the jobs, the words of the printers, and how they are checked
+-- what is asked for: the names of the jobs, the words of the printers, whether each printer is told of by itself, and how it is told
 pub record Asked : Type 0 where
   pub jobs : List (List ℕ)
   pub printers : List (List ℕ)
   pub is_each : Bool
-  pub exit_zero : Bool
+  pub telling : HowTold
 
 -- all lines stand there, or the work stopped behind a front of them
-abbrev pub LeavesLines : Asked → Groups → (List ℕ → SourceState) → Status → OutletState → OutletState → Type 0
-LeavesLines asked groups start status out out' =
+abbrev pub LeavesLines : Asked → Groups → (List ℕ → SourceState) → Status → Work → Work → Type 0
+LeavesLines asked groups start status old new =
     let due = flat_map (due_of groups) asked.jobs in
-    ((ending : Ending) × (status ≡ status_of ending) × TellsAll groups asked.exit_zero due start ending out out')
-    ⊎ ((error : Error) × (status ≡ Stopped error) × IsErrorOfLine error × TellsFront groups start due out out')
+    ((ending : Ending) × (status ≡ status_of ending) × TellsAll groups asked.telling due start ending old new)
+    ⊎ ((error : Error) × (status ≡ Stopped error) × IsErrorOfLine error × TellsFront groups asked.telling start due old new)
 
 -- a line of this trouble was told, or there was no memory for it
 abbrev pub TellsLine : Status → Trouble → List ℕ → OutletState → OutletState → Type 0
@@ -49,27 +53,30 @@ TellsLine (Told told) trouble line err err' = (told ≡ trouble) × Writes err e
 TellsLine (Stopped Memory) trouble line err err' = err' ≡ err
 TellsLine _ trouble line err err' = ⊥
 
+-- what is told of a profile that is refused, or that could not be read
+abbrev pub refusal_text : Format → ℕ → List ℕ → ℕ → Cause → List ℕ
+refusal_text Line number word line cause = refused_profile number word line cause
+refusal_text Words number word line cause = refused_profile_sentence number word line cause
+refusal_text (Json alloc) number word line cause = refused_profile number word line cause
+
+abbrev pub unread_text : Format → List ℕ → Option (List ℕ) → List ℕ
+unread_text Line word cause = unread_profile word cause
+unread_text Words word cause = unread_profile_sentence word cause
+unread_text (Json alloc) word cause = unread_profile word cause
+
 -- of a profile that could not be read standard error is told, with its word; of want of memory it is not
-abbrev pub TellsStop : Error → Status → OutletState → OutletState → Type 0
-TellsStop Read status err err' = (word : List ℕ) × (cause : Option (List ℕ)) × TellsLine status NoVerdict (unread_profile word cause) err err'
-TellsStop error status err err' = (status ≡ Stopped error) × (err' ≡ err)
+abbrev pub TellsStop : Format → Error → Status → OutletState → OutletState → Type 0
+TellsStop format Read status err err' = (word : List ℕ) × (cause : Option (List ℕ)) × TellsLine status NoVerdict (unread_text format word cause) err err'
+TellsStop format error status err err' = (status ≡ Stopped error) × (err' ≡ err)
 
 -- of the profile for which there is no fleet standard error is told, with its word
-abbrev pub TellsRefusal : Status → List (List ℕ) → Status → OutletState → OutletState → Type 0
-TellsRefusal (Profile number line cause) words status err err' = TellsLine status Refused (refused_profile number (get_or words (number - 1) []) line cause) err err'
-TellsRefusal (Stopped error) words status err err' = TellsStop error status err err'
-TellsRefusal end words status err err' = (status ≡ end) × (err' ≡ err)
+abbrev pub TellsRefusal : Format → Status → List (List ℕ) → Status → OutletState → OutletState → Type 0
+TellsRefusal format (Profile number line cause) words status err err' = TellsLine status Refused (refusal_text format number (get_or words (number - 1) []) line cause) err err'
+TellsRefusal format (Stopped error) words status err err' = TellsStop format error status err err'
+TellsRefusal format end words status err err' = (status ≡ end) × (err' ≡ err)
 
--- the jobs are checked for the printers of these texts; or there is no fleet, and no line is written
-abbrev pub LeavesMany : List (Option (List ℕ)) → Asked → (List ℕ → SourceState) → Status → OutletState → OutletState → OutletState → OutletState → Type 0
-LeavesMany known asked start status out out' err err' =
-    ((groups : Groups) × AreOfTexts known groups × (groups.is_each ≡ asked.is_each) × LeavesLines asked groups start status out out' × (err' ≡ err))
-    ⊎ ((end : Status) × IsEndOfFleet known end × TellsRefusal end asked.printers status err err' × (out' ≡ out))
-
--- why there are no jobs or no printers to check: a fleet or a file of names that is refused or cannot be read, words that cannot be
--- had together, or no memory
-abbrev pub IsEndOfAsking : Status → Type 0
-IsEndOfAsking (Told trouble) = ⊤
-IsEndOfAsking Usage = ⊤
-IsEndOfAsking (Stopped Memory) = ⊤
-IsEndOfAsking _ = ⊥
+-- the jobs are checked for the printers of these texts; or there is no fleet, and no line is written and no job read
+abbrev pub LeavesMany : List (Option (List ℕ)) → Asked → (List ℕ → SourceState) → Status → Work → Work → OutletState → OutletState → Type 0
+LeavesMany known asked start status old new err err' =
+    ((groups : Groups) × AreOfTexts known groups × (groups.is_each ≡ asked.is_each) × LeavesLines asked groups start status old new × (err' ≡ err))
+    ⊎ ((end : Status) × IsEndOfFleet known end × TellsRefusal asked.telling.format end asked.printers status err err' × (new ≡ old))

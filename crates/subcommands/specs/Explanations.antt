@@ -29,6 +29,11 @@ is_asked (Some code) text = is_about code text
 abbrev pub explanation : List (List ℕ) → Option (List ℕ) → List ℕ
 explanation texts code = concat (filter (is_asked code) texts)
 
+-- the first of these that is about a code, nothing where none is
+abbrev pub explained_by : List ℕ → List (List ℕ) → List ℕ
+explained_by code [] = []
+explained_by code (text ∷ texts) = if is_about code text then text else explained_by code texts
+
 -- a code is given, and none is about it
 abbrev pub is_unknown : List (List ℕ) → Option (List ℕ) → Bool
 is_unknown texts None = false

@@ -1,15 +1,20 @@
 -- What a check of many jobs leaves.
-use Rattle.std.specs.Prelude.{◌≡◌, ℕ, Bool, true, false, List, [], ◌++◌, flat_map, map, fold, take, drop, length, get_or, IsTrue, Option, Result, Ok, Err, ⊤, if◌then◌else◌}
+use Rattle.std.specs.Prelude.{◌≡◌, ℕ, Bool, true, false, List, [], ◌++◌, flat_map, map, fold, take, drop, length, get_or, IsTrue, Option, Result, Ok, Err, IfOk, IfErr, ⊤, if◌then◌else◌}
 use Rattle.std.specs.List.{AllByRecursion, range_with_len}
 use Rattle.device_profile.specs.Printer.{Printer}
 use Rattle.preflight.specs.declared.error.Error.{Error}
 use Rattle.preflight.specs.declared.error.Error.TheVariants.{Memory, Read, Write, Turns, NoProfile}
+use Rattle.preflight.specs.declared.culprit.Judgement.{Judgement}
+use Rattle.preflight.specs.Culprit.{IsTold}
+use Rattle.preflight.specs.Errors.{is_err_of_read}
 use Rattle.verdict.specs.declared.verdict.Verdict.{Verdict}
 use Rattle.verdict.specs.declared.verdict.Verdict.TheVariants.{Pass as PassOf, Fail as FailOf}
+use Rattle.streams.specs.Pieces.{ByReads}
 use Rattle.streams.specs.Outlet.{OutletState, Adds, AddsFront}
 use Rattle.streams.specs.Source.{SourceState}
 use Rattle.subcommands.specs.Check.{IsRight}
-use Rattle.subcommands.specs.JobLines.{job_line}
+use Rattle.subcommands.specs.Reports.{Reported, verdict_of}
+use Rattle.subcommands.specs.Telling.{HowTold, report_text}
 use Rattle.subcommands.specs.declared.job_checks.Ending.{Ending}
 use Rattle.subcommands.specs.declared.job_checks.Ending.TheVariants.{Passes, Fails, HasNoVerdict}
 
@@ -23,12 +28,15 @@ IsErrorOfJob Turns = ⊤
 IsErrorOfJob Write = ⊥
 IsErrorOfJob NoProfile = ⊥
 
--- the verdict is right for this fleet, of whatever reading gave that began so
-abbrev pub IsRightResult : List Printer → SourceState → Result Verdict Error → Type 0
-IsRightResult fleet start (Ok verdict) = (after : SourceState) × IsRight start after fleet verdict
-IsRightResult fleet start (Err error) = IsErrorOfJob error
+-- What came of a job of which the reads led from the one state to the other: a verdict that is right for this fleet, with the item that
+-- stands at its place; or an error, which is that of a read exactly where one failed.
+pub record IsRightAnswer (fleet : List Printer) (start after : SourceState) (answer : Result Judgement Error) : Type 0 where
+  pub verdict : IfOk answer (λ judgement. IsRight start after fleet judgement.verdict)
+  pub item : IfOk answer (λ judgement. ByReads start after (λ job. IsTold job judgement.verdict judgement.culprit))
+  pub error : IfErr answer IsErrorOfJob
+  pub read : after.failed ≡ is_err_of_read answer
 
--- how a result counts for the exit status
+-- how an answer counts for the exit status
 abbrev pub ending_of : Bool → Result Verdict Error → Ending
 ending_of exit_zero (Ok (PassOf pages marks)) = Passes
 ending_of exit_zero (Ok (FailOf place profile reason)) = if exit_zero then Passes else Fails
@@ -65,19 +73,38 @@ group_count groups = if groups.is_each then length groups.fleet else 1
 abbrev pub of_group : {X : Type 0} → Bool → List X → ℕ → List X
 of_group is_each all number = if is_each then take 1 (drop number all) else all
 
--- a line: the job, the number of the group from 0, what came of the job, and what the system said of a read that failed
+-- what stands written, and what the jobs gave that were checked
+pub record Work : Type 0 where
+  pub out : OutletState
+  pub ended : List SourceState
+
+abbrev pub work : OutletState → List SourceState → Work
+work out ended = record { out = out; ended = ended }
+
+-- a line: the job, the number of the group from 0, what reading the job led to, what came of it, and what the system said of a read that
+-- failed
 pub record Line : Type 0 where
   pub job : List ℕ
   pub group : ℕ
-  pub result : Result Verdict Error
+  pub after : SourceState
+  pub answer : Result Judgement Error
   pub cause : Option (List ℕ)
 
-abbrev pub line_text : Groups → Line → List ℕ
-line_text groups line = job_line groups.is_each (of_group groups.is_each groups.names line.group) line.job line.result line.cause
+abbrev pub report_of : Groups → Line → Reported
+report_of groups line = record {
+  is_each = groups.is_each;
+  names = of_group groups.is_each groups.names line.group;
+  job = line.job;
+  answer = line.answer;
+  cause = line.cause;
+}
 
--- its result is right for its group, where reading the job began as this says
+abbrev pub line_text : Groups → HowTold → Line → List ℕ
+line_text groups telling line = report_text telling (report_of groups line)
+
+-- its answer is right for its group, where reading the job began as this says
 abbrev pub IsRightLine : Groups → (List ℕ → SourceState) → Line → Type 0
-IsRightLine groups start line = IsRightResult (of_group groups.is_each groups.fleet line.group) (start line.job) line.result
+IsRightLine groups start line = IsRightAnswer (of_group groups.is_each groups.fleet line.group) (start line.job) line.after line.answer
 
 abbrev pub keyed : List ℕ → ℕ → List ℕ × ℕ
 keyed job number = (job, number)
@@ -86,37 +113,45 @@ keyed job number = (job, number)
 abbrev pub due_of : Groups → List ℕ → List (List ℕ × ℕ)
 due_of groups job = map (keyed job) (range_with_len 0 (group_count groups))
 
--- these lines stand there, one for each that is due, each right for what was read of its job
-pub record Tells (groups : Groups) (start : List ℕ → SourceState) (due : List (List ℕ × ℕ)) (lines : List Line) (out out' : OutletState) : Type 0 where
+abbrev pub afters : List Line → List SourceState
+afters lines = map (λ line. line.after) lines
+
+-- these lines stand there, one for each that is due, each right for what its job gave
+pub record Tells (groups : Groups) (telling : HowTold) (start : List ℕ → SourceState) (due : List (List ℕ × ℕ)) (lines : List Line) (old new : Work) : Type 0 where
   pub in_order : map (λ line. (line.job, line.group)) lines ≡ due
   pub right : AllByRecursion (IsRightLine groups start) lines
-  pub written : Adds out out' (flat_map (line_text groups) lines)
+  pub written : Adds old.out new.out (flat_map (line_text groups telling) lines)
+  pub ended : new.ended ≡ old.ended ++ afters lines
 
 abbrev pub worst : Bool → List Line → Ending
-worst exit_zero lines = fold (λ ending line. worse ending (ending_of exit_zero line.result)) Passes lines
+worst exit_zero lines = fold (λ ending line. worse ending (ending_of exit_zero (verdict_of line.answer))) Passes lines
 
 -- all lines that are due stand there, and the ending is the worst of theirs
-abbrev pub TellsAll : Groups → Bool → List (List ℕ × ℕ) → (List ℕ → SourceState) → Ending → OutletState → OutletState → Type 0
-TellsAll groups exit_zero due start ending out out' =
-    (lines : List Line) × Tells groups start due lines out out' × (ending ≡ worst exit_zero lines)
+abbrev pub TellsAll : Groups → HowTold → List (List ℕ × ℕ) → (List ℕ → SourceState) → Ending → Work → Work → Type 0
+TellsAll groups telling due start ending old new =
+    (lines : List Line) × Tells groups telling start due lines old new × (ending ≡ worst telling.exit_zero lines)
 
--- Some first lines of those that are due are right, and a front of their text stands there.
-pub record TellsFront (groups : Groups) (start : List ℕ → SourceState) (due : List (List ℕ × ℕ)) (out out' : OutletState) : Type 0 where
+-- Some first lines of those that are due are right, and a front of their text stands there; of the next job perhaps there was no memory
+-- for the line.
+pub record TellsFront (groups : Groups) (telling : HowTold) (start : List ℕ → SourceState) (due : List (List ℕ × ℕ)) (old new : Work) : Type 0 where
   pub lines : List Line
   pub later : List (List ℕ × ℕ)
+  pub untold : List SourceState
   pub in_order : map (λ line. (line.job, line.group)) lines ++ later ≡ due
   pub right : AllByRecursion (IsRightLine groups start) lines
-  pub written : AddsFront out out' (flat_map (line_text groups) lines)
+  pub written : AddsFront old.out new.out (flat_map (line_text groups telling) lines)
+  pub ended : new.ended ≡ old.ended ++ (afters lines ++ untold)
 
 -- ---- one line
 
 -- of a job for these printers: this is right, and so is what was written of its line
-abbrev pub TellsOne : Groups → SourceState → List ℕ → Result Verdict Error → (List ℕ → Type 0) → Type 0
-TellsOne group start job result Written =
-    (cause : Option (List ℕ)) × IsRightResult group.fleet start result × Written (job_line group.is_each group.names job result cause)
+abbrev pub TellsOne : Groups → HowTold → SourceState → SourceState → List ℕ → Result Judgement Error → (List ℕ → Type 0) → Type 0
+TellsOne group telling start after job answer Written =
+    (cause : Option (List ℕ)) × IsRightAnswer group.fleet start after answer
+    × Written (report_text telling (record { is_each = group.is_each; names = group.names; job = job; answer = answer; cause = cause }))
 
 -- there was no memory for a line, and nothing was written; or a front of the line was
-abbrev pub CutsOne : Error → Groups → SourceState → List ℕ → OutletState → OutletState → Type 0
-CutsOne Memory group start job out out' = out' ≡ out
-CutsOne Write group start job out out' = (result : Result Verdict Error) × TellsOne group start job result (AddsFront out out')
-CutsOne _ group start job out out' = ⊥
+abbrev pub CutsOne : Error → Groups → HowTold → SourceState → SourceState → List ℕ → OutletState → OutletState → Type 0
+CutsOne Memory group telling start after job out out' = out' ≡ out
+CutsOne Write group telling start after job out out' = (answer : Result Judgement Error) × TellsOne group telling start after job answer (AddsFront out out')
+CutsOne _ group telling start after job out out' = ⊥

@@ -1,10 +1,11 @@
 -- The line of a job, in a check of many jobs.
-use Rattle.std.specs.Prelude.{ℕ, ◌==◌, ◌-◌, Bool, true, false, List, [], ◌∷◌, ◌++◌, codes, flat_map, get_or, if◌then◌else◌, Option, None, Some, Result, Ok, Err}
+use Rattle.std.specs.Prelude.{ℕ, ◌==◌, ◌-◌, List, [], ◌∷◌, ◌++◌, codes, flat_map, get_or, if◌then◌else◌, Option, None, Some, Result, Ok, Err}
 use Rattle.preflight.specs.declared.error.Error.{Error}
 use Rattle.verdict.specs.declared.verdict.Verdict.{Verdict}
 use Rattle.verdict.specs.declared.verdict.Verdict.TheVariants.{Pass, Fail}
 use Rattle.line_words.specs.Figures.{escaped_byte, named}
 use Rattle.line_words.specs.Reason.{reason_words}
+use Rattle.subcommands.specs.Reports.{Reported, number_told, verdict_of}
 use Rattle.subcommands.specs.Status.{error_words}
 
 -- a byte of a name as `list` writes it, but a blank is one
@@ -24,14 +25,6 @@ abbrev pub result_words : Result Verdict Error → List ℕ
 result_words (Ok verdict) = verdict_words verdict
 result_words (Err error) = error_words error
 
--- The number of the printer that a line is about: where each printer has lines of its own, the only one; else the one that the job
--- fails for. 0 is none.
-abbrev pub number_told : Bool → Result Verdict Error → ℕ
-number_told true result = 1
-number_told false (Ok (Fail place profile reason)) = profile
-number_told false (Ok (Pass pages marks)) = 0
-number_told false (Err error) = 0
-
 abbrev pub printer_words : List (List ℕ) → ℕ → List ℕ
 printer_words names number = if number == 0 then [] else codes " printer=" ++ get_or names (number - 1) []
 
@@ -47,7 +40,8 @@ cause_part None = []
 cause_part (Some words) = codes ": " ++ shown_name words
 
 -- a line begins with the verdict and ends with the job's name
-abbrev pub job_line : Bool → List (List ℕ) → List ℕ → Result Verdict Error → Option (List ℕ) → List ℕ
-job_line is_each names job result cause =
-    result_words result ++ (printer_words names (number_told is_each result)
-    ++ (reason_part result ++ 32 ∷ (shown_name job ++ (cause_part cause ++ 10 ∷ []))))
+abbrev pub job_line : Reported → List ℕ
+job_line report =
+    let result = verdict_of report.answer in
+    result_words result ++ (printer_words report.names (number_told report.is_each result)
+    ++ (reason_part result ++ 32 ∷ (shown_name report.job ++ (cause_part report.cause ++ 10 ∷ []))))

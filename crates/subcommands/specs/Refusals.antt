@@ -1,7 +1,10 @@
 -- What standard error is told of printers that are refused or cannot be read.
-use Rattle.std.specs.Prelude.{ℕ, List, [], ◌∷◌, ◌++◌, codes, decimal, Option}
+use Rattle.std.specs.Prelude.{ℕ, ◌==◌, List, [], ◌∷◌, ◌++◌, codes, decimal, if◌then◌else◌, Option}
 use Rattle.device_profile.specs.declared.fault.Cause.{Cause}
+use Rattle.device_profile.specs.declared.fault.Cause.TheVariants.{Version, Unknown, Repeated, Range, Missing, NoGeometry}
+use Rattle.line_words.specs.Figures.{named}
 use Rattle.subcommands.specs.JobLines.{cause_part, shown_name}
+use Rattle.subcommands.specs.JobSentences.{cause_phrase, named_first}
 use Rattle.subcommands.specs.Status.{cause_name}
 
 -- a line of a text, and what is wrong there
@@ -12,6 +15,38 @@ fault_part line cause = codes ":" ++ decimal line ++ 32 ∷ (cause_name cause ++
 abbrev pub refused_profile : ℕ → List ℕ → ℕ → Cause → List ℕ
 refused_profile number word line cause = codes "ERROR profile " ++ decimal number ++ 32 ∷ (shown_name word ++ fault_part line cause)
 
--- the word of a profile, and what the system says of the read that failed
+-- behind these words the word of what could not be read, and what the system says of that
+abbrev pub unread : List ℕ → List ℕ → Option (List ℕ) → List ℕ
+unread front word cause = front ++ (shown_name word ++ (cause_part cause ++ 10 ∷ []))
+
 abbrev pub unread_profile : List ℕ → Option (List ℕ) → List ℕ
-unread_profile word cause = codes "ERROR read profile " ++ (shown_name word ++ (cause_part cause ++ 10 ∷ []))
+unread_profile word cause = unread (codes "ERROR read profile ") word cause
+
+-- ---- sentences
+
+-- of the text as a whole there is no line
+abbrev pub line_phrase : ℕ → List ℕ
+line_phrase line = if line == 0 then [] else named (codes "line ") line ++ codes ": "
+
+-- what is wrong in a line, or with line 0 in the text as a whole
+abbrev pub fault_phrase : ℕ → Cause → List ℕ
+fault_phrase line Version = codes "this is neither 'pclprofile 1' nor 'pclprofile 2'"
+fault_phrase line Unknown = codes "the first word is no key of this version"
+fault_phrase line Repeated = codes "this gives again what an earlier line gave, or a number twice"
+fault_phrase line Range =
+    if line == 0 then codes "the text has more than 65,536 bytes, or the panel offers what the printer lacks"
+    else codes "what stands behind the key is not as the key wants it"
+fault_phrase line Missing = codes "a key, a page or a face is missing"
+fault_phrase line NoGeometry = codes "a size has no page in an orientation that the panel or another page has"
+
+-- the words of `refused_profile`
+abbrev pub refusal_words : ℕ → Cause → List ℕ
+refusal_words number cause = named (codes " (ERROR profile ") number ++ codes " " ++ cause_name cause ++ codes ")\n"
+
+-- the number of a profile, its word, the line in its text and what is wrong there
+abbrev pub refused_profile_sentence : ℕ → List ℕ → ℕ → Cause → List ℕ
+refused_profile_sentence number word line cause = named_first word ++ line_phrase line ++ fault_phrase line cause ++ refusal_words number cause
+
+-- the word of a profile, and what the system says of the read that failed
+abbrev pub unread_profile_sentence : List ℕ → Option (List ℕ) → List ℕ
+unread_profile_sentence word cause = named_first word ++ codes "this profile cannot be read" ++ cause_phrase cause ++ codes " (ERROR read)\n"

@@ -1,23 +1,27 @@
 //! The command `check` for many jobs.
-ghost use Rattle.std.specs.Prelude.{◌≡◌, ◌≢◌, ◌-◌, ℕ, List, [], Option, IsFalse, get_or, map, option_map};
+ghost use Rattle.std.specs.Prelude.{◌≡◌, ◌≢◌, ◌-◌, ◌++◌, ℕ, List, [], Option, IsFalse, OnOk, get_or, map, option_map};
 ghost use Rattle.subcommands.specs.Asked.{asked_for};
-ghost use Rattle.subcommands.specs.CheckMany.{LeavesLines, LeavesMany, TellsLine, TellsRefusal, TellsStop, status_of};
+ghost use Rattle.subcommands.specs.CheckMany.{LeavesLines, LeavesMany, TellsLine, TellsRefusal, TellsStop, refusal_text, status_of, unread_text};
 ghost use Rattle.subcommands.specs.Fleet.{IsEndOfFleet};
+ghost use Rattle.subcommands.specs.JobChecks.{work};
 ghost use Rattle.subcommands.specs.Texts.{IsErrorOfReading};
-ghost use Rattle.subcommands.specs.Refusals.{refused_profile, unread_profile};
 
 use crate::fleet::read_fleet;
 use crate::groups::Group;
 use crate::job_checks::{Ending, check_jobs};
 use crate::jobs::Jobs;
 use crate::named_texts::NamedTexts;
-use crate::refusals::{push_refused_profile, push_unread_profile};
+use crate::refusals::{
+    push_refused_profile, push_refused_profile_sentence, push_unread_profile,
+    push_unread_profile_sentence,
+};
 use crate::status::{Status, Trouble};
 use crate::system_words::system_words;
+use crate::telling::{Format, Telling};
 use crate::texts::ProfileTexts;
 use device_profile::Cause;
 use preflight::{Error, Outlet, write_text};
-use std::alloc::Allocator;
+use std::alloc::{AllocError, Allocator};
 
 /// Jobs and printers by the words that name them, and how they are checked.
 #[derive(Clone, Copy)]
@@ -26,8 +30,7 @@ pub struct ManyJobs<'w, 'n> {
     pub printers: &'w [&'w str],
     /// Each printer has lines of its own.
     pub is_each: bool,
-    /// A FAIL counts as a PASS.
-    pub exit_zero: bool,
+    pub telling: Telling<'w>,
 }
 
 impl ManyJobs<'_, '_> {
@@ -55,7 +58,7 @@ impl ManyJobs<'_, '_> {
 /// standard error tells, with the word that names it.
 pub fn check_many<'n, J: Jobs<'n>, T: ProfileTexts, O: Outlet, E: Outlet, A: Allocator + Copy>(
     alloc: A,
-    jobs: &J,
+    jobs: &mut J,
     texts: &mut T,
     asked: &ManyJobs<'_, 'n>,
     stdout: &mut O,
@@ -66,8 +69,10 @@ pub fn check_many<'n, J: Jobs<'n>, T: ProfileTexts, O: Outlet, E: Outlet, A: All
     requires stderr { IsFalse (E.state stderr.old).failed }
     requires some { asked.now.printers.now ≢ [] }
     ensures { LeavesMany (map (λ word. T.text_of texts.old word.now) asked.now.printers.now)
-        (asked_for asked.now) (J.start jobs.now) result
-        (O.state stdout.old) (O.state stdout.new) (E.state stderr.old) (E.state stderr.new) }
+        (asked_for asked.now) (J.start jobs.old) result
+        (work (O.state stdout.old) (J.ended jobs.old))
+        (work (O.state stdout.new) (J.ended jobs.new))
+        (E.state stderr.old) (E.state stderr.new) }
 {
     let mut named = NamedTexts::new(alloc, texts);
     let fleet = match read_fleet(alloc, &mut named, asked.printers) {
@@ -75,7 +80,7 @@ pub fn check_many<'n, J: Jobs<'n>, T: ProfileTexts, O: Outlet, E: Outlet, A: All
         Err(status) => {
             let told = system_words(alloc, named.error());
             let word = word_of(asked.printers, named.asked());
-            return tell_refusal(alloc, asked.printers, word, told, status, stderr);
+            return tell_refusal(alloc, asked, word, told, status, stderr);
         }
     };
     let names = named.into_names();
@@ -86,17 +91,18 @@ pub fn check_many<'n, J: Jobs<'n>, T: ProfileTexts, O: Outlet, E: Outlet, A: All
 /// Checks the jobs that are asked for, for these printers.
 fn check_for<'n, J: Jobs<'n>, O: Outlet, A: Allocator + Copy>(
     alloc: A,
-    jobs: &J,
+    jobs: &mut J,
     asked: &ManyJobs<'_, 'n>,
     printers: &Group<'_, A>,
     stdout: &mut O,
 ) -> Status
     requires stdout { IsFalse (O.state stdout.old).failed }
     requires some { printers.now.fleet ≢ [] }
-    ensures { LeavesLines (asked_for asked.now) printers.now (J.start jobs.now) result
-        (O.state stdout.old) (O.state stdout.new) }
+    ensures { LeavesLines (asked_for asked.now) printers.now (J.start jobs.old) result
+        (work (O.state stdout.old) (J.ended jobs.old))
+        (work (O.state stdout.new) (J.ended jobs.new)) }
 {
-    match check_jobs(alloc, jobs, asked.jobs, printers, asked.exit_zero, stdout) {
+    match check_jobs(alloc, jobs, asked.jobs, printers, &asked.telling, stdout) {
         Ok(ending) => status_of(ending),
         Err(error) => Status::Stopped(error),
     }
@@ -117,7 +123,7 @@ fn status_of(ending: Ending) -> Status
 /// of this word, which could not be read, with what the system says of that.
 fn tell_refusal<E: Outlet, A: Allocator + Copy>(
     alloc: A,
-    words: &[&str],
+    asked: &ManyJobs<'_, '_>,
     word: &str,
     told: Option<String<A>>,
     status: Status,
@@ -125,16 +131,21 @@ fn tell_refusal<E: Outlet, A: Allocator + Copy>(
 ) -> Status
     requires stderr { IsFalse (E.state stderr.old).failed }
     requires end { (known : List (Option (List ℕ))) × IsEndOfFleet known status }
-    ensures { TellsRefusal status (map (λ word. word.now) words.now) result
+    ensures { TellsRefusal asked.now.telling.format status
+        (map (λ word. word.now) asked.now.printers.now) result
         (E.state stderr.old) (E.state stderr.new) }
 {
+    let format = asked.telling.format;
     match status {
         Status::Profile {
             number,
             line,
             cause,
-        } => tell_refused(alloc, number, word_of(words, number), line, cause, stderr),
-        Status::Stopped(error) => tell_stop(alloc, word, told, error, stderr),
+        } => {
+            let word = word_of(asked.printers, number);
+            tell_refused(alloc, format, number, word, line, cause, stderr)
+        }
+        Status::Stopped(error) => tell_stop(alloc, format, word, told, error, stderr),
         _ => status,
     }
 }
@@ -142,6 +153,7 @@ fn tell_refusal<E: Outlet, A: Allocator + Copy>(
 /// Tells standard error of the profile of this word, where it could not be read.
 fn tell_stop<E: Outlet, A: Allocator + Copy>(
     alloc: A,
+    format: Format,
     word: &str,
     told: Option<String<A>>,
     error: Error,
@@ -149,11 +161,13 @@ fn tell_stop<E: Outlet, A: Allocator + Copy>(
 ) -> Status
     requires stderr { IsFalse (E.state stderr.old).failed }
     requires end { IsErrorOfReading error }
-    ensures { TellsStop error result (E.state stderr.old) (E.state stderr.new) }
+    ensures { TellsStop format error result (E.state stderr.old) (E.state stderr.new) }
 {
     match (error, told) {
-        (Error::Read, Some(told)) => tell_unread(alloc, word, Some(told.as_bytes()), stderr),
-        (Error::Read, None) => tell_unread(alloc, word, None, stderr),
+        (Error::Read, Some(told)) => {
+            tell_unread(alloc, format, word, Some(told.as_bytes()), stderr)
+        }
+        (Error::Read, None) => tell_unread(alloc, format, word, None, stderr),
         (error, _) => Status::Stopped(error),
     }
 }
@@ -161,6 +175,7 @@ fn tell_stop<E: Outlet, A: Allocator + Copy>(
 /// Tells standard error of a profile that is refused.
 fn tell_refused<E: Outlet, A: Allocator + Copy>(
     alloc: A,
+    format: Format,
     number: u64,
     word: &str,
     line: u64,
@@ -168,11 +183,11 @@ fn tell_refused<E: Outlet, A: Allocator + Copy>(
     stderr: &mut E,
 ) -> Status
     requires { IsFalse (E.state stderr.old).failed }
-    ensures { TellsLine result Trouble.Refused (refused_profile number word.now line cause)
+    ensures { TellsLine result Trouble.Refused (refusal_text format number word.now line cause)
         (E.state stderr.old) (E.state stderr.new) }
 {
     let mut text = Vec::new(alloc);
-    if push_refused_profile(&mut text, number, word, line, cause).is_err() {
+    if push_refusal(alloc, &mut text, format, number, word, line, cause).is_err() {
         return Status::Stopped(Error::Memory);
     }
     // Where standard error takes nothing, the status alone is left to tell.
@@ -180,25 +195,64 @@ fn tell_refused<E: Outlet, A: Allocator + Copy>(
     Status::Told(Trouble::Refused)
 }
 
+/// Appends that the profile of this number and word is refused at a line of its text.
+fn push_refusal<A: Allocator + Copy>(
+    alloc: A,
+    text: &mut Vec<u8, A>,
+    format: Format,
+    number: u64,
+    word: &str,
+    line: u64,
+    cause: Cause,
+) -> Result<(), AllocError>
+    ensures { OnOk result (text.new.items ≡ text.old.items ++
+        refusal_text format number word.now line cause) }
+{
+    match format {
+        Format::Line => push_refused_profile(text, number, word, line, cause),
+        Format::Words => push_refused_profile_sentence(alloc, text, number, word, line, cause),
+        Format::Json(_) => push_refused_profile(text, number, word, line, cause),
+    }
+}
+
 /// Tells standard error of a profile that could not be read.
 fn tell_unread<E: Outlet, A: Allocator + Copy>(
     alloc: A,
+    format: Format,
     word: &str,
     cause: Option<&[u8]>,
     stderr: &mut E,
 ) -> Status
     requires { IsFalse (E.state stderr.old).failed }
     ensures { TellsLine result Trouble.NoVerdict
-        (unread_profile word.now (option_map (λ words. words.now) cause.entry))
+        (unread_text format word.now (option_map (λ words. words.now) cause.entry))
         (E.state stderr.old) (E.state stderr.new) }
 {
     let mut text = Vec::new(alloc);
-    if push_unread_profile(&mut text, word, cause).is_err() {
+    if push_unread(alloc, &mut text, format, word, cause).is_err() {
         return Status::Stopped(Error::Memory);
     }
     // Where standard error takes nothing, the status alone is left to tell.
     let _ = write_text(stderr, text.as_slice());
     Status::Told(Trouble::NoVerdict)
+}
+
+/// Appends that the profile of this word could not be read.
+fn push_unread<A: Allocator + Copy>(
+    alloc: A,
+    text: &mut Vec<u8, A>,
+    format: Format,
+    word: &str,
+    cause: Option<&[u8]>,
+) -> Result<(), AllocError>
+    ensures { OnOk result (text.new.items ≡ text.old.items ++
+        unread_text format word.now (option_map (λ words. words.now) cause.entry)) }
+{
+    match format {
+        Format::Line => push_unread_profile(text, word, cause),
+        Format::Words => push_unread_profile_sentence(alloc, text, word, cause),
+        Format::Json(_) => push_unread_profile(text, word, cause),
+    }
 }
 
 /// The word of this number, from 1.

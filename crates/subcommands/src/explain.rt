@@ -1,11 +1,12 @@
 //! The program's command `explain`.
-ghost use Rattle.std.specs.Prelude.{◌≡◌, ◌==◌, ◌<◌, map, option_map, is_err, IfErr, IsFalse, IsTrue};
+ghost use Rattle.std.specs.Prelude.{◌≡◌, ◌==◌, ◌<◌, decimal, map, option_map, is_err, IfErr, IsFalse, IsTrue};
 ghost use Rattle.std.specs.List.{before_first, after_first, list_any};
 ghost use Rattle.preflight.specs.Writing.{Writes};
-ghost use Rattle.subcommands.specs.Explanations.{complaint, end_of_explain, explanation, is_about, is_asked, is_unknown};
+ghost use Rattle.subcommands.specs.Explanations.{complaint, end_of_explain, explained_by, explanation, is_about, is_asked, is_unknown};
 
 use crate::explanations::EXPLANATIONS;
 use crate::status::{Status, write_pieces};
+use itoa::Buffer;
 use preflight::{Error, Outlet, write_text};
 
 /// The command `explain`: on standard output what the faults and findings mean that have this
@@ -98,6 +99,21 @@ fn write_asked<O: Outlet>(texts: &[&str], code: Option<&str>, stdout: &mut O) ->
         }
     }
     Ok(())
+}
+
+/// What the first of these explanations says that is about the fault or finding of a number, and
+/// nothing where none is.
+pub fn explained_by<'t>(number: u8, texts: &[&'t str]) -> &'t str
+    ensures { result.now ≡ explained_by (decimal number) (map (λ text. text.now) texts.now) }
+{
+    let mut digits = Buffer::new();
+    let code = digits.format(number);
+    for text in texts {
+        if is_about(code, text) {
+            return text;
+        }
+    }
+    ""
 }
 
 /// Whether an explanation is asked for: without a code each is.

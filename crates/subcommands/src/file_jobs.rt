@@ -1,22 +1,41 @@
 //! Jobs that are files, and the one on standard input.
-ghost use Rattle.std.specs.Prelude.{◌≡◌};
+ghost use Rattle.std.specs.Prelude.{◌≡◌, []};
+ghost use Rattle.subcommands.specs.FileJobs.{state_of_job};
 
+use crate::ended::{Ended, JobEnd};
 use crate::jobs::Jobs;
 use preflight::Source;
 use std::io;
 use std::io::{Input, Read};
+use std::marker::Model;
 use std::rt::Files;
-use streams::{FileSource, Latched};
+use streams::{FileSource, Given, Latched};
 
 /// The jobs at paths, and standard input under the name `-`.
-#[derive(Clone, Copy)]
+#[derive(Drop)]
 pub struct FileJobs<'a, R: Files + Input> {
     runtime: &'a R,
+    ended: Ended,
+}
+
+impl<'a, R: Files + Input> Model for FileJobs<'a, R> {
+    ghost use Rattle.std.specs.Prelude.{List};
+    ghost use Rattle.streams.specs.Source.{SourceState};
+
+    ghost Value = { List SourceState };
+
+    ghost view = { λ jobs. jobs.ended.jobs };
 }
 
 impl<'a, R: Files + Input> FileJobs<'a, R> {
-    pub fn new(runtime: &'a R) -> FileJobs<'a, R> {
-        FileJobs { runtime }
+    /// No job is ended yet.
+    pub fn new(runtime: &'a R) -> FileJobs<'a, R>
+        ensures { result ≡ [] }
+    {
+        FileJobs {
+            runtime,
+            ended: Ended::new(),
+        }
     }
 }
 
@@ -27,6 +46,19 @@ pub enum JobSource<'a, R: Files + Input> {
     Standard(Latched<R::Reader>),
     /// Of a name that no path can have here.
     NoText(Latched<NoText>),
+}
+
+impl<R: Files + Input> JobSource<'_, R> {
+    /// What its reads gave.
+    fn into_given(self) -> Given
+        ensures { result.pieces ≡ (state_of_job self.entry).given }
+    {
+        match self {
+            JobSource::File(file) => file.into_given(),
+            JobSource::Standard(input) => input.into_given(),
+            JobSource::NoText(none) => none.into_given(),
+        }
+    }
 }
 
 /// Cannot be read, since its name is no text.
@@ -76,11 +108,19 @@ impl<'a, R: Files + Input> Jobs<'a> for FileJobs<'a, R> {
 
     ghost start = { λ _ _. no_source };
 
+    ghost ended = { λ jobs. jobs };
+
     fn job(&self, name: &'a [u8]) -> JobSource<'a, R> {
         match str::from_utf8(name) {
             Ok("-") => JobSource::Standard(Latched::new(self.runtime.reader())),
             Ok(path) => JobSource::File(FileSource::new(self.runtime, path)),
             Err(_) => JobSource::NoText(Latched::new(NoText)),
         }
+    }
+
+    fn end(&mut self, job: JobSource<'a, R>) {
+        let has_failed = job.has_failed();
+        let given = job.into_given();
+        self.ended = self.ended.and(&JobEnd { given, has_failed });
     }
 }

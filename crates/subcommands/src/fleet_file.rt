@@ -1,13 +1,15 @@
 //! A fleet as a text: a profile a line.
-ghost use Rattle.std.specs.Prelude.{◌≡◌, IfErr, IsFalse, OnOk};
-ghost use Rattle.subcommands.specs.CheckMany.{IsEndOfAsking};
+ghost use Rattle.std.specs.Prelude.{◌≡◌, ◌++◌, IfErr, IfNone, IfOk, IsFalse, OnOk, option_map};
+ghost use Rattle.subcommands.specs.FleetFile.{AddsSome, TellsOfFleet, refused_fleet, refused_text};
 
-use crate::job_lines::{push_cause, push_shown_name};
+use crate::job_lines::push_shown_name;
+use crate::refusals::push_unread;
 use crate::status::{Status, Trouble};
 use crate::system_words::system_words;
 use crate::texts::ProfileTexts;
 use preflight::{Error, Outlet, write_text};
 use std::alloc::{AllocError, Allocator};
+use std::io;
 use std::path::Path;
 
 /// A text has at most so many bytes.
@@ -20,7 +22,6 @@ enum FleetFault {
     TooLong,
     NoText,
     NoPrinter,
-    Memory,
 }
 
 /// Appends the words that a fleet's text names, in its order: each line is the path of a profile,
@@ -35,109 +36,111 @@ pub fn read_fleet_file<T: ProfileTexts, E: Outlet, A: Allocator + Copy>(
 ) -> Result<(), Status>
     requires texts { IsFalse (T.failed texts.old) }
     requires stderr { IsFalse (E.state stderr.old).failed }
+    ensures named { OnOk result (AddsSome words.old.items words.new.items) }
     ensures quiet { OnOk result (stderr.new ≡ stderr.old) }
-    ensures end { IfErr result IsEndOfAsking }
+    ensures end { IfErr result (λ status. TellsOfFleet path.now status
+        (E.state stderr.old) (E.state stderr.new)) }
 {
-    let fault = match gather_words(alloc, texts, path, words) {
-        Ok(()) => return Ok(()),
-        Err(FleetFault::Memory) => return Err(Status::Stopped(Error::Memory)),
-        Err(fault) => fault,
-    };
-    let mut line = Vec::new(alloc);
-    if push_fleet_fault(alloc, &mut line, texts, path, &fault).is_err() {
-        return Err(Status::Stopped(Error::Memory));
-    }
-    // Where standard error takes nothing, the status alone is left to tell.
-    let _ = write_text(stderr, line.as_slice());
-    Err(Status::Told(Trouble::Refused))
-}
-
-impl From<AllocError> for FleetFault {
-    fn from(_error: AllocError) -> FleetFault {
-        FleetFault::Memory
+    match gather_words(alloc, texts, path, words) {
+        Ok(None) => Ok(()),
+        Ok(Some(fault)) => Err(tell_fault(alloc, path, fault, texts.error(), stderr)),
+        Err(AllocError) => Err(Status::Stopped(Error::Memory)),
     }
 }
 
+/// Appends the words that a fleet's text names, or finds what is wrong with the text.
 fn gather_words<T: ProfileTexts, A: Allocator + Copy>(
     alloc: A,
     texts: &mut T,
     path: &str,
     words: &mut Vec<String<A>, A>,
-) -> Result<(), FleetFault>
+) -> Result<Option<FleetFault>, AllocError>
     requires { IsFalse (T.failed texts.old) }
+    ensures { IfOk result (λ fault. IfNone fault (AddsSome words.old.items words.new.items)) }
 {
     let text = match texts.read_text(alloc, path) {
         Ok(text) => text,
-        Err(Error::Read) => return Err(FleetFault::Unreadable),
-        Err(_) => return Err(FleetFault::Memory),
+        Err(Error::Read) => return Ok(Some(FleetFault::Unreadable)),
+        Err(_) => return Err(AllocError),
     };
     if text.len() > MOST_BYTES {
-        return Err(FleetFault::TooLong);
+        return Ok(Some(FleetFault::TooLong));
     }
     let Ok(text) = str::from_utf8(text.as_slice()) else {
-        return Err(FleetFault::NoText);
+        return Ok(Some(FleetFault::NoText));
     };
     let before = words.len();
     for line in text.lines() {
         let line = line.trim();
         if !line.is_empty() && !line.starts_with('#') {
-            push_word(alloc, words, path, line)?;
+            words.push(word_of(alloc, path, line)?)?;
         }
     }
     if words.len() == before {
-        return Err(FleetFault::NoPrinter);
+        return Ok(Some(FleetFault::NoPrinter));
     }
-    Ok(())
+    Ok(None)
 }
 
-/// Appends the word of a line: a sample as it stands, and a path as seen from the folder of the
-/// text.
-fn push_word<A: Allocator + Copy>(
+/// The word of a line: a sample as it stands, and a path as seen from the folder of the text.
+fn word_of<A: Allocator + Copy>(alloc: A, path: &str, line: &str) -> Result<String<A>, AllocError> {
+    if line.starts_with('@') {
+        return String::from_str(alloc, line);
+    }
+    let path = Path::new(path).with_file_name(alloc, line)?;
+    Ok(path.into_string())
+}
+
+/// Tells standard error why a fleet is refused.
+fn tell_fault<E: Outlet, A: Allocator + Copy>(
     alloc: A,
-    words: &mut Vec<String<A>, A>,
     path: &str,
-    line: &str,
-) -> Result<(), FleetFault> {
-    let word = if line.starts_with('@') {
-        let mut word = String::new(alloc);
-        word.push_str(line)?;
-        word
-    } else {
-        match Path::new(path).with_file_name(alloc, line) {
-            Ok(path) => path.into_string(),
-            Err(_) => return Err(FleetFault::Memory),
-        }
-    };
-    match words.push(word) {
-        Ok(()) => Ok(()),
-        Err(_) => Err(FleetFault::Memory),
+    fault: FleetFault,
+    error: Option<io::Error>,
+    stderr: &mut E,
+) -> Status
+    requires { IsFalse (E.state stderr.old).failed }
+    ensures { TellsOfFleet path.now result (E.state stderr.old) (E.state stderr.new) }
+{
+    let told = system_words(alloc, error);
+    let cause = told.as_ref().map(|told| told.as_bytes());
+    let mut line = Vec::new(alloc);
+    if push_fault(&mut line, path, fault, cause).is_err() {
+        return Status::Stopped(Error::Memory);
     }
+    // Where standard error takes nothing, the status alone is left to tell.
+    let _ = write_text(stderr, line.as_slice());
+    Status::Told(Trouble::Refused)
 }
 
-/// Appends what is wrong with a fleet's text.
-fn push_fleet_fault<T: ProfileTexts, A: Allocator + Copy>(
-    alloc: A,
+/// Appends why a fleet is refused.
+fn push_fault<A: Allocator>(
     line: &mut Vec<u8, A>,
-    texts: &T,
     path: &str,
-    fault: &FleetFault,
-) -> Result<(), AllocError> {
-    let front: &[u8] = match fault {
-        FleetFault::Unreadable => b"ERROR read fleet ",
-        _ => b"ERROR fleet ",
-    };
-    line.extend_from_slice(front)?;
-    push_shown_name(line, path.as_bytes())?;
+    fault: FleetFault,
+    cause: Option<&[u8]>,
+) -> Result<(), AllocError>
+    ensures { OnOk result (line.new.items ≡ line.old.items ++
+        refused_fleet path.now fault (option_map (λ words. words.now) cause.entry)) }
+{
     match fault {
-        FleetFault::Unreadable => {
-            let words = system_words(alloc, texts.error());
-            push_cause(line, words.as_ref().map(|words| words.as_bytes()))?;
-        }
-        FleetFault::TooLong => line.extend_from_slice(b": more than 65536 bytes")?,
-        FleetFault::NoText => line.extend_from_slice(b": not UTF-8 text")?,
-        FleetFault::NoPrinter | FleetFault::Memory => {
-            line.extend_from_slice(b": names no printer")?;
-        }
+        FleetFault::Unreadable => push_unread(line, b"ERROR read fleet ", path, cause),
+        FleetFault::TooLong => push_refused(line, path, b": more than 65536 bytes\n"),
+        FleetFault::NoText => push_refused(line, path, b": not UTF-8 text\n"),
+        FleetFault::NoPrinter => push_refused(line, path, b": names no printer\n"),
     }
-    line.extend_from_slice(b"\n")
+}
+
+/// Appends that a fleet's text is refused, with these words.
+fn push_refused<A: Allocator>(
+    line: &mut Vec<u8, A>,
+    path: &str,
+    words: &[u8],
+) -> Result<(), AllocError>
+    ensures { OnOk result (line.new.items ≡ line.old.items ++ refused_text path.now words.now) }
+{
+    line.extend_from_slice(b"ERROR fleet ")?;
+    push_shown_name(line, path.as_bytes())?;
+    line.extend_from_slice(words)?;
+    Ok(())
 }

@@ -3,15 +3,18 @@ ghost use Rattle.std.specs.Prelude.{◌≡◌, ◌≢◌, [], IfErr, IfOk, IsFal
 ghost use Rattle.preflight.specs.Errors.{is_err_of_write};
 ghost use Rattle.preflight.specs.declared.error.Error.{Error};
 ghost use Rattle.streams.specs.Outlet.{Adds};
-ghost use Rattle.subcommands.specs.JobChecks.{CutsOne, IsErrorOfLine, TellsAll, TellsFront, TellsOne, due_of, ending_of, worse};
-ghost use Rattle.subcommands.specs.JobLines.{job_line};
-ghost use Rattle.verdict.specs.declared.verdict.Verdict.{Verdict};
+ghost use Rattle.preflight.specs.declared.culprit.Judgement.{Judgement};
+ghost use Rattle.subcommands.specs.Asked.{told_by};
+ghost use Rattle.subcommands.specs.JobChecks.{CutsOne, IsErrorOfLine, TellsAll, TellsFront, TellsOne, due_of, ending_of, work, worse};
+ghost use Rattle.subcommands.specs.Reports.{verdict_of};
+ghost use Rattle.subcommands.specs.Telling.{report_text};
 
 use crate::groups::Group;
-use crate::job_lines::push_job_line;
 use crate::jobs::Jobs;
+use crate::reports::Report;
 use crate::system_words::system_words;
-use preflight::{Error, Outlet, Source, Verdict, check_job, write_text};
+use crate::telling::{Telling, push_report};
+use preflight::{Error, Judgement, Outlet, Source, Verdict, check_job_telling, write_text};
 use std::alloc::{AllocError, Allocator};
 use std::io;
 
@@ -28,13 +31,22 @@ pub enum Ending {
 
 impl Ending {
     /// How a job of this result counts; where `exit_zero` is set a FAIL counts as a PASS.
-    fn of(exit_zero: bool, answer: Result<Verdict, Error>) -> Ending
-        ensures { result ≡ ending_of exit_zero answer }
+    fn of(exit_zero: bool, answer: Result<Judgement, Error>) -> Ending
+        ensures { result ≡ ending_of exit_zero (verdict_of answer) }
     {
         match answer {
-            Ok(Verdict::Fail { .. }) if !exit_zero => Ending::Fails,
-            Ok(_) => Ending::Passes,
+            Ok(judgement) => Ending::of_verdict(exit_zero, judgement.verdict),
             Err(_) => Ending::HasNoVerdict,
+        }
+    }
+
+    /// How a verdict counts.
+    fn of_verdict(exit_zero: bool, verdict: Verdict) -> Ending
+        ensures { result ≡ ending_of exit_zero (Ok verdict) }
+    {
+        match verdict {
+            Verdict::Fail { .. } if !exit_zero => Ending::Fails,
+            Verdict::Fail { .. } | Verdict::Pass { .. } => Ending::Passes,
         }
     }
 
@@ -55,26 +67,29 @@ impl Ending {
 /// An error is `Write` where a write failed, or `Memory` where there was none for a line.
 pub fn check_jobs<'n, J: Jobs<'n>, O: Outlet, A: Allocator + Copy>(
     alloc: A,
-    jobs: &J,
+    jobs: &mut J,
     names: &[&'n [u8]],
     printers: &Group<'_, A>,
-    exit_zero: bool,
+    telling: &Telling<'_>,
     stdout: &mut O,
 ) -> Result<Ending, Error>
     requires stdout { IsFalse (O.state stdout.old).failed }
     requires some { printers.now.fleet ≢ [] }
-    ensures told { IfOk result (λ ending. TellsAll printers.now exit_zero
-        (flat_map (due_of printers.now) (map (λ name. name.now) names.now)) (J.start jobs.now)
-        ending (O.state stdout.old) (O.state stdout.new)) }
-    ensures front { IfErr result (λ _. TellsFront printers.now (J.start jobs.now)
+    ensures told { IfOk result (λ ending. TellsAll printers.now (told_by telling.now)
+        (flat_map (due_of printers.now) (map (λ name. name.now) names.now)) (J.start jobs.old)
+        ending (work (O.state stdout.old) (J.ended jobs.old))
+        (work (O.state stdout.new) (J.ended jobs.new))) }
+    ensures front { IfErr result (λ _. TellsFront printers.now (told_by telling.now)
+        (J.start jobs.old)
         (flat_map (due_of printers.now) (map (λ name. name.now) names.now))
-        (O.state stdout.old) (O.state stdout.new)) }
+        (work (O.state stdout.old) (J.ended jobs.old))
+        (work (O.state stdout.new) (J.ended jobs.new))) }
     ensures errors { IfErr result IsErrorOfLine }
     ensures write { (O.state stdout.new).failed ≡ is_err_of_write result }
 {
     let mut ending = Ending::Passes;
     for name in names {
-        let told = tell_job(alloc, jobs, name, printers, exit_zero, stdout)?;
+        let told = tell_job(alloc, jobs, name, printers, telling, stdout)?;
         ending = ending.worse(told);
     }
     Ok(ending)
@@ -83,19 +98,23 @@ pub fn check_jobs<'n, J: Jobs<'n>, O: Outlet, A: Allocator + Copy>(
 /// Checks a job for each group of the printers.
 fn tell_job<'n, J: Jobs<'n>, O: Outlet, A: Allocator + Copy>(
     alloc: A,
-    jobs: &J,
+    jobs: &mut J,
     name: &'n [u8],
     printers: &Group<'_, A>,
-    exit_zero: bool,
+    telling: &Telling<'_>,
     stdout: &mut O,
 ) -> Result<Ending, Error>
     requires stdout { IsFalse (O.state stdout.old).failed }
     requires some { printers.now.fleet ≢ [] }
-    ensures told { IfOk result (λ ending. TellsAll printers.now exit_zero
-        (due_of printers.now name.now) (J.start jobs.now)
-        ending (O.state stdout.old) (O.state stdout.new)) }
-    ensures front { IfErr result (λ _. TellsFront printers.now (J.start jobs.now)
-        (due_of printers.now name.now) (O.state stdout.old) (O.state stdout.new)) }
+    ensures told { IfOk result (λ ending. TellsAll printers.now (told_by telling.now)
+        (due_of printers.now name.now) (J.start jobs.old)
+        ending (work (O.state stdout.old) (J.ended jobs.old))
+        (work (O.state stdout.new) (J.ended jobs.new))) }
+    ensures front { IfErr result (λ _. TellsFront printers.now (told_by telling.now)
+        (J.start jobs.old) (due_of printers.now name.now)
+        (work (O.state stdout.old) (J.ended jobs.old))
+        (work (O.state stdout.new) (J.ended jobs.new))) }
+    ensures start { J.start jobs.new ≡ J.start jobs.old }
     ensures errors { IfErr result IsErrorOfLine }
     ensures write { (O.state stdout.new).failed ≡ is_err_of_write result }
 {
@@ -103,54 +122,67 @@ fn tell_job<'n, J: Jobs<'n>, O: Outlet, A: Allocator + Copy>(
     for number in 0..printers.count() {
         let mut job = jobs.job(name);
         let group = printers.part(number);
-        let told = tell_result(alloc, &mut job, name, &group, exit_zero, stdout)?;
-        ending = ending.worse(told);
+        let told = tell_result(alloc, &mut job, name, &group, telling, stdout);
+        jobs.end(job);
+        ending = ending.worse(told?);
     }
     Ok(ending)
 }
 
 /// Checks a job for a group of printers, and writes its line.
-fn tell_result<S: Source, O: Outlet, A: Allocator + Copy>(
+fn tell_result<'t, S: Source, O: Outlet, A: Allocator + Copy>(
     alloc: A,
     job: &mut S,
-    name: &[u8],
-    group: &Group<'_, A>,
-    exit_zero: bool,
+    name: &'t [u8],
+    group: &'t Group<'t, A>,
+    telling: &Telling<'_>,
     stdout: &mut O,
 ) -> Result<Ending, Error>
     requires job { IsFalse (S.state job.old).failed }
     requires stdout { IsFalse (O.state stdout.old).failed }
     requires some { group.now.fleet ≢ [] }
-    ensures told { IfOk result (λ ending. (answer : Result Verdict Error) × (ending ≡
-        ending_of exit_zero answer) × TellsOne group.now (S.state job.old) name.now answer
+    ensures told { IfOk result (λ ending. (answer : Result Judgement Error) × (ending ≡
+        ending_of telling.now.exit_zero (verdict_of answer)) × TellsOne group.now
+        (told_by telling.now) (S.state job.old) (S.state job.new) name.now answer
         (Adds (O.state stdout.old) (O.state stdout.new))) }
-    ensures front { IfErr result (λ error. CutsOne error group.now (S.state job.old) name.now
+    ensures front { IfErr result (λ error. CutsOne error group.now (told_by telling.now)
+        (S.state job.old) (S.state job.new) name.now
         (O.state stdout.old) (O.state stdout.new)) }
     ensures write { (O.state stdout.new).failed ≡ is_err_of_write result }
 {
-    let answer = check_job(alloc, job, group.profiles());
-    let line = line_of_job(alloc, group, name, answer, job.error())?;
+    let answer = check_job_telling(alloc, job, group.profiles());
+    let line = line_of_job(alloc, group, name, answer, job.error(), telling)?;
     write_text(stdout, line.as_slice())?;
-    Ok(Ending::of(exit_zero, answer))
+    Ok(Ending::of(telling.exit_zero, answer))
 }
 
-/// The line of a job, with what the system says of an error, where it can be had.
-fn line_of_job<A: Allocator + Copy>(
+/// What is told of a job, with what the system says of an error, where it can be had.
+fn line_of_job<'t, A: Allocator + Copy>(
     alloc: A,
-    group: &Group<'_, A>,
-    name: &[u8],
-    answer: Result<Verdict, Error>,
+    group: &'t Group<'t, A>,
+    name: &'t [u8],
+    answer: Result<Judgement, Error>,
     error: Option<io::Error>,
+    telling: &Telling<'_>,
 ) -> Result<Vec<u8, A>, AllocError>
     ensures { IfOk result (λ line. (cause : Option (List ℕ)) × (line.items ≡
-        job_line group.now.is_each group.now.names name.now answer cause)) }
+        report_text (told_by telling.now) (record {
+          is_each = group.now.is_each;
+          names = group.now.names;
+          job = name.now;
+          answer = answer;
+          cause = cause;
+        }))) }
 {
+    let words = system_words(alloc, error);
+    let cause = words.as_ref().map(|words| words.as_bytes());
+    let report = Report {
+        printers: group,
+        job: name,
+        answer,
+        cause,
+    };
     let mut line = Vec::new(alloc);
-    match system_words(alloc, error) {
-        Some(words) => {
-            push_job_line(&mut line, group, name, answer, Some(words.as_bytes()))?;
-        }
-        None => push_job_line(&mut line, group, name, answer, None)?,
-    }
+    push_report(alloc, &mut line, &report, telling)?;
     Ok(line)
 }

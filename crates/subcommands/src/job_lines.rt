@@ -1,8 +1,9 @@
 //! The line of a job, in a check of many.
-ghost use Rattle.std.specs.Prelude.{◌≡◌, ◌≤◌, ◌-◌, ◌++◌, [], OnOk, get_or, map, option_map};
-ghost use Rattle.subcommands.specs.JobLines.{cause_part, job_line, name_byte, number_told, printer_words, reason_part, result_words, shown_name, verdict_words};
+ghost use Rattle.std.specs.Prelude.{◌≡◌, ◌++◌, OnOk, option_map};
+ghost use Rattle.subcommands.specs.JobLines.{cause_part, job_line, name_byte, printer_words, reason_part, result_words, shown_name, verdict_words};
+ghost use Rattle.subcommands.specs.Reports.{number_told, verdict_of};
 
-use crate::groups::Group;
+use crate::reports::Report;
 use crate::status::error_words;
 use line_words::{push_escaped, push_named, push_reason};
 use preflight::{Error, Verdict};
@@ -12,20 +13,16 @@ use std::alloc::{AllocError, Allocator};
 /// name of what is wrong, the job's name, and what the system says of a read that failed.
 pub fn push_job_line<A: Allocator, B: Allocator>(
     line: &mut Vec<u8, A>,
-    group: &Group<'_, B>,
-    name: &[u8],
-    answer: Result<Verdict, Error>,
-    cause: Option<&[u8]>,
+    report: &Report<'_, '_, B>,
 ) -> Result<(), AllocError>
-    ensures { OnOk result (line.new.items ≡ line.old.items ++ job_line group.now.is_each
-        group.now.names name.now answer (option_map (λ words. words.now) cause.entry)) }
+    ensures { OnOk result (line.new.items ≡ line.old.items ++ job_line report.now) }
 {
-    push_result(line, answer)?;
-    push_printer(line, group.names(), number_told(group.is_each(), answer))?;
-    push_reason_part(line, answer)?;
+    push_result(line, report.verdict())?;
+    push_printer(line, report)?;
+    push_reason_part(line, report.verdict())?;
     line.push(b' ')?;
-    push_shown_name(line, name)?;
-    push_cause(line, cause)?;
+    push_shown_name(line, report.job)?;
+    push_cause(line, report.cause)?;
     line.push(b'\n')?;
     Ok(())
 }
@@ -57,43 +54,19 @@ fn push_verdict<A: Allocator>(line: &mut Vec<u8, A>, verdict: Verdict) -> Result
     Ok(())
 }
 
-/// The number of the printer that a line is about, from 1, or 0 where it names none.
-fn number_told(is_each: bool, answer: Result<Verdict, Error>) -> u64
-    ensures { result ≡ number_told is_each answer }
-{
-    match answer {
-        _ if is_each => 1,
-        Ok(Verdict::Fail { profile, .. }) => profile,
-        Ok(Verdict::Pass { .. }) | Err(_) => 0,
-    }
-}
-
-/// Appends the name of the printer of this number.
+/// Appends the name of the printer that the line is about.
 fn push_printer<A: Allocator, B: Allocator>(
     line: &mut Vec<u8, A>,
-    names: &[Vec<u8, B>],
-    number: u64,
+    report: &Report<'_, '_, B>,
 ) -> Result<(), AllocError>
-    ensures { OnOk result (line.new.items ≡ line.old.items ++
-        printer_words (map (λ name. name.items) names.now) number) }
+    ensures { OnOk result (line.new.items ≡ line.old.items ++ printer_words report.now.names
+        (number_told report.now.is_each (verdict_of report.now.answer))) }
 {
-    if number == 0 {
+    if report.number_told() == 0 {
         return Ok(());
     }
     line.extend_from_slice(b" printer=")?;
-    line.extend_from_slice(name_of(names, number))?;
-    Ok(())
-}
-
-/// The name of the printer of this number, from 1, or nothing where there are not so many.
-fn name_of<B: Allocator>(names: &[Vec<u8, B>], number: u64) -> &[u8]
-    requires { 1 ≤ number }
-    ensures { result.now ≡ get_or (map (λ name. name.items) names.now) (number - 1) [] }
-{
-    match names.get((number - 1) as usize) {
-        Some(name) => name.as_slice(),
-        None => &[],
-    }
+    line.extend_from_slice(report.printer_name())
 }
 
 /// Appends the number and the name of what is wrong.

@@ -1,5 +1,5 @@
 //! Jobs under their names.
-ghost use Rattle.std.specs.Prelude.{◌≡◌, ℕ, List, IsFalse};
+ghost use Rattle.std.specs.Prelude.{◌≡◌, ◌∷◌, ◌++◌, [], ℕ, List, IsFalse};
 ghost use Rattle.streams.specs.Source.{SourceState};
 
 use streams::Source;
@@ -12,8 +12,16 @@ pub trait Jobs<'n> {
     // What the source of a name is like before its first read.
     ghost start: { Self → List ℕ → SourceState };
 
+    // What the jobs that were ended had come to, in their order.
+    ghost ended: { Self → List SourceState };
+
     /// The job that a word names, of which nothing is read yet.
     fn job(&self, name: &'n [u8]) -> Self::Job
         ensures working { IsFalse (Self.Job.state result).failed }
         ensures start { Self.Job.state result ≡ start self.now name.now };
+
+    /// Ends a job, of which no more is read.
+    fn end(&mut self, job: Self::Job)
+        ensures ended { ended self.new ≡ ended self.old ++ Self.Job.state job ∷ [] }
+        ensures start { start self.new ≡ start self.old };
 }

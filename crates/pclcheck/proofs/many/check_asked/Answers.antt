@@ -1,44 +1,53 @@
-use Rattle.std.proofs.Common.{◌≡◌, ◌∙◌, IsFalse, ap, map, refl, rules, subst, sym, string_bytes}
-use Rattle.std.proofs.lemmas.Simd.{map-map}
-use Rattle.subcommands.specs.CheckMany.{Asked, LeavesMany}
-use Rattle.streams.specs.Files.{no_source}
-use Rattle.subcommands.specs.Texts.{text_named}
-use Rattle.pclcheck.proofs.Fulfilling.{checks_left, none_left}
+use Rattle.std.proofs.Common.{◌≤◌, ◌∙◌, ◌++◌, ap, inl, inr, length, map, option_map, refl, string_bytes, subst}
+use Rattle.subcommands.specs.Asked.{told_by}
+use Rattle.subcommands.specs.CheckMany.{Asked}
+use Rattle.pclcheck.proofs.Asking.{each_fleet, names_lack, no_word, no_words, some_printer}
+use Rattle.pclcheck.specs.Checks.{LeavesAsked}
+use Rattle.pclcheck.specs.Names.{names_in}
 use Rattle.pclcheck.proofs.many.check_asked.Goals as goal
 
-pub returns-in-Err : goal.returns-in-Err
-returns-in-Err g c = none_left _ _ _ _ c.in-Err.status _ _ _ c.in-Err.ensures.end
-
-pub returns-in_default : goal.returns-in_default
-returns-in_default g c = none_left _ _ _ _ _ _ _ _ tt
-
-pub returns-then-is_empty : goal.returns-then-is_empty
-returns-then-is_empty g c = none_left _ _ _ _ _ _ _ _ tt
-
 pub returns-in-Err-read_names : goal.returns-in-Err-read_names
-returns-in-Err-read_names g c = none_left _ _ _ _ c.in-Err-read_names.status _ _ _ c.in-Err-read_names.ensures.end
+returns-in-Err-read_names g c =
+    inr (
+      names_lack (map (λ word. word.now) c.args.words.now.fleets.items) c.args.words.now.names_from c.in-Err-read_names.status (g.E.Outlet.state c.read_fleets.new.stderr) (g.E.Outlet.state c.args.stderr.now) (g.E.Outlet.state c.read_names.new.stderr)
+          (ap g.E.Outlet.state c.in-Ok.ensures.quiet) c.in-Err-read_names.ensures.end,
+      refl,
+    )
 
-pub returns-in_default-all_jobs : goal.returns-in_default-all_jobs
-returns-in_default-all_jobs g c = none_left _ _ _ _ _ _ _ _ tt
-
-pub check_many-requires : goal.check_many-requires
-check_many-requires g c =
-    let quiet = c.in-Ok-read_names.ensures.quiet ∙ c.in-Ok.ensures.quiet in
-    let working = subst (λ err. IsFalse (g.E.Outlet.state err).failed) (sym quiet) c.requires.stderr in
-    λ k. ((refl, tt), (c.new-texts.ensures.working, (c.requires.stdout, (working, λ none. absurd (search (rules, none, c.as_slice-3.ensures.value, c.is_empty.ensures, c.if-is_empty.false))))))
+pub check_all-requires-clause-some : goal.check_all-requires-clause-some
+check_all-requires-clause-some g c =
+    let words = c.args.words.now in
+    let each = subst (λ fleets. length fleets ≤ length c.in-Ok.fleets.items) c.as_slice.ensures.value c.in-Ok.ensures.each in
+    let printers = ap (map (λ word. word.now)) c.as_slice-7.ensures.value ∙ c.in-Ok-all_printers.ensures
+    ∙ ap (λ all. map (λ word. word.now) all ++ map string_bytes c.as_slice-3.result.now) c.as_slice-2.ensures.value
+    ∙ ap (λ fleets. map (λ word. word.now) words.printers.items ++ map string_bytes fleets) c.as_slice-3.ensures.value in
+    some_printer words.printers.items words.fleets.items c.in-Ok.fleets.items string_bytes c.as_slice-7.result.now c.requires.some each printers
 
 pub returns : goal.returns
 returns g c =
-    let jobs = map (λ name. name.now) c.as_slice-2.result.now in
-    let printers = map (λ word. word.now) c.as_slice-3.result.now in
-    let many : Asked = record { jobs = jobs; printers = printers; is_each = c.args.asked.now.is_each; exit_zero = c.args.asked.now.exit_zero } in
-    let known : map (λ word. text_named word.now) c.as_slice-3.result.now ≡ map text_named printers = sym (map-map text_named (λ word. word.now) c.as_slice-3.result.now) in
-    let out = g.O.Outlet.state c.args.stdout.now in
-    let out' = g.O.Outlet.state c.check_many.new.stdout in
-    let err' = g.E.Outlet.state c.check_many.new.stderr in
-    checks_left (map (λ word. word.now) c.args.asked.now.jobs.now) (map (λ word. word.now) c.args.asked.now.printers.now) c.in-Ok-all_jobs.ensures.0 (map string_bytes c.in-Ok.fleets.items) c.args.asked.now.is_each c.args.asked.now.exit_zero
-    (map (λ word. text_named word.now) c.as_slice-3.result.now) many c.check_many.result out out' (g.E.Outlet.state c.args.stderr.now) err'
-    (ap (map (λ name. name.now)) c.as_slice-2.ensures.value ∙ c.in-Ok-all_jobs.ensures.1)
-    (ap (map (λ word. word.now)) c.as_slice-3.ensures.value ∙ c.in-Ok-all_printers.ensures)
-    refl refl known
-    (subst (λ err. LeavesMany (map (λ word. text_named word.now) c.as_slice-3.result.now) many (λ name. no_source) c.check_many.result out out' (g.E.Outlet.state err) err') (c.in-Ok-read_names.ensures.quiet ∙ c.in-Ok.ensures.quiet) c.check_many.ensures)
+    let words = c.args.words.now in
+    let asked : Asked = record {
+      jobs = map (λ name. name.now) c.as_slice-6.result.now;
+      printers = map (λ word. word.now) c.as_slice-7.result.now;
+      is_each = words.is_each;
+      telling = told_by c.telling_of.result;
+    } in
+    inl (
+      asked,
+      record {
+        names = c.in-Ok-read_names.names.items;
+        of_fleets = map string_bytes c.in-Ok.fleets.items;
+        jobs = ap (map (λ name. name.now)) c.as_slice-6.ensures.value ∙ c.in-Ok-all_jobs.ensures
+            ∙ ap (λ all. map (λ word. word.now) all ++ names_in c.as_slice-5.result.now) c.as_slice-4.ensures.value
+            ∙ ap (λ names. map (λ word. word.now) words.jobs.items ++ names_in names) c.as_slice-5.ensures.value;
+        printers = ap (map (λ word. word.now)) c.as_slice-7.ensures.value ∙ c.in-Ok-all_printers.ensures
+            ∙ ap (λ all. map (λ word. word.now) all ++ map string_bytes c.as_slice-3.result.now) c.as_slice-2.ensures.value
+            ∙ ap (λ fleets. map (λ word. word.now) words.printers.items ++ map string_bytes fleets) c.as_slice-3.ensures.value;
+        no_names = λ none. c.in-Ok-read_names.ensures.none (no_word (λ word. word.now) words.names_from none);
+        no_fleets = λ none. ap (map string_bytes) (c.in-Ok.ensures.none (c.as_slice.ensures.value ∙ no_words (λ word. word.now) words.fleets.items none));
+        each_fleet = each_fleet string_bytes words.fleets.items c.in-Ok.fleets.items (subst (λ fleets. length fleets ≤ length c.in-Ok.fleets.items) c.as_slice.ensures.value c.in-Ok.ensures.each);
+        is_each = refl;
+        telling = c.telling_of.ensures;
+      },
+      subst (λ err. LeavesAsked (option_map (λ word. word.now) words.names_from) asked c.check_all.result (g.O.Outlet.state c.args.stdout.now) (g.O.Outlet.state c.check_all.new.stdout) (g.E.Outlet.state err) (g.E.Outlet.state c.check_all.new.stderr)) (c.in-Ok-read_names.ensures.quiet ∙ c.in-Ok.ensures.quiet) c.check_all.ensures,
+    )

@@ -1,4 +1,4 @@
-use Rattle.std.proofs.Common.{◌≡◌, ◌≢◌, ℕ, List, [], Option, IsFalse, ap, inl, inr, map, refl, subst, sym, ◌∙◌}
+use Rattle.std.proofs.Common.{◌≡◌, ◌≢◌, ℕ, List, [], IsFalse, ap, inl, inr, map, refl, subst, sym, ◌∙◌}
 use Rattle.device_profile.specs.Printer.{Printer}
 use Rattle.subcommands.specs.Fleet.{DescribeBy, DescribeFleet, IsEndOfFleet}
 use Rattle.subcommands.specs.JobChecks.{Groups}

@@ -1,9 +1,12 @@
-use Rattle.std.proofs.Common.{IsFalse, flat_map, map, take}
-use Rattle.subcommands.specs.JobChecks.{TellsAll, due_of}
+use Rattle.std.proofs.Common.{◌≡◌, IsFalse, flat_map, map, take}
+use Rattle.subcommands.specs.Asked.{told_by}
+use Rattle.subcommands.specs.JobChecks.{TellsAll, due_of, work}
 use Rattle.subcommands.proofs.job_checks.check_jobs.Given as goal
 
 abbrev pub invariant-loop-name : goal.invariant-loop-name
 invariant-loop-name g l = record {
   working : IsFalse (g.O.Outlet.state l.stdout).failed;
-  told : TellsAll l.printers l.exit_zero (flat_map (due_of l.printers) (map (λ name. name.now) (take l.name-index l.names))) (g.J.Jobs.start l.jobs) l.ending (g.O.Outlet.state l.initial.stdout) (g.O.Outlet.state l.stdout);
+  start : g.J.Jobs.start l.jobs ≡ g.J.Jobs.start l.initial.jobs;
+  told : TellsAll l.printers (told_by l.telling) (flat_map (due_of l.printers) (map (λ name. name.now) (take l.name-index l.names))) (g.J.Jobs.start l.initial.jobs) l.ending
+      (work (g.O.Outlet.state l.initial.stdout) (g.J.Jobs.ended l.initial.jobs)) (work (g.O.Outlet.state l.stdout) (g.J.Jobs.ended l.jobs));
 }

@@ -1,0 +1,168 @@
+//! The words of a check of many jobs.
+ghost use Rattle.std.specs.Prelude.{IfOk, IfSome};
+ghost use Rattle.command_line.specs.ManyWords.{NamesPrinter};
+
+use clap::builder::ValueParser;
+use clap::{Arg, ArgAction, ArgMatches, Command};
+use std::alloc::{AllocError, Global};
+
+/// The form of what is told of a job.
+#[derive(Clone, Copy, Debug, PartialEq, Eq)]
+pub enum Form {
+    /// A line of words and numbers.
+    Line,
+    /// A sentence.
+    Words,
+    /// An object of JSON on a line.
+    Json,
+}
+
+/// The jobs at paths, or under the names that a file has, each for all printers that words and the
+/// files of fleets name, or where `is_each` is set for each of them by itself.
+#[derive(Drop)]
+pub struct ManyWords<'a> {
+    pub jobs: Vec<&'a str>,
+    /// The file of names, each ended by a zero byte.
+    pub names_from: Option<&'a str>,
+    pub printers: Vec<&'a str>,
+    pub fleets: Vec<&'a str>,
+    pub is_each: bool,
+    /// A FAIL counts as a PASS.
+    pub exit_zero: bool,
+    pub form: Form,
+    /// A FAIL gets its explanation.
+    pub explains: bool,
+}
+
+/// The words of the forms.
+const FORMS: &[&str] = &["line", "words", "json"];
+
+/// Adds the options of a check of many jobs to those of a command.
+pub(crate) fn with_many_options<'a>(
+    alloc: Global,
+    command: Command<'a>,
+) -> Result<Command<'a>, AllocError> {
+    command
+        .arg(printer(alloc))?
+        .arg(fleet(alloc))?
+        .arg(names(alloc)?)?
+        .arg(each(alloc))?
+        .arg(format(alloc))?
+        .arg(explain(alloc))?
+        .arg(exit_zero(alloc))
+}
+
+fn printer<'a>(alloc: Global) -> Arg<'a> {
+    Arg::new(alloc, "PRINTER")
+        .short('p')
+        .long("printer")
+        .value_name("PROFILE")
+        .action(ArgAction::Append)
+        .help("A printer; with it every word is a job. May come often")
+}
+
+fn fleet<'a>(alloc: Global) -> Arg<'a> {
+    Arg::new(alloc, "FLEET")
+        .short('f')
+        .long("fleet")
+        .value_name("FILE")
+        .action(ArgAction::Append)
+        .help("A text with a profile a line; as -p, and behind those of -p")
+}
+
+fn names<'a>(alloc: Global) -> Result<Arg<'a>, AllocError> {
+    Arg::new(alloc, "NAMES")
+        .long("files0-from")
+        .value_name("FILE")
+        .action(ArgAction::Set)
+        .help("The paths of the jobs, each ended by a zero byte; - is standard input")
+        .conflicts_with("JOB")
+}
+
+fn each<'a>(alloc: Global) -> Arg<'a> {
+    Arg::new(alloc, "EACH")
+        .long("each")
+        .action(ArgAction::SetTrue)
+        .help("A line for each printer, with its own verdict")
+}
+
+fn format<'a>(alloc: Global) -> Arg<'a> {
+    Arg::new(alloc, "FORM")
+        .long("format")
+        .action(ArgAction::Set)
+        .value_parser(ValueParser::Names(FORMS))
+        .help("What is told of a job: a line, a sentence or an object of JSON")
+}
+
+fn explain<'a>(alloc: Global) -> Arg<'a> {
+    Arg::new(alloc, "EXPLAIN")
+        .long("explain")
+        .action(ArgAction::SetTrue)
+        .help("Tells of each FAIL what 'pclcheck explain' tells of its number, too")
+}
+
+fn exit_zero<'a>(alloc: Global) -> Arg<'a> {
+    Arg::new(alloc, "ZERO")
+        .long("exit-zero")
+        .action(ArgAction::SetTrue)
+        .help("Ends with 0 where a job fails, too")
+}
+
+/// Whether the words ask for more than one job for all of its printers together.
+pub(crate) fn asks_for_many(found: &ArgMatches<'_>) -> bool {
+    names_printers(found)
+        || found.contains_id("FORM")
+        || ["EACH", "EXPLAIN", "ZERO"]
+            .iter()
+            .any(|option| found.get_flag(option))
+}
+
+/// Whether printers come by options, so that every word is a job.
+fn names_printers(found: &ArgMatches<'_>) -> bool {
+    found.contains_id("PRINTER") || found.contains_id("FLEET")
+}
+
+/// What words ask for that ask for many, or nothing where they name no printer.
+pub(crate) fn read_many<'a>(
+    alloc: Global,
+    found: &ArgMatches<'a>,
+) -> Result<Option<ManyWords<'a>>, AllocError>
+    ensures { IfOk result (λ many. IfSome many NamesPrinter) }
+{
+    let mut jobs = Vec::new(alloc);
+    let mut printers = Vec::new(alloc);
+    if let Some(job) = found.get_str("JOB") {
+        jobs.push(job)?;
+    }
+    let words = found.get_strs("PROFILE").unwrap_or(&[]);
+    if names_printers(found) {
+        jobs.extend_from_slice(words)?;
+        printers.extend_from_slice(found.get_strs("PRINTER").unwrap_or(&[]))?;
+    } else {
+        printers.extend_from_slice(words)?;
+    }
+    let mut fleets = Vec::new(alloc);
+    fleets.extend_from_slice(found.get_strs("FLEET").unwrap_or(&[]))?;
+    if printers.is_empty() && fleets.is_empty() {
+        return Ok(None);
+    }
+    Ok(Some(ManyWords {
+        jobs,
+        names_from: found.get_str("NAMES"),
+        printers,
+        fleets,
+        is_each: found.get_flag("EACH"),
+        exit_zero: found.get_flag("ZERO"),
+        form: form_of(found.get_str("FORM")),
+        explains: found.get_flag("EXPLAIN"),
+    }))
+}
+
+/// The form of a word; without one it is a line.
+fn form_of(word: Option<&str>) -> Form {
+    match word {
+        Some("words") => Form::Words,
+        Some("json") => Form::Json,
+        _ => Form::Line,
+    }
+}

@@ -1,0 +1,97 @@
+-- What is left of a check of many jobs. Nothing is known of files beforehand, so this is said for some texts of them.
+use Rattle.std.specs.Prelude.{◌≡◌, ◌⊎◌, ◌≤◌, ◌++◌, ℕ, Bool, List, [], length, map, option_map, Contains, IsFalse, Option, None, Some, if◌then◌else◌}
+use Rattle.std.specs.declared.alloc.Global.{Global}
+use Rattle.command_line.specs.declared.many_words.Form.{Form}
+use Rattle.command_line.specs.declared.many_words.Form.TheVariants.{Line as LineForm, Words as WordsForm, Json as JsonForm}
+use Rattle.command_line.specs.declared.many_words.ManyWords.{ManyWords}
+use Rattle.preflight.specs.declared.error.Error.TheVariants.{Memory}
+use Rattle.streams.specs.Files.{no_source}
+use Rattle.streams.specs.Outlet.{OutletState}
+use Rattle.streams.specs.Source.{SourceState}
+use Rattle.subcommands.specs.CheckMany.{Asked, LeavesMany}
+use Rattle.subcommands.specs.FleetFile.{TellsOfFleet, TellsOfNames}
+use Rattle.subcommands.specs.JobChecks.{work}
+use Rattle.subcommands.specs.Telling.{HowTold}
+use Rattle.subcommands.specs.Texts.{text_named}
+use Rattle.subcommands.specs.declared.status.Status.{Status}
+use Rattle.subcommands.specs.declared.status.Status.TheVariants.{Stopped}
+use Rattle.subcommands.specs.declared.telling.Format.{Format}
+use Rattle.subcommands.specs.declared.telling.Format.TheVariants.{Line, Words, Json}
+use Rattle.pclcheck.specs.Inputs.{RefusesInput, reads_input_again}
+use Rattle.pclcheck.specs.Names.{names_in}
+
+-- ---- what is asked for
+
+-- by the words: the jobs, the file of their names, the printers, the fleets, whether each printer is told of by itself, the form, the
+-- explanations of which a FAIL gets its own, and whether a FAIL counts as a PASS
+pub record Asking : Type 0 where
+  pub jobs : List (List ℕ)
+  pub names_from : Option (List ℕ)
+  pub printers : List (List ℕ)
+  pub fleets : List (List ℕ)
+  pub is_each : Bool
+  pub form : Form
+  pub explanations : List (List ℕ)
+  pub exit_zero : Bool
+
+-- these words ask for that, where these are the explanations
+abbrev pub asking : List (List ℕ) → ManyWords → Asking
+asking texts words = record {
+  jobs = map (λ word. word.now) words.jobs.items;
+  names_from = option_map (λ word. word.now) words.names_from;
+  printers = map (λ word. word.now) words.printers.items;
+  fleets = map (λ word. word.now) words.fleets.items;
+  is_each = words.is_each;
+  form = words.form;
+  explanations = if words.explains then texts else [];
+  exit_zero = words.exit_zero;
+}
+
+-- a form, in whatever memory an object is put together
+abbrev pub IsForm : Form → Format → Type 0
+IsForm LineForm format = format ≡ Line
+IsForm WordsForm format = format ≡ Words
+IsForm JsonForm format = (memory : Global) × (format ≡ Json memory)
+
+-- it is told as it is asked for
+pub record IsTelling (asking : Asking) (telling : HowTold) : Type 0 where
+  pub form : IsForm asking.form telling.format
+  pub explanations : telling.explanations ≡ asking.explanations
+  pub exit_zero : telling.exit_zero ≡ asking.exit_zero
+
+-- What is checked: the jobs of the words and then those that the bytes of the file of names have, for the printers of the words and then
+-- those that the texts of the fleets name, one at least each.
+pub record Completes (asking : Asking) (asked : Asked) : Type 0 where
+  pub names : List ℕ
+  pub of_fleets : List (List ℕ)
+  pub jobs : asked.jobs ≡ asking.jobs ++ names_in names
+  pub printers : asked.printers ≡ asking.printers ++ of_fleets
+  pub no_names : asking.names_from ≡ None → names ≡ []
+  pub no_fleets : asking.fleets ≡ [] → of_fleets ≡ []
+  pub each_fleet : length asking.fleets ≤ length of_fleets
+  pub is_each : asked.is_each ≡ asking.is_each
+  pub telling : IsTelling asking asked.telling
+
+-- ---- what is left
+
+-- The jobs are checked, where standard input is read once at most; or they are refused for what can be read only once, and no line is
+-- written.
+abbrev pub LeavesAsked : Option (List ℕ) → Asked → Status → OutletState → OutletState → OutletState → OutletState → Type 0
+LeavesAsked names_from asked status out out' err err' =
+    (IsFalse (reads_input_again names_from asked) × (ended : List SourceState)
+    × LeavesMany (map text_named asked.printers) asked (λ name. no_source) status (work out []) (work out' ended) err err')
+    ⊎ (RefusesInput names_from asked status err err' × (out' ≡ out))
+
+-- why there is nothing to check: one of these fleets is refused, or this file of names cannot be read, of which standard error is told;
+-- or there is no memory
+abbrev pub LacksSome : List (List ℕ) → Option (List ℕ) → Status → OutletState → OutletState → Type 0
+LacksSome fleets names_from status err err' =
+    ((path : List ℕ) × Contains fleets path × TellsOfFleet path status err err')
+    ⊎ (((path : List ℕ) × (names_from ≡ Some path) × TellsOfNames path status err err')
+    ⊎ ((status ≡ Stopped Memory) × (err' ≡ err)))
+
+-- what is asked for is had and checked, or some of it cannot be had, and no line is written
+abbrev pub LeavesChecks : Asking → Status → OutletState → OutletState → OutletState → OutletState → Type 0
+LeavesChecks asking status out out' err err' =
+    ((asked : Asked) × Completes asking asked × LeavesAsked asking.names_from asked status out out' err err')
+    ⊎ (LacksSome asking.fleets asking.names_from status err err' × (out' ≡ out))

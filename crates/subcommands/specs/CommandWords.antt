@@ -1,0 +1,23 @@
+-- The item that a job fails at, in words.
+use Rattle.std.specs.Prelude.{ℕ, ◌==◌, List, [], ◌∷◌, ◌++◌, codes, decimal, flat_map, if◌then◌else◌}
+use Rattle.pcl_items.specs.Canon.{canon}
+use Rattle.pcl_items.specs.Commands.{introducer_of, character_of, data_group_of, data_letter_of}
+use Rattle.pcl_items.specs.Items.{simple_view}
+use Rattle.line_words.specs.Figures.{escaped_byte}
+use Rattle.preflight.specs.declared.culprit.Culprit.{Culprit}
+use Rattle.preflight.specs.declared.culprit.Culprit.TheVariants.{Text, Simple, WithData, Line}
+
+-- a byte of a spelling: a control code by its name, any other byte as `list` writes it
+abbrev pub code_words : ℕ → List ℕ
+code_words byte =
+    if byte == 27 then codes "ESC " else
+    if byte == 13 then codes "CR" else
+    if byte == 10 then codes "LF" else
+    if byte == 12 then codes "FF" else escaped_byte byte
+
+-- an item in its one spelling, but without data; of a line only how it begins
+abbrev pub command_words : Culprit → List ℕ
+command_words (Text code) = codes "character " ++ escaped_byte code
+command_words (Simple item) = flat_map code_words (canon (simple_view item))
+command_words (WithData command count) = codes "ESC " ++ introducer_of (data_group_of command) ∷ character_of (data_group_of command) ∷ (decimal count ++ data_letter_of command ∷ [])
+command_words Line = codes "@PJL"

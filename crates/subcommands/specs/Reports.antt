@@ -1,0 +1,34 @@
+-- What is told of a job.
+use Rattle.std.specs.Prelude.{ℕ, Bool, true, false, List, Option, None, Result, Ok, Err}
+use Rattle.preflight.specs.declared.culprit.Culprit.{Culprit}
+use Rattle.preflight.specs.declared.culprit.Judgement.{Judgement}
+use Rattle.preflight.specs.declared.error.Error.{Error}
+use Rattle.verdict.specs.declared.verdict.Verdict.{Verdict}
+use Rattle.verdict.specs.declared.verdict.Verdict.TheVariants.{Pass, Fail}
+
+-- whether each printer is told of by itself, the names of the printers, the job's name, what came of the job, and what the system said
+-- of a read that failed
+pub record Reported : Type 0 where
+  pub is_each : Bool
+  pub names : List (List ℕ)
+  pub job : List ℕ
+  pub answer : Result Judgement Error
+  pub cause : Option (List ℕ)
+
+-- the answer without the item that the job fails at
+abbrev pub verdict_of : Result Judgement Error → Result Verdict Error
+verdict_of (Ok judgement) = Ok judgement.verdict
+verdict_of (Err error) = Err error
+
+-- the item that the job fails at
+abbrev pub culprit_of : Result Judgement Error → Option Culprit
+culprit_of (Ok judgement) = judgement.culprit
+culprit_of (Err error) = None
+
+-- The number of the printer that this is about: where each printer is told of by itself, the only one; else the one that the job fails
+-- for. 0 is none.
+abbrev pub number_told : Bool → Result Verdict Error → ℕ
+number_told true answer = 1
+number_told false (Ok (Fail place profile reason)) = profile
+number_told false (Ok (Pass pages marks)) = 0
+number_told false (Err error) = 0
