@@ -3,7 +3,7 @@
 import errno
 import os
 from dataclasses import replace
-from typing import Optional
+from typing import List, Optional
 
 from hostile_base import (MEMORY, NOTHING, SOME, STOPPED, WRITE, Due, Run, Shim, Tries, exactly,
                           matching, whole)
@@ -24,7 +24,7 @@ def job_of(name: str) -> Optional[bytes]:
 
 
 def unread(name: str, number: int) -> bytes:
-    return f"ERROR read {name}: {os.strerror(number)} (os error {number})\n".encode()
+    return f"ERROR read {name}: {os.strerror(number)}\n".encode()
 
 
 def line_of(name: str) -> bytes:
@@ -47,37 +47,50 @@ def put_files(tries: Tries) -> None:
     tries.put("printer", SAMPLE_B.encode())
 
 
+# Each form: its words, and how it tells of a job that there is no memory, and that it cannot be read
+# without what the system says.
+FORMS = (
+    ((), "ERROR memory {}\n", "ERROR read {}\n"),
+    (("--format=words", "--explain"), "{}: there is no memory to check this job (ERROR memory)\n",
+     "{}: this job cannot be read (ERROR read)\n"),
+    (("--format=json", "--explain"), '{{"error":"memory","job":"{}","verdict":"ERROR"}}\n',
+     '{{"error":"read","job":"{}","verdict":"ERROR"}}\n'),
+)
+
+
 def requests_refused(tries: Tries, shim: Shim) -> None:
     """Each request for memory is refused in turn, by itself and with all behind it."""
     tries.kind = "many jobs, memory refused"
     if shim.missing:
         tries.skip("requests for memory that are refused", shim.missing)
         return
-    told = 0
-    for way in ({}, {"on": 1}):
-        for number in range(1, 5000):
-            run = shim.run(ASKED, request=number, **way)
-            if shim.marks < 2:
-                break
-            wants = [line for line in run.output.splitlines() if line.startswith(b"ERROR memory")]
-            told += len(wants)
-            tries.require(is_right_without(run), f"request {number}{' and on' if way else ''}",
-                          f"status {run.status}, output {run.output!r}, errors {run.errors!r}")
-    tries.require(told > 1, "lines that tell it", f"{told}")
+    for form, *instead in FORMS:
+        texts = [tries.run(["check", *PRINTERS, *form, name]).output for name in NAMES]
+        others = [[told.format(name).encode() for told in instead[:2 if name == "gone" else 1]]
+                  for name in NAMES]
+        told = 0
+        for way in ({}, {"on": 1}):
+            for number in range(1, 5000):
+                run = shim.run([*ASKED, *form], request=number, **way)
+                if shim.marks < 2:
+                    break
+                told += run.output != b"".join(texts) and not run.errors
+                tries.require(is_right_without(run, texts, others),
+                              f"{form} request {number}{' and on' if way else ''}",
+                              f"status {run.status}, output {run.output!r}, errors {run.errors!r}")
+        tries.require(told > 1, f"{form} jobs that tell it", f"{told}")
 
 
-def is_right_without(run: Run) -> bool:
-    """Whether a run is right that was refused a request: it stopped behind whole lines that are
-    due, or one of its lines tells the refusal, or lacks what the system says."""
-    lines = run.output.splitlines(keepends=True)
+def is_right_without(run: Run, texts: List[bytes], others: List[List[bytes]]) -> bool:
+    """Whether a run is right that was refused a request: it stopped behind whole texts that are due,
+    or one of its jobs tells the refusal, or lacks what the system says."""
     if run.status != STOPPED or run.errors not in (b"", MEMORY):
         return False
     if run.errors == MEMORY:
-        return lines == LINES[:len(lines)]
-    others = [(line, due, name) for line, due, name in zip(lines, LINES, NAMES) if line != due]
-    return len(lines) == len(LINES) and len(others) <= 1 and all(
-        line in (f"ERROR memory {name}\n".encode(), due.split(b": ")[0] + b"\n")
-        for line, due, name in others)
+        return any(run.output == b"".join(texts[:count]) for count in range(len(texts)))
+    return run.output == b"".join(texts) or any(
+        run.output == b"".join([*texts[:place], other, *texts[place + 1:]])
+        for place in range(len(texts)) for other in others[place])
 
 
 def reads_that_fail(tries: Tries, shim: Shim) -> None:
@@ -129,6 +142,11 @@ def streams(tries: Tries) -> None:
         with open(tries.path("input"), "rb") as file:
             tries.try_(f"input twice, {words}", ["check", *PRINTERS, *words],
                        Due((2,), errors=SOME), stdin=file)
+    tries.remove("fifo")
+    os.mkfifo(tries.path("fifo"))
+    for job in ("fifo", "/dev/stdin", "/dev/null"):
+        tries.try_(f"read again, {job}", ["check", *PRINTERS, "--each", "good", job],
+                   Due((2,), errors=SOME))
 
 
 def files_are_closed(tries: Tries) -> None:

@@ -11,6 +11,8 @@ PARTS = (b"job", b"4711", b".pcl", b" ", b"  ", b"'", b'"', b"\n", b"\r", b"\t",
          b"\x01", b"\x1b[31m", b"printer=B", "ä".encode(), "漢字".encode(), "\u2028".encode(),
          b"\xff", b"\xc3")
 TEXT_PARTS = PARTS[:-2]
+# What makes the name of a job too long for a sentence, where it is shown.
+LONG = "漢字".encode() * 30
 PROFILE_NAMES = ("p%d.profile", "front desk %d", "Büro %d.profile", "it's\\%d", "%d\u00a0x", "%d")
 
 
@@ -18,6 +20,8 @@ def random_name(random: Random, is_path: bool = True) -> bytes:
     """A name of a file; one in twenty is no UTF-8. It may begin as an option does."""
     parts = PARTS if is_path and random.random() < 0.05 else TEXT_PARTS
     name = b"".join(random.choice(parts) for _ in range(random.randint(1, 5)))
+    if random.random() < 0.05:
+        name += LONG
     return name if name != b"-" else b"--"
 
 
@@ -30,6 +34,12 @@ def escaped(name: bytes) -> bytes:
 def unescaped(shown: bytes) -> bytes:
     """The name that a line shows."""
     return re.sub(rb"\\x([0-9a-f]{2})", lambda found: bytes([int(found[1], 16)]), shown)
+
+
+def undone(text: str) -> bytes:
+    """The name that the text of an object stands for."""
+    return re.sub(rb"\\(?:x([0-9a-f]{2})|\\)", lambda found: b"\\" if found[1] is None
+                  else bytes([int(found[1], 16)]), text.encode())
 
 
 def fleet_text(random: Random, path: str, printers: List[str], folder: str) -> Tuple[bytes,

@@ -21,7 +21,8 @@ DOCUMENTS = ("README.md", "examples/README.md")
 # Lines that say where the sessions are given, and what the word `pclcheck` is there.
 SETTING = re.compile(r"cd examples$|alias pclcheck=")
 
-GONE = "No such file or directory (os error 2)"
+GONE = "No such file or directory"
+INPUT_AGAIN = "error: standard input can be read only once; --each reads a job for each printer\n"
 # Words, exit status, standard output, standard error.
 STORED = (
     ("check ruled_form.pcl @B", 0, "PASS pages=2 marks=36\n", ""),
@@ -49,8 +50,23 @@ STORED = (
     ("check -f gone.fleet ruled_form.pcl", 2, "", f"ERROR read fleet gone.fleet: {GONE}\n"),
     ("check -f empty.pcl ruled_form.pcl", 2, "", "ERROR fleet empty.pcl: names no printer\n"),
     ("check -p @B --files0-from gone", 3, "", f"ERROR read names gone: {GONE}\n"),
-    ("check --each -p @A -p @B -", 2, "",
-     "error: standard input can be read only once; --each reads a job for each printer\n"),
+    ("check --each -p @A -p @B -", 2, "", INPUT_AGAIN),
+    ("check -p @B - ruled_form.pcl -", 2, "", INPUT_AGAIN),
+    ("check -p @B --each /dev/null", 0, "PASS pages=0 marks=0 printer=B /dev/null\n", ""),
+    ("check -p @A -p @B --each ruled_form.pcl /dev/null", 2, "",
+     "error: a job that is no file can be read only once; --each reads it for each printer\n"),
+    ("check --format words ruled_form.pcl @B", 0,
+     "ruled_form.pcl: each printer prints this job (pages=2 marks=36)\n", ""),
+    ("check --format json --each -p @B gone.pcl ruled_form.pcl", 3,
+     '{"cause":"No such file or directory","error":"read","job":"gone.pcl","printer":"B",'
+     '"verdict":"ERROR"}\n'
+     '{"job":"ruled_form.pcl","marks":36,"pages":2,"printer":"B","verdict":"PASS"}\n', ""),
+    ("check --format words -p invoice.pcl ruled_form.pcl", 2, "",
+     "invoice.pcl: line 1: this is neither 'pclprofile 1' nor 'pclprofile 2' "
+     "(ERROR profile 1 Version)\n"),
+    ("check --format xml ruled_form.pcl @B", 2, "",
+     "error: invalid value 'xml' for '--format <FORM>'\n"
+     "  [possible values: line, words, json]\n\nFor more information, try '--help'.\n"),
     ("list short.pcl", 0, "0 \\x1bE\n2 A\n3 \\x1b&l2A\n8 \\x0c\n", ""),
     ("list faulty.pcl", 1, "0 A\n1 FAULT 3 NotInProfile(Q)\n", ""),
     ("list gone.pcl", 3, "", "ERROR read\n"),

@@ -1,0 +1,118 @@
+"""The lines, sentences and objects of jobs, against what is due of them."""
+
+import json
+import re
+from typing import Dict, List, Optional, Tuple
+
+from many_due import Told
+from many_names import escaped, undone, unescaped
+
+MOST_OF_NAME, MOST_OF_CAUSE, MOST = 500, 200, 1000
+PLAIN = re.compile(rb"[ -~]*")
+# A sentence behind the name: the item that a job fails at, and what is wrong in words.
+REFUSED = re.compile(rb" refuses this job at byte (\d+)(?:, ([ -~]+))?: ([^:]+) \(([^:]+)\)")
+# What is missing of a sentence or an object that is not as it should be.
+NO_COMMAND = "?"
+
+
+def line_differs(told: Told, line: bytes) -> bool:
+    """Whether a line is not that of a job, by the name that its escapes stand for."""
+    head, tail = told.head() + b" ", told.tail()
+    if not (line.startswith(head) and line.endswith(tail) and PLAIN.fullmatch(line)):
+        return True
+    return unescaped(line[len(head):len(line) - len(tail)]) != told.job
+
+
+def cut(text: bytes, most: int) -> bytes:
+    """The last so many bytes of a text, behind points."""
+    return text if len(text) <= most else b"..." + text[-most:]
+
+
+def phrase(told: Told) -> Tuple[bytes, bytes]:
+    """What stands behind the name in the sentence of a job, up to the item that it fails at, and
+    behind what is wrong in words."""
+    subject = told.printer or b"each printer"
+    if told.verdict == "PASS":
+        return subject + b" prints this job (pages=%d marks=%d)" % (told.pages, told.marks), b""
+    if told.verdict == "FAIL":
+        return subject + b" refuses this job at byte %d" % told.at, b" (%s)" % told.reason()
+    printer = b" for " + told.printer if told.printer else b""
+    cause = escaped(told.cause)
+    cause = cause if len(cause) <= MOST_OF_CAUSE else cause[:MOST_OF_CAUSE] + b"..."
+    return b"this job cannot be read" + printer + b": " + cause, b" (ERROR read)"
+
+
+def sentence_differs(told: Told, line: bytes) -> bool:
+    """Whether a line is not the sentence of a job."""
+    head, tail = phrase(told)
+    front = cut(escaped(told.job), MOST_OF_NAME) + b": " + head
+    if not (line.startswith(front) and line.endswith(tail) and PLAIN.fullmatch(line)):
+        return True
+    between = line[len(front):len(line) - len(tail)]
+    is_bare = told.verdict != "FAIL"
+    return len(line) > MOST or bool(between) == is_bare
+
+
+def command_of(told: Told, line: bytes) -> Optional[str]:
+    """The item that a job fails at, by its sentence."""
+    found = REFUSED.search(line, len(cut(escaped(told.job), MOST_OF_NAME)))
+    if found is None:
+        return NO_COMMAND if told.verdict == "FAIL" else None
+    return found[2].decode() if found[2] is not None else None
+
+
+def members(line: bytes) -> Dict[str, object]:
+    """The members of an object, which stand in the order of their names and close together."""
+    found = json.loads(line)
+    written = json.dumps(found, ensure_ascii=False, separators=(",", ":"), sort_keys=True)
+    return found if written.encode() == line else {}
+
+
+def due_members(told: Told, explanation: bytes) -> Dict[str, object]:
+    """The members of the object of a job, but its name and the item that it fails at."""
+    due = {"verdict": told.verdict}
+    if told.printer:
+        due["printer"] = told.printer.decode()
+    if told.verdict == "PASS":
+        due.update(pages=told.pages, marks=told.marks)
+    elif told.verdict == "FAIL":
+        due.update(at=told.at, profile=told.profile, code=told.code,
+                   finding=told.finding.decode())
+        due.update({"field": told.field.decode()} if told.field else {})
+        due.update({"explanation": explanation.decode()} if explanation else {})
+    else:
+        due.update(error="read", cause=told.cause.decode().replace("\\", "\\\\"))
+    return due
+
+
+def object_differs(told: Told, line: bytes, explanation: bytes) -> bool:
+    """Whether a line is not the object of a job."""
+    try:
+        found = members(line)
+    except ValueError:
+        return True
+    found.pop("command", None)
+    name = found.pop("job", None)
+    return not isinstance(name, str) or undone(name) != told.job \
+        or found != due_members(told, explanation)
+
+
+def command_in(line: bytes) -> Optional[str]:
+    """The item that a job fails at, by its object."""
+    try:
+        return members(line).get("command")
+    except ValueError:
+        return NO_COMMAND
+
+
+def cut_lines(output: bytes, due: List[Told], below: Dict[int, bytes]) -> List[bytes]:
+    """The lines of jobs, of each that fails without the explanation that stands below it."""
+    lines = []
+    for told in due:
+        line, end, output = output.partition(b"\n")
+        explanation = below.get(told.code, b"") if told.verdict == "FAIL" else b""
+        if not end or not output.startswith(explanation):
+            break
+        lines.append(line)
+        output = output[len(explanation):]
+    return lines + [output] if output else lines
