@@ -20,6 +20,8 @@ mod kept_texts;
 #[cfg(test)]
 mod lines;
 #[cfg(test)]
+mod many_forms;
+#[cfg(test)]
 mod many_jobs;
 #[cfg(test)]
 mod overwriting;

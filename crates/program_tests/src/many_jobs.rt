@@ -48,7 +48,7 @@ fn texts(moved: &[u8]) -> [Named<'_>; 5] {
 const MOVED: &[u8] = b"geometry 2 0 61200 79200 1860 0 57600 79200 1200 1200 60000 78000";
 
 /// A printer without duplex, with one tray and one face.
-const EXPORT: &[u8] = b"\
+pub const EXPORT: &[u8] = b"\
 pclprofile 1
 name export-desk
 size 2
@@ -256,7 +256,7 @@ fn asked<'w, 'n>(printers: &'w [&'w str], jobs: &'w [&'n [u8]], mode: Mode) -> M
 }
 
 /// Runs `check`, and tells how it ended. It alone meets the clauses of that call.
-fn status_of<H: Allocator + Copy, O: Outlet, E: Outlet>(
+pub fn status_of<H: Allocator + Copy, O: Outlet, E: Outlet>(
     heap: H,
     texts: &mut KeptTexts,
     asked: &ManyJobs<'_, '_>,
