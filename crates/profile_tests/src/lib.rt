@@ -2,6 +2,8 @@
 #![tactic(auto)]
 
 #[cfg(test)]
+mod model_texts;
+#[cfg(test)]
 mod profile_texts;
 #[cfg(test)]
 mod profiles;

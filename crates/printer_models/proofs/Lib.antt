@@ -1,0 +1,2 @@
+pub mod NotDifferent
+pub mod SamePages

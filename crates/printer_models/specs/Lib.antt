@@ -1,0 +1,9 @@
+pub mod Paper
+pub mod Page
+pub mod Face
+pub mod Model
+pub mod Panel
+pub mod Describes
+pub mod Asked
+pub mod Listing
+pub mod NewText

@@ -1,0 +1,388 @@
+//! The resident faces of a generation of printers.
+ghost use Rattle.std.specs.Prelude.{◌≡◌, ◌++◌, IfOk, OnOk};
+ghost use Rattle.printer_models.specs.Face.{codes_in, courier, faces_of, in_sets, metrics, metrics_of, oldest_sets, panel_sets, request_of, set_of, style_of, symbol_set_of, text_sets, typeface_number, usual_sets, weight_of};
+
+use device_profile::{CodeRange, FontRequest, SymbolSet};
+use std::alloc::{AllocError, Allocator};
+
+/// A symbol set.
+#[derive(Clone, Copy, Debug, PartialEq, Eq)]
+pub enum CharacterSet {
+    /// 8U.
+    Roman8,
+    /// 10U.
+    Pc8,
+    /// 12U.
+    Pc850,
+    /// 0N, ISO 8859-1.
+    Latin1,
+    /// 19U, Windows 3.1 Latin 1.
+    Windows,
+    /// 0U.
+    Ascii,
+}
+
+/// A pitch and a height.
+#[derive(Clone, Copy, Debug, PartialEq, Eq)]
+pub enum Cut {
+    /// 10 characters an inch, 12 points.
+    Ten,
+    /// 12 characters an inch, 10 points.
+    Twelve,
+    /// 12 characters an inch, 12 points.
+    Elite,
+    /// 16.67 characters an inch, 8.5 points.
+    Small,
+    /// The same by the pitch that the oldest printers have for it, 16.66.
+    OldSmall,
+}
+
+/// How the letters stand.
+#[derive(Clone, Copy, Debug, PartialEq, Eq)]
+pub enum Look {
+    /// Upright, of medium weight.
+    Medium,
+    /// Upright and bold.
+    Bold,
+    /// Italic, of medium weight.
+    Italic,
+}
+
+/// A design, by the number that selects it: Courier and Letter Gothic have two each.
+#[derive(Clone, Copy, Debug, PartialEq, Eq)]
+pub enum Typeface {
+    Courier,
+    BaseCourier,
+    LinePrinter,
+    LetterGothic,
+    BaseLetterGothic,
+}
+
+/// What a pitch and a height are, and how their characters lie.
+#[derive(Clone, Copy, Debug, PartialEq, Eq)]
+pub struct Metrics {
+    /// In ten-thousandths of a character an inch.
+    pub pitch: u32,
+    /// In ten-thousandths of a point.
+    pub height: u32,
+    /// How far a character moves the cursor, in 7200ths of an inch.
+    pub advance: u32,
+    /// How far it reaches above the baseline.
+    pub ascent: u32,
+    /// How far it reaches below the baseline.
+    pub descent: u32,
+}
+
+/// A resident face.
+#[derive(Clone, Copy, Debug, PartialEq, Eq)]
+pub struct FaceRow {
+    pub set: CharacterSet,
+    pub cut: Cut,
+    pub look: Look,
+    pub typeface: Typeface,
+}
+
+/// Printers that have the same faces in the same order.
+#[derive(Clone, Copy, Debug, PartialEq, Eq)]
+pub enum Generation {
+    /// The LaserJet 4 and 4 Plus: the panel has Roman-8 at the factory.
+    LaserJet4,
+    /// From the LaserJet 5 on: it has PC-8.
+    LaserJet5,
+}
+
+/// The sets that text is in.
+const TEXT_SETS: &[CharacterSet] = &[
+    CharacterSet::Roman8,
+    CharacterSet::Pc8,
+    CharacterSet::Latin1,
+    CharacterSet::Windows,
+    CharacterSet::Pc850,
+];
+
+const USUAL_SETS: &[CharacterSet] = &[
+    CharacterSet::Roman8,
+    CharacterSet::Pc8,
+    CharacterSet::Windows,
+];
+
+const OLDEST_SETS: &[CharacterSet] = &[CharacterSet::Roman8, CharacterSet::Pc8];
+
+/// Those that Courier has under its base number behind the panel's.
+const OTHER_SETS: &[CharacterSet] = &[
+    CharacterSet::Latin1,
+    CharacterSet::Windows,
+    CharacterSet::Pc850,
+    CharacterSet::Ascii,
+];
+
+const ALL_SETS: &[CharacterSet] = &[
+    CharacterSet::Roman8,
+    CharacterSet::Pc8,
+    CharacterSet::Latin1,
+    CharacterSet::Windows,
+    CharacterSet::Pc850,
+    CharacterSet::Ascii,
+];
+
+const LINE_PRINTER_SETS: &[CharacterSet] = &[
+    CharacterSet::Roman8,
+    CharacterSet::Pc8,
+    CharacterSet::Latin1,
+    CharacterSet::Pc850,
+];
+
+impl CharacterSet {
+    /// The set as `ESC (` names it.
+    pub fn symbol_set(self) -> SymbolSet
+        ensures { result ≡ symbol_set_of self }
+    {
+        match self {
+            CharacterSet::Roman8 => symbol_set(8, b'U'),
+            CharacterSet::Pc8 => symbol_set(10, b'U'),
+            CharacterSet::Pc850 => symbol_set(12, b'U'),
+            CharacterSet::Latin1 => symbol_set(0, b'N'),
+            CharacterSet::Windows => symbol_set(19, b'U'),
+            CharacterSet::Ascii => symbol_set(0, b'U'),
+        }
+    }
+
+    /// The codes that print.
+    pub fn codes(self) -> &'static [CodeRange]
+        ensures { result.now ≡ codes_in self }
+    {
+        match self {
+            CharacterSet::Roman8 => ROMAN_8_CODES,
+            CharacterSet::Pc8 | CharacterSet::Pc850 => PC_CODES,
+            CharacterSet::Latin1 => LATIN_1_CODES,
+            CharacterSet::Windows => WINDOWS_CODES,
+            CharacterSet::Ascii => ASCII_CODES,
+        }
+    }
+}
+
+/// The set of a number and a letter.
+fn symbol_set(number: u8, letter: u8) -> SymbolSet
+    ensures { result ≡ set_of number letter }
+{
+    SymbolSet {
+        number: u32::from(number) * 10_000,
+        letter,
+    }
+}
+
+const ASCII: CodeRange = CodeRange {
+    first: 33,
+    last: 126,
+};
+
+const ASCII_CODES: &[CodeRange] = &[ASCII];
+
+const ROMAN_8_CODES: &[CodeRange] = &[
+    ASCII,
+    CodeRange {
+        first: 161,
+        last: 254,
+    },
+];
+
+const PC_CODES: &[CodeRange] = &[
+    ASCII,
+    CodeRange {
+        first: 128,
+        last: 254,
+    },
+];
+
+const LATIN_1_CODES: &[CodeRange] = &[
+    ASCII,
+    CodeRange {
+        first: 161,
+        last: 255,
+    },
+];
+
+const WINDOWS_CODES: &[CodeRange] = &[
+    ASCII,
+    CodeRange {
+        first: 130,
+        last: 140,
+    },
+    CodeRange {
+        first: 145,
+        last: 156,
+    },
+    CodeRange {
+        first: 159,
+        last: 159,
+    },
+    CodeRange {
+        first: 161,
+        last: 255,
+    },
+];
+
+impl Cut {
+    /// What the pitch and the height are, and how the characters lie.
+    pub fn metrics(self) -> Metrics
+        ensures { result ≡ metrics_of self }
+    {
+        match self {
+            Cut::Ten => Metrics::new(100_000, 120_000, 720, 900, 300),
+            Cut::Twelve => Metrics::new(120_000, 100_000, 600, 750, 250),
+            Cut::Elite => Metrics::new(120_000, 120_000, 600, 900, 300),
+            Cut::Small => Metrics::new(166_700, 85_000, 432, 638, 213),
+            Cut::OldSmall => Metrics::new(166_600, 85_000, 432, 638, 213),
+        }
+    }
+}
+
+impl Metrics {
+    fn new(pitch: u32, height: u32, advance: u32, ascent: u32, descent: u32) -> Metrics
+        ensures { result ≡ metrics pitch height advance ascent descent }
+    {
+        Metrics {
+            pitch,
+            height,
+            advance,
+            ascent,
+            descent,
+        }
+    }
+}
+
+impl Look {
+    /// The style, as `ESC (s#S` numbers it.
+    pub fn style(self) -> u8
+        ensures { result ≡ style_of self }
+    {
+        match self {
+            Look::Medium | Look::Bold => 0,
+            Look::Italic => 1,
+        }
+    }
+
+    /// The stroke weight, as `ESC (s#B` numbers it.
+    pub fn weight(self) -> u8
+        ensures { result ≡ weight_of self }
+    {
+        match self {
+            Look::Medium | Look::Italic => 0,
+            Look::Bold => 3,
+        }
+    }
+}
+
+impl Typeface {
+    /// The typeface, as `ESC (s#T` numbers it.
+    pub fn number(self) -> u16
+        ensures { result ≡ typeface_number self }
+    {
+        match self {
+            Typeface::Courier => 4_099,
+            Typeface::BaseCourier => 3,
+            Typeface::LinePrinter => 0,
+            Typeface::LetterGothic => 4_102,
+            Typeface::BaseLetterGothic => 6,
+        }
+    }
+}
+
+impl FaceRow {
+    /// What selects the face.
+    pub fn request(self) -> FontRequest
+        ensures { result ≡ request_of self }
+    {
+        let metrics = self.cut.metrics();
+        FontRequest {
+            symbol_set: self.set.symbol_set(),
+            spacing: 0,
+            pitch: metrics.pitch,
+            height: metrics.height,
+            style: u32::from(self.look.style()) * 10_000,
+            weight: i32::from(self.look.weight()) * 10_000,
+            typeface: u32::from(self.typeface.number()) * 10_000,
+        }
+    }
+}
+
+impl Generation {
+    /// The set that the panel has at the factory, and the one that it had in the other generation.
+    fn panel_sets(self) -> &'static [CharacterSet]
+        ensures { result.now ≡ panel_sets self }
+    {
+        match self {
+            Generation::LaserJet4 => OLDEST_SETS,
+            Generation::LaserJet5 => &[CharacterSet::Pc8, CharacterSet::Roman8],
+        }
+    }
+}
+
+/// The faces of a generation, in the order of their ids, which count from 1.
+#[tactic(auto, unfolding(crate::specs::Face::faces_of))]
+pub fn faces_of<A: Allocator>(
+    alloc: A,
+    generation: Generation,
+) -> Result<Vec<FaceRow, A>, AllocError>
+    ensures { IfOk result (λ faces. faces.items ≡ faces_of generation) }
+{
+    use Cut::{Elite, OldSmall, Small, Ten, Twelve};
+    use Look::{Bold, Italic, Medium};
+    use Typeface::{BaseCourier, BaseLetterGothic, Courier, LetterGothic, LinePrinter};
+
+    let mut faces = Vec::new(alloc);
+    push(
+        &mut faces,
+        Ten,
+        Medium,
+        BaseCourier,
+        generation.panel_sets(),
+    )?;
+    push(&mut faces, Ten, Medium, BaseCourier, OTHER_SETS)?;
+    push(&mut faces, Ten, Medium, Courier, ALL_SETS)?;
+    push_courier(&mut faces, Ten, Bold, TEXT_SETS)?;
+    push_courier(&mut faces, Twelve, Medium, TEXT_SETS)?;
+    push_courier(&mut faces, Ten, Italic, USUAL_SETS)?;
+    push_courier(&mut faces, Twelve, Bold, USUAL_SETS)?;
+    push(&mut faces, Small, Medium, LinePrinter, LINE_PRINTER_SETS)?;
+    push(&mut faces, OldSmall, Medium, LinePrinter, OLDEST_SETS)?;
+    push(&mut faces, Elite, Medium, LetterGothic, TEXT_SETS)?;
+    push(&mut faces, Elite, Bold, LetterGothic, OLDEST_SETS)?;
+    push(&mut faces, Elite, Medium, BaseLetterGothic, OLDEST_SETS)?;
+    Ok(faces)
+}
+
+/// Appends Courier under both of its numbers, in these sets.
+fn push_courier<A: Allocator>(
+    faces: &mut Vec<FaceRow, A>,
+    cut: Cut,
+    look: Look,
+    sets: &[CharacterSet],
+) -> Result<(), AllocError>
+    ensures { OnOk result (faces.new.items ≡ faces.old.items ++ courier cut look sets.now) }
+{
+    push(faces, cut, look, Typeface::Courier, sets)?;
+    push(faces, cut, look, Typeface::BaseCourier, sets)
+}
+
+/// Appends a face in each of these sets.
+fn push<A: Allocator>(
+    faces: &mut Vec<FaceRow, A>,
+    cut: Cut,
+    look: Look,
+    typeface: Typeface,
+    sets: &[CharacterSet],
+) -> Result<(), AllocError>
+    ensures { OnOk result
+        (faces.new.items ≡ faces.old.items ++ in_sets cut look typeface sets.now) }
+{
+    for set in sets {
+        faces.push(FaceRow {
+            set: *set,
+            cut,
+            look,
+            typeface,
+        })?;
+    }
+    Ok(())
+}

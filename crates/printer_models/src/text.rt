@@ -1,0 +1,281 @@
+//! Making the text of a model's profile.
+
+use crate::comparison::{DEPTH, FIELDS};
+use crate::face::{CharacterSet, FaceRow, Generation, faces_of};
+use crate::model::{Model, ModelRow};
+use crate::page::{ORIENTATIONS, page_numbers};
+use crate::panel_lists::{PanelLists, panel_values};
+use crate::paper::Paper;
+use device_profile::Field;
+use itoa::{Buffer, Integer};
+use std::alloc::{AllocError, Allocator};
+
+/// The text of the profile of a model, with these papers and a panel of these lists.
+pub(crate) fn profile_text<A: Allocator + Copy>(
+    alloc: A,
+    model: Model,
+    papers: &[Paper],
+    lists: PanelLists,
+) -> Result<Vec<u8, A>, AllocError> {
+    let row = model.row();
+    let mut text = Vec::new(alloc);
+    push_comments(&mut text, &row, lists)?;
+    push_panel(&mut text, alloc, model, papers, lists)?;
+    push_device(&mut text, &row)?;
+    for paper in papers {
+        push_pages(&mut text, *paper)?;
+    }
+    push_faces(&mut text, alloc, row.generation)?;
+    Ok(text)
+}
+
+/// What a profile is from, up to what tells the papers.
+const ORIGIN: &str = "\
+# DRAFT: no number of it was measured at a printer.
+#
+# What it is from:
+#   geometry: the table of pages of HP's PCL 5 manual, written from memory. One rule gives it: a
+#   page is its paper in whole dots of 1/300 inch, A4 as 2480 x 3507. The logical page is as high
+#   as the paper and lies 75 dots inside both side edges, 71 on metric paper, in landscape 60 and
+#   59. The printable area lies 50 dots inside each edge.
+#   face: what is usual from the LaserJet 4 on. A letter's box is 7200/pitch wide, 3/4 of the
+#   letter's size high and 1/4 deep: give it alike in all profiles, or their letters differ (33).
+";
+
+/// What is to be checked, up to the trays.
+const CHECKS: &str = ".
+#
+# What to check at the printer, and how:
+#   Print the configuration page, the menu map and the PCL font list at its panel, or ask it
+#   '@PJL INFO VARIABLES'. The language has to be PCL or automatic; CR is not added to LF; edge to
+#   edge and A4 for letter are off.
+#   geometry: print text of 80 columns, 10 to the inch, on A4 in portrait. 77 fit; where more do,
+#   the panel has 'wide A4' on, and the A4 rows are wrong. Lay a ruler on rules that begin at the
+#   edges: the outer 1/6 inch stays white.
+#   face: compare symbol sets, pitches and heights with the font list; take out what it lacks.
+#   vmi: measure ten lines of a page that sets nothing: 8 is 10/6 inch, 6 is 10/8 inch (on letter
+#   paper 60 and 80 form lines).
+#   duplex: whether this very printer has it. depth: the manual allows two levels. memory: a
+#   guess.
+#   tray: it stands for what the printer takes by itself; give it alike in all profiles of a
+#   fleet. Where the panel takes the MP tray first, set it to the cassette, or list both.
+#   trays: ";
+
+/// What a fixed panel means.
+const FIXED: &str = "\
+#
+# Each list from size to tray has one value: it promises that the panel stands so, and that nobody
+#   changes it. Where people do, 'pclcheck profile new --panel free' lists what they may choose.
+";
+
+/// What a free panel means.
+const FREE: &str = "\
+#
+# The lists from size to tray have what people may choose, the usual value first. A job has to set
+#   what a list leaves open. Take out what nobody chooses at this printer.
+";
+
+/// Appends the first line and the comments.
+fn push_comments<A: Allocator>(
+    text: &mut Vec<u8, A>,
+    row: &ModelRow,
+    lists: PanelLists,
+) -> Result<(), AllocError> {
+    push(text, "pclprofile 1\n# ")?;
+    push(text, row.title)?;
+    push(text, ", by 'pclcheck profile new ")?;
+    push(text, row.word)?;
+    push(text, "'.\n")?;
+    push(text, ORIGIN)?;
+    push(text, "#   which papers it can have: ")?;
+    push(text, row.papers_from)?;
+    push(text, CHECKS)?;
+    push(text, row.tray_words)?;
+    push(text, ".\n")?;
+    push(
+        text,
+        match lists {
+            PanelLists::Fixed => FIXED,
+            PanelLists::Free => FREE,
+        },
+    )
+}
+
+/// Appends the lists of the panel.
+fn push_panel<A: Allocator + Copy>(
+    text: &mut Vec<u8, A>,
+    alloc: A,
+    model: Model,
+    papers: &[Paper],
+    lists: PanelLists,
+) -> Result<(), AllocError> {
+    push(text, "name ")?;
+    push(text, model.row().word)?;
+    push(text, "\n")?;
+    for field in FIELDS {
+        if let Some(key) = key_of(field) {
+            let values = panel_values(alloc, model, papers, lists, field)?;
+            push_values(text, key, field, &values)?;
+        }
+    }
+    Ok(())
+}
+
+/// The key of a field; version 1 of the text has none for line termination.
+fn key_of(field: Field) -> Option<&'static str> {
+    match field {
+        Field::Size => Some("size"),
+        Field::Orientation => Some("orientation"),
+        Field::Vmi => Some("vmi"),
+        Field::Font => Some("font"),
+        Field::Copies => Some("copies"),
+        Field::Sides => Some("sides"),
+        Field::Tray => Some("tray"),
+        Field::LineTerm => None,
+    }
+}
+
+/// Appends the line of a field: its key and its values, of which a VMI counts ten-thousandths.
+fn push_values<A: Allocator>(
+    text: &mut Vec<u8, A>,
+    key: &str,
+    field: Field,
+    values: &[u32],
+) -> Result<(), AllocError> {
+    if field != Field::Vmi {
+        return push_list(text, key, values);
+    }
+    push(text, key)?;
+    for value in values {
+        push_amount(text, *value)?;
+    }
+    push(text, "\n")
+}
+
+/// Appends a line of a key and whole numbers.
+fn push_list<A: Allocator>(
+    text: &mut Vec<u8, A>,
+    key: &str,
+    values: &[u32],
+) -> Result<(), AllocError> {
+    push(text, key)?;
+    for value in values {
+        push_number(text, *value)?;
+    }
+    push(text, "\n")
+}
+
+/// Appends the lines on the device.
+fn push_device<A: Allocator>(text: &mut Vec<u8, A>, row: &ModelRow) -> Result<(), AllocError> {
+    push_list(text, "trays", row.trays)?;
+    push_list(text, "duplex", &[u32::from(row.has_duplex)])?;
+    push_list(text, "depth", &[DEPTH])?;
+    push_list(text, "memory", &[row.memory])
+}
+
+/// Appends the pages of a paper.
+fn push_pages<A: Allocator>(text: &mut Vec<u8, A>, paper: Paper) -> Result<(), AllocError> {
+    push(text, "# ")?;
+    push(text, paper.word())?;
+    push(text, "\n")?;
+    for orientation in 0..ORIENTATIONS {
+        push_list(text, "geometry", &page_numbers(paper, orientation))?;
+    }
+    Ok(())
+}
+
+/// Appends the faces.
+fn push_faces<A: Allocator + Copy>(
+    text: &mut Vec<u8, A>,
+    alloc: A,
+    generation: Generation,
+) -> Result<(), AllocError> {
+    push(
+        text,
+        "# Courier (3, 4099), Line Printer (0) and Letter Gothic (4102, 6)\n",
+    )?;
+    let faces = faces_of(alloc, generation)?;
+    for (index, face) in faces.iter().enumerate() {
+        push_face(text, index + 1, *face)?;
+    }
+    Ok(())
+}
+
+/// Appends the line of a face.
+fn push_face<A: Allocator>(
+    text: &mut Vec<u8, A>,
+    id: usize,
+    face: FaceRow,
+) -> Result<(), AllocError> {
+    let metrics = face.cut.metrics();
+    push(text, "face")?;
+    push_number(text, id)?;
+    push_set(text, face.set)?;
+    push_amount(text, metrics.pitch)?;
+    push_amount(text, metrics.height)?;
+    push_number(text, face.look.style())?;
+    push_number(text, face.look.weight())?;
+    push_number(text, face.typeface.number())?;
+    push_number(text, metrics.advance)?;
+    push_number(text, metrics.ascent)?;
+    push_number(text, metrics.descent)?;
+    push_codes(text, face.set)?;
+    push(text, "\n")
+}
+
+/// Appends a symbol set behind a space.
+fn push_set<A: Allocator>(text: &mut Vec<u8, A>, set: CharacterSet) -> Result<(), AllocError> {
+    let symbol_set = set.symbol_set();
+    push_number(text, symbol_set.number / 10_000)?;
+    text.push(symbol_set.letter)?;
+    Ok(())
+}
+
+/// Appends ten-thousandths, as a number with at most two decimals behind a space.
+fn push_amount<A: Allocator>(text: &mut Vec<u8, A>, amount: u32) -> Result<(), AllocError> {
+    push_number(text, amount / 10_000)?;
+    let hundredths = amount / 100 % 100;
+    if hundredths == 0 {
+        return Ok(());
+    }
+    text.push(b'.')?;
+    text.push(b'0' + (hundredths / 10) as u8)?;
+    if hundredths % 10 != 0 {
+        text.push(b'0' + (hundredths % 10) as u8)?;
+    }
+    Ok(())
+}
+
+/// Appends the codes that print in a set, behind a space.
+fn push_codes<A: Allocator>(text: &mut Vec<u8, A>, set: CharacterSet) -> Result<(), AllocError> {
+    for (index, range) in set.codes().iter().enumerate() {
+        text.push(if index == 0 { b' ' } else { b',' })?;
+        push_digits(text, range.first)?;
+        text.push(b'-')?;
+        push_digits(text, range.last)?;
+    }
+    Ok(())
+}
+
+/// Appends a number behind a space.
+fn push_number<A: Allocator, I: Integer>(
+    text: &mut Vec<u8, A>,
+    number: I,
+) -> Result<(), AllocError> {
+    text.push(b' ')?;
+    push_digits(text, number)
+}
+
+/// Appends a number.
+fn push_digits<A: Allocator, I: Integer>(
+    text: &mut Vec<u8, A>,
+    number: I,
+) -> Result<(), AllocError> {
+    let mut digits = Buffer::new();
+    push(text, digits.format(number))
+}
+
+/// Appends words.
+fn push<A: Allocator>(text: &mut Vec<u8, A>, words: &str) -> Result<(), AllocError> {
+    text.extend_from_slice(words.as_bytes())
+}
