@@ -1,6 +1,6 @@
 //! Numbers and bytes as they stand in lines of text.
 ghost use Rattle.std.specs.Prelude.{◌≡◌, ◌++◌, ◌+◌, ◌%◌, ◌<◌, OnOk, decimal, flat_map};
-ghost use Rattle.pcl_items.specs.Canon.{amount_text, magnitude_text};
+ghost use Rattle.pcl_items.specs.Canon.{amount_text, four_decimals, magnitude_text, with_point, without_zeros};
 ghost use Rattle.pcl_items.specs.Items.{amount};
 ghost use Rattle.line_words.specs.Figures.{escaped_byte, hex_byte, hex_digit, length_word, named, number_word, signed_word, value_word};
 
@@ -69,17 +69,25 @@ fn push_whole<A: Allocator>(text: &mut Vec<u8, A>, n: u32) -> Result<(), AllocEr
     push_number(text, u64::from(n))
 }
 
-/// Appends a value of so many ten-thousandths.
+/// Appends the point and the decimals of a value of so many ten-thousandths, where it has some.
 #[tactic(auto, using(pcl_items::proofs::WholeNumbers::no_decimals))]
-fn push_value<A: Allocator>(text: &mut Vec<u8, A>, n: u32) -> Result<(), AllocError>
-    ensures { OnOk result (text.new.items ≡ text.old.items ++ magnitude_text n) }
+fn push_decimals<A: Allocator>(text: &mut Vec<u8, A>, n: u32) -> Result<(), AllocError>
+    ensures { OnOk result
+        (text.new.items ≡ text.old.items ++ with_point (without_zeros (four_decimals n))) }
 {
-    push_whole(text, n / 10_000)?;
     // Most numbers are whole.
     if n % 10_000 == 0 {
         return Ok(());
     }
     text.extend_from_slice(shown(&point_and_decimals(n)))
+}
+
+/// Appends a value of so many ten-thousandths.
+fn push_value<A: Allocator>(text: &mut Vec<u8, A>, n: u32) -> Result<(), AllocError>
+    ensures { OnOk result (text.new.items ≡ text.old.items ++ magnitude_text n) }
+{
+    push_whole(text, n / 10_000)?;
+    push_decimals(text, n)
 }
 
 /// Appends a space and a value of so many ten-thousandths.
