@@ -1,5 +1,5 @@
 -- The printer that a profile's text describes, or the first thing wrong with the text.
-use Rattle.std.specs.Prelude.{◌≡◌, ℕ, ◌+◌, List, [], ◌∷◌, Bool, false, not, ◌&&◌, ◌==◌, nat_lt, length, get_or, Option, None, Some, is_some, unwrap_or, codes, if◌then◌else◌, Result, Ok, Err}
+use Rattle.std.specs.Prelude.{◌≡◌, ℕ, ◌+◌, List, [], ◌∷◌, Bool, not, ◌&&◌, ◌==◌, nat_lt, length, get_or, Option, None, Some, is_some, unwrap_or, codes, if◌then◌else◌, Result, Ok, Err}
 use Rattle.std.specs.List.{list_all, list_any}
 use Rattle.std.specs.Option.{option_map_or}
 use Rattle.std.specs.Str.{bytes_eq}
@@ -12,7 +12,9 @@ use Rattle.device_profile.specs.declared.fault.ProfileFault.TheVariants.{Fault, 
 use Rattle.device_profile.specs.Printer.{Printer, has_size, has_orientation, has_every_pair, are_sides}
 use Rattle.device_profile.specs.Faces.{has_face}
 use Rattle.device_profile.specs.Words.{words_of}
-use Rattle.device_profile.specs.Draft.{Draft, no_draft, draft_after}
+use Rattle.device_profile.specs.declared.key.Key.{Key}
+use Rattle.device_profile.specs.declared.key.Key.TheVariants.{Name, Choice, Trays, Duplex, Depth, Memory as MemoryKey, Page, Face as FaceRow}
+use Rattle.device_profile.specs.Draft.{Draft, no_draft, choice_of, draft_after}
 
 -- the version that a word names
 abbrev pub version_of : List ℕ → Option Format
@@ -40,6 +42,17 @@ abbrev pub draft_of : List (List ℕ) → Result Draft ProfileFault
 draft_of [] = Err (Fault 1 Version)
 draft_of (first ∷ more) =
     option_map_or (λ format. draft_of_lines format (no_draft format) 2 more) (format_of (words_of first)) (Err (Fault 1 Version))
+
+-- whether a key was given
+abbrev pub is_given : Draft → Key → Bool
+is_given draft Name = draft.is_named
+is_given draft (Choice field) = nat_lt 0 (length (choice_of draft field))
+is_given draft Trays = nat_lt 0 (length draft.device_trays)
+is_given draft Duplex = is_some draft.duplex
+is_given draft Depth = is_some draft.depth
+is_given draft MemoryKey = is_some draft.memory
+is_given draft Page = nat_lt 0 (length draft.geometries)
+is_given draft FaceRow = nat_lt 0 (length draft.faces)
 
 -- whether the name and each list of values were given
 abbrev pub has_its_lists : Draft → Bool

@@ -17,7 +17,7 @@ use std::marker::Model;
 
 /// What the lines of a profile's text have given so far. A list that is empty was not given.
 #[derive(Drop)]
-pub(crate) struct Draft<A: Allocator> {
+pub struct Draft<A: Allocator> {
     pub(crate) is_named: bool,
     pub(crate) sizes: Vec<u32, A>,
     pub(crate) orientations: Vec<u32, A>,
@@ -72,7 +72,7 @@ impl<A: Allocator + Copy> Draft<A> {
     /// Nothing was given yet.
     ///
     /// An error means that the allocator refused a request.
-    pub(crate) fn new(alloc: A, format: Format) -> Result<Self, AllocError>
+    pub fn new(alloc: A, format: Format) -> Result<Self, AllocError>
         ensures { IfOk result (λ draft. draft ≡ no_draft format) }
     {
         Ok(Draft {
@@ -94,14 +94,10 @@ impl<A: Allocator + Copy> Draft<A> {
         })
     }
 
-    /// Takes one more line of a text of this version, given by its words.
-    pub(crate) fn take_line(
-        &mut self,
-        alloc: A,
-        format: Format,
-        line: &[u8],
-    ) -> Result<(), LineFault>
-        ensures { Gives (draft_after format self.old (words_of line.now)) result self.new }
+    /// Takes one more line of a text of this version, given by its words; a line without words gives
+    /// nothing. An error leaves what was given before.
+    pub fn take_line(&mut self, alloc: A, format: Format, line: &[u8]) -> Result<(), LineFault>
+        ensures { Gives (draft_after format self.old (words_of line.now)) self.old result self.new }
     {
         let Some((word, words)) = next_word(line) else {
             return Ok(());
@@ -114,7 +110,8 @@ impl<A: Allocator + Copy> Draft<A> {
 
     /// Takes a line of this key, given by the words behind it.
     fn take(&mut self, alloc: A, key: Key, words: &[u8]) -> Result<(), LineFault>
-        ensures { Gives (draft_after_key self.old key (words_of words.now)) result self.new }
+        ensures { Gives (draft_after_key self.old key (words_of words.now))
+            self.old result self.new }
     {
         match key {
             Key::Name => self.take_name(words),
@@ -130,7 +127,8 @@ impl<A: Allocator + Copy> Draft<A> {
 
     /// Takes a name.
     fn take_name(&mut self, words: &[u8]) -> Result<(), LineFault>
-        ensures { Gives (draft_after_key self.old keys.Name (words_of words.now)) result self.new }
+        ensures { Gives (draft_after_key self.old keys.Name (words_of words.now))
+            self.old result self.new }
     {
         if self.is_named {
             return Err(LineFault::Wrong(Cause::Repeated));
@@ -142,8 +140,8 @@ impl<A: Allocator + Copy> Draft<A> {
         Ok(())
     }
 
-    /// The values that were given for a field.
-    fn choice(&self, field: Field) -> &[u32]
+    /// The values that were given for a field; the VMI is in ten-thousandths of 1/48 inch.
+    pub fn choice(&self, field: Field) -> &[u32]
         ensures { result.now ≡ choice_of self.now field }
     {
         match field {
@@ -176,7 +174,8 @@ impl<A: Allocator + Copy> Draft<A> {
 
     /// Takes the values that the panel may have in a field.
     fn take_choice(&mut self, alloc: A, field: Field, words: &[u8]) -> Result<(), LineFault>
-        ensures { Gives (draft_after_key self.old (keys.Choice field) (words_of words.now)) result self.new }
+        ensures { Gives (draft_after_key self.old (keys.Choice field) (words_of words.now))
+            self.old result self.new }
     {
         if !self.choice(field).is_empty() {
             return Err(LineFault::Wrong(Cause::Repeated));
@@ -188,7 +187,8 @@ impl<A: Allocator + Copy> Draft<A> {
 
     /// Takes the trays of the device.
     fn take_trays(&mut self, alloc: A, words: &[u8]) -> Result<(), LineFault>
-        ensures { Gives (draft_after_key self.old keys.Trays (words_of words.now)) result self.new }
+        ensures { Gives (draft_after_key self.old keys.Trays (words_of words.now))
+            self.old result self.new }
     {
         if !self.device_trays.is_empty() {
             return Err(LineFault::Wrong(Cause::Repeated));
@@ -199,7 +199,8 @@ impl<A: Allocator + Copy> Draft<A> {
 
     /// Takes whether the device prints on both sides.
     fn take_duplex(&mut self, words: &[u8]) -> Result<(), LineFault>
-        ensures { Gives (draft_after_key self.old keys.Duplex (words_of words.now)) result self.new }
+        ensures { Gives (draft_after_key self.old keys.Duplex (words_of words.now))
+            self.old result self.new }
     {
         if self.duplex.is_some() {
             return Err(LineFault::Wrong(Cause::Repeated));
@@ -213,7 +214,8 @@ impl<A: Allocator + Copy> Draft<A> {
 
     /// Takes how many levels of macros may run.
     fn take_depth(&mut self, words: &[u8]) -> Result<(), LineFault>
-        ensures { Gives (draft_after_key self.old keys.Depth (words_of words.now)) result self.new }
+        ensures { Gives (draft_after_key self.old keys.Depth (words_of words.now))
+            self.old result self.new }
     {
         if self.depth.is_some() {
             return Err(LineFault::Wrong(Cause::Repeated));
@@ -227,7 +229,8 @@ impl<A: Allocator + Copy> Draft<A> {
 
     /// Takes how many bytes the macros may have together.
     fn take_memory(&mut self, words: &[u8]) -> Result<(), LineFault>
-        ensures { Gives (draft_after_key self.old keys.Memory (words_of words.now)) result self.new }
+        ensures { Gives (draft_after_key self.old keys.Memory (words_of words.now))
+            self.old result self.new }
     {
         if self.memory.is_some() {
             return Err(LineFault::Wrong(Cause::Repeated));
@@ -241,7 +244,8 @@ impl<A: Allocator + Copy> Draft<A> {
 
     /// Takes a page.
     fn take_page(&mut self, words: &[u8]) -> Result<(), LineFault>
-        ensures { Gives (draft_after_key self.old keys.Page (words_of words.now)) result self.new }
+        ensures { Gives (draft_after_key self.old keys.Page (words_of words.now))
+            self.old result self.new }
     {
         let row = geometry_on_line(self.geometries.as_slice(), words)?;
         self.geometries.push(row)?;
@@ -250,7 +254,8 @@ impl<A: Allocator + Copy> Draft<A> {
 
     /// Takes a face.
     fn take_face(&mut self, alloc: A, words: &[u8]) -> Result<(), LineFault>
-        ensures { Gives (draft_after_key self.old keys.Face (words_of words.now)) result self.new }
+        ensures { Gives (draft_after_key self.old keys.Face (words_of words.now))
+            self.old result self.new }
     {
         let face = face_on_line(alloc, self.faces.as_slice(), words)?;
         self.faces.push(face)?;

@@ -44,7 +44,7 @@ impl From<AllocError> for ProfileFault {
 
 /// Why a line gives nothing.
 #[derive(Clone, Copy, PartialEq, Eq)]
-pub(crate) enum LineFault {
+pub enum LineFault {
     /// The line is wrong.
     Wrong(Cause),
     /// The allocator refused a request.

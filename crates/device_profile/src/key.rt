@@ -8,7 +8,7 @@ use crate::format::Format;
 
 /// What a line of a profile's text tells of.
 #[derive(Clone, Copy, PartialEq, Eq)]
-pub(crate) enum Key {
+pub enum Key {
     /// The printer's name.
     Name,
     /// The values that the panel may have in a field.
@@ -65,7 +65,7 @@ impl Key {
 
     /// The key that a word is in texts of this version.
     #[tactic(auto, unfolding(crate::specs::Draft::key_of))]
-    pub(crate) fn of(format: Format, word: &[u8]) -> Option<Key>
+    pub fn of(format: Format, word: &[u8]) -> Option<Key>
         ensures { result ≡ key_of format word.now }
     {
         match row_of(word) {

@@ -3,6 +3,7 @@
 
 mod code_ranges;
 mod draft;
+mod draft_parts;
 mod face_line;
 mod fault;
 mod field;
@@ -23,11 +24,17 @@ mod values;
 mod whole;
 mod words;
 
-pub use fault::{Cause, ProfileFault};
+pub use draft::Draft;
+pub use fault::{Cause, LineFault, ProfileFault};
 pub use field::Field;
 pub use font::{CodeRange, FontRequest, FontRow, SymbolSet, are_same_ranges};
+pub use format::Format;
 pub use geometry::Geometry;
+pub use key::Key;
 pub use name::printer_name;
 pub use panel::Panel;
 pub use profile::Profile;
+pub use read::{MOST_BYTES, format_of};
+pub use rows::{has_face, has_orientation, has_row, has_size};
 pub use sample::{Sample, sample_a};
+pub use scan::{amount, next_line, next_word, number};

@@ -169,6 +169,27 @@ impl<A: Allocator> Profile<A> {
         self.has_duplex
     }
 
+    /// The trays of the device, as `ESC &l#H` numbers them, in the profile's order.
+    pub fn trays(&self) -> &[u32]
+        ensures { result.now ≡ self.now.device_trays }
+    {
+        &self.device_trays
+    }
+
+    /// The pages, in the profile's order.
+    pub fn geometries(&self) -> &[Geometry]
+        ensures { result.now ≡ self.now.geometries }
+    {
+        &self.geometries
+    }
+
+    /// The faces, in the profile's order.
+    pub fn faces(&self) -> &[FontRow<A>]
+        ensures { result.now ≡ self.now.faces }
+    {
+        &self.faces
+    }
+
     /// Whether the device has this tray.
     pub fn has_tray(&self, tray: u32) -> bool
         ensures tray { result ≡ has_tray self.now tray }

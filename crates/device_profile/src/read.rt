@@ -14,7 +14,7 @@ use crate::scan::{next_line, next_word};
 use std::alloc::Allocator;
 
 /// A text has at most so many bytes.
-const MOST_BYTES: usize = 65_536;
+pub const MOST_BYTES: usize = 65_536;
 
 impl<A: Allocator + Copy> Profile<A> {
     /// The profile that a text describes.
@@ -90,7 +90,8 @@ fn take_line<A: Allocator + Copy>(
     draft: &mut Draft<A>,
     line: &[u8],
 ) -> Result<(), LineFault>
-    ensures { Gives (draft_after format draft.old (words_of_line line.now)) result draft.new }
+    ensures { Gives (draft_after format draft.old (words_of_line line.now))
+        draft.old result draft.new }
 {
     match line {
         [b'#', ..] => Ok(()),
@@ -109,8 +110,8 @@ fn version_of(word: &[u8]) -> Option<Format>
     }
 }
 
-/// The version that a line names, where it names the format.
-fn format_of(line: &[u8]) -> Option<Format>
+/// The version that a line names, where it names the format; the first line of a text does.
+pub fn format_of(line: &[u8]) -> Option<Format>
     ensures { result ≡ format_of (words_of line.now) }
 {
     let (name, words) = next_word(line)?;

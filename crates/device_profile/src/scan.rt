@@ -19,7 +19,7 @@ pub(crate) fn place_of(text: &[u8], byte: u8) -> usize
 }
 
 /// The first line, without its end, and the text after it.
-pub(crate) fn next_line(text: &[u8]) -> Option<(&[u8], &[u8])>
+pub fn next_line(text: &[u8]) -> Option<(&[u8], &[u8])>
     ensures line { MatchOption result (lines text.now ≡ []) (λ cut. lines text.now ≡ cut.0.now ∷ lines cut.1.now) }
     ensures shorter { IfSome result (λ cut. length cut.1.now < length text.now) }
 {
@@ -58,7 +58,7 @@ fn without_spaces(line: &[u8]) -> &[u8]
 }
 
 /// The first word of a line, and the line after it.
-pub(crate) fn next_word(line: &[u8]) -> Option<(&[u8], &[u8])>
+pub fn next_word(line: &[u8]) -> Option<(&[u8], &[u8])>
     ensures word { MatchOption result (words_of line.now ≡ []) (λ cut. words_of line.now ≡ cut.0.now ∷ words_of cut.1.now) }
     ensures shorter { IfSome result (λ cut. length cut.1.now < length line.now) }
 {
@@ -72,9 +72,9 @@ pub(crate) fn next_word(line: &[u8]) -> Option<(&[u8], &[u8])>
 
 const MOST_DIGITS: usize = 16;
 
-/// The number that a word is.
+/// The number that a word is: 1 to 16 decimal digits.
 #[tactic(auto, unfolding(crate::specs::Words::number_of))]
-pub(crate) fn number(word: &[u8]) -> Option<u64>
+pub fn number(word: &[u8]) -> Option<u64>
     ensures { result ≡ number_of word.now }
 {
     if word.is_empty() || word.len() > MOST_DIGITS {
@@ -109,7 +109,7 @@ fn decimals(word: &[u8]) -> Option<u128>
 const UNIT: u128 = 10_000;
 
 /// The ten-thousandths of an amount: a number, and perhaps a point and one to four decimals.
-pub(crate) fn amount(word: &[u8]) -> Option<u128>
+pub fn amount(word: &[u8]) -> Option<u128>
     ensures { result ≡ amount_of word.now }
 {
     let point = place_of(word, b'.');

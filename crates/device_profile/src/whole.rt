@@ -73,8 +73,8 @@ impl<A: Allocator> Draft<A> {
             && has_every_pair(rows)
     }
 
-    /// Whether the device prints on both sides.
-    fn is_duplex(&self) -> bool
+    /// Whether the device was said to print on both sides.
+    pub fn is_duplex(&self) -> bool
         ensures { result ≡ is_duplex self.now }
     {
         self.duplex.unwrap_or(0) == 1

@@ -1,4 +1,4 @@
-use Rattle.std.proofs.Common.{rules, List, [], ◌∷◌, map, ℕ, Bool, true, false, if◌then◌else◌, Option, None, Some, option_map, find, Bor, ◌≡◌, ◌∙◌, refl, ap, subst}
+use Rattle.std.proofs.Common.{rules, List, [], ◌∷◌, map, ℕ, Bool, true, false, if◌then◌else◌, Option, None, Some, option_map, find, Bor, ◌≡◌, ◌∙◌, refl, ap}
 use Rattle.std.specs.Str.{bytes_eq}
 use Rattle.std.proofs.lemmas.Iterator.{YieldsList-from_slice}
 use Rattle.std.proofs.lemmas.Iterator.Search.{find_from_yields_List}
