@@ -47,7 +47,9 @@ def requests_refused(tries: Tries, shim: Shim) -> None:
         refuse_each(tries, shim, asked(command, "job", "printer"),
                     want_of_memory(command, answer), due_of(answer), [{}, {"on": 1}])
     for words in (["--help"], ["frob"], ["explain"], ["pin", "job", "@B", "out", "--panel", "x=1"],
-                  ["pin", "job", "@B", "out", "--panel", "size=3"]):
+                  ["pin", "job", "@B", "out", "--panel", "size=3"], ["profile", "list"],
+                  ["profile", "new", "generic", "--size", "a4"],
+                  ["profile", "new", "generic", "--size", "folio"]):
         run = tries.fresh(words)
         sound = Due((run.status,), exactly(run.output), exactly(run.errors))
         refuse_each(tries, shim, words, stopped_by(MEMORY, front_of(run.output)), sound,

@@ -183,6 +183,10 @@ WRONG_WORDS: Sequence[Tuple[Sequence[str], bytes]] = (
     (["pin", "none", "@B", "out", "--panel", "size=3"], b"size"),
     (["list", "x" * 100_000, "y"], b"'y'"), (["y" * 100_000], b"yyy"),
     (["explain", "999"], b"999"), (["explain", ""], b"''"), (["explain", "1", "2"], b"2"),
+    (["profile"], b"list, new"), (["profile", "list", "generic"], b"generic"),
+    (["profile", "new"], b"MODEL"), (["profile", "new", "laserjet"], b"laserjet"),
+    (["profile", "new", "generic", "--size", "a4,"], b"''"),
+    (["profile", "new", "generic", "--panel", "open"], b"open"),
 )
 
 
@@ -193,7 +197,8 @@ def wrong_words(tries: Tries) -> None:
         pattern = b".*" + re.escape(part) + b".*\n"
         tries.try_(f"{[word[:20] for word in words]}", words, Due((2,), errors=matching(pattern)))
     for words in (["--help"], ["-h"], ["help"], ["help", "pin"], ["check", "--help"], ["-V"],
-                  ["list", "none", "-h"], ["plain", "good", "out", "--help"], ["explain"]):
+                  ["list", "none", "-h"], ["plain", "good", "out", "--help"], ["explain"],
+                  ["profile", "list"], ["profile", "new", "generic"]):
         tries.try_(f"{words}", words, Due((0,), SOME))
 
 

@@ -49,10 +49,12 @@ def situations() -> List[Situation]:
     found += [
         usage("no words"), usage("an unknown command", "frob"), usage("too few words", "check"),
         usage("OUT is JOB", "plain", "good", "./good"), usage("no code", "explain", "999"),
+        usage("no model", "profile", "new", "laserjet"),
         usage("no panel", "pin", "--panel", "size", "good", "@B", "out"),
         usage("not allowed", "pin", "--panel", "size=3", "good", "@B", "out"),
     ]
-    for words in (["--help"], ["--version"], ["explain"], ["explain", "12"], ["pin", "--help"]):
+    for words in (["--help"], ["--version"], ["explain"], ["explain", "12"], ["pin", "--help"],
+                  ["profile", "list"], ["profile", "new", "generic"]):
         found.append(Situation(" ".join(words), tuple(words), Due((0,), SOME), True))
     return found
 

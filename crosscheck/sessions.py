@@ -75,6 +75,11 @@ STORED = (
     ("plain short.pcl short.pcl", 2, "", "error: OUT is JOB itself, which would be lost\n"),
     ("explain 999", 2, "", "error: no fault and no finding has the number or the name '999'; "
                            "'pclcheck explain' writes all\n"),
+    ("profile new hp-laserjet-iii --size a4", 2, "",
+     "error: no model has the name 'hp-laserjet-iii'; 'pclcheck profile list' names all\n"),
+    ("profile new generic --size a4,folio", 2, "",
+     "error: no paper has the name 'folio'; 'pclcheck profile list' names those of each model\n"),
+    ("profile new generic --size a4,A4", 2, "", "error: the paper 'A4' comes twice\n"),
 )
 FILES = {"short.pcl": b"\x1bEA\x1b&l2A\x0c", "faulty.pcl": b"A\x1bQ", "empty.pcl": b""}
 

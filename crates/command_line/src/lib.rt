@@ -4,8 +4,10 @@
 mod check_words;
 mod many_words;
 mod panel_words;
+mod profile_words;
 mod text_commands;
 mod words;
 
 pub use many_words::{Form, ManyWords};
+pub use profile_words::NewProfile;
 pub use words::{Request, read_words};

@@ -5,6 +5,7 @@ ghost use Rattle.command_line.specs.Words.{IsEndOfWords, KeepsWhatItReads, Names
 use crate::check_words::{EXPLANATION, check_command, check_request};
 use crate::many_words::ManyWords;
 use crate::panel_words::ChoiceFault;
+use crate::profile_words::{NewProfile, profile_command, profile_request};
 use crate::text_commands::{
     list_command, pages_command, pin_command, pin_request, plain_command, text_request,
 };
@@ -50,6 +51,10 @@ pub enum Request<'a> {
     Explain {
         code: Option<&'a str>,
     },
+    /// The models of which there are profiles.
+    ProfileList,
+    /// The text of a profile of a model.
+    ProfileNew(NewProfile<'a>),
 }
 
 const VERSION: &str = "0.1.0";
@@ -85,7 +90,8 @@ fn command<'a>(alloc: Global) -> Result<Command<'a>, AllocError> {
         .subcommand(pages_command(alloc)?)?
         .subcommand(plain_command(alloc)?)?
         .subcommand(pin_command(alloc)?)?
-        .subcommand(explain_command(alloc)?)
+        .subcommand(explain_command(alloc)?)?
+        .subcommand(profile_command(alloc)?)
 }
 
 /// What the words ask for; the first is the program's own name. Where they ask for help or for the
@@ -186,6 +192,9 @@ fn request_of<'a>(
     if let Some(found) = matches.subcommand_matches("explain") {
         let code = found.get_str("CODE");
         return Ok(Some(Request::Explain { code }));
+    }
+    if let Some(found) = matches.subcommand_matches("profile") {
+        return Ok(profile_request(alloc, found)?);
     }
     Ok(text_request(matches))
 }

@@ -1,7 +1,7 @@
 -- What the program leaves of what it is asked for. Nothing is known of its files beforehand, so this is said for some reads of them.
 use Rattle.std.specs.Prelude.{◌≡◌, ◌||◌, List, [], ℕ, Option, map, option_map, IsFalse, IsTrue}
 use Rattle.command_line.specs.declared.words.Request.{Request}
-use Rattle.command_line.specs.declared.words.Request.TheVariants.{Check, CheckMany, List as ListOf, Pages, Plain, Pin, Explain}
+use Rattle.command_line.specs.declared.words.Request.TheVariants.{Check, CheckMany, List as ListOf, Pages, Plain, Pin, Explain, ProfileList, ProfileNew}
 use Rattle.preflight.specs.Due.{Rendering, list_rendering, plain_rendering}
 use Rattle.streams.specs.Files.{no_outlet, no_source}
 use Rattle.streams.specs.Outlet.{OutletState}
@@ -11,6 +11,8 @@ use Rattle.preflight.specs.Writing.{Writes}
 use Rattle.subcommands.specs.Explanations.{complaint, end_of_explain, explanation, is_unknown}
 use Rattle.subcommands.specs.Fleet.{RefusesBy}
 use Rattle.subcommands.specs.JobTexts.{EndsBy, IsNamed, LeavesOut, LeavesPages, LeavesPinned, LeavesText, TellsOfPin}
+use Rattle.profile_commands.specs.ProfileList.{LeavesModels}
+use Rattle.profile_commands.specs.ProfileNew.{LeavesProfile}
 use Rattle.subcommands.specs.Status.{is_stop_of_read, is_stop_of_write}
 use Rattle.subcommands.specs.Texts.{text_named}
 use Rattle.subcommands.specs.declared.choices.Choice.{Choice}
@@ -67,3 +69,5 @@ Fulfils texts (Pages job profile) status out out' err err' = LeavesPagesFor prof
 Fulfils texts (Plain job file) status out out' err err' = LeavesPlain status out out' × (err' ≡ err)
 Fulfils texts (Pin job profile choices file) status out out' err err' = LeavesPin profile.now choices.items status out out' err err'
 Fulfils texts (Explain code) status out out' err err' = LeavesExplanation texts (option_map (λ word. word.now) code) status out out' err err'
+Fulfils texts ProfileList status out out' err err' = LeavesModels status out out' × (err' ≡ err)
+Fulfils texts (ProfileNew words) status out out' err err' = LeavesProfile words.model.now (map (λ name. name.now) words.papers.items) words.lists status out out' err err'

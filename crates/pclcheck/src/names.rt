@@ -7,7 +7,7 @@ use preflight::{Error, Outlet, Source};
 use std::alloc::AllocError;
 use std::io::Input;
 use std::rt::Files;
-use subcommands::{FileJobs, Jobs, Status, read_front, tell_unread_names};
+use subcommands::{FileJobs, Jobs, Status, read_front, tell_unread};
 
 /// The bytes of the file of names at a path, or none where there is no such file.
 pub fn read_names<R: Files + Input + AllocGlobal, E: Outlet>(
@@ -27,7 +27,10 @@ pub fn read_names<R: Files + Input + AllocGlobal, E: Outlet>(
     let mut file = FileJobs::new(rt).job(path.as_bytes());
     match read_front(rt.alloc(), &mut file, usize::MAX) {
         Ok(names) => Ok(names),
-        Err(Error::Read) => Err(tell_unread_names(rt.alloc(), path, file.error(), stderr)),
+        Err(Error::Read) => {
+            let front = b"ERROR read names ";
+            Err(tell_unread(rt.alloc(), front, path, file.error(), stderr))
+        }
         Err(error) => Err(Status::Stopped(error)),
     }
 }

@@ -5,6 +5,8 @@ ghost use Rattle.pclcheck.specs.Requests.{Fulfils};
 
 use crate::many::check_asked;
 use command_line::Request;
+use profile_commands::profile_list::profile_list;
+use profile_commands::profile_new::profile_new;
 use std::io::Input;
 use std::rt::Files;
 use streams::{FileOutlet, FileSource, Outlet};
@@ -67,5 +69,10 @@ pub fn fulfil<R: Files + Input + AllocGlobal, O: Outlet, E: Outlet>(
             )
         }
         Request::Explain { code } => explain(*code, stdout, stderr),
+        Request::ProfileList => profile_list(alloc, stdout),
+        Request::ProfileNew(words) => {
+            let papers = words.papers.as_slice();
+            profile_new(alloc, words.model, papers, words.lists, stdout, stderr)
+        }
     }
 }

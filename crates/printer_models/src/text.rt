@@ -26,6 +26,8 @@ pub(crate) fn profile_text<A: Allocator + Copy>(
         push_pages(&mut text, *paper)?;
     }
     push_faces(&mut text, alloc, row.generation)?;
+    // Last, so that no front of the text is one of a profile.
+    push_list(&mut text, "depth", &[DEPTH])?;
     Ok(text)
 }
 
@@ -169,7 +171,6 @@ fn push_list<A: Allocator>(
 fn push_device<A: Allocator>(text: &mut Vec<u8, A>, row: &ModelRow) -> Result<(), AllocError> {
     push_list(text, "trays", row.trays)?;
     push_list(text, "duplex", &[u32::from(row.has_duplex)])?;
-    push_list(text, "depth", &[DEPTH])?;
     push_list(text, "memory", &[row.memory])
 }
 

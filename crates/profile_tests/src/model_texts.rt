@@ -44,6 +44,25 @@ fn each_model_has_a_text_for_each_panel(rt: HostRuntime) -> Result<(), Fail> {
     Ok(())
 }
 
+/// How many bytes at the end of a text are cut off one by one.
+const CUT: usize = 300;
+
+#[test]
+fn no_front_of_a_text_is_one(rt: HostRuntime) -> Result<(), Fail> {
+    for lists in PANELS {
+        let text = new_text(rt.alloc(), "generic", &[], lists)?;
+        let whole = text.strip_suffix(b"\n").unwrap_or(&[]);
+        assert!(rt; Profile::read(rt.alloc(), whole).is_ok() && whole.len() > CUT);
+        for length in (whole.len() - CUT)..whole.len() {
+            assert!(rt;
+                Profile::read(rt.alloc(), &whole[..length]).is_err(),
+                "{length}"
+            );
+        }
+    }
+    Ok(())
+}
+
 #[test]
 fn each_model_has_a_text_for_all_its_papers(rt: HostRuntime) -> Result<(), Fail> {
     for model in MODELS {

@@ -1,10 +1,10 @@
 //! The subcommand `check`: its exit status, and what it writes.
 ghost use Rattle.std.specs.Prelude.{◌≡◌, ◌≢◌, [], false, IsFalse};
 
-use crate::kept_texts::{KeptTexts, Named};
 use device_profile::Sample;
 use fakes::FailingSource;
 use job_items::RECTANGLE;
+use kept_files::{KeptTexts, Named};
 use preflight::{Outlet, Source, Watched};
 use printers::{text_of_one_page, with_line};
 use std::alloc::Allocator;

@@ -2,9 +2,9 @@
 ghost use Rattle.std.specs.Prelude.{◌≡◌, false, IsFalse};
 
 use crate::files::File;
-use crate::kept_texts::{KeptTexts, Named};
 use device_profile::{Field, Sample};
 use fakes::{FailingOutlet, FailingSource};
+use kept_files::{KeptTexts, Named};
 use preflight::{Outlet, Source, Watched};
 use refusing::Refusing;
 use std::alloc::Allocator;

@@ -1,7 +1,7 @@
 //! Texts that name the printers of a fleet.
 ghost use Rattle.std.specs.Prelude.{◌≡◌, false, IsFalse};
 
-use crate::kept_texts::{KeptTexts, Named};
+use kept_files::{KeptTexts, Named};
 use preflight::{Error, Outlet, Watched};
 use refusing::Refusing;
 use std::alloc::Allocator;

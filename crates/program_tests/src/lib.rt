@@ -14,16 +14,10 @@ mod files;
 #[cfg(test)]
 mod fleets;
 #[cfg(test)]
-mod kept_jobs;
-#[cfg(test)]
-mod kept_texts;
-#[cfg(test)]
 mod lines;
 #[cfg(test)]
-mod many_forms;
-#[cfg(test)]
-mod many_jobs;
-#[cfg(test)]
 mod overwriting;
+#[cfg(test)]
+mod profile_words;
 #[cfg(test)]
 mod words;

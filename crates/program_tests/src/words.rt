@@ -8,7 +8,7 @@ use std::process::Abort;
 use std::test::Fail;
 use subcommands::{Choice, Input, Status, tell};
 
-fn strings(alloc: Global, words: &[&str]) -> Result<Vec<String>, AllocError> {
+pub(crate) fn strings(alloc: Global, words: &[&str]) -> Result<Vec<String>, AllocError> {
     let mut strings = Vec::new(alloc);
     for word in words {
         strings.push(String::from_str(alloc, word)?)?;
@@ -17,7 +17,7 @@ fn strings(alloc: Global, words: &[&str]) -> Result<Vec<String>, AllocError> {
 }
 
 /// Words that ask for no check, how they end the program, and parts of what is then written on standard output.
-type Ended = (&'static [&'static str], Status, &'static [&'static str]);
+pub(crate) type Ended = (&'static [&'static str], Status, &'static [&'static str]);
 
 /// Words that ask for help.
 const HELPS: &[Ended] = &[
@@ -163,7 +163,7 @@ fn has_parts(text: &[u8], parts: &[&str]) -> bool {
     has
 }
 
-fn check_ended(rt: &impl Abort, alloc: Global, rows: &[Ended]) -> Result<(), Fail> {
+pub(crate) fn check_ended(rt: &impl Abort, alloc: Global, rows: &[Ended]) -> Result<(), Fail> {
     for (asked, status, parts) in rows {
         let words = strings(alloc, asked)?;
         let mut stdout = Watched::new(Vec::new(alloc));

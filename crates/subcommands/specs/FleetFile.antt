@@ -30,6 +30,14 @@ refused_fleet path NoPrinter cause = refused_text path (codes ": names no printe
 abbrev pub TellsOfFleet : List ℕ → Status → OutletState → OutletState → Type 0
 TellsOfFleet path status err err' = (fault : FleetFault) × (cause : Option (List ℕ)) × TellsLine status Refused (refused_fleet path fault cause) err err'
 
--- standard error is told that the names of jobs cannot be read, or there was no memory for that
+-- standard error is told that what this word names cannot be read, behind these words, or there was no memory for that
+abbrev pub TellsUnread : List ℕ → List ℕ → Status → OutletState → OutletState → Type 0
+TellsUnread front word status err err' = (cause : Option (List ℕ)) × TellsLine status NoVerdict (unread front word cause) err err'
+
+-- so it is told of the names of jobs
 abbrev pub TellsOfNames : List ℕ → Status → OutletState → OutletState → Type 0
-TellsOfNames path status err err' = (cause : Option (List ℕ)) × TellsLine status NoVerdict (unread (codes "ERROR read names ") path cause) err err'
+TellsOfNames path status err err' = TellsUnread (codes "ERROR read names ") path status err err'
+
+-- and of a profile
+abbrev pub TellsOfProfile : List ℕ → Status → OutletState → OutletState → Type 0
+TellsOfProfile word status err err' = TellsUnread (codes "ERROR read profile ") word status err err'

@@ -9,7 +9,7 @@ use Rattle.preflight.specs.declared.error.Error.TheVariants.{Memory, Read, Write
 use Rattle.preflight.specs.Errors.{is_read, is_write}
 use Rattle.subcommands.specs.declared.status.Status.{Status}
 use Rattle.subcommands.specs.declared.status.Input.{Input}
-use Rattle.subcommands.specs.declared.status.Trouble.TheVariants.{Refused, NoVerdict}
+use Rattle.subcommands.specs.declared.status.Trouble.TheVariants.{Refused, NoVerdict, Mismatch}
 use Rattle.subcommands.specs.declared.status.Input.TheVariants.{Job, Profile as TheProfile}
 use Rattle.subcommands.specs.declared.status.Status.TheVariants.{Pass, Fail, Help, Usage, Overwrites, NotAllowed, Told, Profile, Stopped}
 
@@ -23,6 +23,7 @@ code_of (Overwrites input) = 2
 code_of (NotAllowed choice) = 2
 code_of (Told Refused) = 2
 code_of (Told NoVerdict) = 3
+code_of (Told Mismatch) = 3
 code_of (Profile number line cause) = 2
 code_of (Stopped error) = 3
 

@@ -33,24 +33,6 @@ pub struct ManyJobs<'w, 'n> {
     pub telling: Telling<'w>,
 }
 
-impl ManyJobs<'_, '_> {
-    /// Whether standard input, which can be read once, would be read again; `has_names` tells that
-    /// the names of the jobs are read from it.
-    pub fn needs_input_twice(&self, has_names: bool) -> bool {
-        let is_read_apart = self.is_each && self.printers.len() > 1;
-        let mut is_read = has_names;
-        for job in self.jobs {
-            if *job == b"-".as_slice() {
-                if is_read || is_read_apart {
-                    return true;
-                }
-                is_read = true;
-            }
-        }
-        false
-    }
-}
-
 /// The command `check` for many jobs: a line on standard output for each job, or where `is_each` is
 /// set for each job and printer, as soon as it is known.
 ///

@@ -1,7 +1,7 @@
 //! What standard error is told of printers that are refused or cannot be read.
 ghost use Rattle.std.specs.Prelude.{◌≡◌, ◌++◌, IsFalse, OnOk, option_map};
 ghost use Rattle.subcommands.specs.Refusals.{fault_part, fault_phrase, line_phrase, refusal_words, refused_profile, refused_profile_sentence, unread, unread_profile, unread_profile_sentence};
-ghost use Rattle.subcommands.specs.FleetFile.{TellsOfNames};
+ghost use Rattle.subcommands.specs.FleetFile.{TellsUnread};
 
 use crate::job_lines::{push_cause, push_shown_name};
 use crate::job_sentences::{push_cause_phrase, push_named_first};
@@ -153,20 +153,22 @@ pub fn push_unread_profile_sentence<A: Allocator + Copy>(
     text.extend_from_slice(b" (ERROR read)\n")
 }
 
-/// Tells standard error that the names of jobs could not be read.
-pub fn tell_unread_names<E: Outlet, A: Allocator + Copy>(
+/// Tells standard error that what a word names could not be read; the front says what that is, as
+/// `ERROR read names ` does of a file with the names of jobs.
+pub fn tell_unread<E: Outlet, A: Allocator + Copy>(
     alloc: A,
-    path: &str,
+    front: &[u8],
+    word: &str,
     error: Option<io::Error>,
     stderr: &mut E,
 ) -> Status
     requires { IsFalse (E.state stderr.old).failed }
-    ensures { TellsOfNames path.now result (E.state stderr.old) (E.state stderr.new) }
+    ensures { TellsUnread front.now word.now result (E.state stderr.old) (E.state stderr.new) }
 {
     let told = system_words(alloc, error);
     let cause = told.as_ref().map(|told| told.as_bytes());
     let mut text = Vec::new(alloc);
-    if push_unread(&mut text, b"ERROR read names ", path, cause).is_err() {
+    if push_unread(&mut text, front, word, cause).is_err() {
         return Status::Stopped(Error::Memory);
     }
     // Where standard error takes nothing, the status alone is left to tell.

@@ -28,7 +28,7 @@ pub enum Status {
     Pass,
     /// The job fails, or its text ends with the line of a failure.
     Fail,
-    /// Help, the version or an explanation was written.
+    /// Help, the version, an explanation, the list of models or the text of a profile was written.
     Help,
     /// A usage error: the words ask for nothing that there is.
     Usage,
@@ -49,13 +49,15 @@ pub enum Status {
     Told(Trouble),
 }
 
-/// What stands in the way of verdicts, and was told with the name of what it is about.
+/// What stands in the way of verdicts or of a text, and was told with what it is about.
 #[derive(Clone, Copy, Debug, PartialEq, Eq)]
 pub enum Trouble {
     /// A profile or a fleet is refused.
     Refused,
     /// A job has no verdict, or a profile could not be read.
     NoVerdict,
+    /// A text that the program made is not that of its tables, which is a mistake in the program.
+    Mismatch,
 }
 
 impl Status {
@@ -71,7 +73,7 @@ impl Status {
             | Status::NotAllowed(_)
             | Status::Profile { .. }
             | Status::Told(Trouble::Refused) => 2,
-            Status::Stopped(_) | Status::Told(Trouble::NoVerdict) => 3,
+            Status::Stopped(_) | Status::Told(Trouble::NoVerdict | Trouble::Mismatch) => 3,
         }
     }
 }

@@ -1,4 +1,5 @@
-use Rattle.std.proofs.Common.{ap, map, refl}
+use Rattle.std.proofs.Common.{ap, map, refl, subst}
+use Rattle.profile_commands.specs.ProfileNew.{LeavesProfile}
 use Rattle.subcommands.specs.Texts.{text_named}
 use Rattle.pclcheck.proofs.Fulfilling.{asked, check_left}
 use Rattle.pclcheck.proofs.requests.fulfil.Goals as goal
@@ -17,3 +18,11 @@ returns-in-Explain g c =
       complaint = λ unknown. c.explain.ensures.complaint unknown;
       quiet = λ known. ap g.E.Outlet.state (c.explain.ensures.quiet known);
     }
+
+pub returns-in-ProfileNew : goal.returns-in-ProfileNew
+returns-in-ProfileNew g c =
+    let words = c.in-ProfileNew.words in
+    asked _ _ _ _ _ _ _ _ c.in-ProfileNew.is
+    (subst (λ names. LeavesProfile words.model.now (map (λ name. name.now) names) words.lists c.profile_new.result
+    (g.O.Outlet.state c.args.stdout.now) (g.O.Outlet.state c.profile_new.new.stdout) (g.E.Outlet.state c.args.stderr.now) (g.E.Outlet.state c.profile_new.new.stderr))
+    c.as_slice-papers.ensures.value c.profile_new.ensures)

@@ -1,10 +1,10 @@
 //! The forms in which `check` tells what came of many jobs.
 ghost use Rattle.std.specs.Prelude.{◌≡◌, IsFalse};
 
-use crate::kept_texts::{KeptTexts, Named};
-use crate::many_jobs::{EXPORT, status_of};
+use crate::lines::{EXPORT, status_of};
 use device_profile::Sample;
 use fakes::FailingOutlet;
+use kept_files::{KeptTexts, Named};
 use preflight::{Error, Outlet, Watched};
 use refusing::Refusing;
 use std::alloc::Allocator;

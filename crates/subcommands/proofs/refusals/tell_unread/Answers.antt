@@ -1,11 +1,11 @@
-use Rattle.std.proofs.Common.{◌≡◌, arith, codes, option_map, refl, subst}
+use Rattle.std.proofs.Common.{◌≡◌, arith, option_map, refl, subst}
 use Rattle.std.proofs.lemmas.Grind.{common_steps}
 use Rattle.preflight.specs.Writing.{Writes}
 use Rattle.subcommands.specs.Refusals.{unread}
-use Rattle.subcommands.proofs.refusals.tell_unread_names.Goals as goal
+use Rattle.subcommands.proofs.refusals.tell_unread.Goals as goal
 
 pub returns : goal.returns
 returns g c =
     let cause = option_map (λ words. words.now) c.map-cause.result in
-    let told : c.as_slice.result.now ≡ unread (codes "ERROR read names ") c.args.path.now cause = grind (arith, common_steps) in
+    let told : c.as_slice.result.now ≡ unread c.args.front.now c.args.word.now cause = grind (arith, common_steps) in
     (cause, (refl, subst (λ text. Writes (g.E.Outlet.state c.args.stderr.now) (g.E.Outlet.state c.write_text.new.outlet) text) told c.write_text.ensures.text))

@@ -1,11 +1,10 @@
 //! The command `check` for many jobs: its exit status, and what it writes.
 ghost use Rattle.std.specs.Prelude.{◌≡◌, ◌≢◌, [], false, IsFalse};
 
-use crate::kept_jobs::{KeptJobs, NamedJob};
-use crate::kept_texts::{KeptTexts, Named};
 use device_profile::Sample;
 use fakes::FailingOutlet;
 use job_items::RECTANGLE;
+use kept_files::{KeptJobs, KeptTexts, Named, NamedJob};
 use preflight::{Error, Outlet, Watched};
 use printers::{text_of_one_page, with_line};
 use refusing::Refusing;
@@ -14,7 +13,7 @@ use std::io;
 use std::process::Abort;
 use std::test::Fail;
 use subcommands::check_jobs::{ManyJobs, check_many};
-use subcommands::{Format, Status, Telling, tell, tell_unread_names};
+use subcommands::{Format, Status, Telling, tell, tell_unread};
 
 /// All reads succeed.
 const SOUND: u64 = u64::MAX;
@@ -430,7 +429,13 @@ fn names_that_cannot_be_read_are_told(rt: HostRuntime) {
     ];
     for (error, told) in words {
         let mut stderr = Watched::new(Vec::new(rt.alloc()));
-        let status = tell_unread_names(rt.alloc(), "in/na\nmes", *error, &mut stderr);
+        let status = tell_unread(
+            rt.alloc(),
+            b"ERROR read names ",
+            "in/na\nmes",
+            *error,
+            &mut stderr,
+        );
         assert_eq!(rt; (status.code(), stderr.get_ref().as_slice()), (3, *told));
     }
 }

@@ -1,0 +1,153 @@
+//! The words of the commands `profile list` and `profile new`.
+ghost use Rattle.std.specs.Prelude.{IfOk, IfSome};
+ghost use Rattle.command_line.specs.Words.{NamesSome};
+
+use crate::words::Request;
+use clap::builder::ValueParser;
+use clap::{Arg, ArgAction, ArgMatches, Command};
+use printer_models::PanelLists;
+use std::alloc::{AllocError, Global};
+
+/// What the words of `profile new` ask for.
+#[derive(Drop)]
+pub struct NewProfile<'a> {
+    /// The model, by its name.
+    pub model: &'a str,
+    /// The papers, by their names.
+    pub papers: Vec<&'a str>,
+    pub lists: PanelLists,
+}
+
+const PROFILE_EXPLANATION: &str = "Examples:
+  pclcheck profile list
+      the models, by their names, and the papers that each can have
+  pclcheck profile new hp-laserjet-4250 > front.profile
+      a profile for letter and A4, at a panel that stands as it was delivered
+  pclcheck profile new lexmark-ms520 --size a4,a5 --panel free > back.profile
+      one for A4 and A5, at a panel where people choose
+  pclcheck check job.pcl front.profile back.profile
+      a check for both
+
+Exit status:
+  0  a text was written, or help was asked for
+  2  usage error, no such model, or a paper that is wrong for it
+  3  a write failed, memory ran out, or the program's own tables and text do not agree";
+
+const LIST_EXPLANATION: &str = "Output, a line for each model:
+  MODEL: TITLE; papers: PAPER..
+
+  MODEL     the name that 'pclcheck profile new' takes
+  PAPER     a name that its --size takes
+
+The model 'generic' stands for a printer of PCL 5e that is not in the list.
+
+Exit status:
+  0  the models were written, or help was asked for
+  2  usage error
+  3  a write failed, or memory ran out";
+
+const NEW_EXPLANATION: &str = "Examples:
+  pclcheck profile new hp-laserjet-4250 > front.profile
+  pclcheck profile new lexmark-ms520 --size a4,a5 --panel free > back.profile
+
+MODEL and PAPER are names that 'pclcheck profile list' writes; a PAPER may be in any letter case, and
+the first one is the usual one.
+
+No number of the text was measured at a printer. Its comments say what each is from, and what to
+check at the printer before a verdict on the profile is trusted.
+
+--panel fixed: each field of the panel has one value, the usual one. The profile promises that the
+panel stands so, and that nobody changes it.
+--panel free: each field has the values that people choose among, and a job has to set what is open.
+
+Exit status:
+  0  the text was written, or help was asked for
+  2  usage error, no such model, or a paper that is unknown, that the model cannot have or that comes
+     twice; standard error names it
+  3  a write failed, memory ran out, or the program's own tables and text do not agree";
+
+/// The words of the panels.
+const PANELS: &[&str] = &["fixed", "free"];
+
+fn model<'a>(alloc: Global) -> Arg<'a> {
+    Arg::new(alloc, "MODEL")
+        .required(true)
+        .action(ArgAction::Set)
+        .help("The model of the printer, by its name in 'pclcheck profile list'")
+}
+
+fn size<'a>(alloc: Global) -> Arg<'a> {
+    Arg::new(alloc, "SIZE")
+        .long("size")
+        .value_name("PAPER,..")
+        .value_delimiter(',')
+        .action(ArgAction::Set)
+        .help("The papers that are in the printer; without it letter and a4")
+}
+
+fn panel<'a>(alloc: Global) -> Arg<'a> {
+    Arg::new(alloc, "PANEL")
+        .long("panel")
+        .action(ArgAction::Set)
+        .value_parser(ValueParser::Names(PANELS))
+        .default_value("fixed")
+        .help("Whether people change what the panel has")
+}
+
+fn list_command<'a>(alloc: Global) -> Command<'a> {
+    Command::new(alloc, "list")
+        .about("Lists the models of which there are profiles, and their papers")
+        .after_help(LIST_EXPLANATION)
+}
+
+fn new_command<'a>(alloc: Global) -> Result<Command<'a>, AllocError> {
+    Command::new(alloc, "new")
+        .about("Writes the text of a profile of a model")
+        .after_help(NEW_EXPLANATION)
+        .arg(model(alloc))?
+        .arg(size(alloc))?
+        .arg(panel(alloc))
+}
+
+/// The words of the command `profile`.
+pub fn profile_command<'a>(alloc: Global) -> Result<Command<'a>, AllocError> {
+    Command::new(alloc, "profile")
+        .about("Lists models of printers, and writes profiles of them to begin with")
+        .after_help(PROFILE_EXPLANATION)
+        .subcommand_required(true)
+        .subcommand(list_command(alloc))?
+        .subcommand(new_command(alloc)?)
+}
+
+/// The request of the words behind `profile`.
+pub fn profile_request<'a>(
+    alloc: Global,
+    found: &ArgMatches<'a>,
+) -> Result<Option<Request<'a>>, AllocError>
+    ensures { IfOk result (λ request. IfSome request NamesSome) }
+{
+    if found.subcommand_matches("list").is_some() {
+        return Ok(Some(Request::ProfileList));
+    }
+    let Some(found) = found.subcommand_matches("new") else {
+        return Ok(None);
+    };
+    let Some(model) = found.get_str("MODEL") else {
+        return Ok(None);
+    };
+    let mut papers = Vec::new(alloc);
+    papers.extend_from_slice(found.get_strs("SIZE").unwrap_or(&[]))?;
+    Ok(Some(Request::ProfileNew(NewProfile {
+        model,
+        papers,
+        lists: lists_of(found.get_str("PANEL")),
+    })))
+}
+
+/// What the panel may have, by a word.
+fn lists_of(word: Option<&str>) -> PanelLists {
+    match word {
+        Some("free") => PanelLists::Free,
+        _ => PanelLists::Fixed,
+    }
+}

@@ -1,0 +1,7 @@
+//! The tests of checks of many jobs.
+#![tactic(auto)]
+
+#[cfg(test)]
+mod forms;
+#[cfg(test)]
+mod lines;

@@ -1,0 +1,5 @@
+//! The tests of the commands on profiles.
+#![tactic(auto)]
+
+#[cfg(test)]
+mod models;

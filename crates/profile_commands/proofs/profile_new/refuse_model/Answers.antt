@@ -1,0 +1,8 @@
+use Rattle.std.proofs.Common.{subst}
+use Rattle.preflight.specs.Writing.{Writes}
+use Rattle.profile_commands.specs.ProfileNew.{unknown_model}
+use Rattle.profile_commands.proofs.profile_new.refuse_model.Goals as goal
+
+pub returns-clause-line : goal.returns-clause-line
+returns-clause-line g c =
+    subst (λ model. Writes (g.E.Outlet.state c.args.stderr.now) (g.E.Outlet.state c.write_pieces.new.outlet) (unknown_model model)) c.as_bytes.ensures.value c.write_pieces.ensures

@@ -1,0 +1,3 @@
+pub mod ProfileList
+pub mod ProfileNew
+pub mod WholeText

@@ -1,0 +1,12 @@
+-- How a text is written that was put together before.
+use Rattle.std.specs.Prelude.{ℕ, List, IsFalse, IsTrue}
+use Rattle.preflight.specs.declared.error.Error.TheVariants.{Write}
+use Rattle.streams.specs.Outlet.{OutletState, Adds, AddsFront}
+use Rattle.subcommands.specs.declared.status.Status.{Status}
+use Rattle.subcommands.specs.declared.status.Status.TheVariants.{Help, Stopped}
+
+-- all of it stands there, or a write failed and a front of it does
+abbrev pub WritesWhole : List ℕ → Status → OutletState → OutletState → Type 0
+WritesWhole text Help out out' = IsFalse out'.failed × Adds out out' text
+WritesWhole text (Stopped Write) out out' = IsTrue out'.failed × AddsFront out out' text
+WritesWhole text _ out out' = ⊥
