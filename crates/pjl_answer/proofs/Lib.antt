@@ -1,0 +1,4 @@
+pub mod Further
+pub mod LateErrors
+pub mod Parts
+pub mod SamePrinter

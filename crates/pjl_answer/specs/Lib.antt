@@ -1,0 +1,11 @@
+pub mod Variable
+pub mod Answer
+pub mod SetName
+pub mod Values
+pub mod FormLines
+pub mod Told
+pub mod Warning
+pub mod Text
+pub mod Same
+pub mod Answered
+pub mod AskedPapers

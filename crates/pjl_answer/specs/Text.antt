@@ -1,0 +1,108 @@
+-- The text of a profile with what a printer's answer tells.
+use Rattle.std.specs.Prelude.{ℕ, ◌+◌, ◌/◌, ◌%◌, ◌==◌, List, [], ◌∷◌, ◌++◌, Option, None, Some, find, codes, decimal, flat_map, option_map, unwrap_or, if◌then◌else◌}
+use Rattle.std.specs.Option.{option_and_then, option_map_or}
+use Rattle.std.specs.Str.{bytes_eq}
+use Rattle.std.specs.Str.Lines.{lines}
+use Rattle.device_profile.specs.declared.field.Field.{Field}
+use Rattle.device_profile.specs.declared.field.Field.TheVariants.{Size, Orientation, Vmi, Font, Copies, Sides, Tray, LineTerm}
+use Rattle.device_profile.specs.declared.format.Format.{Format}
+use Rattle.device_profile.specs.declared.format.Format.TheVariants.{One, Two}
+use Rattle.device_profile.specs.Printer.{Printer}
+use Rattle.device_profile.specs.Text.{format_of, words_of_line}
+use Rattle.device_profile.specs.Words.{words_of}
+use Rattle.pjl_answer.specs.declared.warning.Warning.{Warning}
+use Rattle.pjl_answer.specs.Told.{every_field, told}
+use Rattle.pjl_answer.specs.Warning.{warning_lines, warnings}
+
+-- the word that begins the line of a field
+abbrev pub key_of : Field → List ℕ
+key_of Size = codes "size"
+key_of Orientation = codes "orientation"
+key_of Vmi = codes "vmi"
+key_of Font = codes "font"
+key_of Copies = codes "copies"
+key_of Sides = codes "sides"
+key_of Tray = codes "tray"
+key_of LineTerm = codes "lineterm"
+
+-- the field whose line begins with a word
+unfoldable pub field_of : List ℕ → Option Field
+field_of word = find (λ field. bytes_eq (key_of field) word) every_field
+
+-- four decimals behind a point, where there are some
+abbrev pub decimals : ℕ → List ℕ
+decimals n =
+    if n % 10_000 == 0 then []
+    else 46 ∷ (48 + n / 1_000 % 10) ∷ (48 + n / 100 % 10) ∷ (48 + n / 10 % 10) ∷ (48 + n % 10) ∷ []
+
+-- so many ten-thousandths
+abbrev pub amount : ℕ → List ℕ
+amount n = decimal (n / 10_000) ++ decimals n
+
+-- a value of a field; the VMI counts ten-thousandths
+abbrev pub value_word : Field → ℕ → List ℕ
+value_word Vmi n = amount n
+value_word Size n = decimal n
+value_word Orientation n = decimal n
+value_word Font n = decimal n
+value_word Copies n = decimal n
+value_word Sides n = decimal n
+value_word Tray n = decimal n
+value_word LineTerm n = decimal n
+
+-- the line of a field with these values
+abbrev pub field_line : Field → List ℕ → List ℕ
+field_line field values = key_of field ++ flat_map (λ n. 32 ∷ value_word field n) values
+
+-- the field of a line's words
+abbrev pub field_on : List (List ℕ) → Option Field
+field_on [] = None
+field_on (word ∷ words) = field_of word
+
+-- the line that an answer tells in the place of one
+abbrev pub told_line : Printer → List ℕ → List ℕ → Option (List ℕ)
+told_line printer answer line =
+    option_and_then (λ field. option_map (field_line field) (told printer answer field)) (field_on (words_of_line line))
+
+-- a line of the text behind the first: as it was, where the answer tells none in its place
+abbrev pub line_after : Printer → List ℕ → List ℕ → List ℕ
+line_after printer answer line = unwrap_or (told_line printer answer line) line ++ codes "\n"
+
+-- the version that the text is of; one that has a line termination is of the second
+abbrev pub version : Format → Option (List ℕ) → List ℕ
+version One None = codes "1"
+version One (Some line_termination) = codes "2"
+version Two line_termination = codes "2"
+
+abbrev pub first_line : Format → Option (List ℕ) → List ℕ
+first_line format line_termination = codes "pclprofile " ++ version format line_termination ++ codes "\n"
+
+-- a line for line termination, which a text of the first version has not
+abbrev pub added_line : Format → Option (List ℕ) → List ℕ
+added_line One values = option_map_or (λ all. field_line LineTerm all ++ codes "\n") values []
+added_line Two values = []
+
+-- what the comments say first
+unfoldable pub origin : List ℕ
+origin = codes "# With a printer's answer to '@PJL INFO', by 'pclcheck profile from-pjl'. Lines are the answer's.\n"
+
+-- the first line, the comments with these warnings, and the line that is added
+abbrev pub head_with : Format → Option (List ℕ) → List ℕ → List Warning → List ℕ
+head_with format line_termination answer all =
+    first_line format line_termination ++ origin ++ warning_lines (codes "# ") answer all ++ added_line format line_termination
+
+abbrev pub head_of : Printer → List ℕ → Format → List ℕ
+head_of printer answer format = head_with format (told printer answer LineTerm) answer (warnings printer answer)
+
+-- the version that a text's first line names
+abbrev pub format_on : List ℕ → Format
+format_on first = unwrap_or (format_of (words_of first)) One
+
+abbrev pub text_of_lines : Printer → List ℕ → List (List ℕ) → List ℕ
+text_of_lines printer answer [] = []
+text_of_lines printer answer (first ∷ more) =
+    head_of printer answer (format_on first) ++ flat_map (line_after printer answer) more
+
+-- the text of a profile, which is one of this printer, with what the answer tells
+unfoldable pub answered_text : Printer → List ℕ → List ℕ → List ℕ
+answered_text printer answer base = text_of_lines printer answer (lines base)

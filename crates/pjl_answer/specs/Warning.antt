@@ -1,0 +1,129 @@
+-- What a user is warned of in a printer's answer.
+use Rattle.std.specs.Prelude.{ℕ, ◌/◌, ◌%◌, ◌+◌, ◌==◌, nat_le, nat_lt, not, ◌&&◌, ◌||◌, Bool, false, List, [], ◌∷◌, ◌++◌, length, take, Option, None, Some, is_some, find, codes, decimal, flat_map, option_map, if◌then◌else◌}
+use Rattle.std.specs.List.{filter_map}
+use Rattle.std.specs.Option.{option_and_then, option_map_or, option_or}
+use Rattle.std.specs.Str.{bytes_eq}
+use Rattle.device_profile.specs.declared.field.Field.{Field}
+use Rattle.device_profile.specs.declared.field.Field.TheVariants.{Size, Orientation, Vmi, Font, Copies, Sides, Tray, LineTerm}
+use Rattle.device_profile.specs.Printer.{Printer}
+use Rattle.pjl_answer.specs.declared.variable.Variable.{Variable}
+use Rattle.pjl_answer.specs.declared.variable.Variable.TheVariants as variables
+use Rattle.pjl_answer.specs.declared.warning.Note.{Note}
+use Rattle.pjl_answer.specs.declared.warning.Note.TheVariants.{NotUnderstood, NotHeld, MeasureLines, WideA4, EdgeToEdge, A4WithLetter, AppendsReturn, FreePanel, OtherLanguage, WholeMemory}
+use Rattle.pjl_answer.specs.declared.warning.Warning.{Warning}
+use Rattle.pjl_answer.specs.Answer.{entry_of, is_given, value_of}
+use Rattle.pjl_answer.specs.Told.{every_field, is_vmi_rounded, told}
+use Rattle.pjl_answer.specs.Values.{is_understood}
+use Rattle.pjl_answer.specs.Variable.{every_variable, word_of}
+
+-- ---- of fields that an answer does not tell
+
+-- the variables that tell of a field
+abbrev pub variables_of : Field → List Variable
+variables_of Size = variables.Paper ∷ []
+variables_of Orientation = variables.Orientation ∷ []
+variables_of Vmi = variables.FormLines ∷ []
+variables_of Font = variables.FontSource ∷ variables.FontNumber ∷ variables.SymbolSet ∷ variables.Pitch ∷ []
+variables_of Copies = variables.Copies ∷ []
+variables_of Sides = variables.Duplex ∷ variables.Binding ∷ []
+variables_of Tray = variables.ManualFeed ∷ variables.MpTray ∷ []
+variables_of LineTerm = variables.LineTermination ∷ []
+
+-- a variable is given, and its value is not known
+abbrev pub is_wrong : List ℕ → Variable → Bool
+is_wrong answer variable = option_map_or (λ value. not (is_understood variable value)) (value_of answer variable) false
+
+abbrev pub warning : Variable → Note → Warning
+warning variable note = record { variable = variable; note = note }
+
+-- of a field's variables the first whose value is not known, else the first that is given
+abbrev pub blame : List ℕ → Field → Option Warning
+blame answer field =
+    option_or (option_map (λ variable. warning variable NotUnderstood) (find (is_wrong answer) (variables_of field)))
+    (option_map (λ variable. warning variable NotHeld) (find (is_given answer) (variables_of field)))
+
+-- a field that is given, and not told
+abbrev pub field_warning : Printer → List ℕ → Field → Option Warning
+field_warning printer answer field = if is_some (told printer answer field) then None else blame answer field
+
+-- ---- of values
+
+abbrev pub note_if : Note → Bool → Option Note
+note_if note holds = if holds then Some note else None
+
+-- THE TABLE OF VALUES that a user is warned of
+abbrev pub note_of : List ℕ → Variable → List ℕ → Option Note
+note_of answer variables.FormLines value = note_if MeasureLines (is_vmi_rounded answer)
+note_of answer variables.WideA4 value = note_if WideA4 (bytes_eq value (codes "YES"))
+note_of answer variables.EdgeToEdge value = note_if EdgeToEdge (bytes_eq value (codes "YES"))
+note_of answer variables.OverrideA4WithLetter value = note_if A4WithLetter (bytes_eq value (codes "YES"))
+note_of answer variables.AppendCrToLf value = note_if AppendsReturn (bytes_eq value (codes "YES"))
+note_of answer variables.PanelLock value = note_if FreePanel (bytes_eq value (codes "OFF") || bytes_eq value (codes "NONE"))
+note_of answer variables.Personality value = note_if OtherLanguage (not (bytes_eq value (codes "AUTO") || bytes_eq value (codes "PCL")))
+note_of answer variables.Memory value = Some WholeMemory
+note_of answer variables.Paper value = None
+note_of answer variables.Orientation value = None
+note_of answer variables.FontSource value = None
+note_of answer variables.FontNumber value = None
+note_of answer variables.SymbolSet value = None
+note_of answer variables.Pitch value = None
+note_of answer variables.Copies value = None
+note_of answer variables.Duplex value = None
+note_of answer variables.Binding value = None
+note_of answer variables.ManualFeed value = None
+note_of answer variables.MpTray value = None
+note_of answer variables.LineTermination value = None
+
+abbrev pub value_warning : List ℕ → Variable → Option Warning
+value_warning answer variable = option_map (warning variable) (option_and_then (note_of answer variable) (value_of answer variable))
+
+-- all warnings of an answer, for a profile of this printer: of the fields, and of the values
+abbrev pub warnings : Printer → List ℕ → List Warning
+warnings printer answer =
+    filter_map (field_warning printer answer) every_field ++ filter_map (value_warning answer) every_variable
+
+-- ---- in words
+
+abbrev pub note_words : Note → List ℕ
+note_words NotUnderstood = codes "not understood; the profile keeps its list"
+note_words NotHeld = codes "nothing in the profile goes with it; it keeps its list"
+note_words MeasureLines = codes "the line spacing is rounded; measure ten lines"
+note_words WideA4 = codes "the A4 pages have to be those of 80 columns"
+note_words EdgeToEdge = codes "the printable area is larger than the pages say"
+note_words A4WithLetter = codes "A4 may come out on letter paper, and letter on A4"
+note_words AppendsReturn = codes "CR is added to LF; no profile can say that"
+note_words FreePanel = codes "anyone can change the panel; each list promises that nobody does"
+note_words OtherLanguage = codes "the printer may not read a job as PCL"
+note_words WholeMemory = codes "bytes in all; what macros may take is not told"
+
+-- a digit to base 16, in small letters
+abbrev pub hex_digit : ℕ → ℕ
+hex_digit d = if nat_lt d 10 then 48 + d else 87 + d
+
+-- a byte as itself; one that is not printable, or a backslash, as \x and two hexadecimal digits
+abbrev pub shown_byte : ℕ → List ℕ
+shown_byte b = if nat_le 32 b && nat_le b 126 && not (b == 92) then b ∷ [] else 92 ∷ 120 ∷ hex_digit (b / 16) ∷ hex_digit (b % 16) ∷ []
+
+-- of a value at most so many bytes are shown
+abbrev pub most_shown : ℕ
+most_shown = 16
+
+-- what is shown of a value, and two dots where it is longer
+abbrev pub shown_value : List ℕ → List ℕ
+shown_value value =
+    if nat_lt most_shown (length value) then flat_map shown_byte (take most_shown value) ++ codes ".." else flat_map shown_byte value
+
+-- the line of the answer, the variable, its value and the note
+abbrev pub warning_at : Warning → ℕ × List ℕ → List ℕ
+warning_at it entry =
+    codes "line " ++ decimal entry.0 ++ codes ": " ++ word_of it.variable ++ codes "=" ++ shown_value entry.1 ++ codes ": " ++ note_words it.note
+
+abbrev pub warning_words : List ℕ → Warning → List ℕ
+warning_words answer it = option_map_or (warning_at it) (entry_of answer it.variable) []
+
+-- a line behind what it begins with
+abbrev pub warning_line : List ℕ → List ℕ → Warning → List ℕ
+warning_line start answer it = start ++ warning_words answer it ++ codes "\n"
+
+abbrev pub warning_lines : List ℕ → List ℕ → List Warning → List ℕ
+warning_lines start answer all = flat_map (warning_line start answer) all

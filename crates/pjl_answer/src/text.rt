@@ -1,0 +1,278 @@
+//! The text of a profile with what a printer's answer tells.
+ghost use Rattle.std.specs.Prelude.{◌≡◌, ◌++◌, ◌∷◌, ◌+◌, ◌%◌, decimal, find, flat_map, option_map, IfOk, OnOk};
+ghost use Rattle.std.specs.Str.{bytes_eq};
+ghost use Rattle.std.specs.Str.Lines.{lines};
+ghost use Rattle.device_profile.specs.Text.{words_of_line};
+ghost use Rattle.pjl_answer.specs.Text.{added_line, amount, answered_text, decimals, field_line, field_of, field_on, first_line, head_with, key_of, line_after, origin, told_line, value_word, version};
+ghost use Rattle.pjl_answer.specs.Told.{values_in};
+ghost use Rattle.pjl_answer.specs.Warning.{warnings};
+
+use crate::told_values::{ToldValues, told};
+use crate::warning::{FIELDS, Warning};
+use crate::warning_text::push_warning_lines;
+use device_profile::{Field, Format, Profile, format_of, next_line, next_word};
+use itoa::Buffer;
+use std::alloc::{AllocError, Allocator};
+
+/// The word that begins the line of a field.
+fn key_of(field: Field) -> &'static str
+    ensures { result.now ≡ key_of field }
+{
+    match field {
+        Field::Size => "size",
+        Field::Orientation => "orientation",
+        Field::Vmi => "vmi",
+        Field::Font => "font",
+        Field::Copies => "copies",
+        Field::Sides => "sides",
+        Field::Tray => "tray",
+        Field::LineTerm => "lineterm",
+    }
+}
+
+/// The first of these fields whose line begins with a word.
+fn first_field(fields: &[Field], word: &[u8]) -> Option<Field>
+    ensures { result ≡ find (λ field. bytes_eq (key_of field) word.now) fields.now }
+{
+    fields
+        .iter()
+        .copied()
+        .find(|field| key_of(*field).as_bytes() == word)
+}
+
+/// The field whose line begins with a word.
+#[tactic(auto, unfolding(crate::specs::Text::field_of))]
+fn field_of(word: &[u8]) -> Option<Field>
+    ensures { result ≡ field_of word.now }
+{
+    first_field(&FIELDS, word)
+}
+
+/// The field of a line; a comment, whose first byte is `#`, has none.
+fn field_on(line: &[u8]) -> Option<Field>
+    ensures { result ≡ field_on (words_of_line line.now) }
+{
+    if let [b'#', ..] = line {
+        return None;
+    }
+    let (word, _) = next_word(line)?;
+    field_of(word)
+}
+
+/// Appends a number.
+fn push_number<A: Allocator>(text: &mut Vec<u8, A>, number: u32) -> Result<(), AllocError>
+    ensures { OnOk result (text.new.items ≡ text.old.items ++ decimal number) }
+{
+    let mut digits = Buffer::new();
+    text.extend_from_slice(digits.format(number).as_bytes())
+}
+
+/// The last digit of a number.
+fn last_digit(number: u32) -> u8
+    ensures { result ≡ 48 + number % 10 }
+{
+    b'0' + (number % 10) as u8
+}
+
+/// Appends the decimals of so many ten-thousandths, where there are some.
+fn push_decimals<A: Allocator>(text: &mut Vec<u8, A>, amount: u32) -> Result<(), AllocError>
+    ensures { OnOk result (text.new.items ≡ text.old.items ++ decimals amount) }
+{
+    if amount % 10_000 == 0 {
+        return Ok(());
+    }
+    text.push(b'.')?;
+    text.push(last_digit(amount / 1_000))?;
+    text.push(last_digit(amount / 100))?;
+    text.push(last_digit(amount / 10))?;
+    text.push(last_digit(amount))?;
+    Ok(())
+}
+
+/// Appends a value of a field; the VMI counts ten-thousandths.
+fn push_value<A: Allocator>(
+    text: &mut Vec<u8, A>,
+    field: Field,
+    value: u32,
+) -> Result<(), AllocError>
+    ensures { OnOk result (text.new.items ≡ text.old.items ++ value_word field value) }
+{
+    if field != Field::Vmi {
+        return push_number(text, value);
+    }
+    push_number(text, value / 10_000)?;
+    push_decimals(text, value)
+}
+
+/// Appends the line of a field, without its end.
+fn push_field<A: Allocator>(
+    text: &mut Vec<u8, A>,
+    field: Field,
+    values: ToldValues,
+) -> Result<(), AllocError>
+    ensures { OnOk result
+        (text.new.items ≡ text.old.items ++ field_line field (values_in values)) }
+{
+    text.extend_from_slice(key_of(field).as_bytes())?;
+    match values {
+        ToldValues::One(value) => push_word(text, field, value),
+        ToldValues::Two(first, second) => {
+            push_word(text, field, first)?;
+            push_word(text, field, second)
+        }
+    }
+}
+
+/// Appends a value of a field behind a space.
+fn push_word<A: Allocator>(
+    text: &mut Vec<u8, A>,
+    field: Field,
+    value: u32,
+) -> Result<(), AllocError>
+    ensures { OnOk result (text.new.items ≡ text.old.items ++ (32 ∷ value_word field value)) }
+{
+    text.push(b' ')?;
+    push_value(text, field, value)
+}
+
+/// The field of a line, and what an answer tells for it.
+fn told_on<B: Allocator>(
+    base: &Profile<B>,
+    answer: &[u8],
+    line: &[u8],
+) -> Option<(Field, ToldValues)>
+    ensures { option_map (λ on. field_line on.0 (values_in on.1)) result
+        ≡ told_line base.now answer.now line.now }
+{
+    let field = field_on(line)?;
+    let values = told(base, answer, field)?;
+    Some((field, values))
+}
+
+/// Appends a line of a profile's text: as it was, or as an answer tells it.
+fn push_line<A: Allocator, B: Allocator>(
+    text: &mut Vec<u8, A>,
+    base: &Profile<B>,
+    answer: &[u8],
+    line: &[u8],
+) -> Result<(), AllocError>
+    ensures { OnOk result
+        (text.new.items ≡ text.old.items ++ line_after base.now answer.now line.now) }
+{
+    match told_on(base, answer, line) {
+        Some((field, values)) => push_field(text, field, values)?,
+        None => text.extend_from_slice(line)?,
+    }
+    text.extend_from_slice(b"\n")
+}
+
+/// Appends the lines of a text.
+fn push_lines<A: Allocator, B: Allocator>(
+    text: &mut Vec<u8, A>,
+    base: &Profile<B>,
+    answer: &[u8],
+    old: &[u8],
+) -> Result<(), AllocError>
+    ensures { OnOk result (text.new.items
+        ≡ text.old.items ++ flat_map (line_after base.now answer.now) (lines old.now)) }
+{
+    let mut rest = old;
+    while let Some((line, after)) = next_line(rest) {
+        push_line(text, base, answer, line)?;
+        rest = after;
+    }
+    Ok(())
+}
+
+/// The version that the text is of; one that has a line termination is of the second.
+fn version(format: Format, line_termination: Option<ToldValues>) -> &'static str
+    ensures { result.now ≡ version format (option_map values_in line_termination) }
+{
+    match (format, line_termination) {
+        (Format::One, None) => "1",
+        (Format::One, Some(_)) | (Format::Two, _) => "2",
+    }
+}
+
+/// Appends the first line.
+fn push_first_line<A: Allocator>(
+    text: &mut Vec<u8, A>,
+    format: Format,
+    line_termination: Option<ToldValues>,
+) -> Result<(), AllocError>
+    ensures { OnOk result (text.new.items
+        ≡ text.old.items ++ first_line format (option_map values_in line_termination)) }
+{
+    text.extend_from_slice(b"pclprofile ")?;
+    text.extend_from_slice(version(format, line_termination).as_bytes())?;
+    text.extend_from_slice(b"\n")
+}
+
+/// Appends a line for line termination, which a text of the first version has not.
+fn push_added_line<A: Allocator>(
+    text: &mut Vec<u8, A>,
+    format: Format,
+    values: Option<ToldValues>,
+) -> Result<(), AllocError>
+    ensures { OnOk result (text.new.items
+        ≡ text.old.items ++ added_line format (option_map values_in values)) }
+{
+    match (format, values) {
+        (Format::One, Some(values)) => {
+            push_field(text, Field::LineTerm, values)?;
+            text.extend_from_slice(b"\n")
+        }
+        (Format::One, None) | (Format::Two, _) => Ok(()),
+    }
+}
+
+/// What the comments say first.
+const ORIGIN: &[u8] = b"# With a printer's answer to '@PJL INFO', by 'pclcheck profile from-pjl'. \
+    Lines are the answer's.\n";
+
+/// Appends what the comments say first.
+#[tactic(auto, unfolding(crate::specs::Text::origin))]
+fn push_origin<A: Allocator>(text: &mut Vec<u8, A>) -> Result<(), AllocError>
+    ensures { OnOk result (text.new.items ≡ text.old.items ++ origin) }
+{
+    text.extend_from_slice(ORIGIN)
+}
+
+/// Appends the first line, the comments with these warnings, and the line that is added.
+fn push_head<A: Allocator>(
+    text: &mut Vec<u8, A>,
+    answer: &[u8],
+    all: &[Warning],
+    format: Format,
+    line_termination: Option<ToldValues>,
+) -> Result<(), AllocError>
+    ensures { OnOk result (text.new.items ≡ text.old.items
+        ++ head_with format (option_map values_in line_termination) answer.now all.now) }
+{
+    push_first_line(text, format, line_termination)?;
+    push_origin(text)?;
+    push_warning_lines(text, b"# ", answer, all)?;
+    push_added_line(text, format, line_termination)
+}
+
+/// The text of a profile with what an answer tells, whose warnings are these.
+#[tactic(auto, unfolding(crate::specs::Text::answered_text))]
+pub(crate) fn text_with<A: Allocator, B: Allocator>(
+    alloc: A,
+    base: &Profile<B>,
+    answer: &[u8],
+    all: &[Warning],
+    old: &[u8],
+) -> Result<Vec<u8, A>, AllocError>
+    requires { all.now ≡ warnings base.now answer.now }
+    ensures { IfOk result (λ text. text.items ≡ answered_text base.now answer.now old.now) }
+{
+    let mut text = Vec::new(alloc);
+    if let Some((first, rest)) = next_line(old) {
+        let format = format_of(first).unwrap_or(Format::One);
+        let line_termination = told(base, answer, Field::LineTerm);
+        push_head(&mut text, answer, all, format, line_termination)?;
+        push_lines(&mut text, base, answer, rest)?;
+    }
+    Ok(text)
+}

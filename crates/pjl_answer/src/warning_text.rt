@@ -1,0 +1,145 @@
+//! The lines in which a user is warned.
+ghost use Rattle.std.specs.Prelude.{◌≡◌, ◌++◌, ◌<◌, flat_map, OnOk};
+ghost use Rattle.pjl_answer.specs.Warning.{hex_digit, note_words, shown_byte, shown_value, warning_at, warning_line, warning_lines, warning_words};
+
+use crate::entry::entry_of;
+use crate::warning::{Note, Warning};
+use itoa::Buffer;
+use std::alloc::{AllocError, Allocator};
+
+impl Note {
+    /// The note in words.
+    fn words(self) -> &'static str
+        ensures { result.now ≡ note_words self }
+    {
+        match self {
+            Note::NotUnderstood => "not understood; the profile keeps its list",
+            Note::NotHeld => "nothing in the profile goes with it; it keeps its list",
+            Note::MeasureLines => "the line spacing is rounded; measure ten lines",
+            Note::WideA4 => "the A4 pages have to be those of 80 columns",
+            Note::EdgeToEdge => "the printable area is larger than the pages say",
+            Note::A4WithLetter => "A4 may come out on letter paper, and letter on A4",
+            Note::AppendsReturn => "CR is added to LF; no profile can say that",
+            Note::FreePanel => {
+                "anyone can change the panel; each list promises that nobody does"
+            }
+            Note::OtherLanguage => "the printer may not read a job as PCL",
+            Note::WholeMemory => "bytes in all; what macros may take is not told",
+        }
+    }
+}
+
+/// A digit to base 16, in small letters.
+fn hex_digit(digit: u8) -> u8
+    requires { digit < 16 }
+    ensures { result ≡ hex_digit digit }
+{
+    if digit < 10 { b'0' + digit } else { 87 + digit }
+}
+
+/// Appends a byte as itself; one that is not printable, or a backslash, as `\x` and two hexadecimal
+/// digits.
+fn push_shown_byte<A: Allocator>(text: &mut Vec<u8, A>, byte: u8) -> Result<(), AllocError>
+    ensures { OnOk result (text.new.items ≡ text.old.items ++ shown_byte byte) }
+{
+    if 32 <= byte && byte <= 126 && byte != b'\\' {
+        text.push(byte)?;
+        return Ok(());
+    }
+    text.push(b'\\')?;
+    text.push(b'x')?;
+    text.push(hex_digit(byte / 16))?;
+    text.push(hex_digit(byte % 16))?;
+    Ok(())
+}
+
+/// Appends these bytes, as they are shown.
+fn push_shown<A: Allocator>(text: &mut Vec<u8, A>, bytes: &[u8]) -> Result<(), AllocError>
+    ensures { OnOk result (text.new.items ≡ text.old.items ++ flat_map shown_byte bytes.now) }
+{
+    for byte in bytes {
+        push_shown_byte(text, *byte)?;
+    }
+    Ok(())
+}
+
+/// Of a value at most so many bytes are shown.
+const MOST_SHOWN: usize = 16;
+
+/// Appends what is shown of a value.
+fn push_shown_value<A: Allocator>(text: &mut Vec<u8, A>, value: &[u8]) -> Result<(), AllocError>
+    ensures { OnOk result (text.new.items ≡ text.old.items ++ shown_value value.now) }
+{
+    if value.len() <= MOST_SHOWN {
+        return push_shown(text, value);
+    }
+    push_shown(text, &value[..MOST_SHOWN])?;
+    text.extend_from_slice(b"..")
+}
+
+/// Appends a warning of a value that stands in the line of this number.
+fn push_warning_at<A: Allocator>(
+    text: &mut Vec<u8, A>,
+    warning: Warning,
+    line: u64,
+    value: &[u8],
+) -> Result<(), AllocError>
+    ensures { OnOk result
+        (text.new.items ≡ text.old.items ++ warning_at warning (line, value.now)) }
+{
+    let mut digits = Buffer::new();
+    text.extend_from_slice(b"line ")?;
+    text.extend_from_slice(digits.format(line).as_bytes())?;
+    text.extend_from_slice(b": ")?;
+    text.extend_from_slice(warning.variable.word().as_bytes())?;
+    text.extend_from_slice(b"=")?;
+    push_shown_value(text, value)?;
+    text.extend_from_slice(b": ")?;
+    text.extend_from_slice(warning.note.words().as_bytes())
+}
+
+/// Appends a warning of an answer.
+fn push_warning<A: Allocator>(
+    text: &mut Vec<u8, A>,
+    answer: &[u8],
+    warning: Warning,
+) -> Result<(), AllocError>
+    ensures { OnOk result
+        (text.new.items ≡ text.old.items ++ warning_words answer.now warning) }
+{
+    match entry_of(answer, warning.variable) {
+        Some((line, value)) => push_warning_at(text, warning, line, value),
+        None => Ok(()),
+    }
+}
+
+/// Appends the line of a warning, behind what it begins with.
+fn push_warning_line<A: Allocator>(
+    text: &mut Vec<u8, A>,
+    start: &[u8],
+    answer: &[u8],
+    warning: Warning,
+) -> Result<(), AllocError>
+    ensures { OnOk result
+        (text.new.items ≡ text.old.items ++ warning_line start.now answer.now warning) }
+{
+    text.extend_from_slice(start)?;
+    push_warning(text, answer, warning)?;
+    text.extend_from_slice(b"\n")
+}
+
+/// Appends the lines of warnings, each behind what it begins with.
+pub(crate) fn push_warning_lines<A: Allocator>(
+    text: &mut Vec<u8, A>,
+    start: &[u8],
+    answer: &[u8],
+    all: &[Warning],
+) -> Result<(), AllocError>
+    ensures { OnOk result
+        (text.new.items ≡ text.old.items ++ warning_lines start.now answer.now all.now) }
+{
+    for warning in all {
+        push_warning_line(text, start, answer, *warning)?;
+    }
+    Ok(())
+}

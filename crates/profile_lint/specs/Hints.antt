@@ -1,0 +1,33 @@
+-- Hints on a profile that was read.
+use Rattle.std.specs.Prelude.{◌==◌, nat_lt, Bool, if◌then◌else◌, List, [], ◌∷◌, ◌++◌, flat_map, length}
+use Rattle.std.specs.List.{list_all}
+use Rattle.device_profile.specs.declared.field.Field.{Field}
+use Rattle.device_profile.specs.declared.field.Field.TheVariants.{Size, Orientation, Vmi, Font, Copies, Sides, Tray, LineTerm}
+use Rattle.device_profile.specs.Printer.{Printer, values_of}
+use Rattle.printer_models.specs.declared.face.Generation.TheVariants.{LaserJet5}
+use Rattle.printer_models.specs.Face.{faces_of}
+use Rattle.profile_lint.specs.declared.hint.Hint.{Hint}
+use Rattle.profile_lint.specs.declared.hint.Hint.TheVariants.{SeveralValues, FixedPanel}
+use Rattle.profile_lint.specs.FaceHints.{face_hints}
+use Rattle.profile_lint.specs.PageHints.{page_hints}
+
+abbrev pub every_field : List Field
+every_field = Size ∷ Orientation ∷ Vmi ∷ Font ∷ Copies ∷ Sides ∷ Tray ∷ LineTerm ∷ []
+
+-- the panel may have several values in a field that jobs seldom set
+abbrev pub several_hints : Printer → Field → List Hint
+several_hints printer field = if nat_lt 1 (length (values_of printer field)) then SeveralValues field ∷ [] else []
+
+-- the panel has one value in each field
+abbrev pub is_fixed : Printer → Bool
+is_fixed printer = list_all (λ field. length (values_of printer field) == 1) every_field
+
+abbrev pub fixed_hints : Printer → List Hint
+fixed_hints printer = if is_fixed printer then FixedPanel ∷ [] else []
+
+abbrev pub panel_hints : Printer → List Hint
+panel_hints printer = several_hints printer Copies ++ several_hints printer Sides ++ several_hints printer Tray ++ fixed_hints printer
+
+-- On its pages, its faces and its panel. Both generations have the same faces, in another order.
+unfoldable pub hints_of : Printer → List Hint
+hints_of printer = flat_map page_hints printer.geometries ++ flat_map (face_hints (faces_of LaserJet5)) printer.faces ++ panel_hints printer

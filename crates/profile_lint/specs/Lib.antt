@@ -1,0 +1,14 @@
+pub mod Keys
+pub mod Faults
+pub mod Whole
+pub mod TextFaults
+pub mod Laws
+pub mod Lint
+pub mod Shown
+pub mod Rules
+pub mod FaultLines
+pub mod PageHints
+pub mod FaceHints
+pub mod Hints
+pub mod HintLines
+pub mod Differences

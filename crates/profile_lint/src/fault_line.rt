@@ -1,0 +1,129 @@
+//! The line that is written for a fault.
+ghost use Rattle.std.specs.Prelude.{◌≡◌, ◌++◌, codes, OnOk};
+ghost use Rattle.profile_lint.specs.FaultLines.{cause_word, fault_line, fault_words, line_words};
+ghost use Rattle.profile_lint.specs.Rules.{broken_rule};
+ghost use Rattle.profile_lint.specs.Shown.{quoted};
+
+use crate::fault::TextFault;
+use crate::key_rules::{broken_rule, meaning_of};
+use crate::key_words::key_word;
+use crate::shown::{
+    line_at, push_number, push_number_in, push_numbers_in, push_quoted, push_shown, push_word_in,
+};
+use device_profile::{Cause, Key};
+use std::alloc::{AllocError, Allocator};
+
+/// Appends the line that tells a fault of a file's text: `FILE:LINE: WORDS (CAUSE)`, or
+/// `FILE: WORDS (CAUSE)` where the whole is wrong.
+///
+/// Bytes of the file's name and of its text that show nothing stand there as `\xHH`. Of a faulty
+/// line at most 40 bytes are quoted.
+///
+/// An error means that the allocator refused a request.
+pub fn push_fault<A: Allocator>(
+    out: &mut Vec<u8, A>,
+    file: &[u8],
+    text: &[u8],
+    fault: TextFault,
+) -> Result<(), AllocError>
+    ensures { OnOk result (out.new.items ≡ out.old.items ++ fault_line file.now text.now fault) }
+{
+    push_shown(out, file)?;
+    push_line_words(out, fault.line())?;
+    out.extend_from_slice(b": ")?;
+    push_fault_words(out, text, fault)?;
+    out.extend_from_slice(b" (")?;
+    out.extend_from_slice(cause_word(fault.cause()))?;
+    out.extend_from_slice(b")\n")
+}
+
+/// Appends the number of a line behind its file, and nothing for the whole, which has 0.
+fn push_line_words<A: Allocator>(out: &mut Vec<u8, A>, number: u64) -> Result<(), AllocError>
+    ensures { OnOk result (out.new.items ≡ out.old.items ++ line_words number) }
+{
+    if number == 0 {
+        return Ok(());
+    }
+    out.push(b':')?;
+    push_number(out, number)
+}
+
+/// Appends what is wrong with a text.
+fn push_fault_words<A: Allocator>(
+    out: &mut Vec<u8, A>,
+    text: &[u8],
+    fault: TextFault,
+) -> Result<(), AllocError>
+    ensures { OnOk result (out.new.items ≡ out.old.items ++ fault_words text.now fault) }
+{
+    match fault {
+        TextFault::TooLong => {
+            out.extend_from_slice(b"it has more than 65536 bytes, which no profile has")
+        }
+        TextFault::NoVersion => {
+            out.extend_from_slice(b"the first line has to be 'pclprofile 1' or 'pclprofile 2'")
+        }
+        TextFault::OnLine { number, key, cause } => {
+            push_line_fault(out, line_at(text, number), key, cause)
+        }
+        TextFault::Ungiven(key) => {
+            let word = key_word(key);
+            push_word_in(out, b"no line gives '", word, b"', ", meaning_of(key))
+        }
+        TextFault::NoPageOfSize(size) => {
+            let behind = b", but no geometry line has it";
+            push_number_in(out, b"the panel may have size ", size, behind)
+        }
+        TextFault::NoPageInOrientation(orientation) => {
+            let behind = b", but no geometry line has it";
+            push_number_in(out, b"the panel may have orientation ", orientation, behind)
+        }
+        TextFault::NoPair { size, orientation } => {
+            let before = b"no geometry line has both size ";
+            let behind = b", but some have either";
+            push_numbers_in(out, before, size, b" and orientation ", orientation, behind)
+        }
+        TextFault::NoFace(font) => {
+            let behind = b", but no face line has this id";
+            push_number_in(out, b"the panel may have font ", font, behind)
+        }
+        TextFault::NoTray(tray) => {
+            let behind = b", but 'trays' lacks it";
+            push_number_in(out, b"the panel may take paper from tray ", tray, behind)
+        }
+        TextFault::NoSides(sides) => {
+            let behind = b", but 'duplex' is 0";
+            push_number_in(out, b"the panel may have sides ", sides, behind)
+        }
+    }
+}
+
+/// Appends a line and the rule that it breaks.
+fn push_line_fault<A: Allocator>(
+    out: &mut Vec<u8, A>,
+    line: &[u8],
+    key: Option<Key>,
+    cause: Cause,
+) -> Result<(), AllocError>
+    ensures { OnOk result
+        (out.new.items ≡ out.old.items ++
+        (quoted line.now ++ codes ": " ++ broken_rule key cause)) }
+{
+    push_quoted(out, line)?;
+    out.extend_from_slice(b": ")?;
+    out.extend_from_slice(broken_rule(key, cause))
+}
+
+/// The name of a cause.
+fn cause_word(cause: Cause) -> &'static [u8]
+    ensures { result.now ≡ cause_word cause }
+{
+    match cause {
+        Cause::Version => b"Version",
+        Cause::Unknown => b"Unknown",
+        Cause::Repeated => b"Repeated",
+        Cause::Range => b"Range",
+        Cause::Missing => b"Missing",
+        Cause::NoGeometry => b"NoGeometry",
+    }
+}

@@ -1,0 +1,147 @@
+//! Bytes of files as they stand in lines for a terminal.
+ghost use Rattle.std.specs.Prelude.{◌≡◌, ◌<◌, ◌++◌, decimal, take, OnOk};
+ghost use Rattle.profile_lint.specs.Shown.{dots_behind, hex_digit, line_at, quoted, shown, shown_byte};
+
+use device_profile::next_line;
+use itoa::Buffer;
+use std::alloc::{AllocError, Allocator};
+
+/// A digit to base 16, in small letters.
+fn hex_digit(digit: u8) -> u8
+    requires { digit < 16 }
+    ensures { result ≡ hex_digit digit }
+{
+    if digit < 10 {
+        b'0' + digit
+    } else {
+        b'a' + (digit - 10)
+    }
+}
+
+/// Appends a byte as itself, and one that shows nothing as `\x` and two hexadecimal digits.
+fn push_shown_byte<A: Allocator>(out: &mut Vec<u8, A>, byte: u8) -> Result<(), AllocError>
+    ensures { OnOk result (out.new.items ≡ out.old.items ++ shown_byte byte) }
+{
+    if 32 <= byte && byte <= 126 {
+        out.push(byte)?;
+        return Ok(());
+    }
+    out.extend_from_slice(&[b'\\', b'x', hex_digit(byte / 16), hex_digit(byte % 16)])
+}
+
+/// Appends bytes, and those that show nothing by their digits.
+pub(crate) fn push_shown<A: Allocator>(out: &mut Vec<u8, A>, bytes: &[u8]) -> Result<(), AllocError>
+    ensures { OnOk result (out.new.items ≡ out.old.items ++ shown bytes.now) }
+{
+    for byte in bytes {
+        push_shown_byte(out, *byte)?;
+    }
+    Ok(())
+}
+
+/// So many bytes of a line are quoted at the most.
+const MOST_QUOTED: usize = 40;
+
+/// The part of a line that is quoted.
+fn quoted_part(line: &[u8]) -> &[u8]
+    ensures { result.now ≡ take 40 line.now }
+{
+    if line.len() > MOST_QUOTED {
+        &line[..MOST_QUOTED]
+    } else {
+        line
+    }
+}
+
+/// Dots, where a line has more bytes than are quoted.
+fn dots_behind(line: &[u8]) -> &'static [u8]
+    ensures { result.now ≡ dots_behind line.now }
+{
+    if line.len() > MOST_QUOTED { b".." } else { b"" }
+}
+
+/// Appends a line between quotes.
+pub(crate) fn push_quoted<A: Allocator>(out: &mut Vec<u8, A>, line: &[u8]) -> Result<(), AllocError>
+    ensures { OnOk result (out.new.items ≡ out.old.items ++ quoted line.now) }
+{
+    out.extend_from_slice(b"'")?;
+    push_shown(out, quoted_part(line))?;
+    out.extend_from_slice(dots_behind(line))?;
+    out.extend_from_slice(b"'")
+}
+
+/// The line of a number, which counts from 1, without its end; it is empty where there is none.
+pub(crate) fn line_at(text: &[u8], number: u64) -> &[u8]
+    ensures { result.now ≡ line_at text.now number }
+{
+    let mut rest = text;
+    let mut left = number;
+    while let Some((line, after)) = next_line(rest) {
+        if left <= 1 {
+            return line;
+        }
+        left -= 1;
+        rest = after;
+    }
+    &[]
+}
+
+/// Appends a number.
+pub(crate) fn push_number<A: Allocator>(out: &mut Vec<u8, A>, number: u64) -> Result<(), AllocError>
+    ensures { OnOk result (out.new.items ≡ out.old.items ++ decimal number) }
+{
+    let mut digits = Buffer::new();
+    out.extend_from_slice(digits.format(number).as_bytes())
+}
+
+/// Appends a number between words.
+pub(crate) fn push_number_in<A: Allocator>(
+    out: &mut Vec<u8, A>,
+    before: &[u8],
+    number: u32,
+    behind: &[u8],
+) -> Result<(), AllocError>
+    ensures { OnOk result
+        (out.new.items ≡ out.old.items ++ (before.now ++ decimal number ++ behind.now)) }
+{
+    out.extend_from_slice(before)?;
+    push_number(out, u64::from(number))?;
+    out.extend_from_slice(behind)
+}
+
+/// Appends two numbers between words.
+pub(crate) fn push_numbers_in<A: Allocator>(
+    out: &mut Vec<u8, A>,
+    before: &[u8],
+    first: u32,
+    between: &[u8],
+    second: u32,
+    behind: &[u8],
+) -> Result<(), AllocError>
+    ensures { OnOk result
+        (out.new.items ≡ out.old.items ++
+        (before.now ++ decimal first ++ between.now ++ decimal second ++ behind.now)) }
+{
+    out.extend_from_slice(before)?;
+    push_number(out, u64::from(first))?;
+    out.extend_from_slice(between)?;
+    push_number(out, u64::from(second))?;
+    out.extend_from_slice(behind)
+}
+
+/// Appends a word between others, and what follows.
+pub(crate) fn push_word_in<A: Allocator>(
+    out: &mut Vec<u8, A>,
+    before: &[u8],
+    word: &[u8],
+    behind: &[u8],
+    last: &[u8],
+) -> Result<(), AllocError>
+    ensures { OnOk result
+        (out.new.items ≡ out.old.items ++ (before.now ++ word.now ++ behind.now ++ last.now)) }
+{
+    out.extend_from_slice(before)?;
+    out.extend_from_slice(word)?;
+    out.extend_from_slice(behind)?;
+    out.extend_from_slice(last)
+}

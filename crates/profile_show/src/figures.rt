@@ -1,0 +1,221 @@
+//! Numbers and lengths as they stand in a text.
+ghost use Rattle.std.specs.Prelude.{◌≡◌, ◌+◌, ◌++◌, ◌<◌, ◌≤◌, ◌^◌, OnOk, decimal};
+ghost use Rattle.profile_show.specs.Figures.{
+  amount,
+  counted,
+  decimals,
+  digit,
+  four_decimals,
+  in_7200ths,
+  length_in,
+  parts_of,
+  places,
+  sides_in,
+  signed_amount,
+  unit_name,
+  with_hundredths,
+  with_tenth,
+};
+
+use itoa::Buffer;
+use std::alloc::{AllocError, Allocator};
+use tick_length::Length;
+
+/// What a length is told in.
+#[derive(Clone, Copy, Debug, PartialEq, Eq)]
+pub(crate) enum LengthUnit {
+    /// Millimetres, with one decimal.
+    Millimetres,
+    /// Inches, with three decimals at the most.
+    Inches,
+    /// Dots of 1/300 inch, with two decimals where they are not whole.
+    Dots,
+}
+
+/// How many ticks a tenth of a millimetre has.
+const TICKS_PER_TENTH_MILLIMETRE: u64 = 144_000_000;
+
+/// How many ticks 1/1000 inch has.
+const TICKS_PER_THOUSANDTH_INCH: u64 = 36_576_000;
+
+/// How many ticks a hundredth of a dot has, which is 1/300 inch.
+const TICKS_PER_HUNDREDTH_DOT: u64 = 1_219_200;
+
+/// How many ticks 1/7200 inch has.
+const TICKS_PER_7200TH: u64 = 5_080_000;
+
+/// Appends a number.
+pub(crate) fn push_number<A: Allocator>(
+    text: &mut Vec<u8, A>,
+    number: u64,
+) -> Result<(), AllocError>
+    ensures { OnOk result (text.new.items ≡ text.old.items ++ decimal number) }
+{
+    let mut digits = Buffer::new();
+    text.extend_from_slice(digits.format(number).as_bytes())
+}
+
+/// The last digit of a number.
+fn digit(n: u64) -> u8
+    ensures { result ≡ digit n }
+{
+    b'0' + (n % 10) as u8
+}
+
+/// How many decimals of ten-thousandths there are up to the last that is not 0.
+fn places(n: u64) -> usize
+    ensures value { result ≡ places n }
+    ensures small { result ≤ 4 }
+{
+    if n % 1_000 == 0 {
+        1
+    } else if n % 100 == 0 {
+        2
+    } else if n % 10 == 0 {
+        3
+    } else {
+        4
+    }
+}
+
+/// The four decimals of so many ten-thousandths.
+fn four_decimals(n: u64) -> [u8; 4]
+    ensures { result ≡ four_decimals n }
+{
+    [digit(n / 1_000), digit(n / 100), digit(n / 10), digit(n)]
+}
+
+/// Appends the point and the decimals of a value of so many ten-thousandths, where it has some.
+fn push_decimals<A: Allocator>(text: &mut Vec<u8, A>, n: u64) -> Result<(), AllocError>
+    ensures { OnOk result (text.new.items ≡ text.old.items ++ decimals n) }
+{
+    if n % 10_000 == 0 {
+        return Ok(());
+    }
+    text.push(b'.')?;
+    text.extend_from_slice(&four_decimals(n)[..places(n)])
+}
+
+/// Appends a value of so many ten-thousandths.
+#[tactic(auto, unfolding(crate::specs::Figures::amount))]
+pub(crate) fn push_amount<A: Allocator>(text: &mut Vec<u8, A>, n: u64) -> Result<(), AllocError>
+    ensures { OnOk result (text.new.items ≡ text.old.items ++ amount n) }
+{
+    push_number(text, n / 10_000)?;
+    push_decimals(text, n)
+}
+
+/// Appends a value of so many ten-thousandths, which may be less than 0.
+#[tactic(auto, unfolding(crate::specs::Figures::signed_amount))]
+pub(crate) fn push_signed_amount<A: Allocator>(
+    text: &mut Vec<u8, A>,
+    n: i32,
+) -> Result<(), AllocError>
+    ensures { OnOk result (text.new.items ≡ text.old.items ++ signed_amount n) }
+{
+    if n < 0 {
+        text.push(b'-')?;
+    }
+    push_amount(text, u64::from(n.unsigned_abs()))
+}
+
+/// Appends a number with one decimal, of so many tenths.
+fn push_with_tenth<A: Allocator>(text: &mut Vec<u8, A>, n: u64) -> Result<(), AllocError>
+    ensures { OnOk result (text.new.items ≡ text.old.items ++ with_tenth n) }
+{
+    push_number(text, n / 10)?;
+    text.extend_from_slice(&[b'.', digit(n)])
+}
+
+/// Appends a number of so many hundredths, with two decimals where it is not whole.
+fn push_with_hundredths<A: Allocator>(text: &mut Vec<u8, A>, n: u64) -> Result<(), AllocError>
+    ensures { OnOk result (text.new.items ≡ text.old.items ++ with_hundredths n) }
+{
+    push_number(text, n / 100)?;
+    if n % 100 == 0 {
+        return Ok(());
+    }
+    text.extend_from_slice(&[b'.', digit(n / 10), digit(n)])
+}
+
+/// Appends how many there are of something, as `1 level` or `2 levels`.
+pub(crate) fn push_counted<A: Allocator>(
+    text: &mut Vec<u8, A>,
+    n: u64,
+    thing: &[u8],
+) -> Result<(), AllocError>
+    ensures { OnOk result (text.new.items ≡ text.old.items ++ counted n thing.now) }
+{
+    push_number(text, n)?;
+    text.extend_from_slice(b" ")?;
+    text.extend_from_slice(thing)?;
+    if n == 1 {
+        return Ok(());
+    }
+    text.extend_from_slice(b"s")
+}
+
+/// How many parts of so many ticks a length has, rounded.
+fn parts_of(ticks: u64, length: Length) -> u64
+    requires some { 0 < ticks }
+    requires few { ticks < 2 ^ 32 }
+    ensures value { result ≡ parts_of ticks length }
+    ensures small { result ≤ 2 ^ 60 + 2 ^ 31 }
+{
+    (length.ticks().unsigned_abs() + ticks / 2) / ticks
+}
+
+/// Appends a length in 1/7200 inch.
+pub(crate) fn push_7200ths<A: Allocator>(
+    text: &mut Vec<u8, A>,
+    length: Length,
+) -> Result<(), AllocError>
+    ensures { OnOk result (text.new.items ≡ text.old.items ++ in_7200ths length) }
+{
+    push_number(text, parts_of(TICKS_PER_7200TH, length))
+}
+
+/// Appends a length.
+#[tactic(auto, unfolding(crate::specs::Figures::length_in))]
+pub(crate) fn push_length<A: Allocator>(
+    text: &mut Vec<u8, A>,
+    unit: LengthUnit,
+    length: Length,
+) -> Result<(), AllocError>
+    ensures { OnOk result (text.new.items ≡ text.old.items ++ length_in unit length) }
+{
+    match unit {
+        LengthUnit::Millimetres => {
+            push_with_tenth(text, parts_of(TICKS_PER_TENTH_MILLIMETRE, length))
+        }
+        LengthUnit::Inches => push_amount(text, 10 * parts_of(TICKS_PER_THOUSANDTH_INCH, length)),
+        LengthUnit::Dots => push_with_hundredths(text, parts_of(TICKS_PER_HUNDREDTH_DOT, length)),
+    }
+}
+
+fn unit_name(unit: LengthUnit) -> &'static [u8]
+    ensures { result.now ≡ unit_name unit }
+{
+    match unit {
+        LengthUnit::Millimetres => b"mm",
+        LengthUnit::Inches => b"in",
+        LengthUnit::Dots => b"dots",
+    }
+}
+
+/// Appends width and height, as `8.5 x 11 in`.
+#[tactic(auto, unfolding(crate::specs::Figures::sides_in))]
+pub(crate) fn push_sides<A: Allocator>(
+    text: &mut Vec<u8, A>,
+    unit: LengthUnit,
+    width: Length,
+    height: Length,
+) -> Result<(), AllocError>
+    ensures { OnOk result (text.new.items ≡ text.old.items ++ sides_in unit width height) }
+{
+    push_length(text, unit, width)?;
+    text.extend_from_slice(b" x ")?;
+    push_length(text, unit, height)?;
+    text.extend_from_slice(b" ")?;
+    text.extend_from_slice(unit_name(unit))
+}

@@ -1,0 +1,63 @@
+-- Pages with a line for each face.
+use Rattle.std.specs.Prelude.{ℕ, ◌+◌, ◌-◌, ◌/◌, ◌%◌, ◌==◌, min, max, List, [], ◌∷◌, ◌++◌, codes, decimal, flat_map, if◌then◌else◌}
+use Rattle.std.specs.List.{enumerate_from}
+use Rattle.device_profile.specs.declared.geometry.Geometry.{Geometry}
+use Rattle.device_profile.specs.Faces.{Face}
+use Rattle.test_sheet.specs.declared.area.Area.{Area}
+use Rattle.test_sheet.specs.Area.{area_of, left_half, right_half}
+use Rattle.test_sheet.specs.Commands.{page_request, font_request, form_feed}
+use Rattle.test_sheet.specs.Figures.{amount, signed_amount, symbol_set}
+use Rattle.test_sheet.specs.Lines.{baseline, indent, line_height, words_on}
+use Rattle.test_sheet.specs.Marks.{words_at}
+
+-- how many faces go on a page, below its heading: one at least
+unfoldable pub faces_on : Area → Face → ℕ
+faces_on area first = max 1 (min 99 ((area.bottom - (area.top + 12)) / line_height first - 1))
+
+-- the line of a face on its page, by how many faces come before it
+abbrev pub line_of : ℕ → ℕ → ℕ
+line_of count index = 1 + index % count
+
+-- a face in words: its id, and what selects it
+unfoldable pub face_words : Face → List ℕ
+face_words face =
+    decimal face.id
+    ++ 32 ∷ symbol_set face.request.symbol_set
+    ++ 32 ∷ amount face.request.pitch
+    ++ 32 ∷ amount face.request.height
+    ++ 32 ∷ amount face.request.style
+    ++ 32 ∷ signed_amount face.request.weight
+    ++ 32 ∷ amount face.request.typeface
+
+-- letters and figures, and the ends of the ranges of its codes
+unfoldable pub sample_words : Face → List ℕ
+sample_words face = codes "ABCxyz019 " ++ flat_map (λ range. range.first ∷ range.last ∷ []) face.codes
+
+-- its words in the first face at the left, and letters of its own at the right
+unfoldable pub face_line : Area → Face → ℕ → Face → List ℕ
+face_line area first line face =
+    words_on (left_half area) first line (face_words face)
+    ++ font_request face.request
+    ++ words_at (right_half area) face (indent (right_half area)) (baseline area first line) (sample_words face)
+    ++ font_request first.request
+
+-- what begins a page
+abbrev pub heading : Area → Face → List ℕ
+heading area first = words_on area first 0 (codes "Face, set, pitch, height, style, weight, typeface")
+
+-- the line of a face, behind a heading where it is the first of its page, and ended by a form feed where it is the last
+unfoldable pub face_entry : Area → Face → ℕ → Face → List ℕ
+face_entry area first index face =
+    let count : ℕ = faces_on area first in
+    (if index % count == 0 then heading area first else [])
+    ++ face_line area first (line_of count index) face
+    ++ (if line_of count index == count then form_feed else [])
+
+abbrev pub face_entries : Area → Face → List Face → List ℕ
+face_entries area first faces = flat_map (λ entry. face_entry area first entry.0 entry.1) (enumerate_from 0 faces)
+
+unfoldable pub face_pages : Geometry → Face → List Face → List ℕ
+face_pages page first faces =
+    page_request page.size page.orientation
+    ++ font_request first.request
+    ++ face_entries (area_of page) first faces

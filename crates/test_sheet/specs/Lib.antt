@@ -1,0 +1,11 @@
+pub mod Dots
+pub mod Figures
+pub mod Area
+pub mod Commands
+pub mod Marks
+pub mod Panel
+pub mod OwnPage
+pub mod Lines
+pub mod MeasuredPage
+pub mod FacePages
+pub mod Sheet

@@ -1,0 +1,178 @@
+//! Pages with a line for each face.
+ghost use Rattle.std.specs.Prelude.{◌≡◌, ◌++◌, ◌∷◌, [], ◌≤◌, ◌<◌, OnOk, IfOk, flat_map};
+ghost use Rattle.test_sheet.specs.FacePages.{face_entries, face_entry, face_line, face_pages, face_words, faces_on, heading, line_of, sample_words};
+
+use crate::area::{Area, area_of};
+use crate::commands::{push_font_request, push_page_request};
+use crate::figures::{push_amount, push_number, push_signed_amount, push_symbol_set};
+use crate::lines::{baseline, indent, line_height, push_words_on};
+use crate::marks::push_words_at;
+use device_profile::{CodeRange, FontRow, Geometry};
+use std::alloc::{AllocError, Allocator};
+
+/// How many faces go on a page, below its heading.
+#[tactic(auto, unfolding(crate::specs::FacePages::faces_on))]
+fn faces_on<P: Allocator>(area: Area, first: &FontRow<P>) -> usize
+    ensures value { result ≡ faces_on area first.now }
+    ensures some { 0 < result }
+    ensures few { result ≤ 99 }
+{
+    let height = u32::from(area.bottom).saturating_sub(u32::from(area.top) + 12);
+    let lines = height / u32::from(line_height(first));
+    lines.saturating_sub(1).min(99).max(1) as usize
+}
+
+/// The line of a face on its page, by how many faces come before it.
+fn line_of(count: usize, index: usize) -> u8
+    requires some { 0 < count }
+    requires few { count ≤ 99 }
+    ensures { result ≡ line_of count index }
+{
+    1 + (index % count) as u8
+}
+
+/// A face in words: its id, and what selects it.
+#[tactic(auto, unfolding(crate::specs::FacePages::face_words))]
+fn face_words<A: Allocator, P: Allocator>(
+    alloc: A,
+    face: &FontRow<P>,
+) -> Result<Vec<u8, A>, AllocError>
+    ensures { IfOk result (λ words. words.items ≡ face_words face.now) }
+{
+    let request = face.request();
+    let mut words = Vec::new(alloc);
+    push_number(&mut words, u64::from(face.id()))?;
+    words.push(b' ')?;
+    push_symbol_set(&mut words, request.symbol_set)?;
+    words.push(b' ')?;
+    push_amount(&mut words, request.pitch)?;
+    words.push(b' ')?;
+    push_amount(&mut words, request.height)?;
+    words.push(b' ')?;
+    push_amount(&mut words, request.style)?;
+    words.push(b' ')?;
+    push_signed_amount(&mut words, request.weight)?;
+    words.push(b' ')?;
+    push_amount(&mut words, request.typeface)?;
+    Ok(words)
+}
+
+/// Appends the ends of ranges of codes.
+fn push_ends<A: Allocator>(words: &mut Vec<u8, A>, ranges: &[CodeRange]) -> Result<(), AllocError>
+    ensures { OnOk result (words.new.items ≡
+        words.old.items ++ flat_map (λ range. range.first ∷ range.last ∷ []) ranges.now) }
+{
+    for range in ranges {
+        words.push(range.first)?;
+        words.push(range.last)?;
+    }
+    Ok(())
+}
+
+/// Letters and figures, and the ends of the ranges of a face's codes.
+#[tactic(auto, unfolding(crate::specs::FacePages::sample_words))]
+fn sample_words<A: Allocator, P: Allocator>(
+    alloc: A,
+    face: &FontRow<P>,
+) -> Result<Vec<u8, A>, AllocError>
+    ensures { IfOk result (λ words. words.items ≡ sample_words face.now) }
+{
+    let mut words = Vec::from_slice(alloc, b"ABCxyz019 ")?;
+    push_ends(&mut words, face.codes())?;
+    Ok(words)
+}
+
+/// Appends a face's words in the first face at the left, and letters of its own at the right.
+#[tactic(auto, unfolding(crate::specs::FacePages::face_line))]
+fn push_face_line<A: Allocator + Copy, P: Allocator>(
+    text: &mut Vec<u8, A>,
+    alloc: A,
+    area: Area,
+    first: &FontRow<P>,
+    line: u8,
+    face: &FontRow<P>,
+) -> Result<(), AllocError>
+    ensures { OnOk result
+        (text.new.items ≡ text.old.items ++ face_line area first.now line face.now) }
+{
+    let words = face_words(alloc, face)?;
+    push_words_on(text, area.left_half(), first, line, &words)?;
+    push_font_request(text, &face.request())?;
+    let right = area.right_half();
+    let sample = sample_words(alloc, face)?;
+    let y = baseline(area, first, line);
+    push_words_at(text, right, face, indent(right), y, &sample)?;
+    push_font_request(text, &first.request())
+}
+
+/// Appends what begins a page.
+fn push_heading<A: Allocator, P: Allocator>(
+    text: &mut Vec<u8, A>,
+    area: Area,
+    first: &FontRow<P>,
+) -> Result<(), AllocError>
+    ensures { OnOk result (text.new.items ≡ text.old.items ++ heading area first.now) }
+{
+    let words = b"Face, set, pitch, height, style, weight, typeface";
+    push_words_on(text, area, first, 0, words)
+}
+
+/// Appends the line of a face, behind a heading where it is the first of its page, and ended by a
+/// form feed where it is the last.
+#[tactic(auto, unfolding(crate::specs::FacePages::face_entry))]
+fn push_face_entry<A: Allocator + Copy, P: Allocator>(
+    text: &mut Vec<u8, A>,
+    alloc: A,
+    area: Area,
+    first: &FontRow<P>,
+    index: usize,
+    face: &FontRow<P>,
+) -> Result<(), AllocError>
+    ensures { OnOk result
+        (text.new.items ≡ text.old.items ++ face_entry area first.now index face.now) }
+{
+    let count = faces_on(area, first);
+    let line = line_of(count, index);
+    if index % count == 0 {
+        push_heading(text, area, first)?;
+    }
+    push_face_line(text, alloc, area, first, line, face)?;
+    if usize::from(line) == count {
+        text.push(b'\x0c')?;
+    }
+    Ok(())
+}
+
+/// Appends the lines of faces.
+fn push_face_entries<A: Allocator + Copy, P: Allocator>(
+    text: &mut Vec<u8, A>,
+    alloc: A,
+    area: Area,
+    first: &FontRow<P>,
+    faces: &[FontRow<P>],
+) -> Result<(), AllocError>
+    ensures { OnOk result
+        (text.new.items ≡ text.old.items ++ face_entries area first.now faces.now) }
+{
+    for (index, face) in faces.iter().enumerate() {
+        push_face_entry(text, alloc, area, first, index, face)?;
+    }
+    Ok(())
+}
+
+/// Appends the pages with a line for each face, of which this is the first.
+#[tactic(auto, unfolding(crate::specs::FacePages::face_pages))]
+pub(crate) fn push_face_pages<A: Allocator + Copy, P: Allocator>(
+    text: &mut Vec<u8, A>,
+    alloc: A,
+    page: &Geometry,
+    first: &FontRow<P>,
+    faces: &[FontRow<P>],
+) -> Result<(), AllocError>
+    ensures { OnOk result
+        (text.new.items ≡ text.old.items ++ face_pages page.now first.now faces.now) }
+{
+    push_page_request(text, page.size, page.orientation)?;
+    push_font_request(text, &first.request())?;
+    push_face_entries(text, alloc, area_of(page), first, faces)
+}

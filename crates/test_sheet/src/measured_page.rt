@@ -1,0 +1,330 @@
+//! A page to which a ruler is laid.
+ghost use Rattle.std.specs.Prelude.{◌≡◌, ◌++◌, ◌≤◌, ◌<◌, ◌^◌, OnOk, IfOk, flat_map};
+ghost use Rattle.test_sheet.specs.MeasuredPage.{bottom_distance, column_count, column_digits, column_lines, column_tens, column_words, edge_lines, edge_rules, edge_words, is_measured, left_distance, measured_page, measured_pages, page_head, paper_words, right_distance, size_words, spaced_line, ten_lines, tens_digit, top_distance};
+
+use crate::area::{Area, area_of};
+use crate::commands::{push_font_request, push_move_across, push_move_to, push_page_request};
+use crate::dots::{DOT, nearest_dots, ticks_of};
+use crate::figures::{digit, push_amount, push_millimetres, push_number};
+use crate::lines::{baseline, indent, line_top, push_words_on};
+use crate::marks::{columns_from, fits_at, push_rule_at, push_words_at, push_words_from};
+use crate::own_page::{NUMBERS, numbered};
+use device_profile::{FontRow, Geometry};
+use std::alloc::{AllocError, Allocator};
+
+/// Appends rules of two dots along the four edges of the area.
+#[tactic(auto, unfolding(crate::specs::MeasuredPage::edge_rules))]
+fn push_edge_rules<A: Allocator>(text: &mut Vec<u8, A>, area: Area) -> Result<(), AllocError>
+    ensures { OnOk result (text.new.items ≡ text.old.items ++ edge_rules area) }
+{
+    let left = u32::from(area.left);
+    let top = u32::from(area.top);
+    let right = u32::from(area.right);
+    let bottom = u32::from(area.bottom);
+    let width = right.saturating_sub(left);
+    let height = bottom.saturating_sub(top);
+    push_rule_at(text, area, left, top, width, 2)?;
+    push_rule_at(text, area, left, bottom.saturating_sub(2), width, 2)?;
+    push_rule_at(text, area, left, top, 2, height)?;
+    push_rule_at(text, area, right.saturating_sub(2), top, 2, height)
+}
+
+/// How far the rule at the top is from the paper's edge, in ticks.
+fn top_distance(page: &Geometry) -> u64
+    ensures value { result ≡ top_distance page.now }
+    ensures in_range { result ≤ 2 ^ 62 }
+{
+    ticks_of(page.logical_top) + u64::from(area_of(page).top) * DOT
+}
+
+/// How far the rule at the bottom is from the paper's edge, in ticks.
+fn bottom_distance(page: &Geometry) -> u64
+    ensures value { result ≡ bottom_distance page.now }
+    ensures in_range { result ≤ 2 ^ 62 }
+{
+    let bottom = ticks_of(page.logical_top) + u64::from(area_of(page).bottom) * DOT;
+    ticks_of(page.page_height).saturating_sub(bottom)
+}
+
+/// How far the rule at the left is from the paper's edge, in ticks.
+fn left_distance(page: &Geometry) -> u64
+    ensures value { result ≡ left_distance page.now }
+    ensures in_range { result ≤ 2 ^ 62 }
+{
+    ticks_of(page.logical_left) + u64::from(area_of(page).left) * DOT
+}
+
+/// How far the rule at the right is from the paper's edge, in ticks.
+fn right_distance(page: &Geometry) -> u64
+    ensures value { result ≡ right_distance page.now }
+    ensures in_range { result ≤ 2 ^ 62 }
+{
+    let right = ticks_of(page.logical_left) + u64::from(area_of(page).right) * DOT;
+    ticks_of(page.page_width).saturating_sub(right)
+}
+
+/// The size and the orientation of a page, in words.
+#[tactic(auto, unfolding(crate::specs::MeasuredPage::size_words))]
+fn size_words<A: Allocator>(alloc: A, page: &Geometry) -> Result<Vec<u8, A>, AllocError>
+    ensures { IfOk result (λ words. words.items ≡ size_words page.now) }
+{
+    let mut words = Vec::from_slice(alloc, b"Size ")?;
+    push_number(&mut words, u64::from(page.size))?;
+    words.extend_from_slice(b", orientation ")?;
+    push_number(&mut words, u64::from(page.orientation))?;
+    Ok(words)
+}
+
+/// How wide and high the paper is, in words.
+#[tactic(auto, unfolding(crate::specs::MeasuredPage::paper_words))]
+fn paper_words<A: Allocator>(alloc: A, page: &Geometry) -> Result<Vec<u8, A>, AllocError>
+    ensures { IfOk result (λ words. words.items ≡ paper_words page.now) }
+{
+    let mut words = Vec::from_slice(alloc, b"Paper ")?;
+    push_millimetres(&mut words, ticks_of(page.page_width))?;
+    words.extend_from_slice(b" by ")?;
+    push_millimetres(&mut words, ticks_of(page.page_height))?;
+    words.extend_from_slice(b" mm")?;
+    Ok(words)
+}
+
+/// A rule, by its edge, and how far it is from the paper's edge, in words.
+#[tactic(auto, unfolding(crate::specs::MeasuredPage::edge_words))]
+fn edge_words<A: Allocator>(alloc: A, edge: &[u8], distance: u64) -> Result<Vec<u8, A>, AllocError>
+    requires { distance ≤ 2 ^ 62 }
+    ensures { IfOk result (λ words. words.items ≡ edge_words edge.now distance) }
+{
+    let mut words = Vec::from_slice(alloc, edge)?;
+    words.extend_from_slice(b" rule ")?;
+    push_millimetres(&mut words, distance)?;
+    words.extend_from_slice(b" mm, ")?;
+    push_number(&mut words, nearest_dots(distance))?;
+    words.extend_from_slice(b" dots inside")?;
+    Ok(words)
+}
+
+/// Appends how far the four rules are from the paper's edges.
+#[tactic(auto, unfolding(crate::specs::MeasuredPage::edge_lines))]
+fn push_edge_lines<A: Allocator + Copy, P: Allocator>(
+    text: &mut Vec<u8, A>,
+    alloc: A,
+    area: Area,
+    face: &FontRow<P>,
+    page: &Geometry,
+) -> Result<(), AllocError>
+    ensures { OnOk result
+        (text.new.items ≡ text.old.items ++ edge_lines area face.now page.now) }
+{
+    let top = edge_words(alloc, b"Top", top_distance(page))?;
+    push_words_on(text, area, face, 3, &top)?;
+    let bottom = edge_words(alloc, b"Bottom", bottom_distance(page))?;
+    push_words_on(text, area, face, 4, &bottom)?;
+    let left = edge_words(alloc, b"Left", left_distance(page))?;
+    push_words_on(text, area, face, 5, &left)?;
+    let right = edge_words(alloc, b"Right", right_distance(page))?;
+    push_words_on(text, area, face, 6, &right)
+}
+
+/// The last digit of each column's number, from 1 on.
+fn column_digits<A: Allocator>(alloc: A, columns: usize) -> Result<Vec<u8, A>, AllocError>
+    requires { columns ≤ 999 }
+    ensures { IfOk result (λ digits. digits.items ≡ column_digits columns) }
+{
+    let mut digits = Vec::new(alloc);
+    for column in 0..columns {
+        digits.push(digit(column as u64 + 1))?;
+    }
+    Ok(digits)
+}
+
+/// The number of tens, at each tenth column.
+fn tens_digit(column: u64) -> u8
+    ensures { result ≡ tens_digit column }
+{
+    if column % 10 == 0 {
+        digit(column / 10)
+    } else {
+        b' '
+    }
+}
+
+/// The number of tens at each tenth column.
+fn column_tens<A: Allocator>(alloc: A, columns: usize) -> Result<Vec<u8, A>, AllocError>
+    requires { columns ≤ 999 }
+    ensures { IfOk result (λ tens. tens.items ≡ column_tens columns) }
+{
+    let mut tens = Vec::new(alloc);
+    for column in 0..columns {
+        tens.push(tens_digit(column as u64 + 1))?;
+    }
+    Ok(tens)
+}
+
+/// How many columns there are, and how many to the inch, in words.
+#[tactic(auto, unfolding(crate::specs::MeasuredPage::column_words))]
+fn column_words<A: Allocator, P: Allocator>(
+    alloc: A,
+    face: &FontRow<P>,
+    columns: usize,
+) -> Result<Vec<u8, A>, AllocError>
+    ensures { IfOk result (λ words. words.items ≡ column_words face.now columns) }
+{
+    let mut words = Vec::new(alloc);
+    push_number(&mut words, columns as u64)?;
+    words.extend_from_slice(b" columns, ")?;
+    push_amount(&mut words, face.request().pitch)?;
+    words.extend_from_slice(b" to the inch")?;
+    Ok(words)
+}
+
+/// Appends a ruler of columns from edge to edge of the area.
+#[tactic(auto, unfolding(crate::specs::MeasuredPage::column_lines))]
+fn push_column_lines<A: Allocator + Copy, P: Allocator>(
+    text: &mut Vec<u8, A>,
+    alloc: A,
+    area: Area,
+    face: &FontRow<P>,
+) -> Result<(), AllocError>
+    ensures { OnOk result (text.new.items ≡ text.old.items ++ column_lines area face.now) }
+{
+    let left = u32::from(area.left);
+    let columns = columns_from(area, face, left);
+    let tens = column_tens(alloc, columns)?;
+    push_words_at(text, area, face, left, baseline(area, face, 7), &tens)?;
+    let digits = column_digits(alloc, columns)?;
+    push_words_at(text, area, face, left, baseline(area, face, 8), &digits)?;
+    let words = column_words(alloc, face, columns)?;
+    push_words_on(text, area, face, 9, &words)
+}
+
+/// Appends lines of these numbers, each one line down from the one before.
+fn push_spaced_lines<A: Allocator + Copy, P: Allocator>(
+    text: &mut Vec<u8, A>,
+    alloc: A,
+    area: Area,
+    face: &FontRow<P>,
+    numbers: &[u8],
+) -> Result<(), AllocError>
+    ensures { OnOk result (text.new.items ≡
+        text.old.items ++ flat_map (spaced_line area face.now) numbers.now) }
+{
+    for number in numbers {
+        push_spaced_line(text, alloc, area, face, *number)?;
+    }
+    Ok(())
+}
+
+/// Appends a line one line down from the one before.
+fn push_spaced_line<A: Allocator + Copy, P: Allocator>(
+    text: &mut Vec<u8, A>,
+    alloc: A,
+    area: Area,
+    face: &FontRow<P>,
+    number: u8,
+) -> Result<(), AllocError>
+    ensures { OnOk result
+        (text.new.items ≡ text.old.items ++ spaced_line area face.now number) }
+{
+    text.extend_from_slice(b"\x1b&a+1R")?;
+    push_move_across(text, indent(area))?;
+    let words = numbered(alloc, number)?;
+    push_words_from(text, area, face, indent(area), &words)
+}
+
+/// Appends ten lines between two rules that are 500 dots apart, from a place down, where there is
+/// room for them.
+#[tactic(auto, unfolding(crate::specs::MeasuredPage::ten_lines))]
+fn push_ten_lines<A: Allocator + Copy, P: Allocator>(
+    text: &mut Vec<u8, A>,
+    alloc: A,
+    area: Area,
+    face: &FontRow<P>,
+    y: u32,
+) -> Result<(), AllocError>
+    requires { y < 2 ^ 25 }
+    ensures { OnOk result (text.new.items ≡ text.old.items ++ ten_lines area face.now y) }
+{
+    let x = indent(area);
+    if fits_at(area, face, x, y + 40)
+        && fits_at(area, face, x, y + 490)
+        && y + 502 <= u32::from(area.bottom)
+    {
+        push_rule_at(text, area, x, y, 300, 2)?;
+        push_rule_at(text, area, x, y + 500, 300, 2)?;
+        push_words_at(text, area, face, x + 330, y + 40, b"Rule to rule 42.3 mm")?;
+        push_move_to(text, x, y.saturating_sub(10))?;
+        push_spaced_lines(text, alloc, area, face, &NUMBERS)?;
+    }
+    Ok(())
+}
+
+/// Appends the settings of the page, its rules, and what it is.
+#[tactic(auto, unfolding(crate::specs::MeasuredPage::page_head))]
+fn push_page_head<A: Allocator + Copy, P: Allocator>(
+    text: &mut Vec<u8, A>,
+    alloc: A,
+    name: &[u8],
+    face: &FontRow<P>,
+    page: &Geometry,
+) -> Result<(), AllocError>
+    ensures { OnOk result
+        (text.new.items ≡ text.old.items ++ page_head name.now face.now page.now) }
+{
+    let area = area_of(page);
+    push_page_request(text, page.size, page.orientation)?;
+    push_font_request(text, &face.request())?;
+    push_edge_rules(text, area)?;
+    push_words_on(text, area, face, 0, name)?;
+    let size = size_words(alloc, page)?;
+    push_words_on(text, area, face, 1, &size)?;
+    let paper = paper_words(alloc, page)?;
+    push_words_on(text, area, face, 2, &paper)
+}
+
+/// Appends the page, with the printer's name.
+#[tactic(auto, unfolding(crate::specs::MeasuredPage::measured_page))]
+fn push_measured_page<A: Allocator + Copy, P: Allocator>(
+    text: &mut Vec<u8, A>,
+    alloc: A,
+    name: &[u8],
+    face: &FontRow<P>,
+    page: &Geometry,
+) -> Result<(), AllocError>
+    ensures { OnOk result
+        (text.new.items ≡ text.old.items ++ measured_page name.now face.now page.now) }
+{
+    push_page_head(text, alloc, name, face, page)?;
+    let area = area_of(page);
+    push_edge_lines(text, alloc, area, face, page)?;
+    push_column_lines(text, alloc, area, face)?;
+    push_ten_lines(text, alloc, area, face, line_top(area, face, 10))?;
+    text.extend_from_slice(b"\x0c")
+}
+
+/// Whether a page is of one of these sizes, in portrait or landscape.
+fn is_measured(sizes: &[u32], page: &Geometry) -> bool
+    ensures { result ≡ is_measured sizes.now page.now }
+{
+    sizes.contains(&page.size) && page.orientation <= 1
+}
+
+/// Appends the pages of these sizes, in portrait and landscape.
+#[tactic(auto, unfolding(crate::specs::MeasuredPage::measured_pages))]
+pub(crate) fn push_measured_pages<A: Allocator + Copy, P: Allocator>(
+    text: &mut Vec<u8, A>,
+    alloc: A,
+    name: &[u8],
+    face: &FontRow<P>,
+    sizes: &[u32],
+    pages: &[Geometry],
+) -> Result<(), AllocError>
+    ensures { OnOk result (text.new.items ≡
+        text.old.items ++ measured_pages name.now face.now sizes.now pages.now) }
+{
+    for page in pages {
+        if is_measured(sizes, page) {
+            push_measured_page(text, alloc, name, face, page)?;
+        }
+    }
+    Ok(())
+}
