@@ -18,13 +18,15 @@ sys.dont_write_bytecode = True
 import hostile_limits                                              # noqa: E402
 import hostile_many                                                # noqa: E402
 import hostile_outs                                                # noqa: E402
+import hostile_profiles                                            # noqa: E402
 import hostile_reads                                               # noqa: E402
 import hostile_words                                               # noqa: E402
 import hostile_writes                                              # noqa: E402
 from hostile_base import Shim, Tries                               # noqa: E402
 from hostile_jobs import check_jobs                                # noqa: E402
 
-PARTS = (hostile_reads, hostile_writes, hostile_outs, hostile_words, hostile_limits, hostile_many)
+PARTS = (hostile_reads, hostile_writes, hostile_outs, hostile_words, hostile_limits, hostile_many,
+         hostile_profiles)
 
 
 def try_part(task: Tuple[str, int]) -> Tuple[List[str], int, int]:

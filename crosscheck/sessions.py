@@ -23,6 +23,8 @@ SETTING = re.compile(r"cd examples$|alias pclcheck=")
 
 GONE = "No such file or directory"
 INPUT_AGAIN = "error: standard input can be read only once; --each reads a job for each printer\n"
+NO_VERSION = ": the first line has to be 'pclprofile 1' or 'pclprofile 2' (Version)\n"
+FAULTY = f"faulty.pcl:1: 'A\\x1bQ'{NO_VERSION}"
 # Words, exit status, standard output, standard error.
 STORED = (
     ("check ruled_form.pcl @B", 0, "PASS pages=2 marks=36\n", ""),
@@ -80,8 +82,23 @@ STORED = (
     ("profile new generic --size a4,folio", 2, "",
      "error: no paper has the name 'folio'; 'pclcheck profile list' names those of each model\n"),
     ("profile new generic --size a4,A4", 2, "", "error: the paper 'A4' comes twice\n"),
+    ("profile lint faulty.pcl empty.pcl", 2,
+     f"{FAULTY}empty.pcl:1: ''{NO_VERSION}", ""),
+    ("profile lint faulty.pcl gone.profile", 3, "",
+     f"ERROR read profile gone.profile: {GONE}\n"),
+    ("profile show faulty.pcl", 2, "", FAULTY),
+    ("profile sheet faulty.pcl sheet.pcl", 2, "", FAULTY),
+    ("profile show gone.profile", 3, "", f"ERROR read profile gone.profile: {GONE}\n"),
+    ("profile sheet @A gone/sheet.pcl", 3, "", "ERROR write\n"),
+    ("profile sheet front_desk.profile ./front_desk.profile", 2, "",
+     "error: OUT is PROFILE itself, which would be lost\n"),
+    ("profile from-pjl gone.txt @B", 3, "", f"ERROR read answer gone.txt: {GONE}\n"),
+    ("profile from-pjl short.pcl", 2, "",
+     "short.pcl:1: this is not a printer's answer to '@PJL INFO VARIABLES'\n"),
+    ("profile from-pjl answer.txt faulty.pcl", 2, "", FAULTY),
 )
-FILES = {"short.pcl": b"\x1bEA\x1b&l2A\x0c", "faulty.pcl": b"A\x1bQ", "empty.pcl": b""}
+FILES = {"short.pcl": b"\x1bEA\x1b&l2A\x0c", "faulty.pcl": b"A\x1bQ", "empty.pcl": b"",
+         "answer.txt": b"PAPER=A4\r\n"}
 
 
 def sessions(document: Path) -> Iterator[Tuple[str, str]]:

@@ -4,7 +4,7 @@ use Rattle.preflight.specs.declared.error.Error.TheVariants.{Memory, Write}
 use Rattle.subcommands.specs.declared.status.Status.{Status}
 use Rattle.subcommands.specs.declared.status.Status.TheVariants.{Help, Usage, Overwrites, Stopped}
 use Rattle.command_line.specs.declared.words.Request.{Request}
-use Rattle.command_line.specs.declared.words.Request.TheVariants.{Check, CheckMany, Plain, Pin}
+use Rattle.command_line.specs.declared.words.Request.TheVariants.{Check, CheckMany, Plain, Pin, ProfileSheet}
 use Rattle.command_line.specs.ManyWords.{NamesPrinter}
 
 -- a check names one printer at least, or a text that does
@@ -13,10 +13,11 @@ NamesSome (Check job profiles) = profiles.items ≢ []
 NamesSome (CheckMany many) = NamesPrinter many
 NamesSome _ = ⊤
 
--- a text of a job goes to no path that is read
+-- a text of a job, and a sheet, go to no path that is read
 abbrev pub KeepsWhatItReads : Request → Type 0
 KeepsWhatItReads (Plain job out) = job.now ≢ out.now
 KeepsWhatItReads (Pin job profile choices out) = (job.now ≢ out.now) × (profile.now ≢ out.now)
+KeepsWhatItReads (ProfileSheet profile out) = profile.now ≢ out.now
 KeepsWhatItReads _ = ⊤
 
 -- help or the version, bad words, an OUT that is read, no memory, or a text that could not be written

@@ -2,6 +2,9 @@
 ghost use Rattle.std.specs.Prelude.{IfOk, IfSome};
 ghost use Rattle.command_line.specs.Words.{NamesSome};
 
+use crate::profile_tool_words::{
+    from_pjl_command, lint_command, sheet_command, show_command, tool_request,
+};
 use crate::words::Request;
 use clap::builder::ValueParser;
 use clap::{Arg, ArgAction, ArgMatches, Command};
@@ -27,11 +30,19 @@ const PROFILE_EXPLANATION: &str = "Examples:
       one for A4 and A5, at a panel where people choose
   pclcheck check job.pcl front.profile back.profile
       a check for both
+  pclcheck profile lint front.profile back.profile
+      all that is wrong with them, and where they differ
+  pclcheck profile show front.profile
+      what it says, for people
+  pclcheck profile sheet front.profile sheet.pcl
+      a job to print, by which the printer is compared with its profile by a ruler
+  pclcheck profile from-pjl answer.txt front.profile > front_now.profile
+      the panel as the printer itself tells it
 
 Exit status:
-  0  a text was written, or help was asked for
-  2  usage error, no such model, or a paper that is wrong for it
-  3  a write failed, memory ran out, or the program's own tables and text do not agree";
+  0  what was asked for was written, or help was asked for
+  2  usage error, no such model, a paper that is wrong for it, or a profile with faults
+  3  a read or a write failed, memory ran out, or the program's own tables and text do not agree";
 
 const LIST_EXPLANATION: &str = "Output, a line for each model:
   MODEL: TITLE; papers: PAPER..
@@ -112,11 +123,15 @@ fn new_command<'a>(alloc: Global) -> Result<Command<'a>, AllocError> {
 /// The words of the command `profile`.
 pub fn profile_command<'a>(alloc: Global) -> Result<Command<'a>, AllocError> {
     Command::new(alloc, "profile")
-        .about("Lists models of printers, and writes profiles of them to begin with")
+        .about("Makes, checks and shows profiles of printers")
         .after_help(PROFILE_EXPLANATION)
         .subcommand_required(true)
         .subcommand(list_command(alloc))?
-        .subcommand(new_command(alloc)?)
+        .subcommand(new_command(alloc)?)?
+        .subcommand(lint_command(alloc)?)?
+        .subcommand(show_command(alloc)?)?
+        .subcommand(sheet_command(alloc)?)?
+        .subcommand(from_pjl_command(alloc)?)
 }
 
 /// The request of the words behind `profile`.
@@ -130,7 +145,7 @@ pub fn profile_request<'a>(
         return Ok(Some(Request::ProfileList));
     }
     let Some(found) = found.subcommand_matches("new") else {
-        return Ok(None);
+        return tool_request(alloc, found);
     };
     let Some(model) = found.get_str("MODEL") else {
         return Ok(None);

@@ -89,13 +89,13 @@ pub fn job<'a>(alloc: Global) -> Arg<'a> {
 }
 
 /// The word PROFILE of the commands for one printer.
-fn profile<'a>(alloc: Global) -> Arg<'a> {
+pub fn profile<'a>(alloc: Global) -> Arg<'a> {
     let help = "The printer: the path of its profile, or @A, @B, @C or @D for a built-in sample";
     required(alloc, "PROFILE", help)
 }
 
 /// The word OUT of the commands that write a job.
-fn out<'a>(alloc: Global) -> Arg<'a> {
+pub fn out<'a>(alloc: Global) -> Arg<'a> {
     required(alloc, "OUT", "The path of the file to write")
 }
 

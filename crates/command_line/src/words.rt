@@ -55,6 +55,24 @@ pub enum Request<'a> {
     ProfileList,
     /// The text of a profile of a model.
     ProfileNew(NewProfile<'a>),
+    /// What is wrong with profiles, and hints.
+    ProfileLint {
+        profiles: Vec<&'a str>,
+    },
+    /// A profile, as people read it.
+    ProfileShow {
+        profile: &'a str,
+    },
+    /// A job by which a printer is compared with its profile.
+    ProfileSheet {
+        profile: &'a str,
+        out: &'a str,
+    },
+    /// The text of a profile after a printer's own answer.
+    ProfileFromPjl {
+        answer: &'a str,
+        base: Option<&'a str>,
+    },
 }
 
 const VERSION: &str = "0.1.0";
@@ -145,6 +163,9 @@ fn overwritten(request: &Request<'_>) -> Option<Input>
             out,
             ..
         } => (job, Some(profile), out),
+        Request::ProfileSheet { profile, out } => {
+            return (profile == out).then_some(Input::Profile);
+        }
         _ => return None,
     };
     if job == out {

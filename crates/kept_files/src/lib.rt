@@ -1,8 +1,11 @@
-//! For the tests: texts of profiles and jobs that are kept in memory, under the words that name them.
+//! For the tests: texts of profiles and jobs that are kept in memory, under the words that name
+//! them, and files that may be missing.
 #![tactic(auto)]
 
+mod files;
 mod jobs;
 mod texts;
 
+pub use files::File;
 pub use jobs::{KeptJob, KeptJobs, NamedJob};
 pub use texts::{KeptTexts, Named};

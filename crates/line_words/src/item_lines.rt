@@ -1,11 +1,13 @@
 //! The lines of items and of faults.
-ghost use Rattle.std.specs.Prelude.{◌≡◌, ◌++◌, OnOk};
+ghost use Rattle.std.specs.Prelude.{◌≡◌, ◌++◌, ◌∷◌, [], OnOk, decimal};
+ghost use Rattle.pcl_items.specs.Commands.{introducer_of, character_of};
 ghost use Rattle.pcl_items.specs.Items.{Entry, amount, at, view};
 ghost use Rattle.line_words.specs.ItemLines.{item_line, fault_line};
 
 use crate::figures::{push_amount, push_escaped, push_number};
 use crate::words::push_reason;
-use pcl_items::{Command, Item, LexFault, Number, Place, SimpleItem, spell};
+use itoa::write_digits;
+use pcl_items::{Command, Group, Item, LexFault, Number, Place, SimpleItem, spell};
 use std::alloc::{AllocError, Allocator};
 use verdict::Reason;
 
@@ -39,20 +41,27 @@ fn push_command<A: Allocator>(
 ) -> Result<(), AllocError>
     ensures { OnOk result (text.new.items ≡ text.old.items ++ item_line (at place (Entry.Parameterized command (amount number)))) }
 {
-    let group = command.group();
-    push_number(text, place)?;
-    let front = [
-        b' ',
-        b'\\',
-        b'x',
-        b'1',
-        b'b',
-        group.introducer(),
-        group.character(),
-    ];
-    text.extend_from_slice(&front)?;
+    push_front(text, place, command.group())?;
     push_amount(text, number)?;
     text.extend_from_slice(&[command.letter(), b'\n'])
+}
+
+/// Appends a place, and behind a space what begins a command of a group: the escape character by its
+/// digits, and two characters.
+fn push_front<A: Allocator>(
+    text: &mut Vec<u8, A>,
+    place: Place,
+    group: Group,
+) -> Result<(), AllocError>
+    ensures { OnOk result (text.new.items ≡ text.old.items ++ (decimal place
+        ++ 32 ∷ 92 ∷ 120 ∷ 49 ∷ 98 ∷ introducer_of group ∷ character_of group ∷ [])) }
+{
+    // In one piece, since most lines of a list begin so; the digits end where the space stands.
+    let mut front = *b"00000000000000000000 \\x1b&a";
+    front[25] = group.introducer();
+    front[26] = group.character();
+    let start = write_digits(place, &mut front, 20);
+    text.extend_from_slice(&front[start..])
 }
 
 /// Appends the line of a fault.

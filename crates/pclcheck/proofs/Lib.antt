@@ -1,4 +1,5 @@
 mod Asking
 mod Fulfilling
 mod NameLemmas
+mod OnFiles
 mod WordLemmas

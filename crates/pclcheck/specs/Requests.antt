@@ -1,7 +1,7 @@
 -- What the program leaves of what it is asked for. Nothing is known of its files beforehand, so this is said for some reads of them.
 use Rattle.std.specs.Prelude.{◌≡◌, ◌||◌, List, [], ℕ, Option, map, option_map, IsFalse, IsTrue}
 use Rattle.command_line.specs.declared.words.Request.{Request}
-use Rattle.command_line.specs.declared.words.Request.TheVariants.{Check, CheckMany, List as ListOf, Pages, Plain, Pin, Explain, ProfileList, ProfileNew}
+use Rattle.command_line.specs.declared.words.Request.TheVariants.{Check, CheckMany, List as ListOf, Pages, Plain, Pin, Explain, ProfileList, ProfileNew, ProfileLint, ProfileShow, ProfileSheet, ProfileFromPjl}
 use Rattle.preflight.specs.Due.{Rendering, list_rendering, plain_rendering}
 use Rattle.streams.specs.Files.{no_outlet, no_source}
 use Rattle.streams.specs.Outlet.{OutletState}
@@ -18,6 +18,7 @@ use Rattle.subcommands.specs.Texts.{text_named}
 use Rattle.subcommands.specs.declared.choices.Choice.{Choice}
 use Rattle.subcommands.specs.declared.status.Status.{Status}
 use Rattle.pclcheck.specs.Checks.{LeavesChecks, asking}
+use Rattle.pclcheck.specs.ProfileRequests.{LeavesAnsweredFor, LeavesLintFor, LeavesSheetFor, LeavesShownFor}
 
 -- a check for the printers of these texts, so far as they are known: the line of a verdict that is right for all of them
 pub record LeavesCheck (known : List (Option (List ℕ))) (status : Status) (out out' : OutletState) : Type 0 where
@@ -71,3 +72,7 @@ Fulfils texts (Pin job profile choices file) status out out' err err' = LeavesPi
 Fulfils texts (Explain code) status out out' err err' = LeavesExplanation texts (option_map (λ word. word.now) code) status out out' err err'
 Fulfils texts ProfileList status out out' err err' = LeavesModels status out out' × (err' ≡ err)
 Fulfils texts (ProfileNew words) status out out' err err' = LeavesProfile words.model.now (map (λ name. name.now) words.papers.items) words.lists status out out' err err'
+Fulfils texts (ProfileLint profiles) status out out' err err' = LeavesLintFor (map (λ word. word.now) profiles.items) status out out' err err'
+Fulfils texts (ProfileShow profile) status out out' err err' = LeavesShownFor profile.now status out out' err err'
+Fulfils texts (ProfileSheet profile file) status out out' err err' = LeavesSheetFor profile.now status err err' × (out' ≡ out)
+Fulfils texts (ProfileFromPjl answer base) status out out' err err' = LeavesAnsweredFor answer.now (option_map (λ word. word.now) base) status out out' err err'

@@ -4,6 +4,7 @@
 mod inputs;
 mod many;
 mod names;
+mod profiles;
 mod requests;
 
 ghost use Rattle.std.specs.Prelude.{IsFalse};

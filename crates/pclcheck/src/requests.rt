@@ -4,9 +4,10 @@ ghost use Rattle.command_line.specs.Words.{NamesSome};
 ghost use Rattle.pclcheck.specs.Requests.{Fulfils};
 
 use crate::many::check_asked;
+use crate::profiles::{from_pjl, lint, sheet, show};
 use command_line::Request;
-use profile_commands::profile_list::profile_list;
-use profile_commands::profile_new::profile_new;
+use profile_commands::list::profile_list;
+use profile_commands::new::profile_new;
 use std::io::Input;
 use std::rt::Files;
 use streams::{FileOutlet, FileSource, Outlet};
@@ -74,5 +75,9 @@ pub fn fulfil<R: Files + Input + AllocGlobal, O: Outlet, E: Outlet>(
             let papers = words.papers.as_slice();
             profile_new(alloc, words.model, papers, words.lists, stdout, stderr)
         }
+        Request::ProfileLint { profiles } => lint(rt, profiles.as_slice(), stdout, stderr),
+        Request::ProfileShow { profile } => show(rt, profile, stdout, stderr),
+        Request::ProfileSheet { profile, out } => sheet(rt, profile, out, stderr),
+        Request::ProfileFromPjl { answer, base } => from_pjl(rt, answer, *base, stdout, stderr),
     }
 }

@@ -9,7 +9,7 @@ use Rattle.device_profile.specs.Printer.{Printer}
 use Rattle.pjl_answer.specs.declared.variable.Variable.{Variable}
 use Rattle.pjl_answer.specs.declared.variable.Variable.TheVariants as variables
 use Rattle.pjl_answer.specs.declared.warning.Note.{Note}
-use Rattle.pjl_answer.specs.declared.warning.Note.TheVariants.{NotUnderstood, NotHeld, MeasureLines, WideA4, EdgeToEdge, A4WithLetter, AppendsReturn, FreePanel, OtherLanguage, WholeMemory}
+use Rattle.pjl_answer.specs.declared.warning.Note.TheVariants.{NotUnderstood, NotHeld, MeasureLines, WideA4, EdgeToEdge, A4WithLetter, AppendsReturn, UnknownSwitch, FreePanel, OtherLanguage, WholeMemory}
 use Rattle.pjl_answer.specs.declared.warning.Warning.{Warning}
 use Rattle.pjl_answer.specs.Answer.{entry_of, is_given, value_of}
 use Rattle.pjl_answer.specs.Told.{every_field, is_vmi_rounded, told}
@@ -51,13 +51,18 @@ field_warning printer answer field = if is_some (told printer answer field) then
 abbrev pub note_if : Note → Bool → Option Note
 note_if note holds = if holds then Some note else None
 
+-- a switch that is on, or neither on nor off
+abbrev pub switch_note : Note → List ℕ → Option Note
+switch_note note value =
+    if bytes_eq value (codes "YES") then Some note else note_if UnknownSwitch (not (bytes_eq value (codes "NO")))
+
 -- THE TABLE OF VALUES that a user is warned of
 abbrev pub note_of : List ℕ → Variable → List ℕ → Option Note
 note_of answer variables.FormLines value = note_if MeasureLines (is_vmi_rounded answer)
-note_of answer variables.WideA4 value = note_if WideA4 (bytes_eq value (codes "YES"))
-note_of answer variables.EdgeToEdge value = note_if EdgeToEdge (bytes_eq value (codes "YES"))
-note_of answer variables.OverrideA4WithLetter value = note_if A4WithLetter (bytes_eq value (codes "YES"))
-note_of answer variables.AppendCrToLf value = note_if AppendsReturn (bytes_eq value (codes "YES"))
+note_of answer variables.WideA4 value = switch_note WideA4 value
+note_of answer variables.EdgeToEdge value = switch_note EdgeToEdge value
+note_of answer variables.OverrideA4WithLetter value = switch_note A4WithLetter value
+note_of answer variables.AppendCrToLf value = switch_note AppendsReturn value
 note_of answer variables.PanelLock value = note_if FreePanel (bytes_eq value (codes "OFF") || bytes_eq value (codes "NONE"))
 note_of answer variables.Personality value = note_if OtherLanguage (not (bytes_eq value (codes "AUTO") || bytes_eq value (codes "PCL")))
 note_of answer variables.Memory value = Some WholeMemory
@@ -86,12 +91,13 @@ warnings printer answer =
 
 abbrev pub note_words : Note → List ℕ
 note_words NotUnderstood = codes "not understood; the profile keeps its list"
-note_words NotHeld = codes "nothing in the profile goes with it; it keeps its list"
-note_words MeasureLines = codes "the line spacing is rounded; measure ten lines"
+note_words NotHeld = codes "the profile has nothing that goes with it, or the answer lacks a line that it needs; it keeps its list"
+note_words MeasureLines = codes "the line spacing is reckoned from it; measure ten lines"
 note_words WideA4 = codes "the A4 pages have to be those of 80 columns"
 note_words EdgeToEdge = codes "the printable area is larger than the pages say"
 note_words A4WithLetter = codes "A4 may come out on letter paper, and letter on A4"
 note_words AppendsReturn = codes "CR is added to LF; no profile can say that"
+note_words UnknownSwitch = codes "not understood; see at the printer whether it is on"
 note_words FreePanel = codes "anyone can change the panel; each list promises that nobody does"
 note_words OtherLanguage = codes "the printer may not read a job as PCL"
 note_words WholeMemory = codes "bytes in all; what macros may take is not told"

@@ -2,7 +2,7 @@
 ghost use Rattle.std.specs.Prelude.{◌≡◌, ◌++◌, find, IfOk, OnOk};
 ghost use Rattle.std.specs.List.{filter_map};
 ghost use Rattle.std.specs.Option.{option_to_list};
-ghost use Rattle.pjl_answer.specs.Warning.{blame, field_warning, is_wrong, note_if, note_of, value_warning, variables_of, warning, warnings};
+ghost use Rattle.pjl_answer.specs.Warning.{blame, field_warning, is_wrong, note_if, note_of, switch_note, value_warning, variables_of, warning, warnings};
 ghost use Rattle.pjl_answer.specs.Answer.{is_given};
 
 use crate::entry::{is_given, value_of};
@@ -30,6 +30,8 @@ pub enum Note {
     A4WithLetter,
     /// LF is carried out as CR and LF, and FF is not changed.
     AppendsReturn,
+    /// The value of a switch is neither YES nor NO.
+    UnknownSwitch,
     /// The panel is not locked.
     FreePanel,
     /// The printer's language is neither PCL nor chosen by the job.
@@ -146,18 +148,27 @@ fn note_if(note: Note, holds: bool) -> Option<Note>
     if holds { Some(note) } else { None }
 }
 
+/// What is to be known of a switch that is on, or that is neither on nor off.
+fn switch_note(note: Note, value: &[u8]) -> Option<Note>
+    ensures { result ≡ switch_note note value.now }
+{
+    if value == b"YES".as_slice() {
+        Some(note)
+    } else {
+        note_if(Note::UnknownSwitch, value != b"NO".as_slice())
+    }
+}
+
 /// What is to be known of a value.
 fn note_of(answer: &[u8], variable: Variable, value: &[u8]) -> Option<Note>
     ensures { result ≡ note_of answer.now variable value.now }
 {
     match variable {
         Variable::FormLines => note_if(Note::MeasureLines, is_vmi_rounded(answer)),
-        Variable::WideA4 => note_if(Note::WideA4, value == b"YES".as_slice()),
-        Variable::EdgeToEdge => note_if(Note::EdgeToEdge, value == b"YES".as_slice()),
-        Variable::OverrideA4WithLetter => {
-            note_if(Note::A4WithLetter, value == b"YES".as_slice())
-        }
-        Variable::AppendCrToLf => note_if(Note::AppendsReturn, value == b"YES".as_slice()),
+        Variable::WideA4 => switch_note(Note::WideA4, value),
+        Variable::EdgeToEdge => switch_note(Note::EdgeToEdge, value),
+        Variable::OverrideA4WithLetter => switch_note(Note::A4WithLetter, value),
+        Variable::AppendCrToLf => switch_note(Note::AppendsReturn, value),
         Variable::PanelLock => note_if(
             Note::FreePanel,
             value == b"OFF".as_slice() || value == b"NONE".as_slice(),

@@ -14,12 +14,14 @@ impl Note {
     {
         match self {
             Note::NotUnderstood => "not understood; the profile keeps its list",
-            Note::NotHeld => "nothing in the profile goes with it; it keeps its list",
-            Note::MeasureLines => "the line spacing is rounded; measure ten lines",
+            Note::NotHeld =>
+                "the profile has nothing that goes with it, or the answer lacks a line that it needs; it keeps its list",
+            Note::MeasureLines => "the line spacing is reckoned from it; measure ten lines",
             Note::WideA4 => "the A4 pages have to be those of 80 columns",
             Note::EdgeToEdge => "the printable area is larger than the pages say",
             Note::A4WithLetter => "A4 may come out on letter paper, and letter on A4",
             Note::AppendsReturn => "CR is added to LF; no profile can say that",
+            Note::UnknownSwitch => "not understood; see at the printer whether it is on",
             Note::FreePanel => {
                 "anyone can change the panel; each list promises that nobody does"
             }

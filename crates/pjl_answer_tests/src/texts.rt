@@ -25,15 +25,15 @@ LINETERMINATION=3
 ";
 
 const SAMPLE_WARNINGS: &str = "\
-line 7: MPTRAY=FIRST: nothing in the profile goes with it; it keeps its list
-line 3: FORMLINES=65: the line spacing is rounded; measure ten lines
+line 7: MPTRAY=FIRST: the profile has nothing that goes with it, or the answer lacks a line that it needs; it keeps its list
+line 3: FORMLINES=65: the line spacing is reckoned from it; measure ten lines
 line 4: MEMORY=8388608: bytes in all; what macros may take is not told
 ";
 
 const SAMPLE_TEXT: &str = "pclprofile 2
 # With a printer's answer to '@PJL INFO', by 'pclcheck profile from-pjl'. Lines are the answer's.
-# line 7: MPTRAY=FIRST: nothing in the profile goes with it; it keeps its list
-# line 3: FORMLINES=65: the line spacing is rounded; measure ten lines
+# line 7: MPTRAY=FIRST: the profile has nothing that goes with it, or the answer lacks a line that it needs; it keeps its list
+# line 3: FORMLINES=65: the line spacing is reckoned from it; measure ten lines
 # line 4: MEMORY=8388608: bytes in all; what macros may take is not told
 lineterm 3
 name B
@@ -82,7 +82,7 @@ line 8: MEMORY=8388608: bytes in all; what macros may take is not told
 ";
 
 const WARNINGS_OF_4250: &str = "\
-line 9: FORMLINES=64: the line spacing is rounded; measure ten lines
+line 9: FORMLINES=64: the line spacing is reckoned from it; measure ten lines
 line 17: OVERRIDEA4WITHLETTER=YES: A4 may come out on letter paper, and letter on A4
 line 20: CPLOCK=NONE: anyone can change the panel; each list promises that nobody does
 line 3: MEMORY=67108864: bytes in all; what macros may take is not told
@@ -122,16 +122,16 @@ const WARNINGS: &[(&str, &str)] = &[
     ),
     (
         "PAPER=LEGAL",
-        "line 1: PAPER=LEGAL: nothing in the profile goes with it; it keeps its list\n",
+        "line 1: PAPER=LEGAL: the profile has nothing that goes with it, or the answer lacks a line that it needs; it keeps its list\n",
     ),
     (
         "COPIES=two\x0cBINDING=LONGEDGE",
         "line 1: COPIES=two: not understood; the profile keeps its list\n\
-         line 1: BINDING=LONGEDGE: nothing in the profile goes with it; it keeps its list\n",
+         line 1: BINDING=LONGEDGE: the profile has nothing that goes with it, or the answer lacks a line that it needs; it keeps its list\n",
     ),
     (
         "FORMLINES=60",
-        "line 1: FORMLINES=60: nothing in the profile goes with it; it keeps its list\n",
+        "line 1: FORMLINES=60: the profile has nothing that goes with it, or the answer lacks a line that it needs; it keeps its list\n",
     ),
     // Of a font's variables the one that is not known is named, and else the first.
     (
@@ -140,7 +140,7 @@ const WARNINGS: &[(&str, &str)] = &[
     ),
     (
         "SYMSET=PC8\nPITCH=16.67\nFONTNUMBER=0\nFONTSOURCE=I",
-        "line 4: FONTSOURCE=I: nothing in the profile goes with it; it keeps its list\n",
+        "line 4: FONTSOURCE=I: the profile has nothing that goes with it, or the answer lacks a line that it needs; it keeps its list\n",
     ),
     (
         "EDGETOEDGE=YES\nPERSONALITY=POSTSCRIPT\nAPPENDCRTOLF=YES\nCPLOCK=ON",
@@ -151,6 +151,11 @@ const WARNINGS: &[(&str, &str)] = &[
     (
         "EDGETOEDGE=NO\nPERSONALITY=PCL\nAPPENDCRTOLF=NO\nWIDEA4=NO",
         "",
+    ),
+    (
+        "EDGETOEDGE=ON\nWIDEA4=no",
+        "line 2: WIDEA4=no: not understood; see at the printer whether it is on\n\
+         line 1: EDGETOEDGE=ON: not understood; see at the printer whether it is on\n",
     ),
     (
         "PAPER=\x01\\ \u{7f}~é",

@@ -3,3 +3,5 @@
 
 #[cfg(test)]
 mod models;
+#[cfg(test)]
+mod texts;

@@ -3,8 +3,8 @@
 use fakes::FailingOutlet;
 use preflight::{Error, Outlet, Watched};
 use printer_models::PanelLists;
-use profile_commands::profile_list::profile_list;
-use profile_commands::profile_new::profile_new;
+use profile_commands::list::profile_list;
+use profile_commands::new::profile_new;
 use refusing::Refusing;
 use std::alloc::Global;
 use std::process::Abort;

@@ -1,1 +1,4 @@
 mod AskedPapers
+mod ReadTexts
+mod Sheets
+mod Answering

@@ -98,7 +98,7 @@ abbrev pub difference_words : Difference → List ℕ
 difference_words (Pages size orientation) =
     codes "their pages of size " ++ decimal size ++ codes " and orientation " ++ decimal orientation ++ codes " are not the same: jobs may differ (33)"
 difference_words (Faces face) =
-    codes "face " ++ decimal face ++ codes " of the first has other numbers or codes than the face of that request of the other: letters will differ (33)"
+    codes "face " ++ decimal face ++ codes " of the first has other numbers or codes than the face of that request of the other: letters may differ (33) or be missing (14)"
 difference_words (Lists field) = codes "their lists '" ++ key_word (Choice field) ++ codes "' are not the same: " ++ meaning_of (Choice field)
 
 unfoldable pub difference_line : List ℕ → List ℕ → Difference → List ℕ

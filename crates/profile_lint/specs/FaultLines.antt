@@ -24,7 +24,7 @@ line_words number = if number == 0 then [] else 58 ∷ decimal number
 -- what is wrong with a text
 abbrev pub fault_words : List ℕ → TextFault → List ℕ
 fault_words text TooLong = codes "it has more than 65536 bytes, which no profile has"
-fault_words text NoVersion = codes "the first line has to be 'pclprofile 1' or 'pclprofile 2'"
+fault_words text NoVersion = quoted (line_at text 1) ++ codes ": the first line has to be 'pclprofile 1' or 'pclprofile 2'"
 fault_words text (OnLine number key cause) = quoted (line_at text number) ++ codes ": " ++ broken_rule key cause
 fault_words text (Ungiven key) = codes "no line gives '" ++ key_word key ++ codes "', " ++ meaning_of key
 fault_words text (NoPageOfSize size) = codes "the panel may have size " ++ decimal size ++ codes ", but no geometry line has it"

@@ -71,6 +71,9 @@ advance_hint_words face pitch advance =
 unfoldable pub differ_words : List ℕ
 differ_words = codes " in the table of faces: its letters will differ (33) from those of profiles that 'profile new' writes"
 
+unfoldable pub lack_words : List ℕ
+lack_words = codes " in the table of faces: a job with a letter that it lacks fails (14)"
+
 -- advance, ascent and descent
 abbrev pub numbers_of : Metrics → Numbers
 numbers_of metrics = record { advance = metrics.advance; ascent = metrics.ascent; descent = metrics.descent }
@@ -95,7 +98,7 @@ ranges_words [] = []
 ranges_words (range ∷ more) = range_words range ++ flat_map more_range_words more
 
 abbrev pub code_hint_words : ℕ → CharacterSet → List ℕ
-code_hint_words face set = face_place face ++ codes "its codes are not the " ++ ranges_words (codes_in set) ++ codes " of its symbol set" ++ differ_words
+code_hint_words face set = face_place face ++ codes "its codes are not the " ++ ranges_words (codes_in set) ++ codes " of its symbol set" ++ lack_words
 
 -- the command by which a job sets a field
 abbrev pub command_of : Field → List ℕ

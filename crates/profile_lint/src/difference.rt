@@ -260,7 +260,7 @@ fn push_difference_words<A: Allocator>(
         }
         Difference::Faces(face) => {
             let behind = b" of the first has other numbers or codes than the face of that request \
-                of the other: letters will differ (33)";
+                of the other: letters may differ (33) or be missing (14)";
             push_number_in(out, b"face ", face, behind)
         }
         Difference::Lists(field) => {

@@ -61,7 +61,8 @@ fn push_fault_words<A: Allocator>(
             out.extend_from_slice(b"it has more than 65536 bytes, which no profile has")
         }
         TextFault::NoVersion => {
-            out.extend_from_slice(b"the first line has to be 'pclprofile 1' or 'pclprofile 2'")
+            push_quoted(out, line_at(text, 1))?;
+            out.extend_from_slice(b": the first line has to be 'pclprofile 1' or 'pclprofile 2'")
         }
         TextFault::OnLine { number, key, cause } => {
             push_line_fault(out, line_at(text, number), key, cause)

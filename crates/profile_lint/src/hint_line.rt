@@ -1,7 +1,7 @@
 //! The line that is written for a hint.
 ghost use Rattle.std.specs.Prelude.{◌≡◌, ◌++◌, OnOk, flat_map};
 ghost use Rattle.printer_models.specs.Face.{metrics_of};
-ghost use Rattle.profile_lint.specs.HintLines.{advance_hint_words, area_hint_words, area_name, area_words, code_hint_words, command_of, differ_words, face_place, hint_line, hint_words, length_names, length_word, more_range_words, number_hint_words, numbers_of, numbers_words, own_words, page_place, paper_words, range_words, ranges_words, several_words, table_words};
+ghost use Rattle.profile_lint.specs.HintLines.{advance_hint_words, area_hint_words, area_name, area_words, code_hint_words, command_of, differ_words, face_place, hint_line, hint_words, lack_words, length_names, length_word, more_range_words, number_hint_words, numbers_of, numbers_words, own_words, page_place, paper_words, range_words, ranges_words, several_words, table_words};
 
 use crate::face_hints::advance_by;
 use crate::hint::{Area, Hint, units_in};
@@ -253,6 +253,14 @@ fn push_differ<A: Allocator>(out: &mut Vec<u8, A>) -> Result<(), AllocError>
     )
 }
 
+/// Appends why it matters that the codes of a face are not those of the table.
+#[tactic(auto, unfolding(crate::specs::HintLines::lack_words))]
+fn push_lack<A: Allocator>(out: &mut Vec<u8, A>) -> Result<(), AllocError>
+    ensures { OnOk result (out.new.items ≡ out.old.items ++ lack_words) }
+{
+    out.extend_from_slice(b" in the table of faces: a job with a letter that it lacks fails (14)")
+}
+
 /// How the characters of a face lie, in 1/7200 inch.
 #[derive(Clone, Copy)]
 struct Numbers {
@@ -316,7 +324,7 @@ fn push_code_hint<A: Allocator>(
     out.extend_from_slice(b"its codes are not the ")?;
     push_ranges(out, set.codes())?;
     out.extend_from_slice(b" of its symbol set")?;
-    push_differ(out)
+    push_lack(out)
 }
 
 /// Appends ranges of codes, with commas between.

@@ -24,4 +24,5 @@ pub use hint::{Area, Hint};
 pub use hint_line::push_hint;
 pub use lint::{Findings, NamedText, faults_text, lint_texts};
 pub use profile_hints::hints;
+pub use shown::push_shown;
 pub use text_faults::faults;

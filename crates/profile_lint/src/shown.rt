@@ -18,19 +18,22 @@ fn hex_digit(digit: u8) -> u8
     }
 }
 
-/// Appends a byte as itself, and one that shows nothing as `\x` and two hexadecimal digits.
+/// Appends a byte as itself, and one that shows nothing, or a backslash, as `\x` and two hexadecimal
+/// digits.
 fn push_shown_byte<A: Allocator>(out: &mut Vec<u8, A>, byte: u8) -> Result<(), AllocError>
     ensures { OnOk result (out.new.items ≡ out.old.items ++ shown_byte byte) }
 {
-    if 32 <= byte && byte <= 126 {
+    if 32 <= byte && byte <= 126 && byte != b'\\' {
         out.push(byte)?;
         return Ok(());
     }
     out.extend_from_slice(&[b'\\', b'x', hex_digit(byte / 16), hex_digit(byte % 16)])
 }
 
-/// Appends bytes, and those that show nothing by their digits.
-pub(crate) fn push_shown<A: Allocator>(out: &mut Vec<u8, A>, bytes: &[u8]) -> Result<(), AllocError>
+/// Appends bytes of a name or a line, and those that show nothing, and backslashes, by their digits.
+///
+/// An error means that the allocator refused a request.
+pub fn push_shown<A: Allocator>(out: &mut Vec<u8, A>, bytes: &[u8]) -> Result<(), AllocError>
     ensures { OnOk result (out.new.items ≡ out.old.items ++ shown bytes.now) }
 {
     for byte in bytes {

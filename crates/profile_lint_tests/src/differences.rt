@@ -57,13 +57,13 @@ const LINES_OF_A: &[Row] = &[
         19,
         b"face 3 10U 12 10 0 0 3 600 750 250 33-125",
         "a and b: hint: face 2 of the first has other numbers or codes than the face of that request \
-         of the other: letters will differ (33)\n",
+         of the other: letters may differ (33) or be missing (14)\n",
     ),
     (
         19,
         b"face 2 10U 12 10 0 0 3 600 750 251 33-126",
         "a and b: hint: face 2 of the first has other numbers or codes than the face of that request \
-         of the other: letters will differ (33)\n",
+         of the other: letters may differ (33) or be missing (14)\n",
     ),
     // A face that only one has is no difference.
     (20, b"face 3 8U 12 10 0 0 3 600 750 250 33-126", ""),
@@ -87,7 +87,7 @@ const SAMPLES: &[(&[Sample], Option<usize>, &str)] = &[
         &[Sample::C, Sample::D],
         Some(1),
         "a and b: hint: face 1 of the first has other numbers or codes than the face of that request \
-         of the other: letters will differ (33)\n",
+         of the other: letters may differ (33) or be missing (14)\n",
     ),
 ];
 

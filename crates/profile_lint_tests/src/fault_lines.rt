@@ -26,7 +26,7 @@ const LINES_OF_A: &[Row] = &[
     (
         1,
         b"pclprofile 3",
-        "p:1: the first line has to be 'pclprofile 1' or 'pclprofile 2' (Version)\n",
+        "p:1: 'pclprofile 3': the first line has to be 'pclprofile 1' or 'pclprofile 2' (Version)\n",
     ),
     (
         1,
@@ -36,7 +36,7 @@ const LINES_OF_A: &[Row] = &[
     (
         2,
         b"\x1bE\xff~\\",
-        "p:2: '\\x1bE\\xff~\\': its first word is no key; the keys are name, size, orientation, vmi, \
+        "p:2: '\\x1bE\\xff~\\x5c': its first word is no key; the keys are name, size, orientation, vmi, \
          font, copies, sides, tray, trays, duplex, depth, memory, geometry and face, and lineterm \
          in version 2 (Unknown)\n\
          p: no line gives 'name', the printer's name (Missing)\n",
@@ -154,7 +154,13 @@ fn lines_of_a_in_place_of_others(rt: HostRuntime) -> Result<(), Fail> {
 const TEXTS: &[(&[u8], &str)] = &[
     (
         b"",
-        "p:1: the first line has to be 'pclprofile 1' or 'pclprofile 2' (Version)\n",
+        "p:1: '': the first line has to be 'pclprofile 1' or 'pclprofile 2' (Version)\n",
+    ),
+    // A byte order mark, as an editor writes it that nobody sees.
+    (
+        b"\xef\xbb\xbfpclprofile 1\n",
+        "p:1: '\\xef\\xbb\\xbfpclprofile 1': the first line has to be 'pclprofile 1' or \
+         'pclprofile 2' (Version)\n",
     ),
     (
         b"pclprofile 2\nsize 2 3\r\n\nsides 1\nduplex 0\nduplex 1\nface x\nfont 1\ngeometry\n",
@@ -226,8 +232,8 @@ fn file_names_show_no_control_codes(rt: HostRuntime) -> Result<(), Fail> {
     for fault in &faults(alloc, b"x")? {
         push_fault(&mut out, b"a b\\\x1b[0m\x7f\xe9", b"x", *fault)?;
     }
-    let wanted = b"a b\\\\x1b[0m\\x7f\\xe9:1: the first line has to be 'pclprofile 1' or \
-        'pclprofile 2' (Version)\n";
+    let wanted = b"a b\\x5c\\x1b[0m\\x7f\\xe9:1: 'x': the first line has to be 'pclprofile 1' \
+        or 'pclprofile 2' (Version)\n";
     assert_eq!(rt; out.as_slice(), wanted.as_slice());
     Ok(())
 }

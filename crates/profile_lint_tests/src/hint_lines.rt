@@ -56,7 +56,7 @@ const LINES: &[Row] = &[
         18,
         b"face 1 8U 10 12 0 0 3 720 900 300 33-126,161-255",
         "p: hint: face 1: its codes are not the 33-126,161-254 of its symbol set in the table of \
-         faces: its letters will differ (33) from those of profiles that 'profile new' writes\n",
+         faces: a job with a letter that it lacks fails (14)\n",
     ),
     // An advance may be off by 1. The table has no such height, typeface or symbol set.
     (18, b"face 1 10U 10 11 0 0 3 721 9 3 33-126", ""),

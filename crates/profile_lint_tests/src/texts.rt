@@ -37,12 +37,7 @@ fn faults_hints_and_a_difference(rt: HostRuntime) -> Result<(), Fail> {
     let found = lint_texts(rt.alloc(), &texts(rt.alloc(), &named)?)?;
     let lines = found.lines.as_slice();
     assert!(rt; found.has_faults && lines.starts_with(b"b: hint: "));
-    assert!(rt;
-        has_line(
-            lines,
-            b"wrong:1: the first line has to be 'pclprofile 1' or "
-        )
-    );
+    assert!(rt; has_line(lines, b"wrong:1: 'pclprofile 3': the first line has to be "));
     assert!(rt; has_line(lines, b"b and a: hint: "));
     Ok(())
 }

@@ -1,10 +1,9 @@
 //! The subcommands that read a job: their exit statuses, and what they write.
 ghost use Rattle.std.specs.Prelude.{◌≡◌, false, IsFalse};
 
-use crate::files::File;
 use device_profile::{Field, Sample};
 use fakes::{FailingOutlet, FailingSource};
-use kept_files::{KeptTexts, Named};
+use kept_files::{File, KeptTexts, Named};
 use preflight::{Outlet, Source, Watched};
 use refusing::Refusing;
 use std::alloc::Allocator;

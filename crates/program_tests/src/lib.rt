@@ -10,8 +10,6 @@ mod explanations;
 #[cfg(test)]
 mod file_texts;
 #[cfg(test)]
-mod files;
-#[cfg(test)]
 mod fleets;
 #[cfg(test)]
 mod lines;

@@ -6,7 +6,7 @@ use preflight::Watched;
 use printer_models::PanelLists;
 use std::process::Abort;
 use std::test::Fail;
-use subcommands::Status;
+use subcommands::{Input, Status};
 
 /// Words that ask for help.
 const HELPS: &[Ended] = &[
@@ -24,6 +24,26 @@ const HELPS: &[Ended] = &[
         &["pclcheck", "profile", "new", "--help"],
         Status::Help,
         &["MODEL", "--size", "--panel", "No number", "2  usage error"],
+    ),
+    (
+        &["pclcheck", "profile", "lint", "--help"],
+        Status::Help,
+        &["PROFILE:LINE: WORDS", "hint:", "2  a text has faults"],
+    ),
+    (
+        &["pclcheck", "profile", "show", "--help"],
+        Status::Help,
+        &["PROFILE", "millimetres", "3  the text could not be read"],
+    ),
+    (
+        &["pclcheck", "profile", "sheet", "--help"],
+        Status::Help,
+        &["PROFILE", "OUT", "ruler", "2  usage error"],
+    ),
+    (
+        &["pclcheck", "profile", "from-pjl", "--help"],
+        Status::Help,
+        &["ANSWER", "BASE", "nc -w 5 PRINTER 9100", "2  usage error"],
     ),
 ];
 
@@ -44,6 +64,13 @@ const WRONG: &[&[&str]] = &[
     &["pclcheck", "profile", "new", "generic", "--panel"],
     &["pclcheck", "profile", "new", "generic", "--size"],
     &["pclcheck", "profile", "new", "generic", "--paper", "a4"],
+    &["pclcheck", "profile", "lint"],
+    &["pclcheck", "profile", "show"],
+    &["pclcheck", "profile", "show", "@A", "@B"],
+    &["pclcheck", "profile", "sheet", "@A"],
+    &["pclcheck", "profile", "sheet", "@A", "out", "more"],
+    &["pclcheck", "profile", "from-pjl"],
+    &["pclcheck", "profile", "from-pjl", "answer", "@A", "more"],
     // What may come once.
     &[
         "pclcheck",
@@ -135,5 +162,70 @@ fn words_that_ask_for_the_list_of_models(rt: HostRuntime) -> Result<(), Fail> {
     let mut stderr = Watched::new(Vec::new(rt.alloc()));
     let answer = read_words(rt.alloc(), words.as_slice(), &mut stdout, &mut stderr);
     assert!(rt; matches!(&answer, Ok(Request::ProfileList)));
+    Ok(())
+}
+
+/// What a command on texts of profiles is asked for.
+enum Asking {
+    Lint(&'static [&'static str]),
+    Show(&'static str),
+    Sheet(&'static str, &'static str),
+    FromPjl(&'static str, Option<&'static str>),
+}
+
+/// Words behind `profile`, and what they ask for.
+const ASKINGS: &[(&[&str], Asking)] = &[
+    (&["lint", "a"], Asking::Lint(&["a"])),
+    (
+        &["lint", "@A", "b.profile", "@A"],
+        Asking::Lint(&["@A", "b.profile", "@A"]),
+    ),
+    (&["show", "@B"], Asking::Show("@B")),
+    (&["sheet", "a", "b"], Asking::Sheet("a", "b")),
+    (&["from-pjl", "-"], Asking::FromPjl("-", None)),
+    (&["from-pjl", "a", "b"], Asking::FromPjl("a", Some("b"))),
+];
+
+/// Whether this is what is asked for.
+fn is_asking(request: &Request<'_>, wanted: &Asking) -> bool {
+    match (request, wanted) {
+        (Request::ProfileLint { profiles }, Asking::Lint(words)) => profiles.as_slice() == *words,
+        (Request::ProfileShow { profile }, Asking::Show(word)) => profile == word,
+        (Request::ProfileSheet { profile, out }, Asking::Sheet(word, path)) => {
+            profile == word && out == path
+        }
+        (Request::ProfileFromPjl { answer, base }, Asking::FromPjl(path, word)) => {
+            answer == path && base == word
+        }
+        _ => false,
+    }
+}
+
+#[test]
+fn words_that_ask_for_work_on_profiles(rt: HostRuntime) -> Result<(), Fail> {
+    for (behind, wanted) in ASKINGS {
+        let mut words = strings(rt.alloc(), &["pclcheck", "profile"])?;
+        for word in *behind {
+            words.push(String::from_str(rt.alloc(), word)?)?;
+        }
+        let mut stdout = Watched::new(Vec::new(rt.alloc()));
+        let mut stderr = Watched::new(Vec::new(rt.alloc()));
+        let answer = read_words(rt.alloc(), words.as_slice(), &mut stdout, &mut stderr);
+        let is_right = match &answer {
+            Ok(request) => is_asking(request, wanted),
+            Err(_) => false,
+        };
+        assert!(rt; is_right, "{behind:?}");
+    }
+    Ok(())
+}
+
+#[test]
+fn a_sheet_goes_to_no_profile(rt: HostRuntime) -> Result<(), Fail> {
+    let words = strings(rt.alloc(), &["pclcheck", "profile", "sheet", "a", "a"])?;
+    let mut stdout = Watched::new(Vec::new(rt.alloc()));
+    let mut stderr = Watched::new(Vec::new(rt.alloc()));
+    let answer = read_words(rt.alloc(), words.as_slice(), &mut stdout, &mut stderr).err();
+    assert_eq!(rt; answer, Some(Status::Overwrites(Input::Profile)));
     Ok(())
 }

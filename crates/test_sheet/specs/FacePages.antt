@@ -10,9 +10,9 @@ use Rattle.test_sheet.specs.Figures.{amount, signed_amount, symbol_set}
 use Rattle.test_sheet.specs.Lines.{baseline, indent, line_height, words_on}
 use Rattle.test_sheet.specs.Marks.{words_at}
 
--- how many faces go on a page, below its heading: one at least
+-- how many faces go on a page, below its heading and above the last line: one at least
 unfoldable pub faces_on : Area → Face → ℕ
-faces_on area first = max 1 (min 99 ((area.bottom - (area.top + 12)) / line_height first - 1))
+faces_on area first = max 1 (min 98 ((area.bottom - (area.top + 12)) / line_height first - 2))
 
 -- the line of a face on its page, by how many faces come before it
 abbrev pub line_of : ℕ → ℕ → ℕ
@@ -41,23 +41,29 @@ face_line area first line face =
     ++ words_at (right_half area) face (indent (right_half area)) (baseline area first line) (sample_words face)
     ++ font_request first.request
 
--- what begins a page
-abbrev pub heading : Area → Face → List ℕ
-heading area first = words_on area first 0 (codes "Face, set, pitch, height, style, weight, typeface")
+-- what begins a page, which ends the one before it
+abbrev pub heading : Area → Face → ℕ → List ℕ
+heading area first index =
+    (if index == 0 then [] else form_feed)
+    ++ words_on area first 0 (codes "Face, set, pitch, height, style, weight, typeface")
 
--- the line of a face, behind a heading where it is the first of its page, and ended by a form feed where it is the last
+-- the line of a face, behind a heading where it is the first of its page
 unfoldable pub face_entry : Area → Face → ℕ → Face → List ℕ
 face_entry area first index face =
     let count : ℕ = faces_on area first in
-    (if index % count == 0 then heading area first else [])
+    (if index % count == 0 then heading area first index else [])
     ++ face_line area first (line_of count index) face
-    ++ (if line_of count index == count then form_feed else [])
 
 abbrev pub face_entries : Area → Face → List Face → List ℕ
 face_entries area first faces = flat_map (λ entry. face_entry area first entry.0 entry.1) (enumerate_from 0 faces)
+
+-- the last line of the sheet, at the foot of its page: a sheet without it is not whole
+abbrev pub last_line : Area → Face → List ℕ
+last_line area first = words_on area first (1 + faces_on area first) (codes "END OF SHEET")
 
 unfoldable pub face_pages : Geometry → Face → List Face → List ℕ
 face_pages page first faces =
     page_request page.size page.orientation
     ++ font_request first.request
     ++ face_entries (area_of page) first faces
+    ++ last_line (area_of page) first

@@ -20,15 +20,19 @@ half_inch = 18_288_000_000
 abbrev pub first_baseline : ℕ → ℕ
 first_baseline vmi = half_inch + vmi * 57_150
 
+-- the one behind its fourteen lines, where the cursor stands as the page ends
+abbrev pub baseline_behind : ℕ → ℕ
+baseline_behind vmi = first_baseline vmi + 14 * (vmi * 76_200)
+
 -- the last one that there may be
 abbrev pub last_baseline : Geometry → ℕ
 last_baseline page = unsigned_abs page.logical_height - half_inch
 
--- whether lines of the face, from the first baseline to the last, lie in the area
+-- whether its lines go on one page, and lines of the face, from the first baseline to the last, lie in the area
 unfoldable pub has_own_lines : Geometry → Area → Face → ℕ → Bool
 has_own_lines page area face vmi =
     nat_le (area.top * dot + unsigned_abs face.ascent) (first_baseline vmi)
-    && nat_le (first_baseline vmi) (last_baseline page)
+    && nat_le (baseline_behind vmi) (last_baseline page)
     && nat_le (last_baseline page + unsigned_abs face.descent) (area.bottom * dot)
 
 -- ---- its lines

@@ -1,6 +1,6 @@
 //! Pages with a line for each face.
 ghost use Rattle.std.specs.Prelude.{◌≡◌, ◌++◌, ◌∷◌, [], ◌≤◌, ◌<◌, OnOk, IfOk, flat_map};
-ghost use Rattle.test_sheet.specs.FacePages.{face_entries, face_entry, face_line, face_pages, face_words, faces_on, heading, line_of, sample_words};
+ghost use Rattle.test_sheet.specs.FacePages.{face_entries, face_entry, face_line, face_pages, face_words, faces_on, heading, last_line, line_of, sample_words};
 
 use crate::area::{Area, area_of};
 use crate::commands::{push_font_request, push_page_request};
@@ -10,22 +10,22 @@ use crate::marks::push_words_at;
 use device_profile::{CodeRange, FontRow, Geometry};
 use std::alloc::{AllocError, Allocator};
 
-/// How many faces go on a page, below its heading.
+/// How many faces go on a page, below its heading and above the last line.
 #[tactic(auto, unfolding(crate::specs::FacePages::faces_on))]
 fn faces_on<P: Allocator>(area: Area, first: &FontRow<P>) -> usize
     ensures value { result ≡ faces_on area first.now }
     ensures some { 0 < result }
-    ensures few { result ≤ 99 }
+    ensures few { result ≤ 98 }
 {
     let height = u32::from(area.bottom).saturating_sub(u32::from(area.top) + 12);
     let lines = height / u32::from(line_height(first));
-    lines.saturating_sub(1).min(99).max(1) as usize
+    lines.saturating_sub(2).min(98).max(1) as usize
 }
 
 /// The line of a face on its page, by how many faces come before it.
 fn line_of(count: usize, index: usize) -> u8
     requires some { 0 < count }
-    requires few { count ≤ 99 }
+    requires few { count ≤ 98 }
     ensures { result ≡ line_of count index }
 {
     1 + (index % count) as u8
@@ -105,20 +105,23 @@ fn push_face_line<A: Allocator + Copy, P: Allocator>(
     push_font_request(text, &first.request())
 }
 
-/// Appends what begins a page.
+/// Appends what begins a page, by how many faces come before it.
 fn push_heading<A: Allocator, P: Allocator>(
     text: &mut Vec<u8, A>,
     area: Area,
     first: &FontRow<P>,
+    index: usize,
 ) -> Result<(), AllocError>
-    ensures { OnOk result (text.new.items ≡ text.old.items ++ heading area first.now) }
+    ensures { OnOk result (text.new.items ≡ text.old.items ++ heading area first.now index) }
 {
+    if index > 0 {
+        text.push(b'\x0c')?;
+    }
     let words = b"Face, set, pitch, height, style, weight, typeface";
     push_words_on(text, area, first, 0, words)
 }
 
-/// Appends the line of a face, behind a heading where it is the first of its page, and ended by a
-/// form feed where it is the last.
+/// Appends the line of a face, behind a heading where it is the first of its page.
 #[tactic(auto, unfolding(crate::specs::FacePages::face_entry))]
 fn push_face_entry<A: Allocator + Copy, P: Allocator>(
     text: &mut Vec<u8, A>,
@@ -132,15 +135,10 @@ fn push_face_entry<A: Allocator + Copy, P: Allocator>(
         (text.new.items ≡ text.old.items ++ face_entry area first.now index face.now) }
 {
     let count = faces_on(area, first);
-    let line = line_of(count, index);
     if index % count == 0 {
-        push_heading(text, area, first)?;
+        push_heading(text, area, first, index)?;
     }
-    push_face_line(text, alloc, area, first, line, face)?;
-    if usize::from(line) == count {
-        text.push(b'\x0c')?;
-    }
-    Ok(())
+    push_face_line(text, alloc, area, first, line_of(count, index), face)
 }
 
 /// Appends the lines of faces.
@@ -160,7 +158,19 @@ fn push_face_entries<A: Allocator + Copy, P: Allocator>(
     Ok(())
 }
 
-/// Appends the pages with a line for each face, of which this is the first.
+/// Appends the last line of the sheet, at the foot of its page.
+fn push_last_line<A: Allocator, P: Allocator>(
+    text: &mut Vec<u8, A>,
+    area: Area,
+    first: &FontRow<P>,
+) -> Result<(), AllocError>
+    ensures { OnOk result (text.new.items ≡ text.old.items ++ last_line area first.now) }
+{
+    let line = 1 + faces_on(area, first) as u8;
+    push_words_on(text, area, first, line, b"END OF SHEET")
+}
+
+/// Appends the pages with a line for each face, of which this is the first, and the last line.
 #[tactic(auto, unfolding(crate::specs::FacePages::face_pages))]
 pub(crate) fn push_face_pages<A: Allocator + Copy, P: Allocator>(
     text: &mut Vec<u8, A>,
@@ -174,5 +184,7 @@ pub(crate) fn push_face_pages<A: Allocator + Copy, P: Allocator>(
 {
     push_page_request(text, page.size, page.orientation)?;
     push_font_request(text, &first.request())?;
-    push_face_entries(text, alloc, area_of(page), first, faces)
+    let area = area_of(page);
+    push_face_entries(text, alloc, area, first, faces)?;
+    push_last_line(text, area, first)
 }

@@ -1,6 +1,6 @@
 //! The page that sets nothing: it shows what the panel has.
 ghost use Rattle.std.specs.Prelude.{◌≡◌, ◌++◌, ◌≤◌, ◌^◌, OnOk, IfOk, flat_map, replicate};
-ghost use Rattle.test_sheet.specs.OwnPage.{blank_columns, first_baseline, has_own_lines, last_baseline, line_end, numbered, own_line, own_lines, own_page};
+ghost use Rattle.test_sheet.specs.OwnPage.{baseline_behind, blank_columns, first_baseline, has_own_lines, last_baseline, line_end, numbered, own_line, own_lines, own_page};
 
 use crate::area::{Area, area_of};
 use crate::dots::{DOT, ticks_of};
@@ -16,6 +16,9 @@ const HALF_INCH: u64 = 18_288_000_000;
 /// 3/4 of a ten-thousandth of 1/48 inch, in ticks.
 const FIRST_LINE_PER_VMI: u64 = 57_150;
 
+/// A ten-thousandth of 1/48 inch, in ticks.
+const TICKS_PER_VMI: u64 = 76_200;
+
 /// The most columns that are left blank.
 const MOST_COLUMNS: u64 = 999;
 
@@ -29,6 +32,13 @@ fn first_baseline(vmi: u32) -> u64
     HALF_INCH + u64::from(vmi) * FIRST_LINE_PER_VMI
 }
 
+/// The baseline behind the fourteen lines of the page, in ticks.
+fn baseline_behind(vmi: u32) -> u64
+    ensures { result ≡ baseline_behind vmi }
+{
+    first_baseline(vmi) + 14 * (u64::from(vmi) * TICKS_PER_VMI)
+}
+
 /// The last baseline that there may be, in ticks.
 fn last_baseline(page: &Geometry) -> u64
     ensures value { result ≡ last_baseline page.now }
@@ -37,7 +47,8 @@ fn last_baseline(page: &Geometry) -> u64
     ticks_of(page.logical_height).saturating_sub(HALF_INCH)
 }
 
-/// Whether lines of the face, from the first baseline to the last, lie in the area.
+/// Whether the lines of the page go on one page, and lines of the face, from the first baseline to
+/// the last, lie in the area.
 #[tactic(auto, unfolding(crate::specs::OwnPage::has_own_lines))]
 fn has_own_lines<P: Allocator>(page: &Geometry, area: Area, face: &FontRow<P>, vmi: u32) -> bool
     ensures { result ≡ has_own_lines page.now area face.now vmi }
@@ -45,7 +56,7 @@ fn has_own_lines<P: Allocator>(page: &Geometry, area: Area, face: &FontRow<P>, v
     let first = first_baseline(vmi);
     let last = last_baseline(page);
     u64::from(area.top) * DOT + ticks_of(face.ascent()) <= first
-        && first <= last
+        && baseline_behind(vmi) <= last
         && last + ticks_of(face.descent()) <= u64::from(area.bottom) * DOT
 }
 

@@ -3,7 +3,7 @@
 use device_profile::{Profile, Sample};
 use preflight::{Error, Verdict, Watched, check_job};
 use printer_models::{MODELS, PAPERS, PanelLists, Paper, new_text};
-use printers::{Printer, profile_of, with_area};
+use printers::{Printer, profile_of, with_area, with_line};
 use refusing::Refusing;
 use std::alloc::{AllocError, Global};
 use std::process::Abort;
@@ -151,16 +151,38 @@ fn the_sheets_of_other_areas_pass(rt: HostRuntime) -> Result<(), Fail> {
 }
 
 /// Printable areas in which little or nothing finds room, and the pages and marks of their sheets:
-/// of the first two the four rules are left, of the others none. The page that sets nothing is left
-/// out but for the area that is as high as the page, and one that has no room for lines is ended
-/// behind the one face.
+/// of the first two the four rules are left, of the others none. The page to measure is ended by a
+/// form feed, and that of faces, without a mark, is none. The page that sets nothing is left out but
+/// for the area that is as high as the page.
 const SMALL_AREAS: &[(&str, u64, u64)] = &[
     ("5000 1200 5400 30000", 1, 4),
-    ("1200 1200 60000 2400", 2, 4),
-    ("30000 40000 30001 40001", 2, 0),
+    ("1200 1200 60000 2400", 1, 4),
+    ("30000 40000 30001 40001", 1, 0),
     ("0 0 1800 79200", 2, 0),
-    ("60000 78000 61200 79200", 2, 0),
+    ("60000 78000 61200 79200", 1, 0),
 ];
+
+/// Distances of lines in 1/48 inch, and the pages of the sheet of sample B with them: the page that
+/// sets nothing comes where its lines go on one page.
+const VMIS: &[(&[u8], u64)] = &[
+    (b"vmi 8", 4),
+    (b"vmi 32", 4),
+    (b"vmi 33", 3),
+    (b"vmi 335", 3),
+];
+
+#[test]
+fn the_page_that_sets_nothing_is_one(rt: HostRuntime) -> Result<(), Fail> {
+    for (line, pages) in VMIS {
+        let text = with_line(rt.alloc(), Sample::B.text(), 5, line)?;
+        let profile = Profile::read(rt.alloc(), &text)?;
+        match verdict_on_sheet(rt.alloc(), profile)? {
+            Verdict::Pass { pages: found, .. } => assert_eq!(rt; found, *pages, "{line:?}"),
+            verdict => assert!(rt; false, "{line:?}: {verdict:?}"),
+        }
+    }
+    Ok(())
+}
 
 #[test]
 fn the_sheets_of_small_areas_pass(rt: HostRuntime) -> Result<(), Fail> {

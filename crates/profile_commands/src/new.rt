@@ -94,7 +94,7 @@ fn refuse_paper<E: Outlet>(model: &str, paper: &str, fault: PaperFault, stderr: 
 }
 
 /// Tells that the text that was made is not that of the tables, which is a mistake in the program.
-fn tell_mismatch<E: Outlet>(stderr: &mut E) -> Status
+pub fn tell_mismatch<E: Outlet>(stderr: &mut E) -> Status
     requires { IsFalse (E.state stderr.old).failed }
     ensures status { result ≡ Status.Told Trouble.Mismatch }
     ensures line { Writes (E.state stderr.old) (E.state stderr.new) mismatch_line }

@@ -1,5 +1,5 @@
 use Rattle.profile_commands.proofs.AskedPapers.{line_told}
-use Rattle.profile_commands.proofs.profile_new.refuse_paper.Goals as goal
+use Rattle.profile_commands.proofs.new.refuse_paper.Goals as goal
 
 pub returns-in-Unknown-clause-line : goal.returns-in-Unknown-clause-line
 returns-in-Unknown-clause-line g c = line_told _ _ _ _ _ _ _ _ c.in-Unknown.is c.as_bytes-model.ensures.value c.as_bytes-paper.ensures.value c.write_pieces.ensures

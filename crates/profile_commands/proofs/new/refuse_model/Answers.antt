@@ -1,7 +1,7 @@
 use Rattle.std.proofs.Common.{subst}
 use Rattle.preflight.specs.Writing.{Writes}
 use Rattle.profile_commands.specs.ProfileNew.{unknown_model}
-use Rattle.profile_commands.proofs.profile_new.refuse_model.Goals as goal
+use Rattle.profile_commands.proofs.new.refuse_model.Goals as goal
 
 pub returns-clause-line : goal.returns-clause-line
 returns-clause-line g c =

@@ -2,7 +2,7 @@ use Rattle.std.proofs.Common.{◌<◌, inl, inr, length, refl, rules, subst}
 use Rattle.printer_models.specs.declared.new_profile.NewError.TheVariants.{Paper as WrongPaper, Mismatch as OtherText, Memory as NoMemory}
 use Rattle.profile_commands.proofs.AskedPapers.{name_told, told_of_one}
 use Rattle.profile_commands.specs.WholeText.{WritesWhole}
-use Rattle.profile_commands.proofs.profile_new.profile_new.Goals as goal
+use Rattle.profile_commands.proofs.new.profile_new.Goals as goal
 
 pub bounds-papers-wrong : goal.bounds-papers-wrong
 bounds-papers-wrong g c = told_of_one _ c.args.papers.now c.in-Err-Paper.wrong c.in-Err-Paper.field-0 c.in-Err-Paper.field-0-is c.in-Err-Paper.ensures.err

@@ -1,0 +1,147 @@
+//! The words of the commands `profile lint`, `show`, `sheet` and `from-pjl`.
+ghost use Rattle.std.specs.Prelude.{IfOk, IfSome};
+ghost use Rattle.command_line.specs.Words.{NamesSome};
+
+use crate::text_commands::{out, profile};
+use crate::words::Request;
+use clap::{Arg, ArgAction, ArgMatches, Command};
+use std::alloc::{AllocError, Global};
+
+const LINT_EXPLANATION: &str = "Output, a line for each thing that is found:
+  PROFILE:LINE: WORDS (CAUSE)  a line of the text is wrong
+  PROFILE: WORDS (CAUSE)       the whole is
+  PROFILE: hint: WORDS         nothing is wrong, but see whether it is meant so
+
+The first fault of a text is the one that 'ERROR profile N LINE CAUSE' tells. Hints are given where a
+text has no fault: on pages and faces that are not those of the tables of 'profile new', on what jobs
+hardly ever set, and on the first thing in which two of the profiles differ.
+
+Exit status:
+  0  no text has a fault, or help was asked for
+  2  a text has faults, or usage error
+  3  a text could not be read, a write failed, or memory ran out";
+
+const SHOW_EXPLANATION: &str =
+    "Output, for people: what the panel may have, the device, the pages in millimetres, inches and dots of
+1/300 inch, and the faces by typeface and symbol set.
+
+Exit status:
+  0  the profile was shown, or help was asked for
+  2  usage error, or the profile is refused; 'pclcheck profile lint' tells all that is wrong
+  3  the text could not be read, a write failed, or memory ran out";
+
+const SHEET_EXPLANATION: &str =
+    "Print OUT on the printer whose profile it is, and lay a ruler on it. The first lines of each page say
+what to measure and what it has to be by the profile. Where all lists of the panel have one value, the
+first page sets nothing: it shows how the panel stands.
+
+OUT is created once the job was made and has passed a check for PROFILE; what it held before is lost.
+An OUT that is PROFILE, under whichever path, is refused. The last line on paper is END OF SHEET: a
+sheet without it is not whole.
+
+Exit status:
+  0  the job was written, or help was asked for
+  2  usage error, the profile is refused, or it describes a printer on which the sheet does not pass
+  3  the text could not be read, a write failed, or memory ran out";
+
+const FROM_PJL_EXPLANATION: &str =
+    "ANSWER is the file with what the printer answers, or - for standard input. To ask it:
+  printf '\\033%%-12345X@PJL INFO CONFIG\\r\\n@PJL INFO VARIABLES\\r\\n\\033%%-12345X' \\
+      | nc -w 5 PRINTER 9100 > answer.txt
+
+The size, the orientation, copies, sides, tray, VMI, font and line termination that it tells take the
+place of those of BASE; without BASE, of those of the model generic. What is not understood, and what
+a profile cannot say, is told on standard error and stands in the comments of the text.
+
+Exit status:
+  0  the text was written, or help was asked for
+  2  usage error, BASE is refused, ANSWER has no line NAME=VALUE that a printer answers, or one of
+     the texts has more than 65536 bytes
+  3  a text could not be read, a write failed, or memory ran out";
+
+fn required<'a>(alloc: Global, name: &'a str, help: &'a str) -> Arg<'a> {
+    Arg::new(alloc, name)
+        .required(true)
+        .action(ArgAction::Set)
+        .help(help)
+}
+
+/// The words of the command `profile lint`.
+pub fn lint_command<'a>(alloc: Global) -> Result<Command<'a>, AllocError> {
+    let help = "A profile: the path of its text, or @A, @B, @C or @D for a built-in sample";
+    Command::new(alloc, "lint")
+        .about("Tells all that is wrong with profiles, and gives hints")
+        .after_help(LINT_EXPLANATION)
+        .arg(
+            required(alloc, "PROFILE", help)
+                .num_args(1..)
+                .action(ArgAction::Append),
+        )
+}
+
+/// The words of the command `profile show`.
+pub fn show_command<'a>(alloc: Global) -> Result<Command<'a>, AllocError> {
+    Command::new(alloc, "show")
+        .about("Shows a profile to people")
+        .after_help(SHOW_EXPLANATION)
+        .arg(profile(alloc))
+}
+
+/// The words of the command `profile sheet`.
+pub fn sheet_command<'a>(alloc: Global) -> Result<Command<'a>, AllocError> {
+    Command::new(alloc, "sheet")
+        .about("Writes a job to print, by which a printer is compared with its profile")
+        .after_help(SHEET_EXPLANATION)
+        .arg(profile(alloc))?
+        .arg(out(alloc))
+}
+
+/// The words of the command `profile from-pjl`.
+pub fn from_pjl_command<'a>(alloc: Global) -> Result<Command<'a>, AllocError> {
+    let base = Arg::new(alloc, "BASE").action(ArgAction::Set).help(
+        "The profile that the answer is put into: its path, or @A, @B, @C or @D",
+    );
+    let help = "The path of the printer's answer, or - for standard input";
+    Command::new(alloc, "from-pjl")
+        .about("Writes the text of a profile after a printer's own answer")
+        .after_help(FROM_PJL_EXPLANATION)
+        .arg(required(alloc, "ANSWER", help))?
+        .arg(base)
+}
+
+/// The request of the words behind `profile`, where they name one of these commands.
+pub fn tool_request<'a>(
+    alloc: Global,
+    found: &ArgMatches<'a>,
+) -> Result<Option<Request<'a>>, AllocError>
+    ensures { IfOk result (λ request. IfSome request NamesSome) }
+{
+    if let Some(found) = found.subcommand_matches("lint") {
+        let mut profiles = Vec::new(alloc);
+        profiles.extend_from_slice(found.get_strs("PROFILE").unwrap_or(&[]))?;
+        return Ok(Some(Request::ProfileLint { profiles }));
+    }
+    Ok(text_tool_request(found))
+}
+
+/// The same for the commands that take single words.
+fn text_tool_request<'a>(found: &ArgMatches<'a>) -> Option<Request<'a>>
+    ensures { IfSome result NamesSome }
+{
+    if let Some(found) = found.subcommand_matches("show") {
+        return Some(Request::ProfileShow {
+            profile: found.get_str("PROFILE")?,
+        });
+    }
+    if let Some(found) = found.subcommand_matches("sheet") {
+        return Some(Request::ProfileSheet {
+            profile: found.get_str("PROFILE")?,
+            out: found.get_str("OUT")?,
+        });
+    }
+    let found = found.subcommand_matches("from-pjl")?;
+    Some(Request::ProfileFromPjl {
+        answer: found.get_str("ANSWER")?,
+        base: found.get_str("BASE"),
+    })
+}

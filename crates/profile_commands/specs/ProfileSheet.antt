@@ -1,0 +1,57 @@
+-- What the command `profile sheet` leaves.
+use Rattle.std.specs.Prelude.{◌≡◌, ◌⊎◌, ◌∷◌, [], ℕ, List, Option, true, codes, ◌++◌}
+use Rattle.device_profile.specs.Name.{printer_name}
+use Rattle.device_profile.specs.Printer.{Printer}
+use Rattle.preflight.specs.declared.error.Error.{Error}
+use Rattle.preflight.specs.declared.error.Error.TheVariants.{Write}
+use Rattle.preflight.specs.Verdict.{IsExact, KeepsPromise}
+use Rattle.profile_lint.specs.Shown.{shown}
+use Rattle.profile_commands.specs.ProfileReading.{IsRead, IsTextOf, TellsWhyNone}
+use Rattle.profile_commands.specs.WholeText.{WritesWhole}
+use Rattle.streams.specs.Outlet.{OutletState}
+use Rattle.subcommands.specs.CheckMany.{TellsLine}
+use Rattle.subcommands.specs.Lines.{verdict_line}
+use Rattle.subcommands.specs.declared.status.Input.TheVariants.{Profile as TheProfile}
+use Rattle.subcommands.specs.declared.status.Status.{Status}
+use Rattle.subcommands.specs.declared.status.Status.TheVariants.{Overwrites, Stopped}
+use Rattle.subcommands.specs.declared.status.Trouble.TheVariants.{Refused}
+use Rattle.test_sheet.specs.Sheet.{sheet}
+use Rattle.verdict.specs.declared.reason.Reason.{Reason}
+use Rattle.verdict.specs.declared.verdict.Verdict.{Verdict}
+use Rattle.verdict.specs.declared.verdict.Verdict.TheVariants.{Pass, Fail}
+
+-- the job passes on this printer
+abbrev pub Passes : Printer → List ℕ → Type 0
+Passes printer job =
+    (pages : ℕ) × (marks : ℕ) × IsExact (printer ∷ []) job (Pass pages marks) × KeepsPromise (printer ∷ []) job (Pass pages marks)
+
+-- the job fails on it, by this verdict
+abbrev pub FailsBy : Printer → List ℕ → Verdict → Type 0
+FailsBy printer job verdict =
+    (place : ℕ) × (number : ℕ) × (reason : Reason) × (verdict ≡ Fail place number reason) × IsExact (printer ∷ []) job verdict
+
+-- the word of a profile on whose printer the sheet fails, and how
+abbrev pub unprinted_sheet : List ℕ → Verdict → List ℕ
+unprinted_sheet word verdict = codes "error: the sheet for '" ++ (shown word ++ (codes "' would not pass on it: " ++ verdict_line verdict))
+
+-- OUT is created and the job written, or a front where a write failed; or OUT is the profile itself or cannot be created, and
+-- nothing is written
+abbrev pub WritesOut : List ℕ → Status → OutletState → OutletState → Type 0
+WritesOut job status out out' =
+    WritesWhole job status out out'
+    ⊎ ((status ≡ Overwrites TheProfile) × (out' ≡ out))
+    ⊎ ((status ≡ Stopped Write) × (out' ≡ record out { failed = true }))
+
+-- The sheet of a printer goes to OUT where it passes on it; where it fails, standard error is told how; or the work stopped before.
+abbrev pub LeavesSheetOf : List ℕ → Printer → List ℕ → Status → OutletState → OutletState → OutletState → OutletState → Type 0
+LeavesSheetOf word printer job status out out' err err' =
+    (Passes printer job × WritesOut job status out out' × (err' ≡ err))
+    ⊎ ((verdict : Verdict) × FailsBy printer job verdict × TellsLine status Refused (unprinted_sheet word verdict) err err' × (out' ≡ out))
+    ⊎ ((error : Error) × (status ≡ Stopped error) × (out' ≡ out) × (err' ≡ err))
+
+-- the sheet of the printer whose text was read, or there is none, and standard error is told why
+abbrev pub LeavesSheet : Option (List ℕ) → List ℕ → List (List ℕ) → List (List ℕ) → Status → OutletState → OutletState → OutletState → OutletState → Type 0
+LeavesSheet known word old new status out out' err err' =
+    ((text : List ℕ) × (printer : Printer) × IsRead known old new text × IsTextOf text printer
+    × LeavesSheetOf word printer (sheet (printer_name text) printer) status out out' err err')
+    ⊎ (TellsWhyNone known word old new status err err' × (out' ≡ out))

@@ -1,0 +1,157 @@
+//! The command `profile sheet`.
+ghost use Rattle.std.specs.Prelude.{◌≡◌, ◌≢◌, ◌++◌, [], ◌∷◌, IfOk, IfSome, IsFalse, OnOk};
+ghost use Rattle.preflight.specs.Verdict.{IsExact, KeepsPromise};
+ghost use Rattle.profile_commands.specs.ProfileSheet.{LeavesSheet, LeavesSheetOf, WritesOut, unprinted_sheet};
+ghost use Rattle.subcommands.specs.CheckMany.{TellsLine};
+
+use crate::profile_reading::{profile_of, read_text};
+use crate::whole_text::write_whole;
+use device_profile::{Profile, printer_name};
+use preflight::{Error, Outlet, Verdict, check_job, write_text};
+use profile_lint::push_shown;
+use std::alloc::{AllocError, Allocator};
+use streams::{Create, FileId, Latched};
+use subcommands::{Input, ProfileTexts, Status, Trouble, line_of};
+use test_sheet::sheet_job;
+
+/// The command `profile sheet`: in OUT a job by which the printer is compared with its profile. The
+/// profile is read, the job made, and checked for it, before OUT is created, unless that is the
+/// profile. Of a profile that cannot be read or is refused, and of one whose sheet would fail,
+/// standard error tells.
+pub fn profile_sheet<T: ProfileTexts, W: Create, E: Outlet, A: Allocator + Copy>(
+    alloc: A,
+    texts: &mut T,
+    word: &str,
+    out: &mut W,
+    stderr: &mut E,
+) -> Status
+    requires texts { IsFalse (T.failed texts.old) }
+    requires out { IsFalse (W.state out.old).failed }
+    requires stderr { IsFalse (E.state stderr.old).failed }
+    ensures { LeavesSheet (T.text_of texts.old word.now) word.now (T.given texts.old)
+        (T.given texts.new) result (W.state out.old) (W.state out.new)
+        (E.state stderr.old) (E.state stderr.new) }
+{
+    let text = match read_text(alloc, texts, word, stderr) {
+        Ok(text) => text,
+        Err(status) => return status,
+    };
+    let profile = match profile_of(alloc, word, text.as_slice(), stderr) {
+        Ok(profile) => profile,
+        Err(status) => return status,
+    };
+    let Ok(job) = sheet_job(alloc, printer_name(text.as_slice()), &profile) else {
+        return Status::Stopped(Error::Memory);
+    };
+    write_sheet(
+        alloc,
+        word,
+        profile,
+        job.as_slice(),
+        texts.file(),
+        out,
+        stderr,
+    )
+}
+
+/// Writes a sheet in OUT, where it passes on its printer.
+fn write_sheet<W: Create, E: Outlet, A: Allocator + Copy>(
+    alloc: A,
+    word: &str,
+    profile: Profile<A>,
+    job: &[u8],
+    file: Option<FileId>,
+    out: &mut W,
+    stderr: &mut E,
+) -> Status
+    requires out { IsFalse (W.state out.old).failed }
+    requires stderr { IsFalse (E.state stderr.old).failed }
+    ensures { LeavesSheetOf word.now profile job.now result (W.state out.old) (W.state out.new)
+        (E.state stderr.old) (E.state stderr.new) }
+{
+    let mut fleet = Vec::new(alloc);
+    if fleet.push(profile).is_err() {
+        return Status::Stopped(Error::Memory);
+    }
+    match verdict_on(alloc, job, fleet.as_slice()) {
+        Ok(Verdict::Pass { .. }) => write_out(job, file, out),
+        Ok(
+            Verdict::Fail {
+                place,
+                profile,
+                finding,
+            },
+        ) => {
+            let verdict = Verdict::Fail {
+                place,
+                profile,
+                finding,
+            };
+            refuse(alloc, word, verdict, stderr)
+        }
+        Err(error) => Status::Stopped(error),
+    }
+}
+
+/// The verdict on a job for a fleet.
+fn verdict_on<A: Allocator + Copy>(
+    alloc: A,
+    job: &[u8],
+    fleet: &[Profile<A>],
+) -> Result<Verdict, Error>
+    ensures exact { IfOk result (IsExact fleet.now job.now) }
+    ensures promise { IfOk result (KeepsPromise fleet.now job.now) }
+{
+    let mut source = Latched::new(job);
+    check_job(alloc, &mut source, fleet)
+}
+
+/// Creates OUT, unless it is the file that the profile came from, and writes the job.
+fn write_out<W: Create>(job: &[u8], file: Option<FileId>, out: &mut W) -> Status
+    requires { IsFalse (W.state out.old).failed }
+    ensures { WritesOut job.now result (W.state out.old) (W.state out.new) }
+{
+    if let Some(file) = file {
+        if out.leads_to(file) {
+            return Status::Overwrites(Input::Profile);
+        }
+    }
+    if out.create().is_err() {
+        return Status::Stopped(Error::Write);
+    }
+    write_whole(out, job)
+}
+
+/// Tells that the sheet would fail on its printer, and how.
+fn refuse<E: Outlet, A: Allocator + Copy>(
+    alloc: A,
+    word: &str,
+    verdict: Verdict,
+    stderr: &mut E,
+) -> Status
+    requires { IsFalse (E.state stderr.old).failed }
+    ensures { TellsLine result Trouble.Refused (unprinted_sheet word.now verdict)
+        (E.state stderr.old) (E.state stderr.new) }
+{
+    let Ok(line) = refusal_line(alloc, word, verdict) else {
+        return Status::Stopped(Error::Memory);
+    };
+    // Where standard error takes nothing, the status alone is left to tell.
+    let _ = write_text(stderr, line.as_slice());
+    Status::Told(Trouble::Refused)
+}
+
+fn refusal_line<A: Allocator + Copy>(
+    alloc: A,
+    word: &str,
+    verdict: Verdict,
+) -> Result<Vec<u8, A>, AllocError>
+    ensures { IfOk result (λ line. line.items ≡ unprinted_sheet word.now verdict) }
+{
+    let mut line = Vec::new(alloc);
+    line.extend_from_slice(b"error: the sheet for '")?;
+    push_shown(&mut line, word.as_bytes())?;
+    line.extend_from_slice(b"' would not pass on it: ")?;
+    line.extend_from_slice(line_of(alloc, verdict)?.as_slice())?;
+    Ok(line)
+}
