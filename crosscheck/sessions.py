@@ -17,7 +17,7 @@ from pathlib import Path
 from typing import Iterator, List, Tuple
 
 ROOT = Path(__file__).resolve().parent.parent
-DOCUMENTS = ("README.md", "examples/README.md")
+DOCUMENTS = (ROOT / "README.md", ROOT / "examples" / "README.md", *sorted(ROOT.glob("docs/*.md")))
 # Lines that say where the sessions are given, and what the word `pclcheck` is there.
 SETTING = re.compile(r"cd examples$|alias pclcheck=")
 
@@ -146,7 +146,7 @@ def main() -> int:
         for file, text in FILES.items():
             (folder / file).write_bytes(text)
         for document in DOCUMENTS:
-            for session in sessions(ROOT / document):
+            for session in sessions(document):
                 if not SETTING.match(session[0]):
                     differing += shown(session, folder)
                     count += 1

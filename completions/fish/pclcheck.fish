@@ -1,0 +1,147 @@
+# Completes the words of pclcheck in fish. crosscheck/manual.py compares this with the program.
+
+# The words of the command line up to the cursor that are commands, with a space between.
+function __pclcheck_command
+    set -l words (commandline -opc)
+    set -e words[1]
+    set -l found
+    for word in $words
+        switch "$found $word"
+            case ' check' ' list' ' pages' ' plain' ' pin' ' explain' ' profile' ' help' \
+                'profile list' 'profile new' 'profile lint' 'profile show' 'profile sheet' \
+                'profile from-pjl' 'profile help' 'help profile'
+                set found (string trim -- "$found $word")
+            case ' -*'
+            case '*'
+                break
+        end
+    end
+    echo $found
+end
+
+function __pclcheck_at
+    set -l command (__pclcheck_command)
+    test "$command" = "$argv[1]"
+end
+
+function __pclcheck_samples
+    printf '@A\n@B\n@C\n@D\n'
+end
+
+function __pclcheck_profiles
+    __pclcheck_samples
+    __fish_complete_path (commandline -ct)
+end
+
+# In a check whose printers are named by options each word is a job, and no sample.
+function __pclcheck_at_profile
+    __pclcheck_at check
+    and not string match -qr -- '^(-p|-f|--printer|--fleet)' (commandline -opc)
+    and test (count (commandline -opc)) -gt 2
+end
+
+function __pclcheck_models
+    pclcheck profile list 2>/dev/null | string replace -r '^([^:]*): (.*); papers:.*' '$1\t$2'
+end
+
+# What the word under the cursor has up to its last comma, without the name of its option.
+function __pclcheck_before
+    commandline -ct | string replace -r '[^,]*$' '' | string replace -r '^--\w+=' '' \
+        | string collect --allow-empty
+end
+
+# The papers of the model that stands on the line, or those of all.
+function __pclcheck_papers
+    set -l rows (pclcheck profile list 2>/dev/null)
+    for word in (commandline -opc)
+        set -l own (string match -- "$word: *" $rows)
+        and set rows $own
+    end
+    set rows (string replace -r '.*; papers: ' '' -- $rows | string split ' ' | sort -u)
+    string join \n -- (__pclcheck_before)$rows
+end
+
+function __pclcheck_fields
+    string join \n -- (__pclcheck_before){size,orientation,vmi,font,copies,sides,tray,lineterm}=
+end
+
+function __pclcheck_findings
+    pclcheck explain 2>/dev/null | string replace -rf '^(\d+) (.*)' '$2\t$1'
+end
+
+complete -c pclcheck -n '__pclcheck_at ""' -f
+complete -c pclcheck -n '__pclcheck_at ""' -s V -l version -d 'Print version'
+complete -c pclcheck -n 'not string match -q "*help*" (__pclcheck_command)' -s h -l help \
+    -d 'Print help'
+
+for place in '' help
+    complete -c pclcheck -n "__pclcheck_at '$place'" -f
+    complete -c pclcheck -n "__pclcheck_at '$place'" -a check \
+        -d 'Checks jobs for a fleet of printers, and writes a line for each: PASS or FAIL'
+    complete -c pclcheck -n "__pclcheck_at '$place'" -a list \
+        -d 'Lists the items of a job: each command, control code and byte of text'
+    complete -c pclcheck -n "__pclcheck_at '$place'" -a pages \
+        -d 'Writes what a job marks on its pages, from the first panel setting of a printer'
+    complete -c pclcheck -n "__pclcheck_at '$place'" -a plain \
+        -d 'Writes a job again, with each item in its canonical spelling'
+    complete -c pclcheck -n "__pclcheck_at '$place'" -a pin \
+        -d 'Writes a job again, pinned to one panel setting of a printer'
+    complete -c pclcheck -n "__pclcheck_at '$place'" -a explain \
+        -d 'Tells when a fault or finding comes, and what to change in the job or the profile'
+    complete -c pclcheck -n "__pclcheck_at '$place'" -a profile \
+        -d 'Makes, checks and shows profiles of printers'
+    complete -c pclcheck -n "__pclcheck_at '$place'" -a help \
+        -d 'Print this message or the help of the given subcommand(s)'
+end
+
+for place in profile 'profile help' 'help profile'
+    complete -c pclcheck -n "__pclcheck_at '$place'" -f
+    complete -c pclcheck -n "__pclcheck_at '$place'" -a list \
+        -d 'Lists the models of which there are profiles, and their papers'
+    complete -c pclcheck -n "__pclcheck_at '$place'" -a new \
+        -d 'Writes the text of a profile of a model'
+    complete -c pclcheck -n "__pclcheck_at '$place'" -a lint \
+        -d 'Tells all that is wrong with profiles, and gives hints'
+    complete -c pclcheck -n "__pclcheck_at '$place'" -a show -d 'Shows a profile to people'
+    complete -c pclcheck -n "__pclcheck_at '$place'" -a sheet \
+        -d 'Writes a job to print, by which a printer is compared with its profile'
+    complete -c pclcheck -n "__pclcheck_at '$place'" -a from-pjl \
+        -d "Writes the text of a profile after a printer's own answer"
+    complete -c pclcheck -n "__pclcheck_at '$place'" -a help \
+        -d 'Print this message or the help of the given subcommand(s)'
+end
+
+complete -c pclcheck -n '__pclcheck_at check' -s p -l printer -x -a '(__pclcheck_profiles)' \
+    -d 'A printer; with it every word is a job. May come often'
+complete -c pclcheck -n '__pclcheck_at check' -s f -l fleet -r \
+    -d 'A text with a profile a line; as -p, and behind those of -p'
+complete -c pclcheck -n '__pclcheck_at check' -l files0-from -r \
+    -d 'The paths of the jobs, each ended by a zero byte; - is standard input'
+complete -c pclcheck -n '__pclcheck_at check' -l each \
+    -d 'A line for each printer, with its own verdict'
+complete -c pclcheck -n '__pclcheck_at check' -l format -x -a 'line words json' \
+    -d 'What is told of a job: a line, a sentence or an object of JSON'
+complete -c pclcheck -n '__pclcheck_at check' -l explain \
+    -d "Tells of each FAIL what 'pclcheck explain' tells of its number, too"
+complete -c pclcheck -n '__pclcheck_at check' -l exit-zero -d 'Ends with 0 where a job fails, too'
+complete -c pclcheck -n __pclcheck_at_profile -a '(__pclcheck_samples)' -d sample
+
+complete -c pclcheck -n '__pclcheck_at pages' -a '(__pclcheck_samples)' -d sample
+
+complete -c pclcheck -n '__pclcheck_at pin' -l panel -x -a '(__pclcheck_fields)' \
+    -d 'Pins to these values of the panel; each field that is not named has its first value'
+complete -c pclcheck -n '__pclcheck_at pin' -a '(__pclcheck_samples)' -d sample
+
+complete -c pclcheck -n '__pclcheck_at explain' -f -a '(__pclcheck_findings)'
+
+complete -c pclcheck -n '__pclcheck_at "profile list"' -f
+
+complete -c pclcheck -n '__pclcheck_at "profile new"' -f -a '(__pclcheck_models)'
+complete -c pclcheck -n '__pclcheck_at "profile new"' -l size -x -a '(__pclcheck_papers)' \
+    -d 'The papers that are in the printer; without it letter and a4'
+complete -c pclcheck -n '__pclcheck_at "profile new"' -l panel -x -a 'fixed free' \
+    -d 'Whether people change what the panel has'
+
+for place in 'profile lint' 'profile show' 'profile sheet' 'profile from-pjl'
+    complete -c pclcheck -n "__pclcheck_at '$place'" -a '(__pclcheck_samples)' -d sample
+end

@@ -1,0 +1,154 @@
+# shellcheck shell=sh disable=SC2154,SC2034
+# Part of contrib/cups/try.sh: the backend without CUPS, before a stand-in for the true backend.
+
+alone=$cups/alone
+cat >"$alone/backend/stand-in" <<END
+#!/bin/sh
+# Keeps what the true backend gets: its words, its device URI, and the bytes that it would send.
+printf '%s\n' "\$DEVICE_URI" "\$@" >"$alone/words"
+if [ \$# -eq 5 ]; then cat; else
+    copies=\$4
+    while [ "\$copies" -gt 0 ]; do
+        cat -- "\$6"
+        copies=\$((copies - 1))
+    done
+fi >"$alone/sent"
+exit \$(cat "$alone/status")
+END
+chmod 755 "$alone/backend/stand-in"
+echo 0 >"$alone/status"
+job=$examples/delivery_note.pcl
+
+# start PATH COPIES [FILE]: the backend begins; its URI is pclgate:PATH, as /shop/stand-in:x.
+# Without FILE the job is on standard input. PROGRAM is what it takes for pclcheck.
+start() {
+    DEVICE_URI=pclgate:$1
+    CUPS_SERVERBIN=$alone
+    PCLCHECK=${PROGRAM:-$work/bin/pclcheck}
+    PCLCHECK_FLEETS=$cups/fleets
+    TMPDIR=${TEMPORARY:-$alone/tmp}
+    export DEVICE_URI CUPS_SERVERBIN PCLCHECK PCLCHECK_FLEETS TMPDIR
+    copies=$2
+    shift 2
+    # shellcheck disable=SC2086  # words
+    exec ${UNDER-} "$gate" 7 user title "$copies" '' "$@" 2>"$alone/told"
+}
+gate() {                        # gate STATUS PATH COPIES [FILE]: it ends so, and leaves no file
+    rm -f "$alone/sent" "$alone/words"
+    due=$1
+    shift
+    status=0
+    (start "$@") || status=$?
+    cat "$alone/told"
+    is_equal "$status" "$due" && [ -z "$(ls "$alone/tmp")" ]
+}
+input() { gate "$1" "$2" 1 <"$3"; }             # the same, with the job on standard input
+tells() { has "$1" "$alone/told"; }
+sends() { cmp "$alone/sent" "$1"; }
+sends_nothing() { [ ! -e "$alone/sent" ] && [ ! -e "$alone/words" ]; }
+
+devices() { "$gate" | grep '^direct pclgate "'; }
+say 'backend: tells what devices it has' devices
+say 'backend: a job that passes' gate 0 /shop/stand-in:x 1 "$job"
+say 'backend: is sent as it is' sends "$job"
+say 'backend: the true backend gets its URI' has stand-in:x "$alone/words"
+say 'backend: a job on standard input' input 0 /shop/stand-in:x "$job"
+say 'backend: is sent as it is' sends "$job"
+say 'backend: a job that fails is held' gate 3 /all/stand-in:x 1 "$job"
+say 'backend: and why is told' \
+    tells 'ERROR: preflight: export-desk refuses this job at byte 134, ESC &l2A: the printer does'
+say 'backend: nothing is sent' sends_nothing
+say 'backend: on standard input, too' input 3 /all/stand-in:x "$job"
+say 'backend: nothing is sent' sends_nothing
+
+say 'backend: a job that passes once' gate 0 /front/stand-in:x 1 "$cups/once.pcl"
+say 'backend: is held where it has two copies' gate 3 /front/stand-in:x 2 "$cups/once.pcl"
+say 'backend: for the second one' tells 'front-desk refuses this job at byte 44, '
+cat "$job" "$job" "$job" >"$alone/three"
+say 'backend: three copies' gate 0 /shop/stand-in:x 3 "$job"
+say 'backend: are sent' sends "$alone/three"
+
+echo 4 >"$alone/status"
+say 'backend: the status of the true backend is kept' gate 4 /shop/stand-in:x 1 "$job"
+echo 0 >"$alone/status"
+
+# Its own troubles: with hold, or no word, the job is held; with print it is sent unchecked.
+printf '#!/bin/sh\nkill -9 $$\n' >"$work/bin/killed"
+printf '#!/bin/sh\necho "-: this job has no verdict (ERROR memory)"\nexit 3\n' >"$work/bin/error"
+printf '#!/bin/sh\nulimit -v 2500\nexec "%s" "$@"\n' "$work/bin/pclcheck" >"$work/bin/small"
+chmod 755 "$work/bin/killed" "$work/bin/error" "$work/bin/small"
+for PROGRAM in "$work/bin/gone" /bin/true /bin/false "$work/bin/killed" "$work/bin/error" \
+    "$work/bin/small"; do
+    trouble="backend: ${PROGRAM##*/} for a program"
+    say "$trouble: held" gate 3 /shop/stand-in:x 1 "$job"
+    say "$trouble: told" tells 'ERROR: preflight: no verdict on this job: status '
+    say "$trouble: not sent" sends_nothing
+    say "$trouble: held by its word" input 3 /shop/hold/stand-in:x "$job"
+    say "$trouble: printed by its word" gate 0 /shop/print/stand-in:x 1 "$job"
+    say "$trouble: as it is" sends "$job"
+    say "$trouble: printed from standard input" input 0 /shop/print/stand-in:x "$job"
+    say "$trouble: as it is" sends "$job"
+done
+PROGRAM=
+say 'backend: a profile with a fault: held' gate 3 /broken/stand-in:x 1 "$job"
+say 'backend: a profile with a fault: told' tells 'faulty.profile: line 4: this gives again'
+say 'backend: a profile with a fault: printed' gate 0 /broken/print/stand-in:x 1 "$job"
+say 'backend: a profile with a fault: a bad job is printed, too' \
+    gate 0 /broken/print/stand-in:x 1 "$examples/unset_size.pcl"
+say 'backend: no such fleet: held' gate 3 /gone/stand-in:x 1 "$job"
+TEMPORARY=$work/gone
+say 'backend: no folder for files: held' gate 3 /shop/stand-in:x 1 "$job"
+say 'backend: no folder for files: printed' gate 0 /shop/print/stand-in:x 1 "$job"
+say 'backend: no folder for files: printed from standard input' \
+    input 0 /shop/print/stand-in:x "$job"
+say 'backend: as it is' sends "$job"
+TEMPORARY=
+for word in /shop/ /shop/print/; do
+    say "backend: a spool file that cannot be read: held ($word)" \
+        gate 3 "${word}stand-in:x" 2 "$work/gone"
+    say "backend: nothing is sent" sends_nothing
+    say "backend: a folder for a spool file: held ($word)" gate 3 "${word}stand-in:x" 1 "$work"
+    say "backend: standard input that cannot be read: held ($word)" \
+        input 3 "${word}stand-in:x" "$work"
+    say "backend: no such true backend: held ($word)" gate 3 "${word}nowhere:x" 1 "$job"
+done
+for path in '' / /shop /shop/ /shop/print /shop/print/ //stand-in:x /../stand-in:x /shop/../x:y; do
+    say "backend: the URI pclgate:$path: held" gate 3 "$path" 1 "$job"
+done
+
+for word in /shop/ /shop/print/; do
+    UNDER='setpriv --reuid lp --regid lp --clear-groups prlimit --nproc=0'
+    say "backend: no process can be started: held ($word)" gate 3 "${word}stand-in:x" 1 "$job"
+    UNDER='prlimit --fsize=2000'
+    say "backend: no room for a job on standard input: held ($word)" \
+        input 3 "${word}stand-in:x" "$examples/invoice.pcl"
+done
+UNDER=
+for copies in '' 0 two 2x -1; do
+    say "backend: '$copies' copies: held" gate 3 /shop/stand-in:x "$copies" "$job"
+done
+
+# TERM while it checks: the check ends, too, and the job stays.
+printf '#!/bin/sh\necho $$ >"%s"\nexec sleep 60\n' "$alone/checking" >"$work/bin/slow"
+chmod 755 "$work/bin/slow"
+PROGRAM=$work/bin/slow
+start /shop/print/stand-in:x 1 "$job" &
+stopped=$!
+started="$started $stopped"
+say 'backend: a slow check begins' soon [ -s "$alone/checking" ]
+end "$stopped"
+say 'backend: TERM while it checks: the job is held' is_equal "$status" 3
+say 'backend: the check has ended' soon is_gone "$(cat "$alone/checking" || echo 0)"
+say 'backend: no file is left' [ -z "$(ls "$alone/tmp")" ]
+
+# TERM while the true backend runs: it gets it.
+printf '#!/bin/sh\ntrap "exit 5" TERM\necho $$ >"%s"\nwhile :; do sleep 0.1; done\n' \
+    "$alone/sending" >"$alone/backend/long"
+chmod 755 "$alone/backend/long"
+PROGRAM=
+start /shop/long:x 1 "$job" &
+stopped=$!
+started="$started $stopped"
+say 'backend: a long true backend begins' soon [ -s "$alone/sending" ]
+end "$stopped"
+say 'backend: it gets the signal, and its status counts' is_equal "$status" 5

@@ -1,0 +1,188 @@
+# shellcheck shell=sh disable=SC2154,SC2034
+# Part of contrib/cups/try.sh: the backend behind a private cupsd, before a stand-in for a printer.
+
+mkdir "$cups/etc" "$cups/bin" "$cups/bin/backend" "$cups/spool" "$cups/cache" "$cups/run" \
+    "$cups/log" "$cups/tmp" "$cups/printer"
+chgrp lp "$cups/tmp"
+chmod 1770 "$cups/tmp"
+mkdir -m 777 "$cups/seen"
+for folder in daemon filter; do ln -s "/usr/lib/cups/$folder" "$cups/bin/$folder"; done
+cp /usr/lib/cups/backend/socket "$cups/bin/backend"
+install -m 755 "$gate" "$cups/bin/backend/pclgate"
+# Slow while there is a file that says so.
+cat >"$work/bin/at_times_slow" <<END
+#!/bin/sh
+if [ -e "$cups/slow" ]; then
+    echo \$\$ >"$cups/seen/checking"
+    exec sleep 60
+fi
+exec "$work/bin/pclcheck" "\$@"
+END
+chmod 755 "$work/bin/at_times_slow"
+cat >"$cups/etc/cups-files.conf" <<END
+User lp
+Group lp
+SystemGroup root
+ServerRoot $cups/etc
+ServerBin $cups/bin
+DataDir /usr/share/cups
+CacheDir $cups/cache
+StateDir $cups/run
+RequestRoot $cups/spool
+TempDir $cups/tmp
+AccessLog $cups/log/access
+ErrorLog $cups/log/error
+PageLog $cups/log/page
+Printcap
+SetEnv PCLCHECK $work/bin/at_times_slow
+SetEnv PCLCHECK_FLEETS $cups/fleets
+END
+port=$(free_port)
+cat >"$cups/etc/cupsd.conf" <<END
+Listen 127.0.0.1:$port
+LogLevel info
+MaxLogSize 0
+Browsing No
+WebInterface No
+DefaultAuthType None
+ErrorPolicy abort-job
+<Location />
+  Order allow,deny
+  Allow localhost
+</Location>
+<Policy default>
+  JobPrivateAccess all
+  JobPrivateValues none
+  SubscriptionPrivateAccess all
+  SubscriptionPrivateValues none
+  <Limit All>
+    Order allow,deny
+    Allow localhost
+  </Limit>
+</Policy>
+END
+start_cups() {
+    /usr/sbin/cupsd -f -c "$cups/etc/cupsd.conf" -s "$cups/etc/cups-files.conf" 2>"$cups/log/err" &
+    cupsd=$!
+    started="$started $cupsd"
+    soon is_open "$port"
+}
+CUPS_SERVER=127.0.0.1:$port
+export CUPS_SERVER
+log=$cups/log/error
+
+python3 "$here/try_printer.py" "$cups/printer" &
+started="$started $!"
+say 'queue: a printer listens' soon [ -f "$cups/printer/port" ]
+printer=socket://127.0.0.1:$(cat "$cups/printer/port")
+say 'queue: a private cupsd listens' start_cups
+for queue in front shop all broken; do
+    lpadmin -p "$queue" -E -m raw -v "pclgate:/$queue/$printer" 2>"$work/lpadmin"
+done
+lpadmin -p unchecked -E -m raw -v "pclgate:/broken/print/$printer" 2>"$work/lpadmin"
+devices() { lpinfo -v | grep '^direct pclgate'; }
+say 'queue: CUPS lists the backend' devices
+
+print_job() {                   # print_job WORDS..: lp; the job is then in $name, as front-1
+    name=$(lp "$@") || name='request id is none-0 '
+    name=${name#request id is }
+    name=${name%% *}
+    number=${name##*-}
+}
+resume() { lp -i "$name" -H resume || :; }
+is_done() { lpstat -W completed -o | grep -q "^$name "; }
+is_held() { lpstat -l -o | grep -A 9 "^$name " | grep -q 'job-hold-until-specified'; }
+state() { lpstat -l -W "${1:-not-completed}" -o | grep -A 3 "^$name "; }
+holds() {                       # holds SENTENCE: the job is held, and why is shown and logged
+    soon is_held || { state; return 1; }
+    state >"$cups/state"
+    has "Status: preflight: $1" "$cups/state" && has "E [" "$log" &&
+        grep -F "[Job $number] preflight: $1" "$log" | grep -q '^E '
+}
+count=0
+prints() {                      # prints FILE: the job is done, and the printer got these bytes
+    count=$((count + 1))
+    soon is_done && soon [ -e "$cups/printer/$count" ] && cmp "$cups/printer/$count" "$1"
+}
+prints_nothing() { [ ! -e "$cups/printer/$((count + 1))" ]; }
+logs() { grep -F "[Job $number] preflight: $1" "$log"; }
+
+print_job -d front "$job"
+say 'queue: a job that passes is printed' prints "$job"
+say 'queue: and logged' logs 'each printer prints this job (pages=1 marks=16)'
+refusal='export-desk refuses this job at byte 134, ESC &l2A: the printer does not have this size'
+print_job -d all "$job"
+say 'queue: a job that fails is held' holds "$refusal"
+print_job -d all -o raw "$job"
+say 'queue: with -o raw, too' holds "$refusal"
+resume
+checked_again() { [ "$(grep -c "\[Job $number\] preflight: $refusal" "$log")" = 2 ]; }
+say 'queue: resumed, it is checked again' soon checked_again
+say 'queue: and held again' holds "$refusal"
+say 'queue: nothing of it is printed' prints_nothing
+lpmove "$name" front || :
+resume
+name=front-$number
+say 'queue: moved to another queue, it is printed' prints "$job"
+
+print_job -d front "$cups/once.pcl"
+say 'queue: a job that passes once is printed' prints "$cups/once.pcl"
+print_job -d front -n 2 "$cups/once.pcl"
+say 'queue: two copies of it are held' holds 'front-desk refuses this job at byte 44, ESC *c0P'
+print_job -d front -n 3 "$job"
+say 'queue: three copies of another are printed as one stream' prints "$alone/three"
+print_job -d front "$job" "$examples/letter.pcl"
+cat "$job" "$examples/letter.pcl" >"$cups/two"
+say 'queue: two files in a job, by standard input, are printed' prints "$cups/two"
+cat "$cups/once.pcl" "$cups/once.pcl" >"$cups/twice.pcl"
+print_job -d front "$cups/once.pcl" "$cups/once.pcl"
+say 'queue: two files that fail together are held' holds 'front-desk refuses this job at byte 44, '
+lp -d front -s <"$job" || :
+name=front-$((number + 1))
+say 'queue: a job that lp reads from standard input is printed' prints "$job"
+
+print_job -d broken "$job"
+say 'queue: a profile with a fault: the job is held' \
+    holds "no verdict on this job: status 2: $cups/fleets/faulty.profile: line 4: this gives again"
+print_job -d unchecked "$job"
+say 'queue: with print it is printed' prints "$job"
+say 'queue: and that is logged' logs 'no verdict on this job: status 2: '
+
+for queue in front unchecked; do
+    print_job -d "$queue" -H hold "$job"
+    chmod 0 "$cups/spool/"d*"$number-001" || :
+    resume
+    say "queue: a spool file that cannot be read: the job is held ($queue)" \
+        holds 'no verdict on this job: the job could not be read whole'
+done
+
+# A true backend that root alone may run, as those for usb and lpd.
+install -m 744 /usr/lib/cups/backend/socket "$cups/bin/backend/rooted"
+lpadmin -p rooted -E -m raw -v "pclgate:/front/rooted${printer#socket}" 2>"$work/lpadmin"
+print_job -d rooted "$job"
+say 'queue: a true backend for root: the job is held' \
+    holds "the true backend $cups/bin/backend/rooted cannot be run by lp"
+chmod 744 "$cups/bin/backend/pclgate"
+resume
+say 'queue: with the mode 744 of the backend it is printed' prints "$job"
+chmod 755 "$cups/bin/backend/pclgate"
+
+: >"$cups/slow"
+print_job -d front "$job"
+say 'queue: a slow check begins' soon [ -s "$cups/seen/checking" ]
+checking=$(cat "$cups/seen/checking" || echo 0)
+cancel "$name" || :
+is_cancelled() { state completed | grep -q 'job-canceled-by-user'; }
+say 'queue: the job is cancelled' soon is_cancelled
+say 'queue: and its check has ended' soon is_gone "$checking"
+rm -f "$cups/seen/checking"
+print_job -d front "$job"
+say 'queue: another slow check begins' soon [ -s "$cups/seen/checking" ]
+checking=$(cat "$cups/seen/checking" || echo 0)
+end "$cupsd"
+say 'queue: with the end of cupsd it ends' soon is_gone "$checking"
+rm "$cups/slow"
+say 'queue: cupsd starts again' start_cups
+say 'queue: the job is checked and printed' prints "$job"
+say 'queue: no file of the backend is left' [ -z "$(find "$cups/tmp" -name 'pclgate.*')" ]
+unset CUPS_SERVER

@@ -1,0 +1,153 @@
+"""Compares the manual pages, the completions and the version's other places with a program.
+
+    python3 crosscheck/manual.py PROGRAM
+
+man/pclcheck.1 has each command, argument, option, exit status and line of each help in the same
+words, each finding of `explain`, and no other option; man/pclcheck-profile.5 has what
+manual_profile.py says; each file in completions/ offers each command and option, the fixed values
+of options, and no other; debian/changelog and CHANGELOG.md begin with the program's version. Needs
+bash. Prints a line for each that differs, and at last `N compared, M differ`. The exit status is 0
+where M is 0, else 1.
+"""
+
+import re
+import sys
+from pathlib import Path
+from typing import Dict, List, Tuple
+
+sys.dont_write_bytecode = True
+
+from completion_text import Offered, ask_bash, read_fish, read_zsh     # noqa: E402
+from help_text import Command, Program, words_of                       # noqa: E402
+from man_text import Section, read_page                                # noqa: E402
+from manual_base import Comparison                                     # noqa: E402
+from manual_profile import compare_profile_page                        # noqa: E402
+
+ROOT = Path(__file__).resolve().parent.parent
+PAGE = ROOT / "man" / "pclcheck.1"
+PROFILE_PAGE = ROOT / "man" / "pclcheck-profile.5"
+COMPLETIONS = ROOT / "completions"
+HELP = "-h, --help"
+
+
+def bare(words: str) -> str:
+    """An argument or an option without the brackets and points of a help."""
+    return re.sub(r"[][<>]|\.\.\.$", "", words)
+
+
+def compare_command(comparison: Comparison, command: Command, section: Section) -> None:
+    """The part of the page on one command: its usage, arguments, options and exit statuses."""
+    name = command.name
+    comparison.same(f"{name}: usage", section.bold[:1], [command.usage])
+    comparison.holds(f"{name}: {command.about!r} is not in its part",
+                     command.about in words_of(section.text))
+    due = {bare(words): about for words, about in command.arguments.items()}
+    due.update((bare(words), about) for words, about in command.options.items() if words != HELP)
+    due.update((words, about) for words, about in command.commands.items())
+    if command.words != ("check",):
+        due.update(command.statuses)
+    shown = {tag: words_of(text) for tag, text in section.entries.items()}
+    for tag, about in due.items():
+        comparison.same(f"{name}: {tag}", shown.get(tag), about)
+    for tag in shown:
+        if tag.startswith("-") or tag.isdigit():
+            comparison.holds(f"{name}: the page has {tag!r}, the program not", tag in due)
+
+
+def compare_page(comparison: Comparison, program: Program, commands: List[Command]) -> None:
+    """The page of the program."""
+    page = read_page(PAGE)
+    titles = list(page)
+    parts = titles[titles.index("COMMANDS") + 1:titles.index("VERDICTS")]
+    top, *below = commands
+    comparison.same("the commands of the page", parts, [one.name for one in below] + ["help"])
+    comparison.same("the synopsis", page["SYNOPSIS"].bold,
+                    [one.usage for one in below if not one.commands]
+                    + ["pclcheck help [COMMAND]..."])
+    comparison.same("the name", words_of(page["NAME"].text),
+                    "pclcheck - " + top.about.removeprefix("A "))
+    for command in below:
+        compare_command(comparison, command, page.get(command.name, Section()))
+    comparison.same_entries("an option of all", page["OPTIONS"], top.options)
+    comparison.same_entries("an exit status", page["EXIT STATUS"], top.statuses)
+    comparison.same("the exit statuses of check", commands[1].statuses, top.statuses)
+    comparison.same_entries("a finding", page["FINDINGS"], program.findings())
+    text = " ".join(words_of(section.text) for section in page.values())
+    for command in commands:
+        for cell in command.cells:
+            comparison.holds(f"{command.name or 'pclcheck'}: {cell!r} is not in the page",
+                             re.sub(":$", "", cell) in text)
+    compare_mentions(comparison, text, commands)
+
+
+def compare_mentions(comparison: Comparison, text: str, commands: List[Command]) -> None:
+    """Each long option that the page names somewhere is one of the program's."""
+    known = {way for command in commands for way in command.short_and_long()}
+    for way in sorted(set(re.findall(r"(?<![\w-])--[a-z][\w-]*", text))):
+        comparison.holds(f"the page names {way}, the program not", way in known)
+
+
+def offers_of(program: Program, commands: List[Command],
+              values: Dict[Tuple[str, str], List[str]]) -> Dict[str, Offered]:
+    """What each shell's file offers."""
+    names = [command.name for command in commands]
+    return {"bash": ask_bash(COMPLETIONS / "bash" / "pclcheck", program.path, names, list(values)),
+            "zsh": read_zsh(COMPLETIONS / "zsh" / "_pclcheck"),
+            "fish": read_fish(COMPLETIONS / "fish" / "pclcheck.fish", names)}
+
+
+def compare_completions(comparison: Comparison, program: Program, commands: List[Command]) -> None:
+    """The files of the shells: commands, options, what is told of them, and fixed values."""
+    values = {(command.name, option): due for command in commands
+              for option, due in command.values().items()}
+    pin = next(command for command in commands if command.name == "pin")
+    fields = re.search(r"The fields are (.*?), each", " ".join(pin.cells))
+    values["pin", "--panel"] = re.split(", | and ", fields[1]) if fields else []
+    for shell, offered in offers_of(program, commands, values).items():
+        for command in commands:
+            place = f"{shell}: {command.name or 'no command'}"
+            comparison.same_words(f"{place}: options", offered.options.get(command.name, {}),
+                                  command.short_and_long())
+            comparison.same_words(f"{place}: commands", offered.commands.get(command.name, {}),
+                                  command.commands)
+        for (command, option), due in values.items():
+            comparison.same(f"{shell}: {command} {option}",
+                            offered.values.get((command, option)), due)
+
+
+def compare_papers(comparison: Comparison, program: Program) -> None:
+    """Bash offers the papers of the model that stands on the line."""
+    script = COMPLETIONS / "bash" / "pclcheck"
+    for model, papers in program.models().items():
+        offered = ask_bash(script, program.path, [], [("profile new", "--size")], model)
+        comparison.same(f"bash: papers of {model}",
+                        sorted(offered.values["profile new", "--size"]), sorted(papers))
+
+
+def compare_versions(comparison: Comparison, program: Program) -> None:
+    """The places that repeat the version."""
+    version = program.version()
+    debian = (ROOT / "debian" / "changelog").read_text()
+    comparison.same("the version of debian/changelog", re.findall(r"\(([^)]*)\)", debian)[:1],
+                    [f"{version}-1"])
+    changes = (ROOT / "CHANGELOG.md").read_text()
+    comparison.same("the version of CHANGELOG.md", re.findall(r"(?m)^## ([\d.]+)", changes)[:1],
+                    [version])
+
+
+def main(words: List[str]) -> int:
+    if len(words) != 1:
+        print(__doc__.strip(), file=sys.stderr)
+        return 2
+    comparison, program = Comparison(), Program(words[0])
+    commands = list(program.commands())
+    compare_page(comparison, program, commands)
+    compare_profile_page(comparison, program, PROFILE_PAGE)
+    compare_completions(comparison, program, commands)
+    compare_papers(comparison, program)
+    compare_versions(comparison, program)
+    return comparison.ended()
+
+
+if __name__ == "__main__":
+    sys.exit(main(sys.argv[1:]))
