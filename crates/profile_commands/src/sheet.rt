@@ -1,16 +1,16 @@
 //! The command `profile sheet`.
 ghost use Rattle.std.specs.Prelude.{◌≡◌, ◌≢◌, ◌++◌, [], ◌∷◌, IfOk, IfSome, IsFalse, OnOk};
-ghost use Rattle.preflight.specs.Verdict.{IsExact, KeepsPromise};
 ghost use Rattle.profile_commands.specs.ProfileSheet.{LeavesSheet, LeavesSheetOf, WritesOut, unprinted_sheet};
 ghost use Rattle.subcommands.specs.CheckMany.{TellsLine};
 
 use crate::profile_reading::{profile_of, read_text};
 use crate::whole_text::write_whole;
 use device_profile::{Profile, printer_name};
-use preflight::{Error, Outlet, Verdict, check_job, write_text};
+use preflight::{Error, Outlet, Verdict, write_text};
 use profile_lint::push_shown;
 use std::alloc::{AllocError, Allocator};
-use streams::{Create, FileId, Latched};
+use streams::{Create, FileId};
+use subcommands::check::verdict_on;
 use subcommands::{Input, ProfileTexts, Status, Trouble, line_of};
 use test_sheet::sheet_job;
 
@@ -91,19 +91,6 @@ fn write_sheet<W: Create, E: Outlet, A: Allocator + Copy>(
         }
         Err(error) => Status::Stopped(error),
     }
-}
-
-/// The verdict on a job for a fleet.
-fn verdict_on<A: Allocator + Copy>(
-    alloc: A,
-    job: &[u8],
-    fleet: &[Profile<A>],
-) -> Result<Verdict, Error>
-    ensures exact { IfOk result (IsExact fleet.now job.now) }
-    ensures promise { IfOk result (KeepsPromise fleet.now job.now) }
-{
-    let mut source = Latched::new(job);
-    check_job(alloc, &mut source, fleet)
 }
 
 /// Creates OUT, unless it is the file that the profile came from, and writes the job.

@@ -1,6 +1,7 @@
 //! The command `check`.
 ghost use Rattle.std.specs.Prelude.{◌≡◌, ◌≢◌, ◌+◌, ◌^◌, [], ◌||◌, length, map, IfOk, IfErr, IsErrOf, IsFalse, IsTrue};
 ghost use Rattle.preflight.specs.Errors.{is_err_of_read, is_err_of_write};
+ghost use Rattle.preflight.specs.Verdict.{IsExact, KeepsPromise};
 ghost use Rattle.streams.specs.Outlet.{Adds};
 ghost use Rattle.subcommands.specs.Check.{texts_by, IsRight, IsRightFor, Leaves, LeavesAtStop};
 ghost use Rattle.subcommands.specs.Fleet.{RefusesBy, RefusesFirst, ReachesSome};
@@ -14,6 +15,7 @@ use crate::texts::ProfileTexts;
 use device_profile::Profile;
 use preflight::{Error, Outlet, Source, Verdict, check_job, write_text};
 use std::alloc::Allocator;
+use streams::Latched;
 
 /// The command `check`: one line on standard output, by the verdict on the job for the printers
 /// that the words PROFILE name. Each profile is read and judged before the next one, and the job
@@ -80,4 +82,21 @@ fn write_verdict<S: Source, O: Outlet, A: Allocator + Copy>(
     let line = line_of(alloc, verdict)?;
     write_text(stdout, line.as_slice())?;
     Ok(verdict)
+}
+
+/// The verdict on a job that lies in memory, for a fleet.
+///
+/// The errors are those of `check_job`.
+// It stands here, and not where it is called, for a crate that calls `check_job` gets a second
+// instance of all that executes a job, beside that of `check`, and both are then slower.
+pub fn verdict_on<A: Allocator + Copy>(
+    alloc: A,
+    job: &[u8],
+    fleet: &[Profile<A>],
+) -> Result<Verdict, Error>
+    ensures exact { IfOk result (IsExact fleet.now job.now) }
+    ensures promise { IfOk result (KeepsPromise fleet.now job.now) }
+{
+    let mut source = Latched::new(job);
+    check_job(alloc, &mut source, fleet)
 }
