@@ -95,6 +95,7 @@ pub fn check_command<'a>(alloc: Global) -> Result<Command<'a>, AllocError> {
     let profiles = Arg::new(alloc, "PROFILE")
         .required_unless_present("PRINTER")?
         .required_unless_present("FLEET")?
+        .value_name("PROFILE|JOB")
         .num_args(1..)
         .action(ArgAction::Append)
         .help("The printers: paths of profiles, or samples @A to @D; with -p or -f further jobs");

@@ -2,7 +2,7 @@
 ghost use Rattle.std.specs.Prelude.{IfOk, IfSome};
 ghost use Rattle.command_line.specs.Words.{NamesSome};
 
-use crate::text_commands::{out, profile};
+use crate::text_commands::{out, profile, required};
 use crate::words::Request;
 use clap::{Arg, ArgAction, ArgMatches, Command};
 use std::alloc::{AllocError, Global};
@@ -58,13 +58,6 @@ Exit status:
   2  usage error, BASE is refused, ANSWER has no line NAME=VALUE that a printer answers, or one of
      the texts has more than 65536 bytes
   3  a text could not be read, a write failed, or memory ran out";
-
-fn required<'a>(alloc: Global, name: &'a str, help: &'a str) -> Arg<'a> {
-    Arg::new(alloc, name)
-        .required(true)
-        .action(ArgAction::Set)
-        .help(help)
-}
 
 /// The words of the command `profile lint`.
 pub fn lint_command<'a>(alloc: Global) -> Result<Command<'a>, AllocError> {

@@ -5,7 +5,8 @@ ghost use Rattle.command_line.specs.Words.{NamesSome};
 use crate::profile_tool_words::{
     from_pjl_command, lint_command, sheet_command, show_command, tool_request,
 };
-use crate::words::Request;
+use crate::text_commands::required;
+use crate::words::{Request, with_command};
 use clap::builder::ValueParser;
 use clap::{Arg, ArgAction, ArgMatches, Command};
 use printer_models::PanelLists;
@@ -81,10 +82,8 @@ Exit status:
 const PANELS: &[&str] = &["fixed", "free"];
 
 fn model<'a>(alloc: Global) -> Arg<'a> {
-    Arg::new(alloc, "MODEL")
-        .required(true)
-        .action(ArgAction::Set)
-        .help("The model of the printer, by its name in 'pclcheck profile list'")
+    let help = "The model of the printer, by its name in 'pclcheck profile list'";
+    required(alloc, "MODEL", help)
 }
 
 fn size<'a>(alloc: Global) -> Arg<'a> {
@@ -122,16 +121,16 @@ fn new_command<'a>(alloc: Global) -> Result<Command<'a>, AllocError> {
 
 /// The words of the command `profile`.
 pub fn profile_command<'a>(alloc: Global) -> Result<Command<'a>, AllocError> {
-    Command::new(alloc, "profile")
+    let command = Command::new(alloc, "profile")
         .about("Makes, checks and shows profiles of printers")
         .after_help(PROFILE_EXPLANATION)
         .subcommand_required(true)
-        .subcommand(list_command(alloc))?
-        .subcommand(new_command(alloc)?)?
-        .subcommand(lint_command(alloc)?)?
-        .subcommand(show_command(alloc)?)?
-        .subcommand(sheet_command(alloc)?)?
-        .subcommand(from_pjl_command(alloc)?)
+        .subcommand(list_command(alloc))?;
+    let command = with_command(command, new_command(alloc))?;
+    let command = with_command(command, lint_command(alloc))?;
+    let command = with_command(command, show_command(alloc))?;
+    let command = with_command(command, sheet_command(alloc))?;
+    with_command(command, from_pjl_command(alloc))
 }
 
 /// The request of the words behind `profile`.

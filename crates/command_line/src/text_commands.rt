@@ -76,7 +76,8 @@ Exit status:
   2  usage error, a value that the profile does not list, or the profile is refused
   3  a read or a write failed, memory ran out, or no end after 2^40 reads";
 
-fn required<'a>(alloc: Global, name: &'a str, help: &'a str) -> Arg<'a> {
+/// A word that has to come.
+pub(crate) fn required<'a>(alloc: Global, name: &'a str, help: &'a str) -> Arg<'a> {
     Arg::new(alloc, name)
         .required(true)
         .action(ArgAction::Set)

@@ -96,20 +96,28 @@ fn explain_command<'a>(alloc: Global) -> Result<Command<'a>, AllocError> {
         .arg(code)
 }
 
+/// A command with one more below it.
+pub(crate) fn with_command<'a>(
+    command: Command<'a>,
+    below: Result<Command<'a>, AllocError>,
+) -> Result<Command<'a>, AllocError> {
+    command.subcommand(below?)
+}
+
 /// The command line of the program.
 fn command<'a>(alloc: Global) -> Result<Command<'a>, AllocError> {
-    Command::new(alloc, "pclcheck")
+    let command = Command::new(alloc, "pclcheck")
         .version(VERSION)
         .about("A preflight checker for PCL 5 print jobs")
         .after_help(EXPLANATION)
-        .subcommand_required(true)
-        .subcommand(check_command(alloc)?)?
-        .subcommand(list_command(alloc)?)?
-        .subcommand(pages_command(alloc)?)?
-        .subcommand(plain_command(alloc)?)?
-        .subcommand(pin_command(alloc)?)?
-        .subcommand(explain_command(alloc)?)?
-        .subcommand(profile_command(alloc)?)
+        .subcommand_required(true);
+    let command = with_command(command, check_command(alloc))?;
+    let command = with_command(command, list_command(alloc))?;
+    let command = with_command(command, pages_command(alloc))?;
+    let command = with_command(command, plain_command(alloc))?;
+    let command = with_command(command, pin_command(alloc))?;
+    let command = with_command(command, explain_command(alloc))?;
+    with_command(command, profile_command(alloc))
 }
 
 /// What the words ask for; the first is the program's own name. Where they ask for help or for the

@@ -1,23 +1,22 @@
 -- What the program leaves of what it is asked for. Nothing is known of its files beforehand, so this is said for some reads of them.
-use Rattle.std.specs.Prelude.{◌≡◌, ◌||◌, List, [], ℕ, Option, map, option_map, IsFalse, IsTrue}
+use Rattle.std.specs.Prelude.{◌≡◌, List, [], ℕ, Option, map, option_map, IsFalse, IsTrue}
 use Rattle.command_line.specs.declared.words.Request.{Request}
 use Rattle.command_line.specs.declared.words.Request.TheVariants.{Check, CheckMany, List as ListOf, Pages, Plain, Pin, Explain, ProfileList, ProfileNew, ProfileLint, ProfileShow, ProfileSheet, ProfileFromPjl}
-use Rattle.preflight.specs.Due.{Rendering, list_rendering, plain_rendering}
-use Rattle.streams.specs.Files.{no_outlet, no_source}
+use Rattle.preflight.specs.Due.{list_rendering}
+use Rattle.streams.specs.Files.{no_source}
 use Rattle.streams.specs.Outlet.{OutletState}
 use Rattle.streams.specs.Source.{SourceState}
 use Rattle.subcommands.specs.Check.{IsRightFor, Leaves, texts_by}
 use Rattle.preflight.specs.Writing.{Writes}
 use Rattle.subcommands.specs.Explanations.{complaint, end_of_explain, explanation, is_unknown}
 use Rattle.subcommands.specs.Fleet.{RefusesBy}
-use Rattle.subcommands.specs.JobTexts.{EndsBy, IsNamed, LeavesOut, LeavesPages, LeavesPinned, LeavesText, TellsOfPin}
 use Rattle.profile_commands.specs.ProfileList.{LeavesModels}
 use Rattle.profile_commands.specs.ProfileNew.{LeavesProfile}
-use Rattle.subcommands.specs.Status.{is_stop_of_read, is_stop_of_write}
+use Rattle.subcommands.specs.Status.{is_stop_of_write}
 use Rattle.subcommands.specs.Texts.{text_named}
-use Rattle.subcommands.specs.declared.choices.Choice.{Choice}
 use Rattle.subcommands.specs.declared.status.Status.{Status}
 use Rattle.pclcheck.specs.Checks.{LeavesChecks, asking}
+use Rattle.pclcheck.specs.JobRequests.{LeavesPagesFor, LeavesPin, LeavesPlain, LeavesRendered}
 use Rattle.pclcheck.specs.ProfileRequests.{LeavesAnsweredFor, LeavesLintFor, LeavesSheetFor, LeavesShownFor}
 
 -- a check for the printers of these texts, so far as they are known: the line of a verdict that is right for all of them
@@ -27,31 +26,6 @@ pub record LeavesCheck (known : List (Option (List ℕ))) (status : Status) (out
   pub line : Leaves status (IsRightFor (texts_by known [] texts) no_source job) out out'
   pub refused : RefusesBy [] texts status
   pub write : out'.failed ≡ is_stop_of_write status
-
--- what is due of a job by this rendering
-pub record LeavesRendered (rendering : Rendering) (status : Status) (out out' : OutletState) : Type 0 where
-  pub job : SourceState
-  pub ends : EndsBy status (λ old new. LeavesText status rendering old new out out') no_source job job.failed out'.failed
-
--- the pages of a job on the printer that this word names
-pub record LeavesPagesFor (word : List ℕ) (status : Status) (out out' : OutletState) : Type 0 where
-  pub job : SourceState
-  pub texts : List (List ℕ)
-  pub ends : EndsBy status (λ old new. LeavesPages status (IsNamed (text_named word) [] texts) old new out out') no_source job (is_stop_of_read status) out'.failed
-
--- a job in its canonical spelling, in a file
-pub record LeavesPlain (status : Status) (out out' : OutletState) : Type 0 where
-  pub job : SourceState
-  pub file : OutletState
-  pub ends : EndsBy status (λ old new. LeavesOut status plain_rendering old new no_outlet file out out') no_source job job.failed (file.failed || out'.failed)
-
--- a job that is pinned to the panel that is chosen of the printer that this word names, in a file
-pub record LeavesPin (word : List ℕ) (choices : List Choice) (status : Status) (out out' err err' : OutletState) : Type 0 where
-  pub job : SourceState
-  pub texts : List (List ℕ)
-  pub file : OutletState
-  pub ends : EndsBy status (λ old new. LeavesPinned status (IsNamed (text_named word) [] texts) choices old new no_outlet file out out') no_source job (is_stop_of_read status) (file.failed || out'.failed)
-  pub choice : TellsOfPin status (IsNamed (text_named word) [] texts) choices err err'
 
 -- what these texts say of a code, or all of it; of a code that is unknown standard error tells
 pub record LeavesExplanation (texts : List (List ℕ)) (code : Option (List ℕ)) (status : Status) (out out' err err' : OutletState) : Type 0 where

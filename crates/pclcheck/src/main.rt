@@ -2,6 +2,7 @@
 #![tactic(auto)]
 
 mod inputs;
+mod job_texts;
 mod many;
 mod names;
 mod profiles;

@@ -3,6 +3,7 @@ ghost use Rattle.std.specs.Prelude.{IsFalse, map};
 ghost use Rattle.command_line.specs.Words.{NamesSome};
 ghost use Rattle.pclcheck.specs.Requests.{Fulfils};
 
+use crate::job_texts::{list, pages, pin, plain};
 use crate::many::check_asked;
 use crate::profiles::{from_pjl, lint, sheet, show};
 use command_line::Request;
@@ -10,13 +11,9 @@ use profile_commands::list::profile_list;
 use profile_commands::new::profile_new;
 use std::io::Input;
 use std::rt::Files;
-use streams::{FileOutlet, FileSource, Outlet};
+use streams::{FileSource, Outlet};
 use subcommands::check::check;
 use subcommands::explain::explain;
-use subcommands::list::list;
-use subcommands::pages::pages;
-use subcommands::pin::pin;
-use subcommands::plain::plain;
 use subcommands::{EXPLANATIONS, FileTexts, PanelSetting, Status};
 
 /// Does what is asked for. Its files are opened by the subcommands, as late as these say.
@@ -40,20 +37,9 @@ pub fn fulfil<R: Files + Input + AllocGlobal, O: Outlet, E: Outlet>(
             check(alloc, &mut job, &mut texts, profiles.as_slice(), stdout)
         }
         Request::CheckMany(words) => check_asked(rt, words, stdout, stderr),
-        Request::List { job } => {
-            let mut job = FileSource::new(rt, job);
-            list(alloc, &mut job, stdout)
-        }
-        Request::Pages { job, profile } => {
-            let mut job = FileSource::new(rt, job);
-            let mut texts = FileTexts::new(rt);
-            pages(alloc, &mut job, &mut texts, profile, stdout)
-        }
-        Request::Plain { job, out } => {
-            let mut job = FileSource::new(rt, job);
-            let mut out = FileOutlet::new(rt, out);
-            plain(alloc, &mut job, &mut out, stdout)
-        }
+        Request::List { job } => list(rt, job, stdout),
+        Request::Pages { job, profile } => pages(rt, job, profile, stdout),
+        Request::Plain { job, out } => plain(rt, job, out, stdout),
         Request::Pin {
             job,
             profile,
@@ -62,12 +48,7 @@ pub fn fulfil<R: Files + Input + AllocGlobal, O: Outlet, E: Outlet>(
         } => {
             let choices = choices.as_slice();
             let setting = PanelSetting { profile, choices };
-            let mut job = FileSource::new(rt, job);
-            let mut texts = FileTexts::new(rt);
-            let mut out = FileOutlet::new(rt, out);
-            pin(
-                alloc, &mut job, &mut texts, &setting, &mut out, stdout, stderr,
-            )
+            pin(rt, job, &setting, out, stdout, stderr)
         }
         Request::Explain { code } => explain(*code, stdout, stderr),
         Request::ProfileList => profile_list(alloc, stdout),

@@ -1,5 +1,6 @@
 -- The text of a profile with what a printer's answer tells.
-use Rattle.std.specs.Prelude.{ℕ, ◌+◌, ◌/◌, ◌%◌, ◌==◌, List, [], ◌∷◌, ◌++◌, Option, None, Some, find, codes, decimal, flat_map, option_map, unwrap_or, if◌then◌else◌}
+use Rattle.std.specs.Prelude.{ℕ, ◌+◌, ◌/◌, ◌%◌, ◌==◌, Bool, nat_eq, List, [], ◌∷◌, ◌++◌, Option, None, Some, find, codes, decimal, flat_map, option_map, unwrap_or, if◌then◌else◌}
+use Rattle.std.specs.List.{starts_with}
 use Rattle.std.specs.Option.{option_and_then, option_map_or}
 use Rattle.std.specs.Str.{bytes_eq}
 use Rattle.std.specs.Str.Lines.{lines}
@@ -84,12 +85,30 @@ added_line Two values = []
 
 -- what the comments say first
 unfoldable pub origin : List ℕ
-origin = codes "# With a printer's answer to '@PJL INFO', by 'pclcheck profile from-pjl'. Lines are the answer's.\n"
+origin = codes "# With a printer's answer to '@PJL INFO', by 'pclcheck profile from-pjl'. Lines are the answer's."
+
+-- what begins the comment of a warning
+unfoldable pub warning_start : List ℕ
+warning_start = codes "# line "
+
+-- a line is such a comment
+abbrev pub is_warning : List ℕ → Bool
+is_warning line = starts_with nat_eq line warning_start
+
+-- the lines behind the comments of warnings that begin them
+abbrev pub behind_warnings : List (List ℕ) → List (List ℕ)
+behind_warnings [] = []
+behind_warnings (line ∷ more) = if is_warning line then behind_warnings more else line ∷ more
+
+-- the lines without the comments of an earlier answer, where these begin them
+abbrev pub behind_comments : List (List ℕ) → List (List ℕ)
+behind_comments [] = []
+behind_comments (line ∷ more) = if bytes_eq line origin then behind_warnings more else line ∷ more
 
 -- the first line, the comments with these warnings, and the line that is added
 abbrev pub head_with : Format → Option (List ℕ) → List ℕ → List Warning → List ℕ
 head_with format line_termination answer all =
-    first_line format line_termination ++ origin ++ warning_lines (codes "# ") answer all ++ added_line format line_termination
+    first_line format line_termination ++ origin ++ codes "\n" ++ warning_lines (codes "# ") answer all ++ added_line format line_termination
 
 abbrev pub head_of : Printer → List ℕ → Format → List ℕ
 head_of printer answer format = head_with format (told printer answer LineTerm) answer (warnings printer answer)
@@ -101,7 +120,7 @@ format_on first = unwrap_or (format_of (words_of first)) One
 abbrev pub text_of_lines : Printer → List ℕ → List (List ℕ) → List ℕ
 text_of_lines printer answer [] = []
 text_of_lines printer answer (first ∷ more) =
-    head_of printer answer (format_on first) ++ flat_map (line_after printer answer) more
+    head_of printer answer (format_on first) ++ flat_map (line_after printer answer) (behind_comments more)
 
 -- the text of a profile, which is one of this printer, with what the answer tells
 unfoldable pub answered_text : Printer → List ℕ → List ℕ → List ℕ

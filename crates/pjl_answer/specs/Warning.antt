@@ -14,6 +14,7 @@ use Rattle.pjl_answer.specs.declared.warning.Warning.{Warning}
 use Rattle.pjl_answer.specs.Answer.{entry_of, is_given, value_of}
 use Rattle.pjl_answer.specs.Told.{every_field, is_vmi_rounded, told}
 use Rattle.pjl_answer.specs.Values.{is_understood}
+use Rattle.shown_bytes.specs.Shown.{shown}
 use Rattle.pjl_answer.specs.Variable.{every_variable, word_of}
 
 -- ---- of fields that an answer does not tell
@@ -102,14 +103,6 @@ note_words FreePanel = codes "anyone can change the panel; each list promises th
 note_words OtherLanguage = codes "the printer may not read a job as PCL"
 note_words WholeMemory = codes "bytes in all; what macros may take is not told"
 
--- a digit to base 16, in small letters
-abbrev pub hex_digit : ℕ → ℕ
-hex_digit d = if nat_lt d 10 then 48 + d else 87 + d
-
--- a byte as itself; one that is not printable, or a backslash, as \x and two hexadecimal digits
-abbrev pub shown_byte : ℕ → List ℕ
-shown_byte b = if nat_le 32 b && nat_le b 126 && not (b == 92) then b ∷ [] else 92 ∷ 120 ∷ hex_digit (b / 16) ∷ hex_digit (b % 16) ∷ []
-
 -- of a value at most so many bytes are shown
 abbrev pub most_shown : ℕ
 most_shown = 16
@@ -117,7 +110,7 @@ most_shown = 16
 -- what is shown of a value, and two dots where it is longer
 abbrev pub shown_value : List ℕ → List ℕ
 shown_value value =
-    if nat_lt most_shown (length value) then flat_map shown_byte (take most_shown value) ++ codes ".." else flat_map shown_byte value
+    if nat_lt most_shown (length value) then shown (take most_shown value) ++ codes ".." else shown value
 
 -- the line of the answer, the variable, its value and the note
 abbrev pub warning_at : Warning → ℕ × List ℕ → List ℕ

@@ -1,9 +1,9 @@
 //! The text of a profile with what a printer's answer tells.
-ghost use Rattle.std.specs.Prelude.{◌≡◌, ◌++◌, ◌∷◌, ◌+◌, ◌%◌, decimal, find, flat_map, option_map, IfOk, OnOk};
+ghost use Rattle.std.specs.Prelude.{◌≡◌, ◌++◌, ◌∷◌, [], ◌+◌, ◌%◌, decimal, find, flat_map, option_map, IfOk, OnOk};
 ghost use Rattle.std.specs.Str.{bytes_eq};
 ghost use Rattle.std.specs.Str.Lines.{lines};
 ghost use Rattle.device_profile.specs.Text.{words_of_line};
-ghost use Rattle.pjl_answer.specs.Text.{added_line, amount, answered_text, decimals, field_line, field_of, field_on, first_line, head_with, key_of, line_after, origin, told_line, value_word, version};
+ghost use Rattle.pjl_answer.specs.Text.{added_line, amount, answered_text, behind_comments, behind_warnings, decimals, field_line, field_of, field_on, first_line, head_with, is_warning, key_of, line_after, origin, told_line, value_word, version};
 ghost use Rattle.pjl_answer.specs.Told.{values_in};
 ghost use Rattle.pjl_answer.specs.Warning.{warnings};
 
@@ -228,14 +228,62 @@ fn push_added_line<A: Allocator>(
 
 /// What the comments say first.
 const ORIGIN: &[u8] = b"# With a printer's answer to '@PJL INFO', by 'pclcheck profile from-pjl'. \
-    Lines are the answer's.\n";
+    Lines are the answer's.";
+
+/// What begins the comment of a warning.
+const WARNING_START: &[u8] = b"# line ";
+
+/// Whether a line is the comment of a warning.
+#[tactic(auto, unfolding(crate::specs::Text::warning_start))]
+fn is_warning(line: &[u8]) -> bool
+    ensures { result ≡ is_warning line.now }
+{
+    line.starts_with(WARNING_START)
+}
+
+/// The text behind the comments of warnings that begin it.
+fn behind_warnings(text: &[u8]) -> &[u8]
+    ensures { lines result.now ≡ behind_warnings (lines text.now) }
+{
+    let mut rest = text;
+    while let Some((line, after)) = next_line(rest) {
+        if !is_warning(line) {
+            return rest;
+        }
+        rest = after;
+    }
+    rest
+}
+
+/// Whether a line is what comments say first.
+#[tactic(auto, unfolding(crate::specs::Text::origin))]
+fn is_origin(line: &[u8]) -> bool
+    ensures { result ≡ bytes_eq line.now origin }
+{
+    line == ORIGIN
+}
+
+/// The text without the comments of an earlier answer, where these begin it.
+fn behind_comments(text: &[u8]) -> &[u8]
+    ensures { lines result.now ≡ behind_comments (lines text.now) }
+{
+    let Some((line, more)) = next_line(text) else {
+        return text;
+    };
+    if is_origin(line) {
+        behind_warnings(more)
+    } else {
+        text
+    }
+}
 
 /// Appends what the comments say first.
 #[tactic(auto, unfolding(crate::specs::Text::origin))]
 fn push_origin<A: Allocator>(text: &mut Vec<u8, A>) -> Result<(), AllocError>
-    ensures { OnOk result (text.new.items ≡ text.old.items ++ origin) }
+    ensures { OnOk result (text.new.items ≡ text.old.items ++ origin ++ 10 ∷ []) }
 {
-    text.extend_from_slice(ORIGIN)
+    text.extend_from_slice(ORIGIN)?;
+    text.extend_from_slice(b"\n")
 }
 
 /// Appends the first line, the comments with these warnings, and the line that is added.
@@ -272,7 +320,7 @@ pub(crate) fn text_with<A: Allocator, B: Allocator>(
         let format = format_of(first).unwrap_or(Format::One);
         let line_termination = told(base, answer, Field::LineTerm);
         push_head(&mut text, answer, all, format, line_termination)?;
-        push_lines(&mut text, base, answer, rest)?;
+        push_lines(&mut text, base, answer, behind_comments(rest))?;
     }
     Ok(text)
 }

@@ -1,10 +1,11 @@
 //! The lines in which a user is warned.
-ghost use Rattle.std.specs.Prelude.{◌≡◌, ◌++◌, ◌<◌, flat_map, OnOk};
-ghost use Rattle.pjl_answer.specs.Warning.{hex_digit, note_words, shown_byte, shown_value, warning_at, warning_line, warning_lines, warning_words};
+ghost use Rattle.std.specs.Prelude.{◌≡◌, ◌++◌, OnOk};
+ghost use Rattle.pjl_answer.specs.Warning.{note_words, shown_value, warning_at, warning_line, warning_lines, warning_words};
 
 use crate::entry::entry_of;
 use crate::warning::{Note, Warning};
 use itoa::Buffer;
+use shown_bytes::push_shown;
 use std::alloc::{AllocError, Allocator};
 
 impl Note {
@@ -29,40 +30,6 @@ impl Note {
             Note::WholeMemory => "bytes in all; what macros may take is not told",
         }
     }
-}
-
-/// A digit to base 16, in small letters.
-fn hex_digit(digit: u8) -> u8
-    requires { digit < 16 }
-    ensures { result ≡ hex_digit digit }
-{
-    if digit < 10 { b'0' + digit } else { 87 + digit }
-}
-
-/// Appends a byte as itself; one that is not printable, or a backslash, as `\x` and two hexadecimal
-/// digits.
-fn push_shown_byte<A: Allocator>(text: &mut Vec<u8, A>, byte: u8) -> Result<(), AllocError>
-    ensures { OnOk result (text.new.items ≡ text.old.items ++ shown_byte byte) }
-{
-    if 32 <= byte && byte <= 126 && byte != b'\\' {
-        text.push(byte)?;
-        return Ok(());
-    }
-    text.push(b'\\')?;
-    text.push(b'x')?;
-    text.push(hex_digit(byte / 16))?;
-    text.push(hex_digit(byte % 16))?;
-    Ok(())
-}
-
-/// Appends these bytes, as they are shown.
-fn push_shown<A: Allocator>(text: &mut Vec<u8, A>, bytes: &[u8]) -> Result<(), AllocError>
-    ensures { OnOk result (text.new.items ≡ text.old.items ++ flat_map shown_byte bytes.now) }
-{
-    for byte in bytes {
-        push_shown_byte(text, *byte)?;
-    }
-    Ok(())
 }
 
 /// Of a value at most so many bytes are shown.

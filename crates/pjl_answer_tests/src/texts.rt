@@ -56,18 +56,26 @@ face 1 10U 10 12 0 0 3 720 900 300 33-126
 face 2 10U 12 10 0 0 3 600 750 250 33-126
 ";
 
+/// A comment of the text, which another answer does not keep.
+const EARLIER_COMMENT: &[u8] =
+    b"# line 4: MEMORY=8388608: bytes in all; what macros may take is not told";
+
 #[test]
 fn the_text_of_a_sample(rt: HostRuntime) -> Result<(), Fail> {
     let answered = answered_text(rt.alloc(), SAMPLE_ANSWER.as_bytes(), Sample::B.text())?;
     assert_eq!(rt; answered.text.as_slice(), SAMPLE_TEXT.as_bytes());
     assert_eq!(rt; answered.warnings.as_slice(), SAMPLE_WARNINGS.as_bytes());
-    // The same answer to the text that it gave changes its comments alone, and its version stays.
+    // The same answer changes nothing more.
+    let same = answered_text(rt.alloc(), SAMPLE_ANSWER.as_bytes(), &answered.text)?;
+    assert_eq!(rt; same.text.as_slice(), SAMPLE_TEXT.as_bytes());
+    // Another one to the text that it gave has comments of its own, and the version stays.
     let again = answered_text(rt.alloc(), b"LINETERMINATION=0\nCOPIES=3", &answered.text)?;
     assert!(rt; has_line(&again.text, b"pclprofile 2"));
     assert!(rt; has_line(&again.text, b"lineterm 0"));
     assert!(rt; !has_line(&again.text, b"lineterm 3"));
     assert!(rt; has_line(&again.text, b"copies 3"));
     assert!(rt; has_line(&again.text, b"vmi 5.3661"));
+    assert!(rt; !has_line(&again.text, EARLIER_COMMENT));
     Ok(())
 }
 
@@ -184,6 +192,9 @@ fn warnings_of_odd_answers(rt: HostRuntime) -> Result<(), Fail> {
     Ok(())
 }
 
+/// A comment of the texts of models, which stays.
+const DRAFT: &[u8] = b"# DRAFT: no number of it was measured at a printer.";
+
 #[test]
 fn each_model_takes_each_answer(rt: HostRuntime) -> Result<(), Fail> {
     for model in MODELS {
@@ -191,6 +202,12 @@ fn each_model_takes_each_answer(rt: HostRuntime) -> Result<(), Fail> {
         for answer in ANSWERS {
             let answered = answered_text(rt.alloc(), answer.as_bytes(), &base)?;
             assert!(rt; has_line(&answered.text, b"copies 1"), "{model:?}");
+            assert!(rt; has_line(&answered.text, DRAFT), "{model:?}");
+            let same = answered_text(rt.alloc(), answer.as_bytes(), &answered.text)?;
+            assert!(rt;
+                same.text.as_slice() == answered.text.as_slice(),
+                "{model:?}"
+            );
         }
     }
     Ok(())

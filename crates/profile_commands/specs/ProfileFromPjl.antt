@@ -1,27 +1,24 @@
 -- What the command `profile from-pjl` leaves.
-use Rattle.std.specs.Prelude.{◌≡◌, ◌⊎◌, ℕ, List, [], ◌++◌, map, codes, decimal, Option, Some, None, take, Err}
+use Rattle.std.specs.Prelude.{◌≡◌, ◌⊎◌, ℕ, List, [], ◌++◌, map, codes, decimal, Option, Some, None, take, Bool}
 use Rattle.pjl_answer.specs.declared.answered.AnswerError.{AnswerError}
 use Rattle.pjl_answer.specs.declared.answered.AnswerError.TheVariants.{LongAnswer, NoAnswer, Base, LongText, Mismatch as OtherText, Memory as NoMemory}
 use Rattle.pjl_answer.specs.Answered.{IsAnswered, IsAnswerError}
 use Rattle.pjl_answer.specs.AskedPapers.{asked_papers}
-use Rattle.preflight.specs.declared.error.Error.TheVariants.{Memory}
 use Rattle.preflight.specs.Writing.{Writes}
 use Rattle.printer_models.specs.declared.panel_lists.PanelLists.TheVariants.{Fixed}
 use Rattle.printer_models.specs.Model.{model_named}
 use Rattle.printer_models.specs.NewText.{DescribesAsked}
 use Rattle.printer_models.specs.Paper.{word_of}
 use Rattle.profile_commands.specs.ProfileNew.{mismatch_line}
-use Rattle.profile_commands.specs.ProfileReading.{IsRead}
+use Rattle.profile_commands.specs.ProfileReading.{IsRead, TellsFailedRead, TellsNoText}
 use Rattle.profile_commands.specs.WholeText.{WritesWhole}
 use Rattle.profile_lint.specs.Lint.{faults_text}
-use Rattle.profile_lint.specs.Shown.{shown}
+use Rattle.shown_bytes.specs.Shown.{shown}
 use Rattle.streams.specs.Outlet.{OutletState}
 use Rattle.streams.specs.Pieces.{ByReads}
 use Rattle.streams.specs.Source.{SourceState}
 use Rattle.subcommands.specs.CheckMany.{TellsLine}
-use Rattle.subcommands.specs.FleetFile.{TellsOfProfile, TellsUnread}
 use Rattle.subcommands.specs.declared.status.Status.{Status}
-use Rattle.subcommands.specs.declared.status.Status.TheVariants.{Stopped}
 use Rattle.subcommands.specs.declared.status.Trouble.{Trouble}
 use Rattle.subcommands.specs.declared.status.Trouble.TheVariants.{Refused, Mismatch}
 
@@ -68,18 +65,18 @@ LeavesWithAnswer word base_named answer base status out out' err err' =
     ⊎ ((error : AnswerError) × IsAnswerError answer base error × TellsLine status (trouble_of error) (refusal word base_named base error) err err' × (out' ≡ out))
 
 -- Why there is nothing to put an answer into: the text under the word cannot be read, or that of `generic` is not that of its tables.
-abbrev pub TellsNoBase : Option (List ℕ) → Status → OutletState → OutletState → Type 0
-TellsNoBase (Some word) status err err' = TellsOfProfile word status err err'
-TellsNoBase None status err err' = TellsLine status Mismatch mismatch_line err err'
+abbrev pub TellsNoBase : Option (List ℕ) → List (List ℕ) → List (List ℕ) → Bool → Status → OutletState → OutletState → Type 0
+TellsNoBase (Some word) old new failed status err err' = TellsNoText word old new failed status err err'
+TellsNoBase None old new failed status err err' = (new ≡ old) × TellsLine status Mismatch mismatch_line err err'
 
 -- what is left of an answer that was read
-abbrev pub LeavesOfAnswer : (List ℕ → Option (List ℕ)) → List ℕ → Option (List ℕ) → List (List ℕ) → List (List ℕ) → List ℕ → Status → OutletState → OutletState → OutletState → OutletState → Type 0
-LeavesOfAnswer text_of word base_named old new answer status out out' err err' =
+abbrev pub LeavesOfAnswer : (List ℕ → Option (List ℕ)) → List ℕ → Option (List ℕ) → List (List ℕ) → List (List ℕ) → Bool → List ℕ → Status → OutletState → OutletState → OutletState → OutletState → Type 0
+LeavesOfAnswer text_of word base_named old new failed answer status out out' err err' =
     ((base : List ℕ) × IsBase text_of base_named old new answer base × LeavesWithAnswer word (base_word base_named) answer base status out out' err err')
-    ⊎ (TellsNoBase base_named status err err' × (out' ≡ out))
+    ⊎ (TellsNoBase base_named old new failed status err err' × (out' ≡ out))
 
--- what is left of an answer, by the reads of its source
-abbrev pub LeavesAnswered : SourceState → SourceState → (List ℕ → Option (List ℕ)) → List ℕ → Option (List ℕ) → List (List ℕ) → List (List ℕ) → Status → OutletState → OutletState → OutletState → OutletState → Type 0
-LeavesAnswered source source' text_of word base_named old new status out out' err err' =
-    ((answer : List ℕ) × IsAnswerBy source source' answer × LeavesOfAnswer text_of word base_named old new answer status out out' err err')
-    ⊎ (TellsUnread (codes "ERROR read answer ") word status err err' × (out' ≡ out))
+-- what is left of an answer, by the reads of its source; where these fail no profile is read
+abbrev pub LeavesAnswered : SourceState → SourceState → (List ℕ → Option (List ℕ)) → List ℕ → Option (List ℕ) → List (List ℕ) → List (List ℕ) → Bool → Status → OutletState → OutletState → OutletState → OutletState → Type 0
+LeavesAnswered source source' text_of word base_named old new failed status out out' err err' =
+    ((answer : List ℕ) × IsAnswerBy source source' answer × LeavesOfAnswer text_of word base_named old new failed answer status out out' err err')
+    ⊎ ((new ≡ old) × TellsFailedRead (codes "ERROR read answer ") word source'.failed status err err' × (out' ≡ out))

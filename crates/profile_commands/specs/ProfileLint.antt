@@ -1,5 +1,5 @@
 -- What the command `profile lint` leaves.
-use Rattle.std.specs.Prelude.{◌≡◌, ◌⊎◌, ℕ, List, ◌++◌, take, map, Bool, Option, IfSome, IsTrue, IsFalse, Contains, All}
+use Rattle.std.specs.Prelude.{◌≡◌, ◌⊎◌, ◌<◌, ℕ, List, [], ◌++◌, get_or, length, take, map, Bool, Option, IfSome, IsTrue, IsFalse, All}
 use Rattle.preflight.specs.declared.error.Error.TheVariants.{Memory, Write}
 use Rattle.profile_lint.specs.Lint.{Named, lint_text, have_faults}
 use Rattle.streams.specs.Outlet.{OutletState, Adds, AddsFront}
@@ -22,13 +22,20 @@ WritesFindings text has_faults (Stopped Write) out out' = IsTrue out'.failed × 
 WritesFindings text has_faults (Stopped Memory) out out' = out' ≡ out
 WritesFindings text has_faults _ out out' = ⊥
 
--- some word names no text that could be read, which standard error is told, or there was no memory there
-abbrev pub TellsOfSome : List (List ℕ) → Status → OutletState → OutletState → Type 0
-TellsOfSome words status err err' = (word : List ℕ) × Contains words word × TellsOfProfile word status err err'
+-- Of the word at a place among these standard error is told that its text could not be read, since a read has failed; or memory ran
+-- out, and nothing is told.
+abbrev pub TellsOfNext : List (List ℕ) → ℕ → Bool → Status → OutletState → OutletState → Type 0
+TellsOfNext words place failed status err err' =
+    ((place < length words) × IsTrue failed × TellsOfProfile (get_or words place []) status err err') ⊎ ((status ≡ Stopped Memory) × (err' ≡ err))
 
--- All texts were read, and what is found in them is written; or one could not be read, and nothing is written.
-abbrev pub LeavesLint : (List ℕ → Option (List ℕ)) → List (List ℕ) → List (List ℕ) → List (List ℕ) → Status → OutletState → OutletState → OutletState → OutletState → Type 0
-LeavesLint text_of words old new status out out' err err' =
+-- the texts of the words before a place were read and no other, and why the reading stopped there
+abbrev pub StopsReading : (List ℕ → Option (List ℕ)) → List (List ℕ) → List (List ℕ) → List (List ℕ) → Bool → Status → OutletState → OutletState → Type 0
+StopsReading text_of words old new failed status err err' =
+    (place : ℕ) × (texts : List Named) × AreRead text_of (take place words) old new texts × TellsOfNext words place failed status err err'
+
+-- All texts were read, and what is found in them is written; or the reading stopped, and nothing is written.
+abbrev pub LeavesLint : (List ℕ → Option (List ℕ)) → List (List ℕ) → List (List ℕ) → List (List ℕ) → Bool → Status → OutletState → OutletState → OutletState → OutletState → Type 0
+LeavesLint text_of words old new failed status out out' err err' =
     ((texts : List Named) × AreRead text_of words old new texts
     × WritesFindings (lint_text texts) (have_faults texts) status out out' × (err' ≡ err))
-    ⊎ (TellsOfSome words status err err' × (out' ≡ out))
+    ⊎ (StopsReading text_of words old new failed status err err' × (out' ≡ out))

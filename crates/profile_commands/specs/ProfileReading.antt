@@ -1,5 +1,5 @@
 -- How the commands on profiles read one.
-use Rattle.std.specs.Prelude.{◌≡◌, ◌⊎◌, ℕ, List, [], ◌∷◌, ◌++◌, take, Option, IfSome, Ok, Err}
+use Rattle.std.specs.Prelude.{◌≡◌, ◌⊎◌, ℕ, List, [], ◌∷◌, ◌++◌, take, codes, Bool, IsTrue, Option, IfSome, Ok, Err}
 use Rattle.device_profile.specs.declared.fault.Cause.{Cause}
 use Rattle.device_profile.specs.declared.fault.ProfileFault.TheVariants.{Fault}
 use Rattle.device_profile.specs.Printer.{Printer}
@@ -8,7 +8,7 @@ use Rattle.preflight.specs.declared.error.Error.TheVariants.{Memory}
 use Rattle.profile_lint.specs.Lint.{faults_text}
 use Rattle.streams.specs.Outlet.{OutletState}
 use Rattle.subcommands.specs.CheckMany.{TellsLine}
-use Rattle.subcommands.specs.FleetFile.{TellsOfProfile}
+use Rattle.subcommands.specs.FleetFile.{TellsUnread}
 use Rattle.subcommands.specs.declared.status.Status.{Status}
 use Rattle.subcommands.specs.declared.status.Status.TheVariants.{Stopped}
 use Rattle.subcommands.specs.declared.status.Trouble.TheVariants.{Refused}
@@ -16,6 +16,14 @@ use Rattle.subcommands.specs.declared.status.Trouble.TheVariants.{Refused}
 -- one more text was read; it is the front of what its word names, where that is known
 abbrev pub IsRead : Option (List ℕ) → List (List ℕ) → List (List ℕ) → List ℕ → Type 0
 IsRead known old new text = (new ≡ old ++ text ∷ []) × IfSome known (λ bytes. text ≡ take 65_537 bytes)
+
+-- A read has failed, and standard error is told, behind these words, what could not be read; or memory ran out, and nothing is told.
+abbrev pub TellsFailedRead : List ℕ → List ℕ → Bool → Status → OutletState → OutletState → Type 0
+TellsFailedRead front word failed status err err' = (IsTrue failed × TellsUnread front word status err err') ⊎ ((status ≡ Stopped Memory) × (err' ≡ err))
+
+-- no text was read under a word, and standard error is told why
+abbrev pub TellsNoText : List ℕ → List (List ℕ) → List (List ℕ) → Bool → Status → OutletState → OutletState → Type 0
+TellsNoText word old new failed status err err' = (new ≡ old) × TellsFailedRead (codes "ERROR read profile ") word failed status err err'
 
 -- the text is that of a printer
 abbrev pub IsTextOf : List ℕ → Printer → Type 0
@@ -32,6 +40,6 @@ TellsFaults text word status err err' =
 
 -- Why there is no profile under a word, and what standard error is told: that no text could be read, or the faults of the one that
 -- was.
-abbrev pub TellsWhyNone : Option (List ℕ) → List ℕ → List (List ℕ) → List (List ℕ) → Status → OutletState → OutletState → Type 0
-TellsWhyNone known word old new status err err' =
-    TellsOfProfile word status err err' ⊎ ((text : List ℕ) × IsRead known old new text × TellsFaults text word status err err')
+abbrev pub TellsWhyNone : Option (List ℕ) → List ℕ → List (List ℕ) → List (List ℕ) → Bool → Status → OutletState → OutletState → Type 0
+TellsWhyNone known word old new failed status err err' =
+    TellsNoText word old new failed status err err' ⊎ ((text : List ℕ) × IsRead known old new text × TellsFaults text word status err err')

@@ -1,11 +1,10 @@
 -- What the command `profile sheet` leaves.
-use Rattle.std.specs.Prelude.{◌≡◌, ◌⊎◌, ◌∷◌, [], ℕ, List, Option, true, codes, ◌++◌}
+use Rattle.std.specs.Prelude.{◌≡◌, ◌⊎◌, ◌∷◌, [], ℕ, List, Bool, Option, true, codes, ◌++◌, ⊤}
 use Rattle.device_profile.specs.Name.{printer_name}
 use Rattle.device_profile.specs.Printer.{Printer}
-use Rattle.preflight.specs.declared.error.Error.{Error}
-use Rattle.preflight.specs.declared.error.Error.TheVariants.{Write}
+use Rattle.preflight.specs.declared.error.Error.TheVariants.{Memory, Read, Write, Turns}
 use Rattle.preflight.specs.Verdict.{IsExact, KeepsPromise}
-use Rattle.profile_lint.specs.Shown.{shown}
+use Rattle.shown_bytes.specs.Shown.{shown}
 use Rattle.profile_commands.specs.ProfileReading.{IsRead, IsTextOf, TellsWhyNone}
 use Rattle.profile_commands.specs.WholeText.{WritesWhole}
 use Rattle.streams.specs.Outlet.{OutletState}
@@ -42,16 +41,23 @@ WritesOut job status out out' =
     ⊎ ((status ≡ Overwrites TheProfile) × (out' ≡ out))
     ⊎ ((status ≡ Stopped Write) × (out' ≡ record out { failed = true }))
 
--- The sheet of a printer goes to OUT where it passes on it; where it fails, standard error is told how; or the work stopped before.
+-- memory ran out, or a read of the check failed or came to no end
+abbrev pub IsEndOfCheck : Status → Type 0
+IsEndOfCheck (Stopped Memory) = ⊤
+IsEndOfCheck (Stopped Read) = ⊤
+IsEndOfCheck (Stopped Turns) = ⊤
+IsEndOfCheck _ = ⊥
+
+-- The sheet of a printer goes to OUT where it passes on it; where it fails, standard error is told how; or there is no verdict.
 abbrev pub LeavesSheetOf : List ℕ → Printer → List ℕ → Status → OutletState → OutletState → OutletState → OutletState → Type 0
 LeavesSheetOf word printer job status out out' err err' =
     (Passes printer job × WritesOut job status out out' × (err' ≡ err))
     ⊎ ((verdict : Verdict) × FailsBy printer job verdict × TellsLine status Refused (unprinted_sheet word verdict) err err' × (out' ≡ out))
-    ⊎ ((error : Error) × (status ≡ Stopped error) × (out' ≡ out) × (err' ≡ err))
+    ⊎ (IsEndOfCheck status × (out' ≡ out) × (err' ≡ err))
 
 -- the sheet of the printer whose text was read, or there is none, and standard error is told why
-abbrev pub LeavesSheet : Option (List ℕ) → List ℕ → List (List ℕ) → List (List ℕ) → Status → OutletState → OutletState → OutletState → OutletState → Type 0
-LeavesSheet known word old new status out out' err err' =
+abbrev pub LeavesSheet : Option (List ℕ) → List ℕ → List (List ℕ) → List (List ℕ) → Bool → Status → OutletState → OutletState → OutletState → OutletState → Type 0
+LeavesSheet known word old new failed status out out' err err' =
     ((text : List ℕ) × (printer : Printer) × IsRead known old new text × IsTextOf text printer
     × LeavesSheetOf word printer (sheet (printer_name text) printer) status out out' err err')
-    ⊎ (TellsWhyNone known word old new status err err' × (out' ≡ out))
+    ⊎ (TellsWhyNone known word old new failed status err err' × (out' ≡ out))

@@ -6,7 +6,7 @@ ghost use Rattle.printer_models.specs.Paper.{word_of};
 ghost use Rattle.profile_commands.specs.ProfileFromPjl.{IsBase, IsGenericFor, LeavesAnswered, LeavesOfAnswer, TellsNoBase, odd_answer, refusal, trouble_of};
 ghost use Rattle.profile_commands.specs.ProfileNew.{mismatch_line};
 ghost use Rattle.profile_commands.specs.WholeText.{WritesWhole};
-ghost use Rattle.profile_lint.specs.Shown.{shown};
+ghost use Rattle.shown_bytes.specs.Shown.{shown};
 ghost use Rattle.subcommands.specs.CheckMany.{TellsLine};
 
 use crate::new::tell_mismatch;
@@ -16,7 +16,8 @@ use itoa::Buffer;
 use pjl_answer::{AnswerError, Answered, MOST_BYTES, answered_text, asked_papers};
 use preflight::{Error, Outlet, Source, write_text};
 use printer_models::{NewError, PanelLists, Paper, new_text};
-use profile_lint::{faults_text, push_shown};
+use profile_lint::faults_text;
+use shown_bytes::push_shown;
 use std::alloc::{AllocError, Allocator};
 use subcommands::{ProfileTexts, Status, Trouble, read_front, tell_unread};
 
@@ -40,7 +41,7 @@ pub fn profile_from_pjl<S: Source, T: ProfileTexts, O: Outlet, E: Outlet, A: All
     requires stderr { IsFalse (E.state stderr.old).failed }
     ensures { LeavesAnswered (S.state source.old) (S.state source.new) (T.text_of texts.old)
         word.now (option_map (λ word. word.now) base.entry) (T.given texts.old) (T.given texts.new)
-        result (O.state stdout.old) (O.state stdout.new)
+        (T.failed texts.new) result (O.state stdout.old) (O.state stdout.new)
         (E.state stderr.old) (E.state stderr.new) }
 {
     match read_front(alloc, source, MOST_BYTES + 1) {
@@ -66,7 +67,7 @@ fn put_answer<T: ProfileTexts, O: Outlet, E: Outlet, A: Allocator + Copy>(
     requires stdout { IsFalse (O.state stdout.old).failed }
     requires stderr { IsFalse (E.state stderr.old).failed }
     ensures { LeavesOfAnswer (T.text_of texts.old) word.now (option_map (λ word. word.now) base.entry)
-        (T.given texts.old) (T.given texts.new) answer.now result
+        (T.given texts.old) (T.given texts.new) (T.failed texts.new) answer.now result
         (O.state stdout.old) (O.state stdout.new) (E.state stderr.old) (E.state stderr.new) }
 {
     let text = match base_text(alloc, answer, texts, base, stderr) {
@@ -94,7 +95,8 @@ fn base_text<T: ProfileTexts, E: Outlet, A: Allocator + Copy>(
         (option_map (λ word. word.now) base.entry) (T.given texts.old) (T.given texts.new)
         answer.now text.items) }
     ensures quiet { OnOk result (stderr.new ≡ stderr.old) }
-    ensures none { IfErr result (λ status. TellsNoBase (option_map (λ word. word.now) base.entry) status
+    ensures none { IfErr result (λ status. TellsNoBase (option_map (λ word. word.now) base.entry)
+        (T.given texts.old) (T.given texts.new) (T.failed texts.new) status
         (E.state stderr.old) (E.state stderr.new)) }
 {
     match base {

@@ -1,6 +1,6 @@
 //! The command `profile lint`.
 ghost use Rattle.std.specs.Prelude.{◌≡◌, ◌++◌, ◌∷◌, [], IfErr, IfOk, IsFalse, OnOk, map};
-ghost use Rattle.profile_commands.specs.ProfileLint.{AreRead, LeavesLint, TellsOfSome, WritesFindings};
+ghost use Rattle.profile_commands.specs.ProfileLint.{AreRead, LeavesLint, StopsReading, WritesFindings};
 ghost use Rattle.profile_lint.specs.Lint.{have_faults, lint_text};
 
 use crate::profile_reading::read_text;
@@ -22,7 +22,7 @@ pub fn profile_lint<T: ProfileTexts, O: Outlet, E: Outlet, A: Allocator + Copy>(
     requires stdout { IsFalse (O.state stdout.old).failed }
     requires stderr { IsFalse (E.state stderr.old).failed }
     ensures { LeavesLint (T.text_of texts.old) (map (λ word. word.now) words.now)
-        (T.given texts.old) (T.given texts.new) result
+        (T.given texts.old) (T.given texts.new) (T.failed texts.new) result
         (O.state stdout.old) (O.state stdout.new) (E.state stderr.old) (E.state stderr.new) }
 {
     match read_all(alloc, texts, words, stderr) {
@@ -43,9 +43,9 @@ fn read_all<'w, T: ProfileTexts, E: Outlet, A: Allocator + Copy>(
     ensures texts { IfOk result (λ all. AreRead (T.text_of texts.old)
         (map (λ word. word.now) words.now) (T.given texts.old) (T.given texts.new) all.items) }
     ensures quiet { OnOk result (stderr.new ≡ stderr.old) }
-    ensures none { IfErr result (λ status.
-        TellsOfSome (map (λ word. word.now) words.now) status
-        (E.state stderr.old) (E.state stderr.new)) }
+    ensures none { IfErr result (λ status. StopsReading (T.text_of texts.old)
+        (map (λ word. word.now) words.now) (T.given texts.old) (T.given texts.new)
+        (T.failed texts.new) status (E.state stderr.old) (E.state stderr.new)) }
 {
     let mut all = Vec::new(alloc);
     for word in words {

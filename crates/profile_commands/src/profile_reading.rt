@@ -1,10 +1,9 @@
 //! Reading a profile for the commands on profiles, which tell all that is wrong with it.
 ghost use Rattle.std.specs.Prelude.{◌≡◌, IfOk, IfErr, IsFalse, OnOk, MatchResult};
 ghost use Rattle.preflight.specs.Writing.{Writes};
-ghost use Rattle.profile_commands.specs.ProfileReading.{IsRead, IsTextOf, TellsFaults};
+ghost use Rattle.profile_commands.specs.ProfileReading.{IsRead, IsTextOf, TellsFaults, TellsNoText};
 ghost use Rattle.profile_lint.specs.Lint.{faults_text};
 ghost use Rattle.subcommands.specs.CheckMany.{TellsLine};
-ghost use Rattle.subcommands.specs.FleetFile.{TellsOfProfile};
 
 use device_profile::{Profile, ProfileFault};
 use preflight::{Error, Outlet, write_text};
@@ -26,7 +25,8 @@ pub fn read_text<T: ProfileTexts, E: Outlet, A: Allocator + Copy>(
     ensures same { T.text_of texts.new ≡ T.text_of texts.old }
     ensures working { OnOk result (IsFalse (T.failed texts.new)) }
     ensures quiet { OnOk result (stderr.new ≡ stderr.old) }
-    ensures none { IfErr result (λ status. TellsOfProfile word.now status
+    ensures none { IfErr result (λ status. TellsNoText word.now (T.given texts.old)
+        (T.given texts.new) (T.failed texts.new) status
         (E.state stderr.old) (E.state stderr.new)) }
 {
     match texts.read_text(alloc, word) {

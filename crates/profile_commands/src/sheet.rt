@@ -1,13 +1,14 @@
 //! The command `profile sheet`.
-ghost use Rattle.std.specs.Prelude.{◌≡◌, ◌≢◌, ◌++◌, [], ◌∷◌, IfOk, IfSome, IsFalse, OnOk};
-ghost use Rattle.profile_commands.specs.ProfileSheet.{LeavesSheet, LeavesSheetOf, WritesOut, unprinted_sheet};
+ghost use Rattle.std.specs.Prelude.{◌≡◌, IfOk, IsFalse, IsSome, IsTrue};
+ghost use Rattle.profile_commands.specs.ProfileSheet.{IsEndOfCheck, LeavesSheet, LeavesSheetOf, WritesOut, unprinted_sheet};
 ghost use Rattle.subcommands.specs.CheckMany.{TellsLine};
+ghost use Rattle.subcommands.specs.Status.{is_overwriting};
 
 use crate::profile_reading::{profile_of, read_text};
 use crate::whole_text::write_whole;
 use device_profile::{Profile, printer_name};
 use preflight::{Error, Outlet, Verdict, write_text};
-use profile_lint::push_shown;
+use shown_bytes::push_shown;
 use std::alloc::{AllocError, Allocator};
 use streams::{Create, FileId};
 use subcommands::check::verdict_on;
@@ -28,9 +29,11 @@ pub fn profile_sheet<T: ProfileTexts, W: Create, E: Outlet, A: Allocator + Copy>
     requires texts { IsFalse (T.failed texts.old) }
     requires out { IsFalse (W.state out.old).failed }
     requires stderr { IsFalse (E.state stderr.old).failed }
-    ensures { LeavesSheet (T.text_of texts.old word.now) word.now (T.given texts.old)
-        (T.given texts.new) result (W.state out.old) (W.state out.new)
+    ensures left { LeavesSheet (T.text_of texts.old word.now) word.now (T.given texts.old)
+        (T.given texts.new) (T.failed texts.new) result (W.state out.old) (W.state out.new)
         (E.state stderr.old) (E.state stderr.new) }
+    // Where OUT is the profile, it is as it was.
+    ensures kept { IsTrue (is_overwriting result) → out.new ≡ out.old }
 {
     let text = match read_text(alloc, texts, word, stderr) {
         Ok(text) => text,
@@ -66,8 +69,11 @@ fn write_sheet<W: Create, E: Outlet, A: Allocator + Copy>(
 ) -> Status
     requires out { IsFalse (W.state out.old).failed }
     requires stderr { IsFalse (E.state stderr.old).failed }
-    ensures { LeavesSheetOf word.now profile job.now result (W.state out.old) (W.state out.new)
-        (E.state stderr.old) (E.state stderr.new) }
+    ensures left { LeavesSheetOf word.now profile job.now result
+        (W.state out.old) (W.state out.new) (E.state stderr.old) (E.state stderr.new) }
+    // It is refused only where the profile came from a file, and then OUT is as it was.
+    ensures refused { IsTrue (is_overwriting result) → IsSome file }
+    ensures kept { IsTrue (is_overwriting result) → out.new ≡ out.old }
 {
     let mut fleet = Vec::new(alloc);
     if fleet.push(profile).is_err() {
@@ -89,14 +95,30 @@ fn write_sheet<W: Create, E: Outlet, A: Allocator + Copy>(
             };
             refuse(alloc, word, verdict, stderr)
         }
-        Err(error) => Status::Stopped(error),
+        Err(error) => end_of_check(error),
+    }
+}
+
+/// How the command ends where the check of a sheet gave no verdict.
+fn end_of_check(error: Error) -> Status
+    ensures end { IsEndOfCheck result }
+    ensures same { IsEndOfCheck (Status.Stopped error) → result ≡ Status.Stopped error }
+{
+    match error {
+        Error::Memory => Status::Stopped(Error::Memory),
+        Error::Read => Status::Stopped(Error::Read),
+        Error::Turns => Status::Stopped(Error::Turns),
+        // A check writes nothing, and a printer is named.
+        Error::Write | Error::NoProfile => Status::Stopped(Error::Memory),
     }
 }
 
 /// Creates OUT, unless it is the file that the profile came from, and writes the job.
 fn write_out<W: Create>(job: &[u8], file: Option<FileId>, out: &mut W) -> Status
     requires { IsFalse (W.state out.old).failed }
-    ensures { WritesOut job.now result (W.state out.old) (W.state out.new) }
+    ensures written { WritesOut job.now result (W.state out.old) (W.state out.new) }
+    ensures refused { IsTrue (is_overwriting result) → IsSome file }
+    ensures kept { IsTrue (is_overwriting result) → out.new ≡ out.old }
 {
     if let Some(file) = file {
         if out.leads_to(file) {

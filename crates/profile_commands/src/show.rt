@@ -23,7 +23,7 @@ pub fn profile_show<T: ProfileTexts, O: Outlet, E: Outlet, A: Allocator + Copy>(
     requires stdout { IsFalse (O.state stdout.old).failed }
     requires stderr { IsFalse (E.state stderr.old).failed }
     ensures { LeavesShown (T.text_of texts.old word.now) word.now (T.given texts.old)
-        (T.given texts.new) result (O.state stdout.old) (O.state stdout.new)
+        (T.given texts.new) (T.failed texts.new) result (O.state stdout.old) (O.state stdout.new)
         (E.state stderr.old) (E.state stderr.new) }
 {
     let text = match read_text(alloc, texts, word, stderr) {

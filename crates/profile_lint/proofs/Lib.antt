@@ -1,5 +1,3 @@
-pub mod Each
-pub mod FirstFault
 pub mod Pushed
 mod WordsAt
 mod LintLemmas

@@ -17,9 +17,9 @@ use Rattle.profile_lint.specs.declared.hint.Hint.{Hint}
 use Rattle.profile_lint.specs.declared.hint.Hint.TheVariants.{OtherArea, OddAdvance, OtherNumbers, OtherCodes, SeveralValues, FixedPanel}
 use Rattle.profile_lint.specs.declared.hint_line.Numbers.{Numbers}
 use Rattle.profile_lint.specs.FaceHints.{advance_by}
-use Rattle.profile_lint.specs.Keys.{key_word}
+use Rattle.profile_faults.specs.Keys.{key_word}
 use Rattle.profile_lint.specs.PageHints.{area_lengths, units_in}
-use Rattle.profile_lint.specs.Shown.{shown}
+use Rattle.shown_bytes.specs.Shown.{shown}
 
 -- a length in whole 7200ths of an inch, behind a space
 abbrev pub length_word : ℤ → List ℕ

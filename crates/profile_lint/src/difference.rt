@@ -6,10 +6,11 @@ ghost use Rattle.profile_lint.specs.Differences.{are_among, are_fonts_of, differ
 use crate::face_hints::are_same_codes;
 use crate::hint::Area;
 use crate::key_rules::meaning_of;
-use crate::key_words::key_word;
 use crate::page_hints::is_same_area;
-use crate::shown::{push_number_in, push_numbers_in, push_shown, push_word_in};
+use crate::shown::{push_number_in, push_numbers_in, push_word_in};
 use device_profile::{Field, FontRequest, FontRow, Geometry, Key, Profile};
+use profile_faults::key_word;
+use shown_bytes::push_shown;
 use std::alloc::{AllocError, Allocator};
 
 /// What differs in two profiles.

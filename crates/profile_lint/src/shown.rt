@@ -1,46 +1,11 @@
-//! Bytes of files as they stand in lines for a terminal.
-ghost use Rattle.std.specs.Prelude.{◌≡◌, ◌<◌, ◌++◌, decimal, take, OnOk};
-ghost use Rattle.profile_lint.specs.Shown.{dots_behind, hex_digit, line_at, quoted, shown, shown_byte};
+//! Lines of files as they are quoted, and words between others.
+ghost use Rattle.std.specs.Prelude.{◌≡◌, ◌++◌, decimal, take, OnOk};
+ghost use Rattle.profile_lint.specs.Shown.{dots_behind, line_at, quoted};
 
 use device_profile::next_line;
 use itoa::Buffer;
+use shown_bytes::push_shown;
 use std::alloc::{AllocError, Allocator};
-
-/// A digit to base 16, in small letters.
-fn hex_digit(digit: u8) -> u8
-    requires { digit < 16 }
-    ensures { result ≡ hex_digit digit }
-{
-    if digit < 10 {
-        b'0' + digit
-    } else {
-        b'a' + (digit - 10)
-    }
-}
-
-/// Appends a byte as itself, and one that shows nothing, or a backslash, as `\x` and two hexadecimal
-/// digits.
-fn push_shown_byte<A: Allocator>(out: &mut Vec<u8, A>, byte: u8) -> Result<(), AllocError>
-    ensures { OnOk result (out.new.items ≡ out.old.items ++ shown_byte byte) }
-{
-    if 32 <= byte && byte <= 126 && byte != b'\\' {
-        out.push(byte)?;
-        return Ok(());
-    }
-    out.extend_from_slice(&[b'\\', b'x', hex_digit(byte / 16), hex_digit(byte % 16)])
-}
-
-/// Appends bytes of a name or a line, and those that show nothing, and backslashes, by their digits.
-///
-/// An error means that the allocator refused a request.
-pub fn push_shown<A: Allocator>(out: &mut Vec<u8, A>, bytes: &[u8]) -> Result<(), AllocError>
-    ensures { OnOk result (out.new.items ≡ out.old.items ++ shown bytes.now) }
-{
-    for byte in bytes {
-        push_shown_byte(out, *byte)?;
-    }
-    Ok(())
-}
 
 /// So many bytes of a line are quoted at the most.
 const MOST_QUOTED: usize = 40;

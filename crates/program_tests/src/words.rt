@@ -137,6 +137,7 @@ const WRONG_FOR_TEXTS: &[Ended] = &[
 ];
 
 const HELP: &[&str] = &[
+    "[JOB] [PROFILE|JOB]...",
     "0  the job passes",
     "1  the job fails",
     "2  usage error",

@@ -4,7 +4,7 @@ use Rattle.profile_commands.proofs.from_pjl.put_answer.Goals as goal
 
 pub returns : goal.returns
 returns g c =
-    refused _ c.args.word.now _ _ _ _ _ _ _ c.in-Err-answered_text.error _ _ _ _ _
+    refused _ c.args.word.now _ _ _ _ _ _ _ _ c.in-Err-answered_text.error _ _ _ _ _
     c.in-Ok.ensures.text c.as_slice-text.ensures.value c.in-Err-answered_text.ensures.err
     (ap (λ b. b.now) c.unwrap_or.ensures ∙ sym (base_word_is c.args.base _ refl))
     (ap g.E.Outlet.state c.in-Ok.ensures.quiet) c.refuse.ensures

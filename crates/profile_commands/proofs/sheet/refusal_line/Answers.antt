@@ -1,5 +1,5 @@
 use Rattle.std.proofs.Common.{◌∙◌, ◌++◌, ap, codes}
-use Rattle.profile_lint.specs.Shown.{shown}
+use Rattle.shown_bytes.specs.Shown.{shown}
 use Rattle.profile_commands.proofs.Sheets.{in_order}
 use Rattle.profile_commands.proofs.sheet.refusal_line.Goals as goal
 

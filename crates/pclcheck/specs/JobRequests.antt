@@ -1,0 +1,36 @@
+-- What the commands that write a text of a job come to. Nothing is known of files beforehand, so this is said for some reads of them.
+use Rattle.std.specs.Prelude.{◌||◌, [], ℕ, List}
+use Rattle.preflight.specs.Due.{Rendering, plain_rendering}
+use Rattle.streams.specs.Files.{no_outlet, no_source}
+use Rattle.streams.specs.Outlet.{OutletState}
+use Rattle.streams.specs.Source.{SourceState}
+use Rattle.subcommands.specs.JobTexts.{EndsBy, IsNamed, LeavesOut, LeavesPages, LeavesPinned, LeavesText, TellsOfPin}
+use Rattle.subcommands.specs.Status.{is_stop_of_read}
+use Rattle.subcommands.specs.Texts.{text_named}
+use Rattle.subcommands.specs.declared.choices.Choice.{Choice}
+use Rattle.subcommands.specs.declared.status.Status.{Status}
+
+-- what is due of a job by this rendering
+pub record LeavesRendered (rendering : Rendering) (status : Status) (out out' : OutletState) : Type 0 where
+  pub job : SourceState
+  pub ends : EndsBy status (λ old new. LeavesText status rendering old new out out') no_source job job.failed out'.failed
+
+-- the pages of a job on the printer that this word names
+pub record LeavesPagesFor (word : List ℕ) (status : Status) (out out' : OutletState) : Type 0 where
+  pub job : SourceState
+  pub texts : List (List ℕ)
+  pub ends : EndsBy status (λ old new. LeavesPages status (IsNamed (text_named word) [] texts) old new out out') no_source job (is_stop_of_read status) out'.failed
+
+-- a job in its canonical spelling, in a file
+pub record LeavesPlain (status : Status) (out out' : OutletState) : Type 0 where
+  pub job : SourceState
+  pub file : OutletState
+  pub ends : EndsBy status (λ old new. LeavesOut status plain_rendering old new no_outlet file out out') no_source job job.failed (file.failed || out'.failed)
+
+-- a job that is pinned to the panel that is chosen of the printer that this word names, in a file
+pub record LeavesPin (word : List ℕ) (choices : List Choice) (status : Status) (out out' err err' : OutletState) : Type 0 where
+  pub job : SourceState
+  pub texts : List (List ℕ)
+  pub file : OutletState
+  pub ends : EndsBy status (λ old new. LeavesPinned status (IsNamed (text_named word) [] texts) choices old new no_outlet file out out') no_source job (is_stop_of_read status) (file.failed || out'.failed)
+  pub choice : TellsOfPin status (IsNamed (text_named word) [] texts) choices err err'

@@ -1,0 +1,75 @@
+//! What the program does on texts of a job by request, on files.
+ghost use Rattle.std.specs.Prelude.{IsFalse};
+ghost use Rattle.pclcheck.specs.JobRequests.{LeavesPagesFor, LeavesPin, LeavesPlain, LeavesRendered};
+ghost use Rattle.preflight.specs.Due.{list_rendering};
+
+use std::rt::Files;
+use streams::{FileOutlet, FileSource, Outlet};
+use subcommands::{FileTexts, PanelSetting, Status};
+
+/// Lists the items of the job at a path.
+pub fn list<R: Files + AllocGlobal, O: Outlet>(rt: &R, job: &str, stdout: &mut O) -> Status
+    requires { IsFalse (O.state stdout.old).failed }
+    ensures { LeavesRendered list_rendering result (O.state stdout.old) (O.state stdout.new) }
+{
+    let mut job = FileSource::new(rt, job);
+    subcommands::list::list(rt.alloc(), &mut job, stdout)
+}
+
+/// Writes what the job at a path marks on its pages, on the printer that a word names.
+pub fn pages<R: Files + AllocGlobal, O: Outlet>(
+    rt: &R,
+    job: &str,
+    profile: &str,
+    stdout: &mut O,
+) -> Status
+    requires { IsFalse (O.state stdout.old).failed }
+    ensures { LeavesPagesFor profile.now result (O.state stdout.old) (O.state stdout.new) }
+{
+    let mut job = FileSource::new(rt, job);
+    let mut texts = FileTexts::new(rt);
+    subcommands::pages::pages(rt.alloc(), &mut job, &mut texts, profile, stdout)
+}
+
+/// Writes the job at a path again, at another.
+pub fn plain<R: Files + AllocGlobal, O: Outlet>(
+    rt: &R,
+    job: &str,
+    out: &str,
+    stdout: &mut O,
+) -> Status
+    requires { IsFalse (O.state stdout.old).failed }
+    ensures { LeavesPlain result (O.state stdout.old) (O.state stdout.new) }
+{
+    let mut job = FileSource::new(rt, job);
+    let mut out = FileOutlet::new(rt, out);
+    subcommands::plain::plain(rt.alloc(), &mut job, &mut out, stdout)
+}
+
+/// Writes the job at a path again, at another, pinned to a panel setting of a printer.
+pub fn pin<R: Files + AllocGlobal, O: Outlet, E: Outlet>(
+    rt: &R,
+    job: &str,
+    setting: &PanelSetting<'_>,
+    out: &str,
+    stdout: &mut O,
+    stderr: &mut E,
+) -> Status
+    requires stdout { IsFalse (O.state stdout.old).failed }
+    requires stderr { IsFalse (E.state stderr.old).failed }
+    ensures { LeavesPin setting.now.profile.now setting.now.choices.now result
+        (O.state stdout.old) (O.state stdout.new) (E.state stderr.old) (E.state stderr.new) }
+{
+    let mut job = FileSource::new(rt, job);
+    let mut texts = FileTexts::new(rt);
+    let mut out = FileOutlet::new(rt, out);
+    subcommands::pin::pin(
+        rt.alloc(),
+        &mut job,
+        &mut texts,
+        setting,
+        &mut out,
+        stdout,
+        stderr,
+    )
+}

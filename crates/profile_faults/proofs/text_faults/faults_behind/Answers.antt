@@ -1,0 +1,28 @@
+use Rattle.std.proofs.Common.{◌≡◌, ℕ, List, ◌++◌, ap, ◌∙◌}
+use Rattle.std.specs.Str.Lines.{lines}
+use Rattle.device_profile.specs.declared.format.Format.{Format}
+use Rattle.device_profile.specs.Draft.{Draft, no_draft}
+use Rattle.profile_faults.specs.declared.fault.TextFault.{TextFault}
+use Rattle.profile_faults.specs.Faults.{draft_past_lines, faults_on_lines}
+use Rattle.profile_faults.specs.TextFaults.{faults_behind}
+use Rattle.profile_faults.specs.Whole.{faults_of_whole}
+use Rattle.profile_faults.proofs.text_faults.faults_behind.Goals as goal
+
+joined : (format : Format) (more : List (List ℕ)) (first past : Draft) (on_lines seen of_whole added all : List TextFault)
+    → first ≡ no_draft format → on_lines ≡ faults_on_lines format first 2 more → past ≡ draft_past_lines format first more
+    → seen ≡ on_lines → of_whole ≡ faults_of_whole past seen → added ≡ of_whole → all ≡ on_lines ++ added
+    → all ≡ faults_behind format more
+joined format more first past on_lines seen of_whole added all is_first is_on_lines is_past is_seen is_whole is_added is_all =
+    let told : on_lines ≡ faults_on_lines format (no_draft format) 2 more = is_on_lines ∙ ap (λ (d : Draft). faults_on_lines format d 2 more) is_first in
+    let given : past ≡ draft_past_lines format (no_draft format) more = is_past ∙ ap (λ (d : Draft). draft_past_lines format d more) is_first in
+    is_all
+    ∙ ap (λ (w : List TextFault). on_lines ++ w) (is_added ∙ is_whole)
+    ∙ ap (λ (l : List TextFault). on_lines ++ faults_of_whole past l) (is_seen ∙ told)
+    ∙ ap (λ (l : List TextFault). l ++ faults_of_whole past (faults_on_lines format (no_draft format) 2 more)) told
+    ∙ ap (λ (d : Draft). faults_on_lines format (no_draft format) 2 more ++ faults_of_whole d (faults_on_lines format (no_draft format) 2 more)) given
+
+pub returns : goal.returns
+returns g c =
+    joined c.args.format (lines c.args.text.now) _ _ _ _ _ _ _
+    c.in_ok-draft.ensures c.in_ok-faults.ensures.faults c.in_ok-faults.ensures.draft
+    c.deref.ensures.value c.in_ok-of_whole.ensures c.deref-2.ensures.value c.in_ok-extend_from_slice.ensures.items

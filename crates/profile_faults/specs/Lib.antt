@@ -1,0 +1,5 @@
+pub mod Keys
+pub mod Faults
+pub mod Whole
+pub mod TextFaults
+pub mod Laws

@@ -1,0 +1,13 @@
+-- Bytes of files as they stand in lines for a terminal.
+use Rattle.std.specs.Prelude.{ℕ, ◌+◌, ◌/◌, ◌%◌, nat_lt, nat_le, ◌&&◌, ◌==◌, not, if◌then◌else◌, List, [], ◌∷◌, flat_map}
+
+-- a digit to base 16, in small letters
+abbrev pub hex_digit : ℕ → ℕ
+hex_digit d = if nat_lt d 10 then 48 + d else 87 + d
+
+-- a byte as itself, and one that shows nothing, or a backslash, as \x and two hexadecimal digits
+abbrev pub shown_byte : ℕ → List ℕ
+shown_byte b = if nat_le 32 b && nat_le b 126 && not (b == 92) then b ∷ [] else 92 ∷ 120 ∷ hex_digit (b / 16) ∷ hex_digit (b % 16) ∷ []
+
+abbrev pub shown : List ℕ → List ℕ
+shown bytes = flat_map shown_byte bytes
