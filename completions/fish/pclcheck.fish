@@ -117,6 +117,8 @@ complete -c pclcheck -n '__pclcheck_at check' -s f -l fleet -r \
     -d 'A text with a profile a line; as -p, and behind those of -p'
 complete -c pclcheck -n '__pclcheck_at check' -l files0-from -r \
     -d 'The paths of the jobs, each ended by a zero byte; - is standard input'
+complete -c pclcheck -n '__pclcheck_at check' -l most-items -x \
+    -d 'Gives a job up whose macros carry out more than so many items'
 complete -c pclcheck -n '__pclcheck_at check' -l each \
     -d 'A line for each printer, with its own verdict'
 complete -c pclcheck -n '__pclcheck_at check' -l format -x -a 'line words json' \

@@ -32,6 +32,8 @@ pub const EXPLANATION: &str = "Examples:
         Manual:  \"Macros\", Macro Control
   pclcheck check -f shop.fleet --exit-zero a.pcl b.pcl
       for a script that reads the lines: a status other than 0 says that a verdict is missing
+  pclcheck check -f shop.fleet --most-items 1000000 a.pcl b.pcl
+      a job is given up whose macros would carry out more items, so that none holds a queue
   find . -name '*.pcl' -print0 | pclcheck check -f shop.fleet --files0-from -
       the jobs whose paths standard input has
   cat a.pcl | pclcheck check -f shop.fleet -
@@ -46,12 +48,13 @@ Output of check, one line:
   profile=  the printer's number among the words, from 1;
             0: the bytes themselves are wrong, whatever the printer
 
-With -p, -f, --each, --format, --explain or --exit-zero, a line for each job, in the order of the
-words:
+With -p, -f, --most-items, --each, --format, --explain or --exit-zero, a line for each job, in the
+order of the words:
   PASS pages=N marks=N JOB
   FAIL at=N printer=NAME FINDING JOB  NAME by its profile; no printer= where the bytes are wrong
   ERROR read JOB: WHY                 the job could not be read; those behind it are checked
   ERROR memory JOB, ERROR turns JOB   memory ran out, or no end after 2^40 reads
+  ERROR items JOB                     macros would carry out more items than --most-items allows
 
   With --each, printer=NAME stands in each line. In JOB a byte that shows nothing and the
   backslash are \\x and two digits.
@@ -84,7 +87,7 @@ Exit status, of many jobs the greatest of theirs:
   0  the job passes, or an explanation, help or the version was asked for
   1  the job fails (0 with --exit-zero)
   2  usage error, or a profile or a fleet that is refused, or a fleet that cannot be read
-  3  a read or a write failed, memory ran out, or no end after 2^40 reads";
+  3  a read or a write failed, memory ran out, no end after 2^40 reads, or too many items";
 
 /// The words of the command `check`.
 pub fn check_command<'a>(alloc: Global) -> Result<Command<'a>, AllocError> {

@@ -26,6 +26,8 @@ pub struct ManyWords<'a> {
     pub names_from: Option<&'a str>,
     pub printers: Vec<&'a str>,
     pub fleets: Vec<&'a str>,
+    /// How many items macros may carry out in a job, where that is limited.
+    pub most_items: Option<u64>,
     pub is_each: bool,
     /// A FAIL counts as a PASS.
     pub exit_zero: bool,
@@ -46,6 +48,7 @@ pub(crate) fn with_many_options<'a>(
         .arg(printer(alloc))?
         .arg(fleet(alloc))?
         .arg(names(alloc)?)?
+        .arg(most_items(alloc))?
         .arg(each(alloc))?
         .arg(format(alloc))?
         .arg(explain(alloc))?
@@ -77,6 +80,15 @@ fn names<'a>(alloc: Global) -> Result<Arg<'a>, AllocError> {
         .action(ArgAction::Set)
         .help("The paths of the jobs, each ended by a zero byte; - is standard input")
         .conflicts_with("JOB")
+}
+
+fn most_items<'a>(alloc: Global) -> Arg<'a> {
+    Arg::new(alloc, "MOST")
+        .long("most-items")
+        .value_name("N")
+        .action(ArgAction::Set)
+        .value_parser(ValueParser::Unsigned(0, u64::MAX))
+        .help("Gives a job up whose macros carry out more than so many items")
 }
 
 fn each<'a>(alloc: Global) -> Arg<'a> {
@@ -112,6 +124,7 @@ fn exit_zero<'a>(alloc: Global) -> Arg<'a> {
 pub(crate) fn asks_for_many(found: &ArgMatches<'_>) -> bool {
     names_printers(found)
         || found.contains_id("FORM")
+        || found.contains_id("MOST")
         || ["EACH", "EXPLAIN", "ZERO"]
             .iter()
             .any(|option| found.get_flag(option))
@@ -151,6 +164,7 @@ pub(crate) fn read_many<'a>(
         names_from: found.get_str("NAMES"),
         printers,
         fleets,
+        most_items: found.get_one::<u64>("MOST"),
         is_each: found.get_flag("EACH"),
         exit_zero: found.get_flag("ZERO"),
         form: form_of(found.get_str("FORM")),

@@ -17,6 +17,7 @@ printer_of p = record {
   has_duplex = p.has_duplex;
   depth = p.depth;
   memory = p.memory;
+  most_items = p.most_items;
   geometries = p.geometries.items;
   faces = p.faces.items;
 }

@@ -9,7 +9,8 @@ use Rattle.device_profile.specs.Faces.{Face, face_at, has_face, has_metrics, is_
 use Rattle.device_profile.specs.Rows.{has_alike}
 use Rattle.device_profile.specs.Values.{is_value, are_choices}
 
--- the values that the panel may have in each field, what the device has, and its pages
+-- the values that the panel may have in each field, what the device has, its pages, and how many items of a job its macros may carry
+-- out, where that is limited
 pub record Printer : Type 0 where
   pub sizes : List ℕ
   pub orientations : List ℕ
@@ -23,6 +24,7 @@ pub record Printer : Type 0 where
   pub has_duplex : Bool
   pub depth : ℕ
   pub memory : ℕ
+  pub most_items : Option ℕ
   pub geometries : List Geometry
   pub faces : List Face
 

@@ -1,5 +1,5 @@
 -- A printer for examples and tests.
-use Rattle.std.specs.Prelude.{ℕ, pos, true, List, [], ◌∷◌}
+use Rattle.std.specs.Prelude.{ℕ, pos, true, List, [], ◌∷◌, None}
 use Rattle.device_profile.specs.Faces.{Face}
 use Rattle.device_profile.specs.Printer.{Printer}
 use Rattle.device_profile.specs.Rows.{of_7200ths, row_of}
@@ -54,6 +54,7 @@ printer_a = record {
   has_duplex = true;
   depth = 2;
   memory = 100;
+  most_items = None;
   geometries = pages_a;
   faces = faces_a;
 }

@@ -100,6 +100,7 @@ printer_of_draft draft = record {
   has_duplex = is_duplex draft;
   depth = unwrap_or draft.depth 0;
   memory = unwrap_or draft.memory 0;
+  most_items = None;
   geometries = draft.geometries;
   faces = draft.faces;
 }

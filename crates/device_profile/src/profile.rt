@@ -29,6 +29,8 @@ pub struct Profile<A: Allocator = Global> {
     pub(crate) has_duplex: bool,
     pub(crate) depth: u32,
     pub(crate) memory: u32,
+    /// How many items the macros of a job may carry out, where that is limited.
+    pub(crate) most_items: Option<u64>,
     pub(crate) geometries: Vec<Geometry, A>,
     pub(crate) faces: Vec<FontRow<A>, A>,
 }
@@ -160,6 +162,20 @@ impl<A: Allocator> Profile<A> {
         ensures { result ≡ self.now.memory }
     {
         self.memory
+    }
+
+    /// How many items the macros of a job may carry out, where that is limited. No text limits it.
+    pub fn most_items(&self) -> Option<u64>
+        ensures { result ≡ self.now.most_items }
+    {
+        self.most_items
+    }
+
+    /// Limits how many items of a job its macros may carry out, or leaves them without a limit.
+    pub fn limit_items(&mut self, most: Option<u64>)
+        ensures { self.new ≡ record self.old { most_items = most } }
+    {
+        self.most_items = most;
     }
 
     /// Whether the device prints on both sides.

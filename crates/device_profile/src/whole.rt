@@ -111,6 +111,7 @@ impl<A: Allocator> Draft<A> {
             has_duplex,
             depth: self.depth.unwrap_or(0),
             memory: self.memory.unwrap_or(0),
+            most_items: None,
             geometries: self.geometries,
             faces: self.faces,
         }

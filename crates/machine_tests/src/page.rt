@@ -180,7 +180,7 @@ fn letter_page() -> Page {
         tray: 1,
         line_termination: 0,
     };
-    first_page(user_defaults_of(&panel))
+    first_page(user_defaults_of(&panel), None)
 }
 
 /// What an item did.
@@ -345,7 +345,7 @@ fn fields_of_one_value_are_known(rt: HostRuntime) -> Result<(), Fail> {
 fn a_size_of_the_panel_is_unset(rt: HostRuntime) -> Result<(), Fail> {
     let horizontal_move = items_of(rt.alloc(), b"\x1b*p300X")?;
     let profile = sample_a(rt.alloc())?;
-    let mut start = first_page(user_defaults(&profile));
+    let mut start = first_page(user_defaults(&profile), None);
     let unset = carry_out_all(&profile, &mut start, 1, &horizontal_move);
     assert!(rt; matches!(unset, Err(Unset(Field::Size))));
     Ok(())
@@ -355,7 +355,7 @@ fn a_size_of_the_panel_is_unset(rt: HostRuntime) -> Result<(), Fail> {
 fn a_page_has_the_fields_that_were_set(rt: HostRuntime) -> Result<(), Fail> {
     let profile = sample_a(rt.alloc())?;
     let defaults = user_defaults(&profile);
-    let mut page = first_page(defaults);
+    let mut page = first_page(defaults, None);
     change_page(&defaults, &mut page, PageChange::Size(whole(26)));
     assert_eq!(rt; page_end(&page), Err(Field::Orientation));
     change_page(&defaults, &mut page, PageChange::Orientation(whole(1)));

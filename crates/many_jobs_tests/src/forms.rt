@@ -133,6 +133,7 @@ fn asked<'w, 'n>(printers: &'w [&'w str], jobs: &'w [&'n [u8]], told: Told) -> M
     ManyJobs {
         jobs,
         printers,
+        most_items: None,
         is_each: told.is_each,
         telling: Telling {
             format: told.format,

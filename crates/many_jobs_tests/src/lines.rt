@@ -30,7 +30,11 @@ const JOBS: &[NamedJob] = &[
     (b"cut", RECTANGLE, 5),
     (b"-a\n\\\xff '\xc3\xa4'", b"", SOUND),
     (b"", b"", SOUND),
+    (b"macros", TWO_OF_THREE, SOUND),
 ];
+
+/// A macro of three items, which is executed and called.
+const TWO_OF_THREE: &[u8] = b"\x1b&f1Y\x1b&f0X\r\r\r\x1b&f1X\x1b&f2X\x1b&f3X";
 
 /// Texts of printers, and one that is refused. No text is named `none`.
 fn texts(moved: &[u8]) -> [Named<'_>; 5] {
@@ -76,6 +80,8 @@ enum Mode {
     Zero,
     /// For each by itself, and a FAIL counts as a PASS.
     EachZero,
+    /// For all together, where macros may carry out so many items.
+    Within(u64),
 }
 
 /// The words of printers, the names of jobs, and how these are checked.
@@ -218,6 +224,22 @@ const EACH: &[(Run, Answer)] = &[
     ),
 ];
 
+/// Jobs whose macros may carry out so many items.
+const LIMITED: &[(Run, Answer)] = &[
+    (
+        (&["b"], &[b"macros", b"empty"], Mode::Within(6)),
+        (
+            0,
+            b"PASS pages=0 marks=0 macros\nPASS pages=0 marks=0 empty\n",
+            b"",
+        ),
+    ),
+    (
+        (&["b"], &[b"macros", b"empty"], Mode::Within(5)),
+        (3, b"ERROR items macros\nPASS pages=0 marks=0 empty\n", b""),
+    ),
+];
+
 /// Profiles are read and judged before the first job.
 const REFUSED: &[(Run, Answer)] = &[
     (
@@ -238,6 +260,14 @@ const REFUSED: &[(Run, Answer)] = &[
     ),
 ];
 
+/// How many items macros may carry out.
+fn most_items(mode: Mode) -> Option<u64> {
+    match mode {
+        Mode::Within(most) => Some(most),
+        Mode::Together | Mode::Each | Mode::Zero | Mode::EachZero => None,
+    }
+}
+
 /// What a run asks for.
 fn asked<'w, 'n>(printers: &'w [&'w str], jobs: &'w [&'n [u8]], mode: Mode) -> ManyJobs<'w, 'n>
     ensures { result.printers.now ≡ printers.now }
@@ -245,6 +275,7 @@ fn asked<'w, 'n>(printers: &'w [&'w str], jobs: &'w [&'n [u8]], mode: Mode) -> M
     ManyJobs {
         jobs,
         printers,
+        most_items: most_items(mode),
         is_each: matches!(mode, Mode::Each | Mode::EachZero),
         telling: Telling {
             format: Format::Line,
@@ -314,6 +345,11 @@ fn a_job_that_cannot_be_read_has_a_line(rt: HostRuntime) -> Result<(), Fail> {
 #[test]
 fn jobs_are_checked_for_each_printer_by_itself(rt: HostRuntime) -> Result<(), Fail> {
     check_answers(&rt, EACH)
+}
+
+#[test]
+fn macros_carry_out_so_many_items(rt: HostRuntime) -> Result<(), Fail> {
+    check_answers(&rt, LIMITED)
 }
 
 #[test]

@@ -381,8 +381,8 @@ module _ (printer : Printer) (panel : Panel) where
     item_alike CarriageReturn s = behind_termination (return_with printer) (λ t. returned (line_termination t).feeds_at_return t) s
     item_alike LineFeed s = behind_termination (λ term t. feed_by printer (before_feed term t) WholeLine) (λ t. fed_behind (line_termination t).returns_at_feed t) s
     item_alike FormFeed s = behind_termination (λ term t. Ends (moving (before_feed term t))) (λ t. ended_behind (line_termination t).returns_at_feed t) s
-    item_alike Reset s = closes moving (λ t. start_state defaults) (λ t. start_state (settings_with panel defaults)) s refl (λ t. refl)
-    item_alike ExitLanguage s = closes moving (λ t. start_state defaults) (λ t. start_state (settings_with panel defaults)) s refl (λ t. refl)
+    item_alike Reset s = closes moving (λ t. start_state t.items_left defaults) (λ t. start_state t.items_left (settings_with panel defaults)) s refl (λ t. refl)
+    item_alike ExitLanguage s = closes moving (λ t. start_state t.items_left defaults) (λ t. start_state t.items_left (settings_with panel defaults)) s refl (λ t. refl)
     item_alike ClearMargins s = sets clear_margins s refl
     item_alike HalfLineFeed s = feed_alike HalfLine s
     item_alike (Parameterized command n) s = command_alike command n s

@@ -1,4 +1,4 @@
--- No item but a macro control enables an overlay, and none watches a field.
+-- No item but a macro control enables an overlay, and none watches a field or limits the items of macros.
 use Rattle.std.proofs.Common.{◌≡◌, ◌==◌, ℕ, ℤ, Bool, true, false, cond, List, [], ◌∷◌, Option, Some, None, refl, ap, sym, ◌∙◌}
 use Rattle.std.proofs.lemmas.Bool.{false≢true}
 use Rattle.pcl_items.specs.declared.command.Command.{Command}
@@ -98,14 +98,14 @@ without_bare id overlay e = ap (overlay_without id) e
 
 pub control_bare : IsBareControl
 control_bare s known in_macro None other e = e
-control_bare s known in_macro (Some Begin) other e = (without_bare s.settings.job.macro_id s.settings.job.overlay e.0, e.1)
+control_bare s known in_macro (Some Begin) other e = (without_bare s.settings.job.macro_id s.settings.job.overlay e.0, e.1, e.2)
 control_bare s known in_macro (Some End) other e = e
 control_bare s known in_macro (Some Execute) other e = e
 control_bare s known in_macro (Some Call) other e = e
 control_bare s known in_macro (Some EnableOverlay) other e = absurd (other refl)
-control_bare s known in_macro (Some DisableOverlay) other e = (refl, e.1)
-control_bare s known in_macro (Some DeleteAll) other e = (refl, e.1)
-control_bare s known in_macro (Some Delete) other e = (without_bare s.settings.job.macro_id s.settings.job.overlay e.0, e.1)
+control_bare s known in_macro (Some DisableOverlay) other e = (refl, e.1, e.2)
+control_bare s known in_macro (Some DeleteAll) other e = (refl, e.1, e.2)
+control_bare s known in_macro (Some Delete) other e = (without_bare s.settings.job.macro_id s.settings.job.overlay e.0, e.1, e.2)
 control_bare s known in_macro (Some MakeTemporary) other e = e
 
 -- a tray that is chosen, or none
@@ -115,19 +115,19 @@ fed_from false u e = ap (λ (f : Flags). record f { tray = false }) e
 
 module _ (printer : Printer) (defaults : Settings) where
   command_keeps : (command : Command) (n : Amount) (s : State) → returns_to_panel (Parameterized command n) ≡ false → AreBare defaults → IsBare s → KeepsBare (command_transition printer defaults s command n)
-  command_keeps Copies n s r d e = (e.0, ap (λ (u : Flags). record u { copies = false }) e.1)
-  command_keeps Sides n s r d e = (e, λ t k. (k.0, ap (λ (u : Flags). record u { sides = false }) k.1))
-  command_keeps Source n s r d e = (e, λ t k. (k.0, fed_from (whole_of n == 0) t.settings.unset k.1))
-  command_keeps PageSize n s r d e = (e, λ t k. (refl, ap (λ (u : Flags). record u { size = false }) k.1))
-  command_keeps Orientation n s r d e = (e, λ t k. (refl, ap (λ (u : Flags). record u { orientation = false; vmi = defaults.unset.vmi }) k.1 ∙ ap (λ (u : Flags). record unwatched { orientation = false; vmi = u.vmi }) d.1))
-  command_keeps VerticalMotionIndex n s r d e = (e.0, ap (λ (u : Flags). record u { vmi = false }) e.1)
-  command_keeps LineSpacing n s r d e = (e.0, ap (λ (u : Flags). record u { vmi = false }) e.1)
+  command_keeps Copies n s r d e = (e.0, ap (λ (u : Flags). record u { copies = false }) e.1, e.2)
+  command_keeps Sides n s r d e = (e, λ t k. (k.0, ap (λ (u : Flags). record u { sides = false }) k.1, k.2))
+  command_keeps Source n s r d e = (e, λ t k. (k.0, fed_from (whole_of n == 0) t.settings.unset k.1, k.2))
+  command_keeps PageSize n s r d e = (e, λ t k. (refl, ap (λ (u : Flags). record u { size = false }) k.1, k.2))
+  command_keeps Orientation n s r d e = (e, λ t k. (refl, ap (λ (u : Flags). record u { orientation = false; vmi = defaults.unset.vmi }) k.1 ∙ ap (λ (u : Flags). record unwatched { orientation = false; vmi = u.vmi }) d.1, k.2))
+  command_keeps VerticalMotionIndex n s r d e = (e.0, ap (λ (u : Flags). record u { vmi = false }) e.1, e.2)
+  command_keeps LineSpacing n s r d e = (e.0, ap (λ (u : Flags). record u { vmi = false }) e.1, e.2)
   command_keeps TopMargin n s r d e = e
   command_keeps TextLength n s r d e = e
   command_keeps PerforationSkip n s r d e = e
   command_keeps UnitOfMeasure n s r d e = e
   command_keeps HorizontalMotionIndex n s r d e = e
-  command_keeps LineTermination n s r d e = (e.0, ap (λ (u : Flags). record u { line_termination = false }) e.1)
+  command_keeps LineTermination n s r d e = (e.0, ap (λ (u : Flags). record u { line_termination = false }) e.1, e.2)
   command_keeps LeftMargin n s r d e = e
   command_keeps RightMargin n s r d e = e
   command_keeps Column n s r d e = e
@@ -170,8 +170,8 @@ item_bare printer CarriageReturn defaults s r d e =
     bare_either (line_termination s).feeds_at_return (feed_by printer (carriage_return s) WholeLine) (Step (moving (carriage_return s))) (feed_bare printer WholeLine (carriage_return s) e) e
 item_bare printer LineFeed defaults s r d e = fed_bare printer (line_termination s).returns_at_feed s e
 item_bare printer FormFeed defaults s r d e = ended_bare printer (line_termination s).returns_at_feed s e
-item_bare printer Reset defaults s r d e = (e, λ t k. d)
-item_bare printer ExitLanguage defaults s r d e = (e, λ t k. d)
+item_bare printer Reset defaults s r d e = (e, λ t k. (d.0, d.1, k.2))
+item_bare printer ExitLanguage defaults s r d e = (e, λ t k. (d.0, d.1, k.2))
 item_bare printer ClearMargins defaults s r d e = e
 item_bare printer HalfLineFeed defaults s r d e = feed_bare printer HalfLine s e
 item_bare printer (Parameterized command n) defaults s r d e = command_keeps printer defaults command n s r d e

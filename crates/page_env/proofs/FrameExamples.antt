@@ -1,5 +1,5 @@
 -- Frames and the pen, computed from the definitions.
-use Rattle.std.proofs.Common.{◌≡◌, ℕ, ◌*◌, ◌+◌, pos, true, [], ◌∷◌, Some, refl}
+use Rattle.std.proofs.Common.{◌≡◌, ℕ, ◌*◌, ◌+◌, pos, true, [], ◌∷◌, None, Some, refl}
 use Rattle.std.specs.Prelude.{◌-ℤ◌}
 use Rattle.pcl_items.specs.declared.frame.Handover.TheVariants.{Current}
 use Rattle.pcl_items.specs.declared.number.Sign.TheVariants.{Absent}
@@ -22,7 +22,7 @@ abbrev letter : Panel
 letter = record { size = 2; orientation = 0; vmi = 80_000; font = 1; copies = 1; sides = 0; tray = 1; line_termination = 0 }
 
 abbrev start : State
-start = start_state (user_defaults unwatched letter)
+start = start_state None (user_defaults unwatched letter)
 
 abbrev number : ℕ → Amount
 number n = record { sign = Absent; ten_thousandths = n * 10_000 }

@@ -39,9 +39,9 @@ set_units s n =
     setting (check (not (is_whole_from 0 n && list_any (λ units. units == whole_of n) units_per_inch)) BadValue ∷ [])
     (with_job s (record s.settings.job { units_per_inch = whole_of n }))
 
--- `ESC E`, and the end of the bytes: all settings are the user defaults again
+-- `ESC E`, and the end of the bytes: all settings are the user defaults again; what macros carried out stays counted
 abbrev pub reset : Settings → State → Transition
-reset defaults s = Closes (moving s) true (λ t. start_state defaults)
+reset defaults s = Closes (moving s) true (λ t. start_state t.items_left defaults)
 
 -- a reset, or the universal exit, which resets before it leaves the language
 abbrev pub is_reset : Entry → Bool

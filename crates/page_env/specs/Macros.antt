@@ -1,8 +1,8 @@
 -- Macros: the id of which controls speak (`&f#Y`), the controls (`&f#X`), and where an overlay begins.
-use Rattle.std.specs.Prelude.{ℕ, ◌==◌, not, Bool, true, false, cond, Option, Some, None, List, [], ◌∷◌}
+use Rattle.std.specs.Prelude.{ℕ, zero, suc, ◌-◌, ◌==◌, not, Bool, true, false, cond, Option, Some, None, List, [], ◌∷◌}
 use Rattle.std.specs.Map.{lookup}
 use Rattle.pcl_items.specs.Value.{Amount}
-use Rattle.page_env.specs.declared.finding.Finding.TheVariants.{BadValue, NoMacro, InMacro}
+use Rattle.page_env.specs.declared.finding.Finding.TheVariants.{BadValue, NoMacro, InMacro, ManyItems}
 use Rattle.page_env.specs.declared.macros.Control.{Control}
 use Rattle.page_env.specs.declared.macros.Control.TheVariants.{Begin, End, Execute, Call, EnableOverlay, DisableOverlay, DeleteAll, Delete, MakeTemporary}
 use Rattle.page_env.specs.declared.page.JobSettings.{JobSettings}
@@ -86,4 +86,22 @@ overlay_state defaults s = record {
   marked = s.marked;
   raster = None;
   in_frame = false;
+  items_left = s.items_left;
 }
+
+-- ---- how many items macros may carry out
+
+-- none may be carried out any more
+abbrev pub is_spent : Option ℕ → Bool
+is_spent None = false
+is_spent (Some zero) = true
+is_spent (Some (suc left)) = false
+
+-- one fewer
+abbrev pub less_one : Option ℕ → Option ℕ
+less_one None = None
+less_one (Some left) = Some (left - 1)
+
+-- an item of a macro begins, where one may still be carried out
+abbrev pub spend_item : State → Line
+spend_item s = setting (check (is_spent s.items_left) ManyItems ∷ []) (record s { items_left = less_one s.items_left })

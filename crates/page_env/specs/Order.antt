@@ -3,13 +3,13 @@ use Rattle.std.specs.Prelude.{ℕ, ◌==◌, nat_le, ◌&&◌, ◌||◌, not, Bo
 use Rattle.device_profile.specs.declared.field.Field.{Field}
 use Rattle.device_profile.specs.declared.field.Field.TheVariants.{Size, Orientation, Vmi, Font, Copies, Sides, Tray, LineTerm}
 use Rattle.page_env.specs.declared.finding.Finding.{Finding}
-use Rattle.page_env.specs.declared.finding.Finding.TheVariants.{BadValue, NotOnDevice, Unset, NoFont, NoGlyph, OffPage, PastRightMargin, NotPrintable, StackFull, StackEmpty, NoMacro, MacroDepth, MacroMemory, InMacro, DefinitionOpen, RasterNotStarted, RasterLocked, RasterTooBig, NoPen, OutsideFrame, EmptyRectangle, Inexact, MarginIgnored, RotatedRaster}
+use Rattle.page_env.specs.declared.finding.Finding.TheVariants.{BadValue, NotOnDevice, Unset, NoFont, NoGlyph, OffPage, PastRightMargin, NotPrintable, StackFull, StackEmpty, NoMacro, MacroDepth, MacroMemory, InMacro, DefinitionOpen, RasterNotStarted, RasterLocked, RasterTooBig, NoPen, OutsideFrame, EmptyRectangle, Inexact, MarginIgnored, RotatedRaster, ManyItems}
 use Rattle.page_env.specs.Effect.{Check, Line}
 
 -- the numbers of all findings of a step, in the order in which they are reported
 abbrev pub report_order : List ℕ
 report_order =
-    24 ∷ 10 ∷ 11 ∷ 18 ∷ 19 ∷ 20 ∷ 21 ∷ 22 ∷ 23 ∷ 25 ∷ 26 ∷ 27 ∷ 28 ∷ 30
+    24 ∷ 10 ∷ 11 ∷ 18 ∷ 19 ∷ 20 ∷ 21 ∷ 22 ∷ 23 ∷ 25 ∷ 26 ∷ 27 ∷ 28 ∷ 30 ∷ 36
     ∷ 12
     ∷ 13 ∷ 14 ∷ 31 ∷ 34 ∷ 15 ∷ 16 ∷ 17 ∷ 29 ∷ 32 ∷ []
 
@@ -38,6 +38,7 @@ number_of EmptyRectangle = 30
 number_of Inexact = 31
 number_of MarginIgnored = 32
 number_of RotatedRaster = 34
+number_of ManyItems = 36
 
 -- the place of a number in that order
 abbrev pub rank_of : ℕ → ℕ

@@ -99,14 +99,15 @@ IsPinnedByte printer defaults code =
 abbrev pub IsPinnedMove : Printer → Settings → ℤ × ℤ → Type 0
 IsPinnedMove printer defaults to = (s : State) → GoesPinned printer defaults s (move_pen printer s to) (move_pen printer (pinned printer defaults s) to)
 
--- ---- neither an overlay nor what is watched
+-- ---- neither an overlay nor what is watched, nor a limit of items
 
 -- no overlay is enabled, and nothing is watched
 abbrev pub AreBare : Settings → Type 0
 AreBare settings = (settings.job.overlay ≡ None) × (settings.unset ≡ unwatched)
 
+-- nor are the items limited that macros carry out
 abbrev pub IsBare : State → Type 0
-IsBare s = AreBare s.settings
+IsBare s = (s.settings.job.overlay ≡ None) × (s.settings.unset ≡ unwatched) × (s.items_left ≡ None)
 
 abbrev pub KeepsBare : Transition → Type 0
 KeepsBare (Step line) = IsBare line.state
@@ -115,7 +116,7 @@ KeepsBare (Ends line) = IsBare line.state
 KeepsBare (Behind reads transition) = KeepsBare transition
 KeepsBare (Controls t n) = IsBare t × (control_of n ≡ Some EnableOverlay → ⊥)
 
--- an item enables no overlay by its own step, and watches nothing
+-- an item enables no overlay by its own step, watches nothing and limits nothing
 abbrev pub IsBareItem : Printer → Entry → Type 0
 IsBareItem printer item = (defaults : Settings) (s : State) → returns_to_panel item ≡ false → AreBare defaults → IsBare s → KeepsBare (transition_of printer defaults s item)
 

@@ -6,7 +6,7 @@ ghost use Rattle.device_profile.specs.declared.panel.Panel.{Panel};
 ghost use Rattle.pcl_items.specs.Items.{amount};
 ghost use Rattle.page_env.specs.Settings.{settings_at, state_at};
 ghost use Rattle.page_env.specs.Effect.{first_finding};
-ghost use Rattle.page_env.specs.Macros.{set_macro_id, control_of, control_checks, overlay_after, control_line, overlay_state};
+ghost use Rattle.page_env.specs.Macros.{set_macro_id, control_of, control_checks, overlay_after, control_line, overlay_state, spend_item};
 ghost use Rattle.page_env.specs.Answers.{result_finding, Steps};
 
 use crate::cell::Cells;
@@ -142,5 +142,21 @@ pub fn overlay_page(defaults: &Env, page: &Page) -> Page
         marked: page.marked,
         raster: None,
         in_frame: false,
+        items_left: page.items_left,
+    }
+}
+
+/// Begins an item of a macro, where one may still be carried out.
+#[inline(always)]
+pub fn spend_item(page: &mut Page) -> Result<(), Finding>
+    ensures { Steps spend_item page.old page.new result }
+{
+    match page.items_left {
+        None => Ok(()),
+        Some(0) => Err(Finding::ManyItems),
+        Some(left) => {
+            page.items_left = Some(left - 1);
+            Ok(())
+        }
     }
 }

@@ -17,7 +17,7 @@ use Rattle.page_env.specs.declared.macros.Control.{Control}
 use Rattle.page_env.specs.declared.macros.Control.TheVariants.{Execute, Call}
 use Rattle.page_env.specs.AnyPanel.{fields_with, settings_with, state_with, GoesAlike, IsAlikeItem, IsAlikeByte, IsAlikeMove}
 use Rattle.page_env.specs.Effect.{check, first_finding, is_unset, first_unset, Effect, Goes, GoesThenCloses, GoesThenEnds, Controlling, Fails, effect_of, Step}
-use Rattle.page_env.specs.Macros.{control_of, control_checks, controlled, overlay_state}
+use Rattle.page_env.specs.Macros.{control_of, control_checks, controlled, overlay_state, spend_item}
 use Rattle.page_env.specs.Settings.{Flags, Settings, State, has_choice, start_state, user_defaults, watched}
 use Rattle.page_env.specs.Rasters.{is_of_raster}
 use Rattle.page_env.specs.Table.{transition_of}
@@ -28,8 +28,8 @@ use Rattle.page_machine.specs.declared.defining.Defining.TheVariants.{Refused, C
 use Rattle.page_machine.specs.declared.nesting.Nesting.{Nesting}
 use Rattle.page_machine.specs.declared.nesting.Nesting.TheVariants.{Job, Overlaid}
 use Rattle.page_machine.specs.Event.{Event}
-use Rattle.page_machine.specs.Run.{Peaks, peaks_of, Run, just, after, onward, followed_by, finding_or, unset_or, goes, effect_run, Ending, Done, Halts, marked_close, close_and_change, Conditions, reset_run, byte_run, printing, printed_bytes, move_run, drawing, coordinates_of, own_run, begun_run, item_run, entries_run}
-use Rattle.page_machine.specs.Macros.{Context, is_macro, fixes_paper, executed_in, called_in, ending_with, put_back, found_run, control_body, control_run, conditions_in, raster_ended, at_level, body_run, closing_reads, ended, refused, ending_at, give_up, overlay_run, is_too_deep, page_close, in_job}
+use Rattle.page_machine.specs.Run.{Peaks, peaks_of, Run, just, after, onward, followed_by, finding_or, unset_or, goes, effect_run, Ending, Done, Halts, marked_close, close_and_change, transition_run, Conditions, reset_run, byte_run, printing, printed_bytes, move_run, drawing, coordinates_of, own_run, begun_run, item_run, entries_run}
+use Rattle.page_machine.specs.Macros.{Context, is_macro, fixes_paper, executed_in, called_in, ending_with, put_back, found_run, control_body, control_run, conditions_in, raster_ended, at_level, body_run, macro_item_run, closing_reads, ended, refused, ending_at, give_up, overlay_run, is_too_deep, page_close, in_job}
 use Rattle.page_machine.specs.Defining.{defining_of, of_memory, defining_run, is_defining, job_item_run, macros_after, job_end_run}
 use Rattle.page_machine.specs.Job.{JobRun, at_end, begun_with, one_item, ended_item, after_item, with_macros, items_run, end_run, no_end, reading_run, run_from}
 use Rattle.page_machine.specs.Laws.{ending_with_panel, run_with_panel, RunsAlike, IsWatchedAlike}
@@ -238,9 +238,9 @@ module _ (panel : Panel) where
       by false false false false true set = absurd (some_none set)
       by false false false false false set = refl
 
-  -- a run that comes to its end ends in this state
+  -- a run that comes to its end ends in this state, but for what macros carried out
   abbrev EndsAt : State → Ending → Type 0
-  EndsAt s (Done t) = t ≡ s
+  EndsAt s (Done t) = t ≡ record s { items_left = t.items_left }
   EndsAt s (Halts finding) = Unit {0}
 
   found_at : (s : State) (body : Option (List Entry)) (run : List Entry → Run) → EndsAt s (found_run body s (λ items. give_up s (run items))).ending
@@ -252,7 +252,7 @@ module _ (panel : Panel) where
       by (Halts finding) = tt
 
   ended_onward : (s : State) (events : List Event) (peaks : Peaks) (e : Ending) → first_unset s.settings closing_reads ≡ None → EndsAt s e → onward events peaks (ending_with_panel panel e) ended ≡ moved (onward events peaks e ended)
-  ended_onward s events peaks (Done t) set at = ap (after events peaks) (subst (λ u. Alike (ended u) (ended (there u))) (sym at) (ended_alike s set))
+  ended_onward s events peaks (Done t) set at = ap (after events peaks) (subst (λ u. Alike (ended u) (ended (there u))) (sym at) (ended_alike (record s { items_left = t.items_left }) set))
   ended_onward s events peaks (Halts finding) set at = refl
 
   ended_behind : (s : State) (r r' : Run) → first_unset s.settings closing_reads ≡ None → Alike r r' → EndsAt s r.ending → Alike (followed_by r ended) (followed_by r' ended)
@@ -283,16 +283,32 @@ module _ (panel : Panel) where
       nested_alike close close' inner inner' closes p nesting item s =
           item_alike printer defaults (fixes_paper nesting) close close' (control_run macros inner nesting) (control_run macros inner' nesting) closes (control_alike macros inner inner' p nesting) items bytes moves item s
 
+      -- an item of a macro begins alike
+      spend_alike : (here' there' : Conditions) (s : State) → Alike (transition_run here' s (Step (spend_item s))) (transition_run there' (there s) (Step (spend_item (there s))))
+      spend_alike here' there' s = by s.items_left
+        where
+          by : (left : Option ℕ) → Alike (transition_run here' (record s { items_left = left }) (Step (spend_item (record s { items_left = left })))) (transition_run there' (there (record s { items_left = left })) (Step (spend_item (there (record s { items_left = left })))))
+          by None = refl
+          by (Some zero) = refl
+          by (Some (suc n)) = refl
+
+      macro_alike : (close close' : State → Run) (inner inner' : Nesting → List Entry → State → Run) → ((s : State) → Alike (close s) (close' (there s))) → ((nesting : Nesting) (items : List Entry) (s : State) → Alike (inner nesting items s) (inner' nesting items (there s))) → (nesting : Nesting) (item : Entry) (s : State) → Alike (macro_item_run printer (conditions_in ours close nesting inner) item s) (macro_item_run printer (conditions_in theirs close' nesting inner') item (there s))
+      macro_alike close close' inner inner' closes p nesting item s =
+          let here' : Conditions = conditions_in ours close nesting inner in
+          let there' : Conditions = conditions_in theirs close' nesting inner' in
+          followed_alike (transition_run here' s (Step (spend_item s))) (transition_run there' (there s) (Step (spend_item (there s)))) (item_run printer here' item) (item_run printer there' item)
+          (spend_alike here' there' s) (nested_alike close close' inner inner' closes p nesting item)
+
       body_alike : (close close' : State → Run) → ((s : State) → Alike (close s) (close' (there s))) → (left level : ℕ) (nesting : Nesting) (entries : List Entry) (s : State) → Alike (body_run ours close left level nesting entries s) (body_run theirs close' left level nesting entries (there s))
       body_alike close close' closes zero level nesting entries s = refl
       body_alike close close' closes (suc left) level nesting entries s =
           let inner : Nesting → List Entry → State → Run = body_run ours close left (suc level) in
           let inner' : Nesting → List Entry → State → Run = body_run theirs close' left (suc level) in
-          let run : Entry → State → Run = item_run printer (conditions_in ours close nesting inner) in
-          let run' : Entry → State → Run = item_run printer (conditions_in theirs close' nesting inner') in
+          let run : Entry → State → Run = macro_item_run printer (conditions_in ours close nesting inner) in
+          let run' : Entry → State → Run = macro_item_run printer (conditions_in theirs close' nesting inner') in
           after_alike [] (at_level level) (followed_by (entries_run run entries s) raster_ended) (followed_by (entries_run run' entries (there s)) raster_ended)
           (followed_alike (entries_run run entries s) (entries_run run' entries (there s)) raster_ended raster_ended
-          (entries_alike run run' (nested_alike close close' inner inner' closes (body_alike close close' closes left (suc level)) nesting) entries s) (λ t. refl))
+          (entries_alike run run' (macro_alike close close' inner inner' closes (body_alike close close' closes left (suc level)) nesting) entries s) (λ t. refl))
 
       -- a page and its overlay
       overlay_alike : (s : State) (overlay : Option ℕ) → Alike (overlay_run ours s overlay) (overlay_run theirs (there s) overlay)
@@ -374,7 +390,7 @@ pub runs_alike : ((printer : Printer) (panel : Panel) (defaults : Settings) (ite
     ((printer : Printer) (panel : Panel) (to : ℤ × ℤ) → IsAlikeMove printer panel to) → (printer : Printer) (flags : Flags) (panel other : Panel) (reading : Reading) → RunsAlike printer flags panel other reading
 runs_alike items bytes moves printer flags panel other reading =
     let defaults : Settings = user_defaults flags panel in
-    reading_alike other printer defaults (items printer other defaults) (bytes printer other) (moves printer other) reading (no_macros printer.memory) (start_state defaults)
+    reading_alike other printer defaults (items printer other defaults) (bytes printer other) (moves printer other) reading (no_macros printer.memory) (start_state printer.most_items defaults)
 
 -- ---- allowed panels
 

@@ -11,7 +11,7 @@ use Rattle.page_env.specs.declared.macros.Control.{Control}
 use Rattle.page_env.specs.declared.macros.Control.TheVariants.{Execute, Call}
 use Rattle.page_env.specs.Effect.{check, first_finding, first_unset, Line, Effect, Goes, GoesThenCloses, GoesThenEnds, fails_or, judged, effect_of, Transition, Step, Closes, Ends, Behind, Controls}
 use Rattle.page_env.specs.Effect as effect
-use Rattle.page_env.specs.Macros.{control_of, control_checks, controlled, overlay_state}
+use Rattle.page_env.specs.Macros.{control_of, control_checks, controlled, overlay_state, spend_item}
 use Rattle.page_env.specs.Settings.{Settings, State}
 use Rattle.page_env.specs.Sound.{plain_settings, plain_state, IsSound, IsSoundTransition, IsSoundItem}
 use Rattle.page_env.specs.Rasters.{begun_by}
@@ -23,9 +23,10 @@ use Rattle.page_machine.specs.declared.nesting.Nesting.TheVariants.{Job, Execute
 use Rattle.page_machine.specs.Event.{Event}
 use Rattle.page_machine.specs.Run.{Peaks, Run, just, onward, followed_by, finding_or, unset_or, goes, effect_run, Ending, Done, Halts, marked_close, close_and_change, transition_run, Conditions, byte_run, printing, printed_bytes, move_run, drawing, coordinates_of, own_run, item_run, entries_run}
 use Rattle.page_machine.proofs.Parts.{AreSoundParts}
-use Rattle.page_machine.specs.Macros.{Context, is_macro, fixes_paper, executed_in, called_in, ending_with, put_back, found_run, control_body, control_run, conditions_in, raster_ended, body_run, closing_reads, ended, refused, ending_at, give_up, overlay_run, is_too_deep, page_close}
+use Rattle.page_machine.specs.Macros.{Context, is_macro, fixes_paper, executed_in, called_in, ending_with, put_back, found_run, control_body, control_run, conditions_in, raster_ended, body_run, macro_item_run, closing_reads, ended, refused, ending_at, give_up, overlay_run, is_too_deep, page_close}
 use Rattle.page_machine.specs.Job.{with_macros}
 use Rattle.page_machine.proofs.Cases.{has_begun}
+use Rattle.page_machine.proofs.Spending.{spend_is_sound}
 
 -- ---- runs
 
@@ -140,6 +141,12 @@ module _ (printer : Printer) (defaults : Settings) (fixed : Bool) (is_fixed : fi
         (printing_keeps s own (printed_bytes item)
         (kept_on s begun own.ending (has_begun (SamePaper s) item s (refl, refl) (refl, refl)) (own_keeps item begun)))
 
+    -- an item of a macro
+    macro_item_keeps : (item : Entry) (s : State) → KeepsPaper s (macro_item_run printer here item s)
+    macro_item_keeps item s =
+        then_keeps s (transition_run here s (Step (spend_item s))) (item_run printer here item)
+        (transition_keeps s (Step (spend_item s)) (Step (spend_item (plain_state s))) (spend_is_sound printer s)) (item_keeps item)
+
 -- ---- controls
 
 -- a call puts the settings back, and the paper among them
@@ -202,9 +209,9 @@ module _ (printer : Printer) (defaults : Settings) (sound : (item : Entry) → I
   body_keeps close closes zero level nesting f items s = tt
   body_keeps close closes (suc left) level nesting f items s =
       let inner : Nesting → List Entry → State → Run = body_run the_context close left (suc level) in
-      let run : Entry → State → Run = item_run printer (conditions_in the_context close nesting inner) in
+      let run : Entry → State → Run = macro_item_run printer (conditions_in the_context close nesting inner) in
       then_keeps s (entries_run run items s) raster_ended
-      (entries_keep run (item_keeps printer defaults (fixes_paper nesting) f close (control_run macros inner nesting) closes (control_keeps macros inner (body_keeps close closes left (suc level)) nesting f) sound parts) items s)
+      (entries_keep run (macro_item_keeps printer defaults (fixes_paper nesting) f close (control_run macros inner nesting) closes (control_keeps macros inner (body_keeps close closes left (suc level)) nesting f) sound parts) items s)
       (λ t. (refl, refl))
 
   -- a page and its overlay

@@ -18,12 +18,11 @@ use Rattle.page_env.specs.Pinned.{is_orientation, pinned, returns_to_panel, IsPi
 use Rattle.page_machine.specs.declared.nesting.Nesting.{Nesting}
 use Rattle.page_machine.specs.Event.{Event}
 use Rattle.page_machine.specs.Run.{Peaks, Run, just, onward, followed_by, finding_or, unset_or, goes, Ending, Done, Halts, item_run, entries_run}
-use Rattle.page_machine.specs.Macros.{Context, is_macro, fixes_paper, executed_in, called_in, ending_with, put_back, found_run, control_body, control_run, conditions_in, raster_ended, at_level, body_run, closing_reads, ended, overlay_run, is_too_deep, page_close}
+use Rattle.page_machine.specs.Macros.{Context, is_macro, fixes_paper, executed_in, called_in, ending_with, put_back, found_run, control_body, control_run, conditions_in, raster_ended, at_level, macro_item_run, body_run, closing_reads, ended, overlay_run, is_too_deep, page_close}
 use Rattle.page_machine.specs.Job.{with_macros}
 use Rattle.page_machine.specs.Laws.{IsSet}
 use Rattle.page_machine.specs.Pinning.{spacing}
-use Rattle.page_machine.proofs.Composed.{onward-append}
-use Rattle.page_machine.proofs.PinnedRuns.{pinned_ending, EndsBare, Alike, line_is_set, followed_alike, after_alike, done_alike, halts_alike, finding_alike, reads_alike, item_alike, orientation_alike}
+use Rattle.page_machine.proofs.PinnedRuns.{pinned_ending, EndsBare, Alike, followed-assoc, line_is_set, followed_alike, after_alike, done_alike, halts_alike, finding_alike, reads_alike, item_alike, macro_item_alike, orientation_alike, macro_orientation_alike}
 
 -- ---- bodies of items
 
@@ -41,17 +40,13 @@ AreAllPinned items = AllByRecursion CanBePinned items
 
 -- ---- runs one after another
 
-pub followed-assoc : (events : List Event) (peaks : Peaks) (e : Ending) (f g : State → Run) → followed_by (onward events peaks e f) g ≡ onward events peaks e (λ t. followed_by (f t) g)
-followed-assoc events peaks (Done s) f g = onward-append events (f s).events peaks (f s).peaks (f s).ending g
-followed-assoc events peaks (Halts finding) f g = refl
-
 module _ (printer : Printer) (from : Settings) where
   put_back_alike : (s : State) (r r' : Run) → IsBare s → Alike printer from r r' → Alike printer from (put_back s.settings r) (put_back (pinned printer from s).settings r')
   put_back_alike s r r' o p =
       record {
         events = p.events;
         ending = ap (ending_with (pinned printer from s).settings) p.ending ∙ back r.ending;
-        bare = bare r.ending;
+        bare = bare r.ending p.bare;
         set = set r.ending p.set;
       }
     where
@@ -59,9 +54,9 @@ module _ (printer : Printer) (from : Settings) where
       back (Done t) = refl
       back (Halts finding) = refl
 
-      bare : (e : Ending) → EndsBare (ending_with s.settings e)
-      bare (Done t) = o
-      bare (Halts finding) = tt
+      bare : (e : Ending) → EndsBare e → EndsBare (ending_with s.settings e)
+      bare (Done t) k = (o.0, o.1, k.2)
+      bare (Halts finding) k = tt
 
       set : (e : Ending) → IsSet e → IsSet (ending_with s.settings e)
       set (Done t) h = tt
@@ -210,6 +205,17 @@ module _ (printer : Printer) (defaults from : Settings) (laws : AreLaws printer 
         item_alike printer from defaults d.bare (fixes_paper nesting) (page_close here) (page_close there) (control_run macros inner nesting) (control_run macros' inner' nesting) page_alike controls_alike
         laws.sound_items laws.sound_bytes laws.sound_moves laws.items laws.bare_items laws.bytes laws.bare_bytes laws.moves laws.bare_moves
 
+    -- the same of an item of a body
+    macro_alike : (item : Entry) (s : State) → returns_to_panel item ≡ false → IsBare s → Alike printer from (macro_item_run printer (conditions_in here (page_close here) nesting inner) item s) (macro_item_run printer (conditions_in there (page_close there) nesting inner') item (pinned printer from s))
+    macro_alike =
+        macro_item_alike printer from defaults d.bare (fixes_paper nesting) (page_close here) (page_close there) (control_run macros inner nesting) (control_run macros' inner' nesting) page_alike controls_alike
+        laws.sound_items laws.sound_bytes laws.sound_moves laws.items laws.bare_items laws.bytes laws.bare_bytes laws.moves laws.bare_moves
+
+    macro_turn : (n : Amount) (s : State) → IsBare s → Alike printer from (macro_item_run printer (conditions_in here (page_close here) nesting inner) (Parameterized Orientation n) s) (followed_by (macro_item_run printer (conditions_in there (page_close there) nesting inner') (Parameterized Orientation n) (pinned printer from s)) (macro_item_run printer (conditions_in there (page_close there) nesting inner') (spacing v)))
+    macro_turn =
+        macro_orientation_alike printer from defaults d.bare (fixes_paper nesting) (page_close here) (page_close there) (control_run macros inner nesting) (control_run macros' inner' nesting) page_alike controls_alike
+        v d.vmi d.few d.hmi (λ s t none e. page_unrastered s t e)
+
     pub nested_turn : (n : Amount) (s : State) → IsBare s → Alike printer from (item_run printer (conditions_in here (page_close here) nesting inner) (Parameterized Orientation n) s) (followed_by (item_run printer (conditions_in there (page_close there) nesting inner') (Parameterized Orientation n) (pinned printer from s)) (item_run printer (conditions_in there (page_close there) nesting inner') (spacing v)))
     nested_turn =
         orientation_alike printer from defaults d.bare (fixes_paper nesting) (page_close here) (page_close there) (control_run macros inner nesting) (control_run macros' inner' nesting) page_alike controls_alike
@@ -220,10 +226,10 @@ module _ (printer : Printer) (defaults from : Settings) (laws : AreLaws printer 
   body_alike (suc left) level nesting items s all o =
       let inner : Nesting → List Entry → State → Run = body_run here (page_close here) left (suc level) in
       let inner' : Nesting → List Entry → State → Run = body_run there (page_close there) left (suc level) in
-      let run : Entry → State → Run = item_run printer (conditions_in here (page_close here) nesting inner) in
-      let run' : Entry → State → Run = item_run printer (conditions_in there (page_close there) nesting inner') in
+      let run : Entry → State → Run = macro_item_run printer (conditions_in here (page_close here) nesting inner) in
+      let run' : Entry → State → Run = macro_item_run printer (conditions_in there (page_close there) nesting inner') in
       let deeper = body_alike left (suc level) in
       after_alike printer from (at_level level) (at_level level) (followed_by (entries_run run items s) raster_ended) (followed_by (entries_run run' (pin_body v items) (pinned printer from s)) raster_ended)
       (followed_alike printer from (entries_run run items s) (entries_run run' (pin_body v items) (pinned printer from s)) raster_ended raster_ended
-      (entries_alike printer from v run run' (nested_alike inner inner' deeper nesting) (nested_turn inner inner' deeper nesting) items s all o)
+      (entries_alike printer from v run run' (macro_alike inner inner' deeper nesting) (macro_turn inner inner' deeper nesting) items s all o)
       (λ t k. record { events = refl; ending = refl; bare = k; set = tt }))

@@ -9,7 +9,7 @@ use Rattle.page_env.specs.declared.finding.Finding.TheVariants.{InMacro, Unset}
 use Rattle.page_env.specs.Effect.{Check, first_finding, first_unset, Line, Effect, Goes, GoesThenCloses, GoesThenEnds, fails_or, judged, effect_of, Transition, Step, Closes, Ends, Behind, Controls}
 use Rattle.page_env.specs.Effect as effect
 use Rattle.page_env.specs.Settings.{Flags, Settings, State, unwatched}
-use Rattle.page_env.specs.Macros.{control_of}
+use Rattle.page_env.specs.Macros.{control_of, spend_item}
 use Rattle.page_env.specs.Order.{is_unset_finding, find_unset, is_in_order}
 use Rattle.page_env.specs.Sound.{plain_settings, plain_state, IsSoundTransition, IsSoundItem, IsSoundByte, IsSoundMove}
 use Rattle.page_env.specs.declared.macros.Control.TheVariants.{EnableOverlay}
@@ -27,7 +27,9 @@ use Rattle.page_env.specs.Text.{print_transparent}
 use Rattle.page_machine.specs.Event.{Event, Marked}
 use Rattle.page_machine.specs.Run.{Peaks, peaks_of, Run, just, after, onward, followed_by, finding_or, unset_or, goes, effect_run, Ending, Done, Halts, marked_close, close_and_change, transition_run, Conditions, byte_run, printing, printed_bytes, move_run, drawing, coordinates_of, own_run, begun_run, item_run}
 use Rattle.page_machine.specs.Laws.{IsSet, IsNotUnset}
+use Rattle.page_machine.specs.Macros.{macro_item_run}
 use Rattle.page_machine.specs.Pinning.{spacing}
+use Rattle.page_machine.proofs.Composed.{onward-append}
 use Rattle.page_machine.proofs.Forget.{first_unset-plain}
 
 -- ---- runs
@@ -36,7 +38,7 @@ abbrev pub pinned_ending : Printer → Settings → Ending → Ending
 pinned_ending printer from (Done s) = Done (pinned printer from s)
 pinned_ending printer from (Halts finding) = Halts finding
 
--- no overlay is enabled and nothing watched where a run ended
+-- no overlay is enabled, nothing watched and nothing limited where a run ended
 abbrev pub EndsBare : Ending → Type 0
 EndsBare (Done s) = IsBare s
 EndsBare (Halts finding) = Unit {0}
@@ -47,6 +49,11 @@ pub record Alike (printer : Printer) (from : Settings) (r r' : Run) : Type 0 whe
   pub ending : r'.ending ≡ pinned_ending printer from r.ending
   pub bare : EndsBare r.ending
   pub set : IsSet r.ending
+
+-- a run, another from where it ended, and a third
+pub followed-assoc : (events : List Event) (peaks : Peaks) (e : Ending) (f g : State → Run) → followed_by (onward events peaks e f) g ≡ onward events peaks e (λ t. followed_by (f t) g)
+followed-assoc events peaks (Done s) f g = onward-append events (f s).events peaks (f s).peaks (f s).ending g
+followed-assoc events peaks (Halts finding) f g = refl
 
 -- ---- checks find nothing unset
 
@@ -205,6 +212,13 @@ module _ (printer : Printer) (from : Settings) where
         (subst (λ (u : State). Alike printer from (control n t) (control' n u)) (sym g.0) (controls n t keeps.1 keeps.0))
     transition_alike s _ _ o keeps ordered g = absurd g
 
+    -- an item of a macro begins, where none are limited
+    spend_alike : (s : State) → IsBare s → Alike printer from (transition_run here s (Step (spend_item s))) (transition_run there (pinned printer from s) (Step (spend_item (pinned printer from s))))
+    spend_alike s o =
+        let with_left : Option ℕ → State = λ left. record s { items_left = left } in
+        subst (λ (left : Option ℕ). Alike printer from (transition_run here (with_left left) (Step (spend_item (with_left left)))) (transition_run there (pinned printer from (with_left left)) (Step (spend_item (pinned printer from (with_left left)))))) (sym o.2)
+        (record { events = refl; ending = refl; bare = (o.0, o.1, refl); set = tt })
+
     module _ (sounds : (item : Entry) → IsSoundItem printer defaults item) (sound_bytes : (code : ℕ) → IsSoundByte printer code) (sound_moves : (to : ℤ × ℤ) → IsSoundMove printer to) (items : (item : Entry) → IsPinnedItem printer defaults from item) (bares : (item : Entry) → IsBareItem printer item) (bytes : (code : ℕ) → IsPinnedByte printer from code) (bare_bytes : (code : ℕ) → IsBareByte printer code) (moves : (to : ℤ × ℤ) → IsPinnedMove printer from to) (bare_moves : (to : ℤ × ℤ) → IsBareMove printer to) where
       own_alike : (item : Entry) (s : State) → returns_to_panel item ≡ false → IsBare s → Alike printer from (own_run printer here item s) (own_run printer there item (pinned printer from s))
       own_alike item s r o =
@@ -244,6 +258,12 @@ module _ (printer : Printer) (from : Settings) where
           by true = begun_alike item s r o
           by false = begun_alike item (record s { raster = None }) r o
 
+      -- the same of an item of a macro
+      pub macro_item_alike : (item : Entry) (s : State) → returns_to_panel item ≡ false → IsBare s → Alike printer from (macro_item_run printer here item s) (macro_item_run printer there item (pinned printer from s))
+      macro_item_alike item s r o =
+          followed_alike (transition_run here s (Step (spend_item s))) (transition_run there (pinned printer from s) (Step (spend_item (pinned printer from s)))) (item_run printer here item) (item_run printer there item)
+          (spend_alike s o) (λ t k. item_alike item t r k)
+
     -- ---- an orientation, with the spacing behind it
 
     module _ (v : ℕ) (is : v ≡ defaults.fields.vmi) (few : nat_le v 3_350_000 ≡ true) (hmis : from.job.hmi ≡ defaults.job.hmi) (ends_rasters : (s t : State) → s.raster ≡ None → (close s).ending ≡ Done t → t.raster ≡ None) where
@@ -260,39 +280,51 @@ module _ (printer : Printer) (from : Settings) where
           ∙ (ap (λ hmi. put defaults.fields.vmi hmi None) hmis
           ∙ ap (λ raster. put defaults.fields.vmi defaults.job.hmi raster) (sym none))
 
-      -- a new orientation enables no overlay and watches nothing
+      -- a run that does what the spacing does, where the items of macros are not limited
+      abbrev Spaces : (State → Run) → Type 0
+      Spaces next =
+          (u : State) → u.items_left ≡ None → ((next u).events ≡ []) × ((next u).ending ≡ Done (with_vmi (record u { raster = None }) v))
+
+      alone_spaces : Spaces (item_run printer there (spacing v))
+      alone_spaces u none = (ap (λ (r : Run). r.events) (spacing_run u), ap (λ (r : Run). r.ending) (spacing_run u))
+
+      macro_spaces : Spaces (macro_item_run printer there (spacing v))
+      macro_spaces u none =
+          let with_left : Option ℕ → State = λ left. record u { items_left = left } in
+          let next : State → Run = macro_item_run printer there (spacing v) in
+          subst (λ (left : Option ℕ). ((next (with_left left)).events ≡ []) × ((next (with_left left)).ending ≡ Done (with_vmi (record (with_left left) { raster = None }) v))) (sym none)
+          (alone_spaces (with_left None) refl)
+
+      -- a new orientation enables no overlay, watches nothing and limits nothing
       turned_bare : (n : Amount) (t : State) → IsBare t → IsBare (set_orientation defaults t n)
-      turned_bare n t o = (refl, ap (λ (u : Flags). record u { orientation = false; vmi = defaults.unset.vmi }) o.1 ∙ ap (λ (u : Flags). record unwatched { orientation = false; vmi = u.vmi }) bare.1)
+      turned_bare n t o = (refl, ap (λ (u : Flags). record u { orientation = false; vmi = defaults.unset.vmi }) o.1 ∙ ap (λ (u : Flags). record unwatched { orientation = false; vmi = u.vmi }) bare.1, o.2)
 
       -- the closing of a page, then the orientation, and then the spacing
-      turned : (n : Amount) (p p' q q' : Peaks) (events events' : List Event) (e : Ending) → events' ≡ events → EndsBare e → IsSet e → ((t : State) → e ≡ Done t → t.raster ≡ None)
+      turned : (next : State → Run) → Spaces next → (n : Amount) (p p' q q' : Peaks) (events events' : List Event) (e : Ending) → events' ≡ events → EndsBare e → IsSet e → ((t : State) → e ≡ Done t → t.raster ≡ None)
           → Alike printer from (after [] p (onward events q e (λ t. just [] (Done (set_orientation defaults t n)))))
-          (followed_by (after [] p' (onward events' q' (pinned_ending printer from e) (λ t. just [] (Done (set_orientation from t n))))) (item_run printer there (spacing v)))
-      turned n p p' q q' events events' (Done t) same o set unrastered =
+          (followed_by (after [] p' (onward events' q' (pinned_ending printer from e) (λ t. just [] (Done (set_orientation from t n))))) next)
+      turned next spaces n p p' q q' events events' (Done t) same o set unrastered =
           let u : State = set_orientation from (pinned printer from t) n in
-          let run : Run = item_run printer there (spacing v) u in
-          let none : run.events ≡ [] = ap (λ (r : Run). r.events) (spacing_run u) in
-          let end : run.ending ≡ Done (pinned printer from (set_orientation defaults t n)) = ap (λ (r : Run). r.ending) (spacing_run u) ∙ ap (λ x. Done x) (spaced n t (unrastered t refl)) in
+          let run : Run = next u in
+          let none : run.events ≡ [] = (spaces u o.2).0 in
+          let end : run.ending ≡ Done (pinned printer from (set_orientation defaults t n)) = (spaces u o.2).1 ∙ ap (λ x. Done x) (spaced n t (unrastered t refl)) in
           record {
             events = ap (λ l. (events' ++ []) ++ l) none ∙ (append-nil (events' ++ []) ∙ ap (λ l. l ++ []) same);
             ending = end;
             bare = turned_bare n t o;
             set = tt;
           }
-      turned n p p' q q' events events' (Halts finding) same o set unrastered = record { events = same; ending = refl; bare = tt; set = set }
+      turned next spaces n p p' q q' events events' (Halts finding) same o set unrastered = record { events = same; ending = refl; bare = tt; set = set }
 
       marked_unrastered : (b : Bool) (s t : State) → s.raster ≡ None → (cond b (close s) (just [] (Done s))).ending ≡ Done t → t.raster ≡ None
       marked_unrastered true s t none e = ends_rasters s t none e
       marked_unrastered false s t none e = let same : s ≡ t = cc in sym (ap (λ (x : State). x.raster) same) ∙ none
 
-      pub orientation_alike : (n : Amount) (s : State) → IsBare s → Alike printer from (item_run printer here (Parameterized Orientation n) s) (followed_by (item_run printer there (Parameterized Orientation n) (pinned printer from s)) (item_run printer there (spacing v)))
-      orientation_alike n s o = by (first_finding (orientation_checks printer n)) (checks_are_set (orientation_checks printer n) refl)
+      turns_alike : (next : State → Run) → Spaces next → (n : Amount) (s : State) → IsBare s → Alike printer from (item_run printer here (Parameterized Orientation n) s) (followed_by (item_run printer there (Parameterized Orientation n) (pinned printer from s)) next)
+      turns_alike next spaces n s o = by (first_finding (orientation_checks printer n)) (checks_are_set (orientation_checks printer n) refl)
         where
           w : State
           w = record s { raster = None }
-
-          next : State → Run
-          next = item_run printer there (spacing v)
 
           change : State → State
           change = λ t. set_orientation defaults t n
@@ -306,7 +338,7 @@ module _ (printer : Printer) (from : Settings) where
               let m' : Run = marked_close close' (pinned printer from w) in
               let first = marked_alike w o in
               subst (λ e. Alike printer from (close_and_change here w change) (followed_by (after [] (peaks_of (pinned printer from w)) (onward m'.events m'.peaks e (λ t. just [] (Done (change' t))))) next)) (sym first.ending)
-              (turned n (peaks_of w) (peaks_of (pinned printer from w)) m.peaks m'.peaks m.events m'.events m.ending first.events first.bare first.set (λ t e. marked_unrastered w.marked w t refl e))
+              (turned next spaces n (peaks_of w) (peaks_of (pinned printer from w)) m.peaks m'.peaks m.events m'.events m.ending first.events first.bare first.set (λ t e. marked_unrastered w.marked w t refl e))
 
           when : (b : Bool) → Alike printer from (cond b (just [] (Halts InMacro)) (close_and_change here w change)) (followed_by (cond b (just [] (Halts InMacro)) (close_and_change there (pinned printer from w) change')) next)
           when true = record { events = refl; ending = refl; bare = tt; set = tt }
@@ -315,3 +347,16 @@ module _ (printer : Printer) (from : Settings) where
           by : (found : Option Finding) → FindsSet found → Alike printer from (effect_run here (fails_or found (GoesThenCloses w true change))) (followed_by (effect_run there (fails_or found (GoesThenCloses (pinned printer from w) true change'))) next)
           by (Some finding) set = record { events = refl; ending = refl; bare = tt; set = set finding refl }
           by None set = when fixed
+
+      pub orientation_alike : (n : Amount) (s : State) → IsBare s → Alike printer from (item_run printer here (Parameterized Orientation n) s) (followed_by (item_run printer there (Parameterized Orientation n) (pinned printer from s)) (item_run printer there (spacing v)))
+      orientation_alike = turns_alike (item_run printer there (spacing v)) alone_spaces
+
+      -- the same of items of a macro
+      pub macro_orientation_alike : (n : Amount) (s : State) → IsBare s → Alike printer from (macro_item_run printer here (Parameterized Orientation n) s) (followed_by (macro_item_run printer there (Parameterized Orientation n) (pinned printer from s)) (macro_item_run printer there (spacing v)))
+      macro_orientation_alike n s o =
+          let item : Entry = Parameterized Orientation n in
+          let next : State → Run = macro_item_run printer there (spacing v) in
+          let first : Run = transition_run here s (Step (spend_item s)) in
+          let first' : Run = transition_run there (pinned printer from s) (Step (spend_item (pinned printer from s))) in
+          subst (λ (r : Run). Alike printer from (macro_item_run printer here item s) r) (sym (followed-assoc first'.events first'.peaks first'.ending (item_run printer there item) next))
+          (followed_alike first first' (item_run printer here item) (λ t. followed_by (item_run printer there item t) next) (spend_alike s o) (turns_alike next macro_spaces n))

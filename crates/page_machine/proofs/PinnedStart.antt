@@ -163,7 +163,7 @@ module _ (printer : Printer) (flags : Flags) (origin panel : Panel) (request : F
   conditions = in_job (with_macros printer defaults macros)
 
   abbrev sized : State
-  sized = set_size (start_state defaults) (whole panel.size)
+  sized = set_size (start_state None defaults) (whole panel.size)
 
   abbrev oriented : State
   oriented = set_orientation defaults sized (whole panel.orientation)
@@ -216,10 +216,10 @@ module _ (printer : Printer) (flags : Flags) (origin panel : Panel) (request : F
   from_item n s = items_run printer defaults finally (following n) macros s
 
   -- a run goes as what is behind the prologue, and so as the prologue and what is behind it
-  pub prologue_led : (r : JobRun) → EndAlike r (from_item 14 terminated) → EndAlike r (from_item 0 (start_state defaults))
+  pub prologue_led : (r : JobRun) → EndAlike r (from_item 14 terminated) → EndAlike r (from_item 0 (start_state None defaults))
   prologue_led r behind =
       let on = led_on printer defaults finally macros closed in
-      on (first_of (following 0)) (following 1) r (start_state defaults) sized (λ id. refl) (size_leads printer conditions (start_state defaults) refl refl panel.size can.size can.has_size)
+      on (first_of (following 0)) (following 1) r (start_state None defaults) sized (λ id. refl) (size_leads printer conditions (start_state None defaults) refl refl panel.size can.size can.has_size)
       (on (first_of (following 1)) (following 2) r sized oriented (λ id. refl) (orientation_leads printer conditions sized refl refl panel.orientation can.orientation can.has_orientation)
       (on (first_of (following 2)) (following 3) r oriented copied (λ id. refl) (copies_leads printer conditions panel.copies oriented can.copies)
       (on (first_of (following 3)) (following 4) r copied sided (λ id. refl) (sides_leads printer conditions copied refl refl panel.sides can.sides can.duplex)
@@ -242,7 +242,7 @@ module _ (printer : Printer) (flags : Flags) (origin panel : Panel) (request : F
 
   -- the state behind the prologue, with these fields of the panel
   abbrev put : (size orientation copies sides tray line_termination : ℕ) → Bool → FontRequest → State
-  put size orientation copies sides tray line_termination unset r = record (start_state defaults) {
+  put size orientation copies sides tray line_termination unset r = record (start_state None defaults) {
     settings = record {
       fields = record { size = size; orientation = orientation; vmi = panel.vmi; font = origin.font; copies = copies; sides = sides; tray = tray; line_termination = line_termination };
       unset = record unwatched { font = flags.font; tray = unset };
@@ -259,7 +259,7 @@ module _ (printer : Printer) (flags : Flags) (origin panel : Panel) (request : F
   tray_set true e = absurd cc
 
   -- behind it the job has set all that the panel chooses
-  pub prologue_pins : request ≡ request_at printer.faces panel.font → (panel.tray == 0) ≡ false → terminated ≡ pinned printer defaults (start_state (user_defaults unwatched panel))
+  pub prologue_pins : request ≡ request_at printer.faces panel.font → (panel.tray == 0) ≡ false → terminated ≡ pinned printer defaults (start_state None (user_defaults unwatched panel))
   prologue_pins same trayed =
       let tray : ℕ → ℕ = λ n. cond (n == 0) origin.tray n in
       let unset : ℕ → Bool = λ n. cond (n == 0) flags.tray false in

@@ -24,7 +24,7 @@ use Rattle.page_machine.specs.Laws.{IsSet}
 use Rattle.page_machine.specs.Macros.{Context, in_job, page_close}
 use Rattle.page_machine.specs.Pinning.{spacing, prologue, pinned_items, place_behind, placed_from, moved_from, FindsRoom}
 use Rattle.page_machine.specs.Run.{Peaks, peaks_of, Run, just, after, onward, finding_or, Ending, Done, Halts, marked_close, reset_run, item_run}
-use Rattle.page_machine.proofs.PinnedRuns.{pinned_ending, Alike, done_alike, cond_alike}
+use Rattle.page_machine.proofs.PinnedRuns.{pinned_ending, EndsBare, Alike, done_alike, cond_alike}
 use Rattle.page_machine.proofs.PinnedBodies.{CanBePinned, AreLaws, ArePinnedDefaults, page_alike}
 use Rattle.page_machine.proofs.PinnedStore.{pinned_store}
 use Rattle.page_machine.proofs.PinnedJobs.{IsPinnable, after_pinnable, defining_same, after_same, known, job_item_alike, job_turn_alike, turned_same}
@@ -91,28 +91,29 @@ module _ (printer : Printer) (flags : Flags) (origin panel : Panel) (laws : AreL
 
   -- ---- a reset, and the end of the bytes
 
-  restart_of : (p p' q q' : Peaks) (events events' : List Event) (e : Ending) → events' ≡ events → IsSet e
-      → IsRestart (after [] p (onward events q e (λ t. just [] (Done (start_state defaults))))) (after [] p' (onward events' q' (pinned_ending printer from e) (λ t. just [] (Done (start_state from))))) (start_state defaults) (start_state from)
-  restart_of p p' q q' events events' (Done s) same set = record { events = ap (λ l. l ++ []) same; ending = inl (refl, refl) }
-  restart_of p p' q q' events events' (Halts finding) same set = record { events = same; ending = inr (finding, refl, refl, set) }
+  restart_of : (p p' q q' : Peaks) (events events' : List Event) (e : Ending) → events' ≡ events → EndsBare e → IsSet e
+      → IsRestart (after [] p (onward events q e (λ t. just [] (Done (start_state t.items_left defaults))))) (after [] p' (onward events' q' (pinned_ending printer from e) (λ t. just [] (Done (start_state t.items_left from))))) (start_state None defaults) (start_state None from)
+  restart_of p p' q q' events events' (Done s) same bare set =
+      record { events = ap (λ l. l ++ []) same; ending = inl (ap (λ (left : Option ℕ). Done (start_state left defaults)) bare.2, ap (λ (left : Option ℕ). Done (start_state left from)) bare.2) }
+  restart_of p p' q q' events events' (Halts finding) same bare set = record { events = same; ending = inr (finding, refl, refl, set) }
 
   module _ (macros : Store) (p : IsPinnable macros) (s : State) (o : IsBare s) where
     abbrev others : Store
     others = pinned_store v macros
 
     -- while no definition is open
-    reset_restarts : IsRestart (reset_run (in_job (here macros)) s) (reset_run (in_job (there others)) (pinned printer from s)) (start_state defaults) (start_state from)
+    reset_restarts : IsRestart (reset_run (in_job (here macros)) s) (reset_run (in_job (there others)) (pinned printer from s)) (start_state None defaults) (start_state None from)
     reset_restarts =
         let close : State → Run = page_close (here macros) in
         let close' : State → Run = page_close (there others) in
         let m : Run = marked_close close s in
         let m' : Run = marked_close close' (pinned printer from s) in
         let closed : Alike printer from m m' = cond_alike printer from s.marked (close s) (just [] (Done s)) (close' (pinned printer from s)) (just [] (Done (pinned printer from s))) (page_alike printer defaults from laws v both macros others (known printer from defaults laws v both macros p) s o) (done_alike printer from s o) in
-        subst (λ (e : Ending). IsRestart (after [] (peaks_of s) (onward m.events m.peaks m.ending (λ t. just [] (Done (start_state defaults))))) (after [] (peaks_of (pinned printer from s)) (onward m'.events m'.peaks e (λ t. just [] (Done (start_state from))))) (start_state defaults) (start_state from)) (sym closed.ending)
-        (restart_of (peaks_of s) (peaks_of (pinned printer from s)) m.peaks m'.peaks m.events m'.events m.ending closed.events closed.set)
+        subst (λ (e : Ending). IsRestart (after [] (peaks_of s) (onward m.events m.peaks m.ending (λ t. just [] (Done (start_state t.items_left defaults))))) (after [] (peaks_of (pinned printer from s)) (onward m'.events m'.peaks e (λ t. just [] (Done (start_state t.items_left from))))) (start_state None defaults) (start_state None from)) (sym closed.ending)
+        (restart_of (peaks_of s) (peaks_of (pinned printer from s)) m.peaks m'.peaks m.events m'.events m.ending closed.events closed.bare closed.set)
 
     -- both stop where a definition is open, and else go on from the start
-    reset_then : (place : ℕ) (next next' : Store → State → JobRun) → (is_defining macros ≡ false → EndAlike (next (cleared macros) (start_state defaults)) (next' (cleared others) (start_state from)))
+    reset_then : (place : ℕ) (next next' : Store → State → JobRun) → (is_defining macros ≡ false → EndAlike (next (cleared macros) (start_state None defaults)) (next' (cleared others) (start_state None from)))
         → EndAlike (after_item place (cond (is_defining macros) (just [] (Halts DefinitionOpen)) (reset_run (in_job (here macros)) s)) (next (cond (is_defining macros) macros (cleared macros))))
         (after_item place (cond (is_defining others) (just [] (Halts DefinitionOpen)) (reset_run (in_job (there others)) (pinned printer from s))) (next' (cond (is_defining others) others (cleared others))))
     reset_then place next next' q =
@@ -121,7 +122,7 @@ module _ (printer : Printer) (flags : Flags) (origin panel : Panel) (laws : AreL
       where
         by : (b : Bool) → is_defining macros ≡ b → EndAlike (after_item place (cond b (just [] (Halts DefinitionOpen)) (reset_run (in_job (here macros)) s)) (next (cond b macros (cleared macros)))) (after_item place (cond b (just [] (Halts DefinitionOpen)) (reset_run (in_job (there others)) (pinned printer from s))) (next' (cond b others (cleared others))))
         by true e = λ room. record { events = refl; finding = refl; set = tt }
-        by false e = restarted place (reset_run (in_job (here macros)) s) (reset_run (in_job (there others)) (pinned printer from s)) (start_state defaults) (start_state from) (next (cleared macros)) (next' (cleared others)) reset_restarts (q e)
+        by false e = restarted place (reset_run (in_job (here macros)) s) (reset_run (in_job (there others)) (pinned printer from s)) (start_state None defaults) (start_state None from) (next (cleared macros)) (next' (cleared others)) reset_restarts (q e)
 
     -- no macros are left on either side
     both_cleared : (found : Option (ℕ × List Entry)) → macros.definition ≡ found → is_defining (record macros { definition = found }) ≡ false → cleared others ≡ no_macros macros.limit
@@ -149,7 +150,7 @@ module _ (printer : Printer) (flags : Flags) (origin panel : Panel) (laws : AreL
 
     -- where a prologue is due
     abbrev Before : List Entry → Type 0
-    Before items = (place limit : ℕ) → EndAlike (run (moved place true items) (no_macros limit) (start_state defaults)) (run' (written place true items) (no_macros limit) (start_state from))
+    Before items = (place limit : ℕ) → EndAlike (run (moved place true items) (no_macros limit) (start_state None defaults)) (run' (written place true items) (no_macros limit) (start_state None from))
 
     -- an item and those behind it, where none is written before it: whether it is an orientation, and whether it resets
     abbrev moved_by : Bool → Bool → ℕ → Entry → List Entry → List Placed
@@ -198,10 +199,10 @@ module _ (printer : Printer) (flags : Flags) (origin panel : Panel) (laws : AreL
         others : Store
         others = pinned_store v macros
 
-        from_start : (next : ℕ) → is_defining macros ≡ false → EndAlike (run (moved next true items) (cleared macros) (start_state defaults)) (run' (written next true items) (cleared others) (start_state from))
+        from_start : (next : ℕ) → is_defining macros ≡ false → EndAlike (run (moved next true items) (cleared macros) (start_state None defaults)) (run' (written next true items) (cleared others) (start_state None from))
         from_start next closed =
-            subst (λ (store : Store). EndAlike (run (moved next true items) store (start_state defaults)) (run' (written next true items) (cleared others) (start_state from))) (sym (closed_cleared macros closed))
-            (subst (λ (store : Store). EndAlike (run (moved next true items) (no_macros macros.limit) (start_state defaults)) (run' (written next true items) store (start_state from))) (sym (both_cleared macros p s o macros.definition refl closed)) (due next macros.limit))
+            subst (λ (store : Store). EndAlike (run (moved next true items) store (start_state None defaults)) (run' (written next true items) (cleared others) (start_state None from))) (sym (closed_cleared macros closed))
+            (subst (λ (store : Store). EndAlike (run (moved next true items) (no_macros macros.limit) (start_state None defaults)) (run' (written next true items) store (start_state None from))) (sym (both_cleared macros p s o macros.definition refl closed)) (due next macros.limit))
 
         restart : (next : ℕ) → EndAlike (after_item place (cond (is_defining macros) (just [] (Halts DefinitionOpen)) (reset_run (in_job (here macros)) (record s { raster = None }))) (run (moved next true items) (cond (is_defining macros) macros (cleared macros))))
             (after_item place (cond (is_defining others) (just [] (Halts DefinitionOpen)) (reset_run (in_job (there others)) (pinned printer from (record s { raster = None })))) (run' (written next true items) (cond (is_defining others) others (cleared others))))
@@ -228,29 +229,29 @@ module _ (printer : Printer) (flags : Flags) (origin panel : Panel) (laws : AreL
 
     -- an item that needs none, from the start on both sides
     still : (item : Entry) (items : List Entry) (place limit : ℕ) → ((id : ℕ) → carried_after id item (no_macros limit) ≡ no_macros limit)
-        → LeadsTo (item_run printer (in_job (here (no_macros limit))) item (start_state defaults)) (start_state defaults)
-        → LeadsTo (item_run printer (in_job (there (no_macros limit))) item (start_state from)) (start_state from)
+        → LeadsTo (item_run printer (in_job (here (no_macros limit))) item (start_state None defaults)) (start_state None defaults)
+        → LeadsTo (item_run printer (in_job (there (no_macros limit))) item (start_state None from)) (start_state None from)
         → Before items
-        → EndAlike (run (record { place = place; item = item } ∷ moved (place + length (canon item)) true items) (no_macros limit) (start_state defaults)) (run' (record { place = place; item = item } ∷ written (place + length (canon item)) true items) (no_macros limit) (start_state from))
+        → EndAlike (run (record { place = place; item = item } ∷ moved (place + length (canon item)) true items) (no_macros limit) (start_state None defaults)) (run' (record { place = place; item = item } ∷ written (place + length (canon item)) true items) (no_macros limit) (start_state None from))
     still item items place limit leaves leads leads' due =
         let macros : Store = no_macros limit in
         let next : ℕ = place + length (canon item) in
-        let r : Run = item_run printer (in_job (here macros)) item (start_state defaults) in
-        let r' : Run = item_run printer (in_job (there macros)) item (start_state from) in
+        let r : Run = item_run printer (in_job (here macros)) item (start_state None defaults) in
+        let r' : Run = item_run printer (in_job (there macros)) item (start_state None from) in
         subst (λ (store : Store). EndAlike (after_item place r (run (moved next true items) store)) (after_item place r' (run' (written next true items) store))) (sym (leaves 0))
-        (both_led place r r' (start_state defaults) (start_state from) (run (moved next true items) macros) (run' (written next true items) macros) leads leads' (due next limit))
+        (both_led place r r' (start_state None defaults) (start_state None from) (run (moved next true items) macros) (run' (written next true items) macros) leads leads' (due next limit))
 
     -- the prologue, and then the item
     prologued : (item : Entry) (items : List Entry) → After (item ∷ items) → (place limit : ℕ)
-        → EndAlike (run (moved (place_behind place (prologue panel request)) false (item ∷ items)) (no_macros limit) (start_state defaults)) (run' (placed_from place (prologue panel request ++ pinned_items panel request false (item ∷ items))) (no_macros limit) (start_state from))
+        → EndAlike (run (moved (place_behind place (prologue panel request)) false (item ∷ items)) (no_macros limit) (start_state None defaults)) (run' (placed_from place (prologue panel request ++ pinned_items panel request false (item ∷ items))) (no_macros limit) (start_state None from))
     prologued item items more place limit =
         let macros : Store = no_macros limit in
         let rest : List Entry = pinned_items panel request false (item ∷ items) in
         let next : ℕ = place_behind place (prologue panel request) in
-        let r : JobRun = run (moved next false (item ∷ items)) macros (start_state defaults) in
+        let r : JobRun = run (moved next false (item ∷ items)) macros (start_state None defaults) in
         prologue_led printer flags origin panel request can finally' macros refl place rest r
         (subst (λ (t : State). EndAlike r (run' (placed_from next rest) macros t)) (sym (prologue_pins printer flags origin panel request can finally' macros refl place rest asks trayed))
-        (more next macros (start_state defaults) (record { bodies = tt; definition = tt }) (refl, refl)))
+        (more next macros (start_state None defaults) (record { bodies = tt; definition = tt }) (refl, refl, refl)))
 
     step_before : (item : Entry) (items : List Entry) → After (item ∷ items) → Before items → Before (item ∷ items)
     step_before Reset items more due place limit = still Reset items place limit (λ id. refl) (record { events = refl; ending = refl }) (record { events = refl; ending = refl }) due
@@ -273,11 +274,18 @@ module _ (printer : Printer) (flags : Flags) (origin panel : Panel) (laws : AreL
 
   ends_before : (last : ℕ) → Before (end_run printer defaults last) (end_run printer from last) []
   ends_before last place limit =
-      both_led last (reset_run (in_job (here (no_macros limit))) (start_state defaults)) (reset_run (in_job (there (no_macros limit))) (start_state from)) (start_state defaults) (start_state from) at_end at_end
+      both_led last (reset_run (in_job (here (no_macros limit))) (start_state None defaults)) (reset_run (in_job (there (no_macros limit))) (start_state None from)) (start_state None defaults) (start_state None from) at_end at_end
       (record { events = refl; ending = refl }) (record { events = refl; ending = refl }) (λ room. record { events = refl; finding = refl; set = tt })
 
   -- A job as it stands when it is pinned, from this panel, and the pinned job from any: the same events, and the same finding at the
   -- same place, unless the pinned job, whose bodies are longer, has no room for them.
-  pub whole_alike : (items : List Entry) (last : ℕ) → AreAllPinnable items
-      → EndAlike (items_run printer defaults (end_run printer defaults last) (moved_from panel request 0 true items) (no_macros printer.memory) (start_state defaults)) (items_run printer from (end_run printer from last) (placed_from 0 (pinned_items panel request true items)) (no_macros printer.memory) (start_state from))
+  whole_alike : (items : List Entry) (last : ℕ) → AreAllPinnable items
+      → EndAlike (items_run printer defaults (end_run printer defaults last) (moved_from panel request 0 true items) (no_macros printer.memory) (start_state None defaults)) (items_run printer from (end_run printer from last) (placed_from 0 (pinned_items panel request true items)) (no_macros printer.memory) (start_state None from))
   whole_alike items last all = (whole_job (end_run printer defaults last) (end_run printer from last) items all (ends_after last) (ends_before last)).1 0 printer.memory
+
+  -- the same of a printer that does not limit the items of macros
+  pub unlimited_alike : (items : List Entry) (last : ℕ) → printer.most_items ≡ None → AreAllPinnable items
+      → EndAlike (items_run printer defaults (end_run printer defaults last) (moved_from panel request 0 true items) (no_macros printer.memory) (start_state printer.most_items defaults)) (items_run printer from (end_run printer from last) (placed_from 0 (pinned_items panel request true items)) (no_macros printer.memory) (start_state printer.most_items from))
+  unlimited_alike items last none all =
+      subst (λ (left : Option ℕ). EndAlike (items_run printer defaults (end_run printer defaults last) (moved_from panel request 0 true items) (no_macros printer.memory) (start_state left defaults)) (items_run printer from (end_run printer from last) (placed_from 0 (pinned_items panel request true items)) (no_macros printer.memory) (start_state left from))) (sym none)
+      (whole_alike items last all)

@@ -22,7 +22,7 @@ use Rattle.page_env.specs.Effect.{Check, check, first_finding, is_unset, first_u
 use Rattle.page_env.specs.Effect as effect
 use Rattle.page_env.specs.FontInForce.{are_set}
 use Rattle.page_env.specs.JobControl.{reset}
-use Rattle.page_env.specs.Macros.{control_of, control_checks, controlled, overlay_state}
+use Rattle.page_env.specs.Macros.{control_of, control_checks, controlled, overlay_state, spend_item}
 use Rattle.page_env.specs.Order.{find_unset}
 use Rattle.page_env.specs.Pens.{move_pen}
 use Rattle.page_env.specs.Rasters.{is_of_raster}
@@ -37,13 +37,13 @@ use Rattle.page_machine.specs.declared.nesting.Nesting.{Nesting}
 use Rattle.page_machine.specs.declared.nesting.Nesting.TheVariants.{Job, Overlaid}
 use Rattle.page_machine.specs.Event.{Event}
 use Rattle.page_machine.specs.Run.{Peaks, Run, just, after, onward, followed_by, finding_or, unset_or, goes, effect_run, Ending, Done, Halts, marked_close, close_and_change, transition_run, Conditions, reset_run, byte_run, printing, move_run, drawing, own_run, begun_run, item_run, entries_run}
-use Rattle.page_machine.specs.Macros.{Context, is_macro, fixes_paper, executed_in, called_in, ending_with, put_back, found_run, control_body, control_run, conditions_in, raster_ended, body_run, closing_reads, ended, refused, ending_at, give_up, overlay_run, is_too_deep, page_close, in_job}
+use Rattle.page_machine.specs.Macros.{Context, is_macro, fixes_paper, executed_in, called_in, ending_with, put_back, found_run, control_body, control_run, conditions_in, raster_ended, macro_item_run, body_run, closing_reads, ended, refused, ending_at, give_up, overlay_run, is_too_deep, page_close, in_job}
 use Rattle.page_machine.specs.Defining.{is_defining, defining_of, defining_run, of_memory, job_item_run, macros_after, job_end_run}
 use Rattle.page_machine.specs.Job.{ItemRun, JobRun, ended_item, with_macros, items_run, end_run, no_end, at_end, reading_run}
 use Rattle.page_machine.specs.Laws.{plain_ending, IsSet, IsNotUnset}
-use Rattle.page_machine.specs.Reached.{left_at, entries_leave, found_leaves, control_leaves, begun_leaves, item_leaves, nested_run, body_leaves, job_item_leaves, ReadsUntouched, LineReads, BehindReads, TransitionReads, BytesRead, MoveReads, BegunReads, ItemReads, EntriesRead, ControlBodyReads, ControlReads, NestedReads, BodyReads, OverlayReads, CloseReads, JobItemReads, JobEndReads, ItemsRead, EndReads, ReadingReads, FindsBehind, UnsetIsRead}
+use Rattle.page_machine.specs.Reached.{left_at, entries_leave, found_leaves, control_leaves, begun_leaves, item_leaves, nested_run, macro_item_leaves, body_leaves, job_item_leaves, ReadsUntouched, LineReads, BehindReads, TransitionReads, BytesRead, MoveReads, BegunReads, ItemReads, EntriesRead, ControlBodyReads, ControlReads, NestedReads, MacroItemReads, BodyReads, OverlayReads, CloseReads, JobItemReads, JobEndReads, ItemsRead, EndReads, ReadingReads, FindsBehind, UnsetIsRead}
 use Rattle.page_machine.proofs.Parts.{AreSoundParts}
-use Rattle.page_machine.proofs.Forget.{plain, first_unset-plain, followed_plainly, own_plainly, byte_plainly, nested_plainly, body_plainly, page_plainly, inside_plainly, control_plainly, job_item_plainly}
+use Rattle.page_machine.proofs.Forget.{plain, first_unset-plain, followed_plainly, own_plainly, byte_plainly, macro_plainly, body_plainly, page_plainly, inside_plainly, control_plainly, job_item_plainly}
 use Rattle.page_machine.proofs.PinnedRuns.{FindsSet, checks_are_set, line_is_set}
 
 -- ---- what is read
@@ -441,22 +441,54 @@ module _ (watched : Flags) where
             item_comes printer defaults (fixes_paper nesting) close close' (control_run macros inner nesting) (control_run macros inner' nesting) closing (λ f. ControlReads macros (InnerReads f) nesting) closes sound parts closes_plainly (control_plainly macros inner inner' inner_plainly nesting) items bytes moves chosen macros inner_leaves nesting
             (control_comes macros inner inner_leaves InnerReads inner_comes nesting)
 
+        -- the same of an item of a body, where it may begin
+        macro_comes : (inner inner' : Nesting → List Entry → State → Run) (inner_leaves : Nesting → List Entry → State → Untouched → Untouched) (InnerReads : Field → Nesting → Untouched → List Entry → State → Type 0) →
+            ((nesting : Nesting) (body : List Entry) (s : State) → IsSet (inner nesting body s).ending → inner' nesting body (plain_state s) ≡ plain (inner nesting body s)) →
+            ((nesting : Nesting) (u : Untouched) (body : List Entry) (s : State) → Says u s → Comes (inner_leaves nesting body (plain_state s) u) (λ f. InnerReads f nesting u body (plain_state s)) (inner nesting body s).ending) →
+            (nesting : Nesting) (item : Entry) (u : Untouched) (s : State) → Says u s →
+            Comes (macro_item_leaves (item_leaves macros inner_leaves nesting) item (plain_state s) u) (λ f. MacroItemReads (NestedReads f unwatching (conditions_in unwatching close' nesting inner') (closing f) (InnerReads f) nesting) u item (plain_state s)) (macro_item_run printer (conditions_in watching close nesting inner) item s).ending
+        macro_comes inner inner' inner_leaves InnerReads inner_plainly inner_comes nesting item u s says = by (first_finding checks) refl
+          where
+            checks : List Check
+            checks = (spend_item s).before
+
+            begun : State
+            begun = (spend_item s).state
+
+            context : Conditions
+            context = conditions_in watching close nesting inner
+
+            left : Untouched
+            left = item_leaves macros inner_leaves nesting item (plain_state begun) u
+
+            Its : Field → Type 0
+            Its f = NestedReads f unwatching (conditions_in unwatching close' nesting inner') (closing f) (InnerReads f) nesting u item (plain_state begun)
+
+            R : Field → Type 0
+            R f = MacroItemReads (NestedReads f unwatching (conditions_in unwatching close' nesting inner') (closing f) (InnerReads f) nesting) u item (plain_state s)
+
+            by : (o : Option Finding) → first_finding checks ≡ o → Comes left R (followed_by (effect_run context (fails_or o (Goes begun []))) (item_run printer context item)).ending
+            by (Some finding) is = set_comes left R finding (checks_are_set checks refl finding is)
+            by None is =
+                weaken left Its R (λ f h. (is, h)) (item_run printer context item begun).ending
+                (nested_comes inner inner' inner_leaves InnerReads inner_plainly inner_comes nesting item u begun says)
+
         body_comes : (left level : ℕ) (nesting : Nesting) (u : Untouched) (body : List Entry) (s : State) → Says u s →
             Comes (body_leaves unwatching close' left level nesting body (plain_state s) u) (λ f. BodyReads f unwatching close' (closing f) left level nesting u body (plain_state s)) (body_run watching close left level nesting body s).ending
         body_comes zero level nesting u body s says = set_comes u (λ f. BodyReads f unwatching close' (closing f) zero level nesting u body (plain_state s)) MacroDepth tt
         body_comes (suc left) level nesting u body s says =
             let inner : Nesting → List Entry → State → Run = body_run watching close left (suc level) in
             let inner' : Nesting → List Entry → State → Run = body_run unwatching close' left (suc level) in
-            let run : Entry → State → Run = item_run printer (conditions_in watching close nesting inner) in
+            let run : Entry → State → Run = macro_item_run printer (conditions_in watching close nesting inner) in
             let leaves : Nesting → List Entry → State → Untouched → Untouched = body_leaves unwatching close' left (suc level) in
             let InnerReads : Field → Nesting → Untouched → List Entry → State → Type 0 = λ f. BodyReads f unwatching close' (closing f) left (suc level) in
             let inner_plainly = body_plainly printer defaults sound parts macros close close' closes_plainly left (suc level) in
-            let ends : Untouched = entries_leave (nested_run unwatching close' left (suc level) nesting) (item_leaves macros leaves nesting) body (plain_state s) u in
+            let ends : Untouched = entries_leave (nested_run unwatching close' left (suc level) nesting) (macro_item_leaves (item_leaves macros leaves nesting)) body (plain_state s) u in
             let R : Field → Type 0 = λ f. BodyReads f unwatching close' (closing f) (suc left) level nesting u body (plain_state s) in
             followed_comes ends ends R (entries_run run body s) raster_ended
-            (entries_come run (nested_run unwatching close' left (suc level) nesting) (item_leaves macros leaves nesting) (λ f. NestedReads f unwatching (conditions_in unwatching close' nesting inner') (closing f) (InnerReads f) nesting)
-            (nested_plainly printer defaults sound parts macros close close' inner inner' closes_plainly inner_plainly nesting)
-            (nested_comes inner inner' leaves InnerReads inner_plainly (body_comes left (suc level)) nesting) body u s says)
+            (entries_come run (nested_run unwatching close' left (suc level) nesting) (macro_item_leaves (item_leaves macros leaves nesting)) (λ f. MacroItemReads (NestedReads f unwatching (conditions_in unwatching close' nesting inner') (closing f) (InnerReads f) nesting))
+            (macro_plainly printer defaults sound parts macros close close' inner inner' closes_plainly inner_plainly nesting)
+            (macro_comes inner inner' leaves InnerReads inner_plainly (body_comes left (suc level)) nesting) body u s says)
             (λ t is at. at)
 
       -- ---- a page and its overlay
@@ -600,4 +632,4 @@ pub unset_read : ((printer : Printer) (defaults : Settings) (item : Entry) → I
     (printer : Printer) (flags : Flags) (panel : Panel) (reading : Reading) → UnsetIsRead printer flags panel reading
 unset_read sound parts items bytes moves printer flags panel reading before place field found =
     let defaults : Settings = user_defaults flags panel in
-    reading_found flags printer defaults (sound printer defaults) (parts printer) (items printer) (bytes printer) (moves printer) (refl, refl) reading place (no_macros printer.memory) (start_state defaults) all_untouched (refl, refl) field before found
+    reading_found flags printer defaults (sound printer defaults) (parts printer) (items printer) (bytes printer) (moves printer) (refl, refl) reading place (no_macros printer.memory) (start_state printer.most_items defaults) all_untouched (refl, refl) field before found

@@ -10,13 +10,13 @@ use Rattle.page_env.specs.declared.finding.Finding.TheVariants.{MacroDepth, InMa
 use Rattle.page_env.specs.declared.macros.Control.{Control}
 use Rattle.page_env.specs.declared.macros.Control.TheVariants.{Execute, Call}
 use Rattle.page_env.specs.Settings.{Settings, State}
-use Rattle.page_env.specs.Effect.{check, first_finding, first_unset}
-use Rattle.page_env.specs.Macros.{control_of, control_checks, controlled, overlay_state}
+use Rattle.page_env.specs.Effect.{Step, check, first_finding, first_unset}
+use Rattle.page_env.specs.Macros.{control_of, control_checks, controlled, overlay_state, spend_item}
 use Rattle.page_env.specs.Table.{page_end_of}
 use Rattle.page_machine.specs.declared.nesting.Nesting.{Nesting}
 use Rattle.page_machine.specs.declared.nesting.Nesting.TheVariants.{Job, Executed, Called, Overlaid}
 use Rattle.page_machine.specs.Event.{Ended}
-use Rattle.page_machine.specs.Run.{Peaks, Run, just, after, followed_by, finding_or, unset_or, goes, Ending, Done, Halts, Conditions, item_run, entries_run}
+use Rattle.page_machine.specs.Run.{Peaks, Run, just, after, followed_by, finding_or, unset_or, goes, Ending, Done, Halts, Conditions, transition_run, item_run, entries_run}
 
 -- what does not change while an item of the job is carried out
 pub record Context : Type 0 where
@@ -99,12 +99,16 @@ conditions_in context close nesting inner = record {
 abbrev pub raster_ended : State → Run
 raster_ended s = just [] (Done (record s { raster = None }))
 
+-- an item of a macro begins, where one more may be carried out, and is then carried out
+abbrev pub macro_item_run : Printer → Conditions → Entry → State → Run
+macro_item_run printer conditions item s = followed_by (transition_run conditions s (Step (spend_item s))) (item_run printer conditions item)
+
 -- a body at a level, where so many levels are left, its own among them
 abbrev pub body_run : Context → (State → Run) → (left level : ℕ) → Nesting → List Entry → State → Run
 body_run context close zero level nesting items s = just [] (Halts MacroDepth)
 body_run context close (suc left) level nesting items s =
     after [] (at_level level)
-    (followed_by (entries_run (item_run context.printer (conditions_in context close nesting (body_run context close left (suc level)))) items s) raster_ended)
+    (followed_by (entries_run (macro_item_run context.printer (conditions_in context close nesting (body_run context close left (suc level)))) items s) raster_ended)
 
 -- ---- closing a page
 
@@ -121,10 +125,10 @@ abbrev pub refused : State → Run
 refused s = just [] (Halts InMacro)
 
 abbrev pub ending_at : State → Ending → Ending
-ending_at s (Done t) = Done s
+ending_at s (Done t) = Done (record s { items_left = t.items_left })
 ending_at s (Halts finding) = Halts finding
 
--- what an overlay did to the state is given up
+-- what an overlay did to the state is given up, but for what it carried out
 abbrev pub give_up : State → Run → Run
 give_up s r = record r { ending = ending_at s r.ending }
 

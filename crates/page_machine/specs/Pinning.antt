@@ -148,9 +148,9 @@ pub record IsSameOutcome (r r' : JobRun) : Type 0 where
 
 -- What a job prints that is pinned to this panel: from every panel, whether it is watched or not, it gives the events of the job from
 -- this panel, and ends with the same finding, if there is one, at the same item; unless its bodies, which may be longer than those of
--- the job, find no room.
+-- the job, find no room. So it is where the items of bodies are not limited.
 abbrev pub PrintsPinned : Printer → Panel → Type 0
 PrintsPinned printer panel =
-    (flags : Flags) (from : Panel) (items : List Entry) → AllByRecursion (λ item. is_unpinnable item ≡ false) items →
+    printer.most_items ≡ None → (flags : Flags) (from : Panel) (items : List Entry) → AllByRecursion (λ item. is_unpinnable item ≡ false) items →
     let run = run_from printer flags from (pinned_reading printer panel items) in
     FindsRoom run.ending → IsSameOutcome (plain_run printer panel (moved_reading printer panel items)) run

@@ -15,7 +15,7 @@ use Rattle.page_env.specs.declared.macros.Control.{Control}
 use Rattle.page_env.specs.declared.macros.Control.TheVariants.{Execute, Call}
 use Rattle.page_env.specs.Effect.{Line, Transition, Step, Closes, Ends, Behind, Controls, Effect, Goes, GoesThenCloses, GoesThenEnds, Controlling, Fails, check, first_finding, effect_of}
 use Rattle.page_env.specs.JobControl.{reset}
-use Rattle.page_env.specs.Macros.{control_of, control_checks, controlled, overlay_state}
+use Rattle.page_env.specs.Macros.{control_of, control_checks, controlled, overlay_state, spend_item}
 use Rattle.page_env.specs.Pens.{move_pen}
 use Rattle.page_env.specs.Rasters.{begun_by}
 use Rattle.page_env.specs.Settings.{Flags, Settings, State, start_state, user_defaults, unwatched}
@@ -24,8 +24,8 @@ use Rattle.page_env.specs.Text.{print_transparent}
 use Rattle.page_env.specs.Untouched.{Untouched, all_untouched, untouched_in_overlay, untouched_behind, is_untouched, is_flagged}
 use Rattle.page_machine.specs.declared.nesting.Nesting.{Nesting}
 use Rattle.page_machine.specs.declared.nesting.Nesting.TheVariants.{Job, Overlaid}
-use Rattle.page_machine.specs.Run.{Run, Ending, Done, Halts, Conditions, followed_by, byte_run, printing, printed_bytes, coordinates_of, own_run, item_run}
-use Rattle.page_machine.specs.Macros.{Context, is_macro, executed_in, called_in, closing_reads, is_too_deep, conditions_in, body_run, refused, page_close, in_job}
+use Rattle.page_machine.specs.Run.{Run, Ending, Done, Halts, Conditions, followed_by, byte_run, printing, printed_bytes, coordinates_of, own_run}
+use Rattle.page_machine.specs.Macros.{Context, is_macro, executed_in, called_in, closing_reads, is_too_deep, conditions_in, macro_item_run, body_run, refused, page_close, in_job}
 use Rattle.page_machine.specs.Defining.{is_defining, job_item_run, macros_after}
 use Rattle.page_machine.specs.Job.{ItemRun, run_from, with_macros}
 
@@ -64,14 +64,18 @@ item_leaves macros inner nesting item s u = begun_leaves macros inner nesting it
 -- the run of an item of a body, where so many levels are left for the bodies below it
 abbrev pub nested_run : Context → (State → Run) → (left level : ℕ) → Nesting → Entry → State → Run
 nested_run context close left level nesting =
-    item_run context.printer (conditions_in context close nesting (body_run context close left level))
+    macro_item_run context.printer (conditions_in context close nesting (body_run context close left level))
+
+-- an item of a body, from where it has begun
+abbrev pub macro_item_leaves : (Entry → State → Untouched → Untouched) → Entry → State → Untouched → Untouched
+macro_item_leaves leaves item s u = leaves item (spend_item s).state u
 
 -- a body at a level, where so many levels are left, its own among them
 abbrev pub body_leaves : Context → (State → Run) → (left level : ℕ) → Nesting → List Entry → State → Untouched → Untouched
 body_leaves context close zero level nesting items s u = u
 body_leaves context close (suc left) level nesting items s u =
     entries_leave (nested_run context close left (suc level) nesting)
-    (item_leaves context.macros (body_leaves context close left (suc level)) nesting) items s u
+    (macro_item_leaves (item_leaves context.macros (body_leaves context close left (suc level)) nesting)) items s u
 
 -- an item of the job: one that is stored is not carried out
 abbrev pub job_item_leaves : Context → Entry → State → Untouched → Untouched
@@ -159,14 +163,18 @@ abbrev pub NestedReads : Field → Context → Conditions → (Untouched → Sta
 NestedReads field context conditions closing inner nesting u item s =
     ItemReads context.printer conditions (closing u) (ControlReads context.macros inner nesting u) field u item s
 
+-- an item of a body begins, and reads it then
+abbrev pub MacroItemReads : (Untouched → Entry → State → Type 0) → Untouched → Entry → State → Type 0
+MacroItemReads reads u item s = (first_finding (spend_item s).before ≡ None) × reads u item (spend_item s).state
+
 -- a body at a level, where so many levels are left, its own among them
 abbrev pub BodyReads : Field → Context → (State → Run) → (Untouched → State → Type 0) → (left level : ℕ) → Nesting → Untouched → List Entry → State → Type 0
 BodyReads field context close closing zero level nesting u items s = ⊥
 BodyReads field context close closing (suc left) level nesting u items s =
     EntriesRead (nested_run context close left (suc level) nesting)
-    (item_leaves context.macros (body_leaves context close left (suc level)) nesting)
-    (NestedReads field context (conditions_in context close nesting (body_run context close left (suc level))) closing
-    (BodyReads field context close closing left (suc level)) nesting) u items s
+    (macro_item_leaves (item_leaves context.macros (body_leaves context close left (suc level)) nesting))
+    (MacroItemReads (NestedReads field context (conditions_in context close nesting (body_run context close left (suc level))) closing
+    (BodyReads field context close closing left (suc level)) nesting)) u items s
 
 -- ---- where a page is closed
 
@@ -223,7 +231,7 @@ ReadingReads field printer defaults before place (Stopped items end cause) macro
 abbrev pub ComesToRead : Printer → Panel → Reading → (before place : ℕ) → Field → Type 0
 ComesToRead printer panel reading before place field =
     let defaults : Settings = user_defaults unwatched panel in
-    ReadingReads field printer defaults before place reading (no_macros printer.memory) (start_state defaults) all_untouched
+    ReadingReads field printer defaults before place reading (no_macros printer.memory) (start_state printer.most_items defaults) all_untouched
 
 -- behind so many items that find nothing, one at this place has this finding
 abbrev pub FindsBehind : ℕ → ℕ → Finding → List ItemRun → Type 0

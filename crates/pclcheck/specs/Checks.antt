@@ -22,13 +22,14 @@ use Rattle.pclcheck.specs.Names.{names_in}
 
 -- ---- what is asked for
 
--- by the words: the jobs, the file of their names, the printers, the fleets, whether each printer is told of by itself, the form, the
--- explanations of which a FAIL gets its own, and whether a FAIL counts as a PASS
+-- by the words: the jobs, the file of their names, the printers, the fleets, how many items macros may carry out, whether each printer is
+-- told of by itself, the form, the explanations of which a FAIL gets its own, and whether a FAIL counts as a PASS
 pub record Asking : Type 0 where
   pub jobs : List (List ℕ)
   pub names_from : Option (List ℕ)
   pub printers : List (List ℕ)
   pub fleets : List (List ℕ)
+  pub most_items : Option ℕ
   pub is_each : Bool
   pub form : Form
   pub explanations : List (List ℕ)
@@ -41,6 +42,7 @@ asking texts words = record {
   names_from = option_map (λ word. word.now) words.names_from;
   printers = map (λ word. word.now) words.printers.items;
   fleets = map (λ word. word.now) words.fleets.items;
+  most_items = words.most_items;
   is_each = words.is_each;
   form = words.form;
   explanations = if words.explains then texts else [];
@@ -69,6 +71,7 @@ pub record Completes (asking : Asking) (asked : Asked) : Type 0 where
   pub no_names : asking.names_from ≡ None → names ≡ []
   pub no_fleets : asking.fleets ≡ [] → of_fleets ≡ []
   pub each_fleet : length asking.fleets ≤ length of_fleets
+  pub most_items : asked.most_items ≡ asking.most_items
   pub is_each : asked.is_each ≡ asking.is_each
   pub telling : IsTelling asking asked.telling
 

@@ -48,6 +48,7 @@ pub fn check_asked<R: Files + Input + AllocGlobal, O: Outlet, E: Outlet>(
     let many = ManyJobs {
         jobs: jobs.as_slice(),
         printers: printers.as_slice(),
+        most_items: words.most_items,
         is_each: words.is_each,
         telling: telling_of(alloc, words),
     };

@@ -18,6 +18,7 @@ same_printer a b page other device geometries faces =
       has_duplex = device.duplex i;
       depth = device.depth i;
       memory = device.memory i;
+      most_items = device.most_items i;
       geometries = geometries i;
       faces = faces i;
     }

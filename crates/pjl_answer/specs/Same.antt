@@ -16,9 +16,10 @@ pub record HasOtherValues (a b : Printer) : Type 0 where
   pub trays : a.trays ≡ b.trays
   pub line_terminations : a.line_terminations ≡ b.line_terminations
 
--- the trays, the sides, the levels of macros and the memory
+-- the trays, the sides, the levels of macros, the memory and the limit of items
 pub record IsSameDevice (a b : Printer) : Type 0 where
   pub trays : a.device_trays ≡ b.device_trays
   pub duplex : a.has_duplex ≡ b.has_duplex
   pub depth : a.depth ≡ b.depth
   pub memory : a.memory ≡ b.memory
+  pub most_items : a.most_items ≡ b.most_items

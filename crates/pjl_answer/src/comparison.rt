@@ -103,7 +103,7 @@ fn are_same(a: &[u32], b: &[u32]) -> bool
     a == b
 }
 
-/// Whether the two have the same trays, sides, levels of macros and memory.
+/// Whether the two have the same trays, sides, levels of macros, memory and limit of items.
 fn is_same_device<A: Allocator, B: Allocator>(a: &Profile<A>, b: &Profile<B>) -> bool
     ensures { IsTrue result → IsSameDevice a.now b.now }
 {
@@ -111,6 +111,7 @@ fn is_same_device<A: Allocator, B: Allocator>(a: &Profile<A>, b: &Profile<B>) ->
         && a.has_duplex() == b.has_duplex()
         && a.depth() == b.depth()
         && a.memory() == b.memory()
+        && a.most_items() == b.most_items()
 }
 
 /// Whether the pages are the same, one by one.

@@ -134,11 +134,11 @@ pub comes_through : (p q : Printer) (reading : Reading) (number n place : ℕ) �
 comes_through p q (Whole items at) number n place has later =
     let d : Settings = user_defaults (watched p) (first_panel p) in
     let e : Settings = user_defaults (watched q) (first_panel q) in
-    items_through p q d e (end_run p d at) (end_run q e at) (end_through p q d e at) items (no_macros p.memory) (no_macros q.memory) (start_state d) (start_state e) number 0 n place has (λ w h. omega (arith, later w h))
+    items_through p q d e (end_run p d at) (end_run q e at) (end_through p q d e at) items (no_macros p.memory) (no_macros q.memory) (start_state p.most_items d) (start_state q.most_items e) number 0 n place has (λ w h. omega (arith, later w h))
 comes_through p q (Stopped items at cause) number n place has later =
     let d : Settings = user_defaults (watched p) (first_panel p) in
     let e : Settings = user_defaults (watched q) (first_panel q) in
-    items_through p q d e no_end no_end (λ k k' s s' number before n place has later. absurd has) items (no_macros p.memory) (no_macros q.memory) (start_state d) (start_state e) number 0 n place has (λ w h. omega (arith, later w h))
+    items_through p q d e no_end no_end (λ k k' s s' number before n place has later. absurd has) items (no_macros p.memory) (no_macros q.memory) (start_state p.most_items d) (start_state q.most_items e) number 0 n place has (λ w h. omega (arith, later w h))
 
 -- ---- the front of a run is the run of a front
 
@@ -258,14 +258,14 @@ module _ (plainly : (printer : Printer) (panel : Panel) (reading : Reading) → 
     goes_plainly (Whole items at) h =
         let d : Settings = user_defaults (watched printer) panel in
         let e : Settings = user_defaults unwatched panel in
-        elim (has_more_or_none printer d (end_run printer d at) (λ k s. let r : Run = job_end_run (with_macros printer d k) s in ends_there at r.events r.peaks r.ending) n place items (no_macros printer.memory) (start_state d) h) [
-          | inl more ↦ in_its_front (Whole items at) items at (items_front printer d (end_run printer d at) n items (no_macros printer.memory) (start_state d) more) (items_front printer e (end_run printer e at) n items (no_macros printer.memory) (start_state e) more) h
+        elim (has_more_or_none printer d (end_run printer d at) (λ k s. let r : Run = job_end_run (with_macros printer d k) s in ends_there at r.events r.peaks r.ending) n place items (no_macros printer.memory) (start_state printer.most_items d) h) [
+          | inl more ↦ in_its_front (Whole items at) items at (items_front printer d (end_run printer d at) n items (no_macros printer.memory) (start_state printer.most_items d) more) (items_front printer e (end_run printer e at) n items (no_macros printer.memory) (start_state printer.most_items e) more) h
           | inr none ↦ in_whole (Whole items at) none h
         ]
     goes_plainly (Stopped items at cause) h =
         let d : Settings = user_defaults (watched printer) panel in
         let e : Settings = user_defaults unwatched panel in
-        elim (has_more_or_none printer d no_end (λ k s n place h. absurd h) n place items (no_macros printer.memory) (start_state d) h) [
-          | inl more ↦ in_its_front (Stopped items at cause) items at (items_front printer d no_end n items (no_macros printer.memory) (start_state d) more) (items_front printer e no_end n items (no_macros printer.memory) (start_state e) more) h
+        elim (has_more_or_none printer d no_end (λ k s n place h. absurd h) n place items (no_macros printer.memory) (start_state printer.most_items d) h) [
+          | inl more ↦ in_its_front (Stopped items at cause) items at (items_front printer d no_end n items (no_macros printer.memory) (start_state printer.most_items d) more) (items_front printer e no_end n items (no_macros printer.memory) (start_state printer.most_items e) more) h
           | inr none ↦ in_whole (Stopped items at cause) none h
         ]

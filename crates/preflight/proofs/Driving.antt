@@ -6,7 +6,7 @@ use Rattle.std.specs.Io.KnownBytes.{Consumes, IsAtEnd, Keeps}
 use Rattle.std.specs.List.{concat}
 use Rattle.std.proofs.KnownBytes.{Consumes-kept, Consumes-nil, Consumes-trans}
 use Rattle.preflight.specs.declared.error.Error.{Error}
-use Rattle.preflight.specs.declared.error.Error.TheVariants.{Memory, Read, Write, Turns, NoProfile}
+use Rattle.preflight.specs.declared.error.Error.TheVariants.{Memory, Read, Write, Turns, NoProfile, Items}
 use Rattle.streams.specs.Pieces.{ByReads, MayBeBy, Spell}
 use Rattle.streams.specs.Source.{SourceState}
 use Rattle.preflight.specs.Carriers.Driving.{ComesByEnd, ComesByPiece, IsAnswered, IsErrorOfPiece, IsStopped, IsUnderWay, StopsBy}
@@ -20,6 +20,7 @@ own_error Open Stops Read h own = absurd own
 own_error Open Stops Write h own = h
 own_error Open Stops Turns h own = absurd own
 own_error Open Stops NoProfile h own = absurd own
+own_error Open Stops Items h own = absurd own
 
 module _ {C : Type 0} (goes_on : C → List ℕ → C → Type 0) (stops : C → Error → List ℕ → C → Type 0) (first : C) (source : SourceState) where
   -- nothing was read
@@ -161,10 +162,15 @@ by_whose Open Stops P Read h read turns own = read h
 by_whose Open Stops P Write h read turns own = own Write h
 by_whose Open Stops P Turns h read turns own = turns h
 by_whose Open Stops P NoProfile h read turns own = absurd h
+by_whose Open Stops P Items h read turns own = absurd h
 
 -- no error is that of an empty fleet
 pub never_none : (Open : Type 0) (Stops : Error → Type 0) (e : Error) → StopsBy Open Stops e → e ≢ NoProfile
 never_none Open Stops e h = λ is. subst (StopsBy Open Stops) is h
+
+-- nor that of a limit
+pub never_items : (Open : Type 0) (Stops : Error → Type 0) (e : Error) → StopsBy Open Stops e → e ≢ Items
+never_items Open Stops e h = λ is. subst (StopsBy Open Stops) is h
 
 -- an error that is not of the reads is none of theirs
 pub own_read : (Open : Type 0) (Stops : Error → Type 0) (e : Error) → StopsBy Open Stops e → StopsBy Open (λ e. Stops e × (e ≡ Read → ⊥)) e
@@ -173,6 +179,7 @@ own_read Open Stops Read h = h
 own_read Open Stops Write h = (h, λ is. absurd cc)
 own_read Open Stops Turns h = h
 own_read Open Stops NoProfile h = h
+own_read Open Stops Items h = h
 
 -- what follows from an error of a read
 pub of_read : {A : Type 0} (r : Result A Error) (Q : Error → Type 0) → IfErr r (λ e. Q e) → IsErrOf r Read → Q Read

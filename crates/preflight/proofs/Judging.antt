@@ -3,7 +3,7 @@ use Rattle.std.proofs.Common.{◌≡◌, ◌≢◌, ℕ, List, [], ◌∷◌, �
 use Rattle.std.proofs.lemmas.Result.{IfOk-weaker}
 use Rattle.device_profile.specs.Printer.{Printer}
 use Rattle.preflight.specs.declared.error.Error.{Error}
-use Rattle.preflight.specs.declared.error.Error.TheVariants.{Memory, Write}
+use Rattle.preflight.specs.declared.error.Error.TheVariants.{Memory, Write, Items}
 use Rattle.streams.specs.Pieces.{ByReads}
 use Rattle.streams.specs.Source.{SourceState}
 use Rattle.preflight.specs.Session.{SessionState, ChecksOn, HasChecked, IsJudged, IsOutOfMemory}
@@ -11,6 +11,7 @@ use Rattle.preflight.specs.Verdict.{IsExact, KeepsPromise, NeedsEachRead}
 use Rattle.preflight.specs.Culprit.{IsTold}
 use Rattle.preflight.specs.Carriers.Driving.{IsAnswered, IsStopped, StopsBy}
 use Rattle.streams.proofs.Pieces.{known_by}
+use Rattle.preflight.proofs.Driving.{never_items as none_of_limits}
 use Rattle.preflight.proofs.Sessions.{opened}
 use Rattle.preflight.proofs.StillOpen.{leaves_open}
 use Rattle.verdict.specs.declared.verdict.Verdict.{Verdict}
@@ -85,3 +86,10 @@ module _ (session now : Beside) (old new : SourceState) where
   pub never_write : (r : Result Verdict Error) → IfErr r Stop → IfErr r (λ error. error ≢ Write)
   never_write (Ok verdict) h = tt
   never_write (Err error) h = not_write error h
+
+  not_items : (error : Error) → Stop error → error ≢ Items
+  not_items error h is = none_of_limits (Goes session h.bytes now) (λ e. Stops session e h.bytes now) error h.came is
+
+  pub never_items : (r : Result Verdict Error) → IfErr r Stop → IfErr r (λ error. error ≢ Items)
+  never_items (Ok verdict) h = tt
+  never_items (Err error) h = not_items error h

@@ -292,8 +292,8 @@ pub pages_start : (printer : Printer) (panel : Panel) (machine : MachineState) �
 pages_start printer panel machine new =
     let settings : Settings = user_defaults unwatched panel in
     let defaults_are : settings_at any_panel machine.defaults ≡ settings = new.defaults any_panel in
-    let state_is : state_at any_panel machine.page ≡ start_state settings = new.page any_panel ∙ ap start_state defaults_are in
-    let run_is : (reading : Reading) → rest_run machine reading ≡ reading_run printer settings reading (no_macros printer.memory) (start_state settings) = λ reading. λ i. reading_run (new.printer_is i) (defaults_are i) reading (new.macros i) (state_is i) in
+    let state_is : state_at any_panel machine.page ≡ start_state printer.most_items settings = new.page any_panel ∙ ap (start_state printer.most_items) defaults_are in
+    let run_is : (reading : Reading) → rest_run machine reading ≡ reading_run printer settings reading (no_macros printer.memory) (start_state printer.most_items settings) = λ reading. λ i. reading_run (new.printer_is i) (defaults_are i) reading (new.macros i) (state_is i) in
     λ i. record {
       text = λ reading. events_text 1 (events_of (run_is reading i).items);
       outcome = λ reading. run_outcome (run_is reading i).items (reading_outcome reading);

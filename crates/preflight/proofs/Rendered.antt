@@ -4,7 +4,7 @@ use Rattle.pcl_items.specs.declared.item.Mode.{Mode}
 use Rattle.pcl_items.specs.LexerState.{LexerState, WantsMore}
 use Rattle.pcl_items.specs.Modes.{mode_of}
 use Rattle.preflight.specs.declared.error.Error.{Error}
-use Rattle.preflight.specs.declared.error.Error.TheVariants.{Memory, Read, Write, Turns, NoProfile}
+use Rattle.preflight.specs.declared.error.Error.TheVariants.{Memory, Read, Write, Turns, NoProfile, Items}
 use Rattle.preflight.specs.declared.outcome.Outcome.{Outcome}
 use Rattle.preflight.specs.Due.{Rendering}
 use Rattle.preflight.specs.Errors.{is_err_of_write}
@@ -22,6 +22,7 @@ own_error Read h = absurd h
 own_error Write h = tt
 own_error Turns h = absurd h
 own_error NoProfile h = absurd h
+own_error Items h = absurd h
 
 module _ {C : Type 0} (goes_on : C → List ℕ → C → Type 0) (answers : C → Outcome → List (List ℕ) → C → Type 0) (stops : C → Error → List ℕ → C → Type 0) (one now : C) (first : Rendering) (start : OutletState) (lexer : LexerState) (rendering : Rendering) (written : OutletState) where
   -- a piece was rendered

@@ -39,10 +39,10 @@ module _ (P : JobRun → Type 0) (executed_on : IsCarriedOn P) (last : (s : Stat
   pub of_every_run : (flags : Flags) (panel : Panel) (reading : Reading) → P (run_from printer flags panel reading)
   of_every_run flags panel (Whole items place) =
       let d : Settings = user_defaults flags panel in
-      of_items d (end_run printer d place) (of_end d place) items (no_macros printer.memory) (start_state d)
+      of_items d (end_run printer d place) (of_end d place) items (no_macros printer.memory) (start_state printer.most_items d)
   of_every_run flags panel (Stopped items place cause) =
       let d : Settings = user_defaults flags panel in
-      of_items d no_end (λ macros s. last s) items (no_macros printer.memory) (start_state d)
+      of_items d no_end (λ macros s. last s) items (no_macros printer.memory) (start_state printer.most_items d)
 
 -- ---- a run that finds nothing comes to its end
 

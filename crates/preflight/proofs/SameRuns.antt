@@ -54,7 +54,7 @@ module _ (printer : Printer) (defaults : Settings) (place place' : ℕ) where
 pub run_alike : (items others : List Placed) → RunAlike items others
 run_alike items others e printer flags panel place place' =
     let defaults : Settings = user_defaults flags panel in
-    items_unplaced printer defaults place place' items others e (no_macros printer.memory) (start_state defaults)
+    items_unplaced printer defaults place place' items others e (no_macros printer.memory) (start_state printer.most_items defaults)
 
 pub moved_entries : (panel : Panel) (request : FontRequest) (place : ℕ) (due : Bool) (items : List Entry) → entries (moved_from panel request place due items) ≡ items
 moved_entries panel request place due [] = refl

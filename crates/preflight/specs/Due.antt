@@ -9,7 +9,7 @@ use Rattle.pcl_items.specs.Reading.{Reading, Stopped, IsReading, items_of}
 use Rattle.device_profile.specs.declared.panel.Panel.{Panel}
 use Rattle.device_profile.specs.Printer.{Printer}
 use Rattle.preflight.specs.declared.error.Error.{Error}
-use Rattle.preflight.specs.declared.error.Error.TheVariants.{Read, Turns, NoProfile}
+use Rattle.preflight.specs.declared.error.Error.TheVariants.{Read, Turns, NoProfile, Items}
 use Rattle.preflight.specs.declared.outcome.Outcome.{Outcome}
 use Rattle.preflight.specs.Errors.{is_err_of_read, is_err_of_write}
 use Rattle.streams.specs.Outlet.{OutletState, Adds, AddsFront}
@@ -72,6 +72,7 @@ pub record Renders (rendering : Rendering) (source source' : SourceState)
   pub turns : IsErrOf result Turns → length source'.given ≡ length source.given + 2 ^ 40
   pub long : IsErrOf result Turns → ByReads source source' (λ job. 2 ^ 40 ≤ length job)
   pub never_no_profile : IfErr result (λ error. error ≢ NoProfile)
+  pub never_items : IfErr result (λ error. error ≢ Items)
 
 -- each item by itself, and nothing for a fault
 abbrev pub item_by_item : (Placed → List ℕ) → Rendering

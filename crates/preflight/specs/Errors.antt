@@ -1,7 +1,7 @@
 -- What an error says of the reads and the writes.
 use Rattle.std.specs.Prelude.{Bool, true, false, Result, Ok, Err}
 use Rattle.preflight.specs.declared.error.Error.{Error}
-use Rattle.preflight.specs.declared.error.Error.TheVariants.{Memory, Read, Write, Turns, NoProfile}
+use Rattle.preflight.specs.declared.error.Error.TheVariants.{Memory, Read, Write, Turns, NoProfile, Items}
 
 -- a read failed
 abbrev pub is_read : Error → Bool
@@ -10,6 +10,7 @@ is_read Read = true
 is_read Write = false
 is_read Turns = false
 is_read NoProfile = false
+is_read Items = false
 
 -- the result is the error of a read that failed
 abbrev pub is_err_of_read : {T : Type 0} → Result T Error → Bool
@@ -23,6 +24,7 @@ is_write Read = false
 is_write Write = true
 is_write Turns = false
 is_write NoProfile = false
+is_write Items = false
 
 -- the result is the error of a write that failed
 abbrev pub is_err_of_write : {T : Type 0} → Result T Error → Bool

@@ -42,6 +42,7 @@ const CODES: &[(&str, &str)] = &[
     ("33", "Differs"),
     ("34", "RotatedRaster"),
     ("35", "Unpinnable"),
+    ("36", "ManyItems"),
 ];
 
 /// What `explain` writes on standard output, which goes well.

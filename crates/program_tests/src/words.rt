@@ -93,6 +93,11 @@ const WRONG_FOR_MANY: &[&[&str]] = &[
     &["--exit-zero=1", "job.pcl", "@A"],
     &["-e", "job.pcl", "@A"],
     &["--explain=1", "job.pcl", "@A"],
+    // A limit that is no number, and none.
+    &["--most-items", "many", "job.pcl", "@A"],
+    &["--most-items=-1", "job.pcl", "@A"],
+    &["--most-items", "job.pcl", "@A"],
+    &["-p", "@A", "job.pcl", "--most-items"],
     // A form that there is not, none, or two.
     &["--format", "xml", "job.pcl", "@A"],
     &["--format=LINE", "job.pcl", "@A"],
@@ -464,6 +469,28 @@ fn words_that_ask_for_many(rt: HostRuntime) -> Result<(), Fail> {
             Err(_) => false,
         };
         assert!(rt; is_asked, "{behind:?}");
+    }
+    Ok(())
+}
+
+/// Words behind `check`, and how many items they allow macros.
+const LIMITS: &[(&[&str], Option<u64>)] = &[
+    (&["--most-items", "7", "job.pcl", "@A"], Some(7)),
+    (&["-p", "@A", "job.pcl", "--most-items=0"], Some(0)),
+    (&["-p", "@A", "job.pcl"], None),
+];
+
+#[test]
+fn words_that_limit_the_items_of_macros(rt: HostRuntime) -> Result<(), Fail> {
+    for (behind, wanted) in LIMITS {
+        let words = strings_of_check(rt.alloc(), behind)?;
+        let mut stdout = Watched::new(Vec::new(rt.alloc()));
+        let mut stderr = Watched::new(Vec::new(rt.alloc()));
+        let most = match read_words(rt.alloc(), words.as_slice(), &mut stdout, &mut stderr) {
+            Ok(Request::CheckMany(many)) => many.most_items,
+            _ => Some(u64::MAX),
+        };
+        assert_eq!(rt; most, *wanted, "{behind:?}");
     }
     Ok(())
 }

@@ -5,7 +5,7 @@ use Rattle.std.specs.Fmt.{digits}
 use Rattle.pcl_items.specs.declared.fault.Cause.TheVariants.{Syntax, Truncated, NotInProfile, BadNumber, Pjl, EndInFrame}
 use Rattle.pcl_items.specs.declared.fault.Name.TheVariants.{Byte}
 use Rattle.device_profile.specs.declared.field.Field.TheVariants.{Size}
-use Rattle.page_env.specs.declared.finding.Finding.TheVariants.{BadValue, NotOnDevice, Unset, NoFont, NoGlyph, OffPage, PastRightMargin, NotPrintable, StackFull, StackEmpty, NoMacro, MacroDepth, MacroMemory, InMacro, DefinitionOpen, RasterNotStarted, RasterLocked, RasterTooBig, NoPen, OutsideFrame, EmptyRectangle, Inexact, MarginIgnored, RotatedRaster}
+use Rattle.page_env.specs.declared.finding.Finding.TheVariants.{BadValue, NotOnDevice, Unset, NoFont, NoGlyph, OffPage, PastRightMargin, NotPrintable, StackFull, StackEmpty, NoMacro, MacroDepth, MacroMemory, InMacro, DefinitionOpen, RasterNotStarted, RasterLocked, RasterTooBig, NoPen, OutsideFrame, EmptyRectangle, Inexact, MarginIgnored, RotatedRaster, ManyItems}
 use Rattle.verdict.specs.declared.reason.Reason.{Reason}
 use Rattle.verdict.specs.declared.reason.Reason.TheVariants.{Fault, Finding as Found, Differs, Unpinnable}
 use Rattle.verdict.specs.Numbers.{reason_number}
@@ -63,6 +63,7 @@ each (Found MarginIgnored) = of refl refl refl
 each Differs = of refl refl refl
 each (Found RotatedRaster) = of refl refl refl
 each Unpinnable = of refl refl refl
+each (Found ManyItems) = of refl refl refl
 
 abbrev reasons : List Reason
 reasons =
@@ -73,7 +74,8 @@ reasons =
     ∷ Found NoMacro ∷ Found MacroDepth ∷ Found MacroMemory ∷ Found InMacro
     ∷ Found DefinitionOpen ∷ Found RasterNotStarted ∷ Found RasterLocked ∷ Found RasterTooBig
     ∷ Found NoPen ∷ Found OutsideFrame ∷ Found EmptyRectangle ∷ Found Inexact
-    ∷ Found MarginIgnored ∷ Differs ∷ Found RotatedRaster ∷ Unpinnable ∷ []
+    ∷ Found MarginIgnored ∷ Differs ∷ Found RotatedRaster ∷ Unpinnable
+    ∷ Found ManyItems ∷ []
 
 only : map first_line texts ≡ map head_of reasons
 unfolding digits

@@ -6,7 +6,7 @@ use Rattle.device_profile.specs.declared.fault.ProfileFault.{ProfileFault}
 use Rattle.device_profile.specs.declared.fault.ProfileFault.TheVariants.{Fault, Memory as NoMemory}
 use Rattle.device_profile.specs.Printer.{Printer}
 use Rattle.device_profile.specs.Text.{IsErrorOfText}
-use Rattle.preflight.specs.declared.error.Error.TheVariants.{Memory, Read, Write, Turns, NoProfile}
+use Rattle.preflight.specs.declared.error.Error.TheVariants.{Memory, Read, Write, Turns, NoProfile, Items}
 use Rattle.verdict.specs.declared.verdict.Verdict.{Verdict}
 use Rattle.streams.specs.Outlet.{OutletState}
 use Rattle.subcommands.specs.declared.status.Status.{Status}
@@ -67,6 +67,7 @@ end_reached f words i d printers (Stopped Read) h before end = (i + 1, reached f
 end_reached f words i d printers (Stopped Write) h before end = absurd end
 end_reached f words i d printers (Stopped Turns) h before end = absurd end
 end_reached f words i d printers (Stopped NoProfile) h before end = absurd end
+end_reached f words i d printers (Stopped Items) h before end = absurd end
 end_reached f words i d printers Pass h before end = absurd end
 end_reached f words i d printers Fail h before end = absurd end
 end_reached f words i d printers Help h before end = absurd end
@@ -147,6 +148,7 @@ no_line texts (Stopped Read) P a end = Stays-none a
 no_line texts (Stopped Write) P a end = absurd end
 no_line texts (Stopped Turns) P a end = absurd end
 no_line texts (Stopped NoProfile) P a end = absurd end
+no_line texts (Stopped Items) P a end = absurd end
 no_line texts Pass P a end = absurd end
 no_line texts Fail P a end = absurd end
 no_line texts Help P a end = absurd end
@@ -163,6 +165,7 @@ no_write texts (Stopped Read) end = refl
 no_write texts (Stopped Write) end = absurd end
 no_write texts (Stopped Turns) end = absurd end
 no_write texts (Stopped NoProfile) end = absurd end
+no_write texts (Stopped Items) end = absurd end
 no_write texts Pass end = refl
 no_write texts Fail end = refl
 no_write texts Help end = refl
@@ -179,6 +182,7 @@ no_write_before number text (Stopped Read) end = refl
 no_write_before number text (Stopped Write) end = absurd end
 no_write_before number text (Stopped Turns) end = absurd end
 no_write_before number text (Stopped NoProfile) end = absurd end
+no_write_before number text (Stopped Items) end = absurd end
 no_write_before number text Pass end = refl
 no_write_before number text Fail end = refl
 no_write_before number text Help end = refl

@@ -10,7 +10,7 @@ use Rattle.streams.specs.Pieces.{ByReads}
 use Rattle.std.proofs.lemmas.Grind.{flat_map-append, fold-append}
 use Rattle.std.proofs.lemmas.List.FromFn.{map-range_with_len_more}
 use Rattle.preflight.specs.declared.error.Error.{Error}
-use Rattle.preflight.specs.declared.error.Error.TheVariants.{Memory, Read, Write, Turns, NoProfile}
+use Rattle.preflight.specs.declared.error.Error.TheVariants.{Memory, Read, Write, Turns, NoProfile, Items}
 use Rattle.preflight.specs.declared.culprit.Judgement.{Judgement}
 use Rattle.streams.specs.Outlet.{OutletState, Adds, AddsFront}
 use Rattle.streams.specs.Source.{SourceState}
@@ -19,7 +19,7 @@ use Rattle.subcommands.specs.declared.job_checks.Ending.{Ending}
 use Rattle.subcommands.specs.declared.job_checks.Ending.TheVariants.{Passes, Fails, HasNoVerdict}
 use Rattle.subcommands.specs.JobChecks.{CutsOne, Groups, IsErrorOfJob, IsRightLine, Line, Tells, TellsAll, TellsFront, TellsOne, Work, afters, due_of, ending_of, group_count, keyed, line_text, of_group, work, worse, worst}
 use Rattle.device_profile.specs.Name.{printer_name}
-use Rattle.subcommands.specs.CheckMany.{AreOfTexts}
+use Rattle.subcommands.specs.CheckMany.{AreOfTexts, limited}
 use Rattle.subcommands.specs.Fleet.{DescribeBy, DescribeFleet, IsEndOfFleet}
 use Rattle.subcommands.specs.Texts.{IsErrorOfReading}
 use Rattle.subcommands.specs.declared.status.Status.{Status}
@@ -154,6 +154,7 @@ module _ (groups : Groups) (telling : HowTold) (start : List ℕ → SourceState
     cuts_one Read cut = absurd cut
     cuts_one Turns cut = absurd cut
     cuts_one NoProfile cut = absurd cut
+    cuts_one Items cut = absurd cut
 
   -- ---- the lines of a job, and those of all
 
@@ -192,6 +193,7 @@ error_of_job fleet (Err Read) never none some = tt
 error_of_job fleet (Err Turns) never none some = tt
 error_of_job fleet (Err Write) never none some = absurd (never refl)
 error_of_job fleet (Err NoProfile) never none some = absurd (some (none refl))
+error_of_job fleet (Err Items) never none some = tt
 
 -- it is right for the fleet, where it has a verdict
 pub right_verdict : (fleet : List Printer) (start after : SourceState) (r : Result Judgement Error)
@@ -260,11 +262,13 @@ cut_in_writing error group telling start after job out out' is answer told = sub
 
 -- ---- the printers of texts
 
-pub of_texts : (known : List (Option (List ℕ))) (groups : Groups) (fleet : List Printer) (names given : List (List ℕ)) → groups.fleet ≡ fleet → groups.names ≡ names → DescribeFleet known fleet → DescribeBy [] given fleet → names ≡ map printer_name given → AreOfTexts known groups
-of_texts known groups fleet names given fleet_is names_are described by named = record {
-  described = subst (DescribeFleet known) (sym fleet_is) described;
+pub of_texts : (known : List (Option (List ℕ))) (most : Option ℕ) (groups : Groups) (fleet : List Printer) (names given : List (List ℕ)) → groups.fleet ≡ map (limited most) fleet → groups.names ≡ names → DescribeFleet known fleet → DescribeBy [] given fleet → names ≡ map printer_name given → AreOfTexts known most groups
+of_texts known most groups fleet names given fleet_is names_are described by named = record {
+  fleet = fleet;
+  described = described;
   texts = given;
-  read = subst (DescribeFleet (map (λ text. Some text) given)) (sym fleet_is) (subst (λ texts. DescribeFleet (map (λ text. Some text) texts) fleet) (sym by.1) by.2);
+  read = subst (λ texts. DescribeFleet (map (λ text. Some text) texts) fleet) (sym by.1) by.2;
+  fleet_is = fleet_is;
   names_are = names_are ∙ named;
 }
 
@@ -275,6 +279,7 @@ end_error known Read end = tt
 end_error known Write end = absurd end
 end_error known Turns end = absurd end
 end_error known NoProfile end = absurd end
+end_error known Items end = absurd end
 
 pub error_of_end : (known : List (Option (List ℕ))) (status : Status) (error : Error) → status ≡ Stopped error → IsEndOfFleet known status → IsErrorOfReading error
 error_of_end known status error is end = end_error known error (subst (IsEndOfFleet known) is end)

@@ -37,7 +37,7 @@ use Rattle.preflight.specs.declared.culprit.Culprit.{Culprit}
 use Rattle.preflight.specs.declared.culprit.Culprit.TheVariants.{Text, Simple, WithData, Line}
 use Rattle.preflight.specs.declared.culprit.Judgement.{Judgement}
 use Rattle.preflight.specs.declared.error.Error.{Error}
-use Rattle.preflight.specs.declared.error.Error.TheVariants.{Memory, Read, Write, Turns, NoProfile}
+use Rattle.preflight.specs.declared.error.Error.TheVariants.{Memory, Read, Write, Turns, NoProfile, Items}
 use Rattle.subcommands.specs.CommandWords.{code_words, command_words}
 use Rattle.subcommands.specs.JobLines.{name_byte, shown_name}
 use Rattle.subcommands.specs.JobSentences.{AreNumbers, IsCulpritOfNumbers, IsOfParts, IsSentence, IsVerdictOfNumbers, IsWithin, answer_phrase, at_command, cause_phrase, error_phrase, first_of, for_printer, job_sentence, last_of, named_first, reason_phrase, subject, verdict_phrase}
@@ -205,6 +205,7 @@ error_part Read = literal 40 _ refl refl
 error_part Write = literal 40 _ refl refl
 error_part Turns = literal 40 _ refl refl
 error_part NoProfile = literal 40 _ refl refl
+error_part Items = literal 40 _ refl refl
 
 error_words_part : (error : Error) → IsWithin 20 (error_words error)
 error_words_part Memory = literal 20 _ refl refl
@@ -212,6 +213,7 @@ error_words_part Read = literal 20 _ refl refl
 error_words_part Write = literal 20 _ refl refl
 error_words_part Turns = literal 20 _ refl refl
 error_words_part NoProfile = literal 20 _ refl refl
+error_words_part Items = literal 20 _ refl refl
 
 for_part : (names : List (List ℕ)) (number : ℕ) → AllByRecursion (IsWithin 32) names → IsWithin 37 (for_printer names number)
 for_part names number h = one_of 37 (number == 0) [] (codes " for " ++ get_or names (number - 1) []) (λ e. nothing 37) (joined (codes " for ") _ (literal 5 _ refl refl) (name_at names (number - 1) h))

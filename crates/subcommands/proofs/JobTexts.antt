@@ -6,7 +6,7 @@ use Rattle.pcl_items.specs.Grammar.{here}
 use Rattle.pcl_items.specs.Reading.{IsReading, Whole}
 use Rattle.device_profile.specs.Printer.{Printer}
 use Rattle.preflight.specs.declared.error.Error.{Error}
-use Rattle.preflight.specs.declared.error.Error.TheVariants.{Memory, Read, Write, Turns, NoProfile}
+use Rattle.preflight.specs.declared.error.Error.TheVariants.{Memory, Read, Write, Turns, NoProfile, Items}
 use Rattle.preflight.specs.declared.outcome.Outcome.{Outcome}
 use Rattle.preflight.specs.declared.outcome.Outcome.TheVariants.{Done, Fail as FailsOf}
 use Rattle.preflight.specs.Due.{Rendering, Renders, WritesDue, WritesFront}
@@ -48,12 +48,13 @@ nothing_written rendering job a read_failed write_failed = record {
 }
 
 -- work on the job stopped
-pub stopped_within : (error : Error) (rendering : Rendering) (job job' : SourceState) (old new start : OutletState) → error ≢ NoProfile → WritesFront rendering job job' old new → LeavesAtStopBeside error rendering job job' old new start start
-stopped_within Memory rendering job job' old new start known front = inl (front, Stays-none start)
-stopped_within Read rendering job job' old new start known front = (front, Stays-none start)
-stopped_within Write rendering job job' old new start known front = inl (front, Stays-none start)
-stopped_within Turns rendering job job' old new start known front = (front, Stays-none start)
-stopped_within NoProfile rendering job job' old new start known front = absurd (known refl)
+pub stopped_within : (error : Error) (rendering : Rendering) (job job' : SourceState) (old new start : OutletState) → error ≢ NoProfile → error ≢ Items → WritesFront rendering job job' old new → LeavesAtStopBeside error rendering job job' old new start start
+stopped_within Memory rendering job job' old new start known unlimited front = inl (front, Stays-none start)
+stopped_within Read rendering job job' old new start known unlimited front = (front, Stays-none start)
+stopped_within Write rendering job job' old new start known unlimited front = inl (front, Stays-none start)
+stopped_within Turns rendering job job' old new start known unlimited front = (front, Stays-none start)
+stopped_within NoProfile rendering job job' old new start known unlimited front = absurd (known refl)
+stopped_within Items rendering job job' old new start known unlimited front = absurd (unlimited refl)
 
 -- the whole text stands there, and its outcome was told
 pub told : (outcome : Outcome) (status : Status) (rendering : Rendering) (job job' : SourceState) (old new start end : OutletState) → WritesDue rendering job job' old new outcome → LeavesLine outcome status start end → LeavesTextAndLine status rendering job job' old new start end
@@ -79,6 +80,7 @@ told (FailsOf place profile finding) (Stopped Read) rendering job job' old new s
 told (FailsOf place profile finding) (Stopped Write) rendering job job' old new start end stands line = inr (place, profile, finding, stands, line)
 told (FailsOf place profile finding) (Stopped Turns) rendering job job' old new start end stands line = absurd line
 told (FailsOf place profile finding) (Stopped NoProfile) rendering job job' old new start end stands line = absurd line
+told (FailsOf place profile finding) (Stopped Items) rendering job job' old new start end stands line = absurd line
 
 -- the work on a text ended, and its outcome was told
 pub ended : {O : Type 0} (state : O → OutletState) (before after : O) (work : Result Outcome Error) (status : Status) (rendering : Rendering) (job job' : SourceState) (old new : OutletState) →
@@ -89,7 +91,7 @@ ended state before after (Ok outcome) status rendering job job' old new rendered
 ended state before after (Err error) status rendering job job' old new rendered line stop =
     subst (λ s. LeavesTextAndLine s rendering job job' old new (state before) (state after)) (sym stop.0)
     (subst (λ o. LeavesAtStopBeside error rendering job job' old new (state before) (state o)) (sym stop.1)
-    (stopped_within error rendering job job' old new (state before) rendered.never_no_profile rendered.front))
+    (stopped_within error rendering job job' old new (state before) rendered.never_no_profile rendered.never_items rendered.front))
 
 -- so where the line goes behind the text: a write failed just where it stopped at one
 pub ended_write : {O : Type 0} (state : O → OutletState) (before after : O) (work : Result Outcome Error) (status : Status) → (state before).failed ≡ is_err_of_write work →
@@ -122,6 +124,7 @@ at_opening (Stopped Write) rendering job read_failed old write_failed start end 
 at_opening (Stopped Memory) rendering job read_failed old write_failed start end = absurd end
 at_opening (Stopped Turns) rendering job read_failed old write_failed start end = absurd end
 at_opening (Stopped NoProfile) rendering job read_failed old write_failed start end = absurd end
+at_opening (Stopped Items) rendering job read_failed old write_failed start end = absurd end
 at_opening Pass rendering job read_failed old write_failed start end = absurd end
 at_opening Fail rendering job read_failed old write_failed start end = absurd end
 at_opening Help rendering job read_failed old write_failed start end = absurd end
@@ -204,6 +207,7 @@ choice_told (Stopped Read) printer choice IsPrinter choices old new named refuse
 choice_told (Stopped Write) printer choice IsPrinter choices old new named refused line = absurd line
 choice_told (Stopped Turns) printer choice IsPrinter choices old new named refused line = absurd line
 choice_told (Stopped NoProfile) printer choice IsPrinter choices old new named refused line = absurd line
+choice_told (Stopped Items) printer choice IsPrinter choices old new named refused line = absurd line
 choice_told Pass printer choice IsPrinter choices old new named refused line = absurd line
 choice_told Fail printer choice IsPrinter choices old new named refused line = absurd line
 choice_told Help printer choice IsPrinter choices old new named refused line = absurd line
@@ -231,6 +235,7 @@ choice_refused (Stopped Read) printer choice IsPrinter choices old new job a b r
 choice_refused (Stopped Write) printer choice IsPrinter choices old new job a b read_failed write_failed no_read no_write line = absurd line
 choice_refused (Stopped Turns) printer choice IsPrinter choices old new job a b read_failed write_failed no_read no_write line = absurd line
 choice_refused (Stopped NoProfile) printer choice IsPrinter choices old new job a b read_failed write_failed no_read no_write line = absurd line
+choice_refused (Stopped Items) printer choice IsPrinter choices old new job a b read_failed write_failed no_read no_write line = absurd line
 choice_refused Pass printer choice IsPrinter choices old new job a b read_failed write_failed no_read no_write line = absurd line
 choice_refused Fail printer choice IsPrinter choices old new job a b read_failed write_failed no_read no_write line = absurd line
 choice_refused Help printer choice IsPrinter choices old new job a b read_failed write_failed no_read no_write line = absurd line

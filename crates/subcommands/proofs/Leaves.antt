@@ -3,7 +3,7 @@ use Rattle.std.proofs.Common.{◌≡◌, Result, Ok, Err, IfErr, refl, sym, subs
 use Rattle.std.specs.Prelude.{IsErrAnd}
 use Rattle.std.proofs.KnownBytes.{Keeps-refl}
 use Rattle.preflight.specs.declared.error.Error.{Error}
-use Rattle.preflight.specs.declared.error.Error.TheVariants.{Memory, Read, Write, Turns, NoProfile}
+use Rattle.preflight.specs.declared.error.Error.TheVariants.{Memory, Read, Write, Turns, NoProfile, Items}
 use Rattle.verdict.specs.declared.verdict.Verdict.{Verdict}
 use Rattle.streams.specs.Outlet.{OutletState, Stays}
 use Rattle.subcommands.specs.Check.{LeavesAtStop}
@@ -19,6 +19,7 @@ LeavesAtStop-more Read P Q old new more left = left
 LeavesAtStop-more Write P Q old new more left = (left.0, more left.0 left.1, left.2)
 LeavesAtStop-more Turns P Q old new more left = left
 LeavesAtStop-more NoProfile P Q old new more left = left
+LeavesAtStop-more Items P Q old new more left = left
 
 -- without memory nothing was written
 pub LeavesAtStop-memory : (r : Result Verdict Error) (P : Verdict → Type 0) (a : OutletState) → IsErrAnd r (λ error. error ≡ Memory) → IfErr r (λ error. LeavesAtStop error P a a)

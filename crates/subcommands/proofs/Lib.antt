@@ -12,6 +12,7 @@ mod JobTexts
 mod JsonObjectLemmas
 mod JsonTextLemmas
 mod Leaves
+mod Limiting
 mod TextLemmas
 mod Walks
 mod Within

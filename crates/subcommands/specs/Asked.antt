@@ -16,6 +16,7 @@ abbrev pub asked_for : ManyJobs → Asked
 asked_for many = record {
   jobs = map (λ name. name.now) many.jobs.now;
   printers = map (λ word. word.now) many.printers.now;
+  most_items = many.most_items;
   is_each = many.is_each;
   telling = told_by many.telling;
 }

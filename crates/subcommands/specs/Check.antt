@@ -2,7 +2,7 @@
 use Rattle.std.specs.Prelude.{ℕ, List, Option}
 use Rattle.device_profile.specs.Printer.{Printer}
 use Rattle.preflight.specs.declared.error.Error.{Error}
-use Rattle.preflight.specs.declared.error.Error.TheVariants.{Memory, Read, Write, Turns, NoProfile}
+use Rattle.preflight.specs.declared.error.Error.TheVariants.{Memory, Read, Write, Turns, NoProfile, Items}
 use Rattle.verdict.specs.declared.reason.Reason.{Reason}
 use Rattle.verdict.specs.declared.verdict.Verdict.{Verdict}
 use Rattle.verdict.specs.declared.verdict.Verdict.TheVariants.{Pass as PassOf, Fail as FailOf}
@@ -41,6 +41,7 @@ LeavesAtStop Read P old new = Stays old new
 LeavesAtStop Write P old new = (verdict : Verdict) × P verdict × AddsFront old new (verdict_line verdict)
 LeavesAtStop Turns P old new = Stays old new
 LeavesAtStop NoProfile P old new = ⊥
+LeavesAtStop Items P old new = ⊥
 
 -- what a check that ends by this status leaves on standard output: the line of a verdict with this fact, where it has one
 abbrev pub Leaves : Status → (Verdict → Type 0) → OutletState → OutletState → Type 0

@@ -1,6 +1,7 @@
 -- How a check of many jobs ends.
 use Rattle.std.specs.Prelude.{◌≡◌, ◌-◌, ◌⊎◌, ℕ, Bool, List, [], map, flat_map, get_or, Option, Some}
 use Rattle.device_profile.specs.Name.{printer_name}
+use Rattle.device_profile.specs.Printer.{Printer}
 use Rattle.preflight.specs.declared.error.Error.{Error}
 use Rattle.preflight.specs.declared.error.Error.TheVariants.{Memory, Read}
 use Rattle.preflight.specs.Writing.{Writes}
@@ -26,17 +27,25 @@ status_of Passes = Pass
 status_of Fails = Fail
 status_of HasNoVerdict = Told NoVerdict
 
--- these are the printers of texts: of those that are known, and of those that were read, which also give their names
-pub record AreOfTexts (known : List (Option (List ℕ))) (groups : Groups) : Type 0 where
-  pub described : DescribeFleet known groups.fleet
+-- the same printer, whose macros may carry out so many items of a job
+abbrev pub limited : Option ℕ → Printer → Printer
+limited most printer = record printer { most_items = most }
+
+-- these are the printers of texts, with this limit: of those that are known, and of those that were read, which also give their names
+pub record AreOfTexts (known : List (Option (List ℕ))) (most : Option ℕ) (groups : Groups) : Type 0 where
+  pub fleet : List Printer
+  pub described : DescribeFleet known fleet
   pub texts : List (List ℕ)
-  pub read : DescribeFleet (map (λ text. Some text) texts) groups.fleet
+  pub read : DescribeFleet (map (λ text. Some text) texts) fleet
+  pub fleet_is : groups.fleet ≡ map (limited most) fleet
   pub names_are : groups.names ≡ map printer_name texts
 
--- what is asked for: the names of the jobs, the words of the printers, whether each printer is told of by itself, and how it is told
+-- what is asked for: the names of the jobs, the words of the printers, how many items macros may carry out where that is limited,
+-- whether each printer is told of by itself, and how it is told
 pub record Asked : Type 0 where
   pub jobs : List (List ℕ)
   pub printers : List (List ℕ)
+  pub most_items : Option ℕ
   pub is_each : Bool
   pub telling : HowTold
 
@@ -78,5 +87,5 @@ TellsRefusal format end words status err err' = (status ≡ end) × (err' ≡ er
 -- the jobs are checked for the printers of these texts; or there is no fleet, and no line is written and no job read
 abbrev pub LeavesMany : List (Option (List ℕ)) → Asked → (List ℕ → SourceState) → Status → Work → Work → OutletState → OutletState → Type 0
 LeavesMany known asked start status old new err err' =
-    ((groups : Groups) × AreOfTexts known groups × (groups.is_each ≡ asked.is_each) × LeavesLines asked groups start status old new × (err' ≡ err))
+    ((groups : Groups) × AreOfTexts known asked.most_items groups × (groups.is_each ≡ asked.is_each) × LeavesLines asked groups start status old new × (err' ≡ err))
     ⊎ ((end : Status) × IsEndOfFleet known end × TellsRefusal asked.telling.format end asked.printers status err err' × (new ≡ old))

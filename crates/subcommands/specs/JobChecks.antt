@@ -1,13 +1,15 @@
 -- What a check of many jobs leaves.
-use Rattle.std.specs.Prelude.{◌≡◌, ℕ, Bool, true, false, List, [], ◌++◌, flat_map, map, fold, take, drop, length, get_or, IsTrue, Option, Result, Ok, Err, IfOk, IfErr, ⊤, if◌then◌else◌}
+use Rattle.std.specs.Prelude.{◌≡◌, ℕ, Bool, true, false, List, [], ◌++◌, flat_map, map, fold, take, drop, length, get_or, IsTrue, IsErrOf, Option, Result, Ok, Err, IfOk, IfErr, ⊤, if◌then◌else◌}
 use Rattle.std.specs.List.{AllByRecursion, range_with_len}
 use Rattle.device_profile.specs.Printer.{Printer}
 use Rattle.preflight.specs.declared.error.Error.{Error}
-use Rattle.preflight.specs.declared.error.Error.TheVariants.{Memory, Read, Write, Turns, NoProfile}
+use Rattle.preflight.specs.declared.error.Error.TheVariants.{Memory, Read, Write, Turns, NoProfile, Items}
 use Rattle.preflight.specs.declared.culprit.Judgement.{Judgement}
 use Rattle.preflight.specs.Culprit.{IsTold}
 use Rattle.preflight.specs.Errors.{is_err_of_read}
+use Rattle.preflight.specs.Verdict.{PassesItems}
 use Rattle.verdict.specs.declared.verdict.Verdict.{Verdict}
+use Rattle.verdict.specs.Limits.{has_many_items}
 use Rattle.verdict.specs.declared.verdict.Verdict.TheVariants.{Pass as PassOf, Fail as FailOf}
 use Rattle.streams.specs.Pieces.{ByReads}
 use Rattle.streams.specs.Outlet.{OutletState, Adds, AddsFront}
@@ -27,13 +29,17 @@ IsErrorOfJob Read = ⊤
 IsErrorOfJob Turns = ⊤
 IsErrorOfJob Write = ⊥
 IsErrorOfJob NoProfile = ⊥
+IsErrorOfJob Items = ⊤
 
 -- What came of a job of which the reads led from the one state to the other: a verdict that is right for this fleet, with the item that
--- stands at its place; or an error, which is that of a read exactly where one failed.
+-- stands at its place; or an error, which is that of a read exactly where one failed. Where the verdict is that macros carry out more items
+-- than the printers allow, it is an error.
 pub record IsRightAnswer (fleet : List Printer) (start after : SourceState) (answer : Result Judgement Error) : Type 0 where
   pub verdict : IfOk answer (λ judgement. IsRight start after fleet judgement.verdict)
   pub item : IfOk answer (λ judgement. ByReads start after (λ job. IsTold job judgement.verdict judgement.culprit))
   pub error : IfErr answer IsErrorOfJob
+  pub within : IfOk answer (λ judgement. has_many_items judgement.verdict ≡ false)
+  pub items : IsErrOf answer Items → PassesItems fleet start after
   pub read : after.failed ≡ is_err_of_read answer
 
 -- how an answer counts for the exit status
@@ -57,6 +63,7 @@ IsErrorOfLine Write = ⊤
 IsErrorOfLine Read = ⊥
 IsErrorOfLine Turns = ⊥
 IsErrorOfLine NoProfile = ⊥
+IsErrorOfLine Items = ⊥
 
 -- ---- the printers
 

@@ -5,7 +5,7 @@ use Rattle.serde_json.specs.Written.{compact_text}
 use Rattle.line_words.specs.Reason.{bare_name, field_words}
 use Rattle.preflight.specs.declared.culprit.Culprit.{Culprit}
 use Rattle.preflight.specs.declared.error.Error.{Error}
-use Rattle.preflight.specs.declared.error.Error.TheVariants.{Memory, Read, Write, Turns, NoProfile}
+use Rattle.preflight.specs.declared.error.Error.TheVariants.{Memory, Read, Write, Turns, NoProfile, Items}
 use Rattle.verdict.specs.Numbers.{reason_number}
 use Rattle.verdict.specs.declared.reason.Reason.{Reason}
 use Rattle.verdict.specs.declared.verdict.Verdict.{Verdict}
@@ -44,6 +44,7 @@ error_name Read = codes "read"
 error_name Write = codes "write"
 error_name Turns = codes "turns"
 error_name NoProfile = codes "no profile"
+error_name Items = codes "items"
 
 -- what the system says of a read that failed
 abbrev pub with_cause : Option (List ℕ) → Members → Members

@@ -7,7 +7,7 @@ use Rattle.preflight.specs.declared.culprit.Culprit.{Culprit}
 use Rattle.preflight.specs.declared.culprit.Culprit.TheVariants.{Text, Simple, WithData, Line}
 use Rattle.preflight.specs.declared.culprit.Judgement.{Judgement}
 use Rattle.preflight.specs.declared.error.Error.{Error}
-use Rattle.preflight.specs.declared.error.Error.TheVariants.{Memory, Read, Write, Turns, NoProfile}
+use Rattle.preflight.specs.declared.error.Error.TheVariants.{Memory, Read, Write, Turns, NoProfile, Items}
 use Rattle.verdict.specs.declared.reason.Reason.{Reason}
 use Rattle.verdict.specs.declared.verdict.Verdict.{Verdict}
 use Rattle.verdict.specs.declared.verdict.Verdict.TheVariants.{Pass, Fail}
@@ -53,6 +53,7 @@ error_phrase Read = codes "this job cannot be read"
 error_phrase Write = codes "nothing can be written"
 error_phrase Turns = codes "this job does not end"
 error_phrase NoProfile = codes "there is no printer"
+error_phrase Items = codes "macros carry out too many items"
 
 abbrev pub for_printer : List (List ℕ) → ℕ → List ℕ
 for_printer names number = if number == 0 then [] else codes " for " ++ get_or names (number - 1) []

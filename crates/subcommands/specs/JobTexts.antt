@@ -3,7 +3,7 @@ use Rattle.std.specs.Prelude.{◌≡◌, ◌≢◌, ◌⊎◌, ℕ, ◌+◌, ◌
 use Rattle.device_profile.specs.declared.panel.Panel.{Panel}
 use Rattle.device_profile.specs.Printer.{Printer, first_panel}
 use Rattle.preflight.specs.declared.error.Error.{Error}
-use Rattle.preflight.specs.declared.error.Error.TheVariants.{Memory, Read, Write, Turns, NoProfile}
+use Rattle.preflight.specs.declared.error.Error.TheVariants.{Memory, Read, Write, Turns, NoProfile, Items}
 use Rattle.preflight.specs.declared.outcome.Outcome.{Outcome}
 use Rattle.preflight.specs.declared.outcome.Outcome.TheVariants.{Done, Fail as FailsOf}
 use Rattle.verdict.specs.declared.reason.Reason.{Reason}
@@ -45,7 +45,7 @@ LeavesText (Overwrites input) rendering job job' old new = ⊥
 LeavesText (NotAllowed choice) rendering job job' old new = ⊥
 LeavesText (Told trouble) rendering job job' old new = ⊥
 LeavesText (Profile number line cause) rendering job job' old new = ⊥
-LeavesText (Stopped error) rendering job job' old new = (error ≢ NoProfile) × WritesFront rendering job job' old new
+LeavesText (Stopped error) rendering job job' old new = (error ≢ NoProfile) × (error ≢ Items) × WritesFront rendering job job' old new
 
 -- What is left where work stopped, of a text and, apart from it, of the line of its failure: a front of the text and no line; or
 -- the whole text and of the line nothing or, where a write failed, a front.
@@ -55,6 +55,7 @@ LeavesAtStopBeside Read rendering job job' old new start end = WritesFront rende
 LeavesAtStopBeside Write rendering job job' old new start end = (WritesFront rendering job job' old new × Stays start end) ⊎ StandsUpToFailure rendering job job' old new (AddsFront start end)
 LeavesAtStopBeside Turns rendering job job' old new start end = WritesFront rendering job job' old new × Stays start end
 LeavesAtStopBeside NoProfile rendering job job' old new start end = ⊥
+LeavesAtStopBeside Items rendering job job' old new start end = ⊥
 
 -- what a subcommand that ends by this status leaves of a text between old and new, and of the line of its failure, where it
 -- has one, between start and end

@@ -5,7 +5,7 @@ use Rattle.device_profile.specs.declared.fault.Cause.TheVariants.{Version, Unkno
 use Rattle.device_profile.specs.declared.fault.ProfileFault.{ProfileFault}
 use Rattle.device_profile.specs.declared.fault.ProfileFault.TheVariants.{Fault, Memory as NoMemory}
 use Rattle.preflight.specs.declared.error.Error.{Error}
-use Rattle.preflight.specs.declared.error.Error.TheVariants.{Memory, Read, Write, Turns, NoProfile}
+use Rattle.preflight.specs.declared.error.Error.TheVariants.{Memory, Read, Write, Turns, NoProfile, Items}
 use Rattle.preflight.specs.Errors.{is_read, is_write}
 use Rattle.subcommands.specs.declared.status.Status.{Status}
 use Rattle.subcommands.specs.declared.status.Input.{Input}
@@ -33,6 +33,7 @@ error_words Read = codes "ERROR read"
 error_words Write = codes "ERROR write"
 error_words Turns = codes "ERROR turns"
 error_words NoProfile = codes "ERROR no profile"
+error_words Items = codes "ERROR items"
 
 abbrev pub error_line : Error → List ℕ
 error_line error = error_words error ++ 10 ∷ []

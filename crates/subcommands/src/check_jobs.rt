@@ -6,7 +6,7 @@ ghost use Rattle.subcommands.specs.Fleet.{IsEndOfFleet};
 ghost use Rattle.subcommands.specs.JobChecks.{work};
 ghost use Rattle.subcommands.specs.Texts.{IsErrorOfReading};
 
-use crate::fleet::read_fleet;
+use crate::fleet::{limited_fleet, read_fleet};
 use crate::groups::Group;
 use crate::job_checks::{Ending, check_jobs};
 use crate::jobs::Jobs;
@@ -28,6 +28,8 @@ use std::alloc::{AllocError, Allocator};
 pub struct ManyJobs<'w, 'n> {
     pub jobs: &'w [&'n [u8]],
     pub printers: &'w [&'w str],
+    /// How many items macros may carry out in a job, where that is limited.
+    pub most_items: Option<u64>,
     /// Each printer has lines of its own.
     pub is_each: bool,
     pub telling: Telling<'w>,
@@ -57,7 +59,7 @@ pub fn check_many<'n, J: Jobs<'n>, T: ProfileTexts, O: Outlet, E: Outlet, A: All
         (E.state stderr.old) (E.state stderr.new) }
 {
     let mut named = NamedTexts::new(alloc, texts);
-    let fleet = match read_fleet(alloc, &mut named, asked.printers) {
+    let read = match read_fleet(alloc, &mut named, asked.printers) {
         Ok(fleet) => fleet,
         Err(status) => {
             let told = system_words(alloc, named.error());
@@ -65,6 +67,7 @@ pub fn check_many<'n, J: Jobs<'n>, T: ProfileTexts, O: Outlet, E: Outlet, A: All
             return tell_refusal(alloc, asked, word, told, status, stderr);
         }
     };
+    let fleet = limited_fleet(read, asked.most_items);
     let names = named.into_names();
     let printers = Group::new(fleet.as_slice(), names.as_slice(), asked.is_each);
     check_for(alloc, jobs, asked, &printers, stdout)

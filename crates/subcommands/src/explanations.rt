@@ -7,7 +7,7 @@ ghost use Rattle.subcommands.specs.Explanations.{ExplainReasons};
 /// Reference Manual treats of it.
 ///
 /// `docs/DEFINITIONS.md` has the same sentences, and `docs/check_commands.py` compares the two.
-pub const EXPLANATIONS: [&str; 32] = [
+pub const EXPLANATIONS: [&str; 33] = [
     "\
 1 Syntax
   When:    A byte comes with which no escape sequence goes on, or a command
@@ -336,6 +336,16 @@ pub const EXPLANATIONS: [&str; 32] = [
            or call the macro on each page.
   Manual:  \"PCL Font Selection\", Default Font; \"Macros\", Enable Macro for
            Automatic Overlay
+",
+    "\
+36 ManyItems
+  When:    An item of a macro is due, and macros have carried out as many items
+           of the job as are allowed. Each item of a macro counts each time, in
+           an overlay, too. Only where their number is limited, as by check
+           --most-items.
+  Change:  Send what macros repeat as items of the job, or fewer macros that
+           call others; or allow more items.
+  Manual:  \"Macros\", Macro Control
 ",
 ];
 

@@ -1,5 +1,6 @@
 //! The fleet that the words name.
 ghost use Rattle.std.specs.Prelude.{◌≡◌, ◌+◌, ◌<◌, ◌^◌, [], ◌∷◌, map, length, IfSome, IsFalse, MatchResult};
+ghost use Rattle.subcommands.specs.CheckMany.{limited};
 ghost use Rattle.subcommands.specs.Fleet.{DescribeBy, DescribeFleet, Describes, IsEndOfFleet, IsEndOfProfile, RefusesBy, RefusesRead};
 ghost use Rattle.subcommands.specs.Status.{is_err_at_read, refusal_of};
 
@@ -33,6 +34,27 @@ pub fn read_fleet<T: ProfileTexts, A: Allocator + Copy>(
         fleet.push(profile)?;
     }
     Ok(fleet)
+}
+
+/// The printers, where the macros of each may carry out so many items of a job, or are not limited.
+pub fn limited_fleet<A: Allocator>(
+    mut fleet: Vec<Profile<A>, A>,
+    most: Option<u64>,
+) -> Vec<Profile<A>, A>
+    ensures { result.items ≡ map (limited most) fleet.items }
+{
+    limit_each(&mut fleet, most);
+    fleet
+}
+
+/// Limits how many items of a job the macros of each printer may carry out, or leaves them without
+/// a limit.
+fn limit_each<A: Allocator>(fleet: &mut [Profile<A>], most: Option<u64>)
+    ensures { fleet.new ≡ map (limited most) fleet.old }
+{
+    for profile in fleet.iter_mut() {
+        profile.limit_items(most);
+    }
 }
 
 /// The profile that a word names, the one of this number among the words.

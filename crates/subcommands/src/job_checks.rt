@@ -14,7 +14,7 @@ use crate::jobs::Jobs;
 use crate::reports::Report;
 use crate::system_words::system_words;
 use crate::telling::{Telling, push_report};
-use preflight::{Error, Judgement, Outlet, Source, Verdict, check_job_telling, write_text};
+use preflight::{Error, Judgement, Outlet, Source, Verdict, check_job_within, write_text};
 use std::alloc::{AllocError, Allocator};
 use std::io;
 
@@ -150,7 +150,7 @@ fn tell_result<'t, S: Source, O: Outlet, A: Allocator + Copy>(
         (O.state stdout.old) (O.state stdout.new)) }
     ensures write { (O.state stdout.new).failed ≡ is_err_of_write result }
 {
-    let answer = check_job_telling(alloc, job, group.profiles());
+    let answer = check_job_within(alloc, job, group.profiles());
     let line = line_of_job(alloc, group, name, answer, job.error(), telling)?;
     write_text(stdout, line.as_slice())?;
     Ok(Ending::of(telling.exit_zero, answer))

@@ -190,5 +190,6 @@ fn error_name(error: Error) -> &'static str
         Error::Write => "write",
         Error::Turns => "turns",
         Error::NoProfile => "no profile",
+        Error::Items => "items",
     }
 }

@@ -131,6 +131,7 @@ pub fn error_words(error: Error) -> &'static [u8]
         Error::Write => b"ERROR write",
         Error::Turns => b"ERROR turns",
         Error::NoProfile => b"ERROR no profile",
+        Error::Items => b"ERROR items",
     }
 }
 

@@ -1,2 +1,3 @@
 pub mod Failing
+pub mod Limits
 pub mod Numbers

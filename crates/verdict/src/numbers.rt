@@ -49,5 +49,6 @@ pub fn number_of(finding: Finding) -> u8
         Finding::Inexact => 31,
         Finding::MarginIgnored => 32,
         Finding::RotatedRaster => 34,
+        Finding::ManyItems => 36,
     }
 }

@@ -1,5 +1,6 @@
 //! Why a job fails.
 ghost use Rattle.std.specs.Prelude.{◌≡◌};
+ghost use Rattle.verdict.specs.Limits.{is_many_items};
 ghost use Rattle.verdict.specs.Numbers.{reason_number};
 
 use crate::numbers::{cause_number, number_of};
@@ -29,6 +30,19 @@ impl Reason {
             Reason::Finding(finding) => number_of(finding),
             Reason::Differs => 33,
             Reason::Unpinnable => 35,
+        }
+    }
+
+    /// Whether macros carry out more items than are allowed.
+    pub fn is_many_items(self) -> bool
+        ensures { result ≡ is_many_items self }
+    {
+        match self {
+            Reason::Finding(Finding::ManyItems) => true,
+            Reason::Finding(_) => false,
+            Reason::Fault(_) => false,
+            Reason::Differs => false,
+            Reason::Unpinnable => false,
         }
     }
 }

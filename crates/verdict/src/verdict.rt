@@ -1,4 +1,7 @@
 //! What a check answers on a job.
+ghost use Rattle.std.specs.Prelude.{◌≡◌};
+ghost use Rattle.verdict.specs.Limits.{has_many_items};
+
 use crate::reason::Reason;
 
 /// What a check answers on a job.
@@ -16,4 +19,16 @@ pub enum Verdict {
         profile: u64,
         finding: Reason,
     },
+}
+
+impl Verdict {
+    /// Whether it says that macros carry out more items than are allowed.
+    pub fn has_many_items(self) -> bool
+        ensures { result ≡ has_many_items self }
+    {
+        match self {
+            Verdict::Pass { .. } => false,
+            Verdict::Fail { finding, .. } => finding.is_many_items(),
+        }
+    }
 }

@@ -3,7 +3,7 @@ use Rattle.std.specs.Prelude.{◌≡◌, ◌*◌, ◌≤◌, ℕ, List, [], ◌�
 use Rattle.std.specs.List.{concat}
 use Rattle.std.specs.Io.KnownBytes.{Consumes}
 use Rattle.preflight.specs.declared.error.Error.{Error}
-use Rattle.preflight.specs.declared.error.Error.TheVariants.{Memory, Read, Write, Turns, NoProfile}
+use Rattle.preflight.specs.declared.error.Error.TheVariants.{Memory, Read, Write, Turns, NoProfile, Items}
 use Rattle.streams.specs.Pieces.{MayBeBy, Spell}
 use Rattle.streams.specs.Source.{SourceState}
 
@@ -14,6 +14,7 @@ IsErrorOfPiece Read = ⊥
 IsErrorOfPiece Write = Unit {0}
 IsErrorOfPiece Turns = ⊥
 IsErrorOfPiece NoProfile = ⊥
+IsErrorOfPiece Items = ⊥
 
 -- what one more piece came to, behind these bytes
 abbrev pub ComesByPiece : {C A : Type 0} → (C → List ℕ → C → Type 0) → (C → A → List (List ℕ) → C → Type 0) → (C → Error → List ℕ → C → Type 0)
@@ -61,6 +62,7 @@ StopsBy Open Stops Read = Open
 StopsBy Open Stops Write = Stops Write
 StopsBy Open Stops Turns = Open
 StopsBy Open Stops NoProfile = ⊥
+StopsBy Open Stops Items = ⊥
 
 -- The reads gave these bytes, and then it stopped.
 pub record IsStopped {C : Type 0} (goes_on : C → List ℕ → C → Type 0) (stops : C → Error → List ℕ → C → Type 0) (first now : C) (error : Error) (source source' : SourceState) : Type 0 where

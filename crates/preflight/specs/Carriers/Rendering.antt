@@ -8,7 +8,7 @@ use Rattle.pcl_items.specs.Reading.{Reading, Whole, Stopped, IsReading, with_ite
 use Rattle.pcl_items.specs.LexerState.{LexerState}
 use Rattle.pcl_items.specs.Lexing.{HasRead, MayBe, Undecided}
 use Rattle.preflight.specs.declared.error.Error.{Error}
-use Rattle.preflight.specs.declared.error.Error.TheVariants.{Memory, Read, Write, Turns, NoProfile}
+use Rattle.preflight.specs.declared.error.Error.TheVariants.{Memory, Read, Write, Turns, NoProfile, Items}
 use Rattle.preflight.specs.declared.outcome.Outcome.{Outcome}
 use Rattle.streams.specs.Outlet.{OutletState, Adds, AddsFront}
 use Rattle.preflight.specs.Due.{Rendering, IsDue}
@@ -107,3 +107,4 @@ IsErrorOfRendering Read = ⊥
 IsErrorOfRendering Write = Unit {0}
 IsErrorOfRendering Turns = ⊥
 IsErrorOfRendering NoProfile = ⊥
+IsErrorOfRendering Items = ⊥

@@ -5,11 +5,11 @@ use Rattle.page_env.specs.declared.finding.Finding.TheVariants.{InMacro}
 use Rattle.page_env.specs.Answers.{Changes, Marks, changed, effect_at}
 use Rattle.page_env.specs.Settings.{State, settings_at, state_at}
 use Rattle.page_machine.specs.declared.nesting.Nesting.TheVariants.{Overlaid}
-use Rattle.page_machine.specs.Run.{Run, just, Done, Halts, goes, peaks_of, marked_close, close_and_change, effect_run, item_run, entries_run}
-use Rattle.page_machine.specs.Macros.{put_back, give_up, refused, at_level, raster_ended, ended, overlay_run, body_run, control_body, close_in}
+use Rattle.page_machine.specs.Run.{Run, followed_by, just, Done, Halts, goes, peaks_of, marked_close, close_and_change, effect_run, item_run, entries_run}
+use Rattle.page_machine.specs.Macros.{put_back, give_up, refused, at_level, raster_ended, ended, overlay_run, body_run, macro_item_run, control_body, close_in}
 use Rattle.page_machine.specs.Machine.{context_with, conditions_with}
 use Rattle.page_machine.proofs.Cases.{page_close-deep, page_close-unset, page_close-passes, overlay_run-unknown, overlay_run-found, marked_close-marked, marked_close-unmarked, control_run-found, control_run-goes, execute-is, call-is, no_body, executed_body, called_body, body_run-none, body_run-some, entries_run-end, entries_run-next}
-use Rattle.page_machine.proofs.Composed.{TakesUpTo-none, TakesUpTo-is, TakesUpTo-rest, TakesUpTo-first, TakesUpTo-after, TakesUpTo-done, Follows-done, Follows-found, Follows-is, Follows-step, Follows-stepped, Follows-onward, Follows-stopped, Follows-took, Follows-after, Follows-put_back, Follows-call_stopped, Follows-give_up}
+use Rattle.page_machine.proofs.Composed.{TakesUpTo-none, TakesUpTo-is, TakesUpTo-rest, TakesUpTo-first, TakesUpTo-after, TakesUpTo-done, Follows-done, Follows-found, Follows-is, Follows-step, Follows-stepped, Follows-onward, Follows-overlay_stopped, Follows-stopped, Follows-took, Follows-after, Follows-put_back, Follows-call_stopped, Follows-give_up}
 use Rattle.page_machine.proofs.carrying.+run.Goals as goal
 
 -- ---- closing a page
@@ -49,23 +49,30 @@ page_close-returns-in-Err g t c =
 pub page_close-returns-in-Err-run_overlay : goal.page_close-returns-in-Err-run_overlay
 page_close-returns-in-Err-run_overlay g t c =
     Follows-is _ _ _ _ _ _ _ _ _ (λ panel. page_close-passes (context_with c.args.around.now panel) (state_at panel c.args.page.now) (c.is_too_deep.ensures panel ∙ c.if-is_too_deep.false) (c.in-Ok.ensures panel).0)
-    (Follows-stopped _ _ _ _ _ c.args.page.now _ _ (λ panel. ended) _ (c.in-Err-run_overlay.ensures (λ panel. c.overlay_page-overlaid.ensures panel)))
+    (Follows-stopped _ _ _ _ _ c.run_overlay.new.page _ _ (λ panel. ended) _ (c.in-Err-run_overlay.ensures.runs (λ panel. c.overlay_page-overlaid.ensures panel)))
 
 pub page_close-returns-in-Ok-run_overlay : goal.page_close-returns-in-Ok-run_overlay
 page_close-returns-in-Ok-run_overlay g t c =
     Follows-is _ _ _ _ _ _ _ _ _ (λ panel. page_close-passes (context_with c.args.around.now panel) (state_at panel c.args.page.now) (c.is_too_deep.ensures panel ∙ c.if-is_too_deep.false) (c.in-Ok.ensures panel).0)
-    (Follows-onward _ _ _ _ _ _ c.args.page.now _ _ (λ panel. ended) _ _ (c.in-Ok-run_overlay.ensures (λ panel. c.overlay_page-overlaid.ensures panel)) c.end_page.ensures)
+    (Follows-onward _ _ _ _ _ _ c.run_overlay.new.page _ _ (λ panel. ended) _ _ (c.in-Ok-run_overlay.ensures.runs (λ panel. c.overlay_page-overlaid.ensures panel)) c.end_page.ensures)
 
-pub run_overlay-returns-in_default-body : goal.run_overlay-returns-in_default-body
-run_overlay-returns-in_default-body g t c = λ begins.
+pub run_overlay-returns-in_default-body-clause-runs : goal.run_overlay-returns-in_default-body-clause-runs
+run_overlay-returns-in_default-body-clause-runs g t c = λ begins.
     Follows-done _ _ _ _ _ _ _ (λ panel. overlay_run-unknown (context_with c.args.around.now panel) (state_at panel c.args.page.now) c.args.page.now.env.job.overlay c.in-Some.id c.in-Some.is (sym c.body.ensures ∙ c.in_default-body.is))
 
-pub run_overlay-returns : goal.run_overlay-returns
-run_overlay-returns g t c = λ begins.
+pub run_overlay-returns-in-Err-clause-runs : goal.run_overlay-returns-in-Err-clause-runs
+run_overlay-returns-in-Err-clause-runs g t c = λ begins.
     Follows-is _ _ _ _ _ _ _ _ _
     (λ panel. overlay_run-found (context_with c.args.around.now panel) (state_at panel c.args.page.now) c.args.page.now.env.job.overlay c.in-Some.id c.in-Some.is c.in-Some-body.body (state_at panel c.args.overlaid.now) (sym c.body.ensures ∙ c.in-Some-body.is) (begins panel)
     ∙ ap (λ n. give_up (state_at panel c.args.page.now) (body_run (context_with c.args.around.now panel) refused n 1 Overlaid c.in-Some-body.body (state_at panel c.args.overlaid.now))) (sym c.depth.ensures))
-    (Follows-give_up _ _ _ _ _ c.run_body.new.page c.args.page.now _ _ (c.run_body.ensures 1))
+    (Follows-overlay_stopped _ _ _ _ _ c.run_body.new.page c.args.page.now _ _ _ (c.in-Err.ensures 1))
+
+pub run_overlay-returns-in-Ok-clause-runs : goal.run_overlay-returns-in-Ok-clause-runs
+run_overlay-returns-in-Ok-clause-runs g t c = λ begins.
+    Follows-is _ _ _ _ _ _ _ _ _
+    (λ panel. overlay_run-found (context_with c.args.around.now panel) (state_at panel c.args.page.now) c.args.page.now.env.job.overlay c.in-Some.id c.in-Some.is c.in-Some-body.body (state_at panel c.args.overlaid.now) (sym c.body.ensures ∙ c.in-Some-body.is) (begins panel)
+    ∙ ap (λ n. give_up (state_at panel c.args.page.now) (body_run (context_with c.args.around.now panel) refused n 1 Overlaid c.in-Some-body.body (state_at panel c.args.overlaid.now))) (sym c.depth.ensures))
+    (Follows-give_up _ _ _ _ _ c.run_body.new.page c.args.page.now _ _ _ (c.in-Ok.ensures 1))
 
 -- ---- bodies
 
@@ -94,20 +101,34 @@ run_items-loop-item-init g t c = λ level. TakesUpTo-none _ g.S.MarkSink.refuses
 pub run_items-returns-in_default : goal.run_items-returns-in_default
 run_items-returns-in_default g t c = λ level.
     Follows-took _ _ _ _ _ c.loop-item.page _ _
-    (TakesUpTo-rest _ g.S.MarkSink.refuses _ _ _ _ _ (λ panel. entries_run-end (item_run c.args.around.now.profile.now (conditions_with c.args.around.now level panel)) c.loop-item.body (state_at panel c.loop-item.page) c.in_default.ensures.0) (c.loop-item.invariant level))
+    (TakesUpTo-rest _ g.S.MarkSink.refuses _ _ _ _ _ (λ panel. entries_run-end (macro_item_run c.args.around.now.profile.now (conditions_with c.args.around.now level panel)) c.loop-item.body (state_at panel c.loop-item.page) c.in_default.ensures.0) (c.loop-item.invariant level))
 
 pub run_items-loop-item-preserved : goal.run_items-loop-item-preserved
 run_items-loop-item-preserved g t c = λ level.
     TakesUpTo-after _ g.S.MarkSink.refuses _ _ _ _ _ _ (c.loop-item.invariant level)
-    (TakesUpTo-is _ g.S.MarkSink.refuses _ _ _ _ _ (λ panel. entries_run-next (item_run c.args.around.now.profile.now (conditions_with c.args.around.now level panel)) c.loop-item.body c.next.new.self (view c.in-Some.item) (state_at panel c.loop-item.page) c.in-Some.ensures)
-    (TakesUpTo-first _ g.S.MarkSink.refuses _ _ (λ panel. item_run c.args.around.now.profile.now (conditions_with c.args.around.now level panel) (view c.in-Some.item) (state_at panel c.loop-item.page)) (λ panel. state_at panel c.run_next.new.page) (λ panel. entries_run (item_run c.args.around.now.profile.now (conditions_with c.args.around.now level panel)) c.next.new.self)
-    (TakesUpTo-done _ g.S.MarkSink.refuses _ _ _ c.run_next.new.page _ _ (c.in-Ok.ensures level))))
+    (TakesUpTo-is _ g.S.MarkSink.refuses _ _ _ _ _ (λ panel. entries_run-next (macro_item_run c.args.around.now.profile.now (conditions_with c.args.around.now level panel)) c.loop-item.body c.next.new.self (view c.in-Some.item) (state_at panel c.loop-item.page) c.in-Some.ensures)
+    (TakesUpTo-first _ g.S.MarkSink.refuses _ _ (λ panel. macro_item_run c.args.around.now.profile.now (conditions_with c.args.around.now level panel) (view c.in-Some.item) (state_at panel c.loop-item.page)) (λ panel. state_at panel c.run_macro_item.new.page) (λ panel. entries_run (macro_item_run c.args.around.now.profile.now (conditions_with c.args.around.now level panel)) c.next.new.self)
+    (TakesUpTo-done _ g.S.MarkSink.refuses _ _ _ c.run_macro_item.new.page _ _ (c.in-Ok.ensures level))))
 
 pub run_items-returns-in-Err : goal.run_items-returns-in-Err
 run_items-returns-in-Err g t c = λ level.
-    Follows-after _ _ _ _ _ _ c.run_next.new.page _ _ _ (c.loop-item.invariant level)
-    (Follows-is _ _ _ _ _ _ _ _ _ (λ panel. entries_run-next (item_run c.args.around.now.profile.now (conditions_with c.args.around.now level panel)) c.loop-item.body c.next.new.self (view c.in-Some.item) (state_at panel c.loop-item.page) c.in-Some.ensures)
-    (Follows-stopped _ _ _ _ _ c.run_next.new.page _ (λ panel. item_run c.args.around.now.profile.now (conditions_with c.args.around.now level panel) (view c.in-Some.item) (state_at panel c.loop-item.page)) (λ panel. entries_run (item_run c.args.around.now.profile.now (conditions_with c.args.around.now level panel)) c.next.new.self) _ (c.in-Err.ensures level)))
+    Follows-after _ _ _ _ _ _ c.run_macro_item.new.page _ _ _ (c.loop-item.invariant level)
+    (Follows-is _ _ _ _ _ _ _ _ _ (λ panel. entries_run-next (macro_item_run c.args.around.now.profile.now (conditions_with c.args.around.now level panel)) c.loop-item.body c.next.new.self (view c.in-Some.item) (state_at panel c.loop-item.page) c.in-Some.ensures)
+    (Follows-stopped _ _ _ _ _ c.run_macro_item.new.page _ (λ panel. macro_item_run c.args.around.now.profile.now (conditions_with c.args.around.now level panel) (view c.in-Some.item) (state_at panel c.loop-item.page)) (λ panel. entries_run (macro_item_run c.args.around.now.profile.now (conditions_with c.args.around.now level panel)) c.next.new.self) _ (c.in-Err.ensures level)))
+
+pub run_macro_item-returns-in-Err : goal.run_macro_item-returns-in-Err
+unfolding Marks
+run_macro_item-returns-in-Err g t c = λ level.
+    Follows-found _ _ _ _ _ _ _
+    (λ panel. ap (λ e. followed_by (effect_run (conditions_with c.args.around.now level panel) e) (item_run c.args.around.now.profile.now (conditions_with c.args.around.now level panel) (view c.args.item.now))) (c.in-Err.ensures panel))
+
+pub run_macro_item-returns-in-Ok : goal.run_macro_item-returns-in-Ok
+unfolding Marks
+run_macro_item-returns-in-Ok g t c = λ level.
+    Follows-is _ _ _ _ _ _ _ _ _
+    (λ panel. ap (λ e. followed_by (effect_run (conditions_with c.args.around.now level panel) e) (item_run c.args.around.now.profile.now (conditions_with c.args.around.now level panel) (view c.args.item.now))) (c.in-Ok.ensures panel))
+    (Follows-onward _ _ _ _ _ _ c.spend_item.new.page _ _ (λ panel. item_run c.args.around.now.profile.now (conditions_with c.args.around.now level panel) (view c.args.item.now)) _ _
+    (Follows-stepped _ _ _ _ c.spend_item.new.page _) (c.run_next.ensures level))
 
 -- ---- controls
 
@@ -211,8 +232,8 @@ run_next-returns-in-Some g t c = λ level. c.in-Some.ensures.1 (conditions_with 
 pub run_next-returns-in-None : goal.run_next-returns-in-None
 run_next-returns-in-None g t c = λ level. rw (c.in-None.ensures.0, c.in-None.ensures.1) at c.run_other.ensures level
 
-pub run_overlay-returns-in_default : goal.run_overlay-returns-in_default
-run_overlay-returns-in_default g t c = λ begins.
+pub run_overlay-returns-in_default-clause-runs : goal.run_overlay-returns-in_default-clause-runs
+run_overlay-returns-in_default-clause-runs g t c = λ begins.
     Follows-done _ _ _ _ _ _ _ (λ panel. ap (overlay_run (context_with c.args.around.now panel) (state_at panel c.args.page.now)) c.in_default.is)
 
 pub run_controlled-returns-then-is_execute : goal.run_controlled-returns-then-is_execute

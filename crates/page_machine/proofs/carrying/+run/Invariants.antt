@@ -1,7 +1,8 @@
 use Rattle.std.proofs.Common.{◌+◌, ◌*◌, ℕ, length}
 use Rattle.page_env.specs.Settings.{state_at}
 use Rattle.page_machine.specs.Follows.{TakesUpTo}
-use Rattle.page_machine.specs.Run.{item_run, entries_run}
+use Rattle.page_machine.specs.Macros.{macro_item_run}
+use Rattle.page_machine.specs.Run.{entries_run}
 use Rattle.page_machine.proofs.Levels.{levels_left}
 use Rattle.page_machine.specs.Machine.{conditions_with}
 use Rattle.page_machine.proofs.carrying.+run.Given as goal
@@ -9,11 +10,14 @@ use Rattle.page_machine.proofs.carrying.+run.Given as goal
 abbrev pub decreases-run_items : goal.decreases-run_items
 decreases-run_items g l = 16 * (levels_left l.around.now.profile.now.depth l.around.now.left l.around.now.nesting) + 15
 
+abbrev pub decreases-run_macro_item : goal.decreases-run_macro_item
+decreases-run_macro_item g l = 16 * (levels_left l.around.now.profile.now.depth l.around.now.left l.around.now.nesting) + 14
+
 abbrev pub decreases-run_next : goal.decreases-run_next
-decreases-run_next g l = 16 * (levels_left l.around.now.profile.now.depth l.around.now.left l.around.now.nesting) + 14
+decreases-run_next g l = 16 * (levels_left l.around.now.profile.now.depth l.around.now.left l.around.now.nesting) + 13
 
 abbrev pub decreases-run_other : goal.decreases-run_other
-decreases-run_other g l = 16 * (levels_left l.around.now.profile.now.depth l.around.now.left l.around.now.nesting) + 13
+decreases-run_other g l = 16 * (levels_left l.around.now.profile.now.depth l.around.now.left l.around.now.nesting) + 12
 
 abbrev pub decreases-go_on : goal.decreases-go_on
 decreases-go_on g l = 16 * (levels_left l.around.now.profile.now.depth l.around.now.left l.around.now.nesting) + 10
@@ -54,5 +58,5 @@ decreases-run_items-loop-item g l = length l.body
 abbrev pub invariant-run_items-loop-item : goal.invariant-run_items-loop-item
 invariant-run_items-loop-item g l =
     (level : ℕ) → TakesUpTo g.S.MarkSink.takes l.fn.sink l.sink
-    (λ panel. entries_run (item_run l.around.profile.now (conditions_with l.around level panel)) l.fn.body (state_at panel l.fn.page))
-    (λ panel. entries_run (item_run l.around.profile.now (conditions_with l.around level panel)) l.body (state_at panel l.page))
+    (λ panel. entries_run (macro_item_run l.around.profile.now (conditions_with l.around level panel)) l.fn.body (state_at panel l.fn.page))
+    (λ panel. entries_run (macro_item_run l.around.profile.now (conditions_with l.around level panel)) l.body (state_at panel l.page))

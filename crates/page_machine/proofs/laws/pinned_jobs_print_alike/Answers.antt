@@ -3,12 +3,12 @@ use Rattle.page_env.specs.Settings.{unwatched, user_defaults}
 use Rattle.page_env.specs.FontInForce.{request_at}
 use Rattle.page_machine.proofs.PinnedBodies.{AreLaws}
 use Rattle.page_machine.proofs.PinnedSettings.{can_be_sent, tray_is_some}
-use Rattle.page_machine.proofs.PinnedWhole.{whole_alike}
+use Rattle.page_machine.proofs.PinnedWhole.{unlimited_alike}
 use Rattle.page_machine.specs.Pinning.{place_behind, pinned_entries}
 use Rattle.page_machine.proofs.laws.pinned_jobs_print_alike.Goals as goal
 
 pub returns : goal.returns
-returns c printer panel set flags from items all =
+returns c printer panel set none flags from items all =
     let pinned = c.items_go_pinned.ensures in
     let bare = c.items_stay_bare.ensures in
     let sound = c.items_are_sound.ensures in
@@ -28,4 +28,4 @@ returns c printer panel set flags from items all =
       bare_bytes = bare.bytes printer;
       bare_moves = bare.moves printer;
     } in
-    whole_alike printer flags from panel laws (request_at printer.faces panel.font) (can_be_sent printer panel set) refl (tray_is_some printer panel set) items (place_behind 0 (pinned_entries printer panel items)) all
+    unlimited_alike printer flags from panel laws (request_at printer.faces panel.font) (can_be_sent printer panel set) refl (tray_is_some printer panel set) items (place_behind 0 (pinned_entries printer panel items)) none all

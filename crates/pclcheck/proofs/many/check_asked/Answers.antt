@@ -29,6 +29,7 @@ returns g c =
     let asked : Asked = record {
       jobs = map (λ name. name.now) c.as_slice-6.result.now;
       printers = map (λ word. word.now) c.as_slice-7.result.now;
+      most_items = words.most_items;
       is_each = words.is_each;
       telling = told_by c.telling_of.result;
     } in
@@ -46,6 +47,7 @@ returns g c =
         no_names = λ none. c.in-Ok-read_names.ensures.none (no_word (λ word. word.now) words.names_from none);
         no_fleets = λ none. ap (map string_bytes) (c.in-Ok.ensures.none (c.as_slice.ensures.value ∙ no_words (λ word. word.now) words.fleets.items none));
         each_fleet = each_fleet string_bytes words.fleets.items c.in-Ok.fleets.items (subst (λ fleets. length fleets ≤ length c.in-Ok.fleets.items) c.as_slice.ensures.value c.in-Ok.ensures.each);
+        most_items = refl;
         is_each = refl;
         telling = c.telling_of.ensures;
       },

@@ -3,13 +3,18 @@ use Rattle.std.proofs.lemmas.Result.{err_from_is_err_and}
 use Rattle.streams.specs.Pieces.{ByReads}
 use Rattle.preflight.specs.Culprit.{IsTold}
 use Rattle.preflight.specs.Verdict.{IsExact, KeepsPromise}
-use Rattle.preflight.proofs.Judging.{exact, headline, known_ok, needed, never_write, told}
+use Rattle.preflight.proofs.Judging.{exact, headline, known_ok, needed, never_items, never_write, told}
 use Rattle.preflight.proofs.check.check_job_telling.Goals as goal
 
 pub returns-in_err-verdict-clause-never_write : goal.returns-in_err-verdict-clause-never_write
 returns-in_err-verdict-clause-never_write g c =
     let same = err_from_is_err_and c.from_residual-in_err-verdict.result c.from_residual-in_err-verdict.ensures.1 in
     rw (same.1, same.2) (never_write (c.in_ok-session.session, tt) (c.read_job.new.consumer, tt) _ _ (Err c.in_err-verdict.field-0.0) c.in_err-verdict.ensures.stopped)
+
+pub returns-in_err-verdict-clause-never_items : goal.returns-in_err-verdict-clause-never_items
+returns-in_err-verdict-clause-never_items g c =
+    let same = err_from_is_err_and c.from_residual-in_err-verdict.result c.from_residual-in_err-verdict.ensures.1 in
+    rw (same.1, same.2) (never_items (c.in_ok-session.session, tt) (c.read_job.new.consumer, tt) _ _ (Err c.in_err-verdict.field-0.0) c.in_err-verdict.ensures.stopped)
 
 pub returns-clause-exact : goal.returns-clause-exact
 returns-clause-exact g c =

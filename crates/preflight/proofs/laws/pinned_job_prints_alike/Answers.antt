@@ -19,8 +19,8 @@ returns c printer panel set job items place is all =
     record {
       read = subst (λ text. IsReading text reading) (sym (text_is_spelled panel (request_at printer.faces panel.font) true items all)) (pinned_is_read printer panel set job items place is);
       moved = moved_entries panel (request_at printer.faces panel.font) 0 true (entries items);
-      prints = λ from. alike unwatched from (entries items) (all_entries items all);
-      verdict = λ room.
-          let same = alike (watched printer) (first_panel printer) (entries items) (all_entries items all) room in
+      prints = λ none from. alike none unwatched from (entries items) (all_entries items all);
+      verdict = λ none room.
+          let same = alike none (watched printer) (first_panel printer) (entries items) (all_entries items all) room in
           (same.set, same_verdict reading run (watched_run printer (first_panel printer) reading) same);
     }

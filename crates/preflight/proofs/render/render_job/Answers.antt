@@ -6,7 +6,7 @@ use Rattle.preflight.specs.declared.error.Error.TheVariants.{Read, Turns}
 use Rattle.preflight.specs.Due.{WritesDecided, WritesFront}
 use Rattle.preflight.specs.Errors.{is_write}
 use Rattle.preflight.specs.Carriers.Rendered.{IsCutOff, RendersOn}
-use Rattle.preflight.proofs.Driving.{answer_gives, by_whose, never_none, of_read, own_read, stop_gives, write_status}
+use Rattle.preflight.proofs.Driving.{answer_gives, by_whose, never_items, never_none, of_read, own_read, stop_gives, write_status}
 use Rattle.preflight.proofs.Renderings.{nothing_decided, rendered_none}
 use Rattle.preflight.proofs.WrittenTexts.{decided_told, due_by, front_by, front_told}
 use Rattle.preflight.proofs.render.render_job.Goals as goal
@@ -62,4 +62,5 @@ returns g c =
       turns = c.read_job.ensures.turns;
       long = c.read_job.ensures.long;
       never_no_profile = stop_gives result stopped (λ error is. never_none (Open is.bytes) (CutOff is.bytes) error is.came);
+      never_items = stop_gives result stopped (λ error is. never_items (Open is.bytes) (CutOff is.bytes) error is.came);
     }

@@ -8,16 +8,18 @@ use Rattle.subcommands.proofs.job_checks.tell_result.Goals as goal
 
 pub returns-clause-told : goal.returns-clause-told
 returns-clause-told g c =
-    let check = c.check_job_telling-answer.ensures in
-    let answer = c.check_job_telling-answer.result in
+    let check = c.check_job_within-answer.ensures in
+    let answer = c.check_job_within-answer.result in
     let start = g.S.Source.state c.args.job.now in
-    let after = g.S.Source.state c.check_job_telling-answer.new.reader in
+    let after = g.S.Source.state c.check_job_within-answer.new.reader in
     let fleet = c.profiles.result.now in
     let some = subst (λ f. f ≢ []) (sym c.profiles.ensures) c.requires.some in
     let right : IsRightAnswer fleet start after answer = record {
       verdict = right_verdict fleet start after answer check.exact check.headline check.needed;
       item = check.told;
       error = error_of_job fleet answer check.never_write check.no_profile.0 some;
+      within = check.within;
+      items = check.items;
       read = check.read;
     } in (
       answer,
@@ -31,16 +33,18 @@ returns-clause-told g c =
 
 pub returns-in_err-write_text-clause-front : goal.returns-in_err-write_text-clause-front
 returns-in_err-write_text-clause-front g c =
-    let check = c.check_job_telling-answer.ensures in
-    let answer = c.check_job_telling-answer.result in
+    let check = c.check_job_within-answer.ensures in
+    let answer = c.check_job_within-answer.result in
     let start = g.S.Source.state c.args.job.now in
-    let after = g.S.Source.state c.check_job_telling-answer.new.reader in
+    let after = g.S.Source.state c.check_job_within-answer.new.reader in
     let fleet = c.profiles.result.now in
     let some = subst (λ f. f ≢ []) (sym c.profiles.ensures) c.requires.some in
     let right : IsRightAnswer fleet start after answer = record {
       verdict = right_verdict fleet start after answer check.exact check.headline check.needed;
       item = check.told;
       error = error_of_job fleet answer check.never_write check.no_profile.0 some;
+      within = check.within;
+      items = check.items;
       read = check.read;
     } in
     let same = err_from_is_err_and c.from_residual-in_err-write_text.result c.from_residual-in_err-write_text.ensures.1 in
