@@ -3,9 +3,9 @@
     python3 crosscheck/many.py PROGRAM COUNT SEED
 
 Checks random jobs under random names for random fleets, by all forms of the words. Each run is made
-for lines, for sentences and for objects of JSON, with and without explanations, and each line,
-sentence and object is compared with what `check JOB PROFILE..` alone says of that job, and the exit
-status with those. Prints each difference and at last `N compared, M differ`, where N counts jobs
+for lines, for sentences and for objects of JSON, with and without explanations and notes, and each
+line, sentence and object is compared with what `check JOB PROFILE..` alone says of that job, and its
+notes with what `notes JOB PROFILE` does, and the exit status with those. Prints each difference and at last `N compared, M differ`, where N counts jobs
 and printers that are told of, at least COUNT. The exit status is 0 where M is 0, else 1.
 """
 
@@ -14,6 +14,7 @@ import os
 import re
 import sys
 import tempfile
+from dataclasses import replace
 from random import Random
 from typing import Dict, List, Optional, Tuple
 
@@ -21,9 +22,10 @@ sys.dont_write_bytecode = True
 
 import jobs                                                        # noqa: E402
 from many_due import Told, told_of                                 # noqa: E402
-from many_forms import command_in, command_of, cut, cut_lines      # noqa: E402
+from many_forms import command_in, command_of, cut_lines           # noqa: E402
 from many_forms import line_differs, object_differs, sentence_differs       # noqa: E402
-from many_names import escaped                                     # noqa: E402
+from many_names import cut, escaped                                # noqa: E402
+from many_notes import notes_in                                    # noqa: E402
 from many_runs import Answer, Job, Printer, Try                    # noqa: E402
 
 REFUSAL = re.compile(rb"ERROR profile (\d+) (\d+) (\w+)\n")
@@ -48,11 +50,15 @@ class Comparison:
             return Told(job.name, "ERROR", names[0] if self.run.is_each else b"",
                         cause=self.run.failure(job.name))
         answer = self.run.alone(job.data, group)
-        return told_of(job.name, answer.output, names, self.run.is_each)
+        told = told_of(job.name, answer.output, names, self.run.is_each)
+        if told.verdict != "PASS" or not self.run.tells_notes:
+            return told
+        return replace(told, notes=notes_in(self.run.notes(group[0]), names[0]))
 
     def explanations(self) -> Dict[int, bytes]:
-        """What `explain` tells of each number that a job fails by."""
+        """What `explain` tells of each number that a job fails by, and of each note."""
         codes = {told.code for told in self.due if told.verdict == "FAIL"}
+        codes |= {note.code for told in self.due for note in told.notes}
         return {code: self.run.explanation(code) for code in codes}
 
     def status(self) -> int:
@@ -68,11 +74,11 @@ class Comparison:
     def compare_form(self, form: str, explains: bool) -> Optional[List[Optional[str]]]:
         """Compares a run in a form, and gives the items that jobs fail at, where these are told."""
         answer = self.run.answer(self.run.words_of(form, explains))
-        below = self.explanations() if explains else {}
-        lines = cut_lines(answer.output, self.due, {} if form == "json" else below)
+        explanations = self.explanations() if explains else {}
+        lines = cut_lines(answer.output, self.due, form, explanations)
         self.require(len(lines) == len(self.due), f"{form}: {len(lines)} lines of {len(self.due)}")
         for told, line in zip(self.due, lines):
-            explanation = below.get(told.code, b"")
+            explanation = explanations.get(told.code, b"")
             differs = {"words": sentence_differs, "json": lambda told, line: object_differs(
                 told, line, explanation)}.get(form, line_differs)
             self.require(not differs(told, line), f"{form}: {line!r}, due {told}")

@@ -2,9 +2,10 @@
 
 import re
 from dataclasses import dataclass
-from typing import List
+from typing import List, Tuple
 
 from many_names import escaped
+from many_notes import Note
 
 VERDICT = re.compile(rb"PASS pages=(\d+) marks=(\d+)\n"
                      rb"|FAIL at=(\d+) profile=(\d+) (\d+) (\w+)(?:\((.*)\))?\n")
@@ -24,6 +25,7 @@ class Told:
     finding: bytes = b""
     field: bytes = b""                        # and what stands behind that in brackets
     cause: bytes = b""                        # what the system says of a read that failed
+    notes: Tuple[Note, ...] = ()              # what stands below a PASS
 
     def status(self) -> int:
         return {"PASS": 0, "FAIL": 1, "ERROR": 3}[self.verdict]

@@ -5,7 +5,8 @@ import re
 from typing import Dict, List, Optional, Tuple
 
 from many_due import Told
-from many_names import escaped, undone, unescaped
+from many_names import cut, escaped, undone, unescaped
+from many_notes import note_text
 
 MOST_OF_NAME, MOST_OF_CAUSE, MOST = 500, 200, 1000
 PLAIN = re.compile(rb"[ -~]*")
@@ -21,11 +22,6 @@ def line_differs(told: Told, line: bytes) -> bool:
     if not (line.startswith(head) and line.endswith(tail) and PLAIN.fullmatch(line)):
         return True
     return unescaped(line[len(head):len(line) - len(tail)]) != told.job
-
-
-def cut(text: bytes, most: int) -> bytes:
-    """The last so many bytes of a text, behind points."""
-    return text if len(text) <= most else b"..." + text[-most:]
 
 
 def phrase(told: Told) -> Tuple[bytes, bytes]:
@@ -105,14 +101,24 @@ def command_in(line: bytes) -> Optional[str]:
         return NO_COMMAND
 
 
-def cut_lines(output: bytes, due: List[Told], below: Dict[int, bytes]) -> List[bytes]:
-    """The lines of jobs, of each that fails without the explanation that stands below it."""
+def below(told: Told, form: str, explanations: Dict[int, bytes]) -> bytes:
+    """What stands below the line of a job: the explanation of what is wrong, but in an object, or
+    its notes."""
+    if told.verdict == "FAIL":
+        return b"" if form == "json" else explanations.get(told.code, b"")
+    return b"".join(note_text(form, told.job, note, explanations.get(note.code, b""))
+                    for note in told.notes)
+
+
+def cut_lines(output: bytes, due: List[Told], form: str,
+              explanations: Dict[int, bytes]) -> List[bytes]:
+    """The lines of jobs, without what stands below each."""
     lines = []
     for told in due:
         line, end, output = output.partition(b"\n")
-        explanation = below.get(told.code, b"") if told.verdict == "FAIL" else b""
-        if not end or not output.startswith(explanation):
+        behind = below(told, form, explanations)
+        if not end or not output.startswith(behind):
             break
         lines.append(line)
-        output = output[len(explanation):]
+        output = output[len(behind):]
     return lines + [output] if output else lines

@@ -31,6 +31,11 @@ def escaped(name: bytes) -> bytes:
                     for byte in name)
 
 
+def cut(text: bytes, most: int) -> bytes:
+    """The last so many bytes of a text, behind points."""
+    return text if len(text) <= most else b"..." + text[-most:]
+
+
 def unescaped(shown: bytes) -> bytes:
     """The name that a line shows."""
     return re.sub(rb"\\x([0-9a-f]{2})", lambda found: bytes([int(found[1], 16)]), shown)

@@ -52,6 +52,7 @@ class Try:
         for name in ("in", "alone"):
             os.mkdir(os.path.join(folder, name))
         self.is_each, self.exit_zero = random.random() < 0.4, random.random() < 0.3
+        self.tells_notes = random.random() < 0.3
         self.printers = [self.printer(*printer) for printer in case.printers]
         self.is_behind = random.random() < 0.1          # one job, and printers behind it
         self.taken = {b""}                    # names that are given
@@ -132,7 +133,8 @@ class Try:
 
     def ask(self) -> None:
         """Writes the words, with the files that these name."""
-        flags = ["--each"] * self.is_each + ["--exit-zero"] * self.exit_zero
+        flags = ["--each"] * self.is_each + ["--exit-zero"] * self.exit_zero \
+            + ["--notes"] * self.tells_notes
         if self.is_behind:
             self.printer_words = [printer.path for printer in self.printers]
             self.words = [*flags, "--", *self.job_words(True), *self.printer_words]
@@ -152,7 +154,8 @@ class Try:
 
     def job_words(self, behind_dashes: bool) -> List[bytes]:
         """The names; where no word `--` stands before them, none begins as an option does."""
-        if self.chance(0.15) and (not self.is_each or len(self.printers) == 1):
+        is_read_once = not self.tells_notes and (not self.is_each or len(self.printers) == 1)
+        if self.chance(0.15) and is_read_once:
             self.take_from_input(self.random.randrange(len(self.jobs)))
         if not behind_dashes:
             self.jobs = [Job(b"./" + job.name, job.data)
@@ -196,7 +199,7 @@ class Try:
     def forms(self) -> List[Tuple[str, bool]]:
         """The forms that a run is made in, each with or without explanations. An empty form is
         asked for by no word."""
-        is_plain = not self.is_behind or self.is_each or self.exit_zero
+        is_plain = not self.is_behind or self.is_each or self.exit_zero or self.tells_notes
         return [("" if is_plain and self.chance(0.7) else "line", self.chance(0.3)),
                 ("words", self.chance(0.3)), ("json", self.chance(0.3))]
 
@@ -217,6 +220,13 @@ class Try:
         answer = self.answer(["alone/job", *(printer.path for printer in printers)])
         self.input = given
         return answer
+
+    def notes(self, printer: Printer) -> bytes:
+        """What `notes` tells of the job that was last looked at by itself."""
+        given, self.input = self.input, b""
+        answer = self.answer(["alone/job", printer.path], "notes")
+        self.input = given
+        return answer.output
 
     def explanation(self, code: int) -> bytes:
         return self.answer([str(code)], "explain").output

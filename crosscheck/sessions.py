@@ -22,7 +22,10 @@ DOCUMENTS = (ROOT / "README.md", ROOT / "examples" / "README.md", *sorted(ROOT.g
 SETTING = re.compile(r"cd examples$|alias pclcheck=")
 
 GONE = "No such file or directory"
-INPUT_AGAIN = "error: standard input can be read only once; --each reads a job for each printer\n"
+INPUT_AGAIN = ("error: standard input can be read only once; --each reads a job for each printer, "
+               "and --notes once more\n")
+PIPE_AGAIN = ("error: a job that is no file can be read only once; --each reads it for each printer, "
+              "and --notes once more\n")
 NO_VERSION = ": the first line has to be 'pclprofile 1' or 'pclprofile 2' (Version)\n"
 FAULTY = f"faulty.pcl:1: 'A\\x1bQ'{NO_VERSION}"
 # Words, exit status, standard output, standard error.
@@ -45,6 +48,10 @@ STORED = (
     ("check -p @B gone.pcl ruled_form.pcl faulty.pcl", 3,
      f"ERROR read gone.pcl: {GONE}\nPASS pages=2 marks=36 ruled_form.pcl\n"
      "FAIL at=1 3 NotInProfile(Q) faulty.pcl\n", ""),
+    ("check -p @B --most-items 6 macros.pcl", 0, "PASS pages=0 marks=0 macros.pcl\n", ""),
+    ("check --most-items 5 macros.pcl @B", 3, "ERROR items macros.pcl\n", ""),
+    ("check -p @B --most-items 5 macros.pcl faulty.pcl", 3,
+     "ERROR items macros.pcl\nFAIL at=1 3 NotInProfile(Q) faulty.pcl\n", ""),
     ("check -p @B -p invoice.pcl ruled_form.pcl", 2, "",
      "ERROR profile 2 invoice.pcl:1 Version\n"),
     ("check -p @B -p gone.profile ruled_form.pcl", 3, "",
@@ -55,8 +62,10 @@ STORED = (
     ("check --each -p @A -p @B -", 2, "", INPUT_AGAIN),
     ("check -p @B - ruled_form.pcl -", 2, "", INPUT_AGAIN),
     ("check -p @B --each /dev/null", 0, "PASS pages=0 marks=0 printer=B /dev/null\n", ""),
-    ("check -p @A -p @B --each ruled_form.pcl /dev/null", 2, "",
-     "error: a job that is no file can be read only once; --each reads it for each printer\n"),
+    ("check -p @A -p @B --each ruled_form.pcl /dev/null", 2, "", PIPE_AGAIN),
+    ("check -p @B --notes ruled_form.pcl -", 2, "", INPUT_AGAIN),
+    ("check -p @B --notes /dev/null", 2, "", PIPE_AGAIN),
+    ("check -p @B --notes gone.pcl", 3, f"ERROR read gone.pcl: {GONE}\n", ""),
     ("check --format words ruled_form.pcl @B", 0,
      "ruled_form.pcl: each printer prints this job (pages=2 marks=36)\n", ""),
     ("check --format json --each -p @B gone.pcl ruled_form.pcl", 3,
@@ -75,7 +84,7 @@ STORED = (
     ("pages empty.pcl @B", 0, "", ""),
     ("pages unset_size.pcl gone.profile", 3, "", "ERROR read\n"),
     ("plain short.pcl short.pcl", 2, "", "error: OUT is JOB itself, which would be lost\n"),
-    ("explain 999", 2, "", "error: no fault and no finding has the number or the name '999'; "
+    ("explain 999", 2, "", "error: no fault, finding or note has the number or the name '999'; "
                            "'pclcheck explain' writes all\n"),
     ("profile new hp-laserjet-iii --size a4", 2, "",
      "error: no model has the name 'hp-laserjet-iii'; 'pclcheck profile list' names all\n"),
@@ -98,7 +107,9 @@ STORED = (
     ("profile from-pjl answer.txt faulty.pcl", 2, "", FAULTY),
 )
 FILES = {"short.pcl": b"\x1bEA\x1b&l2A\x0c", "faulty.pcl": b"A\x1bQ", "empty.pcl": b"",
-         "answer.txt": b"PAPER=A4\r\n"}
+         "answer.txt": b"PAPER=A4\r\n",
+         # A macro of three items, which is executed and called.
+         "macros.pcl": b"\x1b&f1Y\x1b&f0X\r\r\r\x1b&f1X\x1b&f2X\x1b&f3X"}
 
 
 def sessions(document: Path) -> Iterator[Tuple[str, str]]:

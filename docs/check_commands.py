@@ -4,7 +4,7 @@
 The table of commands has exactly the commands that the lexer knows, those of frames among them, each once; the table of macro
 controls has exactly the values and names of the code's; the table of faults and findings has exactly
 the numbers and names that the program writes, and the sentences of what the command `explain` writes
-of each; and each finding that the tables of commands and of controls name is one of these. What differs
+of each; so has the table of notes; and each finding that the tables of commands and of controls name is one of these. What differs
 is printed, and the status is 1.
 """
 
@@ -22,6 +22,7 @@ ITEMS = ROOT / "crates" / "pcl_items" / "src" / "item.rt"
 MACROS = ROOT / "crates" / "page_env" / "src" / "macros.rt"
 NUMBERS = [ROOT / "crates" / "verdict" / "src" / name for name in ("numbers.rt", "reason.rt")]
 NAMES = ROOT / "crates" / "line_words" / "src" / "words.rt"
+NOTES = ROOT / "crates" / "notes" / "src" / "note.rt"
 EXPLANATIONS = ROOT / "crates" / "subcommands" / "src" / "explanations.rt"
 
 # The kinds of items that stand in no table of bytes, as the table of commands writes them.
@@ -136,22 +137,33 @@ def findings_of_code():
     return [f"{number} {name_of[variant]}" for variant, number in numbers]
 
 
+def notes_of_code():
+    """The numbers and names of notes that the program writes, as `101 OpenStart`."""
+    text = NOTES.read_text(encoding="utf-8")
+    numbers = re.findall(r"(Note::\w+) => (\d+),", text)
+    name_of = dict(re.findall(r'(Note::\w+) => b"([A-Z]\w+)",', text))
+    if not numbers or sorted(variant for variant, _ in numbers) != sorted(name_of):
+        raise Unreadable(f"{NOTES.relative_to(ROOT)} has other names than numbers")
+    return [f"{number} {name_of[variant]}" for variant, number in numbers]
+
+
 def explanations_of_code():
-    """What `explain` writes of each fault and finding: its number and name, and three texts."""
+    """What `explain` writes of each fault and finding, its number and name, and three texts; and of
+    each note, with four."""
     table = re.search(r"EXPLANATIONS: \[&str; (\d+)\] = \[\n(.*)\];", EXPLANATIONS.read_text(encoding="utf-8"), re.DOTALL)
     found = re.findall(
-        r'^    "\\\n(\d+ \w+)\n  When: +(.*?)\n  Change: +(.*?)\n  Manual: +(.*?)\n",$',
+        r'^    "\\\n(\d+ \w+)\n  When: +(.*?)\n(?:  Printer: +(.*?)\n)?  Change: +(.*?)\n  Manual: +(.*?)\n",$',
         table.group(2) if table else "",
         re.MULTILINE | re.DOTALL,
     )
     if not found or len(found) != int(table.group(1)):
         raise Unreadable(f"{EXPLANATIONS.relative_to(ROOT)} has no explanations in the form that is read")
-    return [(title, *(" ".join(text.replace(r'\"', '"').split()) for text in texts)) for title, *texts in found]
+    plain = [(title, *(" ".join(text.replace(r'\"', '"').split()) for text in texts if text)) for title, *texts in found]
+    return [one for one in plain if len(one) == 4], [one for one in plain if len(one) == 5]
 
 
-def text_differences(explanations, rows):
+def text_differences(explanations, rows, columns):
     """The sentences of an explanation that are not those of its row, which has code between backticks."""
-    columns = ("When", "What to change", "The manual")
     of_document = {row[0]: [cell.replace("`", "") for cell in row[1:]] for row in rows}
     return [
         f"the column `{column}` of {title} is not what `explain` writes of it"
@@ -202,13 +214,18 @@ def main():
         controls = table_behind("Macros")
         findings = table_behind("Faults and findings")
         titles = [row[0] for row in findings]
-        explanations = explanations_of_code()
+        notes = table_behind("Notes")
+        note_titles = [row[0] for row in notes]
+        explanations, note_explanations = explanations_of_code()
         known = findings_of_code()
         lines = differences("the command", commands_of_code(), [row[0] for row in commands])
         lines += differences("the macro control", controls_of_code(), [f"{row[0]} {row[1]}" for row in controls])
         lines += differences("the finding", known, titles)
         lines += differences("the explanation of", [title for title, *_ in explanations], titles)
-        lines += text_differences(explanations, findings)
+        lines += text_differences(explanations, findings, ("When", "What to change", "The manual"))
+        lines += differences("the note", notes_of_code(), note_titles)
+        lines += differences("the explanation of", [title for title, *_ in note_explanations], note_titles)
+        lines += text_differences(note_explanations, notes, ("When", "What a printer may do", "What to change", "The manual"))
         lines += unknown_findings(commands, 4, known)
         lines += unknown_findings(controls, 3, known)
     except (OSError, Unreadable) as fault:
@@ -219,8 +236,8 @@ def main():
     if lines:
         return 1
     print(
-        f"check_commands: {len(commands)} commands, {len(controls)} macro controls and"
-        f" {len(findings)} findings are as in the code"
+        f"check_commands: {len(commands)} commands, {len(controls)} macro controls,"
+        f" {len(findings)} findings and {len(notes)} notes are as in the code"
     )
     return 0
 

@@ -7,7 +7,7 @@ function __pclcheck_command
     set -l found
     for word in $words
         switch "$found $word"
-            case ' check' ' list' ' pages' ' plain' ' pin' ' explain' ' profile' ' help' \
+            case ' check' ' list' ' pages' ' notes' ' plain' ' pin' ' explain' ' profile' ' help' \
                 'profile list' 'profile new' 'profile lint' 'profile show' 'profile sheet' \
                 'profile from-pjl' 'profile help' 'help profile'
                 set found (string trim -- "$found $word")
@@ -82,12 +82,14 @@ for place in '' help
         -d 'Lists the items of a job: each command, control code and byte of text'
     complete -c pclcheck -n "__pclcheck_at '$place'" -a pages \
         -d 'Writes what a job marks on its pages, from the first panel setting of a printer'
+    complete -c pclcheck -n "__pclcheck_at '$place'" -a notes \
+        -d 'Tells what a job leaves to a printer, though it passes'
     complete -c pclcheck -n "__pclcheck_at '$place'" -a plain \
         -d 'Writes a job again, with each item in its canonical spelling'
     complete -c pclcheck -n "__pclcheck_at '$place'" -a pin \
         -d 'Writes a job again, pinned to one panel setting of a printer'
     complete -c pclcheck -n "__pclcheck_at '$place'" -a explain \
-        -d 'Tells when a fault or finding comes, and what to change in the job or the profile'
+        -d 'Tells when a fault, finding or note comes, and what to change in the job or the profile'
     complete -c pclcheck -n "__pclcheck_at '$place'" -a profile \
         -d 'Makes, checks and shows profiles of printers'
     complete -c pclcheck -n "__pclcheck_at '$place'" -a help \
@@ -121,14 +123,18 @@ complete -c pclcheck -n '__pclcheck_at check' -l most-items -x \
     -d 'Gives a job up whose macros carry out more than so many items'
 complete -c pclcheck -n '__pclcheck_at check' -l each \
     -d 'A line for each printer, with its own verdict'
+complete -c pclcheck -n '__pclcheck_at check' -l notes \
+    -d 'Tells below each PASS what the job leaves to the printer; reads it twice'
 complete -c pclcheck -n '__pclcheck_at check' -l format -x -a 'line words json' \
     -d 'What is told of a job: a line, a sentence or an object of JSON'
 complete -c pclcheck -n '__pclcheck_at check' -l explain \
-    -d "Tells of each FAIL what 'pclcheck explain' tells of its number, too"
+    -d "Tells of each FAIL and note what 'pclcheck explain' tells of its number"
 complete -c pclcheck -n '__pclcheck_at check' -l exit-zero -d 'Ends with 0 where a job fails, too'
 complete -c pclcheck -n __pclcheck_at_profile -a '(__pclcheck_samples)' -d sample
 
 complete -c pclcheck -n '__pclcheck_at pages' -a '(__pclcheck_samples)' -d sample
+
+complete -c pclcheck -n '__pclcheck_at notes' -a '(__pclcheck_samples)' -d sample
 
 complete -c pclcheck -n '__pclcheck_at pin' -l panel -x -a '(__pclcheck_fields)' \
     -d 'Pins to these values of the panel; each field that is not named has its first value'

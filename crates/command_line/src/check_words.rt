@@ -30,6 +30,10 @@ pub const EXPLANATION: &str = "Examples:
                  bytes comes while a macro definition is open.
         Change:  End the definition before it by ESC &f1X.
         Manual:  \"Macros\", Macro Control
+  pclcheck check -f shop.fleet --notes d.pcl
+      PASS pages=1 marks=16 d.pcl
+      NOTE at=0 printer=front 101 OpenStart d.pcl
+      what a job that passes leaves to the printer; each job is read twice, so none can be a pipe
   pclcheck check -f shop.fleet --exit-zero a.pcl b.pcl
       for a script that reads the lines: a status other than 0 says that a verdict is missing
   pclcheck check -f shop.fleet --most-items 1000000 a.pcl b.pcl
@@ -48,21 +52,25 @@ Output of check, one line:
   profile=  the printer's number among the words, from 1;
             0: the bytes themselves are wrong, whatever the printer
 
-With -p, -f, --most-items, --each, --format, --explain or --exit-zero, a line for each job, in the
-order of the words:
+With -p, -f, --most-items, --each, --notes, --format, --explain or --exit-zero, a line for each job,
+in the order of the words:
   PASS pages=N marks=N JOB
   FAIL at=N printer=NAME FINDING JOB  NAME by its profile; no printer= where the bytes are wrong
   ERROR read JOB: WHY                 the job could not be read; those behind it are checked
   ERROR memory JOB, ERROR turns JOB   memory ran out, or no end after 2^40 reads
   ERROR items JOB                     macros would carry out more items than --most-items allows
 
-  With --each, printer=NAME stands in each line. In JOB a byte that shows nothing and the
-  backslash are \\x and two digits.
+  With --notes, below a PASS, for the first printer:
+  NOTE at=N printer=NAME NOTE JOB     by its number and its name; none changes the exit status
+
+  With --each, printer=NAME stands in each line, and notes are for that printer. In JOB a byte that
+  shows nothing and the backslash are \\x and two digits.
 
   --format words: a sentence for the line, of at most 1,000 bytes; of a long JOB it has the end.
   --format json: an object with job and verdict; of a PASS pages and marks; of a FAIL at, profile,
-  printer, code, finding, field, command and explanation; of an ERROR error and cause. In its job
-  each backslash is doubled; a JOB that is no UTF-8 text stands there as in a line.
+  printer, code, finding, field, command and explanation; of an ERROR error and cause. Below a PASS
+  an object for each note with job, printer, at, code, note and explanation. In job each backslash
+  is doubled; a JOB that is no UTF-8 text stands there as in a line.
 
 On standard error, where there is no verdict:
   ERROR profile N LINE CAUSE  the text of printer N is refused at this line, or as a whole: 0;

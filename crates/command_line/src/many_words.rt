@@ -29,10 +29,12 @@ pub struct ManyWords<'a> {
     /// How many items macros may carry out in a job, where that is limited.
     pub most_items: Option<u64>,
     pub is_each: bool,
+    /// The notes of a job that passes are told.
+    pub tells_notes: bool,
     /// A FAIL counts as a PASS.
     pub exit_zero: bool,
     pub form: Form,
-    /// A FAIL gets its explanation.
+    /// A FAIL and a note get their explanations.
     pub explains: bool,
 }
 
@@ -50,6 +52,7 @@ pub(crate) fn with_many_options<'a>(
         .arg(names(alloc)?)?
         .arg(most_items(alloc))?
         .arg(each(alloc))?
+        .arg(notes(alloc))?
         .arg(format(alloc))?
         .arg(explain(alloc))?
         .arg(exit_zero(alloc))
@@ -98,6 +101,13 @@ fn each<'a>(alloc: Global) -> Arg<'a> {
         .help("A line for each printer, with its own verdict")
 }
 
+fn notes<'a>(alloc: Global) -> Arg<'a> {
+    Arg::new(alloc, "NOTES")
+        .long("notes")
+        .action(ArgAction::SetTrue)
+        .help("Tells below each PASS what the job leaves to the printer; reads it twice")
+}
+
 fn format<'a>(alloc: Global) -> Arg<'a> {
     Arg::new(alloc, "FORM")
         .long("format")
@@ -110,7 +120,7 @@ fn explain<'a>(alloc: Global) -> Arg<'a> {
     Arg::new(alloc, "EXPLAIN")
         .long("explain")
         .action(ArgAction::SetTrue)
-        .help("Tells of each FAIL what 'pclcheck explain' tells of its number, too")
+        .help("Tells of each FAIL and note what 'pclcheck explain' tells of its number")
 }
 
 fn exit_zero<'a>(alloc: Global) -> Arg<'a> {
@@ -125,7 +135,7 @@ pub(crate) fn asks_for_many(found: &ArgMatches<'_>) -> bool {
     names_printers(found)
         || found.contains_id("FORM")
         || found.contains_id("MOST")
-        || ["EACH", "EXPLAIN", "ZERO"]
+        || ["EACH", "NOTES", "EXPLAIN", "ZERO"]
             .iter()
             .any(|option| found.get_flag(option))
 }
@@ -166,6 +176,7 @@ pub(crate) fn read_many<'a>(
         fleets,
         most_items: found.get_one::<u64>("MOST"),
         is_each: found.get_flag("EACH"),
+        tells_notes: found.get_flag("NOTES"),
         exit_zero: found.get_flag("ZERO"),
         form: form_of(found.get_str("FORM")),
         explains: found.get_flag("EXPLAIN"),

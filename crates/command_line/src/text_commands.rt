@@ -1,4 +1,4 @@
-//! The commands that write a text of a job: `list`, `pages`, `plain` and `pin`.
+//! The commands that write a text of a job: `list`, `pages`, `notes`, `plain` and `pin`.
 ghost use Rattle.std.specs.Prelude.{IfOk, IfSome};
 ghost use Rattle.command_line.specs.Words.{NamesSome};
 
@@ -37,6 +37,20 @@ const PAGES_EXPLANATION: &str =
 Exit status:
   0  the job is printed to its end, or help was asked for
   1  the job fails, as the last line tells
+  2  usage error, or the profile is refused
+  3  a read or a write failed, memory ran out, or no end after 2^40 reads";
+
+const NOTES_EXPLANATION: &str =
+    "A note tells what a job that passes leaves to the printer, or to the jobs before and behind it. Each
+is told once, where it holds first, for the first value that the profile lists of each field.
+
+Output, a line for each note; explain tells more of its number and its name:
+  AT NUMBER NAME
+  FAIL at=N profile=N FINDING    the last line, where the job fails; behind it there is no note
+
+Exit status:
+  0  there is no note, or help was asked for
+  1  there are notes, or the job fails, as the last line tells
   2  usage error, or the profile is refused
   3  a read or a write failed, memory ran out, or no end after 2^40 reads";
 
@@ -126,6 +140,15 @@ pub fn pages_command<'a>(alloc: Global) -> Result<Command<'a>, AllocError> {
         .arg(profile(alloc))
 }
 
+/// The words of the command `notes`.
+pub fn notes_command<'a>(alloc: Global) -> Result<Command<'a>, AllocError> {
+    Command::new(alloc, "notes")
+        .about("Tells what a job leaves to a printer, though it passes")
+        .after_help(NOTES_EXPLANATION)
+        .arg(job(alloc))?
+        .arg(profile(alloc))
+}
+
 /// The words of the command `plain`.
 pub fn plain_command<'a>(alloc: Global) -> Result<Command<'a>, AllocError> {
     Command::new(alloc, "plain")
@@ -172,7 +195,7 @@ pub fn pin_request<'a>(
     }))
 }
 
-/// What the words ask for, where they name `list`, `pages` or `plain`.
+/// What the words ask for, where they name `list`, `pages`, `notes` or `plain`.
 pub fn text_request<'a>(matches: &ArgMatches<'a>) -> Option<Request<'a>>
     ensures { IfSome result NamesSome }
 {
@@ -183,6 +206,12 @@ pub fn text_request<'a>(matches: &ArgMatches<'a>) -> Option<Request<'a>>
     }
     if let Some(found) = matches.subcommand_matches("pages") {
         return Some(Request::Pages {
+            job: found.get_str("JOB")?,
+            profile: found.get_str("PROFILE")?,
+        });
+    }
+    if let Some(found) = matches.subcommand_matches("notes") {
+        return Some(Request::Notes {
             job: found.get_str("JOB")?,
             profile: found.get_str("PROFILE")?,
         });

@@ -7,7 +7,8 @@ use crate::many_words::ManyWords;
 use crate::panel_words::ChoiceFault;
 use crate::profile_words::{NewProfile, profile_command, profile_request};
 use crate::text_commands::{
-    list_command, pages_command, pin_command, pin_request, plain_command, text_request,
+    list_command, notes_command, pages_command, pin_command, pin_request, plain_command,
+    text_request,
 };
 use clap::error::ErrorKind;
 use clap::{Arg, ArgAction, ArgMatches, Command};
@@ -34,6 +35,11 @@ pub enum Request<'a> {
         job: &'a str,
         profile: &'a str,
     },
+    /// What the job at a path leaves to the printer that a word names.
+    Notes {
+        job: &'a str,
+        profile: &'a str,
+    },
     /// The items of the job at a path, each in its canonical spelling, in a file at a path.
     Plain {
         job: &'a str,
@@ -47,7 +53,8 @@ pub enum Request<'a> {
         choices: Vec<Choice>,
         out: &'a str,
     },
-    /// What a fault or a finding means, by its number or its name; without a code, what all mean.
+    /// What a fault, a finding or a note means, by its number or its name; without a code, what all
+    /// mean.
     Explain {
         code: Option<&'a str>,
     },
@@ -82,16 +89,18 @@ const EXPLAIN_EXPLANATION: &str =
 
 Exit status:
   0  an explanation was written, or help was asked for
-  2  usage error, or no fault and no finding has this code
+  2  usage error, or no fault, finding or note has this code
   3  a write failed, or memory ran out";
 
 /// The words of the command `explain`.
 fn explain_command<'a>(alloc: Global) -> Result<Command<'a>, AllocError> {
     let code = Arg::new(alloc, "CODE").action(ArgAction::Set).help(
-        "The fault or finding, by its number or its name; without it, all",
+        "The fault, finding or note, by its number or its name; without it, all",
     );
     Command::new(alloc, "explain")
-        .about("Tells when a fault or finding comes, and what to change in the job or the profile")
+        .about(
+            "Tells when a fault, finding or note comes, and what to change in the job or the profile",
+        )
         .after_help(EXPLAIN_EXPLANATION)
         .arg(code)
 }
@@ -114,6 +123,7 @@ fn command<'a>(alloc: Global) -> Result<Command<'a>, AllocError> {
     let command = with_command(command, check_command(alloc))?;
     let command = with_command(command, list_command(alloc))?;
     let command = with_command(command, pages_command(alloc))?;
+    let command = with_command(command, notes_command(alloc))?;
     let command = with_command(command, plain_command(alloc))?;
     let command = with_command(command, pin_command(alloc))?;
     let command = with_command(command, explain_command(alloc))?;

@@ -13,19 +13,44 @@ pub type NamedJob = (&'static [u8], &'static [u8], u64);
 #[derive(Drop)]
 pub struct KeptJobs {
     jobs: &'static [NamedJob],
+    /// How a job is read that is opened behind so many others, whatever its name.
+    change: Option<Change>,
     ended: Ended,
+    /// How many jobs were ended.
+    count: u64,
+}
+
+/// How a job is read that is opened behind so many others: its bytes, and how many reads of a byte
+/// succeed.
+#[derive(Clone, Copy, Debug)]
+pub struct Change {
+    pub behind: u64,
+    pub bytes: &'static [u8],
+    pub reads: u64,
 }
 
 impl KeptJobs {
     pub fn new(jobs: &'static [NamedJob]) -> KeptJobs {
+        KeptJobs::with_change(jobs, None)
+    }
+
+    /// Jobs of which one changes.
+    pub fn with_change(jobs: &'static [NamedJob], change: Option<Change>) -> KeptJobs {
         KeptJobs {
             jobs,
+            change,
             ended: Ended::new(),
+            count: 0,
         }
     }
 
     /// The bytes of a job, and how many reads of a byte succeed.
     fn job_named(&self, name: &[u8]) -> (&'static [u8], u64) {
+        if let Some(change) = self.change {
+            if change.behind == self.count {
+                return (change.bytes, change.reads);
+            }
+        }
         for (known, bytes, reads) in self.jobs {
             if *known == name {
                 return (bytes, *reads);
@@ -87,5 +112,6 @@ impl<'n> Jobs<'n> for KeptJobs {
         let has_failed = job.has_failed();
         let given = job.inner.into_given();
         self.ended = self.ended.and(&JobEnd { given, has_failed });
+        self.count = self.count.saturating_add(1);
     }
 }

@@ -7,5 +7,5 @@ mod jobs;
 mod texts;
 
 pub use files::File;
-pub use jobs::{KeptJob, KeptJobs, NamedJob};
+pub use jobs::{Change, KeptJob, KeptJobs, NamedJob};
 pub use texts::{KeptTexts, Named};

@@ -123,6 +123,8 @@ struct Told {
     format: Format,
     /// A FAIL gets its explanation.
     explains: bool,
+    /// How many items macros may carry out in a job, where that is limited.
+    most_items: Option<u64>,
 }
 
 /// What a run asks for.
@@ -133,8 +135,9 @@ fn asked<'w, 'n>(printers: &'w [&'w str], jobs: &'w [&'n [u8]], told: Told) -> M
     ManyJobs {
         jobs,
         printers,
-        most_items: None,
+        most_items: told.most_items,
         is_each: told.is_each,
+        tells_notes: false,
         telling: Telling {
             format: told.format,
             explanations,
@@ -161,6 +164,7 @@ fn check_answers(
             is_each: *is_each,
             format,
             explains: false,
+            most_items: None,
         };
         let asked = asked(printers, jobs, told);
         let status = status_of(rt.alloc(), &mut kept, &asked, &mut stdout, &mut stderr);
@@ -212,6 +216,7 @@ fn a_sentence_has_the_end_of_a_long_name(rt: HostRuntime) {
         is_each: false,
         format: Format::Words,
         explains: false,
+        most_items: None,
     };
     status_of_two(rt.alloc(), &[&LONG], told, &mut stdout, &mut stderr);
     let output = stdout.get_ref().as_slice();
@@ -257,6 +262,7 @@ fn an_explanation_stands_below_a_fail(rt: HostRuntime) {
             is_each: false,
             format: *format,
             explains: true,
+            most_items: None,
         };
         status_of_two(rt.alloc(), TWO, told, &mut stdout, &mut stderr);
         let output = stdout.get_ref().as_slice();
@@ -275,6 +281,7 @@ fn an_explanation_stands_in_an_object(rt: HostRuntime) {
         is_each: false,
         format: Format::Json(rt.alloc()),
         explains: true,
+        most_items: None,
     };
     status_of_two(rt.alloc(), TWO, told, &mut stdout, &mut stderr);
     let output = stdout.get_ref().as_slice();
@@ -283,6 +290,34 @@ fn an_explanation_stands_in_an_object(rt: HostRuntime) {
     assert!(rt; output.starts_with(front));
     let end = b"{\"job\":\"move\",\"marks\":0,\"pages\":0,\"verdict\":\"PASS\"}\n";
     assert!(rt; output.ends_with(end));
+}
+
+/// What is told, in each form, of a job whose macros carry out more items than they may.
+const LIMITED: &[&[u8]] = &[
+    b"ERROR items printer=B macros\nERROR items printer=export-desk macros\n",
+    b"macros: macros carry out too many items for B (ERROR items)\n\
+      macros: macros carry out too many items for export-desk (ERROR items)\n",
+    b"{\"error\":\"items\",\"job\":\"macros\",\"printer\":\"B\",\"verdict\":\"ERROR\"}\n\
+      {\"error\":\"items\",\"job\":\"macros\",\"printer\":\"export-desk\",\"verdict\":\"ERROR\"}\n",
+];
+
+#[test]
+fn a_limit_of_items_has_its_words(rt: HostRuntime) {
+    let formats = [Format::Line, Format::Words, Format::Json(rt.alloc())];
+    for (format, due) in formats.iter().zip(LIMITED) {
+        let mut stdout = Watched::new(Vec::new(rt.alloc()));
+        let mut stderr = Watched::new(Vec::new(rt.alloc()));
+        let told = Told {
+            is_each: true,
+            format: *format,
+            explains: true,
+            most_items: Some(5),
+        };
+        let status = status_of_two(rt.alloc(), &[b"macros"], told, &mut stdout, &mut stderr);
+        assert_eq!(rt; status.code(), 3);
+        assert_eq!(rt; stdout.get_ref().as_slice(), *due);
+        assert!(rt; stderr.get_ref().is_empty());
+    }
 }
 
 /// The jobs of a run of which each write and each request for memory fails in turn.
@@ -302,6 +337,7 @@ fn status_of_stopped<H: Allocator + Copy, O: Outlet, E: Outlet>(
         is_each: true,
         format,
         explains: true,
+        most_items: None,
     };
     status_of_two(heap, STOPPED, told, stdout, stderr)
 }

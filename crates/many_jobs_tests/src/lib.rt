@@ -5,3 +5,5 @@
 mod forms;
 #[cfg(test)]
 mod lines;
+#[cfg(test)]
+mod noted_jobs;

@@ -31,10 +31,19 @@ const JOBS: &[NamedJob] = &[
     (b"-a\n\\\xff '\xc3\xa4'", b"", SOUND),
     (b"", b"", SOUND),
     (b"macros", TWO_OF_THREE, SOUND),
+    (b"nested", TWO_WITH_THREE, SOUND),
+    (b"overlaid", TWO_PAGES_OF_THREE, SOUND),
 ];
 
 /// A macro of three items, which is executed and called.
 const TWO_OF_THREE: &[u8] = b"\x1b&f1Y\x1b&f0X\r\r\r\x1b&f1X\x1b&f2X\x1b&f3X";
+
+/// A macro of three items, and one of two that executes it and is called.
+const TWO_WITH_THREE: &[u8] = b"\x1b&f1Y\x1b&f0X\r\r\r\x1b&f1X\
+    \x1b&f2Y\x1b&f0X\x1b&f1Y\x1b&f2X\x1b&f1X\x1b&f3X";
+
+/// A macro of three items, which is the overlay of two pages.
+const TWO_PAGES_OF_THREE: &[u8] = b"\x1b&f1Y\x1b&f0X\r\r\r\x1b&f1X\x1b&f4X\x0c\x0c";
 
 /// Texts of printers, and one that is refused. No text is named `none`.
 fn texts(moved: &[u8]) -> [Named<'_>; 5] {
@@ -238,6 +247,33 @@ const LIMITED: &[(Run, Answer)] = &[
         (&["b"], &[b"macros", b"empty"], Mode::Within(5)),
         (3, b"ERROR items macros\nPASS pages=0 marks=0 empty\n", b""),
     ),
+    // Those of a body that a body executes count.
+    (
+        (&["b"], &[b"nested"], Mode::Within(5)),
+        (0, b"PASS pages=0 marks=0 nested\n", b""),
+    ),
+    (
+        (&["b"], &[b"nested"], Mode::Within(4)),
+        (3, b"ERROR items nested\n", b""),
+    ),
+    // So do those of an overlay, on each page.
+    (
+        (&["b"], &[b"overlaid"], Mode::Within(6)),
+        (0, b"PASS pages=2 marks=0 overlaid\n", b""),
+    ),
+    (
+        (&["b"], &[b"overlaid"], Mode::Within(5)),
+        (3, b"ERROR items overlaid\n", b""),
+    ),
+    (
+        (&["b"], &[b"macros", b"empty"], Mode::Within(0)),
+        (3, b"ERROR items macros\nPASS pages=0 marks=0 empty\n", b""),
+    ),
+    // What is wrong before that is a FAIL.
+    (
+        (&["b"], &[b"fault"], Mode::Within(0)),
+        (1, b"FAIL at=0 3 NotInProfile(&lP) fault\n", b""),
+    ),
 ];
 
 /// Profiles are read and judged before the first job.
@@ -277,6 +313,7 @@ fn asked<'w, 'n>(printers: &'w [&'w str], jobs: &'w [&'n [u8]], mode: Mode) -> M
         printers,
         most_items: most_items(mode),
         is_each: matches!(mode, Mode::Each | Mode::EachZero),
+        tells_notes: false,
         telling: Telling {
             format: Format::Line,
             explanations: &[],
@@ -285,7 +322,7 @@ fn asked<'w, 'n>(printers: &'w [&'w str], jobs: &'w [&'n [u8]], mode: Mode) -> M
     }
 }
 
-/// Runs `check`, and tells how it ended. It alone meets the clauses of that call.
+/// Runs `check` on the jobs of the rows, and tells how it ended.
 pub fn status_of<H: Allocator + Copy, O: Outlet, E: Outlet>(
     heap: H,
     texts: &mut KeptTexts,
@@ -298,8 +335,24 @@ pub fn status_of<H: Allocator + Copy, O: Outlet, E: Outlet>(
     requires stdout { IsFalse (O.state stdout.old).failed }
     requires stderr { IsFalse (E.state stderr.old).failed }
 {
-    let mut kept = KeptJobs::new(JOBS);
-    let status = check_many(heap, &mut kept, texts, asked, stdout, stderr);
+    status_for(heap, KeptJobs::new(JOBS), texts, asked, stdout, stderr)
+}
+
+/// Runs `check` on jobs, and tells how it ended. It alone meets the clauses of that call.
+pub fn status_for<H: Allocator + Copy, O: Outlet, E: Outlet>(
+    heap: H,
+    mut jobs: KeptJobs,
+    texts: &mut KeptTexts,
+    asked: &ManyJobs<'_, '_>,
+    stdout: &mut O,
+    stderr: &mut E,
+) -> Status
+    requires texts { texts.old.has_failed ≡ false }
+    requires printers { asked.now.printers.now ≢ [] }
+    requires stdout { IsFalse (O.state stdout.old).failed }
+    requires stderr { IsFalse (E.state stderr.old).failed }
+{
+    let status = check_many(heap, &mut jobs, texts, asked, stdout, stderr);
     tell(status, stderr);
     status
 }

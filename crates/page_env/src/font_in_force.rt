@@ -6,7 +6,7 @@ ghost use Rattle.page_env.specs.Effect.{Reads};
 ghost use Rattle.page_env.specs.FontInForce.{are_set, no_request, request_at, with_parts, request_of, font_reads};
 
 use crate::page::{FontParts, Page};
-use device_profile::{Field, FontRequest, Profile, SymbolSet};
+use device_profile::{Field, FontRequest, Panel, Profile, SymbolSet};
 use std::alloc::Allocator;
 
 /// Whether the job has set every part.
@@ -79,4 +79,16 @@ pub(crate) fn font_request<A: Allocator>(
     }
     let font = page.env.fields.font.known(Field::Font)?;
     Ok(with_parts(parts, request_at(profile, font)))
+}
+
+/// The request in force where the panel is this one.
+pub(crate) fn request_under<A: Allocator>(
+    profile: &Profile<A>,
+    page: &Page,
+    panel: &Panel,
+) -> FontRequest
+    ensures { result ≡ request_of profile.now (state_at panel.now page.now) }
+{
+    let font = page.env.fields.font.under(panel.font);
+    with_parts(&page.env.job.font, request_at(profile, font))
 }

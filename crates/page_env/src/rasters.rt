@@ -26,7 +26,7 @@ fn is_raster_group(group: Group) -> bool
 /// Whether an item is of the groups `*t`, `*r` and `*b`.
 // A call of its own, so that a group is looked up only where a raster is started.
 #[inline(never)]
-fn is_of_raster(item: &Item<'_>) -> bool
+pub fn is_of_raster(item: &Item<'_>) -> bool
     ensures { result ≡ is_of_raster (view item.now) }
 {
     match item {

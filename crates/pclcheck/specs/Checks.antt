@@ -23,7 +23,8 @@ use Rattle.pclcheck.specs.Names.{names_in}
 -- ---- what is asked for
 
 -- by the words: the jobs, the file of their names, the printers, the fleets, how many items macros may carry out, whether each printer is
--- told of by itself, the form, the explanations of which a FAIL gets its own, and whether a FAIL counts as a PASS
+-- told of by itself, whether the notes of a job that passes are told, the form, the explanations of which a FAIL and a note get their own,
+-- and whether a FAIL counts as a PASS
 pub record Asking : Type 0 where
   pub jobs : List (List ℕ)
   pub names_from : Option (List ℕ)
@@ -31,6 +32,7 @@ pub record Asking : Type 0 where
   pub fleets : List (List ℕ)
   pub most_items : Option ℕ
   pub is_each : Bool
+  pub tells_notes : Bool
   pub form : Form
   pub explanations : List (List ℕ)
   pub exit_zero : Bool
@@ -44,6 +46,7 @@ asking texts words = record {
   fleets = map (λ word. word.now) words.fleets.items;
   most_items = words.most_items;
   is_each = words.is_each;
+  tells_notes = words.tells_notes;
   form = words.form;
   explanations = if words.explains then texts else [];
   exit_zero = words.exit_zero;
@@ -73,6 +76,7 @@ pub record Completes (asking : Asking) (asked : Asked) : Type 0 where
   pub each_fleet : length asking.fleets ≤ length of_fleets
   pub most_items : asked.most_items ≡ asking.most_items
   pub is_each : asked.is_each ≡ asking.is_each
+  pub tells_notes : asked.tells_notes ≡ asking.tells_notes
   pub telling : IsTelling asking asked.telling
 
 -- ---- what is left

@@ -11,9 +11,9 @@ use Rattle.subcommands.specs.declared.status.Status.TheVariants.{Usage}
 abbrev pub is_input : List ℕ → Bool
 is_input name = bytes_eq name (codes "-")
 
--- each job is read more than once
+-- each job is read more than once: for its notes, or for each printer
 abbrev pub is_apart : Asked → Bool
-is_apart asked = asked.is_each && nat_lt 1 (length asked.printers)
+is_apart asked = asked.tells_notes || (asked.is_each && nat_lt 1 (length asked.printers))
 
 -- how many words are standard input: the one for the file of names, and those of jobs
 abbrev pub input_count : Option (List ℕ) → List (List ℕ) → ℕ
@@ -27,5 +27,5 @@ reads_input_again names_from asked = nat_lt 1 (input_count names_from asked.jobs
 abbrev pub RefusesInput : Option (List ℕ) → Asked → Status → OutletState → OutletState → Type 0
 RefusesInput names_from asked status err err' =
     (status ≡ Usage)
-    × ((IsTrue (reads_input_again names_from asked) × Writes err err' (codes "error: standard input can be read only once; --each reads a job for each printer\n"))
-    ⊎ (IsTrue (is_apart asked) × Writes err err' (codes "error: a job that is no file can be read only once; --each reads it for each printer\n")))
+    × ((IsTrue (reads_input_again names_from asked) × Writes err err' (codes "error: standard input can be read only once; --each reads a job for each printer, and --notes once more\n"))
+    ⊎ (IsTrue (is_apart asked) × Writes err err' (codes "error: a job that is no file can be read only once; --each reads it for each printer, and --notes once more\n")))

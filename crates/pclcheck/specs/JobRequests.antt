@@ -4,6 +4,7 @@ use Rattle.preflight.specs.Due.{Rendering, plain_rendering}
 use Rattle.streams.specs.Files.{no_outlet, no_source}
 use Rattle.streams.specs.Outlet.{OutletState}
 use Rattle.streams.specs.Source.{SourceState}
+use Rattle.subcommands.specs.JobNotes.{LeavesNotes}
 use Rattle.subcommands.specs.JobTexts.{EndsBy, IsNamed, LeavesOut, LeavesPages, LeavesPinned, LeavesText, TellsOfPin}
 use Rattle.subcommands.specs.Status.{is_stop_of_read}
 use Rattle.subcommands.specs.Texts.{text_named}
@@ -20,6 +21,12 @@ pub record LeavesPagesFor (word : List ℕ) (status : Status) (out out' : Outlet
   pub job : SourceState
   pub texts : List (List ℕ)
   pub ends : EndsBy status (λ old new. LeavesPages status (IsNamed (text_named word) [] texts) old new out out') no_source job (is_stop_of_read status) out'.failed
+
+-- what a job leaves to the printer that this word names
+pub record LeavesNotesFor (word : List ℕ) (status : Status) (out out' : OutletState) : Type 0 where
+  pub job : SourceState
+  pub texts : List (List ℕ)
+  pub ends : EndsBy status (λ old new. LeavesNotes status (IsNamed (text_named word) [] texts) old new out out') no_source job (is_stop_of_read status) out'.failed
 
 -- a job in its canonical spelling, in a file
 pub record LeavesPlain (status : Status) (out out' : OutletState) : Type 0 where

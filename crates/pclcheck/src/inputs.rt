@@ -11,10 +11,12 @@ use subcommands::Status;
 use subcommands::check_jobs::ManyJobs;
 
 const INPUT_AGAIN: &[u8] =
-    b"error: standard input can be read only once; --each reads a job for each printer\n";
+    b"error: standard input can be read only once; --each reads a job for each printer, \
+      and --notes once more\n";
 
 const PIPE_AGAIN: &[u8] =
-    b"error: a job that is no file can be read only once; --each reads it for each printer\n";
+    b"error: a job that is no file can be read only once; --each reads it for each printer, \
+      and --notes once more\n";
 
 /// Refuses to read standard input again, or a job that is no file: of that standard error is told.
 /// `names_from` is the file of the names of the jobs.
@@ -73,7 +75,7 @@ fn is_input(name: &[u8]) -> bool
 fn is_apart(many: &ManyJobs<'_, '_>) -> bool
     ensures { result ≡ is_apart (asked_for many.now) }
 {
-    many.is_each && many.printers.len() > 1
+    many.tells_notes || many.is_each && many.printers.len() > 1
 }
 
 /// Whether a job is at a path whose bytes are gone once they are read, as those of a pipe.

@@ -1,6 +1,6 @@
 //! What the program does on texts of a job by request, on files.
 ghost use Rattle.std.specs.Prelude.{IsFalse};
-ghost use Rattle.pclcheck.specs.JobRequests.{LeavesPagesFor, LeavesPin, LeavesPlain, LeavesRendered};
+ghost use Rattle.pclcheck.specs.JobRequests.{LeavesNotesFor, LeavesPagesFor, LeavesPin, LeavesPlain, LeavesRendered};
 ghost use Rattle.preflight.specs.Due.{list_rendering};
 
 use std::rt::Files;
@@ -29,6 +29,21 @@ pub fn pages<R: Files + AllocGlobal, O: Outlet>(
     let mut job = FileSource::new(rt, job);
     let mut texts = FileTexts::new(rt);
     subcommands::pages::pages(rt.alloc(), &mut job, &mut texts, profile, stdout)
+}
+
+/// Writes what the job at a path leaves to the printer that a word names.
+pub fn notes<R: Files + AllocGlobal, O: Outlet>(
+    rt: &R,
+    job: &str,
+    profile: &str,
+    stdout: &mut O,
+) -> Status
+    requires { IsFalse (O.state stdout.old).failed }
+    ensures { LeavesNotesFor profile.now result (O.state stdout.old) (O.state stdout.new) }
+{
+    let mut job = FileSource::new(rt, job);
+    let mut texts = FileTexts::new(rt);
+    subcommands::job_notes::tell_notes(rt.alloc(), &mut job, &mut texts, profile, stdout)
 }
 
 /// Writes the job at a path again, at another.

@@ -50,6 +50,7 @@ pub fn check_asked<R: Files + Input + AllocGlobal, O: Outlet, E: Outlet>(
         printers: printers.as_slice(),
         most_items: words.most_items,
         is_each: words.is_each,
+        tells_notes: words.tells_notes,
         telling: telling_of(alloc, words),
     };
     check_all(rt, words.names_from, &many, stdout, stderr)

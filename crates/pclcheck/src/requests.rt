@@ -3,7 +3,7 @@ ghost use Rattle.std.specs.Prelude.{IsFalse, map};
 ghost use Rattle.command_line.specs.Words.{NamesSome};
 ghost use Rattle.pclcheck.specs.Requests.{Fulfils};
 
-use crate::job_texts::{list, pages, pin, plain};
+use crate::job_texts::{list, notes, pages, pin, plain};
 use crate::many::check_asked;
 use crate::profiles::{from_pjl, lint, sheet, show};
 use command_line::Request;
@@ -39,6 +39,7 @@ pub fn fulfil<R: Files + Input + AllocGlobal, O: Outlet, E: Outlet>(
         Request::CheckMany(words) => check_asked(rt, words, stdout, stderr),
         Request::List { job } => list(rt, job, stdout),
         Request::Pages { job, profile } => pages(rt, job, profile, stdout),
+        Request::Notes { job, profile } => notes(rt, job, profile, stdout),
         Request::Plain { job, out } => plain(rt, job, out, stdout),
         Request::Pin {
             job,

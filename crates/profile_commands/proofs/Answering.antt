@@ -1,5 +1,5 @@
 -- An answer that is refused.
-use Rattle.std.proofs.Common.{◌≡◌, ◌∙◌, ℕ, Bool, Bor, List, Option, None, Some, codes, ap, inl, inr, option_map, refl, subst, sym, unwrap_or}
+use Rattle.std.proofs.Common.{◌≡◌, ℕ, Bool, Bor, List, Option, None, Some, codes, inl, inr, option_map, refl, subst, sym, unwrap_or}
 use Rattle.pjl_answer.specs.declared.answered.AnswerError.{AnswerError}
 use Rattle.pjl_answer.specs.Answered.{IsAnswerError}
 use Rattle.profile_commands.specs.ProfileFromPjl.{IsBase, LeavesOfAnswer, base_word, refusal, trouble_of}

@@ -1,6 +1,5 @@
 -- One more text that was read.
 use Rattle.std.proofs.Common.{◌≡◌, ◌<◌, ◌+◌, ℕ, Bool, List, [], ◌∷◌, ◌++◌, Option, IfSome, codes, map, take, length, get_or, append_assoc, ap, inl, inr, refl, sym, subst, ◌∙◌}
-use Rattle.std.specs.List.{All}
 use Rattle.std.proofs.lemmas.List.{get_or-map, length-map, map-append, map_more, take-map}
 use Rattle.std.proofs.lemmas.List.Elements.{All-push}
 use Rattle.preflight.specs.declared.error.Error.TheVariants.{Memory}

@@ -108,8 +108,8 @@ fn end_of_check(error: Error) -> Status
         Error::Memory => Status::Stopped(Error::Memory),
         Error::Read => Status::Stopped(Error::Read),
         Error::Turns => Status::Stopped(Error::Turns),
-        // A check writes nothing, and a printer is named.
-        Error::Write | Error::NoProfile => Status::Stopped(Error::Memory),
+        // A check writes nothing, a printer is named, and no macro has a limit.
+        Error::Write | Error::NoProfile | Error::Items => Status::Stopped(Error::Memory),
     }
 }
 

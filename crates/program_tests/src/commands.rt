@@ -10,6 +10,7 @@ use std::alloc::Allocator;
 use std::process::Abort;
 use streams::{Create, FileOutlet, FileSource, Open};
 use subcommands::check::check;
+use subcommands::job_notes::tell_notes;
 use subcommands::list::list;
 use subcommands::pages::pages;
 use subcommands::pin::pin;
@@ -24,6 +25,8 @@ enum Command {
     List,
     /// For the printer that a word names.
     Pages(&'static str),
+    /// For the printer that a word names.
+    Notes(&'static str),
     Plain,
     /// For the printer that a word names, and what is chosen at its panel.
     Pin(&'static str, &'static [Choice]),
@@ -59,6 +62,7 @@ fn status_of<H: Allocator + Copy, J: Open, W: Create, O: Outlet, E: Outlet>(
         Command::Check => check(heap, job, &mut texts, &["a", "b"], stdout),
         Command::List => list(heap, job, stdout),
         Command::Pages(word) => pages(heap, job, &mut texts, word, stdout),
+        Command::Notes(word) => tell_notes(heap, job, &mut texts, word, stdout),
         Command::Plain => plain(heap, job, out, stdout),
         Command::Pin(profile, choices) => {
             let setting = PanelSetting { profile, choices };
@@ -179,6 +183,39 @@ const PAGES: &[(Run, Answer)] = &[
     ),
     (
         (Command::Pages("b"), b"", Device::Works(0), NONE),
+        (3, b"", READ, b""),
+    ),
+];
+
+const NOTES: &[(Run, Answer)] = &[
+    (
+        (Command::Notes("b"), b"\x1bEA\x1bE", SOUND, NONE),
+        (0, b"", b"", b""),
+    ),
+    (
+        (Command::Notes("b"), b"A", SOUND, NONE),
+        (1, b"0 101 OpenStart\n1 102 OpenEnd\n", b"", b""),
+    ),
+    (
+        (Command::Notes("b"), b"A\x1b&f1S", SOUND, NONE),
+        (
+            1,
+            b"0 101 OpenStart\nFAIL at=1 profile=1 19 StackEmpty\n",
+            b"",
+            b"",
+        ),
+    ),
+    (
+        (Command::Notes("b"), b"\x1b)", SOUND, NONE),
+        (1, b"FAIL at=0 profile=0 3 NotInProfile())\n", b"", b""),
+    ),
+    (
+        (Command::Notes("version"), b"A", SOUND, NONE),
+        (2, b"", b"ERROR profile 1 1 Version\n", b""),
+    ),
+    // Of a job that cannot be read to its end nothing is told.
+    (
+        (Command::Notes("b"), b"AA", Device::Works(1), NONE),
         (3, b"", READ, b""),
     ),
 ];
@@ -400,6 +437,13 @@ fn pages_come_to_this(rt: HostRuntime) {
 }
 
 #[test]
+fn notes_come_to_this(rt: HostRuntime) {
+    for (run, answer) in NOTES {
+        assert_run(&rt, *run, *answer);
+    }
+}
+
+#[test]
 fn plain_jobs_come_to_this(rt: HostRuntime) {
     for (run, answer) in PLAINS {
         assert_run(&rt, *run, *answer);
@@ -422,6 +466,12 @@ const FAILING: &[(Command, &[u8], u64, &[u8])] = &[
         b"\x1b)",
         6,
         b"FAIL at=0 profile=0 3 NotInProfile())\n",
+    ),
+    (
+        Command::Notes("b"),
+        b"A",
+        5,
+        b"0 101 OpenStart\n1 102 OpenEnd\n",
     ),
     (
         Command::Plain,

@@ -43,6 +43,18 @@ const CODES: &[(&str, &str)] = &[
     ("34", "RotatedRaster"),
     ("35", "Unpinnable"),
     ("36", "ManyItems"),
+    ("101", "OpenStart"),
+    ("102", "OpenEnd"),
+    ("103", "NoPage"),
+    ("104", "PjlAsText"),
+    ("105", "SameOrientation"),
+    ("106", "RoundedColumn"),
+    ("107", "FractionOfUnit"),
+    ("108", "LaterLanguage"),
+    ("109", "ShortRaster"),
+    ("110", "BlankOverflow"),
+    ("111", "SourceMovesLeft"),
+    ("112", "LongRun"),
 ];
 
 /// What `explain` writes on standard output, which goes well.
@@ -86,7 +98,7 @@ fn check_explained(rt: &impl Abort, alloc: Global, codes: &[(&str, &str)]) -> Re
     Ok(())
 }
 
-/// Each fault and each finding is explained, by its number and by its name, and all of them in the order of their numbers.
+/// Each fault, each finding and each note is explained, by its number and by its name, and all of them in the order of their numbers.
 #[test]
 fn each_code_is_explained(rt: HostRuntime) -> Result<(), Fail> {
     check_explained(&rt, rt.alloc(), CODES)
@@ -106,23 +118,23 @@ fn a_name_goes_by_its_letters(rt: HostRuntime) -> Result<(), Fail> {
 const NO_CODES: &[(&str, &[u8])] = &[
     (
         "",
-        b"error: no fault and no finding has the number or the name ''; 'pclcheck explain' writes all\n",
+        b"error: no fault, finding or note has the number or the name ''; 'pclcheck explain' writes all\n",
     ),
     (
         "7",
-        b"error: no fault and no finding has the number or the name '7'; 'pclcheck explain' writes all\n",
+        b"error: no fault, finding or note has the number or the name '7'; 'pclcheck explain' writes all\n",
     ),
     (
         "012",
-        b"error: no fault and no finding has the number or the name '012'; 'pclcheck explain' writes all\n",
+        b"error: no fault, finding or note has the number or the name '012'; 'pclcheck explain' writes all\n",
     ),
     (
         "Unset(Size)",
-        b"error: no fault and no finding has the number or the name 'Unset(Size)'; 'pclcheck explain' writes all\n",
+        b"error: no fault, finding or note has the number or the name 'Unset(Size)'; 'pclcheck explain' writes all\n",
     ),
     (
         "12 Unset",
-        b"error: no fault and no finding has the number or the name '12 Unset'; 'pclcheck explain' writes all\n",
+        b"error: no fault, finding or note has the number or the name '12 Unset'; 'pclcheck explain' writes all\n",
     ),
 ];
 

@@ -24,6 +24,11 @@ const HELPS: &[Ended] = &[
     (&["pclcheck", "--help"], Status::Help, HELP),
     (&["pclcheck", "check", "--help"], Status::Help, HELP),
     (
+        &["pclcheck", "check", "--help"],
+        Status::Help,
+        &["[JOB] [PROFILE|JOB]...", "--most-items <N>"],
+    ),
+    (
         &["pclcheck", "list", "--help"],
         Status::Help,
         &["FAULT", "JOB"],
@@ -32,6 +37,11 @@ const HELPS: &[Ended] = &[
         &["pclcheck", "pages", "--help"],
         Status::Help,
         &["glyph", "JOB", "PROFILE"],
+    ),
+    (
+        &["pclcheck", "notes", "--help"],
+        Status::Help,
+        &["AT NUMBER NAME", "JOB", "PROFILE"],
     ),
     (
         &["pclcheck", "plain", "--help"],
@@ -93,6 +103,8 @@ const WRONG_FOR_MANY: &[&[&str]] = &[
     &["--exit-zero=1", "job.pcl", "@A"],
     &["-e", "job.pcl", "@A"],
     &["--explain=1", "job.pcl", "@A"],
+    &["--notes=1", "job.pcl", "@A"],
+    &["--notes", "job.pcl"],
     // A limit that is no number, and none.
     &["--most-items", "many", "job.pcl", "@A"],
     &["--most-items=-1", "job.pcl", "@A"],
@@ -142,7 +154,6 @@ const WRONG_FOR_TEXTS: &[Ended] = &[
 ];
 
 const HELP: &[&str] = &[
-    "[JOB] [PROFILE|JOB]...",
     "0  the job passes",
     "1  the job fails",
     "2  usage error",
@@ -152,6 +163,8 @@ const HELP: &[&str] = &[
     "ERROR profile N LINE CAUSE",
     "check -f shop.fleet --each ",
     "FAIL at=N printer=NAME FINDING JOB",
+    "ERROR items JOB",
+    "NOTE at=N printer=NAME NOTE JOB",
     "ERROR read fleet FILE: WHY",
     "@A  ",
     "@B  ",
@@ -334,6 +347,10 @@ const TEXTS: &[(&[&str], Asked)] = &[
         ("pages", "a/b", Some("@C"), None),
     ),
     (
+        &["pclcheck", "notes", "a/b", "@C"],
+        ("notes", "a/b", Some("@C"), None),
+    ),
+    (
         &["pclcheck", "plain", "job.pcl", "out.pcl"],
         ("plain", "job.pcl", None, Some("out.pcl")),
     ),
@@ -358,6 +375,7 @@ fn words_that_ask_for_a_text(rt: HostRuntime) -> Result<(), Fail> {
         let found = match &answer {
             Ok(Request::List { job }) => ("list", *job, None, None),
             Ok(Request::Pages { job, profile }) => ("pages", *job, Some(*profile), None),
+            Ok(Request::Notes { job, profile }) => ("notes", *job, Some(*profile), None),
             Ok(Request::Plain { job, out }) => ("plain", *job, None, Some(*out)),
             Ok(
                 Request::Pin {
@@ -480,17 +498,55 @@ const LIMITS: &[(&[&str], Option<u64>)] = &[
     (&["-p", "@A", "job.pcl"], None),
 ];
 
+/// Whether this is a check of many jobs with that limit.
+fn limits_items(request: &Request<'_>, most: Option<u64>) -> bool {
+    match request {
+        Request::CheckMany(many) => many.most_items == most,
+        _ => false,
+    }
+}
+
 #[test]
 fn words_that_limit_the_items_of_macros(rt: HostRuntime) -> Result<(), Fail> {
     for (behind, wanted) in LIMITS {
         let words = strings_of_check(rt.alloc(), behind)?;
         let mut stdout = Watched::new(Vec::new(rt.alloc()));
         let mut stderr = Watched::new(Vec::new(rt.alloc()));
-        let most = match read_words(rt.alloc(), words.as_slice(), &mut stdout, &mut stderr) {
-            Ok(Request::CheckMany(many)) => many.most_items,
-            _ => Some(u64::MAX),
+        let is_limited = match read_words(rt.alloc(), words.as_slice(), &mut stdout, &mut stderr) {
+            Ok(request) => limits_items(&request, *wanted),
+            Err(_) => false,
         };
-        assert_eq!(rt; most, *wanted, "{behind:?}");
+        assert!(rt; is_limited, "{behind:?}");
+    }
+    Ok(())
+}
+
+/// Words behind `check`, and whether they ask for notes.
+const NOTES: &[(&[&str], bool)] = &[
+    (&["--notes", "job.pcl", "@A"], true),
+    (&["-f", "shop", "a", "--notes", "--each"], true),
+    (&["-p", "@A", "job.pcl", "--explain"], false),
+];
+
+/// Whether this is a check of many jobs that tells notes or not, as is wanted.
+fn asks_for_notes(request: &Request<'_>, wanted: bool) -> bool {
+    match request {
+        Request::CheckMany(many) => many.tells_notes == wanted,
+        _ => false,
+    }
+}
+
+#[test]
+fn words_that_ask_for_notes(rt: HostRuntime) -> Result<(), Fail> {
+    for (behind, wanted) in NOTES {
+        let words = strings_of_check(rt.alloc(), behind)?;
+        let mut stdout = Watched::new(Vec::new(rt.alloc()));
+        let mut stderr = Watched::new(Vec::new(rt.alloc()));
+        let is_asked = match read_words(rt.alloc(), words.as_slice(), &mut stdout, &mut stderr) {
+            Ok(request) => asks_for_notes(&request, *wanted),
+            Err(_) => false,
+        };
+        assert!(rt; is_asked, "{behind:?}");
     }
     Ok(())
 }

@@ -53,9 +53,9 @@ told_to_the_end p f xs i a b h all =
 
 -- the pieces of the line on a code that nothing has
 pub Writes-unknown : (a b : OutletState) (code first : List ℕ) → first ≡ code →
-    Writes a b (codes "error: no fault and no finding has the number or the name '" ++ (first ++ codes "'; 'pclcheck explain' writes all\n")) → Writes a b (complaint (Some code))
+    Writes a b (codes "error: no fault, finding or note has the number or the name '" ++ (first ++ codes "'; 'pclcheck explain' writes all\n")) → Writes a b (complaint (Some code))
 Writes-unknown a b code first e written =
-    subst (λ l. Writes a b (codes "error: no fault and no finding has the number or the name '" ++ (l ++ codes "'; 'pclcheck explain' writes all\n"))) e written
+    subst (λ l. Writes a b (codes "error: no fault, finding or note has the number or the name '" ++ (l ++ codes "'; 'pclcheck explain' writes all\n"))) e written
 
 -- a test of what elements stand for
 pub any_of_map : {X : Type 0} (p : List ℕ → Bool) (f : X → List ℕ) (xs : List X) → list_any p (map f xs) ≡ list_any (λ x. p (f x)) xs

@@ -1,5 +1,5 @@
--- Each fault and finding is explained, and each explanation is of one.
-use Rattle.std.proofs.Common.{◌≡◌, ℕ, List, [], ◌∷◌, map, filter, get_or, refl}
+-- Each fault, finding and note is explained, and each explanation is of one.
+use Rattle.std.proofs.Common.{◌≡◌, ℕ, List, [], ◌∷◌, ◌++◌, map, filter, get_or, refl}
 use Rattle.std.specs.Prelude.{decimal}
 use Rattle.std.specs.Fmt.{digits}
 use Rattle.pcl_items.specs.declared.fault.Cause.TheVariants.{Syntax, Truncated, NotInProfile, BadNumber, Pjl, EndInFrame}
@@ -11,25 +11,28 @@ use Rattle.verdict.specs.declared.reason.Reason.TheVariants.{Fault, Finding as F
 use Rattle.verdict.specs.Numbers.{reason_number}
 use Rattle.line_words.specs.Reason.{bare_name}
 use Rattle.subcommands.specs.declared.explanations.TheConstants.{EXPLANATIONS}
-use Rattle.subcommands.specs.Explanations.{ExplainReasons, IsExplained, first_line, head_of, is_about}
+use Rattle.notes.specs.declared.note.Note.{Note}
+use Rattle.notes.specs.declared.note.Note.TheVariants.{OpenStart, OpenEnd, NoPage, PjlAsText, SameOrientation, RoundedColumn, FractionOfUnit, LaterLanguage, ShortRaster, BlankOverflow, SourceMovesLeft, LongRun}
+use Rattle.notes.specs.Note.{note_name, note_number}
+use Rattle.subcommands.specs.Explanations.{ExplainReasons, IsExplained, first_line, head_of, head_of_note, head_with, is_about}
 
 abbrev texts : List (List ℕ)
 texts = map (λ text. text.now) EXPLANATIONS
 
--- what is asked for by the number of a reason, and the first of it
-abbrev found : Reason → List (List ℕ)
-found reason = filter (is_about (decimal (reason_number reason))) texts
+-- what is asked for by a number, and the first of it
+abbrev found : ℕ → List (List ℕ)
+found number = filter (is_about (decimal number)) texts
 
-abbrev text_of : Reason → List ℕ
-text_of reason = get_or (found reason) 0 []
+abbrev text_of : ℕ → List ℕ
+text_of number = get_or (found number) 0 []
 
-of : {reason : Reason} → found reason ≡ text_of reason ∷ [] →
-    filter (is_about (bare_name reason)) texts ≡ text_of reason ∷ []
-    → first_line (text_of reason) ≡ head_of reason → IsExplained texts reason
-of {reason} by_number by_name begins =
-    record { text = text_of reason; by_number = by_number; by_name = by_name; begins = begins }
+of : {number : ℕ} {name : List ℕ} → found number ≡ text_of number ∷ [] →
+    filter (is_about name) texts ≡ text_of number ∷ []
+    → first_line (text_of number) ≡ head_with number name → IsExplained texts number name
+of {number} {name} by_number by_name begins =
+    record { text = text_of number; by_number = by_number; by_name = by_name; begins = begins }
 
-each : (reason : Reason) → IsExplained texts reason
+each : (reason : Reason) → IsExplained texts (reason_number reason) (bare_name reason)
 unfolding digits
 each (Fault Syntax) = of refl refl refl
 each (Fault Truncated) = of refl refl refl
@@ -77,9 +80,30 @@ reasons =
     ∷ Found MarginIgnored ∷ Differs ∷ Found RotatedRaster ∷ Unpinnable
     ∷ Found ManyItems ∷ []
 
-only : map first_line texts ≡ map head_of reasons
+each_note : (note : Note) → IsExplained texts (note_number note) (note_name note)
+unfolding digits
+each_note OpenStart = of refl refl refl
+each_note OpenEnd = of refl refl refl
+each_note NoPage = of refl refl refl
+each_note PjlAsText = of refl refl refl
+each_note SameOrientation = of refl refl refl
+each_note RoundedColumn = of refl refl refl
+each_note FractionOfUnit = of refl refl refl
+each_note LaterLanguage = of refl refl refl
+each_note ShortRaster = of refl refl refl
+each_note BlankOverflow = of refl refl refl
+each_note SourceMovesLeft = of refl refl refl
+each_note LongRun = of refl refl refl
+
+abbrev notes : List Note
+notes =
+    OpenStart ∷ OpenEnd ∷ NoPage ∷ PjlAsText ∷ SameOrientation ∷ RoundedColumn
+    ∷ FractionOfUnit ∷ LaterLanguage ∷ ShortRaster ∷ BlankOverflow ∷ SourceMovesLeft
+    ∷ LongRun ∷ []
+
+only : map first_line texts ≡ map head_of reasons ++ map head_of_note notes
 unfolding digits
 only = refl
 
 pub explain_reasons : ExplainReasons texts
-explain_reasons = record { each = each; reasons = reasons; only = only }
+explain_reasons = record { each = each; each_note = each_note; reasons = reasons; notes = notes; only = only }

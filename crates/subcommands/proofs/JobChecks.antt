@@ -1,5 +1,5 @@
 -- Lemmas on the lines of many jobs.
-use Rattle.std.proofs.Common.{◌≡◌, ◌≢◌, ◌<◌, ◌+◌, ◌-◌, suc, min, if◌then◌else◌, IfOk, IfErr, IsErrOf, length-drop, zero, ℕ, List, [], ◌∷◌, ◌++◌, map, flat_map, fold, take, drop, length, get_or, Bool, true, false, Option, Some, Result, Ok, Err, refl, sym, ◌∙◌, ap, append_assoc, append-nil, subst, arith}
+use Rattle.std.proofs.Common.{◌≡◌, ◌≢◌, ◌<◌, ◌+◌, ◌-◌, suc, if◌then◌else◌, IfOk, IfErr, IsErrOf, length-drop, zero, ℕ, List, [], ◌∷◌, ◌++◌, map, flat_map, fold, take, drop, length, get_or, Bool, true, false, Option, None, Some, Result, Ok, Err, refl, sym, ◌∙◌, ap, append_assoc, append-nil, inl, inr, subst, arith}
 use Rattle.std.proofs.Math.Seq.{split_at}
 use Rattle.std.specs.List.{AllByRecursion, range_with_len}
 use Rattle.std.proofs.lemmas.List.{drop-map, length-take, map-append, map_more, take-map}
@@ -17,15 +17,23 @@ use Rattle.streams.specs.Source.{SourceState}
 use Rattle.streams.proofs.OutletLemmas.{Adds-none, Adds-trans}
 use Rattle.subcommands.specs.declared.job_checks.Ending.{Ending}
 use Rattle.subcommands.specs.declared.job_checks.Ending.TheVariants.{Passes, Fails, HasNoVerdict}
-use Rattle.subcommands.specs.JobChecks.{CutsOne, Groups, IsErrorOfJob, IsRightLine, Line, Tells, TellsAll, TellsFront, TellsOne, Work, afters, due_of, ending_of, group_count, keyed, line_text, of_group, work, worse, worst}
+use Rattle.subcommands.specs.Groups.{Groups, group_at, group_count, of_group, reported}
+use Rattle.subcommands.specs.JobChecks.{AddsTold, AreRightToCut, CutsNotes, CutsTold, IsErrorOfJob, IsErrorOfLine, IsRightAnswer, IsRightLine, Line, Tells, TellsAll, TellsFront, TellsNotes, Work, afters, afters_of, due_of, ending_of, ending_of_line, keyed, line_text, worse, worst}
+use Rattle.subcommands.specs.JobNoting.{IsRightlyNoted, Noted, ending_of_notes, note_printer, notes_text}
+use Rattle.notes.specs.Note.{Told as ToldNote}
+use Rattle.subcommands.specs.NoteReports.{subject_of, told_note}
 use Rattle.device_profile.specs.Name.{printer_name}
+use Rattle.notes.specs.Notes.{with_most_items}
 use Rattle.subcommands.specs.CheckMany.{AreOfTexts, limited}
+use Rattle.subcommands.specs.CopiedTexts.{AreNotePrinters}
+use Rattle.device_profile.specs.Text.{printer_of_text}
 use Rattle.subcommands.specs.Fleet.{DescribeBy, DescribeFleet, IsEndOfFleet}
+use Rattle.subcommands.proofs.FleetLemmas.{DescribeBy-more}
 use Rattle.subcommands.specs.Texts.{IsErrorOfReading}
 use Rattle.subcommands.specs.declared.status.Status.{Status}
 use Rattle.subcommands.specs.declared.status.Status.TheVariants.{Stopped}
 use Rattle.subcommands.specs.Reports.{verdict_of}
-use Rattle.subcommands.specs.Telling.{HowTold}
+use Rattle.subcommands.specs.Telling.{HowTold, report_text}
 
 -- ---- the worst of endings
 
@@ -45,14 +53,14 @@ worse-passes HasNoVerdict = refl
 
 module _ (exit_zero : Bool) where
   abbrev one_more : Ending → Line → Ending
-  one_more ending line = worse ending (ending_of exit_zero (verdict_of line.answer))
+  one_more ending line = worse ending (ending_of_line exit_zero line)
 
   fold_worse : (start : Ending) (lines : List Line) → fold one_more start lines ≡ worse start (worst exit_zero lines)
   fold_worse start [] = sym (worse-passes start)
   fold_worse start (line ∷ lines) =
       fold_worse (one_more start line) lines
-      ∙ worse-assoc start (ending_of exit_zero (verdict_of line.answer)) (worst exit_zero lines)
-      ∙ ap (worse start) (sym (fold_worse (ending_of exit_zero (verdict_of line.answer)) lines))
+      ∙ worse-assoc start (ending_of_line exit_zero line) (worst exit_zero lines)
+      ∙ ap (worse start) (sym (fold_worse (ending_of_line exit_zero line) lines))
 
   pub worst-append : (xs ys : List Line) → worst exit_zero (xs ++ ys) ≡ worse (worst exit_zero xs) (worst exit_zero ys)
   worst-append xs ys = fold-append one_more Passes xs ys ∙ fold_worse (worst exit_zero xs) ys
@@ -66,10 +74,12 @@ All-append P (x ∷ xs) ys first second = (first.0, All-append P xs ys first.1 s
 abbrev key : Line → List ℕ × ℕ
 key line = (line.job, line.group)
 
-abbrev after_of : Line → SourceState
-after_of line = line.after
-
 module _ (groups : Groups) (telling : HowTold) (start : List ℕ → SourceState) where
+  -- lines that are right, and then some of which the last may lack its notes
+  right_behind : (xs ys : List Line) → AllByRecursion (IsRightLine groups telling start) xs → AreRightToCut groups telling start ys → AreRightToCut groups telling start (xs ++ ys)
+  right_behind [] ys first second = second
+  right_behind (x ∷ xs) ys first second = (inl first.0, right_behind xs ys first.1 second)
+
   pub tells_none : (old : Work) → TellsAll groups telling [] start Passes old old
   tells_none old = ([], record { in_order = refl; right = tt; written = Adds-none old.out; ended = sym (append-nil old.ended) }, refl)
 
@@ -77,11 +87,11 @@ module _ (groups : Groups) (telling : HowTold) (start : List ℕ → SourceState
     tells_both : (lines lines' : List Line) → Tells groups telling start due lines old mid → Tells groups telling start due' lines' mid new → Tells groups telling start (due ++ due') (lines ++ lines') old new
     tells_both lines lines' first second = record {
       in_order = map-append key lines lines' ∙ ap (λ ks. ks ++ map key lines') first.in_order ∙ ap (λ ks. due ++ ks) second.in_order;
-      right = All-append (IsRightLine groups start) lines lines' first.right second.right;
+      right = All-append (IsRightLine groups telling start) lines lines' first.right second.right;
       written = subst (Adds old.out new.out) (sym (flat_map-append (line_text groups telling) lines lines'))
           (Adds-trans old.out mid.out new.out (flat_map (line_text groups telling) lines) (flat_map (line_text groups telling) lines') first.written second.written);
       ended = second.ended ∙ ap (λ es. es ++ afters lines') first.ended ∙ append_assoc old.ended (afters lines) (afters lines')
-          ∙ ap (λ es. old.ended ++ es) (sym (map-append after_of lines lines'));
+          ∙ ap (λ es. old.ended ++ es) (sym (flat_map-append afters_of lines lines'));
     }
 
     pub tells_more : (ending ending' : Ending) → TellsAll groups telling due start ending old mid → TellsAll groups telling due' start ending' mid new → TellsAll groups telling (due ++ due') start (worse ending ending') old new
@@ -104,7 +114,7 @@ module _ (groups : Groups) (telling : HowTold) (start : List ℕ → SourceState
               ap (λ ks. ks ++ (second.later ++ later)) (map-append key first.0 second.lines ∙ ap (λ ks. ks ++ map key second.lines) first.1.in_order)
               ∙ append_assoc due (map key second.lines) (second.later ++ later)
               ∙ ap (λ ks. due ++ ks) (sym (append_assoc (map key second.lines) second.later later) ∙ ap (λ ks. ks ++ later) second.in_order);
-          right = All-append (IsRightLine groups start) first.0 second.lines first.1.right second.right;
+          right = right_behind first.0 second.lines first.1.right second.right;
           written = (
             text ++ more.0,
             more.1,
@@ -113,48 +123,123 @@ module _ (groups : Groups) (telling : HowTold) (start : List ℕ → SourceState
           );
           ended = second.ended ∙ ap (λ es. es ++ (afters second.lines ++ second.untold)) first.1.ended
               ∙ append_assoc old.ended (afters first.0) (afters second.lines ++ second.untold)
-              ∙ ap (λ es. old.ended ++ es) (sym (append_assoc (afters first.0) (afters second.lines) second.untold) ∙ ap (λ es. es ++ second.untold) (sym (map-append after_of first.0 second.lines)));
+              ∙ ap (λ es. old.ended ++ es) (sym (append_assoc (afters first.0) (afters second.lines) second.untold) ∙ ap (λ es. es ++ second.untold) (sym (flat_map-append afters_of first.0 second.lines)));
         }
 
   -- ---- one line
 
-  module _ (job : List ℕ) (number : ℕ) (after : SourceState) (old new : Work) (ended : new.ended ≡ old.ended ++ after ∷ []) where
-    abbrev pub group : Groups
-    group = record { fleet = of_group groups.is_each groups.fleet number; names = of_group groups.is_each groups.names number; is_each = groups.is_each }
+  module _ (job : List ℕ) (number : ℕ) (after : SourceState) (answer : Result Judgement Error) (right : IsRightAnswer (group_at groups number).fleet (start job) after answer) where
+    abbrev group : Groups
+    group = group_at groups number
 
-    pub tells_one : (answer : Result Judgement Error) (ending : Ending) → ending ≡ ending_of telling.exit_zero (verdict_of answer) → TellsOne group telling (start job) after job answer (Adds old.out new.out) → TellsAll groups telling ((job, number) ∷ []) start ending old new
-    tells_one answer ending is told =
-        let line : Line = record { job = job; group = number; after = after; answer = answer; cause = told.0 } in (
-          line ∷ [],
-          record { in_order = refl; right = (told.1, tt); written = subst (Adds old.out new.out) (sym (append-nil (line_text groups telling line))) told.2; ended = ended },
-          is,
-        )
+    abbrev line_with : Option (List ℕ) → Option Noted → Line
+    line_with cause noted = record { job = job; group = number; after = after; answer = answer; cause = cause; noted = noted }
 
-    pub cuts_one : (error : Error) → CutsOne error group telling (start job) after job old.out new.out → TellsFront groups telling start ((job, number) ∷ []) old new
-    cuts_one Memory same = record {
-      lines = [];
-      later = (job, number) ∷ [];
-      untold = after ∷ [];
-      in_order = refl;
-      right = tt;
-      written = ([], [], refl, subst (λ o. Adds old.out o []) (sym same) (Adds-none old.out));
-      ended = ended;
-    }
-    cuts_one Write cut =
-        let line : Line = record { job = job; group = number; after = after; answer = cut.0; cause = cut.1.0 } in
-        record {
-          lines = line ∷ [];
-          later = [];
-          untold = [];
-          in_order = refl;
-          right = (cut.1.1, tt);
-          written = subst (AddsFront old.out new.out) (sym (append-nil (line_text groups telling line))) cut.1.2;
-          ended = ended;
-        }
-    cuts_one Read cut = absurd cut
-    cuts_one Turns cut = absurd cut
-    cuts_one NoProfile cut = absurd cut
-    cuts_one Items cut = absurd cut
+    abbrev told : Option (List ℕ) → List ℕ
+    told cause = report_text telling (reported group job answer cause)
+
+    abbrev printer_of_notes : Option Printer
+    printer_of_notes = note_printer (verdict_of answer) group.note_printers
+
+    abbrev write_note : ToldNote → List ℕ
+    write_note = told_note telling (subject_of group job)
+
+    module _ (old new : Work) (ended : new.ended ≡ old.ended ++ after ∷ []) where
+      -- no notes are told
+      pub tells_alone : (ending : Ending) → printer_of_notes ≡ None → AddsTold told old.out new.out → ending ≡ ending_of telling.exit_zero (verdict_of answer) → TellsAll groups telling ((job, number) ∷ []) start ending old new
+      tells_alone ending none adds is =
+          let text = told adds.0 in (
+            line_with adds.0 None ∷ [],
+            record {
+              in_order = refl;
+              right = ((right, subst (λ printer. IsRightlyNoted write_note (start job) printer None) (sym none) tt), tt);
+              written = subst (Adds old.out new.out) (sym (append-nil (text ++ []) ∙ append-nil text)) adds.1;
+              ended = ended;
+            },
+            is ∙ sym (worse-passes (ending_of telling.exit_zero (verdict_of answer))),
+          )
+
+      -- the line is not there whole
+      pub cuts_line : (error : Error) → CutsTold error told old.out new.out → TellsFront groups telling start ((job, number) ∷ []) old new
+      cuts_line Memory same = record {
+        lines = [];
+        later = (job, number) ∷ [];
+        untold = after ∷ [];
+        in_order = refl;
+        right = tt;
+        written = ([], [], refl, subst (λ o. Adds old.out o []) (sym same) (Adds-none old.out));
+        ended = ended;
+      }
+      cuts_line Write cut =
+          let text = told cut.0 in
+          record {
+            lines = line_with cut.0 None ∷ [];
+            later = [];
+            untold = [];
+            in_order = refl;
+            right = (inr (right, refl, refl), tt);
+            written = subst (AddsFront old.out new.out) (sym (append-nil (text ++ []) ∙ append-nil text)) cut.1;
+            ended = ended;
+          }
+      cuts_line Read cut = absurd cut
+      cuts_line Turns cut = absurd cut
+      cuts_line NoProfile cut = absurd cut
+      cuts_line Items cut = absurd cut
+
+    module _ (printer : Printer) (has : printer_of_notes ≡ Some printer) (old mid new : Work) (ended : mid.ended ≡ old.ended ++ after ∷ []) (adds : AddsTold told old.out mid.out) where
+      -- notes are told
+      pub tells_noted : (noted : Noted) (ending ending' : Ending) → TellsNotes group telling printer (start job) job mid new (Adds mid.out new.out) noted → ending ≡ ending_of telling.exit_zero (verdict_of answer) → ending' ≡ ending_of_notes noted.notes
+          → TellsAll groups telling ((job, number) ∷ []) start (worse ending ending') old new
+      tells_noted noted ending ending' tells is is' =
+          let text = told adds.0 in
+          let notes = notes_text telling group job noted.notes noted.cause in (
+            line_with adds.0 (Some noted) ∷ [],
+            record {
+              in_order = refl;
+              right = ((right, subst (λ printer. IsRightlyNoted write_note (start job) printer (Some noted)) (sym has) tells.right), tt);
+              written = subst (Adds old.out new.out) (sym (append-nil (text ++ notes))) (Adds-trans old.out mid.out new.out text notes adds.1 tells.written);
+              ended = tells.ended ∙ ap (λ es. es ++ noted.after ∷ []) ended ∙ append_assoc old.ended (after ∷ []) (noted.after ∷ []);
+            },
+            ap (λ e. worse e ending') is ∙ ap (worse (ending_of telling.exit_zero (verdict_of answer))) is',
+          )
+
+      -- what is told of them is not there whole
+      pub cuts_notes : (error : Error) → CutsNotes error group telling printer (start job) job mid new → TellsFront groups telling start ((job, number) ∷ []) old new
+      cuts_notes Memory cut =
+          let text = told adds.0 in
+          record {
+            lines = line_with adds.0 None ∷ [];
+            later = [];
+            untold = cut.0 ∷ [];
+            in_order = refl;
+            right = (inr (right, refl, refl), tt);
+            written = (text ++ [], [], refl, subst (λ o. Adds old.out o (text ++ [])) (sym cut.1) (subst (Adds old.out mid.out) (sym (append-nil text)) adds.1));
+            ended = cut.2 ∙ ap (λ es. es ++ cut.0 ∷ []) ended ∙ append_assoc old.ended (after ∷ []) (cut.0 ∷ []);
+          }
+      cuts_notes Write cut =
+          let text = told adds.0 in
+          let noted : Noted = cut.0 in
+          let tells = cut.1 in
+          let notes = notes_text telling group job noted.notes noted.cause in
+          let front = tells.written in
+          record {
+            lines = line_with adds.0 (Some noted) ∷ [];
+            later = [];
+            untold = [];
+            in_order = refl;
+            right = (inl (right, subst (λ printer. IsRightlyNoted write_note (start job) printer (Some noted)) (sym has) tells.right), tt);
+            written = (
+              text ++ front.0,
+              front.1,
+              append-nil (text ++ notes) ∙ ap (λ t. text ++ t) front.2 ∙ sym (append_assoc text front.0 front.1),
+              Adds-trans old.out mid.out new.out text front.0 adds.1 front.3,
+            );
+            ended = tells.ended ∙ ap (λ es. es ++ noted.after ∷ []) ended ∙ append_assoc old.ended (after ∷ []) (noted.after ∷ []);
+          }
+      cuts_notes Read cut = absurd cut
+      cuts_notes Turns cut = absurd cut
+      cuts_notes NoProfile cut = absurd cut
+      cuts_notes Items cut = absurd cut
 
   -- ---- the lines of a job, and those of all
 
@@ -231,46 +316,95 @@ module _ (groups : Groups) (telling : HowTold) (start : List ℕ → SourceState
       (front_behind groups telling start (flat_map (due_of groups) (map name (take i names))) (due_of groups (name (get_or names i d))) old mid new (flat_map (due_of groups) (map name (drop (suc i) names))) ending before
       (subst (λ s. TellsFront groups telling s (due_of groups (name (get_or names i d))) mid new) same cut))
 
-  module _ (job : List ℕ) (number : ℕ) (after : SourceState) (old mid new : Work) (ending : Ending) (ended : new.ended ≡ mid.ended ++ after ∷ []) (before : TellsAll groups telling (map (keyed job) (range_with_len 0 number)) start ending old mid) where
-    pub groups_more : (answer : Result Judgement Error) (ending' : Ending) → ending' ≡ ending_of telling.exit_zero (verdict_of answer) → TellsOne (group groups telling start job number after mid new ended) telling (start job) after job answer (Adds mid.out new.out)
-        → TellsAll groups telling (map (keyed job) (range_with_len 0 (number + 1))) start (worse ending ending') old new
-    groups_more answer ending' is told =
+  module _ (job : List ℕ) (number : ℕ) (old mid new : Work) (ending : Ending) (before : TellsAll groups telling (map (keyed job) (range_with_len 0 number)) start ending old mid) (start' : List ℕ → SourceState) (same : start' ≡ start) where
+    pub groups_more : (ending' : Ending) → TellsAll groups telling (keyed job number ∷ []) start' ending' mid new → TellsAll groups telling (map (keyed job) (range_with_len 0 (number + 1))) start (worse ending ending') old new
+    groups_more ending' more =
         subst (λ due. TellsAll groups telling due start (worse ending ending') old new) (sym (next_group groups telling start job number))
-        (tells_more groups telling start (map (keyed job) (range_with_len 0 number)) ((job, number) ∷ []) old mid new ending ending' before (tells_one groups telling start job number after mid new ended answer ending' is told))
+        (tells_more groups telling start (map (keyed job) (range_with_len 0 number)) ((job, number) ∷ []) old mid new ending ending' before
+        (subst (λ s. TellsAll groups telling (keyed job number ∷ []) s ending' mid new) same more))
 
-    pub groups_cut : (error : Error) → number < group_count groups → CutsOne error (group groups telling start job number after mid new ended) telling (start job) after job mid.out new.out
-        → TellsFront groups telling start (due_of groups job) old new
-    groups_cut error inside cut =
+    pub groups_cut : number < group_count groups → TellsFront groups telling start' (keyed job number ∷ []) mid new → TellsFront groups telling start (due_of groups job) old new
+    groups_cut inside cut =
         let rest : number + 1 + (group_count groups - (number + 1)) ≡ group_count groups = omega (arith, inside) in
         let later : List (List ℕ × ℕ) = map (keyed job) (range_with_len (number + 1) (group_count groups - (number + 1))) in
         subst (λ due. TellsFront groups telling start due old new)
         (sym (append_assoc (map (keyed job) (range_with_len 0 number)) ((job, number) ∷ []) later)
         ∙ ap (λ ks. ks ++ later) (sym (next_group groups telling start job number))
         ∙ sym (groups_behind groups telling start job (number + 1) (group_count groups - (number + 1)) (group_count groups) rest))
-        (front_behind groups telling start (map (keyed job) (range_with_len 0 number)) ((job, number) ∷ []) old mid new later ending before (cuts_one groups telling start job number after mid new ended error cut))
+        (front_behind groups telling start (map (keyed job) (range_with_len 0 number)) ((job, number) ∷ []) old mid new later ending before
+        (subst (λ s. TellsFront groups telling s (keyed job number ∷ []) mid new) same cut))
 
 -- where it is an error, this holds
 pub where_err : (r : Result Ending Error) (P : Type 0) → P → IfErr r (λ error. P)
 where_err (Ok ending) P p = tt
 where_err (Err error) P p = p
 
-pub cut_at : (r : Result Ending Error) (error : Error) (P : Error → Type 0) → r ≡ Err error → P error → IfErr r P
-cut_at r error P is p = subst (λ r. IfErr r P) (sym is) p
+-- why no line could be written
+pub error_of_line : (error : Error) (text : Option (List ℕ) → List ℕ) (out out' : OutletState) → CutsTold error text out out' → IsErrorOfLine error
+error_of_line Memory text out out' cut = tt
+error_of_line Write text out out' cut = tt
+error_of_line Read text out out' cut = cut
+error_of_line Turns text out out' cut = cut
+error_of_line NoProfile text out out' cut = cut
+error_of_line Items text out out' cut = cut
 
-pub cut_in_writing : (error : Error) (group : Groups) (telling : HowTold) (start after : SourceState) (job : List ℕ) (out out' : OutletState) → error ≡ Write → (answer : Result Judgement Error) → TellsOne group telling start after job answer (AddsFront out out') → CutsOne error group telling start after job out out'
-cut_in_writing error group telling start after job out out' is answer told = subst (λ e. CutsOne e group telling start after job out out') (sym is) (answer, told)
+pub error_of_notes : (error : Error) (part : Groups) (telling : HowTold) (printer : Printer) (start : SourceState) (job : List ℕ) (old new : Work) → CutsNotes error part telling printer start job old new → IsErrorOfLine error
+error_of_notes Memory part telling printer start job old new cut = tt
+error_of_notes Write part telling printer start job old new cut = tt
+error_of_notes Read part telling printer start job old new cut = cut
+error_of_notes Turns part telling printer start job old new cut = cut
+error_of_notes NoProfile part telling printer start job old new cut = cut
+error_of_notes Items part telling printer start job old new cut = cut
+
+-- a text that was written or cut, where this has what the system said
+pub told_as : {T : Type 0} (r : Result T Error) (text : Option (List ℕ) → List ℕ) (cause : Option (List ℕ)) (out out' : OutletState) → IfOk r (λ x. Adds out out' (text cause)) → IfOk r (λ x. AddsTold text out out')
+told_as (Ok x) text cause out out' adds = (cause, adds)
+told_as (Err error) text cause out out' adds = tt
+
+pub cut_writing : (error : Error) (text : Option (List ℕ) → List ℕ) (cause : Option (List ℕ)) (out out' : OutletState) → error ≡ Write → AddsFront out out' (text cause) → CutsTold error text out out'
+cut_writing error text cause out out' is front = subst (λ e. CutsTold e text out out') (sym is) (cause, front)
 
 -- ---- the printers of texts
 
-pub of_texts : (known : List (Option (List ℕ))) (most : Option ℕ) (groups : Groups) (fleet : List Printer) (names given : List (List ℕ)) → groups.fleet ≡ map (limited most) fleet → groups.names ≡ names → DescribeFleet known fleet → DescribeBy [] given fleet → names ≡ map printer_name given → AreOfTexts known most groups
-of_texts known most groups fleet names given fleet_is names_are described by named = record {
+-- texts describe one fleet
+same_fleet : (texts : List (List ℕ)) (fleet other : List Printer) → DescribeFleet (map (λ text. Some text) texts) fleet → DescribeFleet (map (λ text. Some text) texts) other → fleet ≡ other
+same_fleet [] [] [] first second = refl
+same_fleet [] [] (q ∷ other) first second = absurd second
+same_fleet [] (p ∷ fleet) other first second = absurd first
+same_fleet (text ∷ texts) [] other first second = absurd first
+same_fleet (text ∷ texts) (p ∷ fleet) [] first second = absurd second
+same_fleet (text ∷ texts) (p ∷ fleet) (q ∷ other) first second =
+    let is : printer_of_text text ≡ Ok p = first.0 in
+    let is' : printer_of_text text ≡ Ok q = second.0 in
+    let same : fleet ≡ other = same_fleet texts fleet other first.1 second.1 in
+    cc
+
+-- the printers that notes are told for are those of the fleet
+same_printers : (tells_notes : Bool) (given : List (List ℕ)) (fleet printers : List Printer) → DescribeBy [] given fleet → AreNotePrinters tells_notes given printers → printers ≡ (if tells_notes then map with_most_items fleet else [])
+same_printers true given fleet printers by are =
+    let texts : are.1.0 ≡ by.0 = sym are.1.1 ∙ by.1 in
+    are.2 ∙ ap (map with_most_items) (same_fleet by.0 are.0 fleet (subst (λ ts. DescribeFleet (map (λ text. Some text) ts) are.0) texts are.1.2) by.2)
+same_printers false given fleet printers by are = are
+
+pub of_texts : (known : List (Option (List ℕ))) (most : Option ℕ) (tells_notes : Bool) (groups : Groups) (fleet printers : List Printer) (names given : List (List ℕ)) → groups.fleet ≡ map (limited most) fleet → groups.note_printers ≡ printers → groups.names ≡ names → DescribeFleet known fleet → DescribeBy [] given fleet → AreNotePrinters tells_notes given printers → names ≡ map printer_name given → AreOfTexts known most tells_notes groups
+of_texts known most tells_notes groups fleet printers names given fleet_is printers_are names_are described by are named = record {
   fleet = fleet;
   described = described;
   texts = given;
   read = subst (λ texts. DescribeFleet (map (λ text. Some text) texts) fleet) (sym by.1) by.2;
   fleet_is = fleet_is;
+  note_printers = printers_are ∙ same_printers tells_notes given fleet printers by are;
   names_are = names_are ∙ named;
 }
+
+-- one more text gives one more of these printers
+pub note_printers_more : {X : Type 0} (bytes : X → List ℕ) (texts : List X) (i : ℕ) (d : X) (printers : List Printer) (printer : Printer) → i < length texts → AreNotePrinters true (map bytes (take i texts)) printers → printer_of_text (bytes (get_or texts i d)) ≡ Ok printer
+    → AreNotePrinters true (map bytes (take (i + 1) texts)) (printers ++ with_most_items printer ∷ [])
+note_printers_more bytes texts i d printers printer h before is = (
+  before.0 ++ printer ∷ [],
+  DescribeBy-more [] (map bytes (take i texts)) (map bytes (take (i + 1) texts)) before.0 (printer ∷ []) before.1 (bytes (get_or texts i d) ∷ [], map_more bytes texts i d h, (is, tt)),
+  ap (λ (ps : List Printer). ps ++ with_most_items printer ∷ []) before.2 ∙ sym (map-append with_most_items before.0 (printer ∷ [])),
+)
 
 -- an error for which there is no fleet is one of reading a text
 end_error : (known : List (Option (List ℕ))) (error : Error) → IsEndOfFleet known (Stopped error) → IsErrorOfReading error

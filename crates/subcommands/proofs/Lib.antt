@@ -6,6 +6,8 @@ mod ExplainedReasons
 mod FleetLemmas
 mod FrontLemmas
 mod JobChecks
+mod JobNotes
+mod JobNoting
 mod JobObjectExamples
 pub mod JobSentences
 mod JobTexts

@@ -18,5 +18,6 @@ asked_for many = record {
   printers = map (λ word. word.now) many.printers.now;
   most_items = many.most_items;
   is_each = many.is_each;
+  tells_notes = many.tells_notes;
   telling = told_by many.telling;
 }

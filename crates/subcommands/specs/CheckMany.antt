@@ -1,10 +1,11 @@
 -- How a check of many jobs ends.
-use Rattle.std.specs.Prelude.{◌≡◌, ◌-◌, ◌⊎◌, ℕ, Bool, List, [], map, flat_map, get_or, Option, Some}
+use Rattle.std.specs.Prelude.{◌≡◌, ◌-◌, ◌⊎◌, ℕ, Bool, List, [], map, flat_map, get_or, Option, Some, if◌then◌else◌}
 use Rattle.device_profile.specs.Name.{printer_name}
 use Rattle.device_profile.specs.Printer.{Printer}
 use Rattle.preflight.specs.declared.error.Error.{Error}
 use Rattle.preflight.specs.declared.error.Error.TheVariants.{Memory, Read}
 use Rattle.preflight.specs.Writing.{Writes}
+use Rattle.notes.specs.Notes.{with_most_items}
 use Rattle.streams.specs.Outlet.{OutletState}
 use Rattle.streams.specs.Source.{SourceState}
 use Rattle.subcommands.specs.declared.job_checks.Ending.{Ending}
@@ -14,7 +15,8 @@ use Rattle.subcommands.specs.declared.status.Status.TheVariants.{Pass, Fail, Pro
 use Rattle.subcommands.specs.declared.status.Trouble.{Trouble}
 use Rattle.subcommands.specs.declared.status.Trouble.TheVariants.{Refused, NoVerdict}
 use Rattle.subcommands.specs.Fleet.{DescribeFleet, IsEndOfFleet}
-use Rattle.subcommands.specs.JobChecks.{Groups, IsErrorOfLine, TellsAll, TellsFront, Work, due_of}
+use Rattle.subcommands.specs.Groups.{Groups}
+use Rattle.subcommands.specs.JobChecks.{IsErrorOfLine, TellsAll, TellsFront, Work, due_of}
 use Rattle.subcommands.specs.Telling.{HowTold}
 use Rattle.subcommands.specs.Refusals.{refused_profile, refused_profile_sentence, unread_profile, unread_profile_sentence}
 use Rattle.subcommands.specs.declared.telling.Format.{Format}
@@ -31,22 +33,25 @@ status_of HasNoVerdict = Told NoVerdict
 abbrev pub limited : Option ℕ → Printer → Printer
 limited most printer = record printer { most_items = most }
 
--- these are the printers of texts, with this limit: of those that are known, and of those that were read, which also give their names
-pub record AreOfTexts (known : List (Option (List ℕ))) (most : Option ℕ) (groups : Groups) : Type 0 where
+-- these are the printers of texts, with this limit: of those that are known, and of those that were read, which also give their names;
+-- where notes are told they are told for the same printers, whose macros may carry out a million items
+pub record AreOfTexts (known : List (Option (List ℕ))) (most : Option ℕ) (tells_notes : Bool) (groups : Groups) : Type 0 where
   pub fleet : List Printer
   pub described : DescribeFleet known fleet
   pub texts : List (List ℕ)
   pub read : DescribeFleet (map (λ text. Some text) texts) fleet
   pub fleet_is : groups.fleet ≡ map (limited most) fleet
+  pub note_printers : groups.note_printers ≡ (if tells_notes then map with_most_items fleet else [])
   pub names_are : groups.names ≡ map printer_name texts
 
 -- what is asked for: the names of the jobs, the words of the printers, how many items macros may carry out where that is limited,
--- whether each printer is told of by itself, and how it is told
+-- whether each printer is told of by itself, whether the notes of a job that passes are told, and how it is told
 pub record Asked : Type 0 where
   pub jobs : List (List ℕ)
   pub printers : List (List ℕ)
   pub most_items : Option ℕ
   pub is_each : Bool
+  pub tells_notes : Bool
   pub telling : HowTold
 
 -- all lines stand there, or the work stopped behind a front of them
@@ -87,5 +92,5 @@ TellsRefusal format end words status err err' = (status ≡ end) × (err' ≡ er
 -- the jobs are checked for the printers of these texts; or there is no fleet, and no line is written and no job read
 abbrev pub LeavesMany : List (Option (List ℕ)) → Asked → (List ℕ → SourceState) → Status → Work → Work → OutletState → OutletState → Type 0
 LeavesMany known asked start status old new err err' =
-    ((groups : Groups) × AreOfTexts known asked.most_items groups × (groups.is_each ≡ asked.is_each) × LeavesLines asked groups start status old new × (err' ≡ err))
+    ((groups : Groups) × AreOfTexts known asked.most_items asked.tells_notes groups × (groups.is_each ≡ asked.is_each) × LeavesLines asked groups start status old new × (err' ≡ err))
     ⊎ ((end : Status) × IsEndOfFleet known end × TellsRefusal asked.telling.format end asked.printers status err err' × (new ≡ old))

@@ -6,6 +6,8 @@ use Rattle.verdict.specs.declared.reason.Reason.{Reason}
 use Rattle.verdict.specs.Numbers.{reason_number}
 use Rattle.line_words.specs.Reason.{bare_name}
 use Rattle.preflight.specs.declared.error.Error.TheVariants.{Write}
+use Rattle.notes.specs.declared.note.Note.{Note}
+use Rattle.notes.specs.Note.{note_name, note_number}
 use Rattle.subcommands.specs.declared.status.Status.{Status}
 use Rattle.subcommands.specs.declared.status.Status.TheVariants.{Help, Usage, Stopped}
 
@@ -46,26 +48,36 @@ end_of_explain unknown failed = if unknown then Usage else (if failed then Stopp
 -- what it tells on standard error of a code that is unknown
 abbrev pub complaint : Option (List ℕ) → List ℕ
 complaint None = []
-complaint (Some code) = codes "error: no fault and no finding has the number or the name '" ++ code ++ codes "'; 'pclcheck explain' writes all\n"
+complaint (Some code) = codes "error: no fault, finding or note has the number or the name '" ++ code ++ codes "'; 'pclcheck explain' writes all\n"
 
 -- ---- of what they tell
 
--- number and name of a fault or a finding, which begin its explanation as a line
+-- a number and a name, which begin an explanation as a line
+abbrev pub head_with : ℕ → List ℕ → List ℕ
+head_with number name = decimal number ++ codes " " ++ name
+
+-- those of a fault or a finding
 abbrev pub head_of : Reason → List ℕ
-head_of reason = decimal (reason_number reason) ++ codes " " ++ bare_name reason
+head_of reason = head_with (reason_number reason) (bare_name reason)
+
+-- and those of a note
+abbrev pub head_of_note : Note → List ℕ
+head_of_note note = head_with (note_number note) (note_name note)
 
 abbrev pub first_line : List ℕ → List ℕ
 first_line text = before_first (λ byte. byte == 10) text
 
--- by the number of the reason one text is asked for, by its name the same, and it begins with both
-pub record IsExplained (texts : List (List ℕ)) (reason : Reason) : Type 0 where
+-- by this number one text is asked for, by this name the same, and it begins with both
+pub record IsExplained (texts : List (List ℕ)) (number : ℕ) (name : List ℕ) : Type 0 where
   pub text : List ℕ
-  pub by_number : filter (is_about (decimal (reason_number reason))) texts ≡ text ∷ []
-  pub by_name : filter (is_about (bare_name reason)) texts ≡ text ∷ []
-  pub begins : first_line text ≡ head_of reason
+  pub by_number : filter (is_about (decimal number)) texts ≡ text ∷ []
+  pub by_name : filter (is_about name) texts ≡ text ∷ []
+  pub begins : first_line text ≡ head_with number name
 
--- each reason is explained, and each text begins with the line of some reason
+-- each reason is explained, and each note, and each text begins with the line of one of these
 pub record ExplainReasons (texts : List (List ℕ)) : Type 0 where
-  pub each : (reason : Reason) → IsExplained texts reason
+  pub each : (reason : Reason) → IsExplained texts (reason_number reason) (bare_name reason)
+  pub each_note : (note : Note) → IsExplained texts (note_number note) (note_name note)
   pub reasons : List Reason
-  pub only : map first_line texts ≡ map head_of reasons
+  pub notes : List Note
+  pub only : map first_line texts ≡ map head_of reasons ++ map head_of_note notes

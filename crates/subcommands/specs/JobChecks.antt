@@ -1,5 +1,5 @@
 -- What a check of many jobs leaves.
-use Rattle.std.specs.Prelude.{◌≡◌, ℕ, Bool, true, false, List, [], ◌++◌, flat_map, map, fold, take, drop, length, get_or, IsTrue, IsErrOf, Option, Result, Ok, Err, IfOk, IfErr, ⊤, if◌then◌else◌}
+use Rattle.std.specs.Prelude.{◌≡◌, ◌⊎◌, ℕ, Bool, false, List, [], ◌∷◌, ◌++◌, flat_map, map, fold, IsErrOf, Option, None, Some, Result, Ok, Err, IfOk, IfErr, ⊤, if◌then◌else◌}
 use Rattle.std.specs.List.{AllByRecursion, range_with_len}
 use Rattle.device_profile.specs.Printer.{Printer}
 use Rattle.preflight.specs.declared.error.Error.{Error}
@@ -15,7 +15,10 @@ use Rattle.streams.specs.Pieces.{ByReads}
 use Rattle.streams.specs.Outlet.{OutletState, Adds, AddsFront}
 use Rattle.streams.specs.Source.{SourceState}
 use Rattle.subcommands.specs.Check.{IsRight}
-use Rattle.subcommands.specs.Reports.{Reported, verdict_of}
+use Rattle.subcommands.specs.Groups.{Groups, group_at, group_count, reported}
+use Rattle.subcommands.specs.JobNoting.{AreRightNotes, IsRightlyNoted, Noted, ending_of_noted, note_printer, noted_after, noted_text, notes_text}
+use Rattle.subcommands.specs.NoteReports.{subject_of, told_note}
+use Rattle.subcommands.specs.Reports.{verdict_of}
 use Rattle.subcommands.specs.Telling.{HowTold, report_text}
 use Rattle.subcommands.specs.declared.job_checks.Ending.{Ending}
 use Rattle.subcommands.specs.declared.job_checks.Ending.TheVariants.{Passes, Fails, HasNoVerdict}
@@ -65,22 +68,9 @@ IsErrorOfLine Turns = ⊥
 IsErrorOfLine NoProfile = ⊥
 IsErrorOfLine Items = ⊥
 
--- ---- the printers
+-- ---- lines
 
--- the printers, their names, and whether each has lines of its own
-pub record Groups : Type 0 where
-  pub fleet : List Printer
-  pub names : List (List ℕ)
-  pub is_each : Bool
-
--- how many groups there are: all printers together, or each by itself
-abbrev pub group_count : Groups → ℕ
-group_count groups = if groups.is_each then length groups.fleet else 1
-
-abbrev pub of_group : {X : Type 0} → Bool → List X → ℕ → List X
-of_group is_each all number = if is_each then take 1 (drop number all) else all
-
--- what stands written, and what the jobs gave that were checked
+-- what stands written, and what the jobs gave that were ended
 pub record Work : Type 0 where
   pub out : OutletState
   pub ended : List SourceState
@@ -88,30 +78,31 @@ pub record Work : Type 0 where
 abbrev pub work : OutletState → List SourceState → Work
 work out ended = record { out = out; ended = ended }
 
--- a line: the job, the number of the group from 0, what reading the job led to, what came of it, and what the system said of a read that
--- failed
+-- a line, and what stands below it: the job, the number of the group from 0, what reading the job led to, what came of it, what the
+-- system said of a read that failed, and what came of the notes where they are told
 pub record Line : Type 0 where
   pub job : List ℕ
   pub group : ℕ
   pub after : SourceState
   pub answer : Result Judgement Error
   pub cause : Option (List ℕ)
-
-abbrev pub report_of : Groups → Line → Reported
-report_of groups line = record {
-  is_each = groups.is_each;
-  names = of_group groups.is_each groups.names line.group;
-  job = line.job;
-  answer = line.answer;
-  cause = line.cause;
-}
+  pub noted : Option Noted
 
 abbrev pub line_text : Groups → HowTold → Line → List ℕ
-line_text groups telling line = report_text telling (report_of groups line)
+line_text groups telling line =
+    let group = group_at groups line.group in
+    report_text telling (reported group line.job line.answer line.cause) ++ noted_text telling group line.job line.noted
 
 -- its answer is right for its group, where reading the job began as this says
-abbrev pub IsRightLine : Groups → (List ℕ → SourceState) → Line → Type 0
-IsRightLine groups start line = IsRightAnswer (of_group groups.is_each groups.fleet line.group) (start line.job) line.after line.answer
+abbrev pub IsAnswered : Groups → (List ℕ → SourceState) → Line → Type 0
+IsAnswered groups start line = IsRightAnswer (group_at groups line.group).fleet (start line.job) line.after line.answer
+
+-- and so are the notes for its first printer, which there are just where they are told and the job passes
+abbrev pub IsRightLine : Groups → HowTold → (List ℕ → SourceState) → Line → Type 0
+IsRightLine groups telling start line =
+    let group = group_at groups line.group in
+    IsAnswered groups start line
+    × IsRightlyNoted (told_note telling (subject_of group line.job)) (start line.job) (note_printer (verdict_of line.answer) group.note_printers) line.noted
 
 abbrev pub keyed : List ℕ → ℕ → List ℕ × ℕ
 keyed job number = (job, number)
@@ -120,45 +111,70 @@ keyed job number = (job, number)
 abbrev pub due_of : Groups → List ℕ → List (List ℕ × ℕ)
 due_of groups job = map (keyed job) (range_with_len 0 (group_count groups))
 
+-- what the readings of a job led to
+abbrev pub afters_of : Line → List SourceState
+afters_of line = line.after ∷ noted_after line.noted
+
 abbrev pub afters : List Line → List SourceState
-afters lines = map (λ line. line.after) lines
+afters lines = flat_map afters_of lines
 
 -- these lines stand there, one for each that is due, each right for what its job gave
 pub record Tells (groups : Groups) (telling : HowTold) (start : List ℕ → SourceState) (due : List (List ℕ × ℕ)) (lines : List Line) (old new : Work) : Type 0 where
   pub in_order : map (λ line. (line.job, line.group)) lines ≡ due
-  pub right : AllByRecursion (IsRightLine groups start) lines
+  pub right : AllByRecursion (IsRightLine groups telling start) lines
   pub written : Adds old.out new.out (flat_map (line_text groups telling) lines)
   pub ended : new.ended ≡ old.ended ++ afters lines
 
+-- how a line counts, with its notes
+abbrev pub ending_of_line : Bool → Line → Ending
+ending_of_line exit_zero line = worse (ending_of exit_zero (verdict_of line.answer)) (ending_of_noted line.noted)
+
 abbrev pub worst : Bool → List Line → Ending
-worst exit_zero lines = fold (λ ending line. worse ending (ending_of exit_zero (verdict_of line.answer))) Passes lines
+worst exit_zero lines = fold (λ ending line. worse ending (ending_of_line exit_zero line)) Passes lines
 
 -- all lines that are due stand there, and the ending is the worst of theirs
 abbrev pub TellsAll : Groups → HowTold → List (List ℕ × ℕ) → (List ℕ → SourceState) → Ending → Work → Work → Type 0
 TellsAll groups telling due start ending old new =
     (lines : List Line) × Tells groups telling start due lines old new × (ending ≡ worst telling.exit_zero lines)
 
--- Some first lines of those that are due are right, and a front of their text stands there; of the next job perhaps there was no memory
--- for the line.
+-- each line is right, but the last one may lack its notes
+abbrev pub AreRightToCut : Groups → HowTold → (List ℕ → SourceState) → List Line → Type 0
+AreRightToCut groups telling start [] = ⊤
+AreRightToCut groups telling start (line ∷ lines) =
+    (IsRightLine groups telling start line ⊎ (IsAnswered groups start line × (line.noted ≡ None) × (lines ≡ [])))
+    × AreRightToCut groups telling start lines
+
+-- Some first lines of those that are due are right, and a front of their text stands there; of the next job, or of the notes of the last
+-- one, perhaps there was no memory for the line.
 pub record TellsFront (groups : Groups) (telling : HowTold) (start : List ℕ → SourceState) (due : List (List ℕ × ℕ)) (old new : Work) : Type 0 where
   pub lines : List Line
   pub later : List (List ℕ × ℕ)
   pub untold : List SourceState
   pub in_order : map (λ line. (line.job, line.group)) lines ++ later ≡ due
-  pub right : AllByRecursion (IsRightLine groups start) lines
+  pub right : AreRightToCut groups telling start lines
   pub written : AddsFront old.out new.out (flat_map (line_text groups telling) lines)
   pub ended : new.ended ≡ old.ended ++ (afters lines ++ untold)
 
 -- ---- one line
 
--- of a job for these printers: this is right, and so is what was written of its line
-abbrev pub TellsOne : Groups → HowTold → SourceState → SourceState → List ℕ → Result Judgement Error → (List ℕ → Type 0) → Type 0
-TellsOne group telling start after job answer Written =
-    (cause : Option (List ℕ)) × IsRightAnswer group.fleet start after answer
-    × Written (report_text telling (record { is_each = group.is_each; names = group.names; job = job; answer = answer; cause = cause }))
+-- a text that has what the system said of a read that failed was written
+abbrev pub AddsTold : (Option (List ℕ) → List ℕ) → OutletState → OutletState → Type 0
+AddsTold text out out' = (cause : Option (List ℕ)) × Adds out out' (text cause)
 
--- there was no memory for a line, and nothing was written; or a front of the line was
-abbrev pub CutsOne : Error → Groups → HowTold → SourceState → SourceState → List ℕ → OutletState → OutletState → Type 0
-CutsOne Memory group telling start after job out out' = out' ≡ out
-CutsOne Write group telling start after job out out' = (answer : Result Judgement Error) × TellsOne group telling start after job answer (AddsFront out out')
-CutsOne _ group telling start after job out out' = ⊥
+-- there was no memory for such a text, and nothing was written; or a front of it was
+abbrev pub CutsTold : Error → (Option (List ℕ) → List ℕ) → OutletState → OutletState → Type 0
+CutsTold Memory text out out' = out' ≡ out
+CutsTold Write text out out' = (cause : Option (List ℕ)) × AddsFront out out' (text cause)
+CutsTold _ text out out' = ⊥
+
+-- what came of the notes of a job for this printer is right, and so is what was written of it
+pub record TellsNotes (group : Groups) (telling : HowTold) (printer : Printer) (start : SourceState) (job : List ℕ) (old new : Work) (Written : List ℕ → Type 0) (noted : Noted) : Type 0 where
+  pub right : AreRightNotes (told_note telling (subject_of group job)) printer start noted.after noted.notes
+  pub written : Written (notes_text telling group job noted.notes noted.cause)
+  pub ended : new.ended ≡ old.ended ++ noted.after ∷ []
+
+-- there was no memory for the line of an error, and nothing was written; or a front of what is due was
+abbrev pub CutsNotes : Error → Groups → HowTold → Printer → SourceState → List ℕ → Work → Work → Type 0
+CutsNotes Memory group telling printer start job old new = (after : SourceState) × (new.out ≡ old.out) × (new.ended ≡ old.ended ++ after ∷ [])
+CutsNotes Write group telling printer start job old new = (noted : Noted) × TellsNotes group telling printer start job old new (AddsFront old.out new.out) noted
+CutsNotes _ group telling printer start job old new = ⊥

@@ -12,7 +12,7 @@ use Rattle.subcommands.specs.Reports.{Reported, verdict_of}
 use Rattle.subcommands.specs.declared.telling.Format.{Format}
 use Rattle.subcommands.specs.declared.telling.Format.TheVariants.{Line, Words, Json}
 
--- the form, the explanations of which a FAIL gets its own, and whether a FAIL counts as a PASS
+-- the form, the explanations of which a FAIL and a note get their own, and whether a FAIL counts as a PASS
 pub record HowTold : Type 0 where
   pub format : Format
   pub explanations : List (List ℕ)

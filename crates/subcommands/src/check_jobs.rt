@@ -6,11 +6,11 @@ ghost use Rattle.subcommands.specs.Fleet.{IsEndOfFleet};
 ghost use Rattle.subcommands.specs.JobChecks.{work};
 ghost use Rattle.subcommands.specs.Texts.{IsErrorOfReading};
 
+use crate::copied_texts::{CopiedTexts, note_printers, printer_names};
 use crate::fleet::{limited_fleet, read_fleet};
 use crate::groups::Group;
 use crate::job_checks::{Ending, check_jobs};
 use crate::jobs::Jobs;
-use crate::named_texts::NamedTexts;
 use crate::refusals::{
     push_refused_profile, push_refused_profile_sentence, push_unread_profile,
     push_unread_profile_sentence,
@@ -32,11 +32,14 @@ pub struct ManyJobs<'w, 'n> {
     pub most_items: Option<u64>,
     /// Each printer has lines of its own.
     pub is_each: bool,
+    /// The notes of a job that passes are told, for which it is read a second time.
+    pub tells_notes: bool,
     pub telling: Telling<'w>,
 }
 
 /// The command `check` for many jobs: a line on standard output for each job, or where `is_each` is
-/// set for each job and printer, as soon as it is known.
+/// set for each job and printer, as soon as it is known. Where `tells_notes` is set the notes of a
+/// job that passes stand below its line, for the first printer that this is about.
 ///
 /// All profiles are read and judged before the first job. Of one that is refused or cannot be read
 /// standard error tells, with the word that names it.
@@ -58,18 +61,29 @@ pub fn check_many<'n, J: Jobs<'n>, T: ProfileTexts, O: Outlet, E: Outlet, A: All
         (work (O.state stdout.new) (J.ended jobs.new))
         (E.state stderr.old) (E.state stderr.new) }
 {
-    let mut named = NamedTexts::new(alloc, texts);
-    let read = match read_fleet(alloc, &mut named, asked.printers) {
+    let mut copied = CopiedTexts::new(alloc, texts);
+    let read = match read_fleet(alloc, &mut copied, asked.printers) {
         Ok(fleet) => fleet,
         Err(status) => {
-            let told = system_words(alloc, named.error());
-            let word = word_of(asked.printers, named.asked());
+            let told = system_words(alloc, copied.error());
+            let word = word_of(asked.printers, copied.asked());
             return tell_refusal(alloc, asked, word, told, status, stderr);
         }
     };
     let fleet = limited_fleet(read, asked.most_items);
-    let names = named.into_names();
-    let printers = Group::new(fleet.as_slice(), names.as_slice(), asked.is_each);
+    let copies = copied.into_copies();
+    let Ok(names) = printer_names(alloc, copies.as_slice()) else {
+        return Status::Stopped(Error::Memory);
+    };
+    let Ok(note_printers) = note_printers(alloc, asked.tells_notes, copies.as_slice()) else {
+        return Status::Stopped(Error::Memory);
+    };
+    let printers = Group::new(
+        fleet.as_slice(),
+        note_printers.as_slice(),
+        names.as_slice(),
+        asked.is_each,
+    );
     check_for(alloc, jobs, asked, &printers, stdout)
 }
 

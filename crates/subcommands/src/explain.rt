@@ -9,7 +9,7 @@ use crate::status::{Status, write_pieces};
 use itoa::Buffer;
 use preflight::{Error, Outlet, write_text};
 
-/// The command `explain`: on standard output what the faults and findings mean that have this
+/// The command `explain`: on standard output what the faults, findings and notes mean that have this
 /// number or name, or what all mean. A code that none has is a usage error, of which standard error
 /// tells.
 pub fn explain<O: Outlet, E: Outlet>(code: Option<&str>, stdout: &mut O, stderr: &mut E) -> Status
@@ -152,7 +152,7 @@ fn refuse<E: Outlet>(code: &str, stderr: &mut E) -> Status
     ensures line { Writes (E.state stderr.old) (E.state stderr.new) (complaint (Some code.now)) }
 {
     let pieces: [&[u8]; 3] = [
-        b"error: no fault and no finding has the number or the name '",
+        b"error: no fault, finding or note has the number or the name '",
         code.as_bytes(),
         b"'; 'pclcheck explain' writes all\n",
     ];

@@ -1,13 +1,13 @@
-//! What faults and findings mean.
+//! What faults, findings and notes mean.
 ghost use Rattle.std.specs.Prelude.{map};
 ghost use Rattle.subcommands.specs.Explanations.{ExplainReasons};
 
-/// The faults of a job's bytes and the findings of a printer, in the order of their numbers: for each
-/// its number and name, when it comes, what to change, and where HP's PCL 5 Printer Language Technical
-/// Reference Manual treats of it.
+/// The faults of a job's bytes, the findings of a printer and the notes of a job, in the order of their
+/// numbers: for each its number and name, when it comes, of a note what a printer may do, what to
+/// change, and where HP's PCL 5 Printer Language Technical Reference Manual treats of it.
 ///
 /// `docs/DEFINITIONS.md` has the same sentences, and `docs/check_commands.py` compares the two.
-pub const EXPLANATIONS: [&str; 33] = [
+pub const EXPLANATIONS: [&str; 45] = [
     "\
 1 Syntax
   When:    A byte comes with which no escape sequence goes on, or a command
@@ -347,10 +347,128 @@ pub const EXPLANATIONS: [&str; 33] = [
            call others; or allow more items.
   Manual:  \"Macros\", Macro Control
 ",
+    "\
+101 OpenStart
+  When:    Something that prints, moves or sets stands before the first ESC E
+           or universal exit of the job, or the job has none.
+  Printer: It begins with what the job before left: margins, fonts, macros, a
+           page that is not closed.
+  Change:  Begin the job by ESC E, or by the universal exit ESC %-12345X.
+  Manual:  \"PCL Job Control Commands\", Printer Reset, Universal Exit Language
+",
+    "\
+102 OpenEnd
+  When:    Something that prints, moves or sets stands behind the last ESC E or
+           universal exit of the job, or the job has none.
+  Printer: The last page may wait until more comes, the settings stay for the
+           next job, and a second copy begins where the first one ended.
+  Change:  End the job by ESC E, or by the universal exit ESC %-12345X.
+  Manual:  \"PCL Job Control Commands\", Printer Reset, Universal Exit Language
+",
+    "\
+103 NoPage
+  When:    The job closes no page: nothing in it prints, and it has no form
+           feed.
+  Printer: Nothing comes out, or a page that the job before left open.
+  Change:  See whether the job is whole. A job that only resets or sets is as
+           it should be.
+  Manual:  \"The Print Environment\", user defaults; \"Cursor Positioning\", Form
+           Feed
+",
+    "\
+104 PjlAsText
+  When:    Text begins with @PJL: the mode is PCL there, and no universal exit
+           stands directly before the line.
+  Printer: It prints the line as text.
+  Change:  Send ESC %-12345X directly before the first @PJL, with nothing
+           between the two, and no CR or LF either.
+  Manual:  \"PCL Job Control Commands\", Universal Exit Language
+",
+    "\
+105 SameOrientation
+  When:    ESC &l#O sets the orientation that is in force, and the VMI, the HMI
+           or a margin is not what the command returns it to.
+  Printer: Some pass over a value that is in force, and keep VMI, HMI and
+           margins; others return them to their defaults.
+  Change:  Send the orientation once, before the spacing and the margins, or
+           set these again behind it.
+  Manual:  \"Page Control Commands\", Logical Page Orientation
+",
+    "\
+106 RoundedColumn
+  When:    Text is printed, or ESC &a#C, ESC &a#L or ESC &a#M is sent, where a
+           column is no whole number of PCL units: the HMI, or where none is
+           set the advance of the font.
+  Printer: It may round each column to a PCL unit, so that text drifts from the
+           columns that pclcheck reckons with.
+  Change:  Choose a unit that divides the column, by ESC &u#D, or an HMI of
+           whole units, by ESC &k#H.
+  Manual:  \"Cursor Positioning\", Horizontal Motion Index; \"PCL Job Control
+           Commands\", Unit of Measure
+",
+    "\
+107 FractionOfUnit
+  When:    ESC *p#X or ESC *p#Y has decimals other than 0.
+  Printer: It may cut them, so that the cursor lies up to a unit beside the
+           place that pclcheck reckons with.
+  Change:  Send whole numbers, of a finer unit by ESC &u#D, or decipoints by
+           ESC &a#H and ESC &a#V.
+  Manual:  \"Cursor Positioning\", Horizontal Cursor Positioning (PCL Units),
+           Vertical Cursor Positioning (PCL Units)
+",
+    "\
+108 LaterLanguage
+  When:    ESC &u#D is sent, or ESC *t#R with 200 or 600 pixels an inch.
+  Printer: One before PCL 5e, as a LaserJet III, passes over the command: what
+           comes then has other units or another resolution.
+  Change:  Keep such printers out of the fleet, or leave the unit at 300 and
+           the resolution at 75, 100, 150 or 300.
+  Manual:  \"PCL Job Control Commands\", Unit of Measure; \"Raster Graphics\",
+           Raster Graphics Resolution
+",
+    "\
+109 ShortRaster
+  When:    A raster with a height ends before its last row.
+  Printer: It may leave the cursor below the whole height, where pclcheck
+           leaves it below the last row that was sent.
+  Change:  Send as many rows as the height says, by ESC *b#W or ESC *b#Y, or
+           place the cursor behind the raster.
+  Manual:  \"Raster Graphics\", Raster Height, End Raster Graphics
+",
+    "\
+110 BlankOverflow
+  When:    A line feed leads past the bottom margin of a page without a mark:
+           LF, ESC =, or CR where it feeds a line.
+  Printer: It may eject the page, which pclcheck does not count.
+  Change:  End such a page by a form feed where it is wanted, or leave the line
+           feeds out.
+  Manual:  \"Page Control Commands\", Perforation Skip; \"Cursor Positioning\",
+           Line Feed
+",
+    "\
+111 SourceMovesLeft
+  When:    ESC &l#H or ESC &l#S is sent where the left margin is not 0.
+  Printer: It may leave the cursor at the left margin, where pclcheck moves it
+           to the left edge of the logical page.
+  Change:  Choose tray and sides before the margins, or place the cursor behind
+           them.
+  Manual:  \"Page Control Commands\", Paper (Media) Source; \"PCL Job Control
+           Commands\", Simplex/Duplex Print
+",
+    "\
+112 LongRun
+  When:    An item of a macro is due, and macros have carried out a million
+           items of the job. Each item of a macro counts each time, in an
+           overlay, too. What follows is not looked at.
+  Printer: It takes long, too: a job of a few hundred bytes can run for years.
+  Change:  Send what macros repeat as items of the job, or fewer macros that
+           call others.
+  Manual:  \"Macros\", Macro Control
+",
 ];
 
-/// By the number of each fault and finding one explanation is asked for, and by its name the same,
-/// which begins with the two; and each explanation is of one of them.
+/// By the number of each fault, finding and note one explanation is asked for, and by its name the
+/// same, which begins with the two; and each explanation is of one of them.
 pub fn reasons_are_explained()
     ensures { ExplainReasons (map (λ text. text.now) EXPLANATIONS) }
 {}

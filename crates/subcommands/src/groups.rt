@@ -1,6 +1,6 @@
 //! The printers that jobs are checked for.
-ghost use Rattle.std.specs.Prelude.{◌≡◌, map};
-ghost use Rattle.subcommands.specs.JobChecks.{group_count, of_group};
+ghost use Rattle.std.specs.Prelude.{◌≡◌, [], get_or, map};
+ghost use Rattle.subcommands.specs.Groups.{group_at, group_count, of_group};
 
 use device_profile::Profile;
 use std::alloc::Allocator;
@@ -10,34 +10,45 @@ use std::marker::Model;
 #[derive(Drop)]
 pub struct Group<'f, A: Allocator> {
     profiles: &'f [Profile<A>],
+    /// The printers that notes are told for.
+    note_printers: &'f [Profile<A>],
     names: &'f [Vec<u8, A>],
     is_each: bool,
 }
 
 impl<'f, A: Allocator> Model for Group<'f, A> {
     ghost use Rattle.std.specs.Prelude.{map};
-    ghost use Rattle.subcommands.specs.JobChecks.{Groups};
+    ghost use Rattle.subcommands.specs.Groups.{Groups};
 
     ghost Value = { Groups };
 
     ghost view = { λ group. record {
       fleet = group.profiles.now;
+      note_printers = group.note_printers.now;
       names = map (λ name. name.items) group.names.now;
       is_each = group.is_each;
     } };
 }
 
 impl<'f, A: Allocator> Group<'f, A> {
-    /// Printers and their names; where `is_each` is set each has lines of its own, which name it.
-    pub fn new(profiles: &'f [Profile<A>], names: &'f [Vec<u8, A>], is_each: bool) -> Group<'f, A>
+    /// Printers, those that notes are told for, and the names; where `is_each` is set each printer
+    /// has lines of its own, which name it.
+    pub fn new(
+        profiles: &'f [Profile<A>],
+        note_printers: &'f [Profile<A>],
+        names: &'f [Vec<u8, A>],
+        is_each: bool,
+    ) -> Group<'f, A>
         ensures { result ≡ record {
           fleet = profiles.now;
+          note_printers = note_printers.now;
           names = map (λ name. name.items) names.now;
           is_each = is_each;
         } }
     {
         Group {
             profiles,
+            note_printers,
             names,
             is_each,
         }
@@ -50,11 +61,28 @@ impl<'f, A: Allocator> Group<'f, A> {
         self.profiles
     }
 
+    /// The printers that notes are told for.
+    pub fn note_printers(&self) -> &'f [Profile<A>]
+        ensures { result.now ≡ self.now.note_printers }
+    {
+        self.note_printers
+    }
+
     /// The names.
     pub fn names(&self) -> &'f [Vec<u8, A>]
         ensures { map (λ name. name.items) result.now ≡ self.now.names }
     {
         self.names
+    }
+
+    /// The name of the first printer, or nothing where there is none.
+    pub fn first_name(&self) -> &'f [u8]
+        ensures { result.now ≡ get_or self.now.names 0 [] }
+    {
+        match self.names.first() {
+            Some(name) => name.as_slice(),
+            None => &[],
+        }
     }
 
     /// Whether each printer has lines of its own.
@@ -74,14 +102,11 @@ impl<'f, A: Allocator> Group<'f, A> {
     /// The group of this number, from 0.
     #[tactic(auto, using(crate::proofs::JobChecks::map_of_group))]
     pub fn part(&self, number: usize) -> Group<'f, A>
-        ensures { result ≡ record {
-          fleet = of_group self.now.is_each self.now.fleet number;
-          names = of_group self.now.is_each self.now.names number;
-          is_each = self.now.is_each;
-        } }
+        ensures { result ≡ group_at self.now number }
     {
         Group {
             profiles: of_group(self.is_each, self.profiles, number),
+            note_printers: of_group(self.is_each, self.note_printers, number),
             names: of_group(self.is_each, self.names, number),
             is_each: self.is_each,
         }

@@ -1,15 +1,14 @@
 //! A check of many jobs, which writes a line for each.
-ghost use Rattle.std.specs.Prelude.{◌≡◌, ◌≢◌, [], IfErr, IfOk, IsFalse, List, Option, Result, flat_map, map, ℕ};
+ghost use Rattle.std.specs.Prelude.{◌≡◌, ◌≢◌, ◌∷◌, [], IfErr, IfOk, IsFalse, List, OnOk, Option, flat_map, map, ℕ};
 ghost use Rattle.preflight.specs.Errors.{is_err_of_write};
-ghost use Rattle.preflight.specs.declared.error.Error.{Error};
-ghost use Rattle.streams.specs.Outlet.{Adds};
-ghost use Rattle.preflight.specs.declared.culprit.Judgement.{Judgement};
 ghost use Rattle.subcommands.specs.Asked.{told_by};
-ghost use Rattle.subcommands.specs.JobChecks.{CutsOne, IsErrorOfLine, TellsAll, TellsFront, TellsOne, due_of, ending_of, work, worse};
+ghost use Rattle.subcommands.specs.Groups.{group_at, reported};
+ghost use Rattle.subcommands.specs.JobChecks.{AddsTold, CutsTold, IsErrorOfLine, IsRightAnswer, TellsAll, TellsFront, due_of, ending_of, keyed, work, worse};
 ghost use Rattle.subcommands.specs.Reports.{verdict_of};
 ghost use Rattle.subcommands.specs.Telling.{report_text};
 
 use crate::groups::Group;
+use crate::job_noting::{note_printer, tell_notes};
 use crate::jobs::Jobs;
 use crate::reports::Report;
 use crate::system_words::system_words;
@@ -120,40 +119,87 @@ fn tell_job<'n, J: Jobs<'n>, O: Outlet, A: Allocator + Copy>(
 {
     let mut ending = Ending::Passes;
     for number in 0..printers.count() {
-        let mut job = jobs.job(name);
-        let group = printers.part(number);
-        let told = tell_result(alloc, &mut job, name, &group, telling, stdout);
-        jobs.end(job);
-        ending = ending.worse(told?);
+        let told = tell_group(alloc, jobs, name, printers, number, telling, stdout)?;
+        ending = ending.worse(told);
     }
     Ok(ending)
 }
 
-/// Checks a job for a group of printers, and writes its line.
-fn tell_result<'t, S: Source, O: Outlet, A: Allocator + Copy>(
+/// Checks a job for the group of this number, from 0, and writes its line, and below it the notes
+/// where they are told. For these the job is read a second time.
+fn tell_group<'n, J: Jobs<'n>, O: Outlet, A: Allocator + Copy>(
     alloc: A,
-    job: &mut S,
-    name: &'t [u8],
-    group: &'t Group<'t, A>,
+    jobs: &mut J,
+    name: &'n [u8],
+    printers: &Group<'_, A>,
+    number: usize,
     telling: &Telling<'_>,
     stdout: &mut O,
 ) -> Result<Ending, Error>
-    requires job { IsFalse (S.state job.old).failed }
     requires stdout { IsFalse (O.state stdout.old).failed }
+    requires some { (group_at printers.now number).fleet ≢ [] }
+    ensures told { IfOk result (λ ending. TellsAll printers.now (told_by telling.now)
+        (keyed name.now number ∷ []) (J.start jobs.old)
+        ending (work (O.state stdout.old) (J.ended jobs.old))
+        (work (O.state stdout.new) (J.ended jobs.new))) }
+    ensures front { IfErr result (λ _. TellsFront printers.now (told_by telling.now)
+        (J.start jobs.old) (keyed name.now number ∷ [])
+        (work (O.state stdout.old) (J.ended jobs.old))
+        (work (O.state stdout.new) (J.ended jobs.new))) }
+    ensures start { J.start jobs.new ≡ J.start jobs.old }
+    ensures errors { IfErr result IsErrorOfLine }
+    ensures write { (O.state stdout.new).failed ≡ is_err_of_write result }
+{
+    let group = printers.part(number);
+    let mut job = jobs.job(name);
+    let answer = check_group(alloc, &mut job, &group);
+    let error = job.error();
+    jobs.end(job);
+    tell_line(alloc, &group, name, answer, error, telling, stdout)?;
+    let ending = Ending::of(telling.exit_zero, answer);
+    match note_printer(answer, group.note_printers()) {
+        None => Ok(ending),
+        Some(printer) => {
+            let noted = tell_notes(alloc, jobs, name, &group, printer, telling, stdout)?;
+            Ok(ending.worse(noted))
+        }
+    }
+}
+
+/// Checks a job for a group of printers.
+fn check_group<S: Source, A: Allocator + Copy>(
+    alloc: A,
+    job: &mut S,
+    group: &Group<'_, A>,
+) -> Result<Judgement, Error>
+    requires job { IsFalse (S.state job.old).failed }
     requires some { group.now.fleet ≢ [] }
-    ensures told { IfOk result (λ ending. (answer : Result Judgement Error) × (ending ≡
-        ending_of telling.now.exit_zero (verdict_of answer)) × TellsOne group.now
-        (told_by telling.now) (S.state job.old) (S.state job.new) name.now answer
-        (Adds (O.state stdout.old) (O.state stdout.new))) }
-    ensures front { IfErr result (λ error. CutsOne error group.now (told_by telling.now)
-        (S.state job.old) (S.state job.new) name.now
+    ensures { IsRightAnswer group.now.fleet (S.state job.old) (S.state job.new) result }
+{
+    check_job_within(alloc, job, group.profiles())
+}
+
+/// Writes what came of a job, with what the system says of an error, where it can be had.
+pub(crate) fn tell_line<'t, O: Outlet, A: Allocator + Copy>(
+    alloc: A,
+    group: &'t Group<'t, A>,
+    name: &'t [u8],
+    answer: Result<Judgement, Error>,
+    error: Option<io::Error>,
+    telling: &Telling<'_>,
+    stdout: &mut O,
+) -> Result<(), Error>
+    requires { IsFalse (O.state stdout.old).failed }
+    ensures told { OnOk result (AddsTold
+        (λ cause. report_text (told_by telling.now) (reported group.now name.now answer cause))
+        (O.state stdout.old) (O.state stdout.new)) }
+    ensures cut { IfErr result (λ error. CutsTold error
+        (λ cause. report_text (told_by telling.now) (reported group.now name.now answer cause))
         (O.state stdout.old) (O.state stdout.new)) }
     ensures write { (O.state stdout.new).failed ≡ is_err_of_write result }
 {
-    let answer = check_job_within(alloc, job, group.profiles());
-    let line = line_of_job(alloc, group, name, answer, job.error(), telling)?;
-    write_text(stdout, line.as_slice())?;
-    Ok(Ending::of(telling.exit_zero, answer))
+    let line = line_of_job(alloc, group, name, answer, error, telling)?;
+    write_text(stdout, line.as_slice())
 }
 
 /// What is told of a job, with what the system says of an error, where it can be had.
@@ -166,13 +212,7 @@ fn line_of_job<'t, A: Allocator + Copy>(
     telling: &Telling<'_>,
 ) -> Result<Vec<u8, A>, AllocError>
     ensures { IfOk result (λ line. (cause : Option (List ℕ)) × (line.items ≡
-        report_text (told_by telling.now) (record {
-          is_each = group.now.is_each;
-          names = group.now.names;
-          job = name.now;
-          answer = answer;
-          cause = cause;
-        }))) }
+        report_text (told_by telling.now) (reported group.now name.now answer cause))) }
 {
     let words = system_words(alloc, error);
     let cause = words.as_ref().map(|words| words.as_bytes());

@@ -158,7 +158,8 @@ fn put_command<A: Allocator + Copy>(
     }
 }
 
-fn put_explanation(object: &mut Object, explanation: &str) -> Result<(), AllocError>
+/// Puts an explanation, where there is one.
+pub fn put_explanation(object: &mut Object, explanation: &str) -> Result<(), AllocError>
     ensures { OnOk result (members_of object.new
         ≡ with_explanation explanation.now (members_of object.old)) }
 {

@@ -26,8 +26,8 @@ pub fn push_job_sentence<A: Allocator + Copy>(
 }
 
 /// Appends the name of what a sentence is about; of a long one the end, which tells more.
-pub fn push_named_first<A: Allocator + Copy>(
-    alloc: A,
+pub fn push_named_first<A: Allocator, B: Allocator>(
+    alloc: B,
     line: &mut Vec<u8, A>,
     name: &[u8],
 ) -> Result<(), AllocError>

@@ -26,7 +26,7 @@ pub enum Format {
 #[derive(Clone, Copy)]
 pub struct Telling<'t> {
     pub format: Format,
-    /// The explanations of which a FAIL gets its own.
+    /// The explanations of which a FAIL and a note get their own.
     pub explanations: &'t [&'t str],
     /// A FAIL counts as a PASS.
     pub exit_zero: bool,

@@ -31,6 +31,7 @@ returns g c =
       printers = map (λ word. word.now) c.as_slice-7.result.now;
       most_items = words.most_items;
       is_each = words.is_each;
+      tells_notes = words.tells_notes;
       telling = told_by c.telling_of.result;
     } in
     inl (
@@ -49,6 +50,7 @@ returns g c =
         each_fleet = each_fleet string_bytes words.fleets.items c.in-Ok.fleets.items (subst (λ fleets. length fleets ≤ length c.in-Ok.fleets.items) c.as_slice.ensures.value c.in-Ok.ensures.each);
         most_items = refl;
         is_each = refl;
+        tells_notes = refl;
         telling = c.telling_of.ensures;
       },
       subst (λ err. LeavesAsked (option_map (λ word. word.now) words.names_from) asked c.check_all.result (g.O.Outlet.state c.args.stdout.now) (g.O.Outlet.state c.check_all.new.stdout) (g.E.Outlet.state err) (g.E.Outlet.state c.check_all.new.stderr)) (c.in-Ok-read_names.ensures.quiet ∙ c.in-Ok.ensures.quiet) c.check_all.ensures,

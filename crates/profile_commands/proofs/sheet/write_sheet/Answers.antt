@@ -1,5 +1,4 @@
 use Rattle.std.proofs.Common.{◌≡◌, ◌∷◌, [], inl, inr, refl, rules}
-use Rattle.verdict.specs.declared.verdict.Verdict.TheVariants.{Fail}
 use Rattle.profile_commands.proofs.Sheets.{end_refuses_none, fails_by, passes, told_refuses_none}
 use Rattle.profile_commands.proofs.sheet.write_sheet.Goals as goal
 

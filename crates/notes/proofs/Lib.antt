@@ -1,0 +1,4 @@
+mod ToldNotes
+mod Pasts
+mod Rests
+mod Examples

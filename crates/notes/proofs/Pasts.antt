@@ -1,0 +1,146 @@
+-- What the code keeps of the items before an item finds the notes of the definitions.
+use Rattle.std.proofs.Common.{◌≡◌, ℕ, ◌==◌, Bool, true, false, not, ◌&&◌, ◌||◌, cond, List, [], ◌∷◌, ◌++◌, ◌-◌, refl, ap, sym, ◌∙◌}
+use Rattle.pcl_items.specs.Items.{Entry, Placed, Text}
+use Rattle.page_env.specs.JobControl.{is_reset}
+use Rattle.notes.specs.declared.note.Note.TheVariants.{OpenStart, PjlAsText, FractionOfUnit, LaterLanguage}
+use Rattle.notes.specs.declared.past.Past.{Past}
+use Rattle.notes.specs.declared.past.Spelled.{Spelled}
+use Rattle.notes.specs.declared.past.Spelled.TheVariants.{Nothing, At, AtP, AtPj, Other}
+use Rattle.notes.specs.Note.{told_if}
+use Rattle.notes.specs.ItemNotes.{acts, is_line, has_reset, is_text, is_byte, ends_word, is_job_word, is_fraction, is_later, is_open_end, item_notes}
+use Rattle.notes.specs.Carriers.Past.{spelled_with, spelled_behind, past_behind, past_of, ends_job_word, ends_open, past_notes}
+
+and_false : (b : Bool) → b && false ≡ false
+and_false b = elim b as (λ v. v && false ≡ false) [ true ↦ refl | false ↦ refl ]
+
+and_true : (b : Bool) → b && true ≡ b
+and_true b = elim b as (λ v. v && true ≡ v) [ true ↦ refl | false ↦ refl ]
+
+-- ---- how much of `@PJL` stands there
+
+abbrev is_nothing : Spelled → Bool
+is_nothing Nothing = true
+is_nothing _ = false
+
+abbrev is_at : Spelled → Bool
+is_at At = true
+is_at _ = false
+
+abbrev is_at_p : Spelled → Bool
+is_at_p AtP = true
+is_at_p _ = false
+
+abbrev is_at_pj : Spelled → Bool
+is_at_pj AtPj = true
+is_at_pj _ = false
+
+nothing_with : (spelled : Spelled) (code : ℕ) → is_nothing (spelled_with spelled code) ≡ false
+nothing_with Nothing code = elim (code == 64) as (λ b. is_nothing (cond b At Other) ≡ false) [ true ↦ refl | false ↦ refl ]
+nothing_with At code = elim (code == 80) as (λ b. is_nothing (cond b AtP Other) ≡ false) [ true ↦ refl | false ↦ refl ]
+nothing_with AtP code = elim (code == 74) as (λ b. is_nothing (cond b AtPj Other) ≡ false) [ true ↦ refl | false ↦ refl ]
+nothing_with AtPj code = refl
+nothing_with Other code = refl
+
+nothing_behind : (spelled : Spelled) (item : Entry) → is_nothing (spelled_behind spelled item) ≡ not (is_text item)
+nothing_behind spelled (Text code) = nothing_with spelled code
+nothing_behind spelled _ = refl
+
+nothing_is : (before : List Placed) → is_nothing (past_of before).spelled ≡ ends_word [] before
+nothing_is [] = refl
+nothing_is (x ∷ before) = nothing_behind (past_of before).spelled x.item
+
+at_with : (spelled : Spelled) (code : ℕ) → is_at (spelled_with spelled code) ≡ (code == 64) && is_nothing spelled
+at_with Nothing code = elim (code == 64) as (λ b. is_at (cond b At Other) ≡ b && true) [ true ↦ refl | false ↦ refl ]
+at_with At code = elim (code == 80) as (λ b. is_at (cond b AtP Other) ≡ false) [ true ↦ refl | false ↦ refl ] ∙ sym (and_false (code == 64))
+at_with AtP code = elim (code == 74) as (λ b. is_at (cond b AtPj Other) ≡ false) [ true ↦ refl | false ↦ refl ] ∙ sym (and_false (code == 64))
+at_with AtPj code = sym (and_false (code == 64))
+at_with Other code = sym (and_false (code == 64))
+
+at_behind : (spelled : Spelled) (item : Entry) → is_at (spelled_behind spelled item) ≡ is_byte 64 item && is_nothing spelled
+at_behind spelled (Text code) = at_with spelled code
+at_behind spelled _ = refl
+
+at_is : (before : List Placed) → is_at (past_of before).spelled ≡ ends_word (64 ∷ []) before
+at_is [] = refl
+at_is (x ∷ before) = at_behind (past_of before).spelled x.item ∙ ap (λ b. is_byte 64 x.item && b) (nothing_is before)
+
+at_p_with : (spelled : Spelled) (code : ℕ) → is_at_p (spelled_with spelled code) ≡ (code == 80) && is_at spelled
+at_p_with Nothing code = elim (code == 64) as (λ b. is_at_p (cond b At Other) ≡ false) [ true ↦ refl | false ↦ refl ] ∙ sym (and_false (code == 80))
+at_p_with At code = elim (code == 80) as (λ b. is_at_p (cond b AtP Other) ≡ b && true) [ true ↦ refl | false ↦ refl ]
+at_p_with AtP code = elim (code == 74) as (λ b. is_at_p (cond b AtPj Other) ≡ false) [ true ↦ refl | false ↦ refl ] ∙ sym (and_false (code == 80))
+at_p_with AtPj code = sym (and_false (code == 80))
+at_p_with Other code = sym (and_false (code == 80))
+
+at_p_behind : (spelled : Spelled) (item : Entry) → is_at_p (spelled_behind spelled item) ≡ is_byte 80 item && is_at spelled
+at_p_behind spelled (Text code) = at_p_with spelled code
+at_p_behind spelled _ = refl
+
+at_p_is : (before : List Placed) → is_at_p (past_of before).spelled ≡ ends_word (80 ∷ 64 ∷ []) before
+at_p_is [] = refl
+at_p_is (x ∷ before) = at_p_behind (past_of before).spelled x.item ∙ ap (λ b. is_byte 80 x.item && b) (at_is before)
+
+at_pj_with : (spelled : Spelled) (code : ℕ) → is_at_pj (spelled_with spelled code) ≡ (code == 74) && is_at_p spelled
+at_pj_with Nothing code = elim (code == 64) as (λ b. is_at_pj (cond b At Other) ≡ false) [ true ↦ refl | false ↦ refl ] ∙ sym (and_false (code == 74))
+at_pj_with At code = elim (code == 80) as (λ b. is_at_pj (cond b AtP Other) ≡ false) [ true ↦ refl | false ↦ refl ] ∙ sym (and_false (code == 74))
+at_pj_with AtP code = elim (code == 74) as (λ b. is_at_pj (cond b AtPj Other) ≡ b && true) [ true ↦ refl | false ↦ refl ]
+at_pj_with AtPj code = sym (and_false (code == 74))
+at_pj_with Other code = sym (and_false (code == 74))
+
+at_pj_behind : (spelled : Spelled) (item : Entry) → is_at_pj (spelled_behind spelled item) ≡ is_byte 74 item && is_at_p spelled
+at_pj_behind spelled (Text code) = at_pj_with spelled code
+at_pj_behind spelled _ = refl
+
+at_pj_is : (before : List Placed) → is_at_pj (past_of before).spelled ≡ ends_word (74 ∷ 80 ∷ 64 ∷ []) before
+at_pj_is [] = refl
+at_pj_is (x ∷ before) = at_pj_behind (past_of before).spelled x.item ∙ ap (λ b. is_byte 74 x.item && b) (at_p_is before)
+
+job_word_with : (spelled : Spelled) (item : Entry) → ends_job_word spelled item ≡ is_byte 76 item && is_at_pj spelled
+job_word_with Nothing item = sym (and_false (is_byte 76 item))
+job_word_with At item = sym (and_false (is_byte 76 item))
+job_word_with AtP item = sym (and_false (is_byte 76 item))
+job_word_with AtPj item = sym (and_true (is_byte 76 item))
+job_word_with Other item = sym (and_false (is_byte 76 item))
+
+job_word_is : (before : List Placed) (x : Placed) → ends_job_word (past_of before).spelled x.item ≡ is_job_word before x
+job_word_is before x = job_word_with (past_of before).spelled x.item ∙ ap (λ b. is_byte 76 x.item && b) (at_pj_is before)
+
+-- ---- resets
+
+reset_is : (before : List Placed) → (past_of before).has_reset ≡ has_reset before
+reset_is [] = refl
+reset_is (x ∷ before) = ap (λ b. is_reset x.item || b) (reset_is before)
+
+-- ---- the notes
+
+pub past_is : (before : List Placed) (x : Placed) → past_notes (past_of before) x ≡ item_notes before x
+past_is before x = λ i.
+    told_if (acts x.item && not (reset_is before i)) x.place OpenStart
+    ++ told_if (job_word_is before x i) (x.place - 3) PjlAsText
+    ++ told_if (is_fraction x.item) x.place FractionOfUnit
+    ++ told_if (is_later x.item) x.place LaterLanguage
+
+-- ---- behind the last reset
+
+open_step : (line resets kept later others : Bool) → (kept && not (resets || later)) || (((not line && not resets) && not later) || others) ≡ ((not resets && (kept || (not line && not resets))) && not later) || others
+open_step true true true true o = refl
+open_step true true true false o = refl
+open_step true true false true o = refl
+open_step true true false false o = refl
+open_step true false true true o = refl
+open_step true false true false o = refl
+open_step true false false true o = refl
+open_step true false false false o = refl
+open_step false true true true o = refl
+open_step false true true false o = refl
+open_step false true false true o = refl
+open_step false true false false o = refl
+open_step false false true true o = refl
+open_step false false true false o = refl
+open_step false false false true o = refl
+open_step false false false false o = refl
+
+pub ends_open_more : (past : Past) (x : Placed) (items : List Placed) → ends_open past (x ∷ items) ≡ ends_open (past_behind past x.item) items
+ends_open_more past x items = open_step (is_line x.item) (is_reset x.item) past.is_open (has_reset items) (is_open_end items)
+
+pub ends_open_none : (past : Past) → ends_open past [] ≡ past.is_open
+ends_open_none past = elim past.is_open as (λ b. (b && true) || false ≡ b) [ true ↦ refl | false ↦ refl ]

@@ -1,0 +1,94 @@
+-- The notes that hold by the items of a job alone, wherever these stand: in the job, or in a macro definition.
+use Rattle.std.specs.Prelude.{ℕ, ◌-◌, ◌%◌, ◌==◌, Bool, true, false, not, ◌&&◌, ◌||◌, List, [], ◌∷◌, ◌++◌}
+use Rattle.std.specs.List.{list_any}
+use Rattle.pcl_items.specs.declared.command.Command.TheVariants.{HorizontalUnits, VerticalUnits, UnitOfMeasure, RasterResolution}
+use Rattle.pcl_items.specs.Items.{Entry, Placed, Text, Parameterized, PjlLine}
+use Rattle.pcl_items.specs.Value.{Amount}
+use Rattle.page_env.specs.JobControl.{is_reset}
+use Rattle.page_env.specs.Numbers.{whole_of}
+use Rattle.notes.specs.declared.note.Note.TheVariants.{OpenStart, PjlAsText, FractionOfUnit, LaterLanguage}
+use Rattle.notes.specs.Note.{Told, told_if}
+
+-- ---- where a job begins and ends (the manual's "Printer Reset Command", "Universal Exit Language Command")
+
+abbrev pub is_line : Entry → Bool
+is_line (PjlLine line) = true
+is_line _ = false
+
+-- an item that prints, moves or sets: each but a reset, the universal exit and a line of the job language
+abbrev pub acts : Entry → Bool
+acts item = not (is_line item) && not (is_reset item)
+
+-- a reset is among these items, or the universal exit
+abbrev pub has_reset : List Placed → Bool
+has_reset items = list_any (λ (x : Placed). is_reset x.item) items
+
+-- 101 OpenStart: an item acts, and no reset stands before it
+abbrev pub is_open_start : List Placed → Entry → Bool
+is_open_start before item = acts item && not (has_reset before)
+
+-- 102 OpenEnd: of these items one acts, and no reset stands behind it
+abbrev pub is_open_end : List Placed → Bool
+is_open_end [] = false
+is_open_end (x ∷ items) = (acts x.item && not (has_reset items)) || is_open_end items
+
+-- ---- a line of the job language where the mode is PCL: its bytes are text
+
+abbrev pub is_text : Entry → Bool
+is_text (Text code) = true
+is_text _ = false
+
+abbrev pub is_byte : ℕ → Entry → Bool
+is_byte code (Text byte) = byte == code
+is_byte code _ = false
+
+-- of items, the nearest first, the nearest one is text
+abbrev pub is_behind_text : List Placed → Bool
+is_behind_text [] = false
+is_behind_text (x ∷ before) = is_text x.item
+
+-- of items, the nearest first, the nearest are the bytes of a word, its last one first, with which a text begins
+abbrev pub ends_word : List ℕ → List Placed → Bool
+ends_word [] before = not (is_behind_text before)
+ends_word (code ∷ word) [] = false
+ends_word (code ∷ word) (x ∷ before) = is_byte code x.item && ends_word word before
+
+-- `@PJL`, its last byte first
+abbrev pub job_word : List ℕ
+job_word = 76 ∷ 74 ∷ 80 ∷ 64 ∷ []
+
+-- 104 PjlAsText: the item is the last byte of `@PJL`, with which a text begins
+abbrev pub is_job_word : List Placed → Placed → Bool
+is_job_word before x = ends_word job_word (x ∷ before)
+
+-- ---- what printers read otherwise
+
+-- decimals other than 0
+abbrev pub has_decimals : Amount → Bool
+has_decimals n = not (n.ten_thousandths % 10_000 == 0)
+
+-- 107 FractionOfUnit: a move by PCL units, `*p#X` or `*p#Y`, with decimals
+abbrev pub is_fraction : Entry → Bool
+is_fraction (Parameterized HorizontalUnits n) = has_decimals n
+is_fraction (Parameterized VerticalUnits n) = has_decimals n
+is_fraction _ = false
+
+-- a resolution of rasters that came with PCL 5e
+abbrev pub is_later_resolution : Amount → Bool
+is_later_resolution n = (whole_of n == 200) || (whole_of n == 600)
+
+-- 108 LaterLanguage: `&u#D`, or `*t#R` of 200 or 600 pixels an inch
+abbrev pub is_later : Entry → Bool
+is_later (Parameterized UnitOfMeasure n) = true
+is_later (Parameterized RasterResolution n) = is_later_resolution n
+is_later _ = false
+
+-- ---- all of these
+
+-- The notes of an item by what stands before it, the nearest first. What begins `@PJL` stands three bytes before the last of it.
+abbrev pub item_notes : List Placed → Placed → List Told
+item_notes before x =
+    told_if (is_open_start before x.item) x.place OpenStart
+    ++ told_if (is_job_word before x) (x.place - 3) PjlAsText
+    ++ told_if (is_fraction x.item) x.place FractionOfUnit
+    ++ told_if (is_later x.item) x.place LaterLanguage

@@ -1,0 +1,5 @@
+pub mod Note
+pub mod ItemNotes
+pub mod StateNotes
+pub mod Notes
+pub mod Carriers

@@ -1,0 +1,5 @@
+//! The tests of notes.
+#![tactic(auto)]
+
+#[cfg(test)]
+mod job_notes;

@@ -1,0 +1,59 @@
+-- Lemmas on the notes of a job, in a check of many jobs.
+use Rattle.std.proofs.Common.{◌≡◌, ℕ, List, [], ◌∷◌, ◌++◌, Option, Result, Ok, Err, IfOk, IfErr, sym, ◌∙◌, ap, subst}
+use Rattle.device_profile.specs.declared.panel.Panel.{Panel}
+use Rattle.device_profile.specs.Printer.{Printer, first_panel}
+use Rattle.preflight.specs.declared.error.Error.{Error}
+use Rattle.preflight.specs.declared.error.Error.TheVariants.{Memory, Read, Write, Turns, NoProfile, Items}
+use Rattle.preflight.specs.declared.outcome.Outcome.{Outcome}
+use Rattle.preflight.specs.Due.{IsDue, Renders}
+use Rattle.streams.specs.Outlet.{OutletState, Adds}
+use Rattle.streams.specs.Pieces.{ByReads}
+use Rattle.streams.specs.Source.{SourceState}
+use Rattle.notes.specs.Note.{Told}
+use Rattle.notes.specs.Notes.{notes_rendering}
+use Rattle.subcommands.specs.Groups.{Groups}
+use Rattle.subcommands.specs.JobChecks.{AddsTold, CutsNotes, CutsTold, TellsNotes, Work}
+use Rattle.subcommands.specs.JobNoting.{AreRightNotes, Noted, ending_of_notes, notes_text}
+use Rattle.subcommands.specs.NoteReports.{subject_of, told_note}
+use Rattle.subcommands.specs.Telling.{HowTold}
+use Rattle.subcommands.specs.declared.job_checks.Ending.{Ending}
+
+module _ (write : Told → List ℕ) (printer : Printer) (panel : Panel) (first : panel ≡ first_panel printer) (job job' : SourceState) (kept kept' : OutletState) where
+  -- the job was gone through
+  pub notes_had : (outcome : Outcome) (text : List ℕ) → Renders (notes_rendering write printer panel) job job' kept kept' (Ok outcome) → kept.taken ≡ [] → text ≡ kept'.taken → AreRightNotes write printer job job' (Ok text)
+  notes_had outcome text rendered empty is =
+      let due = rendered.written in
+      let text_is : due.text ≡ text = sym (is ∙ (due.adds.taken ∙ ap (λ l. l ++ due.text) empty)) in
+      record {
+        text = (
+          outcome,
+          subst (λ (p : Panel). ByReads job job' (λ bytes. IsDue (notes_rendering write printer p) bytes text outcome)) first
+              (subst (λ (t : List ℕ). ByReads job job' (λ bytes. IsDue (notes_rendering write printer panel) bytes t outcome)) text_is due.due),
+        );
+        error = tt;
+        read = rendered.read;
+      }
+
+-- ---- what was written of them
+
+module _ (group : Groups) (telling : HowTold) (printer : Printer) (start after : SourceState) (job : List ℕ) (old new : Work) (notes : Result (List ℕ) Error)
+    (right : AreRightNotes (told_note telling (subject_of group job)) printer start after notes) (ended : new.ended ≡ old.ended ++ after ∷ []) where
+  abbrev noted_with : Option (List ℕ) → Noted
+  noted_with cause = record { after = after; notes = notes; cause = cause }
+
+  -- all of it
+  pub notes_told : (r : Result Ending Error) → IfOk r (λ ending. (ending ≡ ending_of_notes notes) × AddsTold (notes_text telling group job notes) old.out new.out)
+      → IfOk r (λ ending. (noted : Noted) × (ending ≡ ending_of_notes noted.notes) × TellsNotes group telling printer start job old new (Adds old.out new.out) noted)
+  notes_told (Ok ending) told = (noted_with told.1.0, told.0, record { right = right; written = told.1.1; ended = ended })
+  notes_told (Err error) told = tt
+
+  -- a front of it
+  pub notes_cut : (r : Result Ending Error) → IfErr r (λ error. CutsTold error (notes_text telling group job notes) old.out new.out)
+      → IfErr r (λ error. CutsNotes error group telling printer start job old new)
+  notes_cut (Ok ending) cut = tt
+  notes_cut (Err Memory) cut = (after, cut, ended)
+  notes_cut (Err Write) cut = (noted_with cut.0, record { right = right; written = cut.1; ended = ended })
+  notes_cut (Err Read) cut = absurd cut
+  notes_cut (Err Turns) cut = absurd cut
+  notes_cut (Err NoProfile) cut = absurd cut
+  notes_cut (Err Items) cut = absurd cut
