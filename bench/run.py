@@ -4,6 +4,7 @@
     python3 bench/run.py                     every kind of job, and the commands, as tables
     python3 bench/run.py --commands          the commands alone
     python3 bench/run.py --many              many jobs in one run alone
+    python3 bench/run.py --pictures          pictures of pages of many marks alone
     python3 bench/run.py --only lines        one kind; the option may come often
     python3 bench/run.py --size 32           jobs of 32 MiB
     python3 bench/run.py --program PATH      another build of the program
@@ -23,6 +24,8 @@ stops where one does not.
 - The commands are run on one kind of job, for one printer. What they write is thrown away: standard
   output, and the OUT of `plain` and `pin`. To check: by how many times their instructions a byte are those of
   `check`. Their peak memory is that on a job of an eighth of the size, and on one of the whole size.
+- Pictures: the first page of a job, which has this many marks, is drawn and thrown away. Of each kind of
+  page there is one with an eighth of the marks, so that it is seen that memory stays as it is.
 - Many jobs: 2,000 jobs of the same kind, each of whole pages and at least 4,096 bytes, are checked in one run
   for two printers, and beside it one job that is their bytes one behind another. More a job: what the run over
   many takes longer, for each of its jobs.
@@ -75,13 +78,17 @@ MEBIBYTE = 1 << 20
 COUNTED_SIZES = (MEBIBYTE // 4, MEBIBYTE // 2)
 
 # The commands of the program, and the kind of job on which they are compared.
-COMMANDS = ("check", "list", "plain", "pages", "pin")
+COMMANDS = ("check", "list", "plain", "pages", "picture", "pin")
 KIND_OF_COMMANDS = "mix"
 
 # How many jobs are checked in one run, of how many bytes each at least, and for how many printers.
 MANY_JOBS = 2000
 SIZE_OF_MANY = 4096
 PRINTERS_OF_MANY = 2
+
+# How many marks the pages have that are drawn, an eighth and the whole of them.
+CHARACTERS_OF_PAGE = (100_000, 800_000)
+ROWS_OF_PAGE = (675, 5_400)
 
 # So many functions of a profile are printed.
 PROFILE_ROWS = 20
@@ -271,6 +278,22 @@ def form_of_rules():
     yield to_units(60, 100) + b"Stock of forms by shelf and by size"
 
 
+def characters_of_page(count):
+    """A page of so many characters in lines of 80, printed over and over from its top."""
+    for line in range(count // 80):
+        if line % 60 == 0:
+            yield to_units(0, 0)
+        yield bytes(33 + (line + i) % 94 for i in range(80)) + CR_LF
+
+
+def rows_of_page(count):
+    """A page of so many rows of 500 bytes of a raster of 600 pixels an inch."""
+    yield b"\x1b*t600R\x1b*r0F" + to_units(0, 300) + b"\x1b*r1A"
+    for row in range(count):
+        yield b"\x1b*b500W" + bytes((1 + 7 * row + 31 * i) % 256 for i in range(500))
+    yield b"\x1b*rB"
+
+
 def rectangle(width, height):
     """A solid rectangle at the cursor, in PCL units."""
     return b"\x1b*c%da%db0P" % (width, height)
@@ -288,6 +311,9 @@ def to_cell(column, row):
 
 MAKERS = (rectangles, lines, text, raster, mix, wrapped, plot, macro, written_out, overlay)
 KINDS = {maker.__name__: maker for maker in MAKERS}
+
+# The pages that are drawn, and how many marks they have.
+PAGES = {characters_of_page: CHARACTERS_OF_PAGE, rows_of_page: ROWS_OF_PAGE}
 
 # The kinds that need macro memory, and the one that is measured beside one of them.
 KINDS_OF_MACROS = ("macro", "written_out", "overlay")
@@ -347,6 +373,7 @@ class Run:
             "list": [],
             "plain": [os.devnull],
             "pages": [self.job.printer],
+            "picture": [self.job.printer, "--all"],
             "pin": [self.job.printer, os.devnull],
         }
         return [self.command, str(self.job.path), *behind[self.command]]
@@ -417,6 +444,36 @@ def names_file(folder, name, paths, size):
     names = Path(folder) / f"{name}.names"
     names.write_bytes(b"".join(os.fsencode(path) + b"\0" for path in paths))
     return ManyRun(names, len(paths), size)
+
+
+@dataclass(frozen=True)
+class Picture:
+    """The picture of the one page of a job, which has so many marks."""
+
+    job: Path
+    marks: int
+    size: int
+
+    def words(self):
+        """The words behind the program's name."""
+        return ["picture", str(self.job), PRINTER]
+
+    def stdout(self):
+        """Where standard output goes."""
+        return subprocess.DEVNULL
+
+    def require_pass(self, status, _output):
+        """Fails where the page is not drawn."""
+        if status != 0:
+            raise BenchError(f"a page of {self.marks} marks is not drawn: status {status}")
+
+
+def write_page(folder, maker, marks):
+    """Writes a job of one page of so many marks."""
+    page = RESET + b"".join(maker(marks)) + RESET
+    path = Path(folder) / f"{maker.__name__}_{marks}.pcl"
+    path.write_bytes(page)
+    return Picture(path, marks, len(page))
 
 
 @dataclass(frozen=True)
@@ -517,6 +574,14 @@ COLUMNS_OF_COMMANDS = {
     "Peak memory": ">11",
 }
 
+COLUMNS_OF_PICTURES = {
+    "Page": "<10",
+    "Marks": ">7",
+    "Bytes": ">9",
+    "Seconds": ">7",
+    "Peak memory": ">11",
+}
+
 COLUMNS_OF_MANY = {
     "Jobs": "<4",
     "Printers": ">8",
@@ -596,6 +661,17 @@ def print_many(program, folder):
         print_row(COLUMNS_OF_MANY, [run.jobs, PRINTERS_OF_MANY, *numbers])
 
 
+def print_pictures(program, folder):
+    """Prints what pictures of pages of many marks cost."""
+    print_head(COLUMNS_OF_PICTURES)
+    for maker, counts in PAGES.items():
+        for picture in (write_page(folder, maker, marks) for marks in counts):
+            seconds, memory = program.best_seconds(picture), program.peak_memory(picture)
+            kind = maker.__name__.removesuffix("_of_page")
+            numbers = [picture.marks, picture.size, f"{seconds:.2f}", mebibytes(memory)]
+            print_row(COLUMNS_OF_PICTURES, [kind, *numbers])
+
+
 def tenths(number):
     """A number with one decimal; a dash where there is none."""
     return "-" if number is None else f"{number:.1f}"
@@ -646,6 +722,7 @@ def arguments():
     parser.add_argument("--size", type=float, default=8, help="the size of a job in MiB")
     parser.add_argument("--commands", action="store_true", help="the commands alone")
     parser.add_argument("--many", action="store_true", help="many jobs in one run alone")
+    parser.add_argument("--pictures", action="store_true", help="pictures of full pages alone")
     parser.add_argument("--profile", action="store_true", help="the functions that cost most")
     return parser.parse_args()
 
@@ -659,7 +736,7 @@ def print_all(program, folder, words):
             print_profile(program, folder, kind)
         return
     print(f"Processor: {processor()}\n")
-    is_whole = not (words.commands or words.many or words.only)
+    is_whole = not (words.commands or words.many or words.pictures or words.only)
     tables = []
     if words.only or is_whole:
         tables.append(lambda: print_table(program, folder, kinds, size))
@@ -667,6 +744,8 @@ def print_all(program, folder, words):
         tables.append(lambda: print_commands(program, folder, size))
     if words.many or is_whole:
         tables.append(lambda: print_many(program, folder))
+    if words.pictures or is_whole:
+        tables.append(lambda: print_pictures(program, folder))
     for number, table in enumerate(tables):
         if number:
             print()

@@ -153,6 +153,7 @@ def main() -> int:
     with tempfile.TemporaryDirectory(prefix="sessions-") as name:
         folder = Path(name) / "examples"
         shutil.copytree(ROOT / "examples", folder)
+        shutil.copytree(ROOT / "docs" / "pictures", Path(name) / "docs" / "pictures")
         (folder / "pclcheck").symlink_to(program)
         for file, text in FILES.items():
             (folder / file).write_bytes(text)

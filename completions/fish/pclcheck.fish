@@ -7,8 +7,8 @@ function __pclcheck_command
     set -l found
     for word in $words
         switch "$found $word"
-            case ' check' ' list' ' pages' ' notes' ' plain' ' pin' ' explain' ' profile' ' help' \
-                'profile list' 'profile new' 'profile lint' 'profile show' 'profile sheet' \
+            case ' check' ' list' ' pages' ' picture' ' notes' ' plain' ' pin' ' explain' ' profile' \
+                ' help' 'profile list' 'profile new' 'profile lint' 'profile show' 'profile sheet' \
                 'profile from-pjl' 'profile help' 'help profile'
                 set found (string trim -- "$found $word")
             case ' -*'
@@ -82,6 +82,8 @@ for place in '' help
         -d 'Lists the items of a job: each command, control code and byte of text'
     complete -c pclcheck -n "__pclcheck_at '$place'" -a pages \
         -d 'Writes what a job marks on its pages, from the first panel setting of a printer'
+    complete -c pclcheck -n "__pclcheck_at '$place'" -a picture \
+        -d 'Draws a page of a job, from one panel setting of a printer'
     complete -c pclcheck -n "__pclcheck_at '$place'" -a notes \
         -d 'Tells what a job leaves to a printer, though it passes'
     complete -c pclcheck -n "__pclcheck_at '$place'" -a plain \
@@ -133,6 +135,13 @@ complete -c pclcheck -n '__pclcheck_at check' -l exit-zero -d 'Ends with 0 where
 complete -c pclcheck -n __pclcheck_at_profile -a '(__pclcheck_samples)' -d sample
 
 complete -c pclcheck -n '__pclcheck_at pages' -a '(__pclcheck_samples)' -d sample
+
+complete -c pclcheck -n '__pclcheck_at picture' -l page -x \
+    -d 'The page to draw, from 1; without it the first'
+complete -c pclcheck -n '__pclcheck_at picture' -l all -d 'Draws each page, in one document'
+complete -c pclcheck -n '__pclcheck_at picture' -l panel -x -a '(__pclcheck_fields)' \
+    -d 'Draws from these values of the panel; each field that is not named has its first value'
+complete -c pclcheck -n '__pclcheck_at picture' -a '(__pclcheck_samples)' -d sample
 
 complete -c pclcheck -n '__pclcheck_at notes' -a '(__pclcheck_samples)' -d sample
 

@@ -4,6 +4,7 @@
 mod check_words;
 mod many_words;
 mod panel_words;
+mod picture_words;
 mod profile_tool_words;
 mod profile_words;
 mod text_commands;

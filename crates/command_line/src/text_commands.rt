@@ -42,7 +42,8 @@ Exit status:
 
 const NOTES_EXPLANATION: &str =
     "A note tells what a job that passes leaves to the printer, or to the jobs before and behind it. Each
-is told once, where it holds first, for the first value that the profile lists of each field.
+is told once, where it holds first, for the first value that the profile lists of each field. Where
+macros carry out more than a million items, 112 tells it, and what follows is not looked at.
 
 Output, a line for each note; explain tells more of its number and its name:
   AT NUMBER NAME

@@ -5,6 +5,7 @@ ghost use Rattle.command_line.specs.Words.{IsEndOfWords, KeepsWhatItReads, Names
 use crate::check_words::{EXPLANATION, check_command, check_request};
 use crate::many_words::ManyWords;
 use crate::panel_words::ChoiceFault;
+use crate::picture_words::{picture_command, picture_request};
 use crate::profile_words::{NewProfile, profile_command, profile_request};
 use crate::text_commands::{
     list_command, notes_command, pages_command, pin_command, pin_request, plain_command,
@@ -12,6 +13,7 @@ use crate::text_commands::{
 };
 use clap::error::ErrorKind;
 use clap::{Arg, ArgAction, ArgMatches, Command};
+use job_picture::Selection;
 use preflight::{Error, Outlet, write_text};
 use std::alloc::{AllocError, Global};
 use subcommands::{Choice, Input, Status};
@@ -39,6 +41,14 @@ pub enum Request<'a> {
     Notes {
         job: &'a str,
         profile: &'a str,
+    },
+    /// Pictures of pages of the job at a path, from the panel that is chosen of the printer that a
+    /// word names.
+    Picture {
+        job: &'a str,
+        profile: &'a str,
+        choices: Vec<Choice>,
+        selection: Selection,
     },
     /// The items of the job at a path, each in its canonical spelling, in a file at a path.
     Plain {
@@ -123,6 +133,7 @@ fn command<'a>(alloc: Global) -> Result<Command<'a>, AllocError> {
     let command = with_command(command, check_command(alloc))?;
     let command = with_command(command, list_command(alloc))?;
     let command = with_command(command, pages_command(alloc))?;
+    let command = with_command(command, picture_command(alloc))?;
     let command = with_command(command, notes_command(alloc))?;
     let command = with_command(command, plain_command(alloc))?;
     let command = with_command(command, pin_command(alloc))?;
@@ -227,6 +238,9 @@ fn request_of<'a>(
     }
     if let Some(found) = matches.subcommand_matches("pin") {
         return pin_request(alloc, found);
+    }
+    if let Some(found) = matches.subcommand_matches("picture") {
+        return picture_request(alloc, found);
     }
     if let Some(found) = matches.subcommand_matches("explain") {
         let code = found.get_str("CODE");

@@ -25,7 +25,7 @@ use Rattle.preflight.specs.declared.error.Error.{Error}
 use Rattle.preflight.specs.declared.outcome.Outcome.{Outcome}
 use Rattle.preflight.specs.declared.outcome.Outcome.TheVariants.{Done as AllDone, Fail}
 use Rattle.verdict.specs.declared.reason.Reason.TheVariants.{Fault, Finding as FindingOfRun}
-use Rattle.preflight.specs.Due.{Rendering}
+use Rattle.preflight.specs.Due.{Rendering, nothing_at_fault}
 use Rattle.preflight.specs.PageTexts.{run_outcome}
 use Rattle.preflight.specs.Texts.{reading_outcome}
 use Rattle.preflight.specs.Carriers.Rendering.{Puts, RestGoesOn, EndsWith, StartsWith, Ended as EndedWith, RendersItem}
@@ -36,7 +36,7 @@ use Rattle.notes.specs.declared.note.Note.{Note}
 use Rattle.notes.specs.declared.past.Past.{Past}
 use Rattle.notes.specs.declared.standing.Standing.{Standing}
 use Rattle.notes.specs.Note.{Told, firsts}
-use Rattle.notes.specs.StateNotes.{state_notes}
+use Rattle.notes.specs.StateNotes.{has_rows_left, state_notes}
 use Rattle.notes.specs.Notes.{carried_notes, ended_notes, notes_of_items, is_end_of_page, closes_page, is_done, notes_at_end, end_notes, long_run, noted_outcome, notes_rendering}
 use Rattle.notes.specs.Carriers.Past.{no_past, past_behind, past_notes, past_of}
 use Rattle.notes.specs.Carriers.Rest.{Tells, told_behind, closing_behind, rest_of_items, rest_of_end, rest_run, rest_notes, notes_from}
@@ -124,8 +124,8 @@ module _ (machine : MachineState) (panel : Panel) (past : Past) (closed : Bool) 
   abbrev by_run : Placed → Reading → Run → List Told
   by_run x rest r =
       (past_notes past x
-      ++ ended_notes machine.printer machine.macros x here r.ending (rest_of_items machine.printer defaults (past_behind past x.item) (items_of rest) (item_of machine x.item).macros))
-      ++ rest_of_end past closed (with_item x rest) (after_item x.place r (behind_item x rest))
+      ++ ended_notes machine.printer machine.macros x here r.ending
+      (rest_of_items machine.printer defaults (rest_of_end past closed (with_item x rest) (after_item x.place r (behind_item x rest))) (past_behind past x.item) (items_of rest) (item_of machine x.item).macros))
       ++ long_run (run_outcome (after_item x.place r (behind_item x rest)).items (reading_outcome (with_item x rest)))
 
   item_first : (x : Placed) (rest : Reading) → rest_notes machine panel past closed (with_item x rest) ≡ by_run x rest ((item_of machine x.item).run panel)
@@ -138,34 +138,31 @@ module _ (machine : MachineState) (panel : Panel) (past : Past) (closed : Bool) 
 
   module _ (x : Placed) (events : List Event) (peaks : Peaks) where
     -- the end, where the item was done
-    end_behind : (rest : Reading) (t : State) → rest_of_end past closed (with_item x rest) (after_item x.place (after events peaks (just [] (Done t))) (behind_item x rest))
-        ≡ rest_of_end (past_behind past x.item) (closed || closes_page events) rest (behind_item x rest t)
-    end_behind (Whole items place) t = λ i.
+    end_behind : (rest : Reading) (t s : State) → rest_of_end past closed (with_item x rest) (after_item x.place (after events peaks (just [] (Done t))) (behind_item x rest)) s
+        ≡ rest_of_end (past_behind past x.item) (closed || closes_page events) rest (behind_item x rest t) s
+    end_behind (Whole items place) t s = λ i.
         let run : JobRun = behind_item x (Whole items place) t in
-        cond (is_done run.ending) (notes_at_end (ends_open_more past x items i) (not (closes_more closed events (events_of run.items) i)) place) []
-    end_behind (Stopped items place cause) t = refl
+        cond (is_done run.ending) (notes_at_end (ends_open_more past x items i) (not (closes_more closed events (events_of run.items) i)) (has_rows_left s.raster) place) []
+    end_behind (Stopped items place cause) t s = refl
 
     by_done : (rest : Reading) (t : State) → by_run x rest (after events peaks (just [] (Done t)))
         ≡ (past_notes past x ++ carried_notes machine.printer machine.macros x here t)
-        ++ (rest_of_items machine.printer defaults (past_behind past x.item) (items_of rest) (item_of machine x.item).macros t
-        ++ rest_of_end (past_behind past x.item) (closed || closes_page events) rest (behind_item x rest t)
+        ++ (rest_of_items machine.printer defaults (rest_of_end (past_behind past x.item) (closed || closes_page events) rest (behind_item x rest t)) (past_behind past x.item) (items_of rest) (item_of machine x.item).macros t
         ++ long_run (run_outcome (behind_item x rest t).items (reading_outcome rest)))
     by_done rest t =
         let own : List Told = past_notes past x in
         let carried : List Told = carried_notes machine.printer machine.macros x here t in
-        let others : List Told = rest_of_items machine.printer defaults (past_behind past x.item) (items_of rest) (item_of machine x.item).macros t in
-        let end : List Told = rest_of_end (past_behind past x.item) (closed || closes_page events) rest (behind_item x rest t) in
+        let others : (State → List Told) → List Told = λ finally. rest_of_items machine.printer defaults finally (past_behind past x.item) (items_of rest) (item_of machine x.item).macros t in
+        let end : State → List Told = rest_of_end (past_behind past x.item) (closed || closes_page events) rest (behind_item x rest t) in
         let long : Outcome → List Told = λ later. long_run (run_outcome (behind_item x rest t).items later) in
-        ap (λ l. (own ++ (carried ++ others)) ++ l ++ long (reading_outcome (with_item x rest))) (end_behind rest t)
-        ∙ (ap (λ later. (own ++ (carried ++ others)) ++ end ++ long later) (same_outcome x rest)
-        ∙ (ap (λ l. l ++ end ++ long (reading_outcome rest)) (sym (append_assoc own carried others))
-        ∙ (ap (λ l. l ++ long (reading_outcome rest)) (append_assoc (own ++ carried) others end)
-        ∙ append_assoc (own ++ carried) (others ++ end) (long (reading_outcome rest)))))
+        (λ i. (own ++ (carried ++ others (λ s. end_behind rest t s i))) ++ long (reading_outcome (with_item x rest)))
+        ∙ (ap (λ later. (own ++ (carried ++ others end)) ++ long later) (same_outcome x rest)
+        ∙ (ap (λ l. l ++ long (reading_outcome rest)) (sym (append_assoc own carried (others end)))
+        ∙ append_assoc (own ++ carried) (others end) (long (reading_outcome rest))))
 
     -- or had a finding
     by_found : (rest : Reading) (finding : Finding) → by_run x rest (after events peaks (just [] (Halts finding))) ≡ past_notes past x ++ long_run (Fail x.place 1 (FindingOfRun finding))
-    by_found (Whole items place) finding = ap (λ l. l ++ long_run (Fail x.place 1 (FindingOfRun finding))) (append-nil (past_notes past x ++ []) ∙ append-nil (past_notes past x))
-    by_found (Stopped items place cause) finding = ap (λ l. l ++ long_run (Fail x.place 1 (FindingOfRun finding))) (append-nil (past_notes past x ++ []) ∙ append-nil (past_notes past x))
+    by_found rest finding = ap (λ l. l ++ long_run (Fail x.place 1 (FindingOfRun finding))) (append-nil (past_notes past x))
 
   module _ (write : Told → List ℕ) (told : List Note) where
     -- the item was executed to its end
@@ -180,12 +177,10 @@ module _ (machine : MachineState) (panel : Panel) (past : Past) (closed : Bool) 
         let t : State = state_at panel machine'.page in
         let held : List Told = past_notes past x ++ carried_notes machine.printer machine.macros x here t in
         let rest_is : (rest : Reading) → behind_item x rest t ≡ rest_run machine' panel rest = λ rest. sym (ap (λ (m : MachineState). reading_run m.printer (settings_at panel m.defaults) rest m.macros t) is) in
-        let others_are : (rest : Reading) → rest_of_items machine.printer defaults (past_behind past x.item) (items_of rest) (item_of machine x.item).macros t
-        ++ rest_of_end (past_behind past x.item) (closed || closes_page events) rest (behind_item x rest t)
+        let others_are : (rest : Reading) → rest_of_items machine.printer defaults (rest_of_end (past_behind past x.item) (closed || closes_page events) rest (behind_item x rest t)) (past_behind past x.item) (items_of rest) (item_of machine x.item).macros t
         ++ long_run (run_outcome (behind_item x rest t).items (reading_outcome rest))
         ≡ rest_notes machine' panel (past_behind past x.item) (closed || closes_page events) rest
-        = λ rest. sym (ap (λ (m : MachineState). rest_of_items m.printer (settings_at panel m.defaults) (past_behind past x.item) (items_of rest) m.macros t
-        ++ rest_of_end (past_behind past x.item) (closed || closes_page events) rest (reading_run m.printer (settings_at panel m.defaults) rest m.macros t)
+        = λ rest. sym (ap (λ (m : MachineState). rest_of_items m.printer (settings_at panel m.defaults) (rest_of_end (past_behind past x.item) (closed || closes_page events) rest (reading_run m.printer (settings_at panel m.defaults) rest m.macros t)) (past_behind past x.item) (items_of rest) m.macros t
         ++ long_run (run_outcome (reading_run m.printer (settings_at panel m.defaults) rest m.macros t).items (reading_outcome rest))) is) in
         record {
           due = λ rest.
@@ -196,7 +191,7 @@ module _ (machine : MachineState) (panel : Panel) (past : Past) (closed : Bool) 
               ∙ (outcome_done x.place r (behind_item x rest) (reading_outcome (with_item x rest)) events peaks t run
               ∙ (ap (λ (j : JobRun). run_outcome j.items (reading_outcome (with_item x rest))) (rest_is rest)
               ∙ ap (run_outcome (rest_run machine' panel rest).items) (same_outcome x rest))));
-          fault = λ place cause. refl;
+          fault = λ rest place cause. refl;
         }
 
     -- it had a finding
@@ -223,15 +218,16 @@ module _ (machine : MachineState) (panel : Panel) (past : Past) (closed : Bool) 
       end = (end_of machine).run panel
 
       abbrev at_whole : Run → List Told
-      at_whole r = rest_of_end past closed (Whole [] place) (after_item place r at_end) ++ long_run (run_outcome (after_item place r at_end).items AllDone)
+      at_whole r = rest_of_end past closed (Whole [] place) (after_item place r at_end) here ++ long_run (run_outcome (after_item place r at_end).items AllDone)
 
       -- it was executed
       pub end_goes : (s : State) (events : List Event) (peaks : Peaks) → end ≡ after events peaks (just [] (Done s))
-          → EndsWith (notes_from write machine panel past closed told) (λ reading. reading ≡ Whole [] place) (flat_map write (firsts told (notes_at_end past.is_open (not (closed || closes_page events)) place))) AllDone
+          → EndsWith (notes_from write machine panel past closed told) (λ reading. reading ≡ Whole [] place) (flat_map write (firsts told (notes_at_end past.is_open (not (closed || closes_page events)) (has_rows_left machine.page.raster) place))) AllDone
       end_goes s events peaks run =
           let closes : closed || closes_page ((events ++ []) ++ []) ≡ closed || closes_page events = ap (λ es. closed || closes_page es) (append-nil (events ++ []) ∙ append-nil events) in
-          let ends : List Told = notes_at_end past.is_open (not (closed || closes_page events)) place in
-          let told_is : at_whole (after events peaks (just [] (Done s))) ≡ ends ++ [] = λ i. notes_at_end (ends_open_none past i) (not (closes i)) place ++ [] in
+          let is_short : Bool = has_rows_left machine.page.raster in
+          let ends : List Told = notes_at_end past.is_open (not (closed || closes_page events)) is_short place in
+          let told_is : at_whole (after events peaks (just [] (Done s))) ≡ ends ++ [] = λ i. notes_at_end (ends_open_none past i) (not (closes i)) is_short place ++ [] in
           let at_done : at_whole (after events peaks (just [] (Done s))) ≡ ends = told_is ∙ append-nil ends in
           record {
             due = λ reading is.
@@ -301,17 +297,20 @@ module _ (write : Told → List ℕ) (machine : MachineState) (panel : Panel) (p
       (text, puts a kept kept' text tells.text_is, item_found machine panel past closing.closed write told x finding took.events (took.peaks panel) (took.is panel))
 
   -- the end of the bytes was executed
-  pub tells_end : (place : ℕ) (closing' : Closing) (told' : List Note) (s : Panel → State)
+  pub tells_end : (place : ℕ) (page : Page) (is_short : Bool) (closing' : Closing) (told' : List Note) (s : Panel → State)
+      → page ≡ machine.page → is_short ≡ has_rows_left page.raster
       → TakesUpTo takes closing closing' (end_of machine).run (λ panel. just [] (Done (s panel)))
-      → Tells write told told' kept kept' (notes_at_end past.is_open (not closing'.closed) place)
+      → Tells write told told' kept kept' (notes_at_end past.is_open (not closing'.closed) is_short place)
       → EndedWith rendering (λ reading. reading ≡ Whole [] place) a a kept kept' (Ok AllDone)
-  tells_end place closing' told' s took last =
+  tells_end place page is_short closing' told' s page_is short_is took last =
       let closed_is : closing'.closed ≡ closing.closed || closes_page took.events = closing_all closing closing' took.events took.leads in
-      let text : Bool → List ℕ = λ b. flat_map write (firsts told (notes_at_end past.is_open (not b) place)) in (
-        text closing'.closed,
-        puts a kept kept' (text closing'.closed) last.text_is,
-        subst (λ (b : Bool). EndsWith rendering (λ reading. reading ≡ Whole [] place) (text b) AllDone) (sym closed_is)
-            (end_goes machine panel past closing.closed write told place (s panel) took.events (took.peaks panel) (took.is panel)),
+      let rows_are : is_short ≡ has_rows_left machine.page.raster = short_is ∙ ap (λ (p : Page). has_rows_left p.raster) page_is in
+      let text : Bool → Bool → List ℕ = λ b rows. flat_map write (firsts told (notes_at_end past.is_open (not b) rows place)) in (
+        text closing'.closed is_short,
+        puts a kept kept' (text closing'.closed is_short) last.text_is,
+        subst (λ (rows : Bool). EndsWith rendering (λ reading. reading ≡ Whole [] place) (text closing'.closed rows) AllDone) (sym rows_are)
+            (subst (λ (b : Bool). EndsWith rendering (λ reading. reading ≡ Whole [] place) (text b (has_rows_left machine.page.raster)) AllDone) (sym closed_is)
+            (end_goes machine panel past closing.closed write told place (s panel) took.events (took.peaks panel) (took.is panel))),
       )
 
   pub tells_end_finding : (place : ℕ) (closing' : Closing) (told' : List Note) (finding : Finding)
@@ -342,18 +341,20 @@ module _ (printer : Printer) (defaults : Settings) where
   ended_are x macros s f g e (Done t) = ap (λ l. carried_notes printer macros x s t ++ l) (e t)
   ended_are x macros s f g e (Halts finding) = refl
 
-  items_are : (before : List Placed) (items : List Placed) (macros : Store) (s : State) → rest_of_items printer defaults (past_of before) items macros s ≡ notes_of_items printer defaults before items macros s
-  items_are before [] macros s = refl
-  items_are before (x ∷ items) macros s =
-      let macros' : Store = macros_after s.settings.job.macro_id x.item macros in
-      λ i.
-      past_is before x i
-      ++ ended_are x macros s (rest_of_items printer defaults (past_of (x ∷ before)) items macros') (notes_of_items printer defaults (x ∷ before) items macros')
-      (λ t. items_are (x ∷ before) items macros' t) (job_item_run (with_macros printer defaults macros) x.item s).ending i
+  -- and then the same of what comes last
+  module _ (finally finally' : State → List Told) (same : (s : State) → finally s ≡ finally' s) where
+    items_are : (before : List Placed) (items : List Placed) (macros : Store) (s : State) → rest_of_items printer defaults finally (past_of before) items macros s ≡ notes_of_items printer defaults finally' before items macros s
+    items_are before [] macros s = same s
+    items_are before (x ∷ items) macros s =
+        let macros' : Store = macros_after s.settings.job.macro_id x.item macros in
+        λ i.
+        past_is before x i
+        ++ ended_are x macros s (rest_of_items printer defaults finally (past_of (x ∷ before)) items macros') (notes_of_items printer defaults finally' (x ∷ before) items macros')
+        (λ t. items_are (x ∷ before) items macros' t) (job_item_run (with_macros printer defaults macros) x.item s).ending i
 
-end_is : (reading : Reading) (run : JobRun) → rest_of_end no_past false reading run ≡ end_notes reading run
-end_is (Whole items place) run = refl
-end_is (Stopped items place cause) run = refl
+end_is : (reading : Reading) (run : JobRun) (s : State) → rest_of_end no_past false reading run s ≡ end_notes reading run s
+end_is (Whole items place) run s = refl
+end_is (Stopped items place cause) run s = refl
 
 -- a machine that has executed nothing tells the notes of the job
 pub notes_start : (write : Told → List ℕ) (printer : Printer) (panel : Panel) (machine : MachineState) (past : Past) (told : List Note) → IsNew printer (At panel) machine → past ≡ no_past → told ≡ [] → notes_from write machine panel past false told ≡ notes_rendering write printer panel
@@ -363,12 +364,14 @@ notes_start write printer panel machine past told new nothing none =
     let start : State = start_state printer.most_items settings in
     let state_is : state_at panel machine.page ≡ start = new.page panel ∙ ap (start_state printer.most_items) defaults_are in
     let run_is : (reading : Reading) → rest_run machine panel reading ≡ plain_run printer panel reading = λ reading. λ i. reading_run (new.printer_is i) (defaults_are i) reading (new.macros i) (state_is i) in
-    let of_items : (reading : Reading) → rest_of_items machine.printer (settings_at panel machine.defaults) past (items_of reading) machine.macros (state_at panel machine.page)
-    ≡ notes_of_items printer settings [] (items_of reading) (no_macros printer.memory) start
-    = λ reading. (λ i. rest_of_items (new.printer_is i) (defaults_are i) (nothing i) (items_of reading) (new.macros i) (state_is i)) ∙ items_are printer settings [] (items_of reading) (no_macros printer.memory) start in
-    let of_end : (reading : Reading) → rest_of_end past false reading (rest_run machine panel reading) ≡ end_notes reading (plain_run printer panel reading)
-    = λ reading. (λ i. rest_of_end (nothing i) false reading (run_is reading i)) ∙ end_is reading (plain_run printer panel reading) in
+    let of_items : (reading : Reading) → rest_of_items machine.printer (settings_at panel machine.defaults) (rest_of_end past false reading (rest_run machine panel reading)) past (items_of reading) machine.macros (state_at panel machine.page)
+    ≡ notes_of_items printer settings (end_notes reading (plain_run printer panel reading)) [] (items_of reading) (no_macros printer.memory) start
+    = λ reading.
+    let run : JobRun = plain_run printer panel reading in
+    (λ i. rest_of_items (new.printer_is i) (defaults_are i) (rest_of_end (nothing i) false reading (run_is reading i)) (nothing i) (items_of reading) (new.macros i) (state_is i))
+    ∙ items_are printer settings (rest_of_end no_past false reading run) (end_notes reading run) (end_is reading run) [] (items_of reading) (no_macros printer.memory) start in
     λ i. record {
-      text = λ reading. flat_map write (firsts (none i) (of_items reading i ++ of_end reading i ++ long_run (run_outcome (run_is reading i).items (reading_outcome reading))));
+      text = λ reading. flat_map write (firsts (none i) (of_items reading i ++ long_run (run_outcome (run_is reading i).items (reading_outcome reading))));
       outcome = λ reading. noted_outcome (run_outcome (run_is reading i).items (reading_outcome reading));
+      at_fault = nothing_at_fault;
     }

@@ -5,7 +5,7 @@ use Rattle.pcl_items.specs.declared.command.Command.TheVariants.{HorizontalUnits
 use Rattle.pcl_items.specs.Items.{Entry, Placed, Text, Parameterized, PjlLine}
 use Rattle.pcl_items.specs.Value.{Amount}
 use Rattle.page_env.specs.JobControl.{is_reset}
-use Rattle.page_env.specs.Numbers.{whole_of}
+use Rattle.page_env.specs.Numbers.{is_minus}
 use Rattle.notes.specs.declared.note.Note.TheVariants.{OpenStart, PjlAsText, FractionOfUnit, LaterLanguage}
 use Rattle.notes.specs.Note.{Told, told_if}
 
@@ -73,9 +73,9 @@ is_fraction (Parameterized HorizontalUnits n) = has_decimals n
 is_fraction (Parameterized VerticalUnits n) = has_decimals n
 is_fraction _ = false
 
--- a resolution of rasters that came with PCL 5e
+-- a resolution of rasters that came with PCL 5e: exactly 200 or 600, in ten-thousandths
 abbrev pub is_later_resolution : Amount → Bool
-is_later_resolution n = (whole_of n == 200) || (whole_of n == 600)
+is_later_resolution n = not (is_minus n.sign) && ((n.ten_thousandths == 2_000_000) || (n.ten_thousandths == 6_000_000))
 
 -- 108 LaterLanguage: `&u#D`, or `*t#R` of 200 or 600 pixels an inch
 abbrev pub is_later : Entry → Bool

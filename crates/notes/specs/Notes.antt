@@ -14,13 +14,13 @@ use Rattle.page_machine.specs.Job.{JobRun, events_of, with_macros, plain_run}
 use Rattle.verdict.specs.Limits.{is_many_items}
 use Rattle.preflight.specs.declared.outcome.Outcome.{Outcome}
 use Rattle.preflight.specs.declared.outcome.Outcome.TheVariants.{Done as AllDone, Fail}
-use Rattle.preflight.specs.Due.{Rendering}
+use Rattle.preflight.specs.Due.{Rendering, nothing_at_fault}
 use Rattle.preflight.specs.PageTexts.{pages_outcome}
 use Rattle.notes.specs.declared.note.TheConstants.{MOST_ITEMS}
-use Rattle.notes.specs.declared.note.Note.TheVariants.{OpenEnd, NoPage, LongRun}
+use Rattle.notes.specs.declared.note.Note.TheVariants.{OpenEnd, NoPage, ShortRaster, LongRun}
 use Rattle.notes.specs.Note.{Told, told_if, firsts}
 use Rattle.notes.specs.ItemNotes.{item_notes, is_open_end}
-use Rattle.notes.specs.StateNotes.{state_notes}
+use Rattle.notes.specs.StateNotes.{has_rows_left, state_notes}
 
 -- ---- the items of a job
 
@@ -33,13 +33,13 @@ abbrev pub ended_notes : Printer → Store → Placed → State → Ending → (
 ended_notes printer macros x s (Done t) next = carried_notes printer macros x s t ++ next t
 ended_notes printer macros x s (Halts finding) next = []
 
--- of items behind these, the nearest first, from these macros and this state
-abbrev pub notes_of_items : Printer → Settings → (before : List Placed) → List Placed → Store → State → List Told
-notes_of_items printer defaults before [] macros s = []
-notes_of_items printer defaults before (x ∷ items) macros s =
+-- of items behind these, the nearest first, from these macros and this state; and then what comes last, of the state behind them
+abbrev pub notes_of_items : Printer → Settings → (finally : State → List Told) → (before : List Placed) → List Placed → Store → State → List Told
+notes_of_items printer defaults finally before [] macros s = finally s
+notes_of_items printer defaults finally before (x ∷ items) macros s =
     item_notes before x
     ++ ended_notes printer macros x s (job_item_run (with_macros printer defaults macros) x.item s).ending
-    (notes_of_items printer defaults (x ∷ before) items (macros_after s.settings.job.macro_id x.item macros))
+    (notes_of_items printer defaults finally (x ∷ before) items (macros_after s.settings.job.macro_id x.item macros))
 
 -- ---- its end
 
@@ -59,13 +59,14 @@ is_done (Done s) = true
 is_done (Halts finding) = false
 
 -- the notes of the end, at the number of bytes
-abbrev pub notes_at_end : Bool → Bool → ℕ → List Told
-notes_at_end is_open no_page place = told_if is_open place OpenEnd ++ told_if no_page place NoPage
+abbrev pub notes_at_end : (is_open no_page is_short : Bool) → ℕ → List Told
+notes_at_end is_open no_page is_short place = told_if is_open place OpenEnd ++ told_if no_page place NoPage ++ told_if is_short place ShortRaster
 
--- where the bytes are items to their end, and the run of them comes to its end
-abbrev pub end_notes : Reading → JobRun → List Told
-end_notes (Whole items place) run = cond (is_done run.ending) (notes_at_end (is_open_end items) (has_no_page run) place) []
-end_notes (Stopped items place cause) run = []
+-- where the bytes are items to their end, and the run of them comes to its end: 109 ShortRaster where in the state behind the items
+-- a raster has rows left
+abbrev pub end_notes : Reading → JobRun → State → List Told
+end_notes (Whole items place) run s = cond (is_done run.ending) (notes_at_end (is_open_end items) (has_no_page run) (has_rows_left s.raster) place) []
+end_notes (Stopped items place cause) run s = []
 
 -- ---- a run that is too long (the manual's "Macro Control Command")
 
@@ -89,8 +90,7 @@ noted_outcome (Fail place profile reason) = cond (is_many_items reason) AllDone 
 abbrev pub notes_of : Printer → Panel → Reading → List Told
 notes_of printer panel reading =
     let defaults : Settings = user_defaults unwatched panel in
-    notes_of_items printer defaults [] (items_of reading) (no_macros printer.memory) (start_state printer.most_items defaults)
-    ++ end_notes reading (plain_run printer panel reading)
+    notes_of_items printer defaults (end_notes reading (plain_run printer panel reading)) [] (items_of reading) (no_macros printer.memory) (start_state printer.most_items defaults)
     ++ long_run (pages_outcome printer panel reading)
 
 -- what is told so of the first of each
@@ -102,4 +102,8 @@ abbrev pub notes_outcome : Printer → Panel → Reading → Outcome
 notes_outcome printer panel reading = noted_outcome (pages_outcome printer panel reading)
 
 abbrev pub notes_rendering : (Told → List ℕ) → Printer → Panel → Rendering
-notes_rendering text printer panel = record { text = notes_text text printer panel; outcome = notes_outcome printer panel }
+notes_rendering text printer panel = record {
+  text = notes_text text printer panel;
+  outcome = notes_outcome printer panel;
+  at_fault = nothing_at_fault;
+}

@@ -8,7 +8,7 @@ ghost use Rattle.pcl_items.specs.Items.{amount, at, view};
 use crate::note::{Note, NoteText};
 use crate::past::{Past, Spelled, acts};
 use crate::telling::tell;
-use pcl_items::{Command, Item, Number, Place, SimpleItem};
+use pcl_items::{Command, Item, Number, Place, Sign, SimpleItem};
 use std::alloc::{AllocError, Allocator};
 
 /// Whether an item prints, moves or sets before the first reset.
@@ -52,8 +52,12 @@ fn is_fraction(item: &Item<'_>) -> bool
 fn is_later_resolution(n: Number) -> bool
     ensures { result ≡ is_later_resolution (amount n) }
 {
-    let resolution = n.ten_thousandths / 10_000;
-    resolution == 200 || resolution == 600
+    match n.sign {
+        Sign::Minus => false,
+        Sign::Absent | Sign::Plus => {
+            n.ten_thousandths == 2_000_000 || n.ten_thousandths == 6_000_000
+        }
+    }
 }
 
 /// Whether an item came with PCL 5e.

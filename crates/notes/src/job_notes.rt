@@ -1,5 +1,5 @@
 //! The notes of a job on one printer, from one panel.
-ghost use Rattle.std.specs.Prelude.{◌≡◌, IfOk, IsFalse, OnOk, false};
+ghost use Rattle.std.specs.Prelude.{◌≡◌, IfOk, IsFalse, OnOk, false, refl};
 ghost use Rattle.device_profile.specs.Printer.{IsAllowed};
 ghost use Rattle.notes.specs.Carriers.Rest.{Tells, notes_from};
 ghost use Rattle.notes.specs.Notes.{long_run, noted_outcome, notes_at_end, notes_rendering};
@@ -9,7 +9,7 @@ use crate::closing::Closing;
 use crate::item_notes::tell_item;
 use crate::note::{Note, NoteText};
 use crate::past::Past;
-use crate::standing::{standing_at, tell_behind};
+use crate::standing::{has_rows_left, standing_at, tell_behind};
 use crate::telling::tell;
 use device_profile::{Panel, Profile};
 use page_env::Finding;
@@ -67,14 +67,16 @@ fn tell_end<N: NoteText, A: Allocator, B: Allocator>(
     text: &mut Vec<u8, A>,
     is_open: bool,
     has_no_page: bool,
+    is_short: bool,
     place: Place,
 ) -> Result<(), AllocError>
     ensures { OnOk result (Tells (N.note_text form.now) told.old.items
         told.new.items text.old.items text.new.items
-        (notes_at_end is_open has_no_page place)) }
+        (notes_at_end is_open has_no_page is_short place)) }
 {
     tell(form, told, text, is_open, place, Note::OpenEnd)?;
     tell(form, told, text, has_no_page, place, Note::NoPage)?;
+    tell(form, told, text, is_short, place, Note::ShortRaster)?;
     Ok(())
 }
 
@@ -124,6 +126,7 @@ impl<N: NoteText, P: Allocator, B: Allocator + Copy> Renderer for Notes<'_, N, P
         kept: &mut Vec<u8, A>,
         place: Place,
     ) -> Result<Outcome, Error> {
+        let is_short = has_rows_left(self.machine.page().raster);
         match self.machine.finish(place, &mut self.closing) {
             Ok(()) => {
                 let has_no_page = !self.closing.closed;
@@ -133,6 +136,7 @@ impl<N: NoteText, P: Allocator, B: Allocator + Copy> Renderer for Notes<'_, N, P
                     kept,
                     self.past.is_open,
                     has_no_page,
+                    is_short,
                     place,
                 )?;
                 Ok(Outcome::Done)
@@ -162,14 +166,16 @@ impl<N: NoteText, P: Allocator, B: Allocator + Copy> Renderer for Notes<'_, N, P
             finding: Reason::Fault(fault.cause),
         })
     }
+
+    ghost adds_at_fault = { λ _ place cause. refl };
 }
 
-/// Writes the notes of a job on a printer from a panel that its profile allows, each in this form, in
-/// the order of the items by which they hold. A note is told once, where it holds first.
+/// Writes the notes of a job on a printer from a panel that its profile allows, each in this form,
+/// in the order of the items by which they hold. A note is told once, where it holds first.
 ///
 /// The first finding ends it, or else a fault of the bytes; what was told before is then written.
-/// But where macros would carry out more items than the profile allows, that is a note, and the job
-/// is done: what follows is not looked at. `Profile::limit_items` sets this limit.
+/// But where macros would carry out more items than the profile allows, that is a note, and the
+/// job is done: what follows is not looked at. `Profile::limit_items` sets this limit.
 ///
 /// After an error a front of the text is written: `Memory` where the allocator refused a request,
 /// `Read` and `Write` where a read or a write failed, `Turns` after 2^40 reads without an end.
@@ -185,7 +191,8 @@ pub fn notes_of<N: NoteText, S: Source, W: Outlet, A: Allocator + Copy, P: Alloc
     requires writing { IsFalse (W.state writer.old).failed }
     requires allowed { IsAllowed profile.now panel.now }
     ensures { Renders (notes_rendering (N.note_text form.now) profile.now panel.now)
-        (S.state reader.old) (S.state reader.new) (W.state writer.old) (W.state writer.new) result }
+        (S.state reader.old) (S.state reader.new)
+        (W.state writer.old) (W.state writer.new) result }
 {
     let machine = Machine::new(alloc, profile, Start::At(*panel));
     let past = Past::none();

@@ -6,8 +6,8 @@ use line_words::push_number;
 use pcl_items::Place;
 use std::alloc::{AllocError, Allocator};
 
-/// So many items macros may carry out in a job before that is a note: a profile with this limit tells
-/// it.
+/// So many items macros may carry out in a job before that is a note: a profile with this limit
+/// tells it.
 pub const MOST_ITEMS: u64 = 1_000_000;
 
 /// What a job leaves to the printer, or to the jobs before and behind it.

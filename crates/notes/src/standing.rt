@@ -95,7 +95,8 @@ fn is_rounded_column<P: Allocator>(
     panel: &Panel,
     item: &Item<'_>,
 ) -> bool
-    ensures { result ≡ is_rounded_column profile.now (view item.now) (state_at panel.now page.now) }
+    ensures { result ≡
+        is_rounded_column profile.now (view item.now) (state_at panel.now page.now) }
 {
     if !uses_column(item) {
         return false;
@@ -117,7 +118,7 @@ fn has_rows(raster: StartedRaster) -> bool
 }
 
 /// Whether a raster is started that has rows left of its height.
-fn has_rows_left(raster: Option<StartedRaster>) -> bool
+pub(crate) fn has_rows_left(raster: Option<StartedRaster>) -> bool
     ensures { result ≡ has_rows_left raster }
 {
     match raster {
@@ -239,7 +240,8 @@ impl Standing {
     }
 }
 
-/// What is kept of the state before an item that is carried out: where a definition is open none is.
+/// What is kept of the state before an item that is carried out: where a definition is open none
+/// is.
 pub(crate) fn standing_at<P: Allocator, B: Allocator + Copy>(
     machine: &Machine<'_, P, B>,
     panel: &Panel,

@@ -6,9 +6,9 @@ use device_profile::{Profile, ProfileFault};
 use fakes::{CutSource, FailingOutlet, FailingSource};
 use notes::{MOST_ITEMS, NoteLine, notes_of};
 use page_env::Finding;
-use page_env::Finding::{DefinitionOpen, OffPage, StackEmpty};
+use page_env::Finding::{BadValue, DefinitionOpen, OffPage, StackEmpty};
 use pcl_items::Cause;
-use pcl_items::Cause::{EndInFrame, Pjl};
+use pcl_items::Cause::{EndInFrame, Pjl, Truncated};
 use preflight::{Outcome, Reason, Source, Watched};
 use printers::Printer::{A, B};
 use printers::{Printer, profile_of, text_of_one_page, with_line};
@@ -122,6 +122,21 @@ const ROWS: &[NotesRow] = &[
         Done,
     ),
     (A, b"\x1bE\x1b&a5L\x1b&l1OA\x1bE", b"", Done),
+    // By the value of the top and the left margin, and by whether the other two are set.
+    (B, b"\x1bE\x1b&l3E\x1b&l0OA\x1bE", b"", Done),
+    (B, b"\x1bE\x1b&a0L\x1b&l0OA\x1bE", b"", Done),
+    (
+        B,
+        b"\x1bE\x1b&l60F\x1b&l0OA\x1bE",
+        b"8 105 SameOrientation\n",
+        Done,
+    ),
+    (
+        B,
+        b"\x1bE\x1b&a79M\x1b&l0OA\x1bE",
+        b"8 105 SameOrientation\n",
+        Done,
+    ),
     // 106: a column is used, and is no whole number of units.
     (
         B,
@@ -205,7 +220,33 @@ const ROWS: &[NotesRow] = &[
         b"3 108 LaterLanguage\n",
         Done,
     ),
+    (
+        B,
+        b"\x1bE\x0c\x1b*t+200R\x1bE",
+        b"3 108 LaterLanguage\n",
+        Done,
+    ),
+    (
+        B,
+        b"\x1bE\x0c\x1b*t600.0R\x1bE",
+        b"3 108 LaterLanguage\n",
+        Done,
+    ),
     (B, b"\x1bE\x0c\x1b*t300R\x1bE", b"", Done),
+    (B, b"\x1bE\x0c\x1b*t-200R\x1bE", b"", Found(3, BadValue)),
+    // Also in a macro definition.
+    (
+        B,
+        b"\x1bE\x1b&f0X\x1b*t200R\x1b&f1X\x0c\x1bE",
+        b"7 108 LaterLanguage\n",
+        Done,
+    ),
+    (
+        B,
+        b"\x1bE\x1b&f0X\x1b*t-200R\x1b*t200.5R\x1b&f1X\x0c\x1bE",
+        b"",
+        Done,
+    ),
     // 109: a raster of two rows, of which one comes.
     (
         B,
@@ -236,6 +277,51 @@ const ROWS: &[NotesRow] = &[
         b"\x1bE\x1b*r0F\x1b*r2T\x1b*r1A\x1b*b1W\x80\x0c\x1bE",
         b"23 109 ShortRaster\n",
         Done,
+    ),
+    // A raster of three rows, which the end of the bytes ends, or an item before it.
+    (
+        B,
+        b"\x1bE\x1b*r0F\x1b*r3T\x1b*r1A\x1b*b1W\x80\x1b*b1W\x80",
+        b"29 102 OpenEnd\n29 109 ShortRaster\n",
+        Done,
+    ),
+    (
+        B,
+        b"\x1bE\x1b*r0F\x1b*r3T\x1b*r1A\x1b*b1W\x80\x1b*b1W\x80\x1b*b1W\x80",
+        b"35 102 OpenEnd\n",
+        Done,
+    ),
+    (
+        B,
+        b"\x1bE\x1b*r0F\x1b*r3T\x1b*r1A\x1b*b1W\x80\x1b*b1W\x80\x1b*rC",
+        b"29 109 ShortRaster\n33 102 OpenEnd\n",
+        Done,
+    ),
+    (
+        B,
+        b"\x1bE\x1b*r0F\x1b*r1A\x1b*b1W\x80\x1b*b1W\x80",
+        b"24 102 OpenEnd\n",
+        Done,
+    ),
+    // Behind 103, and once.
+    (
+        B,
+        b"\x1bE\x1b*r0F\x1b*r3T\x1b*r1A\x1b*b2Y",
+        b"22 102 OpenEnd\n22 103 NoPage\n22 109 ShortRaster\n",
+        Done,
+    ),
+    (
+        B,
+        b"\x1bE\x1b*r0F\x1b*r3T\x1b*r1A\x1b*b2Y\x1b*rC\x1b*r1A\x1b*b2Y",
+        b"22 109 ShortRaster\n36 102 OpenEnd\n36 103 NoPage\n",
+        Done,
+    ),
+    // Not where the bytes have a fault.
+    (
+        B,
+        b"\x1bE\x1b*r0F\x1b*r3T\x1b*r1A\x1b*b2Y\x1b*b1W",
+        b"",
+        Fault(22, Truncated),
     ),
     // 110: past the bottom margin of a page without a mark.
     (B, b"\x1bE\x1b*p2000Y\n\n\x0c\x1bE", b"", Done),
@@ -331,6 +417,16 @@ const LIMITED_ROWS: &[LimitedRow] = &[
     // One at the end of the bytes, of which nothing else is told then.
     (2, b"\x1bE\x1b&f0XAA\x1b&f1X\x1b&f4XB", b"20 102 OpenEnd\n"),
     (1, b"\x1bE\x1b&f0XAA\x1b&f1X\x1b&f4XB", b"20 112 LongRun\n"),
+    (
+        2,
+        b"\x1bE\x1b&f0XAA\x1b&f1X\x1b&f4X\x1b*r0F\x1b*r2T\x1b*r1A\x1b*b1W\x80",
+        b"40 102 OpenEnd\n40 109 ShortRaster\n",
+    ),
+    (
+        1,
+        b"\x1bE\x1b&f0XAA\x1b&f1X\x1b&f4X\x1b*r0F\x1b*r2T\x1b*r1A\x1b*b1W\x80",
+        b"40 112 LongRun\n",
+    ),
     // What stands before it is told; what follows is not looked at, a fault neither.
     (
         1,
@@ -344,7 +440,8 @@ const LIMITED_ROWS: &[LimitedRow] = &[
 /// A part of a job: bytes, and others behind them so many times.
 type Part = (&'static [u8], &'static [u8], usize);
 
-/// Macros that nest: the first returns 20 times, and each other one calls the one before it 20 times.
+/// Macros that nest: the first returns 20 times, and each other one calls the one before it 20
+/// times.
 const SEVEN_LEVELS: &[Part] = &[
     (b"\x1bE\x0c\x1b&f1y0X", b"\r", 20),
     (b"\x1b&f1X\x1b&f2y0X\x1b&f1Y", b"\x1b&f3X", 20),

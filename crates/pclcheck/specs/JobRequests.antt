@@ -1,12 +1,14 @@
 -- What the commands that write a text of a job come to. Nothing is known of files beforehand, so this is said for some reads of them.
-use Rattle.std.specs.Prelude.{◌||◌, [], ℕ, List}
+use Rattle.std.specs.Prelude.{◌≡◌, ◌||◌, [], ℕ, List}
 use Rattle.preflight.specs.Due.{Rendering, plain_rendering}
 use Rattle.streams.specs.Files.{no_outlet, no_source}
 use Rattle.streams.specs.Outlet.{OutletState}
 use Rattle.streams.specs.Source.{SourceState}
+use Rattle.job_picture.specs.declared.selection.Selection.{Selection}
 use Rattle.subcommands.specs.JobNotes.{LeavesNotes}
 use Rattle.subcommands.specs.JobTexts.{EndsBy, IsNamed, LeavesOut, LeavesPages, LeavesPinned, LeavesText, TellsOfPin}
-use Rattle.subcommands.specs.Status.{is_stop_of_read}
+use Rattle.picture_command.specs.Picture.{IsNamedBy, LeavesPicture}
+use Rattle.subcommands.specs.Status.{is_stop_of_read, is_stop_of_write}
 use Rattle.subcommands.specs.Texts.{text_named}
 use Rattle.subcommands.specs.declared.choices.Choice.{Choice}
 use Rattle.subcommands.specs.declared.status.Status.{Status}
@@ -27,6 +29,16 @@ pub record LeavesNotesFor (word : List ℕ) (status : Status) (out out' : Outlet
   pub job : SourceState
   pub texts : List (List ℕ)
   pub ends : EndsBy status (λ old new. LeavesNotes status (IsNamed (text_named word) [] texts) old new out out') no_source job (is_stop_of_read status) out'.failed
+
+-- pages of a job as pictures, from the panel that is chosen of the printer that this word names; the job is read twice
+pub record LeavesPictureFor (word : List ℕ) (choices : List Choice) (selection : Selection) (job : List ℕ) (status : Status) (out out' err err' : OutletState) : Type 0 where
+  pub first : SourceState
+  pub second : SourceState
+  pub texts : List (List ℕ)
+  pub left : LeavesPicture status (IsNamedBy [] texts (IsNamed (text_named word) [] texts)) choices selection job
+      (record { first = no_source; first' = first; second = no_source; second' = second; out = out; out' = out'; err = err; err' = err' })
+  pub write : out'.failed ≡ is_stop_of_write status
+  pub choice : TellsOfPin status (IsNamed (text_named word) [] texts) choices err err'
 
 -- a job in its canonical spelling, in a file
 pub record LeavesPlain (status : Status) (out out' : OutletState) : Type 0 where

@@ -1,7 +1,7 @@
 -- What the program leaves of what it is asked for. Nothing is known of its files beforehand, so this is said for some reads of them.
 use Rattle.std.specs.Prelude.{◌≡◌, List, [], ℕ, Option, map, option_map, IsFalse, IsTrue}
 use Rattle.command_line.specs.declared.words.Request.{Request}
-use Rattle.command_line.specs.declared.words.Request.TheVariants.{Check, CheckMany, List as ListOf, Pages, Notes, Plain, Pin, Explain, ProfileList, ProfileNew, ProfileLint, ProfileShow, ProfileSheet, ProfileFromPjl}
+use Rattle.command_line.specs.declared.words.Request.TheVariants.{Check, CheckMany, List as ListOf, Pages, Picture, Notes, Plain, Pin, Explain, ProfileList, ProfileNew, ProfileLint, ProfileShow, ProfileSheet, ProfileFromPjl}
 use Rattle.preflight.specs.Due.{list_rendering}
 use Rattle.streams.specs.Files.{no_source}
 use Rattle.streams.specs.Outlet.{OutletState}
@@ -16,7 +16,7 @@ use Rattle.subcommands.specs.Status.{is_stop_of_write}
 use Rattle.subcommands.specs.Texts.{text_named}
 use Rattle.subcommands.specs.declared.status.Status.{Status}
 use Rattle.pclcheck.specs.Checks.{LeavesChecks, asking}
-use Rattle.pclcheck.specs.JobRequests.{LeavesNotesFor, LeavesPagesFor, LeavesPin, LeavesPlain, LeavesRendered}
+use Rattle.pclcheck.specs.JobRequests.{LeavesNotesFor, LeavesPagesFor, LeavesPictureFor, LeavesPin, LeavesPlain, LeavesRendered}
 use Rattle.pclcheck.specs.ProfileRequests.{LeavesAnsweredFor, LeavesLintFor, LeavesSheetFor, LeavesShownFor}
 
 -- a check for the printers of these texts, so far as they are known: the line of a verdict that is right for all of them
@@ -41,6 +41,7 @@ Fulfils texts (Check job profiles) status out out' err err' = LeavesCheck (map (
 Fulfils texts (CheckMany words) status out out' err err' = LeavesChecks (asking texts words) status out out' err err'
 Fulfils texts (ListOf job) status out out' err err' = LeavesRendered list_rendering status out out' × (err' ≡ err)
 Fulfils texts (Pages job profile) status out out' err err' = LeavesPagesFor profile.now status out out' × (err' ≡ err)
+Fulfils texts (Picture job profile choices selection) status out out' err err' = LeavesPictureFor profile.now choices.items selection job.now status out out' err err'
 Fulfils texts (Notes job profile) status out out' err err' = LeavesNotesFor profile.now status out out' × (err' ≡ err)
 Fulfils texts (Plain job file) status out out' err err' = LeavesPlain status out out' × (err' ≡ err)
 Fulfils texts (Pin job profile choices file) status out out' err err' = LeavesPin profile.now choices.items status out out' err err'

@@ -1,8 +1,9 @@
 //! What the program does on texts of a job by request, on files.
 ghost use Rattle.std.specs.Prelude.{IsFalse};
-ghost use Rattle.pclcheck.specs.JobRequests.{LeavesNotesFor, LeavesPagesFor, LeavesPin, LeavesPlain, LeavesRendered};
+ghost use Rattle.pclcheck.specs.JobRequests.{LeavesNotesFor, LeavesPagesFor, LeavesPictureFor, LeavesPin, LeavesPlain, LeavesRendered};
 ghost use Rattle.preflight.specs.Due.{list_rendering};
 
+use picture_command::PictureAsked;
 use std::rt::Files;
 use streams::{FileOutlet, FileSource, Outlet};
 use subcommands::{FileTexts, PanelSetting, Status};
@@ -29,6 +30,33 @@ pub fn pages<R: Files + AllocGlobal, O: Outlet>(
     let mut job = FileSource::new(rt, job);
     let mut texts = FileTexts::new(rt);
     subcommands::pages::pages(rt.alloc(), &mut job, &mut texts, profile, stdout)
+}
+
+/// Draws pages of the job at a path, from a panel setting of a printer.
+pub fn picture<R: Files + AllocGlobal, O: Outlet, E: Outlet>(
+    rt: &R,
+    asked: &PictureAsked<'_>,
+    stdout: &mut O,
+    stderr: &mut E,
+) -> Status
+    requires stdout { IsFalse (O.state stdout.old).failed }
+    requires stderr { IsFalse (E.state stderr.old).failed }
+    ensures { LeavesPictureFor asked.now.setting.profile.now asked.now.setting.choices.now
+        asked.now.selection asked.now.job.now result
+        (O.state stdout.old) (O.state stdout.new) (E.state stderr.old) (E.state stderr.new) }
+{
+    let mut first = FileSource::new(rt, asked.job);
+    let mut second = FileSource::new(rt, asked.job);
+    let mut texts = FileTexts::new(rt);
+    picture_command::picture(
+        rt.alloc(),
+        &mut first,
+        &mut second,
+        &mut texts,
+        asked,
+        stdout,
+        stderr,
+    )
 }
 
 /// Writes what the job at a path leaves to the printer that a word names.

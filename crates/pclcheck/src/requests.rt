@@ -3,10 +3,11 @@ ghost use Rattle.std.specs.Prelude.{IsFalse, map};
 ghost use Rattle.command_line.specs.Words.{NamesSome};
 ghost use Rattle.pclcheck.specs.Requests.{Fulfils};
 
-use crate::job_texts::{list, notes, pages, pin, plain};
+use crate::job_texts::{list, notes, pages, picture, pin, plain};
 use crate::many::check_asked;
 use crate::profiles::{from_pjl, lint, sheet, show};
 use command_line::Request;
+use picture_command::PictureAsked;
 use profile_commands::list::profile_list;
 use profile_commands::new::profile_new;
 use std::io::Input;
@@ -39,6 +40,21 @@ pub fn fulfil<R: Files + Input + AllocGlobal, O: Outlet, E: Outlet>(
         Request::CheckMany(words) => check_asked(rt, words, stdout, stderr),
         Request::List { job } => list(rt, job, stdout),
         Request::Pages { job, profile } => pages(rt, job, profile, stdout),
+        Request::Picture {
+            job,
+            profile,
+            choices,
+            selection,
+        } => {
+            let choices = choices.as_slice();
+            let setting = PanelSetting { profile, choices };
+            let asked = PictureAsked {
+                job,
+                setting,
+                selection: *selection,
+            };
+            picture(rt, &asked, stdout, stderr)
+        }
         Request::Notes { job, profile } => notes(rt, job, profile, stdout),
         Request::Plain { job, out } => plain(rt, job, out, stdout),
         Request::Pin {

@@ -21,7 +21,7 @@ use Rattle.preflight.specs.declared.outcome.Outcome.{Outcome}
 use Rattle.preflight.specs.declared.outcome.Outcome.TheVariants.{Done as AllDone, Fail}
 use Rattle.verdict.specs.declared.reason.Reason.TheVariants.{Finding as FindingOfRun}
 use Rattle.preflight.specs.declared.pages.PageText.{PageText}
-use Rattle.preflight.specs.Due.{Rendering, pages_rendering}
+use Rattle.preflight.specs.Due.{Rendering, nothing_at_fault, pages_rendering}
 use Rattle.streams.specs.Outlet.{OutletState, AddsFront}
 use Rattle.preflight.specs.PageTexts.{event_line, events_text, page_after, run_outcome}
 use Rattle.preflight.specs.Texts.{reading_outcome}
@@ -152,7 +152,7 @@ module _ (machine : MachineState) (n : ℕ) where
             ∙ (outcome_done n x.place r (behind_item x rest) (reading_outcome (with_item x rest)) events peaks end run
             ∙ (ap (λ (j : JobRun). run_outcome j.items (reading_outcome (with_item x rest))) (rest_is rest)
             ∙ ap (run_outcome (rest_run machine' rest).items) (same_outcome x rest)));
-        fault = λ place cause. refl;
+        fault = λ rest place cause. refl;
       }
 
   -- it had a finding
@@ -297,4 +297,5 @@ pages_start printer panel machine new =
     λ i. record {
       text = λ reading. events_text 1 (events_of (run_is reading i).items);
       outcome = λ reading. run_outcome (run_is reading i).items (reading_outcome reading);
+      at_fault = nothing_at_fault;
     }

@@ -38,7 +38,7 @@ module _ (panel : Panel) (request : FontRequest) (due : Bool) (x : Placed) where
   pins_goes fine = record {
     due = λ rest. text_with rest ∙ ap (λ b. text_from b (items_of rest)) fine;
     outcome = λ rest. outcome_with rest ∙ ap (λ b. outcome_from b (items_of rest) (reading_outcome rest)) fine;
-    fault = λ place cause. refl;
+    fault = λ rest place cause. refl;
   }
 
   -- another one ends the rendering

@@ -150,7 +150,7 @@ last_told rendering reading old kept kept' text outcome e due comes = (text, Put
 
 -- an item of the list
 pub list_goes : (x : Placed) → RestGoesOn list_rendering list_rendering x (item_line x)
-list_goes x = record { due = by_rest; outcome = same_outcome x; fault = λ place cause. refl }
+list_goes x = record { due = by_rest; outcome = same_outcome x; fault = λ rest place cause. refl }
   where
     by_rest : (rest : Reading) → list_text (with_item x rest) ≡ item_line x ++ list_text rest
     by_rest (Whole items place) = refl
@@ -176,7 +176,7 @@ rendered_none first start lexer reads = record {
   puts = Puts-none start [];
   due = λ rest. ap first.text (behind_none rest);
   outcome = λ rest. ap first.outcome (behind_none rest);
-  fault = λ place cause. refl;
+  fault = λ rest place cause. refl;
 }
 
 module _ (first : Rendering) (start : OutletState) (bytes : List ℕ) (old : LexerState) (rendering : Rendering) (written : OutletState) (kept : List ℕ) (rendered : HasRendered first start bytes old rendering written kept) where
@@ -261,7 +261,10 @@ module _ (first : Rendering) (start : OutletState) (bytes : List ℕ) (old : Lex
                 ∙ (ap (λ t. rendered.text ++ t) (goes.due rest)
                 ∙ sym (append_assoc rendered.text text (rendering'.text rest))));
             outcome = λ rest. ap first.outcome (behind_more rendered.items x rest) ∙ (rendered.outcome (with_item x rest) ∙ goes.outcome rest);
-            fault = λ place cause. rendered.fault place cause ∙ goes.fault place cause;
+            fault = λ rest place cause.
+                ap (λ l. first.at_fault l place cause) (append_assoc rendered.items (x ∷ []) rest)
+                ∙ (rendered.fault (x ∷ rest) place cause
+                ∙ goes.fault rest place cause);
           }
 
       -- the item stands first behind those that were rendered

@@ -2,6 +2,7 @@
 use Rattle.std.proofs.Common.{◌≡◌, ℕ, false, List, [], ◌++◌, refl, ap, sym, ◌∙◌, subst, append-nil, Result, Ok, Err, IfErr, IfSome}
 use Rattle.std.specs.List.{concat}
 use Rattle.std.specs.Io.KnownBytes.{Consumes}
+use Rattle.pcl_items.specs.declared.fault.Cause.{Cause}
 use Rattle.pcl_items.specs.declared.item.Mode.{Mode}
 use Rattle.pcl_items.specs.LexerState.{LexerState}
 use Rattle.pcl_items.specs.Lexing.{Decides, Undecided}
@@ -45,8 +46,8 @@ module _ (first : Rendering) (start written : OutletState) (source source' : Sou
     front_told = front_by (rendered_front first start bytes lexer rendering written [] goes.rendered bytes ([], sym (append-nil bytes), λ e. refl))
 
     -- and all that the bytes decide
-    pub decided_told : WritesDecided first source source' start written
-    decided_told = record {
+    pub decided_told : ((place : ℕ) (cause : Cause) → rendering.text (Stopped [] place cause) ≡ rendering.at_fault [] place cause) → WritesDecided first source source' start written
+    decided_told adds = record {
       pieces = pieces;
       given_is = given_is;
       consumed = all_consumed;
@@ -59,7 +60,10 @@ module _ (first : Rendering) (start written : OutletState) (source source' : Sou
       due = λ place cause.
           ap (λ l. first.text (Stopped l place cause)) (sym (append-nil goes.rendered.items))
           ∙ (goes.rendered.due (Stopped [] place cause)
-          ∙ ap (λ t. goes.rendered.text ++ t) (sym (goes.rendered.fault place cause)));
+          ∙ ap (λ t. goes.rendered.text ++ t)
+          (adds place cause
+          ∙ (sym (goes.rendered.fault [] place cause)
+          ∙ ap (λ l. first.at_fault l place cause) (append-nil goes.rendered.items))));
     }
 
 -- what is said of an error is said of the result

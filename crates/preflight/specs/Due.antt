@@ -8,6 +8,7 @@ use Rattle.pcl_items.specs.Lexing.{Decides, Undecided}
 use Rattle.pcl_items.specs.Reading.{Reading, Stopped, IsReading, items_of}
 use Rattle.device_profile.specs.declared.panel.Panel.{Panel}
 use Rattle.device_profile.specs.Printer.{Printer}
+use Rattle.line_words.specs.ItemLines.{fault_line}
 use Rattle.preflight.specs.declared.error.Error.{Error}
 use Rattle.preflight.specs.declared.error.Error.TheVariants.{Read, Turns, NoProfile, Items}
 use Rattle.preflight.specs.declared.outcome.Outcome.{Outcome}
@@ -18,10 +19,12 @@ use Rattle.streams.specs.Pieces.{ByReads}
 use Rattle.streams.specs.Source.{SourceState}
 use Rattle.preflight.specs.Texts.{plain_text, list_text, reading_outcome}
 
--- what is due to be written of a job by its reading, and what comes of it
+-- what is due to be written of a job by its reading, and what comes of it; and what a fault at a place adds to the text, behind these
+-- items
 pub record Rendering : Type 0 where
   pub text : Reading → List ℕ
   pub outcome : Reading → Outcome
+  pub at_fault : List Placed → ℕ → Cause → List ℕ
 
 -- the text is what is due for the job's one reading, and the outcome is what comes of it
 abbrev pub IsDue : Rendering → List ℕ → List ℕ → Outcome → Type 0
@@ -56,7 +59,7 @@ pub record WritesDecided (rendering : Rendering) (source source' : SourceState)
   pub no_more : Undecided (concat pieces) items
   pub text : List ℕ
   pub adds : Adds outlet outlet' text
-  pub due : (place : ℕ) (cause : Cause) → rendering.text (Stopped items place cause) ≡ text ++ rendering.text (Stopped [] place cause)
+  pub due : (place : ℕ) (cause : Cause) → rendering.text (Stopped items place cause) ≡ text ++ rendering.at_fault items place cause
 
 -- What a call that writes a text of a job leaves, with this result. Of every job that may be by what
 -- the reads gave, the text was written that is due, and nothing else; after an error a front of what
@@ -74,15 +77,27 @@ pub record Renders (rendering : Rendering) (source source' : SourceState)
   pub never_no_profile : IfErr result (λ error. error ≢ NoProfile)
   pub never_items : IfErr result (λ error. error ≢ Items)
 
+-- a fault adds nothing
+abbrev pub nothing_at_fault : List Placed → ℕ → Cause → List ℕ
+nothing_at_fault items place cause = []
+
 -- each item by itself, and nothing for a fault
 abbrev pub item_by_item : (Placed → List ℕ) → Rendering
-item_by_item text_of = record { text = λ reading. flat_map text_of (items_of reading); outcome = reading_outcome }
+item_by_item text_of = record {
+  text = λ reading. flat_map text_of (items_of reading);
+  outcome = reading_outcome;
+  at_fault = nothing_at_fault;
+}
 
 abbrev pub plain_rendering : Rendering
-plain_rendering = record { text = plain_text; outcome = reading_outcome }
+plain_rendering = record { text = plain_text; outcome = reading_outcome; at_fault = nothing_at_fault }
 
 abbrev pub list_rendering : Rendering
-list_rendering = record { text = list_text; outcome = reading_outcome }
+list_rendering = record { text = list_text; outcome = reading_outcome; at_fault = λ items place cause. fault_line place cause }
 
 abbrev pub pages_rendering : Printer → Panel → Rendering
-pages_rendering printer panel = record { text = pages_text printer panel; outcome = pages_outcome printer panel }
+pages_rendering printer panel = record {
+  text = pages_text printer panel;
+  outcome = pages_outcome printer panel;
+  at_fault = nothing_at_fault;
+}

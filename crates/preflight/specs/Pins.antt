@@ -12,7 +12,7 @@ use Rattle.page_machine.specs.Pinning.{before, behind, is_due_behind}
 use Rattle.verdict.specs.declared.reason.Reason.TheVariants.{Unpinnable}
 use Rattle.preflight.specs.declared.outcome.Outcome.{Outcome}
 use Rattle.preflight.specs.declared.outcome.Outcome.TheVariants.{Fail}
-use Rattle.preflight.specs.Due.{Rendering}
+use Rattle.preflight.specs.Due.{Rendering, nothing_at_fault}
 use Rattle.preflight.specs.Texts.{reading_outcome}
 
 -- an item, with what belongs before and behind it, each in its canonical spelling
@@ -36,7 +36,11 @@ pinned_outcome reading = unpinnable_or (find (λ x. is_unpinnable x.item) (items
 
 -- a job that is pinned to a panel whose font has this request, where a prologue is due or not
 abbrev pub pins_from : Panel → FontRequest → Bool → Rendering
-pins_from panel request due = record { text = λ reading. pinned_text panel request due (items_of reading); outcome = pinned_outcome }
+pins_from panel request due = record {
+  text = λ reading. pinned_text panel request due (items_of reading);
+  outcome = pinned_outcome;
+  at_fault = nothing_at_fault;
+}
 
 -- a job that is pinned to a panel of a printer: at its start a prologue is due
 abbrev pub pinned_rendering : Printer → Panel → Rendering

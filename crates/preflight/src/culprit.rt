@@ -30,7 +30,7 @@ pub struct Judgement {
 
 impl Culprit {
     /// What is told of an item.
-    fn of(item: &Item<'_>) -> Culprit
+    pub fn of(item: &Item<'_>) -> Culprit
         ensures { IsCulprit result (view item.now) }
     {
         match item {

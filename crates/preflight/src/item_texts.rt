@@ -1,5 +1,5 @@
 //! Renders each item by itself.
-ghost use Rattle.std.specs.Prelude.{◌≡◌, ◌++◌, ℕ, List, OnOk};
+ghost use Rattle.std.specs.Prelude.{◌≡◌, ◌++◌, ℕ, List, OnOk, refl};
 ghost use Rattle.pcl_items.specs.Items.{Placed, at, view};
 ghost use Rattle.preflight.specs.Due.{item_by_item};
 
@@ -64,4 +64,6 @@ impl<T: ItemText> Renderer for ItemByItem<T> {
     ) -> Result<Outcome, Error> {
         Ok(Outcome::of_fault(fault))
     }
+
+    ghost adds_at_fault = { λ _ place cause. refl };
 }

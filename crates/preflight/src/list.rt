@@ -1,5 +1,5 @@
 //! The list of a job's items.
-ghost use Rattle.std.specs.Prelude.{IsFalse};
+ghost use Rattle.std.specs.Prelude.{IsFalse, refl};
 ghost use Rattle.preflight.specs.Due.{Renders, list_rendering};
 
 use crate::error::Error;
@@ -62,6 +62,8 @@ impl<B: Allocator> Renderer for Listing<B> {
         push_fault(kept, fault)?;
         Ok(Outcome::of_fault(fault))
     }
+
+    ghost adds_at_fault = { λ _ place cause. refl };
 }
 
 /// Writes a line for each item of a job, its place and its spelling, and for a fault of its bytes a

@@ -1,5 +1,5 @@
 //! The pages of a job on one printer, from one panel.
-ghost use Rattle.std.specs.Prelude.{◌≡◌, IsFalse, false};
+ghost use Rattle.std.specs.Prelude.{◌≡◌, IsFalse, false, refl};
 ghost use Rattle.device_profile.specs.Printer.{IsAllowed};
 ghost use Rattle.preflight.specs.Carriers.PageRendering.{pages_from, TakesLine, RefusesLine};
 ghost use Rattle.preflight.specs.Carriers.Rendering.{IsErrorOfRendering, PutsKept};
@@ -154,6 +154,8 @@ impl<P: Allocator, B: Allocator + Copy> Renderer for Pages<'_, P, B> {
     ) -> Result<Outcome, Error> {
         Ok(Outcome::of_fault(fault))
     }
+
+    ghost adds_at_fault = { λ _ place cause. refl };
 }
 
 /// Writes the pages of a job on a printer from a panel that its profile allows: a line for each

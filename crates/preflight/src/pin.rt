@@ -1,5 +1,5 @@
 //! Jobs that are pinned to one panel.
-ghost use Rattle.std.specs.Prelude.{◌≡◌, ◌+◌, ◌≤◌, ◌++◌, map, flat_map, IsFalse, IsTrue, OnOk};
+ghost use Rattle.std.specs.Prelude.{◌≡◌, ◌+◌, ◌≤◌, ◌++◌, map, flat_map, IsFalse, IsTrue, OnOk, refl};
 ghost use Rattle.device_profile.specs.Faces.{is_request};
 ghost use Rattle.device_profile.specs.Printer.{HasItsValues, IsAllowed};
 ghost use Rattle.page_env.specs.JobControl.{is_reset};
@@ -267,6 +267,8 @@ impl Renderer for Pinning {
     ) -> Result<Outcome, Error> {
         Ok(Outcome::of_fault(fault))
     }
+
+    ghost adds_at_fault = { λ _ place cause. refl };
 }
 
 /// Writes the items of a job, each in its canonical spelling, with commands that set all that a

@@ -1,5 +1,6 @@
 //! Renders the items of a job one after another, as they are read.
 ghost use Rattle.std.specs.Prelude.{◌≡◌, ◌+◌, ℕ, List, [], length, None, Ok, IfOk, IfErr, IsFalse, false};
+ghost use Rattle.pcl_items.specs.declared.fault.Cause.{Cause};
 ghost use Rattle.pcl_items.specs.declared.item.Mode.{Mode};
 ghost use Rattle.pcl_items.specs.declared.item.Mode.TheVariants.{Pcl};
 ghost use Rattle.pcl_items.specs.Items.{at, view};
@@ -74,6 +75,11 @@ pub trait Renderer {
             (W.state outlet.old) (W.state outlet.new) kept.old.items kept.new.items result }
         ensures status { (W.state outlet.new).failed ≡ is_err_of_write result }
         ensures err { IfErr result IsErrorOfRendering };
+
+    // A fault that stands first is all that is due, and so is what it adds.
+    ghost adds_at_fault: { (renderer : Self) (place : ℕ) (cause : Cause) →
+        (rendering renderer).text (Stopped [] place cause)
+        ≡ (rendering renderer).at_fault [] place cause };
 }
 
 /// Renders the items that the bytes fed so far decide, `total` in number. None: they decide no

@@ -1,13 +1,12 @@
 //! The subcommand `check`: its exit status, and what it writes.
-ghost use Rattle.std.specs.Prelude.{◌≡◌, ◌≢◌, [], false, IsFalse};
+ghost use Rattle.std.specs.Prelude.{◌≡◌, false, IsFalse};
 
 use device_profile::Sample;
-use fakes::FailingSource;
+use fakes::{FailingOutlet, FailingSource};
 use job_items::RECTANGLE;
 use kept_files::{KeptTexts, Named};
-use preflight::{Outlet, Source, Watched};
-use printers::{text_of_one_page, with_line};
-use std::alloc::Allocator;
+use preflight::{Outlet, Source};
+use std::alloc::Global;
 use std::process::Abort;
 use std::test::Fail;
 use subcommands::check::check;
@@ -26,12 +25,12 @@ const RANGE: &[u8] = b"pclprofile 1\n# none\ncopies 0\n";
 const MISSING: &[u8] = b"pclprofile 1\n";
 
 /// Texts of printers, and one for each cause that shows in few lines. No text is named `none`.
-fn texts<'a>(moved: &'a [u8], sizeless: &'a [u8]) -> [Named<'a>; 9] {
+fn texts() -> [Named<'static>; 9] {
     [
         ("a", Sample::A.text()),
         ("b", Sample::B.text()),
-        ("moved", moved),
-        ("sizeless", sizeless),
+        ("moved", MOVED),
+        ("sizeless", SIZELESS),
         ("version", VERSION),
         ("unknown", UNKNOWN),
         ("repeated", REPEATED),
@@ -40,8 +39,43 @@ fn texts<'a>(moved: &'a [u8], sizeless: &'a [u8]) -> [Named<'a>; 9] {
     ]
 }
 
-/// The page of the printer whose text is named `moved`.
-const MOVED: &[u8] = b"geometry 2 0 61200 79200 1860 0 57600 79200 1200 1200 60000 78000";
+/// A printer like sample B, with one page, which begins 1/120 inch further right.
+const MOVED: &[u8] = b"\
+pclprofile 1
+name B
+size 2
+orientation 0
+vmi 8
+font 1
+copies 1
+sides 0
+tray 1
+trays 1 2
+duplex 1
+depth 2
+memory 100
+geometry 2 0 61200 79200 1860 0 57600 79200 1200 1200 60000 78000
+face 1 10U 10 12 0 0 3 720 900 300 33-126
+";
+
+/// A printer like sample B, with a size of which it has no page.
+const SIZELESS: &[u8] = b"\
+pclprofile 1
+name B
+size 3
+orientation 0
+vmi 8
+font 1
+copies 1
+sides 0
+tray 1
+trays 1 2
+duplex 1
+depth 2
+memory 100
+geometry 2 0 61200 79200 1800 0 57600 79200 1200 1200 60000 78000
+face 1 10U 10 12 0 0 3 720 900 300 33-126
+";
 
 /// A job, and how many reads of a byte succeed.
 type Job = (&'static [u8], u64);
@@ -144,80 +178,61 @@ const CHECKED: &[Row] = &[
     ),
 ];
 
-/// Runs `check`, and tells how it ended. It alone meets the clauses of that call, so that the tests have no part of them to carry.
-fn status_of<H: Allocator + Copy, J: Source, O: Outlet, E: Outlet>(
-    heap: H,
+/// Runs `check`, and tells how it ended. It alone meets the clauses of that call.
+fn status_of<J: Source, O: Outlet>(
+    alloc: Global,
     job: &mut J,
     texts: &mut KeptTexts,
     words: &[&str],
     stdout: &mut O,
-    stderr: &mut E,
 ) -> Status
     requires job { IsFalse (J.state job.old).failed }
     requires texts { texts.old.has_failed ≡ false }
     requires stdout { IsFalse (O.state stdout.old).failed }
-    requires words { words.now ≢ [] }
 {
-    let status = check(heap, job, texts, words, stdout);
-    tell(status, stderr);
-    status
+    if words.is_empty() {
+        return Status::Usage;
+    }
+    check(alloc, job, texts, words, stdout)
 }
 
-/// Runs `check`, and compares what it did. A read of the job fails only where all texts were had and no line tells of a verdict.
+/// Runs `check`, and compares what it did. A read of the job fails only where all texts were had
+/// and no line tells of a verdict.
 fn assert_answer(
     rt: &(impl Abort + AllocGlobal),
     texts: &[Named],
     words: &[&str],
-    job: Job,
-    answer: Answer,
-)
-    requires { words.now ≢ [] }
-{
-    let (bytes, reads) = job;
-    let (code, line, asked) = answer;
+    (bytes, reads): Job,
+    (code, line, asked): Answer,
+) {
     let mut job = FailingSource::new(bytes, reads);
     let mut kept = KeptTexts::new(texts);
-    let mut stdout = Watched::new(Vec::new(rt.alloc()));
-    let mut stderr = Watched::new(Vec::new(rt.alloc()));
-    let status = status_of(
-        rt.alloc(),
-        &mut job,
-        &mut kept,
-        words,
-        &mut stdout,
-        &mut stderr,
-    );
-    let (output, error): (&[u8], &[u8]) = if code < 2 { (line, b"") } else { (b"", line) };
-    let written = (stdout.get_ref().as_slice(), stderr.get_ref().as_slice());
-    assert_eq!(rt;
-        (status.code(), written, kept.asked, job.has_failed()),
-        (code, (output, error), asked, code == 3 && !kept.has_failed),
-        "{words:?}"
-    );
+    let mut stdout = FailingOutlet::new(rt.alloc(), u64::MAX);
+    let mut stderr = FailingOutlet::new(rt.alloc(), u64::MAX);
+    let status = status_of(rt.alloc(), &mut job, &mut kept, words, &mut stdout);
+    tell(status, &mut stderr);
+    let (output, error) = (stdout.taken(), stderr.taken());
+    let is_told = if code < 2 {
+        output == line && error.is_empty()
+    } else {
+        output.is_empty() && error == line
+    };
+    let is_read = job.has_failed() == (code == 3 && !kept.has_failed) && kept.asked == asked;
+    assert!(rt; status.code() == code && is_told && is_read, "{words:?}");
 }
 
 /// Runs `check` with the words and the job of each row, and compares what it did.
-fn check_answers(rt: &(impl Abort + AllocGlobal), rows: &[Row]) -> Result<(), Fail> {
-    let moved = with_line(rt.alloc(), &text_of_one_page(rt.alloc())?, 15, MOVED)?;
-    let sizeless = with_line(rt.alloc(), Sample::B.text(), 3, b"size 3")?;
-    let texts = texts(&moved, &sizeless);
+fn check_answers(rt: &(impl Abort + AllocGlobal), rows: &[Row]) {
+    let texts = texts();
     for (words, job, answer) in rows {
-        if words.is_empty() {
-            return Err(Fail::new("no words"));
-        }
         assert_answer(rt, &texts, words, *job, *answer);
     }
-    Ok(())
 }
 
 #[test]
-fn profiles_are_judged_before_the_job(rt: HostRuntime) -> Result<(), Fail> {
-    check_answers(&rt, JUDGED)
-}
-
-#[test]
-fn jobs_are_checked_for_each_printer(rt: HostRuntime) -> Result<(), Fail> {
-    check_answers(&rt, CHECKED)
+fn profiles_are_judged_before_the_job_and_it_is_checked_for_each(rt: HostRuntime) {
+    check_answers(&rt, JUDGED);
+    check_answers(&rt, CHECKED);
 }
 
 #[test]

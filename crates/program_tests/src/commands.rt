@@ -4,9 +4,9 @@ ghost use Rattle.std.specs.Prelude.{◌≡◌, false, IsFalse};
 use device_profile::{Field, Sample};
 use fakes::{FailingOutlet, FailingSource};
 use kept_files::{File, KeptTexts, Named};
-use preflight::{Outlet, Source, Watched};
+use preflight::{Error, Outlet, Source, Watched};
 use refusing::Refusing;
-use std::alloc::Allocator;
+use std::alloc::{Allocator, Global};
 use std::process::Abort;
 use streams::{Create, FileOutlet, FileSource, Open};
 use subcommands::check::check;
@@ -18,7 +18,7 @@ use subcommands::plain::plain;
 use subcommands::{Choice, PanelSetting, Status, tell};
 
 /// A subcommand.
-#[derive(Clone, Copy, Debug)]
+#[derive(Clone, Copy)]
 enum Command {
     /// For two printers.
     Check,
@@ -74,7 +74,7 @@ fn status_of<H: Allocator + Copy, J: Open, W: Create, O: Outlet, E: Outlet>(
 }
 
 /// A file of a row.
-#[derive(Clone, Copy, Debug)]
+#[derive(Clone, Copy)]
 enum Device {
     /// One that cannot be opened, nor created.
     Missing,
@@ -97,6 +97,8 @@ type Answer = (u8, &'static [u8], &'static [u8], &'static [u8]);
 const READ: &[u8] = b"ERROR read\n";
 
 const WRITE: &[u8] = b"ERROR write\n";
+
+const MEMORY: &[u8] = b"ERROR memory\n";
 
 const GLYPH: &[u8] =
     b"glyph 65 10U 10 12 0 0 3 22860000000 9144000000 18288000000 12801600000 24384000000\n";
@@ -387,73 +389,74 @@ const PINS: &[(Run, Answer)] = &[
     ),
 ];
 
-/// Runs a subcommand, and compares what it did. The job has failed where its own device tells of it, and OUT where it cannot be written.
-fn assert_run(rt: &(impl Abort + AllocGlobal), run: Run, answer: Answer) {
+/// What came of a run.
+#[derive(Drop)]
+struct Ended {
+    code: u8,
+    stdout: FailingOutlet,
+    stderr: FailingOutlet,
+    out: File<FailingOutlet>,
+    /// The job and OUT could not be opened, read, created or written.
+    have_failed: (bool, bool),
+}
+
+impl Ended {
+    fn told(&self) -> (u8, &[u8], &[u8], &[u8]) {
+        let out = self.out.get_ref().taken();
+        (self.code, self.stdout.taken(), self.stderr.taken(), out)
+    }
+}
+
+/// Does a run with this memory, where so many writes of standard output succeed.
+fn run_of<H: Allocator + Copy>(alloc: Global, heap: H, run: Run, writes: u64) -> Ended {
     let (command, bytes, from, to) = run;
     let mut job = match from {
         Device::Missing => File::missing(FailingSource::new(bytes, 0)),
         Device::Works(reads) => File::new(FailingSource::new(bytes, reads)),
     };
     let mut out = match to {
-        Device::Missing => File::missing(FailingOutlet::new(rt.alloc(), 0)),
-        Device::Works(writes) => File::new(FailingOutlet::new(rt.alloc(), writes)),
+        Device::Missing => File::missing(FailingOutlet::new(alloc, 0)),
+        Device::Works(writes) => File::new(FailingOutlet::new(alloc, writes)),
     };
-    let mut stdout = Watched::new(Vec::new(rt.alloc()));
-    let mut stderr = Watched::new(Vec::new(rt.alloc()));
-    let status = status_of(
-        command,
-        rt.alloc(),
-        &mut job,
-        &mut out,
-        &mut stdout,
-        &mut stderr,
-    );
-    let (output, error) = (stdout.get_ref().as_slice(), stderr.get_ref().as_slice());
-    assert_eq!(rt;
-        (status.code(), output, error, out.get_ref().taken()),
-        answer,
-        "{run:?}"
-    );
-    let is_sound = matches!(from, Device::Works(u64::MAX));
-    let have_failed = (job.has_failed(), out.has_failed());
-    assert!(rt;
-        have_failed == (error == READ && !is_sound, error == WRITE),
-        "{run:?}"
-    );
+    let mut stdout = FailingOutlet::new(alloc, writes);
+    let mut stderr = FailingOutlet::new(alloc, u64::MAX);
+    let status = status_of(command, heap, &mut job, &mut out, &mut stdout, &mut stderr);
+    Ended {
+        code: status.code(),
+        stdout,
+        stderr,
+        have_failed: (job.has_failed(), out.has_failed()),
+        out,
+    }
 }
 
-#[test]
-fn lists_come_to_this(rt: HostRuntime) {
-    for (run, answer) in LISTS {
-        assert_run(&rt, *run, *answer);
+/// A text, for a message.
+fn shown(text: &[u8]) -> &str {
+    str::from_utf8(text).unwrap_or("not UTF-8")
+}
+
+/// Runs subcommands, and compares what they did. The job has failed where its own device tells of
+/// it, and OUT where it cannot be written.
+fn check_runs(rt: &(impl Abort + AllocGlobal), rows: &[(Run, Answer)]) {
+    for (run, answer) in rows {
+        let ended = run_of(rt.alloc(), rt.alloc(), *run, u64::MAX);
+        let is_sound = matches!(run.2, Device::Works(u64::MAX));
+        let have_failed = (answer.2 == READ && !is_sound, answer.2 == WRITE);
+        let told = ended.told();
+        assert!(rt;
+            told == *answer && ended.have_failed == have_failed,
+            "{}{}{}",
+            shown(told.1),
+            shown(told.2),
+            shown(told.3)
+        );
     }
 }
 
 #[test]
-fn pages_come_to_this(rt: HostRuntime) {
-    for (run, answer) in PAGES {
-        assert_run(&rt, *run, *answer);
-    }
-}
-
-#[test]
-fn notes_come_to_this(rt: HostRuntime) {
-    for (run, answer) in NOTES {
-        assert_run(&rt, *run, *answer);
-    }
-}
-
-#[test]
-fn plain_jobs_come_to_this(rt: HostRuntime) {
-    for (run, answer) in PLAINS {
-        assert_run(&rt, *run, *answer);
-    }
-}
-
-#[test]
-fn pinned_jobs_come_to_this(rt: HostRuntime) {
-    for (run, answer) in PINS {
-        assert_run(&rt, *run, *answer);
+fn commands_come_to_this(rt: HostRuntime) {
+    for rows in [LISTS, PAGES, NOTES, PLAINS, PINS] {
+        check_runs(&rt, rows);
     }
 }
 
@@ -487,29 +490,13 @@ const FAILING: &[(Command, &[u8], u64, &[u8])] = &[
     ),
 ];
 
-/// Whether a subcommand tells that it cannot write where so many writes to its standard output succeed, which has the front of
-/// this output then.
-fn tells_of_a_write(
-    rt: &impl AllocGlobal,
-    command: Command,
-    bytes: &[u8],
-    writes: u64,
-    output: &[u8],
-) -> bool {
-    let mut job = Watched::new(bytes);
-    let mut out = Watched::new(Vec::new(rt.alloc()));
-    let mut stdout = FailingOutlet::new(rt.alloc(), writes);
-    let mut stderr = Watched::new(Vec::new(rt.alloc()));
-    let status = status_of(
-        command,
-        rt.alloc(),
-        &mut job,
-        &mut out,
-        &mut stdout,
-        &mut stderr,
-    );
-    let has_told = status.code() == 3 && stderr.get_ref().as_slice() == WRITE;
-    has_told && output.starts_with(stdout.taken()) && stdout.taken().len() as u64 / 7 == writes
+/// Whether a subcommand tells that it cannot write where so many writes to its standard output
+/// succeed, which has the front of this output then.
+fn tells_of_a_write(alloc: Global, run: Run, writes: u64, output: &[u8]) -> bool {
+    let ended = run_of(alloc, alloc, run, writes);
+    let (code, taken, error, _) = ended.told();
+    let has_told = code == 3 && error == WRITE;
+    has_told && output.starts_with(taken) && taken.len() as u64 / 7 == writes
 }
 
 #[test]
@@ -517,8 +504,9 @@ fn each_write_of_standard_output_fails_in_turn(rt: HostRuntime) {
     for (command, bytes, enough, output) in FAILING {
         for writes in 0..*enough {
             assert!(rt;
-                tells_of_a_write(&rt, *command, bytes, writes, output),
-                "{command:?} at {writes}"
+                tells_of_a_write(rt.alloc(), (*command, bytes, SOUND, SOUND), writes, output),
+                "{} at {writes}",
+                shown(output)
             );
         }
     }
@@ -529,29 +517,32 @@ const COMMANDS: &[Command] = &[
     Command::Check,
     Command::List,
     Command::Pages("b"),
+    Command::Notes("b"),
     Command::Plain,
     Command::Pin("b", &[]),
 ];
 
-/// Whether a subcommand ended for want of memory, with its one line on standard error and no verdict on standard output.
-fn is_want_of_memory(status: Status, (output, error): (&[u8], &[u8])) -> bool {
-    status.code() == 3 && error == b"ERROR memory\n".as_slice() && !output.starts_with(b"FAIL")
-}
-
-/// How many requests for memory a subcommand makes, each of which was refused in turn.
+/// How many requests for memory a subcommand makes, each of which was refused in turn: it then ends
+/// with its one line on standard error and no verdict on standard output.
 fn requests_of(rt: &(impl Abort + AllocGlobal), command: Command) -> u64 {
     for requests in 0..1000 {
         let heap = Refusing::new(rt.alloc(), requests);
-        let mut job = Watched::new(b"A\x1b)".as_slice());
-        let mut out = Watched::new(Vec::new(rt.alloc()));
-        let mut stdout = Watched::new(Vec::new(rt.alloc()));
-        let mut stderr = Watched::new(Vec::new(rt.alloc()));
-        let status = status_of(command, &heap, &mut job, &mut out, &mut stdout, &mut stderr);
-        if status == Status::Fail {
+        let ended = run_of(
+            rt.alloc(),
+            &heap,
+            (command, b"A\x1b)", SOUND, SOUND),
+            u64::MAX,
+        );
+        let (code, output, error, _) = ended.told();
+        if code == 1 {
             return requests;
         }
-        let written = (stdout.get_ref().as_slice(), stderr.get_ref().as_slice());
-        assert!(rt; is_want_of_memory(status, written), "{command:?}");
+        let is_told = code == 3 && error == MEMORY;
+        assert!(rt;
+            is_told && !output.starts_with(b"FAIL"),
+            "{}",
+            shown(output)
+        );
     }
     assert!(rt; false, "more than 1000 requests");
     0
@@ -565,7 +556,8 @@ fn each_request_for_memory_is_refused_in_turn(rt: HostRuntime) {
     }
 }
 
-/// Files of this machine, one without bytes and none: from which to which, the exit status and what stands on standard error.
+/// Files of this machine, one without bytes and none: from which to which, the exit status and what stands on
+/// standard error.
 const FILES: &[(&str, &str, u8, &[u8])] = &[
     ("/dev/null", "/dev/null", 0, b""),
     ("/dev/null", "no such folder/out.pcl", 3, WRITE),
@@ -578,11 +570,11 @@ fn files_are_opened_and_created(rt: HostRuntime) {
     for (from, to, code, error) in FILES {
         let mut job = FileSource::new(&rt, from);
         let mut out = FileOutlet::new(&rt, to);
-        let mut stdout = Watched::new(Vec::new(rt.alloc()));
-        let mut stderr = Watched::new(Vec::new(rt.alloc()));
+        let mut stdout = FailingOutlet::new(rt.alloc(), u64::MAX);
+        let mut stderr = FailingOutlet::new(rt.alloc(), u64::MAX);
         let status = plain(rt.alloc(), &mut job, &mut out, &mut stdout);
         tell(status, &mut stderr);
-        let is_told = status.code() == *code && stderr.get_ref().as_slice() == *error;
+        let is_told = status.code() == *code && stderr.taken() == *error;
         assert!(rt; is_told, "{from} to {to}");
     }
 }
@@ -591,9 +583,7 @@ fn files_are_opened_and_created(rt: HostRuntime) {
 fn a_full_file_is_told(rt: HostRuntime) {
     let mut job = Watched::new(b"A".as_slice());
     let mut out = FileOutlet::new(&rt, "/dev/full");
-    let mut stdout = Watched::new(Vec::new(rt.alloc()));
-    let mut stderr = Watched::new(Vec::new(rt.alloc()));
+    let mut stdout = FailingOutlet::new(rt.alloc(), u64::MAX);
     let status = plain(rt.alloc(), &mut job, &mut out, &mut stdout);
-    tell(status, &mut stderr);
-    assert!(rt; status.code() == 3 && stderr.get_ref().as_slice() == WRITE);
+    assert!(rt; status == Status::Stopped(Error::Write) && stdout.taken().is_empty());
 }

@@ -30,36 +30,42 @@ const TEXTS: &[Named<'static>] = &[
     ("broken", b"@A\n\xff.profile\n"),
 ];
 
-/// The word of a text, and the words that it names.
-const NAMED: &[(&str, &[&str])] = &[
-    ("shop", &["@B", "front desk.profile", "/etc/a.profile"]),
+/// What came of a text: an exit status, what standard error is told, and the words that the text names.
+type Answer = (u8, &'static [u8], &'static [&'static str]);
+
+/// The word of a text, and what comes of it.
+const ROWS: &[(&str, Answer)] = &[
+    (
+        "shop",
+        (0, b"", &["@B", "front desk.profile", "/etc/a.profile"]),
+    ),
     (
         "in/the/shop",
-        &[
-            "in/the/front.profile",
-            "@A",
-            "in/the/../back.profile",
-            "in/the/./b.profile",
-            "/c.profile",
-        ],
+        (
+            0,
+            b"",
+            &[
+                "in/the/front.profile",
+                "@A",
+                "in/the/../back.profile",
+                "in/the/./b.profile",
+                "/c.profile",
+            ],
+        ),
     ),
-    ("/in/shop", &["/in/a.profile", "/in/b/c.profile"]),
-    ("./shop", &["./a.profile"]),
-    ("lines", &["@C", "b.profile # no comment"]),
-    ("same", &["@A", "@A", "a", "a"]),
-    ("letters", &["b\u{e4}ck.profile", "@no sample"]),
-];
-
-/// The word of a text that names no fleet, the exit status, and what standard error is told.
-const REFUSED: &[(&str, u8, &[u8])] = &[
-    ("empty", 2, b"ERROR fleet empty: names no printer\n"),
+    ("/in/shop", (0, b"", &["/in/a.profile", "/in/b/c.profile"])),
+    ("./shop", (0, b"", &["./a.profile"])),
+    ("lines", (0, b"", &["@C", "b.profile # no comment"])),
+    ("same", (0, b"", &["@A", "@A", "a", "a"])),
+    ("letters", (0, b"", &["b\u{e4}ck.profile", "@no sample"])),
+    // Those that name no fleet.
+    ("empty", (2, b"ERROR fleet empty: names no printer\n", &[])),
     (
         "in/no\nne",
-        2,
-        b"ERROR fleet in/no\\x0ane: names no printer\n",
+        (2, b"ERROR fleet in/no\\x0ane: names no printer\n", &[]),
     ),
-    ("broken", 2, b"ERROR fleet broken: not UTF-8 text\n"),
-    ("no ne", 2, b"ERROR read fleet no ne\n"),
+    ("broken", (2, b"ERROR fleet broken: not UTF-8 text\n", &[])),
+    ("no ne", (2, b"ERROR read fleet no ne\n", &[])),
 ];
 
 /// Reads a fleet, and tells how that ended. It alone meets the clauses of that call.
@@ -89,15 +95,28 @@ fn are_words<A: Allocator>(words: &[String<A>], wanted: &[&str]) -> bool {
             .all(|(word, wanted)| word.as_str() == *wanted)
 }
 
+/// Reads a fleet, and compares what standard error is told and, where it is not refused, the words.
+fn assert_fleet(rt: &(impl Abort + AllocGlobal), texts: &[Named], word: &str, answer: Answer) {
+    let (code, told, wanted) = answer;
+    let mut kept = KeptTexts::new(texts);
+    let mut words = Vec::new(rt.alloc());
+    let mut stderr = Watched::new(Vec::new(rt.alloc()));
+    let found = match status_of(rt.alloc(), &mut kept, word, &mut words, &mut stderr) {
+        Ok(()) => 0,
+        Err(status) => status.code(),
+    };
+    assert_eq!(rt;
+        (found, stderr.get_ref().as_slice()),
+        (code, told),
+        "{word}"
+    );
+    assert!(rt; code != 0 || are_words(words.as_slice(), wanted), "{word}");
+}
+
 #[test]
 fn lines_name_samples_and_paths(rt: HostRuntime) {
-    for (word, wanted) in NAMED {
-        let mut texts = KeptTexts::new(TEXTS);
-        let mut words = Vec::new(rt.alloc());
-        let mut stderr = Watched::new(Vec::new(rt.alloc()));
-        let result = status_of(rt.alloc(), &mut texts, word, &mut words, &mut stderr);
-        assert!(rt; result.is_ok() && stderr.get_ref().is_empty(), "{word}");
-        assert!(rt; are_words(words.as_slice(), wanted), "{word}");
+    for (word, answer) in ROWS {
+        assert_fleet(&rt, TEXTS, word, *answer);
     }
 }
 
@@ -114,26 +133,6 @@ fn a_fleet_stands_behind_another(rt: HostRuntime) {
     assert!(rt; are_words(words.as_slice(), &["./a.profile", "@A", "@A", "a", "a"]));
 }
 
-/// Reads the fleet of a text that is refused, and compares what standard error is told.
-fn assert_refusal(rt: &(impl Abort + AllocGlobal), texts: &[Named], word: &str, told: (u8, &[u8])) {
-    let mut kept = KeptTexts::new(texts);
-    let mut words = Vec::new(rt.alloc());
-    let mut stderr = Watched::new(Vec::new(rt.alloc()));
-    let result = status_of(rt.alloc(), &mut kept, word, &mut words, &mut stderr);
-    let code = match result {
-        Ok(()) => 0,
-        Err(status) => status.code(),
-    };
-    assert_eq!(rt; (code, stderr.get_ref().as_slice()), told, "{word}");
-}
-
-#[test]
-fn a_text_that_names_no_fleet_is_refused(rt: HostRuntime) {
-    for (word, code, told) in REFUSED {
-        assert_refusal(&rt, TEXTS, word, (*code, told));
-    }
-}
-
 #[test]
 fn a_fleet_has_65_536_bytes_at_most(rt: HostRuntime) -> Result<(), Fail> {
     let mut text = Vec::new(rt.alloc());
@@ -141,10 +140,10 @@ fn a_fleet_has_65_536_bytes_at_most(rt: HostRuntime) -> Result<(), Fail> {
     for _ in text.len()..65_536 {
         text.push(b'\n')?;
     }
-    assert_refusal(&rt, &[("text", &text)], "text", (0, b""));
+    assert_fleet(&rt, &[("text", &text)], "text", (0, b"", &["@B"]));
     text.push(b'\n')?;
-    let told = b"ERROR fleet text: more than 65536 bytes\n";
-    assert_refusal(&rt, &[("text", &text)], "text", (2, told));
+    let refused: Answer = (2, b"ERROR fleet text: more than 65536 bytes\n", &[]);
+    assert_fleet(&rt, &[("text", &text)], "text", refused);
     Ok(())
 }
 

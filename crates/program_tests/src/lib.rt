@@ -1,4 +1,4 @@
-//! The tests of the subcommands and of the command line.
+//! The tests of the subcommands that read one job, and of what they share.
 #![tactic(auto)]
 
 #[cfg(test)]
@@ -15,7 +15,3 @@ mod fleets;
 mod lines;
 #[cfg(test)]
 mod overwriting;
-#[cfg(test)]
-mod profile_words;
-#[cfg(test)]
-mod words;

@@ -7,7 +7,7 @@ use preflight::{Error, Outlet, Verdict, Watched};
 use std::alloc::{AllocError, Global};
 use std::process::Abort;
 use std::test::Fail;
-use subcommands::{Status, line_of, tell};
+use subcommands::{Input, Status, line_of, tell};
 use verdict::Reason;
 
 /// What is wrong, and the line of a Fail at byte 24 of printer 1.
@@ -161,6 +161,16 @@ const ENDS: &[(Status, u8, &[u8])] = &[
     (Status::Help, 0, b""),
     (Status::Fail, 1, b""),
     (Status::Usage, 2, b""),
+    (
+        Status::Overwrites(Input::Job),
+        2,
+        b"error: OUT is JOB itself, which would be lost\n",
+    ),
+    (
+        Status::Overwrites(Input::Profile),
+        2,
+        b"error: OUT is PROFILE itself, which would be lost\n",
+    ),
     (Status::Stopped(Error::Memory), 3, b"ERROR memory\n"),
     (Status::Stopped(Error::Read), 3, b"ERROR read\n"),
     (Status::Stopped(Error::Write), 3, b"ERROR write\n"),

@@ -14,47 +14,57 @@ use subcommands::{FileTexts, Input, PanelSetting, Status};
 
 const JOB: &[u8] = b"\x1bE\x1b&l02A";
 
-/// The folder of a test, with a job and a profile, and with a symbolic and a hard link to each.
+/// A folder with a job and a profile, and with a symbolic and a hard link to each.
 fn folder_of<R: Env + Files + AllocGlobal>(rt: &R, name: &str) -> Result<String, Fail> {
     let temporary = env::temp_dir(rt)?;
     let folder = format!(in rt.alloc(); "{}/pclcheck_{name}", temporary.as_str())?;
     fs::create_dir_all(rt, folder.as_str())?;
-    for (file, bytes) in [("job", JOB), ("profile", Sample::B.text())] {
-        let path = format!(in rt.alloc(); "{folder}/{file}")?;
-        let soft = format!(in rt.alloc(); "{folder}/soft_{file}")?;
-        let hard = format!(in rt.alloc(); "{folder}/hard_{file}")?;
-        fs::write(rt, path.as_str(), bytes)?;
-        symlink(rt, path.as_str(), soft.as_str())?;
-        fs::hard_link(rt, path.as_str(), hard.as_str())?;
-    }
+    write_linked(rt, folder.as_str(), "job", JOB)?;
+    write_linked(rt, folder.as_str(), "profile", Sample::B.text())?;
     Ok(folder)
 }
 
-/// How `plain` ends for the job of a folder and this OUT in it.
-fn plain_in<R: Files + AllocGlobal>(rt: &R, folder: &str, out: &str) -> Result<Status, Fail> {
-    let job = format!(in rt.alloc(); "{folder}/job")?;
-    let out = format!(in rt.alloc(); "{folder}/{out}")?;
-    let mut stdout = Watched::new(Vec::new(rt.alloc()));
-    let mut source = FileSource::new(rt, job.as_str());
-    let mut outlet = FileOutlet::new(rt, out.as_str());
-    Ok(plain(rt.alloc(), &mut source, &mut outlet, &mut stdout))
+/// Writes a file of a folder, with a symbolic and a hard link to it.
+fn write_linked<R: Files + AllocGlobal>(
+    rt: &R,
+    folder: &str,
+    file: &str,
+    bytes: &[u8],
+) -> Result<(), Fail> {
+    let path = path_in(rt, folder, file)?;
+    let soft = format!(in rt.alloc(); "{folder}/soft_{file}")?;
+    let hard = format!(in rt.alloc(); "{folder}/hard_{file}")?;
+    fs::write(rt, path.as_str(), bytes)?;
+    symlink(rt, path.as_str(), soft.as_str())?;
+    fs::hard_link(rt, path.as_str(), hard.as_str())?;
+    Ok(())
 }
 
-/// How `pin` ends for the job and the profile of a folder and this OUT in it.
-fn pin_in<R: Files + AllocGlobal>(rt: &R, folder: &str, out: &str) -> Result<Status, Fail> {
-    let job = format!(in rt.alloc(); "{folder}/job")?;
-    let profile = format!(in rt.alloc(); "{folder}/profile")?;
-    let out = format!(in rt.alloc(); "{folder}/{out}")?;
+/// The path of a file in a folder.
+fn path_in(rt: &impl AllocGlobal, folder: &str, file: &str) -> Result<String, Fail> {
+    Ok(format!(in rt.alloc(); "{folder}/{file}")?)
+}
+
+/// How `plain` ends for the job of a folder and this OUT.
+fn plain_to<R: Files + AllocGlobal>(rt: &R, job: &str, out: &str) -> Status {
+    let mut stdout = Watched::new(Vec::new(rt.alloc()));
+    let mut source = FileSource::new(rt, job);
+    let mut outlet = FileOutlet::new(rt, out);
+    plain(rt.alloc(), &mut source, &mut outlet, &mut stdout)
+}
+
+/// How `pin` ends for the job and the profile of a folder and this OUT.
+fn pin_to<R: Files + AllocGlobal>(rt: &R, job: &str, profile: &str, out: &str) -> Status {
     let mut stdout = Watched::new(Vec::new(rt.alloc()));
     let mut stderr = Watched::new(Vec::new(rt.alloc()));
-    let mut source = FileSource::new(rt, job.as_str());
+    let mut source = FileSource::new(rt, job);
     let mut texts = FileTexts::new(rt);
-    let mut outlet = FileOutlet::new(rt, out.as_str());
+    let mut outlet = FileOutlet::new(rt, out);
     let setting = PanelSetting {
-        profile: profile.as_str(),
+        profile,
         choices: &[],
     };
-    Ok(pin(
+    pin(
         rt.alloc(),
         &mut source,
         &mut texts,
@@ -62,7 +72,23 @@ fn pin_in<R: Files + AllocGlobal>(rt: &R, folder: &str, out: &str) -> Result<Sta
         &mut outlet,
         &mut stdout,
         &mut stderr,
-    ))
+    )
+}
+
+/// How a command ends for the files of a folder and this OUT in it.
+fn status_in<R: Files + AllocGlobal>(
+    rt: &R,
+    folder: &str,
+    command: Command,
+    out: &str,
+) -> Result<Status, Fail> {
+    let job = path_in(rt, folder, "job")?;
+    let profile = path_in(rt, folder, "profile")?;
+    let out = path_in(rt, folder, out)?;
+    Ok(match command {
+        Command::Plain => plain_to(rt, job.as_str(), out.as_str()),
+        Command::Pin => pin_to(rt, job.as_str(), profile.as_str(), out.as_str()),
+    })
 }
 
 /// Whether a file of a folder has these bytes.
@@ -72,40 +98,55 @@ fn has_bytes<R: Files + AllocGlobal>(
     file: &str,
     bytes: &[u8],
 ) -> Result<bool, Fail> {
-    let path = format!(in rt.alloc(); "{folder}/{file}")?;
+    let path = path_in(rt, folder, file)?;
     Ok(fs::read(rt, path.as_str())?.as_slice() == bytes)
 }
 
-#[test]
-fn plain_keeps_its_job(rt: HostRuntime) -> Result<(), Fail> {
-    let folder = folder_of(&rt, "plain")?;
-    for out in ["job", "./job", "soft_job", "hard_job"] {
-        let status = plain_in(&rt, folder.as_str(), out)?;
-        assert_eq!(rt; status, Status::Overwrites(Input::Job), "{out}");
-        assert!(rt; has_bytes(&rt, folder.as_str(), "job", JOB)?, "{out}");
-    }
-    let status = plain_in(&rt, folder.as_str(), "out")?;
-    assert!(rt;
-        status == Status::Pass && has_bytes(&rt, folder.as_str(), "out", b"\x1bE\x1b&l2A")?
-    );
-    fs::remove_dir_all(&rt, folder.as_str())?;
-    Ok(())
+/// A command that writes to OUT.
+#[derive(Clone, Copy)]
+enum Command {
+    Plain,
+    Pin,
 }
 
+/// A command, its OUT, and how it ends.
+const ROWS: &[(Command, &str, Status)] = &[
+    (Command::Plain, "job", Status::Overwrites(Input::Job)),
+    (Command::Plain, "./job", Status::Overwrites(Input::Job)),
+    (Command::Plain, "soft_job", Status::Overwrites(Input::Job)),
+    (Command::Plain, "hard_job", Status::Overwrites(Input::Job)),
+    (Command::Plain, "out", Status::Pass),
+    (Command::Pin, "./job", Status::Overwrites(Input::Job)),
+    (Command::Pin, "soft_job", Status::Overwrites(Input::Job)),
+    (Command::Pin, "hard_job", Status::Overwrites(Input::Job)),
+    (
+        Command::Pin,
+        "./profile",
+        Status::Overwrites(Input::Profile),
+    ),
+    (
+        Command::Pin,
+        "soft_profile",
+        Status::Overwrites(Input::Profile),
+    ),
+    (
+        Command::Pin,
+        "hard_profile",
+        Status::Overwrites(Input::Profile),
+    ),
+    (Command::Pin, "pinned", Status::Pass),
+];
+
 #[test]
-fn pin_keeps_its_job_and_its_profile(rt: HostRuntime) -> Result<(), Fail> {
-    let folder = folder_of(&rt, "pin")?;
-    for out in ["./job", "soft_job", "hard_job"] {
-        let status = pin_in(&rt, folder.as_str(), out)?;
-        assert_eq!(rt; status, Status::Overwrites(Input::Job), "{out}");
+fn what_is_read_is_kept(rt: HostRuntime) -> Result<(), Fail> {
+    let folder = folder_of(&rt, "overwriting")?;
+    for (command, out, wanted) in ROWS {
+        let status = status_in(&rt, folder.as_str(), *command, out)?;
+        assert_eq!(rt; status, *wanted, "{out}");
+        assert!(rt; has_bytes(&rt, folder.as_str(), "job", JOB)?, "{out}");
     }
-    for out in ["./profile", "soft_profile", "hard_profile"] {
-        let status = pin_in(&rt, folder.as_str(), out)?;
-        assert_eq!(rt; status, Status::Overwrites(Input::Profile), "{out}");
-    }
-    assert!(rt; has_bytes(&rt, folder.as_str(), "job", JOB)?);
     assert!(rt; has_bytes(&rt, folder.as_str(), "profile", Sample::B.text())?);
-    assert_eq!(rt; pin_in(&rt, folder.as_str(), "out")?, Status::Pass);
+    assert!(rt; has_bytes(&rt, folder.as_str(), "out", b"\x1bE\x1b&l2A")?);
     fs::remove_dir_all(&rt, folder.as_str())?;
     Ok(())
 }

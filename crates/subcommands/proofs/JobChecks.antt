@@ -339,31 +339,6 @@ pub where_err : (r : Result Ending Error) (P : Type 0) → P → IfErr r (λ err
 where_err (Ok ending) P p = tt
 where_err (Err error) P p = p
 
--- why no line could be written
-pub error_of_line : (error : Error) (text : Option (List ℕ) → List ℕ) (out out' : OutletState) → CutsTold error text out out' → IsErrorOfLine error
-error_of_line Memory text out out' cut = tt
-error_of_line Write text out out' cut = tt
-error_of_line Read text out out' cut = cut
-error_of_line Turns text out out' cut = cut
-error_of_line NoProfile text out out' cut = cut
-error_of_line Items text out out' cut = cut
-
-pub error_of_notes : (error : Error) (part : Groups) (telling : HowTold) (printer : Printer) (start : SourceState) (job : List ℕ) (old new : Work) → CutsNotes error part telling printer start job old new → IsErrorOfLine error
-error_of_notes Memory part telling printer start job old new cut = tt
-error_of_notes Write part telling printer start job old new cut = tt
-error_of_notes Read part telling printer start job old new cut = cut
-error_of_notes Turns part telling printer start job old new cut = cut
-error_of_notes NoProfile part telling printer start job old new cut = cut
-error_of_notes Items part telling printer start job old new cut = cut
-
--- a text that was written or cut, where this has what the system said
-pub told_as : {T : Type 0} (r : Result T Error) (text : Option (List ℕ) → List ℕ) (cause : Option (List ℕ)) (out out' : OutletState) → IfOk r (λ x. Adds out out' (text cause)) → IfOk r (λ x. AddsTold text out out')
-told_as (Ok x) text cause out out' adds = (cause, adds)
-told_as (Err error) text cause out out' adds = tt
-
-pub cut_writing : (error : Error) (text : Option (List ℕ) → List ℕ) (cause : Option (List ℕ)) (out out' : OutletState) → error ≡ Write → AddsFront out out' (text cause) → CutsTold error text out out'
-cut_writing error text cause out out' is front = subst (λ e. CutsTold e text out out') (sym is) (cause, front)
-
 -- ---- the printers of texts
 
 -- texts describe one fleet

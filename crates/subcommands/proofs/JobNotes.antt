@@ -1,5 +1,5 @@
 -- Lemmas on what is left of the notes of a job.
-use Rattle.std.proofs.Common.{false, ◌≡◌, ◌≢◌, inl, inr, ℕ, List, [], ◌∷◌, ◌++◌, Option, Result, Ok, Err, IfOk, IfErr, refl, sym, ◌∙◌, ap, subst}
+use Rattle.std.proofs.Common.{false, true≢false, ◌≡◌, ◌≢◌, inl, inr, ℕ, List, [], ◌∷◌, ◌++◌, Option, Result, Ok, Err, IfOk, IfErr, refl, sym, ◌∙◌, ap, subst}
 use Rattle.device_profile.specs.declared.panel.Panel.{Panel}
 use Rattle.device_profile.specs.Printer.{Printer, first_panel}
 use Rattle.preflight.specs.declared.error.Error.{Error}
@@ -15,8 +15,9 @@ use Rattle.notes.specs.Note.{note_line}
 use Rattle.notes.specs.Notes.{notes_rendering, with_most_items}
 use Rattle.subcommands.specs.declared.status.Status.{Status}
 use Rattle.subcommands.specs.declared.status.Status.TheVariants.{Pass, Fail, Help, Usage, Overwrites, NotAllowed, Told, Profile, Stopped}
-use Rattle.subcommands.specs.Fleet.{IsEndOfProfile}
-use Rattle.subcommands.specs.Status.{is_stop_of_read}
+use Rattle.subcommands.specs.Fleet.{IsEndOfProfile, RefusesRead}
+use Rattle.subcommands.specs.Status.{is_refusal, is_stop_of_read}
+use Rattle.subcommands.specs.JobTexts.{RefusesOne}
 use Rattle.subcommands.specs.JobNotes.{EndsNotes, LeavesNotes, kept_error, noted, outcome_line, status_of_text}
 use Rattle.subcommands.proofs.Leaves.{Stays-none}
 
@@ -97,6 +98,46 @@ told_no_read (Overwrites input) text old new ends = absurd ends
 told_no_read (NotAllowed choice) text old new ends = absurd ends
 told_no_read (Told trouble) text old new ends = absurd ends
 told_no_read (Profile number line cause) text old new ends = absurd ends
+
+-- and no profile was refused
+told_no_refusal : (status : Status) (text : List ℕ) (old new : OutletState) → EndsNotes status text old new → is_refusal status ≡ false
+told_no_refusal Pass text old new ends = refl
+told_no_refusal Fail text old new ends = refl
+told_no_refusal (Stopped error) text old new ends = refl
+told_no_refusal Help text old new ends = absurd ends
+told_no_refusal Usage text old new ends = absurd ends
+told_no_refusal (Overwrites input) text old new ends = absurd ends
+told_no_refusal (NotAllowed choice) text old new ends = absurd ends
+told_no_refusal (Told trouble) text old new ends = absurd ends
+told_no_refusal (Profile number line cause) text old new ends = absurd ends
+
+-- nor where work stopped
+pub never_refused : (work : Result Outcome Error) (status : Status) (kept : List ℕ) (old new : OutletState) (Same : Type 0) →
+    IfOk work (λ outcome. EndsNotes status (kept ++ outcome_line outcome) old new) → IfErr work (λ error. (status ≡ Stopped (kept_error error)) × Same) → is_refusal status ≡ false
+never_refused (Ok outcome) status kept old new Same ends stop = told_no_refusal status (kept ++ outcome_line outcome) old new ends
+never_refused (Err error) status kept old new Same ends stop = ap is_refusal stop.0
+
+pub refuses_none : (text : Option (List ℕ)) (status : Status) → is_refusal status ≡ false → RefusesOne text status
+refuses_none text (Profile number line cause) never = absurd (true≢false never)
+refuses_none text Pass never = tt
+refuses_none text Fail never = tt
+refuses_none text (Stopped error) never = tt
+refuses_none text Help never = tt
+refuses_none text Usage never = tt
+refuses_none text (Overwrites input) never = tt
+refuses_none text (NotAllowed choice) never = tt
+refuses_none text (Told trouble) never = tt
+
+pub refuses_no_read : (given given' : List (List ℕ)) (number : ℕ) (status : Status) → is_refusal status ≡ false → RefusesRead given given' number status
+refuses_no_read given given' number (Profile refused line cause) never = absurd (true≢false never)
+refuses_no_read given given' number Pass never = tt
+refuses_no_read given given' number Fail never = tt
+refuses_no_read given given' number (Stopped error) never = tt
+refuses_no_read given given' number Help never = tt
+refuses_no_read given given' number Usage never = tt
+refuses_no_read given given' number (Overwrites input) never = tt
+refuses_no_read given given' number (NotAllowed choice) never = tt
+refuses_no_read given given' number (Told trouble) never = tt
 
 pub told_no_turns : (status : Status) (text : List ℕ) (old new : OutletState) → EndsNotes status text old new → status ≢ Stopped Turns
 told_no_turns status text old new ends is = subst (λ s. EndsNotes s text old new) is ends

@@ -1,38 +1,74 @@
 -- Lemmas on the notes of a job, in a check of many jobs.
-use Rattle.std.proofs.Common.{◌≡◌, ℕ, List, [], ◌∷◌, ◌++◌, Option, Result, Ok, Err, IfOk, IfErr, sym, ◌∙◌, ap, subst}
+use Rattle.std.proofs.Common.{◌≡◌, ℕ, Bool, true, false, List, [], ◌∷◌, ◌++◌, Option, Result, Ok, Err, IfOk, IfErr, refl, sym, ◌∙◌, ap, subst, inl, inr, true≢false}
 use Rattle.device_profile.specs.declared.panel.Panel.{Panel}
 use Rattle.device_profile.specs.Printer.{Printer, first_panel}
 use Rattle.preflight.specs.declared.error.Error.{Error}
 use Rattle.preflight.specs.declared.error.Error.TheVariants.{Memory, Read, Write, Turns, NoProfile, Items}
 use Rattle.preflight.specs.declared.outcome.Outcome.{Outcome}
+use Rattle.preflight.specs.declared.outcome.Outcome.TheVariants.{Done as AllDone, Fail}
 use Rattle.preflight.specs.Due.{IsDue, Renders}
+use Rattle.preflight.specs.Errors.{is_err_of_read, is_read}
 use Rattle.streams.specs.Outlet.{OutletState, Adds}
 use Rattle.streams.specs.Pieces.{ByReads}
 use Rattle.streams.specs.Source.{SourceState}
+use Rattle.verdict.specs.declared.reason.Reason.{Reason}
 use Rattle.notes.specs.Note.{Told}
 use Rattle.notes.specs.Notes.{notes_rendering}
 use Rattle.subcommands.specs.Groups.{Groups}
 use Rattle.subcommands.specs.JobChecks.{AddsTold, CutsNotes, CutsTold, TellsNotes, Work}
-use Rattle.subcommands.specs.JobNoting.{AreRightNotes, Noted, ending_of_notes, notes_text}
+use Rattle.subcommands.specs.JobNotes.{kept_error}
+use Rattle.subcommands.specs.JobNoting.{AreRightNotes, Comes, IsErrorOfNotes, Noted, ending_of_notes, notes_text}
 use Rattle.subcommands.specs.NoteReports.{subject_of, told_note}
 use Rattle.subcommands.specs.Telling.{HowTold}
 use Rattle.subcommands.specs.declared.job_checks.Ending.{Ending}
 
+abbrev is_done : Outcome → Bool
+is_done AllDone = true
+is_done (Fail place profile reason) = false
+
 module _ (write : Told → List ℕ) (printer : Printer) (panel : Panel) (first : panel ≡ first_panel printer) (job job' : SourceState) (kept kept' : OutletState) where
-  -- the job was gone through
-  pub notes_had : (outcome : Outcome) (text : List ℕ) → Renders (notes_rendering write printer panel) job job' kept kept' (Ok outcome) → kept.taken ≡ [] → text ≡ kept'.taken → AreRightNotes write printer job job' (Ok text)
-  notes_had outcome text rendered empty is =
+  -- what came of the job that was gone through
+  comes : (outcome : Outcome) (text : List ℕ) → Renders (notes_rendering write printer panel) job job' kept kept' (Ok outcome) → kept.taken ≡ [] → text ≡ kept'.taken → Comes write printer job job' text outcome
+  comes outcome text rendered empty is =
       let due = rendered.written in
       let text_is : due.text ≡ text = sym (is ∙ (due.adds.taken ∙ ap (λ l. l ++ due.text) empty)) in
-      record {
-        text = (
-          outcome,
-          subst (λ (p : Panel). ByReads job job' (λ bytes. IsDue (notes_rendering write printer p) bytes text outcome)) first
-              (subst (λ (t : List ℕ). ByReads job job' (λ bytes. IsDue (notes_rendering write printer panel) bytes t outcome)) text_is due.due),
-        );
-        error = tt;
-        read = rendered.read;
-      }
+      subst (λ (p : Panel). ByReads job job' (λ bytes. IsDue (notes_rendering write printer p) bytes text outcome)) first
+      (subst (λ (t : List ℕ). ByReads job job' (λ bytes. IsDue (notes_rendering write printer panel) bytes t outcome)) text_is due.due)
+
+  -- to its end
+  pub notes_had : (text : List ℕ) → Renders (notes_rendering write printer panel) job job' kept kept' (Ok AllDone) → kept.taken ≡ [] → text ≡ kept'.taken → AreRightNotes write printer job job' (Ok text)
+  notes_had text rendered empty is = record {
+    text = comes AllDone text rendered empty is;
+    error = tt;
+    failed = λ failed. absurd (true≢false (sym failed ∙ rendered.read));
+    read = λ it. absurd (true≢false (sym (ap is_err_of_read it)));
+  }
+
+  -- to a failure
+  pub notes_lost : (place profile : ℕ) (reason : Reason) → Renders (notes_rendering write printer panel) job job' kept kept' (Ok (Fail place profile reason)) → kept.taken ≡ [] → AreRightNotes write printer job job' (Err Read)
+  notes_lost place profile reason rendered empty = record {
+    text = tt;
+    error = tt;
+    failed = λ failed. refl;
+    read = λ it. inr (kept'.taken, Fail place profile reason, λ is. true≢false (sym (ap is_done is)), comes (Fail place profile reason) kept'.taken rendered empty refl);
+  }
+
+  -- it was not gone through, for this error, and no read failed
+  stopped_by : (error : Error) → IsErrorOfNotes error → is_read error ≡ false → job'.failed ≡ false → AreRightNotes write printer job job' (Err error)
+  stopped_by error is other read = record {
+    text = tt;
+    error = is;
+    failed = λ failed. absurd (true≢false (sym failed ∙ read));
+    read = λ it. absurd (true≢false (sym (ap is_err_of_read it) ∙ other));
+  }
+
+  pub notes_stopped : (error : Error) → Renders (notes_rendering write printer panel) job job' kept kept' (Err error) → AreRightNotes write printer job job' (Err (kept_error error))
+  notes_stopped Memory rendered = stopped_by Memory tt refl rendered.read
+  notes_stopped Read rendered = record { text = tt; error = tt; failed = λ failed. refl; read = λ it. inl rendered.read }
+  notes_stopped Write rendered = stopped_by Memory tt refl rendered.read
+  notes_stopped Turns rendered = stopped_by Turns tt refl rendered.read
+  notes_stopped NoProfile rendered = absurd (rendered.never_no_profile refl)
+  notes_stopped Items rendered = absurd (rendered.never_items refl)
 
 -- ---- what was written of them
 

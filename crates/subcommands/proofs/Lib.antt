@@ -3,7 +3,7 @@ mod ChoiceLemmas
 mod Examples
 mod ExplainLemmas
 mod ExplainedReasons
-mod FleetLemmas
+pub mod FleetLemmas
 mod FrontLemmas
 mod JobChecks
 mod JobNotes
@@ -15,7 +15,7 @@ mod JsonObjectLemmas
 mod JsonTextLemmas
 mod Leaves
 mod Limiting
-mod TextLemmas
+pub mod TextLemmas
 mod Walks
 mod Within
 mod Writing

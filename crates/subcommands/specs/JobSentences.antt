@@ -53,7 +53,7 @@ error_phrase Read = codes "this job cannot be read"
 error_phrase Write = codes "nothing can be written"
 error_phrase Turns = codes "this job does not end"
 error_phrase NoProfile = codes "there is no printer"
-error_phrase Items = codes "macros carry out too many items"
+error_phrase Items = codes "macros pass the limit of --most-items"
 
 abbrev pub for_printer : List (List ℕ) → ℕ → List ℕ
 for_printer names number = if number == 0 then [] else codes " for " ++ get_or names (number - 1) []

@@ -78,10 +78,7 @@ fn is_choice<A: Allocator>(profile: &Profile<A>, choice: Choice) -> bool
 
 /// The first panel with each chosen value in its field, or the first choice that the panel may not
 /// have.
-pub(crate) fn chosen_panel<A: Allocator>(
-    profile: &Profile<A>,
-    choices: &[Choice],
-) -> Result<Panel, Choice>
+pub fn chosen_panel<A: Allocator>(profile: &Profile<A>, choices: &[Choice]) -> Result<Panel, Choice>
     ensures value { result ≡ chosen_panel profile.now choices.now }
     ensures allowed { IfOk result (IsAllowed profile.now) }
 {

@@ -386,8 +386,9 @@ pub const EXPLANATIONS: [&str; 45] = [
 ",
     "\
 105 SameOrientation
-  When:    ESC &l#O sets the orientation that is in force, and the VMI, the HMI
-           or a margin is not what the command returns it to.
+  When:    ESC &l#O sets the orientation that is in force, and the VMI, the top
+           margin or the left one is not what the command returns it to, or an
+           HMI, a bottom margin or a right one is set, whatever its value.
   Printer: Some pass over a value that is in force, and keep VMI, HMI and
            margins; others return them to their defaults.
   Change:  Send the orientation once, before the spacing and the margins, or

@@ -80,8 +80,9 @@ pub fn read_profile<T: ProfileTexts, A: Allocator + Copy>(
     }
 }
 
-/// How a text that gives no profile ends the program.
-fn refusal(number: u64, fault: ProfileFault) -> Status
+/// How a text that gives no profile ends the program, the one of this number among those that it
+/// reads.
+pub fn refusal(number: u64, fault: ProfileFault) -> Status
     ensures { result ≡ refusal_of number fault }
 {
     match fault {

@@ -61,7 +61,7 @@ fn end_notes<O: Outlet, A: Allocator + Copy>(
     stdout: &mut O,
 ) -> Status
     requires { IsFalse (O.state stdout.old).failed }
-    ensures ok { IfOk work (λ outcome. EndsNotes result (text.bytes.items ++ outcome_line outcome)
+    ensures ok { IfOk work (λ outcome. EndsNotes result (text.taken ++ outcome_line outcome)
         (O.state stdout.old) (O.state stdout.new)) }
     ensures err { IfErr work (λ error. (result ≡ Status.Stopped (kept_error error))
         × (stdout.new ≡ stdout.old)) }

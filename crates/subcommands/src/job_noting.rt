@@ -18,7 +18,7 @@ use crate::note_reports::NoteReport;
 use crate::telling::Telling;
 use device_profile::Profile;
 use notes::notes_of;
-use preflight::{Error, Judgement, Outlet, Source, Verdict, write_text};
+use preflight::{Error, Judgement, Outcome, Outlet, Source, Verdict, write_text};
 use std::alloc::Allocator;
 use std::io;
 
@@ -67,15 +67,16 @@ pub fn tell_notes<'n, J: Jobs<'n>, O: Outlet, A: Allocator + Copy>(
 {
     let mut job = jobs.job(name);
     let notes = read_notes(alloc, &mut job, name, group, printer, telling);
-    let error = job.error();
+    let error = cause_of(&notes, job.error());
     jobs.end(job);
     write_notes(alloc, notes, error, name, group, telling, stdout)
 }
 
-/// The notes of a job on a printer, the first of its group, up to a failure where it has one.
+/// The notes of a job that passes on a printer, the first of its group.
 ///
-/// An error is `Read` where a read failed, `Memory` where the allocator refused a request, or
-/// `Turns` after 2^40 reads without an end.
+/// An error is `Read` where a read failed, or where the job does not pass any more, since it was
+/// another at the first reading; `Memory` where the allocator refused a request, or `Turns` after
+/// 2^40 reads without an end.
 fn read_notes<'t, S: Source, A: Allocator + Copy>(
     alloc: A,
     job: &mut S,
@@ -99,8 +100,22 @@ fn read_notes<'t, S: Source, A: Allocator + Copy>(
     let panel = printer.first_panel();
     let mut text = KeptText::new(alloc);
     match notes_of(alloc, &report, job, printer, &panel, &mut text) {
-        Ok(_) => Ok(text.into_bytes()),
+        Ok(Outcome::Done) => Ok(text.into_bytes()),
+        Ok(Outcome::Fail { .. }) => Err(Error::Read),
         Err(error) => Err(kept_error(error)),
+    }
+}
+
+/// Why a read failed: what the system says, or that the job was another where it says nothing.
+fn cause_of<A: Allocator>(
+    notes: &Result<Vec<u8, A>, Error>,
+    error: Option<io::Error>,
+) -> Option<io::Error> {
+    match (notes, error) {
+        (Err(Error::Read), None) => Some(io::Error::other(
+            "it was another job when it was read again for its notes",
+        )),
+        (_, error) => error,
     }
 }
 

@@ -154,7 +154,7 @@ fn error_phrase(error: Error) -> &'static [u8]
         Error::Write => b"nothing can be written",
         Error::Turns => b"this job does not end",
         Error::NoProfile => b"there is no printer",
-        Error::Items => b"macros carry out too many items",
+        Error::Items => b"macros pass the limit of --most-items",
     }
 }
 

@@ -1,9 +1,10 @@
 //! A text that is kept in memory.
-ghost use Rattle.std.specs.Prelude.{◌≡◌, [], Some, false};
+ghost use Rattle.std.specs.Prelude.{◌≡◌, [], false};
 
 use preflight::Outlet;
 use std::alloc::Allocator;
 use std::io;
+use std::marker::Model;
 
 /// An outlet into memory, of which the text can be had.
 #[derive(Drop)]
@@ -12,13 +13,24 @@ pub struct KeptText<A: Allocator> {
     has_failed: bool,
 }
 
-impl<A: Allocator> KeptText<A> {
-    ghost use Rattle.std.specs.Prelude.{◌≡◌, [], false};
+impl<A: Allocator> Model for KeptText<A> {
+    ghost use Rattle.std.specs.Prelude.{Some};
+    ghost use Rattle.streams.specs.Outlet.{OutletState};
 
+    ghost Value = { OutletState };
+
+    ghost view = { λ text. record {
+      taken = text.bytes.items;
+      contents = Some text.bytes.items;
+      failed = text.has_failed;
+    } };
+}
+
+impl<A: Allocator> KeptText<A> {
     /// Nothing is kept yet.
-    pub(crate) fn new(alloc: A) -> KeptText<A>
-        ensures bytes { result.bytes.items ≡ [] }
-        ensures working { result.has_failed ≡ false }
+    pub fn new(alloc: A) -> KeptText<A>
+        ensures bytes { result.taken ≡ [] }
+        ensures working { result.failed ≡ false }
     {
         KeptText {
             bytes: Vec::new(alloc),
@@ -27,19 +39,15 @@ impl<A: Allocator> KeptText<A> {
     }
 
     /// The text.
-    pub(crate) fn into_bytes(self) -> Vec<u8, A>
-        ensures { result.items ≡ self.bytes.items }
+    pub fn into_bytes(self) -> Vec<u8, A>
+        ensures { result.items ≡ self.taken }
     {
         self.bytes
     }
 }
 
 impl<A: Allocator> Outlet for KeptText<A> {
-    ghost state = { λ text. record {
-      taken = text.bytes.items;
-      contents = Some text.bytes.items;
-      failed = text.has_failed;
-    } };
+    ghost state = { λ text. text };
 
     fn write(&mut self, piece: &[u8]) -> io::Result<usize> {
         let result = self.bytes.extend_from_slice(piece);

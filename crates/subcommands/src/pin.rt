@@ -74,7 +74,7 @@ pub fn pin<S: Open, T: ProfileTexts, W: Create, O: Outlet, E: Outlet, A: Allocat
 }
 
 /// Tells which choice the panel may not have, and which values its field has.
-fn refuse_choice<E: Outlet, A: Allocator, P: Allocator>(
+pub fn refuse_choice<E: Outlet, A: Allocator, P: Allocator>(
     alloc: A,
     profile: &Profile<P>,
     choice: Choice,

@@ -11,7 +11,7 @@ use Rattle.page_machine.specs.Defining.{job_item_run, macros_after}
 use Rattle.page_machine.specs.Job.{JobRun, events_of, reading_run, with_macros}
 use Rattle.page_machine.specs.MachineState.{MachineState}
 use Rattle.preflight.specs.declared.outcome.Outcome.{Outcome}
-use Rattle.preflight.specs.Due.{Rendering}
+use Rattle.preflight.specs.Due.{Rendering, nothing_at_fault}
 use Rattle.preflight.specs.PageTexts.{run_outcome}
 use Rattle.preflight.specs.Texts.{reading_outcome}
 use Rattle.notes.specs.declared.closing.Closing.{Closing}
@@ -19,6 +19,7 @@ use Rattle.notes.specs.declared.note.Note.{Note}
 use Rattle.notes.specs.declared.past.Past.{Past}
 use Rattle.notes.specs.Note.{Told, firsts, among_behind}
 use Rattle.notes.specs.Notes.{ended_notes, closes_page, is_done, notes_at_end, long_run, noted_outcome}
+use Rattle.notes.specs.StateNotes.{has_rows_left}
 use Rattle.notes.specs.Carriers.Past.{past_behind, past_notes, ends_open}
 
 -- ---- notes that are told
@@ -40,19 +41,19 @@ closing_behind (Ended page) closing = record { closed = true }
 
 -- ---- the rest of a job
 
--- of items, by what was kept of those before them
-abbrev pub rest_of_items : Printer → Settings → Past → List Placed → Store → State → List Told
-rest_of_items printer defaults past [] macros s = []
-rest_of_items printer defaults past (x ∷ items) macros s =
+-- of items, by what was kept of those before them, and then of what comes last
+abbrev pub rest_of_items : Printer → Settings → (finally : State → List Told) → Past → List Placed → Store → State → List Told
+rest_of_items printer defaults finally past [] macros s = finally s
+rest_of_items printer defaults finally past (x ∷ items) macros s =
     past_notes past x
     ++ ended_notes printer macros x s (job_item_run (with_macros printer defaults macros) x.item s).ending
-    (rest_of_items printer defaults (past_behind past x.item) items (macros_after s.settings.job.macro_id x.item macros))
+    (rest_of_items printer defaults finally (past_behind past x.item) items (macros_after s.settings.job.macro_id x.item macros))
 
--- of the end, by whether a page was closed before
-abbrev pub rest_of_end : Past → Bool → Reading → JobRun → List Told
-rest_of_end past closed (Whole items place) run =
-    cond (is_done run.ending) (notes_at_end (ends_open past items) (not (closed || closes_page (events_of run.items))) place) []
-rest_of_end past closed (Stopped items place cause) run = []
+-- of the end, by whether a page was closed before, and by the state behind the items
+abbrev pub rest_of_end : Past → (closed : Bool) → Reading → JobRun → State → List Told
+rest_of_end past closed (Whole items place) run s =
+    cond (is_done run.ending) (notes_at_end (ends_open past items) (not (closed || closes_page (events_of run.items))) (has_rows_left s.raster) place) []
+rest_of_end past closed (Stopped items place cause) run s = []
 
 -- the run of the rest from where the machine stands under this panel
 abbrev pub rest_run : MachineState → Panel → Reading → JobRun
@@ -65,8 +66,7 @@ rest_outcome machine panel reading = run_outcome (rest_run machine panel reading
 
 abbrev pub rest_notes : MachineState → Panel → Past → Bool → Reading → List Told
 rest_notes machine panel past closed reading =
-    rest_of_items machine.printer (settings_at panel machine.defaults) past (items_of reading) machine.macros (state_at panel machine.page)
-    ++ rest_of_end past closed reading (rest_run machine panel reading)
+    rest_of_items machine.printer (settings_at panel machine.defaults) (rest_of_end past closed reading (rest_run machine panel reading)) past (items_of reading) machine.macros (state_at panel machine.page)
     ++ long_run (rest_outcome machine panel reading)
 
 -- what is due of it, where notes are told so, and these were told
@@ -74,4 +74,5 @@ abbrev pub notes_from : (Told → List ℕ) → MachineState → Panel → Past 
 notes_from write machine panel past closed told = record {
   text = λ reading. flat_map write (firsts told (rest_notes machine panel past closed reading));
   outcome = λ reading. noted_outcome (rest_outcome machine panel reading);
+  at_fault = nothing_at_fault;
 }

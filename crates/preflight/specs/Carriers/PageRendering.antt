@@ -7,7 +7,7 @@ use Rattle.page_machine.specs.Event.{Event}
 use Rattle.page_machine.specs.Job.{JobRun, events_of, reading_run}
 use Rattle.page_machine.specs.MachineState.{MachineState}
 use Rattle.preflight.specs.declared.pages.PageText.{PageText}
-use Rattle.preflight.specs.Due.{Rendering}
+use Rattle.preflight.specs.Due.{Rendering, nothing_at_fault}
 use Rattle.streams.specs.Outlet.{OutletState, AddsFront}
 use Rattle.preflight.specs.PageTexts.{event_line, events_text, page_after, run_outcome}
 use Rattle.preflight.specs.Texts.{reading_outcome}
@@ -47,4 +47,5 @@ abbrev pub pages_from : MachineState → ℕ → Rendering
 pages_from machine page = record {
   text = λ reading. events_text page (events_of (rest_run machine reading).items);
   outcome = λ reading. run_outcome (rest_run machine reading).items (reading_outcome reading);
+  at_fault = nothing_at_fault;
 }

@@ -42,7 +42,7 @@ returns g c =
     let decided : IfErr result Decided = stop_gives result stopped
     (λ error is.
     by_whose (Open is.bytes) (λ e. CutOff is.bytes e × (e ≡ Read → ⊥)) Decided error (own_read (Open is.bytes) (CutOff is.bytes) error is.came)
-    (λ h _. decided_told rendering outlet outlet' source source' is.pieces is.bytes is.given_is is.joined is.consumed _ _ _ _ _ _ h)
+    (λ h _. decided_told rendering outlet outlet' source source' is.pieces is.bytes is.given_is is.joined is.consumed _ _ _ _ _ _ h (g.met.R.Renderer.adds_at_fault new.consumer.renderer.now))
     (λ h turns. let both : Turns ≡ Read = turns in absurd cc)
     (λ e h read. absurd (h.1 read))) in
     record {

@@ -10,8 +10,8 @@ use Rattle.notes.proofs.job_notes.NotesRenderer.end.Goals as goal
 pub returns-in_ok-tell_end-in-Ok-clause-rendered : goal.returns-in_ok-tell_end-in-Ok-clause-rendered
 returns-in_ok-tell_end-in-Ok-clause-rendered g c =
     let notes = c.args.self.now in
-    tells_end (g.N.NoteText.note_text notes.form.now) notes.machine notes.panel notes.past notes.closing notes.told.items (g.W.Outlet.state c.args._outlet.now) c.args.kept.now.items c.tell_end.new.text.items c.args.place c.finish.new.sink c.tell_end.new.told.items
-    (λ panel. state_at panel c.finish.new.self.page) c.in-Ok.ensures.2 c.in_ok-tell_end-in-Ok.ensures
+    tells_end (g.N.NoteText.note_text notes.form.now) notes.machine notes.panel notes.past notes.closing notes.told.items (g.W.Outlet.state c.args._outlet.now) c.args.kept.now.items c.tell_end.new.text.items c.args.place c.page.result.now c.has_rows_left-is_short.result c.finish.new.sink c.tell_end.new.told.items
+    (λ panel. state_at panel c.finish.new.self.page) c.page.ensures c.has_rows_left-is_short.ensures c.in-Ok.ensures.2 c.in_ok-tell_end-in-Ok.ensures
 
 pub returns-in_ok-end_at-in-Err-Found-clause-rendered : goal.returns-in_ok-end_at-in-Err-Found-clause-rendered
 returns-in_ok-end_at-in-Err-Found-clause-rendered g c =

@@ -17,4 +17,4 @@ pub returns-in_err-write_enough-clause-rendered : goal.returns-in_err-write_enou
 returns-in_err-write_enough-clause-rendered g c =
     let x = at c.args.place (view c.args.item.now) in
     item_cut (item_by_item g.T.ItemText.text) (item_by_item g.T.ItemText.text) x (g.W.Outlet.state c.args.outlet.now) (g.W.Outlet.state c.write_enough.new.outlet) c.args.kept.now.items c.push.new.kept.items c.write_enough.new.kept.items (g.T.ItemText.text x)
-    c.from_residual-in_err-write_enough.result c.from_residual-in_err-write_enough.ensures.0 (record { due = by_rest g.T.ItemText.text x; outcome = same_outcome x; fault = λ place cause. refl }) c.in_ok-push.ensures c.in_err-write_enough.ensures.text
+    c.from_residual-in_err-write_enough.result c.from_residual-in_err-write_enough.ensures.0 (record { due = by_rest g.T.ItemText.text x; outcome = same_outcome x; fault = λ rest place cause. refl }) c.in_ok-push.ensures c.in_err-write_enough.ensures.text

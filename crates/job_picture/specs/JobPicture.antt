@@ -1,0 +1,139 @@
+-- The pictures of pages of a job: what is written of its plain run from a panel, and what comes of it.
+use Rattle.std.specs.Prelude.{ℕ, Bool, true, false, if◌then◌else◌, List, [], ◌∷◌, ◌++◌}
+use Rattle.pcl_items.specs.declared.fault.Cause.{Cause}
+use Rattle.pcl_items.specs.declared.fault.Cause.TheVariants.{Truncated}
+use Rattle.pcl_items.specs.Items.{Placed}
+use Rattle.pcl_items.specs.Reading.{Reading, Whole, Stopped}
+use Rattle.device_profile.specs.declared.panel.Panel.{Panel}
+use Rattle.device_profile.specs.Printer.{Printer}
+use Rattle.macro_store.specs.Store.{Store, no_macros}
+use Rattle.page_env.specs.declared.finding.Finding.{Finding}
+use Rattle.page_env.specs.Places.{geometry_of}
+use Rattle.page_env.specs.Settings.{Settings, State, start_state, user_defaults, unwatched}
+use Rattle.page_machine.specs.Run.{Run, Ending, Done, Halts}
+use Rattle.page_machine.specs.Defining.{job_item_run, job_end_run, macros_after}
+use Rattle.page_machine.specs.Job.{with_macros}
+use Rattle.preflight.specs.declared.outcome.Outcome.{Outcome}
+use Rattle.preflight.specs.declared.outcome.Outcome.TheVariants.{Done as AllDone, Fail}
+use Rattle.preflight.specs.Due.{Rendering}
+use Rattle.verdict.specs.declared.reason.Reason.TheVariants.{Fault as FaultOfBytes, Finding as FindingOfRun}
+use Rattle.job_picture.specs.declared.progress.Progress.{Progress}
+use Rattle.job_picture.specs.declared.selection.Selection.{Selection}
+use Rattle.job_picture.specs.declared.selection.Selection.TheVariants.{All, One}
+use Rattle.job_picture.specs.Progress.{first_page, progress_behind_all}
+use Rattle.job_picture.specs.Selection.{is_behind}
+use Rattle.job_picture.specs.Sheet.{drawn_events, drawn_failure, end_of_all, sheet_of, spot_of, start_if_due, start_of_all}
+
+-- what is written from somewhere on, and what comes of it
+pub record Drawing : Type 0 where
+  pub text : List ℕ
+  pub outcome : Outcome
+
+-- a text, and then a drawing
+abbrev pub then_draws : List ℕ → Drawing → Drawing
+then_draws text drawing = record { text = text ++ drawing.text; outcome = drawing.outcome }
+
+-- ---- how it ends
+
+-- all that is wanted is drawn
+abbrev pub drawn_out : Drawing
+drawn_out = record { text = []; outcome = AllDone }
+
+-- What the end of a job comes to behind which more would be drawn: a job that ends before the page that is wanted is too short.
+abbrev pub late_end : Selection → ℕ → Outcome
+late_end All place = AllDone
+late_end (One number) place = Fail place 0 (FaultOfBytes Truncated)
+
+-- the end of a job, at the number of its bytes
+abbrev pub at_the_end : Selection → ℕ → Drawing
+at_the_end selection place = record { text = end_of_all selection; outcome = late_end selection place }
+
+-- a failure, which ends the page that is open, where the cursor stood so
+abbrev pub at_failure : Selection → (sentence : List ℕ) → Printer → State → Progress → Outcome → Drawing
+at_failure selection sentence printer s p outcome = record {
+  text = drawn_failure (sheet_of selection sentence printer s) p (spot_of (geometry_of printer s) s) sentence ++ end_of_all selection;
+  outcome = outcome;
+}
+
+-- ---- items
+
+-- behind a run that ended so
+abbrev pub behind_ending : Ending → (State → Drawing) → (Finding → Drawing) → Drawing
+behind_ending (Done t) next failed = next t
+behind_ending (Halts finding) next failed = failed finding
+
+-- Of an item, or of the end of the bytes, at a place, that ran so from this state; and then what follows. It draws on the sheet that the
+-- page has before it: an item that changes the sheet ends its page first, and marks nothing behind that. Behind the last page that is drawn
+-- nothing matters.
+abbrev pub run_drawing : Selection → (sentence : List ℕ) → Printer → Progress → State → ℕ → Run → (Progress → State → Drawing) → Drawing
+run_drawing selection sentence printer p s place r next =
+    let p' = progress_behind_all p r.events in
+    then_draws (drawn_events (sheet_of selection sentence printer s) p r.events)
+    (if is_behind selection p'.page then drawn_out
+    else (behind_ending r.ending (next p') (λ finding. at_failure selection sentence printer s p' (Fail place 1 (FindingOfRun finding)))))
+
+-- of items, and then what comes last
+abbrev pub items_drawing : Selection → (sentence : List ℕ) → Printer → Settings → (Progress → Store → State → Drawing) → Progress → List Placed → Store → State → Drawing
+items_drawing selection sentence printer defaults finally p [] macros s = finally p macros s
+items_drawing selection sentence printer defaults finally p (x ∷ items) macros s =
+    run_drawing selection sentence printer p s x.place (job_item_run (with_macros printer defaults macros) x.item s)
+    (λ p' t. items_drawing selection sentence printer defaults finally p' items (macros_after s.settings.job.macro_id x.item macros) t)
+
+-- of the end of the bytes
+abbrev pub end_drawing : Selection → (sentence : List ℕ) → Printer → Settings → ℕ → Progress → Store → State → Drawing
+end_drawing selection sentence printer defaults place p macros s =
+    run_drawing selection sentence printer p s place (job_end_run (with_macros printer defaults macros) s) (λ p' t. at_the_end selection place)
+
+-- of a fault of the bytes
+abbrev pub fault_drawing : Selection → (sentence : List ℕ) → Printer → ℕ → Cause → Progress → Store → State → Drawing
+fault_drawing selection sentence printer place cause p macros s =
+    at_failure selection sentence printer s p (Fail place 0 (FaultOfBytes cause))
+
+-- of the items of a job and its end, or of the items before a fault and of the fault
+abbrev pub reading_drawing : Selection → (sentence : List ℕ) → Printer → Settings → Progress → Reading → Store → State → Drawing
+reading_drawing selection sentence printer defaults p (Whole items place) macros s =
+    items_drawing selection sentence printer defaults (end_drawing selection sentence printer defaults place) p items macros s
+reading_drawing selection sentence printer defaults p (Stopped items place cause) macros s =
+    items_drawing selection sentence printer defaults (fault_drawing selection sentence printer place cause) p items macros s
+
+-- ---- what a fault adds
+
+abbrev pub added_at_ending : Ending → (State → List ℕ) → List ℕ
+added_at_ending (Done t) next = next t
+added_at_ending (Halts finding) next = []
+
+-- a text behind a run that goes on; behind one that ends the drawing none is added
+abbrev pub added_behind : Selection → Progress → Run → (Progress → State → List ℕ) → List ℕ
+added_behind selection p r next =
+    let p' = progress_behind_all p r.events in if is_behind selection p'.page then [] else (added_at_ending r.ending (next p'))
+
+-- the failure, behind items
+abbrev pub fault_behind : Selection → (sentence : List ℕ) → Printer → Settings → ℕ → Cause → Progress → List Placed → Store → State → List ℕ
+fault_behind selection sentence printer defaults place cause p [] macros s = (fault_drawing selection sentence printer place cause p macros s).text
+fault_behind selection sentence printer defaults place cause p (x ∷ items) macros s =
+    added_behind selection p (job_item_run (with_macros printer defaults macros) x.item s)
+    (λ p' t. fault_behind selection sentence printer defaults place cause p' items (macros_after s.settings.job.macro_id x.item macros) t)
+
+-- what stands before all pages is put with the first item
+abbrev pub started_behind : Bool → List Placed → Bool
+started_behind is_started [] = is_started
+started_behind is_started (x ∷ items) = true
+
+-- ---- the job
+
+-- from a panel, with what stands before all pages
+abbrev pub job_drawing : Printer → Panel → Selection → (sentence : List ℕ) → Reading → Drawing
+job_drawing printer panel selection sentence reading =
+    let defaults : Settings = user_defaults unwatched panel in
+    then_draws (start_of_all selection sentence)
+    (reading_drawing selection sentence printer defaults first_page reading (no_macros printer.memory) (start_state printer.most_items defaults))
+
+abbrev pub picture_rendering : Printer → Panel → Selection → (sentence : List ℕ) → Rendering
+picture_rendering printer panel selection sentence = record {
+  text = λ reading. (job_drawing printer panel selection sentence reading).text;
+  outcome = λ reading. (job_drawing printer panel selection sentence reading).outcome;
+  at_fault = λ items place cause.
+      let defaults : Settings = user_defaults unwatched panel in
+      start_if_due selection sentence (started_behind false items)
+      ++ fault_behind selection sentence printer defaults place cause first_page items (no_macros printer.memory) (start_state printer.most_items defaults);
+}

@@ -1,0 +1,6 @@
+pub mod Selection
+pub mod Progress
+pub mod Places
+pub mod Sheet
+pub mod JobPicture
+pub mod Carriers

@@ -1,0 +1,243 @@
+//! The pictures of the pages of a job on one printer, from one panel.
+ghost use Rattle.std.specs.Prelude.{◌≡◌, ◌++◌, IsFalse, OnOk, false, refl};
+ghost use Rattle.device_profile.specs.Printer.{IsAllowed};
+ghost use Rattle.page_env.specs.Settings.{state_at};
+ghost use Rattle.preflight.specs.Carriers.PageRendering.{any_panel};
+ghost use Rattle.preflight.specs.Due.{Renders};
+ghost use Rattle.job_picture.specs.Carriers.Rest.{drawn_from};
+ghost use Rattle.job_picture.specs.JobPicture.{late_end, picture_rendering};
+ghost use Rattle.job_picture.specs.Sheet.{drawn_failure, end_of_all, sheet_of, spot_of, start_if_due};
+
+use crate::drawing::{finish_on, step_on};
+use crate::places::{cursor_x, cursor_y, paper_of};
+use crate::progress::Progress;
+use crate::selection::Selection;
+use crate::sheet::{Sheet, Spot, push_drawn_failure, push_end_of_all, push_start_of_all};
+use device_profile::{Panel, Profile};
+use page_env::{Finding, Page};
+use page_machine::{Machine, Start};
+use pcl_items::{Cause, Item, LexFault, Place};
+use preflight::{Error, Outcome, Outlet, Reason, Renderer, Source, render_job};
+use std::alloc::{AllocError, Allocator};
+
+/// What is drawn of a job.
+#[derive(Clone, Copy)]
+pub struct Wanted<'a> {
+    pub selection: Selection,
+    /// Of one page the sentence on its failure, or nothing where the job does not fail on it; it
+    /// stands below the sheet. Of all pages the verdict on the job, on top. Without a line end.
+    pub sentence: &'a [u8],
+}
+
+// ---- outcomes
+
+/// The failure of a job by a finding.
+fn fails_at(place: Place, finding: Finding) -> Outcome
+    ensures { result ≡ Outcome.Fail place 1 (Reason.Finding finding) }
+{
+    Outcome::Fail {
+        place,
+        profile: 1,
+        finding: Reason::Finding(finding),
+    }
+}
+
+/// The failure of a job by a fault of its bytes.
+fn fails_by(fault: LexFault) -> Outcome
+    ensures { result ≡ Outcome.Fail fault.place 0 (Reason.Fault fault.cause) }
+{
+    Outcome::Fail {
+        place: fault.place,
+        profile: 0,
+        finding: Reason::Fault(fault.cause),
+    }
+}
+
+/// What the end of a job comes to behind which more would be drawn: a job that ends before the page
+/// that is wanted is too short.
+fn late_end(selection: Selection, place: Place) -> Outcome
+    ensures { result ≡ late_end selection place }
+{
+    match selection {
+        Selection::All => Outcome::Done,
+        Selection::One(_) => fails_by(LexFault {
+            cause: Cause::Truncated,
+            place,
+        }),
+    }
+}
+
+// ---- the job
+
+/// Executes the items on a machine that knows the panel, and draws what they mark.
+#[derive(Drop)]
+struct JobPicture<'p, 'w, P: Allocator, B: Allocator + Copy> {
+    machine: Machine<'p, P, B>,
+    wanted: Wanted<'w>,
+    progress: Progress,
+    /// What stands before all pages is put.
+    is_started: bool,
+}
+
+/// The sheet of the page that is open.
+fn sheet_of<P: Allocator>(profile: &Profile<P>, page: &Page, wanted: &Wanted<'_>) -> Sheet
+    ensures { result ≡ sheet_of wanted.now.selection wanted.now.sentence.now profile.now
+        (state_at any_panel page.now) }
+{
+    let has_sentence = match wanted.selection {
+        Selection::All => false,
+        Selection::One(_) => !wanted.sentence.is_empty(),
+    };
+    Sheet {
+        selection: wanted.selection,
+        paper: paper_of(profile, page),
+        has_sentence,
+    }
+}
+
+/// Where the cursor stands on this sheet.
+fn spot_of(sheet: &Sheet, page: &Page) -> Spot
+    ensures { result ≡ spot_of sheet.now.paper (state_at any_panel page.now) }
+{
+    Spot {
+        x: cursor_x(&sheet.paper, page),
+        y: cursor_y(&sheet.paper, page),
+    }
+}
+
+/// Appends what stands before all pages, unless it is put.
+fn push_start_if_due<A: Allocator>(
+    text: &mut Vec<u8, A>,
+    wanted: &Wanted<'_>,
+    is_started: bool,
+) -> Result<(), AllocError>
+    ensures { OnOk result (text.new.items ≡ text.old.items
+        ++ start_if_due wanted.now.selection wanted.now.sentence.now is_started) }
+{
+    if is_started {
+        return Ok(());
+    }
+    push_start_of_all(text, wanted.selection, wanted.sentence)
+}
+
+/// Appends what a failure draws, and what stands behind all pages.
+fn push_failed<A: Allocator>(
+    text: &mut Vec<u8, A>,
+    sheet: &Sheet,
+    progress: Progress,
+    spot: Spot,
+    wanted: &Wanted<'_>,
+) -> Result<(), AllocError>
+    ensures { OnOk result (text.new.items ≡ text.old.items
+        ++ (drawn_failure sheet.now progress spot wanted.now.sentence.now
+        ++ end_of_all wanted.now.selection)) }
+{
+    push_drawn_failure(text, sheet, progress, spot, wanted.sentence)?;
+    push_end_of_all(text, wanted.selection)
+}
+
+impl<P: Allocator, B: Allocator + Copy> Renderer for JobPicture<'_, '_, P, B> {
+    ghost rendering = { λ picture. drawn_from picture.wanted.selection picture.wanted.sentence.now
+        picture.machine picture.progress picture.is_started };
+
+    ghost is_in = { λ picture mode. (picture.machine.stopped ≡ false)
+        × (picture.machine.mode ≡ mode) };
+
+    fn item<W: Outlet, A: Allocator>(
+        &mut self,
+        outlet: &mut W,
+        kept: &mut Vec<u8, A>,
+        place: Place,
+        item: &Item<'_>,
+    ) -> Result<Option<Outcome>, Error> {
+        let sheet = sheet_of(self.machine.profile(), self.machine.page(), &self.wanted);
+        let spot = spot_of(&sheet, self.machine.page());
+        push_start_if_due(kept, &self.wanted, self.is_started)?;
+        self.is_started = true;
+        let (machine, progress) = (&mut self.machine, &mut self.progress);
+        let found = step_on(machine, &sheet, progress, outlet, kept, place, item)?;
+        if self.wanted.selection.is_behind(self.progress.page) {
+            return Ok(Some(Outcome::Done));
+        }
+        match found {
+            None => Ok(None),
+            Some(finding) => {
+                push_failed(kept, &sheet, self.progress, spot, &self.wanted)?;
+                Ok(Some(fails_at(place, finding)))
+            }
+        }
+    }
+
+    fn end<W: Outlet, A: Allocator>(
+        &mut self,
+        outlet: &mut W,
+        kept: &mut Vec<u8, A>,
+        place: Place,
+    ) -> Result<Outcome, Error> {
+        let sheet = sheet_of(self.machine.profile(), self.machine.page(), &self.wanted);
+        let spot = spot_of(&sheet, self.machine.page());
+        push_start_if_due(kept, &self.wanted, self.is_started)?;
+        let (machine, progress) = (&mut self.machine, &mut self.progress);
+        let found = finish_on(machine, &sheet, progress, outlet, kept, place)?;
+        if self.wanted.selection.is_behind(self.progress.page) {
+            return Ok(Outcome::Done);
+        }
+        match found {
+            None => {
+                push_end_of_all(kept, self.wanted.selection)?;
+                Ok(late_end(self.wanted.selection, place))
+            }
+            Some(finding) => {
+                push_failed(kept, &sheet, self.progress, spot, &self.wanted)?;
+                Ok(fails_at(place, finding))
+            }
+        }
+    }
+
+    fn fault<W: Outlet, A: Allocator>(
+        &mut self,
+        _outlet: &mut W,
+        kept: &mut Vec<u8, A>,
+        fault: LexFault,
+    ) -> Result<Outcome, Error> {
+        let sheet = sheet_of(self.machine.profile(), self.machine.page(), &self.wanted);
+        let spot = spot_of(&sheet, self.machine.page());
+        push_start_if_due(kept, &self.wanted, self.is_started)?;
+        push_failed(kept, &sheet, self.progress, spot, &self.wanted)?;
+        Ok(fails_by(fault))
+    }
+
+    ghost adds_at_fault = { λ _ place cause. refl };
+}
+
+/// Writes the pictures of pages of a job on a printer, from a panel that its profile allows: of one
+/// page as SVG, of all as a document of HTML.
+///
+/// A page stands there as far as it came before the first finding, or before a fault of the bytes;
+/// where the cursor then was stands a cross. Of a page that the job does not have nothing is
+/// written, and the job counts as one whose bytes end too early. After an error a front of the text
+/// is written: `Memory` where the allocator refused a request, `Read` and `Write` where a read or a
+/// write failed, `Turns` after 2^40 reads without an end.
+pub fn picture_of<S: Source, W: Outlet, A: Allocator + Copy, P: Allocator>(
+    alloc: A,
+    reader: &mut S,
+    profile: &Profile<P>,
+    panel: &Panel,
+    wanted: &Wanted<'_>,
+    writer: &mut W,
+) -> Result<Outcome, Error>
+    requires reading { IsFalse (S.state reader.old).failed }
+    requires writing { IsFalse (W.state writer.old).failed }
+    requires allowed { IsAllowed profile.now panel.now }
+    ensures { Renders (picture_rendering profile.now panel.now
+        wanted.now.selection wanted.now.sentence.now)
+        (S.state reader.old) (S.state reader.new) (W.state writer.old) (W.state writer.new) result }
+{
+    let mut picture = JobPicture {
+        machine: Machine::new(alloc, profile, Start::At(*panel)),
+        wanted: *wanted,
+        progress: Progress::first_page(),
+        is_started: false,
+    };
+    render_job(alloc, reader, &mut picture, writer)
+}

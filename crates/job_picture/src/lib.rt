@@ -1,0 +1,12 @@
+//! The pictures of the pages of a job on one printer, from one panel.
+#![tactic(auto)]
+
+mod drawing;
+mod job_picture;
+mod places;
+mod progress;
+mod selection;
+mod sheet;
+
+pub use job_picture::{Wanted, picture_of};
+pub use selection::Selection;

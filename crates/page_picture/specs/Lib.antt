@@ -1,0 +1,9 @@
+pub mod Figures
+pub mod MarkParts
+pub mod SheetParts
+pub mod Attributes
+pub mod Characters
+pub mod Texts
+pub mod Rows
+pub mod Marks
+pub mod Sheet

@@ -1,0 +1,84 @@
+-- The elements of marks.
+use Rattle.std.specs.Prelude.{ℕ, ℤ, pos, ◌/◌, nat_le, if◌then◌else◌, List, [], ◌∷◌, ◌++◌, codes, decimal, Option, None, Some}
+use Rattle.page_env.specs.declared.mark.Area.{Area}
+use Rattle.page_env.specs.declared.mark.Fill.{Fill}
+use Rattle.page_env.specs.declared.mark.Fill.TheVariants.{Solid, Erase, Shade, Hatch}
+use Rattle.page_env.specs.declared.mark.Glyph.{Glyph}
+use Rattle.page_env.specs.declared.mark.PenLine.{PenLine}
+use Rattle.page_env.specs.Mark.{PixelRow, Shape, Rectangle, Character, Row, Line, pixels_per_inch}
+use Rattle.page_picture.specs.declared.attributes.Attribute.TheVariants.{X, Y, X1, Y1, X2, Y2, StrokeWidth, FontSize, TextLength}
+use Rattle.page_picture.specs.declared.mark_parts.MarkPart.TheVariants as parts
+use Rattle.page_picture.specs.Attributes.{attribute, length_attribute, box_attributes, span}
+use Rattle.page_picture.specs.Characters.{character_of}
+use Rattle.page_picture.specs.Figures.{pair_units}
+use Rattle.page_picture.specs.MarkParts.{mark_part}
+use Rattle.page_picture.specs.Rows.{runs_text}
+use Rattle.page_picture.specs.Texts.{character_text}
+
+-- ---- rectangles
+
+-- how dense a shade is: a printer has eight, each for a group of percents
+unfoldable pub density : ℕ → List ℕ
+density percent =
+    if nat_le percent 2 then codes ".02" else (if nat_le percent 10 then codes ".1" else
+    (if nat_le percent 20 then codes ".15" else (if nat_le percent 35 then codes ".3" else
+    (if nat_le percent 55 then codes ".45" else (if nat_le percent 80 then codes ".7" else
+    (if nat_le percent 99 then codes ".9" else codes "1"))))))
+
+-- with what a rectangle is filled: what lies below a shade or a pattern shows through
+unfoldable pub fill_attributes : Fill → List ℕ
+fill_attributes Solid = mark_part parts.Black
+fill_attributes Erase = mark_part parts.White
+fill_attributes (Shade percent) = mark_part parts.Shade ++ density percent ++ mark_part parts.ShadeEnd
+fill_attributes (Hatch pattern) = mark_part parts.Pattern ++ decimal pattern ++ mark_part parts.PatternEnd
+
+unfoldable pub area_picture : Area → List ℕ
+area_picture area = mark_part parts.AreaStart ++ box_attributes area.bounds ++ fill_attributes area.fill
+
+-- ---- characters
+
+-- the box of a character
+unfoldable pub box_picture : Glyph → List ℕ
+box_picture glyph = mark_part parts.BoxStart ++ box_attributes glyph.bounds ++ mark_part parts.BoxEnd
+
+-- where its text stands, on its baseline, and how large: a point has 100 units, so its ten-thousandth is a hundredth of one
+unfoldable pub text_attributes : Glyph → List ℕ
+text_attributes glyph =
+    length_attribute X glyph.bounds.left ++ length_attribute Y glyph.y
+    ++ attribute FontSize (pos glyph.request.height) ++ attribute TextLength (span glyph.bounds.left glyph.bounds.right)
+
+-- the text of a character, as wide as its box; nothing where none is known for the code
+unfoldable pub text_picture : Glyph → Option ℕ → List ℕ
+text_picture glyph None = []
+text_picture glyph (Some character) =
+    mark_part parts.GlyphStart ++ text_attributes glyph ++ mark_part parts.GlyphText ++ character_text character ++ mark_part parts.TextEnd
+
+unfoldable pub glyph_picture : Glyph → List ℕ
+glyph_picture glyph = box_picture glyph ++ text_picture glyph (character_of glyph.request.symbol_set glyph.code)
+
+-- ---- rows of rasters
+
+-- where a path stands whose unit is a pixel, and how large that is: an inch has 7200 units
+unfoldable pub row_place : PixelRow → List ℕ
+row_place row = pair_units row.x row.y ++ mark_part parts.RowScale ++ decimal (7200 / pixels_per_inch row.resolution)
+
+unfoldable pub row_picture : PixelRow → List ℕ
+row_picture row =
+    mark_part parts.RowStart ++ row_place row ++ mark_part parts.RowData ++ runs_text row.bytes ++ mark_part parts.RowEnd
+
+-- ---- lines of a pen
+
+-- round at its ends, so that its box is that of its ends, wider by half its width on each side, and one of no length is a dot
+unfoldable pub line_picture : PenLine → List ℕ
+line_picture line =
+    mark_part parts.LineStart ++ length_attribute X1 line.x0 ++ length_attribute Y1 line.y0
+    ++ length_attribute X2 line.x1 ++ length_attribute Y2 line.y1
+    ++ length_attribute StrokeWidth line.width ++ mark_part parts.LineEnd
+
+-- ---- a mark
+
+abbrev pub mark_picture : Shape → List ℕ
+mark_picture (Rectangle area) = area_picture area
+mark_picture (Character glyph) = glyph_picture glyph
+mark_picture (Row row) = row_picture row
+mark_picture (Line line) = line_picture line

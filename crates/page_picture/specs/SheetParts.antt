@@ -1,0 +1,36 @@
+-- The fixed parts of what stands round the marks.
+use Rattle.std.specs.Prelude.{ℕ, List, codes}
+use Rattle.page_picture.specs.declared.sheet_parts.SheetPart.{SheetPart}
+use Rattle.page_picture.specs.declared.sheet_parts.SheetPart.TheVariants.{PictureStart, PictureHeight, PictureView, PictureFont, PatternsStart, PatternStart, PatternSides, PatternEnd, Horizontal, Vertical, Rising, Falling, Cross, DiagonalCross, PatternsEnd, SheetStart, SheetEnd, LogicalStart, LogicalEnd, PrintableStart, PrintableEnd, FailureStart, FailureEnd, SentenceStart, SentenceFill, SentenceEnd, PictureEnd, DocumentStart, DocumentPages, DocumentEnd}
+
+unfoldable pub sheet_part : SheetPart → List ℕ
+sheet_part PictureStart = codes "<svg xmlns=\"http://www.w3.org/2000/svg\" width=\""
+sheet_part PictureHeight = codes "in\" height=\""
+sheet_part PictureView = codes "in\" viewBox=\"0 0 "
+sheet_part PictureFont = codes "\" font-family=\"monospace\">\n"
+sheet_part PatternsStart = codes "<defs stroke=\"black\" stroke-width=\"48\">\n"
+sheet_part PatternStart = codes "<pattern id=\"pattern"
+sheet_part PatternSides = codes "\" patternUnits=\"userSpaceOnUse\" width=\"384\" height=\"384\"><path d=\""
+sheet_part PatternEnd = codes "\"/></pattern>\n"
+sheet_part Horizontal = codes "M0 192h384"
+sheet_part Vertical = codes "M192 0v384"
+sheet_part Rising = codes "M-96 96L96-96M-96 480L480-96M288 480L480 288"
+sheet_part Falling = codes "M-96 288L96 480M-96-96L480 480M288-96L480 96"
+sheet_part Cross = codes "M0 192h384M192 0v384"
+sheet_part DiagonalCross = codes "M-96-96L480 480M-96 480L480-96"
+sheet_part PatternsEnd = codes "</defs>\n"
+sheet_part SheetStart = codes "<rect class=\"sheet\""
+sheet_part SheetEnd = codes " fill=\"white\" stroke=\"black\" stroke-width=\"24\"/>\n"
+sheet_part LogicalStart = codes "<rect class=\"logical\""
+sheet_part LogicalEnd = codes " fill=\"none\" stroke=\"gray\" stroke-width=\"48\" stroke-dasharray=\"240\"/>\n"
+sheet_part PrintableStart = codes "<rect class=\"printable\""
+sheet_part PrintableEnd = codes " fill=\"none\" stroke=\"gray\" stroke-width=\"24\"/>\n"
+sheet_part FailureStart = codes "<path class=\"failure\" transform=\"translate("
+sheet_part FailureEnd = codes ")\" d=\"M-480-480L480 480M-480 480L480-480\" stroke=\"red\" stroke-width=\"72\"/>\n"
+sheet_part SentenceStart = codes "<text class=\"sentence\" text-anchor=\"middle\""
+sheet_part SentenceFill = codes " fill=\"red\">"
+sheet_part SentenceEnd = codes "</text>\n"
+sheet_part PictureEnd = codes "</svg>\n"
+sheet_part DocumentStart = codes "<!DOCTYPE html>\n<html lang=\"en\">\n<head>\n<meta charset=\"utf-8\"/>\n<title>Pages</title>\n<style>svg { display: block; margin: 1em 0; }</style>\n</head>\n<body>\n<p>"
+sheet_part DocumentPages = codes "</p>\n"
+sheet_part DocumentEnd = codes "</body>\n</html>\n"

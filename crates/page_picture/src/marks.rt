@@ -1,0 +1,197 @@
+//! The elements of marks.
+ghost use Rattle.std.specs.Prelude.{◌≡◌, ◌/◌, ◌++◌, OnOk};
+ghost use Rattle.page_env.specs.Mark.{pixels_per_inch, row_of, shape_of};
+ghost use Rattle.page_picture.specs.Marks.{
+  area_picture,
+  box_picture,
+  density,
+  fill_attributes,
+  glyph_picture,
+  line_picture,
+  mark_picture,
+  row_picture,
+  row_place,
+  text_attributes,
+  text_picture,
+};
+
+use crate::attributes::{Attribute, push_attribute, push_box, push_length_attribute, span};
+use crate::characters::character_of;
+use crate::figures::{push_number, push_pair};
+use crate::mark_parts::MarkPart;
+use crate::rows::push_runs;
+use crate::texts::push_character;
+use page_env::{Area, Fill, Glyph, Mark, PenLine, RasterRow, Resolution};
+use std::alloc::{AllocError, Allocator};
+
+/// Appends the elements of a mark.
+pub fn push_mark<A: Allocator>(text: &mut Vec<u8, A>, mark: &Mark<'_>) -> Result<(), AllocError>
+    ensures { OnOk result (text.new.items ≡ text.old.items ++ mark_picture (shape_of mark.now)) }
+{
+    match mark {
+        Mark::Rect(area) => push_area(text, area),
+        Mark::Glyph(glyph) => push_glyph(text, glyph),
+        Mark::Row(row) => push_row(text, row),
+        Mark::Line(line) => push_line(text, line),
+    }
+}
+
+// ---- rectangles
+
+#[tactic(auto, unfolding(crate::specs::Marks::area_picture))]
+fn push_area<A: Allocator>(text: &mut Vec<u8, A>, area: &Area) -> Result<(), AllocError>
+    ensures { OnOk result (text.new.items ≡ text.old.items ++ area_picture area.now) }
+{
+    text.extend_from_slice(MarkPart::AreaStart.bytes())?;
+    push_box(text, &area.bounds)?;
+    push_fill(text, area.fill)
+}
+
+/// Appends with what a rectangle is filled.
+#[tactic(auto, unfolding(crate::specs::Marks::fill_attributes))]
+fn push_fill<A: Allocator>(text: &mut Vec<u8, A>, fill: Fill) -> Result<(), AllocError>
+    ensures { OnOk result (text.new.items ≡ text.old.items ++ fill_attributes fill) }
+{
+    match fill {
+        Fill::Solid => text.extend_from_slice(MarkPart::Black.bytes()),
+        Fill::Erase => text.extend_from_slice(MarkPart::White.bytes()),
+        Fill::Shade(percent) => {
+            text.extend_from_slice(MarkPart::Shade.bytes())?;
+            text.extend_from_slice(density(percent))?;
+            text.extend_from_slice(MarkPart::ShadeEnd.bytes())
+        }
+        Fill::Hatch(pattern) => {
+            text.extend_from_slice(MarkPart::Pattern.bytes())?;
+            push_number(text, u64::from(pattern))?;
+            text.extend_from_slice(MarkPart::PatternEnd.bytes())
+        }
+    }
+}
+
+/// How dense a shade is: a printer has eight, each for a group of percents.
+#[tactic(auto, unfolding(crate::specs::Marks::density))]
+fn density(percent: u8) -> &'static [u8]
+    ensures { result.now ≡ density percent }
+{
+    match percent {
+        0..=2 => b".02",
+        3..=10 => b".1",
+        11..=20 => b".15",
+        21..=35 => b".3",
+        36..=55 => b".45",
+        56..=80 => b".7",
+        81..=99 => b".9",
+        _ => b"1",
+    }
+}
+
+// ---- characters
+
+#[tactic(auto, unfolding(crate::specs::Marks::glyph_picture))]
+fn push_glyph<A: Allocator>(text: &mut Vec<u8, A>, glyph: &Glyph) -> Result<(), AllocError>
+    ensures { OnOk result (text.new.items ≡ text.old.items ++ glyph_picture glyph.now) }
+{
+    let character = character_of(glyph.request.symbol_set, glyph.code);
+    push_box_of(text, glyph)?;
+    push_text_of(text, glyph, character)
+}
+
+/// Appends the box of a character.
+#[tactic(auto, unfolding(crate::specs::Marks::box_picture))]
+fn push_box_of<A: Allocator>(text: &mut Vec<u8, A>, glyph: &Glyph) -> Result<(), AllocError>
+    ensures { OnOk result (text.new.items ≡ text.old.items ++ box_picture glyph.now) }
+{
+    text.extend_from_slice(MarkPart::BoxStart.bytes())?;
+    push_box(text, &glyph.bounds)?;
+    text.extend_from_slice(MarkPart::BoxEnd.bytes())
+}
+
+/// Appends where the text of a character stands, and how large it is.
+#[tactic(auto, unfolding(crate::specs::Marks::text_attributes))]
+fn push_text_attributes<A: Allocator>(
+    text: &mut Vec<u8, A>,
+    glyph: &Glyph,
+) -> Result<(), AllocError>
+    ensures { OnOk result (text.new.items ≡ text.old.items ++ text_attributes glyph.now) }
+{
+    push_length_attribute(text, Attribute::X, glyph.bounds.left)?;
+    push_length_attribute(text, Attribute::Y, glyph.y)?;
+    // A ten-thousandth of a point is a hundredth of a unit.
+    push_attribute(text, Attribute::FontSize, i64::from(glyph.request.height))?;
+    let width = span(glyph.bounds.left, glyph.bounds.right);
+    push_attribute(text, Attribute::TextLength, width)
+}
+
+/// Appends the text of a character, where one is known for the code.
+#[tactic(auto, unfolding(crate::specs::Marks::text_picture))]
+fn push_text_of<A: Allocator>(
+    text: &mut Vec<u8, A>,
+    glyph: &Glyph,
+    character: Option<u16>,
+) -> Result<(), AllocError>
+    ensures { OnOk result (text.new.items ≡ text.old.items ++ text_picture glyph.now character) }
+{
+    let Some(character) = character else {
+        return Ok(());
+    };
+    text.extend_from_slice(MarkPart::GlyphStart.bytes())?;
+    push_text_attributes(text, glyph)?;
+    text.extend_from_slice(MarkPart::GlyphText.bytes())?;
+    push_character(text, character)?;
+    text.extend_from_slice(MarkPart::TextEnd.bytes())
+}
+
+// ---- rows of rasters
+
+/// How many units a pixel goes, of 7200 in an inch.
+fn pixel_units(resolution: Resolution) -> u64
+    ensures { result ≡ 7200 / pixels_per_inch resolution }
+{
+    match resolution {
+        Resolution::Dots75 => 96,
+        Resolution::Dots100 => 72,
+        Resolution::Dots150 => 48,
+        Resolution::Dots200 => 36,
+        Resolution::Dots300 => 24,
+        Resolution::Dots600 => 12,
+    }
+}
+
+/// Appends where a path stands whose unit is a pixel, and how large that is.
+#[tactic(auto, unfolding(crate::specs::Marks::row_place))]
+fn push_row_place<A: Allocator>(
+    text: &mut Vec<u8, A>,
+    row: &RasterRow<'_>,
+) -> Result<(), AllocError>
+    ensures { OnOk result (text.new.items ≡ text.old.items ++ row_place (row_of row.now)) }
+{
+    push_pair(text, row.x.ticks(), row.y.ticks())?;
+    text.extend_from_slice(MarkPart::RowScale.bytes())?;
+    push_number(text, pixel_units(row.resolution))
+}
+
+#[tactic(auto, unfolding(crate::specs::Marks::row_picture))]
+fn push_row<A: Allocator>(text: &mut Vec<u8, A>, row: &RasterRow<'_>) -> Result<(), AllocError>
+    ensures { OnOk result (text.new.items ≡ text.old.items ++ row_picture (row_of row.now)) }
+{
+    text.extend_from_slice(MarkPart::RowStart.bytes())?;
+    push_row_place(text, row)?;
+    text.extend_from_slice(MarkPart::RowData.bytes())?;
+    push_runs(text, row.bytes)?;
+    text.extend_from_slice(MarkPart::RowEnd.bytes())
+}
+
+// ---- lines of a pen
+
+#[tactic(auto, unfolding(crate::specs::Marks::line_picture))]
+fn push_line<A: Allocator>(text: &mut Vec<u8, A>, line: &PenLine) -> Result<(), AllocError>
+    ensures { OnOk result (text.new.items ≡ text.old.items ++ line_picture line.now) }
+{
+    text.extend_from_slice(MarkPart::LineStart.bytes())?;
+    push_length_attribute(text, Attribute::X1, line.x0)?;
+    push_length_attribute(text, Attribute::Y1, line.y0)?;
+    push_length_attribute(text, Attribute::X2, line.x1)?;
+    push_length_attribute(text, Attribute::Y2, line.y1)?;
+    push_length_attribute(text, Attribute::StrokeWidth, line.width)?;
+    text.extend_from_slice(MarkPart::LineEnd.bytes())
+}

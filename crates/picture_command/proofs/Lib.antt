@@ -1,0 +1,4 @@
+mod Words
+mod Searches
+mod Endings
+mod Commands

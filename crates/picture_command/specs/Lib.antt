@@ -1,0 +1,3 @@
+pub mod PageSearch
+pub mod Picture
+pub mod Carriers

@@ -1,0 +1,164 @@
+-- What is told of the pages of a job before they are drawn: whether the job fails on them, and whether it has them.
+use Rattle.std.specs.Prelude.{ℕ, ◌+◌, false, List, [], ◌∷◌, ◌++◌, codes, decimal, flat_map, length, get_or, Option, None, Some, Ok, if◌then◌else◌}
+use Rattle.pcl_items.specs.declared.fault.Cause.{Cause}
+use Rattle.pcl_items.specs.Canon.{canon}
+use Rattle.pcl_items.specs.Commands.{introducer_of, character_of, data_group_of, data_letter_of}
+use Rattle.pcl_items.specs.Items.{Entry, Placed, Text, WithData, PjlLine}
+use Rattle.pcl_items.specs.Reading.{Reading, Whole, Stopped}
+use Rattle.device_profile.specs.declared.panel.Panel.{Panel}
+use Rattle.device_profile.specs.Printer.{Printer}
+use Rattle.macro_store.specs.Store.{Store, no_macros}
+use Rattle.page_env.specs.declared.finding.Finding.{Finding}
+use Rattle.page_env.specs.Settings.{Settings, State, start_state, user_defaults, unwatched}
+use Rattle.page_machine.specs.Run.{Run, Ending, Done, Halts}
+use Rattle.page_machine.specs.Defining.{job_item_run, job_end_run, macros_after}
+use Rattle.page_machine.specs.Job.{with_macros}
+use Rattle.sinks.specs.declared.counts.Counts.{Counts}
+use Rattle.sinks.specs.Counts.{capped, counts_after, no_counts}
+use Rattle.verdict.specs.declared.failure.Failure.{Failure}
+use Rattle.verdict.specs.declared.reason.Reason.TheVariants.{Fault as FaultOfBytes, Finding as FindingOfRun}
+use Rattle.verdict.specs.declared.verdict.Verdict.{Verdict}
+use Rattle.verdict.specs.declared.verdict.Verdict.TheVariants.{Pass, Fail}
+use Rattle.verdict.specs.Failing.{failing}
+use Rattle.line_words.specs.Figures.{escaped_byte, named}
+use Rattle.preflight.specs.declared.outcome.Outcome.{Outcome}
+use Rattle.preflight.specs.declared.outcome.Outcome.TheVariants.{Done as AllDone, Fail as FailsOf}
+use Rattle.preflight.specs.Due.{Rendering}
+use Rattle.job_picture.specs.declared.selection.Selection.{Selection}
+use Rattle.job_picture.specs.declared.selection.Selection.TheVariants.{All, One}
+use Rattle.job_picture.specs.Selection.{is_behind, is_drawn}
+use Rattle.subcommands.specs.CommandWords.{code_words}
+use Rattle.subcommands.specs.Groups.{Groups}
+use Rattle.subcommands.specs.JobSentences.{named_first, reason_phrase, subject, verdict_phrase}
+use Rattle.subcommands.specs.Reports.{number_told}
+
+-- ---- sentences
+
+-- an item in its one spelling, but without data; of a line only how it begins
+abbrev pub item_words : Entry → List ℕ
+item_words (Text code) = codes "character " ++ escaped_byte code
+item_words (WithData command bytes) =
+    codes "ESC " ++ introducer_of (data_group_of command) ∷ character_of (data_group_of command)
+    ∷ (decimal (length bytes) ++ data_letter_of command ∷ [])
+item_words (PjlLine line) = codes "@PJL"
+item_words item = flat_map code_words (canon item)
+
+-- where a failure at an item stands, behind its place
+abbrev pub at_item : Entry → List ℕ
+at_item item = codes ", " ++ item_words item
+
+-- what stands behind the subject, where the failure stands so
+abbrev pub verdict_words : (at_words : List ℕ) → Verdict → List ℕ
+verdict_words at_words (Pass pages marks) = verdict_phrase None (Pass pages marks)
+verdict_words at_words (Fail place profile reason) = named (codes " refuses this job at byte ") place ++ at_words ++ reason_phrase reason
+
+-- the sentence on a verdict on the job of this name for these printers
+abbrev pub sentence : (job : List ℕ) → Groups → (at_words : List ℕ) → Verdict → List ℕ
+sentence job group at_words verdict =
+    named_first job ++ (subject group.names (number_told group.is_each (Ok verdict)) ++ verdict_words at_words verdict) ++ 10 ∷ []
+
+-- the job does not have the page of this number, but so many
+abbrev pub missing_line : (job : List ℕ) → (number pages : ℕ) → List ℕ
+missing_line job number pages =
+    named_first job ++ named (codes "there is no page ") number ++ named (codes " (pages=") pages ++ codes ")\n"
+
+-- all pages are drawn, so many with so many marks; from another panel the job may fail
+abbrev pub drawn_line : (job : List ℕ) → Groups → Counts → List ℕ
+drawn_line job group counts =
+    named_first job ++ get_or group.names 0 [] ++ named (codes " prints this job from this panel (pages=") counts.pages
+    ++ named (codes " marks=") counts.marks ++ codes ")\n"
+
+-- ---- what is told
+
+-- the text, and what comes of the pages that are searched for
+pub record Searched : Type 0 where
+  pub text : List ℕ
+  pub outcome : Outcome
+
+-- they come, and end
+abbrev pub nothing_told : Searched
+nothing_told = record { text = []; outcome = AllDone }
+
+-- a page that is searched for alone is missing
+abbrev pub missing_part : Selection → (job : List ℕ) → Counts → List ℕ
+missing_part All job counts = []
+missing_part (One number) job counts = missing_line job number counts.pages
+
+-- the number of the page that is open
+abbrev pub open_page : Counts → ℕ
+open_page counts = capped (counts.pages + 1)
+
+-- a failure, where so much was counted: on a page that is searched for, or before it, where the job does not have it
+abbrev pub found_at_failure : Selection → (job : List ℕ) → Groups → Counts → (at_words : List ℕ) → Failure → Searched
+found_at_failure selection job group counts at_words failure =
+    if is_drawn selection (open_page counts)
+    then (record {
+      text = sentence job group at_words (failing failure);
+      outcome = FailsOf failure.place failure.profile failure.reason;
+    })
+    else (record {
+      text = missing_part selection job counts ++ sentence job group at_words (failing failure);
+      outcome = AllDone;
+    })
+
+-- the end of a job behind which more is searched for
+abbrev pub text_at_end : Selection → (job : List ℕ) → Groups → Counts → List ℕ
+text_at_end All job group counts = drawn_line job group counts
+text_at_end (One number) job group counts = missing_line job number counts.pages
+
+abbrev pub found_at_end : Selection → (job : List ℕ) → Groups → Counts → Searched
+found_at_end selection job group counts = record { text = text_at_end selection job group counts; outcome = AllDone }
+
+-- ---- items
+
+abbrev pub behind_ending : Ending → (State → Searched) → (Finding → Searched) → Searched
+behind_ending (Done t) next failed = next t
+behind_ending (Halts finding) next failed = failed finding
+
+abbrev pub failure_by : ℕ → Finding → Failure
+failure_by place finding = record { place = place; profile = 1; reason = FindingOfRun finding }
+
+-- of an item at a place, or of the end of the bytes, that ran so, and then what follows
+abbrev pub run_search : Selection → (job : List ℕ) → Groups → Counts → (at_words : List ℕ) → ℕ → Run → (Counts → State → Searched) → Searched
+run_search selection job group counts at_words place r next =
+    let counts' = counts_after r.events counts in
+    if is_behind selection (open_page counts') then nothing_told
+    else (behind_ending r.ending (next counts') (λ finding. found_at_failure selection job group counts' at_words (failure_by place finding)))
+
+-- of items, and then what comes last
+abbrev pub items_search : Selection → (job : List ℕ) → Groups → Printer → Settings → (Counts → Store → State → Searched) → Counts → List Placed → Store → State → Searched
+items_search selection job group printer defaults finally counts [] macros s = finally counts macros s
+items_search selection job group printer defaults finally counts (x ∷ items) macros s =
+    run_search selection job group counts (at_item x.item) x.place (job_item_run (with_macros printer defaults macros) x.item s)
+    (λ counts' t. items_search selection job group printer defaults finally counts' items (macros_after s.settings.job.macro_id x.item macros) t)
+
+abbrev pub end_search : Selection → (job : List ℕ) → Groups → Printer → Settings → ℕ → Counts → Store → State → Searched
+end_search selection job group printer defaults place counts macros s =
+    run_search selection job group counts [] place (job_end_run (with_macros printer defaults macros) s)
+    (λ counts' t. found_at_end selection job group counts')
+
+abbrev pub fault_search : Selection → (job : List ℕ) → Groups → ℕ → Cause → Counts → Store → State → Searched
+fault_search selection job group place cause counts macros s =
+    found_at_failure selection job group counts [] (record { place = place; profile = 0; reason = FaultOfBytes cause })
+
+-- of the items of a job and its end, or of the items before a fault and of the fault
+abbrev pub reading_search : Selection → (job : List ℕ) → Groups → Printer → Settings → Counts → Reading → Store → State → Searched
+reading_search selection job group printer defaults counts (Whole items place) macros s =
+    items_search selection job group printer defaults (end_search selection job group printer defaults place) counts items macros s
+reading_search selection job group printer defaults counts (Stopped items place cause) macros s =
+    items_search selection job group printer defaults (fault_search selection job group place cause) counts items macros s
+
+-- ---- the job
+
+-- from a panel; nothing is told before the end of it
+abbrev pub job_search : Printer → Panel → Selection → (job : List ℕ) → Groups → Reading → Searched
+job_search printer panel selection job group reading =
+    let defaults : Settings = user_defaults unwatched panel in
+    reading_search selection job group printer defaults no_counts reading (no_macros printer.memory) (start_state printer.most_items defaults)
+
+abbrev pub search_rendering : Printer → Panel → Selection → (job : List ℕ) → Groups → Rendering
+search_rendering printer panel selection job group = record {
+  text = λ reading. (job_search printer panel selection job group reading).text;
+  outcome = λ reading. (job_search printer panel selection job group reading).outcome;
+  at_fault = λ items place cause. (job_search printer panel selection job group (Stopped items place cause)).text;
+}

@@ -1,0 +1,8 @@
+//! The program's command `picture`: pages of a job as pictures.
+#![tactic(auto)]
+
+mod command;
+mod named_printer;
+mod page_search;
+
+pub use command::{PictureAsked, picture};

@@ -1,0 +1,77 @@
+"""Compares the pictures in docs/pictures with what a program draws, or draws them anew.
+
+    python3 docs/pictures.py PROGRAM [--write]
+
+There is a picture of the first page of each example that passes on the sample B and has a page, and
+of each page of the test sheet of a shipped profile; and no other file is there. Prints a line for each that
+differs, and at last `N compared, M differ`. The exit status is 0 where M is 0, else 1.
+"""
+
+import subprocess
+import sys
+import tempfile
+from pathlib import Path
+from typing import Dict, List
+
+ROOT = Path(__file__).resolve().parent.parent
+PICTURES = ROOT / "docs" / "pictures"
+PRINTER = "@B"
+SHEET_OF = ROOT / "profiles" / "generic.profile"
+
+
+def output(program: str, *words: str) -> bytes:
+    """What the program writes, where it succeeds, and else nothing."""
+    ran = subprocess.run([program, *words], capture_output=True, check=False)
+    return ran.stdout if ran.returncode == 0 else b""
+
+
+def pictures_of_examples(program: str) -> Dict[str, bytes]:
+    """The pictures of the first pages of examples, by their names."""
+    jobs = sorted((ROOT / "examples").glob("*.pcl"))
+    drawn = {job.stem: output(program, "picture", str(job), PRINTER) for job in jobs}
+    return {name: picture for name, picture in drawn.items() if picture}
+
+
+def pictures_of_sheet(program: str) -> Dict[str, bytes]:
+    """The pictures of the pages of a test sheet."""
+    with tempfile.TemporaryDirectory() as folder:
+        sheet = str(Path(folder) / "sheet.pcl")
+        output(program, "profile", "sheet", str(SHEET_OF), sheet)
+        drawn = {}
+        while page := output(
+            program, "picture", sheet, str(SHEET_OF), "--page", str(len(drawn) + 1)
+        ):
+            drawn[f"sheet_page_{len(drawn) + 1}"] = page
+        return drawn
+
+
+def differences(due: Dict[str, bytes]) -> List[str]:
+    """What differs between the files and the pictures that are due."""
+    kept = {path.stem: path.read_bytes() for path in PICTURES.iterdir()}
+    wrong = [f"{name}.svg is not drawn" for name in sorted(set(kept) - set(due))]
+    wrong += [
+        f"{name}.svg is not what the program draws"
+        for name, picture in due.items()
+        if kept.get(name) != picture
+    ]
+    return wrong
+
+
+def main() -> int:
+    if len(sys.argv) not in (2, 3) or sys.argv[2:] not in ([], ["--write"]):
+        print(__doc__, file=sys.stderr)
+        return 2
+    program = sys.argv[1]
+    due = {**pictures_of_examples(program), **pictures_of_sheet(program)}
+    if sys.argv[2:]:
+        for name, picture in due.items():
+            (PICTURES / f"{name}.svg").write_bytes(picture)
+    wrong = differences(due)
+    for line in wrong:
+        print(line)
+    print(f"{len(due)} compared, {len(wrong)} differ")
+    return int(bool(wrong) or not due)
+
+
+if __name__ == "__main__":
+    sys.exit(main())
