@@ -15,8 +15,8 @@ from pathlib import Path
 
 ROOT = Path(__file__).resolve().parent.parent
 DOCUMENT = ROOT / "docs" / "DEFINITIONS.md"
-CODES = ROOT / "crates" / "pcl_items" / "src" / "code.rt"
-COMMANDS = ROOT / "crates" / "pcl_items" / "src" / "command.rt"
+CODES = ROOT / "crates" / "pcl_items" / "src" / "pcl" / "code.rt"
+COMMANDS = ROOT / "crates" / "pcl_items" / "src" / "pcl" / "command.rt"
 FRAMES = ROOT / "crates" / "pcl_items" / "src" / "frame.rt"
 ITEMS = ROOT / "crates" / "pcl_items" / "src" / "item.rt"
 MACROS = ROOT / "crates" / "page_env" / "src" / "macros.rt"

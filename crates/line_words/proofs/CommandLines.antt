@@ -5,17 +5,17 @@ use Rattle.std.specs.List.{flat_map}
 use Rattle.std.proofs.lemmas.Bool.{cond-true, cond_both, and_from, le-leb, ne_eqb}
 use Rattle.std.proofs.lemmas.Fmt.{decimal_by_steps}
 use Rattle.std.proofs.lemmas.Grind.{flat_map-append}
-use Rattle.pcl_items.specs.declared.command.Command.{Command}
-use Rattle.pcl_items.specs.declared.command.Command.TheVariants.{LeftMargin}
-use Rattle.pcl_items.specs.declared.command.Group.{Group}
-use Rattle.pcl_items.specs.declared.command.Group.TheVariants.{RasterData}
+use Rattle.pcl_items.specs.declared.pcl.command.Command.{Command}
+use Rattle.pcl_items.specs.declared.pcl.command.Command.TheVariants.{LeftMargin}
+use Rattle.pcl_items.specs.declared.pcl.command.Group.{Group}
+use Rattle.pcl_items.specs.declared.pcl.command.Group.TheVariants.{RasterData}
 use Rattle.pcl_items.specs.declared.number.Sign.{Sign}
 use Rattle.pcl_items.specs.declared.number.Sign.TheVariants.{Absent, Plus, Minus}
-use Rattle.pcl_items.specs.Canon.{amount_text, before, canon, four_decimals, magnitude_text, with_point, without_zeros}
-use Rattle.pcl_items.specs.Commands.{introducer_of, character_of, group_of, letter_of}
+use Rattle.pcl_items.specs.Spellings.Canon.{amount_text, before, canon, four_decimals, magnitude_text, with_point, without_zeros}
+use Rattle.pcl_items.specs.Escapes.Commands.{introducer_of, character_of, group_of, letter_of}
 use Rattle.pcl_items.specs.Items.{Parameterized, at}
-use Rattle.pcl_items.specs.Value.{Amount, most}
-use Rattle.pcl_items.specs.ValueField.{sign_text}
+use Rattle.pcl_items.specs.Escapes.Value.{Amount, most}
+use Rattle.pcl_items.specs.Escapes.ValueField.{sign_text}
 use Rattle.line_words.specs.Figures.{escaped_byte}
 use Rattle.line_words.specs.ItemLines.{item_line}
 

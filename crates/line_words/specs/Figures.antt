@@ -1,7 +1,7 @@
 -- Numbers and bytes as they stand in lines of text.
 use Rattle.std.specs.Prelude.{ℕ, suc, ℤ, pos, negsuc, ◌+◌, ◌/◌, ◌%◌, ◌==◌, nat_lt, nat_le, not, ◌&&◌, if◌then◌else◌, List, [], ◌∷◌, ◌++◌, decimal}
 use Rattle.std.specs.Fmt.{signed_decimal}
-use Rattle.pcl_items.specs.Canon.{magnitude_text}
+use Rattle.pcl_items.specs.Spellings.Canon.{magnitude_text}
 
 -- a value behind its name
 abbrev pub named : List ℕ → ℕ → List ℕ

@@ -1,7 +1,7 @@
 -- The lines of items and of faults.
 use Rattle.std.specs.Prelude.{ℕ, List, [], ◌∷◌, ◌++◌, codes, decimal, flat_map}
 use Rattle.pcl_items.specs.declared.fault.Cause.{Cause}
-use Rattle.pcl_items.specs.Canon.{canon}
+use Rattle.pcl_items.specs.Spellings.Canon.{canon}
 use Rattle.pcl_items.specs.Items.{Placed}
 use Rattle.verdict.specs.declared.reason.Reason.TheVariants.{Fault}
 use Rattle.line_words.specs.Figures.{escaped_byte}

@@ -1,6 +1,6 @@
 //! Numbers and bytes as they stand in lines of text.
 ghost use Rattle.std.specs.Prelude.{◌≡◌, ◌++◌, ◌+◌, ◌%◌, ◌<◌, OnOk, decimal, flat_map};
-ghost use Rattle.pcl_items.specs.Canon.{amount_text, four_decimals, magnitude_text, with_point, without_zeros};
+ghost use Rattle.pcl_items.specs.Spellings.Canon.{amount_text, four_decimals, magnitude_text, with_point, without_zeros};
 ghost use Rattle.pcl_items.specs.Items.{amount};
 ghost use Rattle.line_words.specs.Figures.{escaped_byte, hex_byte, hex_digit, length_word, named, number_word, signed_word, value_word};
 
@@ -70,7 +70,7 @@ fn push_whole<A: Allocator>(text: &mut Vec<u8, A>, n: u32) -> Result<(), AllocEr
 }
 
 /// Appends the point and the decimals of a value of so many ten-thousandths, where it has some.
-#[tactic(auto, using(pcl_items::proofs::WholeNumbers::no_decimals))]
+#[tactic(auto, using(pcl_items::proofs::Escapes::WholeNumbers::no_decimals))]
 fn push_decimals<A: Allocator>(text: &mut Vec<u8, A>, n: u32) -> Result<(), AllocError>
     ensures { OnOk result
         (text.new.items ≡ text.old.items ++ with_point (without_zeros (four_decimals n))) }

@@ -1,6 +1,6 @@
 //! The lines of items and of faults.
 ghost use Rattle.std.specs.Prelude.{◌≡◌, ◌++◌, ◌∷◌, [], OnOk, decimal};
-ghost use Rattle.pcl_items.specs.Commands.{introducer_of, character_of};
+ghost use Rattle.pcl_items.specs.Escapes.Commands.{introducer_of, character_of};
 ghost use Rattle.pcl_items.specs.Items.{Entry, amount, at, view};
 ghost use Rattle.line_words.specs.ItemLines.{item_line, fault_line};
 

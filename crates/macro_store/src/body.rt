@@ -17,7 +17,7 @@ pub struct Body<'a> {
 impl<'a> Model for Body<'a> {
     ghost use Rattle.std.specs.Prelude.{List};
     ghost use Rattle.pcl_items.specs.Items.{Entry};
-    ghost use Rattle.pcl_items.specs.Spelled.{IsSpelled, items_in};
+    ghost use Rattle.pcl_items.specs.Spellings.Spelled.{IsSpelled, items_in};
 
     ghost Value = { List Entry };
 

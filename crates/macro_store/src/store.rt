@@ -5,7 +5,7 @@ ghost use Rattle.std.specs.List.{remove_range};
 ghost use Rattle.std.specs.Map.{lookup, remove_entry};
 ghost use Rattle.indexmap.specs.IndexMap.{spare};
 ghost use Rattle.pcl_items.specs.Items.{view as entry_of};
-ghost use Rattle.pcl_items.specs.Canon.{canon};
+ghost use Rattle.pcl_items.specs.Spellings.Canon.{canon};
 ghost use Rattle.macro_store.specs.Layout.{moved_down, down, bodies_in, IsLaidOut};
 ghost use Rattle.macro_store.specs.Store.{no_macros, body_of, stored_bytes, Admits, began, appended, committed, deleted, cleared};
 

@@ -1,9 +1,9 @@
 -- The notes that hold by the items of a job alone, wherever these stand: in the job, or in a macro definition.
 use Rattle.std.specs.Prelude.{ℕ, ◌-◌, ◌%◌, ◌==◌, Bool, true, false, not, ◌&&◌, ◌||◌, List, [], ◌∷◌, ◌++◌}
 use Rattle.std.specs.List.{list_any}
-use Rattle.pcl_items.specs.declared.command.Command.TheVariants.{HorizontalUnits, VerticalUnits, UnitOfMeasure, RasterResolution}
+use Rattle.pcl_items.specs.declared.pcl.command.Command.TheVariants.{HorizontalUnits, VerticalUnits, UnitOfMeasure, RasterResolution}
 use Rattle.pcl_items.specs.Items.{Entry, Placed, Text, Parameterized, PjlLine}
-use Rattle.pcl_items.specs.Value.{Amount}
+use Rattle.pcl_items.specs.Escapes.Value.{Amount}
 use Rattle.page_env.specs.JobControl.{is_reset}
 use Rattle.page_env.specs.Numbers.{is_minus}
 use Rattle.notes.specs.declared.note.Note.TheVariants.{OpenStart, PjlAsText, FractionOfUnit, LaterLanguage}

@@ -4,8 +4,8 @@ use Rattle.std.specs.Option.{option_map_or}
 use Rattle.std.specs.Ordering.{int_eq}
 use Rattle.tick_length.specs.declared.unit.Unit.TheVariants.{PclUnit}
 use Rattle.tick_length.specs.Unit.{ticks_of}
-use Rattle.pcl_items.specs.declared.command.Command.TheVariants.{Orientation, Column, LeftMargin, RightMargin, Source, Sides}
-use Rattle.pcl_items.specs.declared.command.DataCommand.TheVariants.{TransparentText}
+use Rattle.pcl_items.specs.declared.pcl.command.Command.TheVariants.{Orientation, Column, LeftMargin, RightMargin, Source, Sides}
+use Rattle.pcl_items.specs.declared.pcl.command.DataCommand.TheVariants.{TransparentText}
 use Rattle.pcl_items.specs.Items.{Entry, Placed, Text, CarriageReturn, LineFeed, HalfLineFeed, Parameterized, WithData}
 use Rattle.device_profile.specs.Printer.{Printer}
 use Rattle.page_env.specs.declared.page.JobSettings.{JobSettings}

@@ -1,8 +1,8 @@
 -- Each item comes to the same whatever the panel has in the fields that are unset.
 use Rattle.std.proofs.Common.{◌≡◌, ◌==◌, ◌++◌, ℕ, ℤ, Bool, true, false, cond, List, [], ◌∷◌, Option, Some, None, refl, ap, ◌∙◌}
-use Rattle.pcl_items.specs.declared.command.Command.{Command}
-use Rattle.pcl_items.specs.declared.command.Command.TheVariants.{Copies, Sides, Source, PageSize, Orientation, VerticalMotionIndex, LineSpacing, TopMargin, TextLength, PerforationSkip, UnitOfMeasure, HorizontalMotionIndex, LineTermination, LeftMargin, RightMargin, Column, Row, HorizontalDecipoints, VerticalDecipoints, HorizontalUnits, VerticalUnits, CursorStack, MacroId, MacroControl, RectangleWidth, RectangleHeight, FillRectangle, RectangleWidthDecipoints, RectangleHeightDecipoints, FillId, PictureFrameAnchor, PictureFrameWidth, PictureFrameHeight, RasterResolution, StartRaster, RasterWidth, RasterHeight, RasterPresentation, EndRaster, EndRasterAndMethod, CompressionMethod, RasterOffset, FontSpacing, FontPitch, FontHeight, FontStyle, FontWeight, FontTypeface}
-use Rattle.pcl_items.specs.declared.command.DataCommand.TheVariants.{TransparentText, RasterRow}
+use Rattle.pcl_items.specs.declared.pcl.command.Command.{Command}
+use Rattle.pcl_items.specs.declared.pcl.command.Command.TheVariants.{Copies, Sides, Source, PageSize, Orientation, VerticalMotionIndex, LineSpacing, TopMargin, TextLength, PerforationSkip, UnitOfMeasure, HorizontalMotionIndex, LineTermination, LeftMargin, RightMargin, Column, Row, HorizontalDecipoints, VerticalDecipoints, HorizontalUnits, VerticalUnits, CursorStack, MacroId, MacroControl, RectangleWidth, RectangleHeight, FillRectangle, RectangleWidthDecipoints, RectangleHeightDecipoints, FillId, PictureFrameAnchor, PictureFrameWidth, PictureFrameHeight, RasterResolution, StartRaster, RasterWidth, RasterHeight, RasterPresentation, EndRaster, EndRasterAndMethod, CompressionMethod, RasterOffset, FontSpacing, FontPitch, FontHeight, FontStyle, FontWeight, FontTypeface}
+use Rattle.pcl_items.specs.declared.pcl.command.DataCommand.TheVariants.{TransparentText, RasterRow}
 use Rattle.pcl_items.specs.declared.frame.Handover.{Handover}
 use Rattle.pcl_items.specs.declared.frame.Handover.TheVariants.{Previous, Current}
 use Rattle.pcl_items.specs.declared.frame.Motion.{Motion}
@@ -12,7 +12,7 @@ use Rattle.pcl_items.specs.declared.frame.Setting.TheVariants as settings
 use Rattle.pcl_items.specs.Items.{Entry, Text, CarriageReturn, LineFeed, FormFeed, Reset, ClearMargins, HalfLineFeed, Parameterized, SymbolSet, DefaultFont, EnterFrame, LeaveFrame, Initialize, Set, Move, WithData, ExitLanguage, PjlLine}
 use Rattle.pcl_items.specs.declared.number.Sign.{Sign}
 use Rattle.pcl_items.specs.declared.number.Sign.TheVariants.{Absent, Plus, Minus}
-use Rattle.pcl_items.specs.Value.{Amount}
+use Rattle.pcl_items.specs.Escapes.Value.{Amount}
 use Rattle.device_profile.specs.declared.field.Field.{Field}
 use Rattle.device_profile.specs.declared.field.Field.TheVariants.{Size as SizeField, Orientation as OrientationField, Vmi, LineTerm}
 use Rattle.device_profile.specs.declared.font.SymbolSet.{SymbolSet as Symbols}

@@ -1,7 +1,7 @@
 -- Facts of cursor positioning and of the cursor stack.
 use Rattle.std.proofs.Common.{arith, ◌≡◌, ◌≤◌, ◌==◌, ℕ, suc, nat_lt, false, not, length, List, [], ◌∷◌, refl, ap, sym, ◌∙◌, ltb-true}
 use Rattle.std.proofs.lemmas.Bool.{not-false}
-use Rattle.pcl_items.specs.Value.{Amount}
+use Rattle.pcl_items.specs.Escapes.Value.{Amount}
 use Rattle.device_profile.specs.Printer.{Printer}
 use Rattle.page_env.specs.declared.finding.Finding.TheVariants.{BadValue, StackFull}
 use Rattle.page_env.specs.declared.page.Cursor.{Cursor}

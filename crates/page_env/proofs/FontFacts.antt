@@ -1,7 +1,7 @@
 -- Facts of font selection.
 use Rattle.std.proofs.Common.{refl}
 use Rattle.std.specs.Prelude.{ℕ}
-use Rattle.pcl_items.specs.Value.{Amount}
+use Rattle.pcl_items.specs.Escapes.Value.{Amount}
 use Rattle.device_profile.specs.Printer.{Printer}
 use Rattle.page_env.specs.Settings.{State}
 use Rattle.page_env.specs.Fonts.{set_symbol_set, set_spacing, set_pitch, set_height, set_style, set_weight, set_typeface, default_font}

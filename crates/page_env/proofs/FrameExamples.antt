@@ -3,7 +3,7 @@ use Rattle.std.proofs.Common.{◌≡◌, ℕ, ◌*◌, ◌+◌, pos, true, [], �
 use Rattle.std.specs.Prelude.{◌-ℤ◌}
 use Rattle.pcl_items.specs.declared.frame.Handover.TheVariants.{Current}
 use Rattle.pcl_items.specs.declared.number.Sign.TheVariants.{Absent}
-use Rattle.pcl_items.specs.Value.{Amount}
+use Rattle.pcl_items.specs.Escapes.Value.{Amount}
 use Rattle.device_profile.specs.declared.panel.Panel.{Panel}
 use Rattle.device_profile.specs.Printer.{row_at, geometry_at}
 use Rattle.device_profile.specs.Samples.{printer_a}

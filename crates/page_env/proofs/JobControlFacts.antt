@@ -1,6 +1,6 @@
 -- Facts of job control.
 use Rattle.std.proofs.Common.{true, refl, arith, ◌≤◌}
-use Rattle.pcl_items.specs.Value.{Amount}
+use Rattle.pcl_items.specs.Escapes.Value.{Amount}
 use Rattle.device_profile.specs.Printer.{Printer}
 use Rattle.page_env.specs.Settings.{Settings, State}
 use Rattle.page_env.specs.Effect.{checking, Closes}

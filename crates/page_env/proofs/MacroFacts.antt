@@ -1,6 +1,6 @@
 -- Facts of macros.
 use Rattle.std.proofs.Common.{None, Some, refl}
-use Rattle.pcl_items.specs.Value.{Amount}
+use Rattle.pcl_items.specs.Escapes.Value.{Amount}
 use Rattle.device_profile.specs.Printer.{Printer}
 use Rattle.page_env.specs.declared.macros.Control.TheVariants.{Begin, End, Execute, Call, EnableOverlay, DisableOverlay, DeleteAll, Delete, MakeTemporary}
 use Rattle.page_env.specs.Settings.{State}

@@ -1,6 +1,6 @@
 -- Facts of margins.
 use Rattle.std.proofs.Common.{refl}
-use Rattle.pcl_items.specs.Value.{Amount}
+use Rattle.pcl_items.specs.Escapes.Value.{Amount}
 use Rattle.device_profile.specs.Printer.{Printer}
 use Rattle.page_env.specs.Settings.{State}
 use Rattle.page_env.specs.Margins.{set_top_margin, set_text_length, set_perforation_skip, set_left_margin, set_right_margin, clear_margins}

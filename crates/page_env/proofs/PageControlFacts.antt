@@ -1,7 +1,7 @@
 -- Facts of page control.
 use Rattle.std.proofs.Common.{◌≡◌, Bool, true, false, not, cond, refl, ap}
 use Rattle.std.specs.Prelude.{◌==◌}
-use Rattle.pcl_items.specs.Value.{Amount}
+use Rattle.pcl_items.specs.Escapes.Value.{Amount}
 use Rattle.device_profile.specs.Printer.{Printer, has_size, has_orientation}
 use Rattle.page_env.specs.declared.finding.Finding.TheVariants.{BadValue, NotOnDevice}
 use Rattle.page_env.specs.Settings.{Settings, State, unwatched}

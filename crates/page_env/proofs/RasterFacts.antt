@@ -1,6 +1,6 @@
 -- Facts of rasters.
 use Rattle.std.proofs.Common.{◌≡◌, ◌&&◌, ◌||◌, ℕ, Bool, true, false, not, cond, Some, None, List, [], ◌∷◌, refl}
-use Rattle.pcl_items.specs.Value.{Amount}
+use Rattle.pcl_items.specs.Escapes.Value.{Amount}
 use Rattle.device_profile.specs.Printer.{Printer}
 use Rattle.device_profile.specs.declared.geometry.Geometry.{Geometry}
 use Rattle.page_env.specs.declared.finding.Finding.TheVariants.{OffPage, NotPrintable}

@@ -1,7 +1,7 @@
 -- Cursor positioning and the cursor stack (`*p#X`, `*p#Y`, `&a#H`, `&a#V`, `&a#C`, `&a#R`, `&f#S`).
 use Rattle.std.specs.Prelude.{ℕ, ℤ, pos, ◌==◌, nat_lt, not, cond, length, Option, Some, is_none, unwrap_or, List, [], ◌∷◌, ◌++◌}
 use Rattle.pcl_items.specs.declared.number.Sign.{Sign}
-use Rattle.pcl_items.specs.Value.{Amount}
+use Rattle.pcl_items.specs.Escapes.Value.{Amount}
 use Rattle.device_profile.specs.declared.field.Field.{Field}
 use Rattle.device_profile.specs.declared.field.Field.TheVariants.{Size, Orientation}
 use Rattle.device_profile.specs.Printer.{Printer}

@@ -1,6 +1,6 @@
 -- Font selection by characteristic: each command sets one part of the request (`ESC (`, `(s#P`, `(s#H`, `(s#V`, `(s#S`, `(s#B`, `(s#T`, `(3@`).
 use Rattle.std.specs.Prelude.{ℕ, not, Some, None, is_none, [], ◌∷◌}
-use Rattle.pcl_items.specs.Value.{Amount}
+use Rattle.pcl_items.specs.Escapes.Value.{Amount}
 use Rattle.device_profile.specs.Printer.{Printer}
 use Rattle.page_env.specs.declared.finding.Finding.TheVariants.{BadValue, NoFont}
 use Rattle.page_env.specs.declared.page.FontParts.{FontParts}

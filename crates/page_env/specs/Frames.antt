@@ -2,7 +2,7 @@
 use Rattle.std.specs.Prelude.{ℤ, pos, true, false, not, ◌&&◌, Bool, cond, ◌+ℤ◌, ◌-ℤ◌, Some, unwrap_or, [], ◌∷◌}
 use Rattle.pcl_items.specs.declared.frame.Handover.{Handover}
 use Rattle.pcl_items.specs.declared.frame.Handover.TheVariants.{Previous, Current}
-use Rattle.pcl_items.specs.Value.{Amount}
+use Rattle.pcl_items.specs.Escapes.Value.{Amount}
 use Rattle.device_profile.specs.declared.field.Field.TheVariants.{Size, Orientation}
 use Rattle.device_profile.specs.declared.geometry.Geometry.{Geometry}
 use Rattle.device_profile.specs.Printer.{Printer}

@@ -3,7 +3,7 @@ use Rattle.std.specs.Prelude.{nat_lt, ◌==◌, ◌&&◌, not, Bool, true, false
 use Rattle.std.specs.List.{list_any}
 use Rattle.tick_length.specs.UnitsPerInch.{units_per_inch}
 use Rattle.pcl_items.specs.Items.{Entry, Reset, ExitLanguage}
-use Rattle.pcl_items.specs.Value.{Amount}
+use Rattle.pcl_items.specs.Escapes.Value.{Amount}
 use Rattle.device_profile.specs.Printer.{Printer}
 use Rattle.page_env.specs.declared.finding.Finding.TheVariants.{BadValue, NotOnDevice}
 use Rattle.page_env.specs.Settings.{Settings, State, home_cursor, start_state, with_job}

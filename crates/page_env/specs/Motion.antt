@@ -1,7 +1,7 @@
 -- Motion and line ends: VMI, line spacing, HMI, line termination, and the control codes CR, LF, FF and `ESC =` (`&l#C`, `&l#D`, `&k#H`, `&k#G`).
 use Rattle.std.specs.Prelude.{ℕ, ℤ, pos, ◌/◌, ◌==◌, ◌&&◌, ◌||◌, not, cond, false, Bool, ◌+ℤ◌, int_lt, Some, None, List, [], ◌∷◌}
 use Rattle.std.specs.List.{list_any}
-use Rattle.pcl_items.specs.Value.{Amount}
+use Rattle.pcl_items.specs.Escapes.Value.{Amount}
 use Rattle.device_profile.specs.Printer.{Printer}
 use Rattle.page_env.specs.declared.finding.Finding.TheVariants.{BadValue, OffPage}
 use Rattle.page_env.specs.declared.motion.Feed.{Feed}

@@ -1,6 +1,6 @@
 -- Where a job has set all that a panel chooses, its items go as from that panel itself.
 use Rattle.std.specs.Prelude.{◌≡◌, ℕ, ℤ, Bool, true, false, ◌||◌, unwrap_or, Option, None, Some, List}
-use Rattle.pcl_items.specs.declared.command.Command.TheVariants.{Orientation, MacroControl}
+use Rattle.pcl_items.specs.declared.pcl.command.Command.TheVariants.{Orientation, MacroControl}
 use Rattle.pcl_items.specs.Items.{Entry, DefaultFont, Parameterized}
 use Rattle.device_profile.specs.declared.field.Field.{Field}
 use Rattle.device_profile.specs.declared.font.FontRequest.{FontRequest}

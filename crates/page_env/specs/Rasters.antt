@@ -2,11 +2,11 @@
 use Rattle.std.specs.Prelude.{ℕ, ℤ, pos, ◌*◌, ◌-◌, ◌==◌, nat_lt, not, ◌&&◌, ◌||◌, cond, Bool, true, false, ◌+ℤ◌, int_lt, length, drop, take, reverse, Option, Some, None, is_none, is_some, option_map, unwrap_or, List, [], ◌∷◌}
 use Rattle.std.specs.List.{position, position_or_len, find}
 use Rattle.std.specs.Option.{option_map_or}
-use Rattle.pcl_items.specs.declared.command.Group.{Group}
-use Rattle.pcl_items.specs.declared.command.Group.TheVariants.{RasterData, Raster, Resolution}
-use Rattle.pcl_items.specs.Commands.{group_of, data_group_of}
+use Rattle.pcl_items.specs.declared.pcl.command.Group.{Group}
+use Rattle.pcl_items.specs.declared.pcl.command.Group.TheVariants.{RasterData, Raster, Resolution}
+use Rattle.pcl_items.specs.Escapes.Commands.{group_of, data_group_of}
 use Rattle.pcl_items.specs.Items.{Entry, Parameterized, WithData}
-use Rattle.pcl_items.specs.Value.{Amount}
+use Rattle.pcl_items.specs.Escapes.Value.{Amount}
 use Rattle.device_profile.specs.declared.field.Field.TheVariants.{Size, Orientation}
 use Rattle.device_profile.specs.declared.geometry.Geometry.{Geometry}
 use Rattle.device_profile.specs.Printer.{Printer}

@@ -1,6 +1,6 @@
 -- What no item has set since the last return to user defaults.
 use Rattle.std.specs.Prelude.{◌≡◌, ℕ, ℤ, ◌==◌, ◌||◌, Bool, true, false, cond, is_none, List, [], ◌∷◌}
-use Rattle.pcl_items.specs.declared.command.Command.TheVariants.{PageSize, Orientation as OrientationCommand, VerticalMotionIndex, LineSpacing, Copies as CopiesCommand, Sides as SidesCommand, Source, MacroControl, LineTermination, FontSpacing, FontPitch, FontHeight, FontStyle, FontWeight, FontTypeface}
+use Rattle.pcl_items.specs.declared.pcl.command.Command.TheVariants.{PageSize, Orientation as OrientationCommand, VerticalMotionIndex, LineSpacing, Copies as CopiesCommand, Sides as SidesCommand, Source, MacroControl, LineTermination, FontSpacing, FontPitch, FontHeight, FontStyle, FontWeight, FontTypeface}
 use Rattle.pcl_items.specs.Items.{Entry, Reset, ExitLanguage, Parameterized, SymbolSet, DefaultFont}
 use Rattle.device_profile.specs.declared.field.Field.{Field}
 use Rattle.device_profile.specs.declared.field.Field.TheVariants.{Size, Orientation, Vmi, Font, Copies, Sides, Tray, LineTerm}

@@ -2,7 +2,7 @@
 use Rattle.std.proofs.Common.{◌≡◌, false, [], Result, Ok, refl, ap, ◌∙◌}
 use Rattle.device_profile.specs.declared.panel.Panel.{Panel}
 use Rattle.device_profile.specs.Printer.{Printer}
-use Rattle.pcl_items.specs.declared.command.Command.TheVariants.{MacroControl}
+use Rattle.pcl_items.specs.declared.pcl.command.Command.TheVariants.{MacroControl}
 use Rattle.pcl_items.specs.declared.item.SimpleItem.{SimpleItem}
 use Rattle.pcl_items.specs.Items.{Entry, Reset, Parameterized, ExitLanguage, simple_view}
 use Rattle.page_env.specs.declared.change.Carried.{Carried}

@@ -1,12 +1,12 @@
 -- In which mode an open definition stands.
 use Rattle.std.proofs.Common.{◌≡◌, ℕ, List, Option, Some, None, is_some, refl, sym, ap, subst, ◌∙◌}
 use Rattle.std.specs.Option.{IsSome, option_and_then}
-use Rattle.pcl_items.specs.declared.command.Command.TheVariants.{MacroControl}
+use Rattle.pcl_items.specs.declared.pcl.command.Command.TheVariants.{MacroControl}
 use Rattle.pcl_items.specs.declared.item.Mode.{Mode}
 use Rattle.pcl_items.specs.declared.item.Mode.TheVariants.{Pcl, Frame, Pjl}
 use Rattle.pcl_items.specs.Grammar.{follows}
 use Rattle.pcl_items.specs.Items.{Entry, Reset, Parameterized, ExitLanguage}
-use Rattle.pcl_items.specs.Value.{Amount}
+use Rattle.pcl_items.specs.Escapes.Value.{Amount}
 use Rattle.macro_store.specs.Store.{Store, mode_in, IsAdmittedIn, Admits, with_item, appended, committed}
 use Rattle.macro_store.proofs.Modes.{mode_after-more}
 use Rattle.page_env.specs.declared.macros.Control.{Control}

@@ -3,8 +3,8 @@ use Rattle.std.proofs.Common.{◌≡◌, ℕ, ℤ, zero, suc, ◌==◌, ◌&&◌
 use Rattle.std.specs.Option.{option_map}
 use Rattle.std.specs.List.{AllByRecursion}
 use Rattle.pcl_items.specs.Items.{Entry, Parameterized}
-use Rattle.pcl_items.specs.declared.command.Command.TheVariants.{Orientation}
-use Rattle.pcl_items.specs.Value.{Amount}
+use Rattle.pcl_items.specs.declared.pcl.command.Command.TheVariants.{Orientation}
+use Rattle.pcl_items.specs.Escapes.Value.{Amount}
 use Rattle.device_profile.specs.Printer.{Printer}
 use Rattle.macro_store.specs.Store.{Store, body_of}
 use Rattle.page_env.specs.declared.finding.Finding.TheVariants.{MacroDepth}

@@ -3,10 +3,10 @@ use Rattle.std.proofs.Common.{◌≡◌, ℕ, ◌+◌, ◌≤◌, nat_lt, nat_eq
 use Rattle.std.specs.List.{AllByRecursion}
 use Rattle.std.specs.Map.{lookup, remove_entry}
 use Rattle.std.proofs.Math.Nat.{le_refl, le_trans, add-le-add}
-use Rattle.pcl_items.specs.declared.command.Command.TheVariants.{Orientation}
-use Rattle.pcl_items.specs.Canon.{canon}
+use Rattle.pcl_items.specs.declared.pcl.command.Command.TheVariants.{Orientation}
+use Rattle.pcl_items.specs.Spellings.Canon.{canon}
 use Rattle.pcl_items.specs.Items.{Entry, Parameterized}
-use Rattle.pcl_items.specs.Value.{Amount}
+use Rattle.pcl_items.specs.Escapes.Value.{Amount}
 use Rattle.device_profile.specs.Printer.{Printer}
 use Rattle.macro_store.specs.Store.{Store, stored_bytes, with_item, appended, bodies_with, cleared}
 use Rattle.page_env.specs.declared.finding.Finding.TheVariants.{MacroMemory, DefinitionOpen}

@@ -1,7 +1,7 @@
 -- Where the job has set all that the panel chooses, runs give the same events.
 use Rattle.std.proofs.Common.{◌≡◌, ℕ, ℤ, Bool, true, false, cond, ◌&&◌, ◌||◌, List, [], ◌∷◌, ◌++◌, map, not, nat_le, append-nil, refl, ap, sym, ◌∙◌, subst, Option, Some, None}
 use Rattle.pcl_items.specs.Items.{Entry}
-use Rattle.pcl_items.specs.Value.{Amount}
+use Rattle.pcl_items.specs.Escapes.Value.{Amount}
 use Rattle.device_profile.specs.declared.field.Field.{Field}
 use Rattle.device_profile.specs.Printer.{Printer}
 use Rattle.page_env.specs.declared.finding.Finding.{Finding}
@@ -18,7 +18,7 @@ use Rattle.page_env.specs.Motion.{with_vmi}
 use Rattle.page_env.specs.PageControl.{orientation_checks, set_orientation}
 use Rattle.page_env.specs.declared.finding.Finding.TheVariants.{BadValue}
 use Rattle.pcl_items.specs.Items.{Parameterized}
-use Rattle.pcl_items.specs.declared.command.Command.TheVariants.{Orientation}
+use Rattle.pcl_items.specs.declared.pcl.command.Command.TheVariants.{Orientation}
 use Rattle.page_env.specs.Pinned.{pinned, AreSet, GoesPinned, GoesPinnedBy, returns_to_panel, IsPinnedItem, IsPinnedByte, IsPinnedMove, AreBare, IsBare, KeepsBare, IsBareItem, IsBareByte, IsBareMove}
 use Rattle.page_env.specs.Rasters.{is_of_raster}
 use Rattle.page_env.specs.Table.{transition_of}

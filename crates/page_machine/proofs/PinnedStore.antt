@@ -6,7 +6,7 @@ use Rattle.std.proofs.Math.Nat.{le_refl, le_trans, le-add_left, add-le-add}
 use Rattle.std.proofs.lemmas.List.{map-append}
 use Rattle.std.proofs.lemmas.List.Sums.{sum_by-cons}
 use Rattle.std.proofs.lemmas.Map.Made.{lookup-map_values}
-use Rattle.pcl_items.specs.Canon.{canon}
+use Rattle.pcl_items.specs.Spellings.Canon.{canon}
 use Rattle.pcl_items.specs.Items.{Entry}
 use Rattle.macro_store.specs.Store.{Store, body_of, bytes_of, open_bytes, stored_bytes, began, with_item, appended, bodies_with, committed, deleted, cleared}
 use Rattle.page_env.specs.Pinned.{is_orientation}

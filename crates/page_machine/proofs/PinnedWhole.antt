@@ -1,10 +1,10 @@
 -- A job goes alike when it is pinned: behind each reset a prologue, and the spacing behind each orientation.
 use Rattle.std.proofs.Common.{◌≡◌, ℕ, ◌+◌, ◌==◌, ◌||◌, length, Bool, true, false, cond, List, [], ◌∷◌, ◌++◌, nat_lt, refl, ap, sym, ◌∙◌, subst, Option, Some, None, inl, inr}
 use Rattle.std.specs.List.{AllByRecursion}
-use Rattle.pcl_items.specs.Canon.{canon}
-use Rattle.pcl_items.specs.declared.command.Command.TheVariants.{Orientation}
+use Rattle.pcl_items.specs.Spellings.Canon.{canon}
+use Rattle.pcl_items.specs.declared.pcl.command.Command.TheVariants.{Orientation}
 use Rattle.pcl_items.specs.Items.{Entry, Placed, Reset, ExitLanguage, PjlLine, Parameterized}
-use Rattle.pcl_items.specs.Value.{Amount}
+use Rattle.pcl_items.specs.Escapes.Value.{Amount}
 use Rattle.device_profile.specs.declared.font.FontRequest.{FontRequest}
 use Rattle.device_profile.specs.declared.panel.Panel.{Panel}
 use Rattle.device_profile.specs.Printer.{Printer}

@@ -2,12 +2,12 @@
 use Rattle.std.proofs.Common.{◌≡◌, inl, inr, ℕ, ℤ, zero, suc, ◌+◌, nat_lt, Bool, true, false, cond, ◌&&◌, ◌||◌, not, is_some, is_none, length, List, [], ◌∷◌, refl, ap, sym, ◌∙◌, subst, Option, Some, None, arith}
 use Rattle.std.specs.List.{Contains}
 use Rattle.std.proofs.lemmas.Bool.{false≢true}
-use Rattle.pcl_items.specs.declared.command.Command.TheVariants.{MacroControl}
-use Rattle.pcl_items.specs.declared.command.DataCommand.TheVariants.{TransparentText}
-use Rattle.pcl_items.specs.Canon.{canon}
+use Rattle.pcl_items.specs.declared.pcl.command.Command.TheVariants.{MacroControl}
+use Rattle.pcl_items.specs.declared.pcl.command.DataCommand.TheVariants.{TransparentText}
+use Rattle.pcl_items.specs.Spellings.Canon.{canon}
 use Rattle.pcl_items.specs.Items.{Entry, Parameterized, WithData, Move, Reset, Placed}
 use Rattle.pcl_items.specs.Reading.{Reading, Whole, Stopped}
-use Rattle.pcl_items.specs.Value.{Amount}
+use Rattle.pcl_items.specs.Escapes.Value.{Amount}
 use Rattle.device_profile.specs.declared.field.Field.{Field}
 use Rattle.device_profile.specs.declared.field.Field.TheVariants.{Size, Orientation, Vmi, Font, Copies, Sides, Tray, LineTerm}
 use Rattle.device_profile.specs.declared.panel.Panel.{Panel}

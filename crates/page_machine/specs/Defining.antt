@@ -1,8 +1,8 @@
 -- What an item of the job does: it is carried out, or stored in the definition that is open; and the macros after it.
 use Rattle.std.specs.Prelude.{◌≡◌, ℕ, ◌+◌, nat_lt, length, Bool, true, false, cond, is_some, Option, Some, None, IsSome, [], ◌∷◌}
-use Rattle.pcl_items.specs.declared.command.Command.TheVariants.{MacroControl}
+use Rattle.pcl_items.specs.declared.pcl.command.Command.TheVariants.{MacroControl}
 use Rattle.pcl_items.specs.declared.item.Mode.{Mode}
-use Rattle.pcl_items.specs.Canon.{canon}
+use Rattle.pcl_items.specs.Spellings.Canon.{canon}
 use Rattle.pcl_items.specs.Items.{Entry, Parameterized}
 use Rattle.macro_store.specs.Store.{Store, mode_in, stored_bytes, began, appended, committed, deleted, cleared}
 use Rattle.page_env.specs.declared.finding.Finding.TheVariants.{MacroMemory, DefinitionOpen}

@@ -1,7 +1,7 @@
 -- What macros do: the bodies that controls run, the overlay of a page that closes, and under which conditions each item stands.
 use Rattle.std.specs.Prelude.{ℕ, zero, suc, ◌==◌, ◌&&◌, Bool, true, false, is_some, Option, Some, None, List, [], ◌∷◌}
 use Rattle.pcl_items.specs.Items.{Entry}
-use Rattle.pcl_items.specs.Value.{Amount}
+use Rattle.pcl_items.specs.Escapes.Value.{Amount}
 use Rattle.device_profile.specs.declared.field.Field.{Field}
 use Rattle.device_profile.specs.declared.field.Field.TheVariants.{Size, Orientation, Copies, Sides, Tray}
 use Rattle.device_profile.specs.Printer.{Printer}

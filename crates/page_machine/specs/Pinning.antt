@@ -4,12 +4,12 @@ use Rattle.std.specs.Prelude.{◌≡◌, ℕ, ℤ, pos, int_lt, unsigned_abs, �
 use Rattle.device_profile.specs.declared.font.FontRequest.{FontRequest}
 use Rattle.device_profile.specs.declared.panel.Panel.{Panel}
 use Rattle.device_profile.specs.Printer.{Printer}
-use Rattle.pcl_items.specs.declared.command.Command.TheVariants.{PageSize, Orientation, Copies, Sides, Source, VerticalMotionIndex, LineTermination, FontSpacing, FontPitch, FontHeight, FontStyle, FontWeight, FontTypeface}
+use Rattle.pcl_items.specs.declared.pcl.command.Command.TheVariants.{PageSize, Orientation, Copies, Sides, Source, VerticalMotionIndex, LineTermination, FontSpacing, FontPitch, FontHeight, FontStyle, FontWeight, FontTypeface}
 use Rattle.pcl_items.specs.declared.number.Sign.TheVariants.{Absent, Minus}
-use Rattle.pcl_items.specs.Canon.{canon}
+use Rattle.pcl_items.specs.Spellings.Canon.{canon}
 use Rattle.pcl_items.specs.Items.{Entry, Placed, Parameterized, SymbolSet, Reset, ExitLanguage, PjlLine}
 use Rattle.pcl_items.specs.Reading.{Reading, Whole}
-use Rattle.pcl_items.specs.Value.{Amount}
+use Rattle.pcl_items.specs.Escapes.Value.{Amount}
 use Rattle.page_env.specs.declared.finding.Finding.{Finding}
 use Rattle.page_env.specs.declared.finding.Finding.TheVariants.{MacroMemory}
 use Rattle.page_env.specs.JobControl.{is_reset}

@@ -1,10 +1,10 @@
 -- How a run comes to a step that reads a field of the panel which no item has set since it was last at its user default.
 use Rattle.std.specs.Prelude.{◌≡◌, ◌⊎◌, ℕ, ℤ, zero, suc, ◌&&◌, Bool, true, false, cond, is_some, Option, Some, None, List, [], ◌∷◌}
 use Rattle.std.specs.List.{Contains}
-use Rattle.pcl_items.specs.declared.command.Command.TheVariants.{MacroControl}
+use Rattle.pcl_items.specs.declared.pcl.command.Command.TheVariants.{MacroControl}
 use Rattle.pcl_items.specs.Items.{Entry, Parameterized, Placed}
 use Rattle.pcl_items.specs.Reading.{Reading, Whole, Stopped}
-use Rattle.pcl_items.specs.Value.{Amount}
+use Rattle.pcl_items.specs.Escapes.Value.{Amount}
 use Rattle.device_profile.specs.declared.field.Field.{Field}
 use Rattle.device_profile.specs.declared.panel.Panel.{Panel}
 use Rattle.device_profile.specs.Printer.{Printer}

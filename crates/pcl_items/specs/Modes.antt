@@ -2,9 +2,9 @@
 use Rattle.std.specs.Prelude.{◌==◌, Option, None, Some, if◌then◌else◌}
 use Rattle.pcl_items.specs.declared.item.Mode.{Mode}
 use Rattle.pcl_items.specs.declared.item.Mode.TheVariants as modes
-use Rattle.pcl_items.specs.Contexts.{Context, Pcl, Sequence, Frame, Letters, Numbered, Pjl}
+use Rattle.pcl_items.specs.Lexing.Contexts.{Context, Pcl, Sequence, Frame, Letters, Numbered, Pjl}
 use Rattle.pcl_items.specs.Items.{Entry, Text, Reset, EnterFrame, LeaveFrame, Initialize, Set, Move, ExitLanguage, PjlLine}
-use Rattle.pcl_items.specs.LineText.{at_sign, Line, EnterPcl}
+use Rattle.pcl_items.specs.PjlLines.Text.{at_sign, Line, EnterPcl}
 
 -- the mode behind an item of mode PCL
 abbrev pcl_follows : Entry → Option Mode

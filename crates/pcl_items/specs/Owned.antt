@@ -2,7 +2,7 @@
 use Rattle.pcl_items.specs.declared.owned.OwnedItem.{OwnedItem}
 use Rattle.pcl_items.specs.declared.owned.OwnedItem.TheVariants as owned
 use Rattle.pcl_items.specs.Items.{Entry, Text, simple_view, WithData, PjlLine}
-use Rattle.pcl_items.specs.LineView.{owned_line_view}
+use Rattle.pcl_items.specs.PjlLines.View.{owned_line_view}
 
 abbrev pub owned_view : {A : Type 0} → OwnedItem A → Entry
 owned_view (owned.Text byte) = Text byte.code

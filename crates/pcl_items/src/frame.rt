@@ -1,9 +1,13 @@
 //! The commands of an HP-GL/2 frame, and the bytes that they are written in.
 
 ghost use Rattle.std.specs.Prelude.{◌≡◌, ◌≤◌, unsigned_abs};
-ghost use Rattle.pcl_items.specs.Kinds.{kind_of, capital};
-ghost use Rattle.pcl_items.specs.Mnemonics.{mnemonic_at, letters_of};
-ghost use Rattle.pcl_items.specs.Value.{most_units};
+ghost use Rattle.pcl_items.specs.Frames.Kinds.{kind_of, capital};
+ghost use Rattle.pcl_items.specs.Frames.Mnemonics.{mnemonic_at, letters_of};
+ghost use Rattle.pcl_items.specs.Escapes.Value.{most_units};
+
+pub(crate) mod first;
+pub(crate) mod number;
+pub(crate) mod pair;
 
 /// A command that moves the pen.
 #[derive(Clone, Copy, Debug, PartialEq, Eq)]
@@ -99,7 +103,7 @@ pub enum Kind {
 
 impl Kind {
     /// What the byte is.
-    #[tactic(auto, unfolding(crate::specs::Kinds::kind_of))]
+    #[tactic(auto, unfolding(crate::specs::Frames::Kinds::kind_of))]
     pub fn of(byte: u8) -> Kind
         ensures { result ≡ kind_of byte }
     {

@@ -1,14 +1,14 @@
 //! Items that are kept.
 
 ghost use Rattle.std.specs.Prelude.{◌≡◌, ◌≤◌, length, IfOk};
-ghost use Rattle.pcl_items.specs.Value.{most_data};
-ghost use Rattle.pcl_items.specs.LineView.{line_view, owned_line_view};
-ghost use Rattle.pcl_items.specs.LineCanon.{IsSpelledLine};
+ghost use Rattle.pcl_items.specs.Escapes.Value.{most_data};
+ghost use Rattle.pcl_items.specs.PjlLines.View.{line_view, owned_line_view};
+ghost use Rattle.pcl_items.specs.PjlLines.Canon.{IsSpelledLine};
 ghost use Rattle.std.proofs.Props.{props};
 
-use crate::command::DataCommand;
 use crate::item::{Data, Item, PjlLine, SimpleItem, TextByte};
-use crate::line::Line;
+use crate::pcl::command::DataCommand;
+use crate::pjl::Line;
 use std::alloc::{AllocError, Allocator, Global};
 
 /// Bytes behind a command, kept.

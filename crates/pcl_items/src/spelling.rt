@@ -5,23 +5,25 @@ ghost use Rattle.std.specs.Fmt.{signed_decimal};
 ghost use Rattle.arrayvec.specs.ArrayVec.{array_vec_len};
 ghost use Rattle.pcl_items.specs.declared.item.Mode.TheVariants.{Pcl, Frame, Pjl};
 ghost use Rattle.pcl_items.specs.Items.{Entry, view, simple_view, amount, pair};
-ghost use Rattle.pcl_items.specs.LineText.{BeginsLine};
-ghost use Rattle.pcl_items.specs.LineView.{line_view};
-ghost use Rattle.pcl_items.specs.LineCanon.{behind_space, canon_line};
-ghost use Rattle.pcl_items.specs.Canon.{canon, IsNoLine, data_of, amount_text, magnitude_text, with_point, without_zeros, four_decimals};
-ghost use Rattle.pcl_items.specs.Mnemonics.{letters_of};
-ghost use Rattle.pcl_items.specs.ValueField.{sign_text};
-ghost use Rattle.pcl_items.specs.Spelled.{StandsAt, NothingStands, IsSpelled};
+ghost use Rattle.pcl_items.specs.PjlLines.Text.{BeginsLine};
+ghost use Rattle.pcl_items.specs.PjlLines.View.{line_view};
+ghost use Rattle.pcl_items.specs.PjlLines.Canon.{behind_space, canon_line};
+ghost use Rattle.pcl_items.specs.Spellings.Canon.{canon, IsNoLine, data_of, amount_text, magnitude_text, with_point, without_zeros, four_decimals};
+ghost use Rattle.pcl_items.specs.Frames.Mnemonics.{letters_of};
+ghost use Rattle.pcl_items.specs.Escapes.ValueField.{sign_text};
+ghost use Rattle.pcl_items.specs.Spellings.Spelled.{StandsAt, NothingStands, IsSpelled};
 
-use crate::ahead::{byte_in, next_ahead, with_its_data};
-use crate::command::{Command, DataCommand};
-use crate::decimals::{point_and_decimals, shown};
-use crate::first::{Context, First, begins_line, first_between};
+pub(crate) mod decimals;
+
 use crate::frame::{Coordinate, Coordinates, Handover, Mnemonic, Motion, Setting};
 use crate::item::{Item, Mode, PjlLine, SetLetter, SimpleItem};
-use crate::line::{FirstLine, Line, MOST_IN_LINE, first_line};
+use crate::lexer::ahead::{byte_in, next_ahead, with_its_data};
+use crate::lexer::first::{Context, First, begins_line, first_between};
 use crate::number::{Magnitude, Number, Sign};
-use crate::parameterized::parameterized_in;
+use crate::pcl::command::{Command, DataCommand};
+use crate::pcl::parameterized::parameterized_in;
+use crate::pjl::{FirstLine, Line, MOST_IN_LINE, first_line};
+use crate::spelling::decimals::{point_and_decimals, shown};
 use arrayvec::ArrayVec;
 use itoa::Buffer;
 use std::alloc::{AllocError, Allocator};
@@ -50,7 +52,7 @@ fn append(text: &mut HeadText, bytes: &[u8])
 }
 
 /// Appends a point and the decimals of a number, where it has some.
-#[tactic(auto, using(crate::proofs::WholeNumbers::no_decimals))]
+#[tactic(auto, using(crate::proofs::Escapes::WholeNumbers::no_decimals))]
 fn append_decimals(text: &mut HeadText, n: u32)
     requires { array_vec_len text.old ≤ 10 }
     ensures text { text.new.items ≡ text.old.items ++ with_point (without_zeros (four_decimals n)) }

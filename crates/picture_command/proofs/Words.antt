@@ -1,11 +1,11 @@
 -- What sentences say of a failure.
 use Rattle.std.proofs.Common.{◌≡◌, ℕ, List, [], ◌∷◌, ◌++◌, Option, None, Some, Ok, refl, ap, sym, ◌∙◌}
 use Rattle.std.specs.Prelude.{codes, decimal, flat_map}
-use Rattle.pcl_items.specs.declared.command.DataCommand.{DataCommand}
+use Rattle.pcl_items.specs.declared.pcl.command.DataCommand.{DataCommand}
 use Rattle.pcl_items.specs.declared.item.SimpleItem.{SimpleItem}
 use Rattle.pcl_items.specs.declared.item.SimpleItem.TheVariants as simple
-use Rattle.pcl_items.specs.Canon.{canon}
-use Rattle.pcl_items.specs.Commands.{introducer_of, character_of, data_group_of, data_letter_of}
+use Rattle.pcl_items.specs.Spellings.Canon.{canon}
+use Rattle.pcl_items.specs.Escapes.Commands.{introducer_of, character_of, data_group_of, data_letter_of}
 use Rattle.pcl_items.specs.Items.{Entry, simple_view}
 use Rattle.verdict.specs.declared.verdict.Verdict.{Verdict}
 use Rattle.verdict.specs.declared.verdict.Verdict.TheVariants.{Pass, Fail}

@@ -1,8 +1,8 @@
 -- What is told of the pages of a job before they are drawn: whether the job fails on them, and whether it has them.
 use Rattle.std.specs.Prelude.{ℕ, ◌+◌, false, List, [], ◌∷◌, ◌++◌, codes, decimal, flat_map, length, get_or, Option, None, Some, Ok, if◌then◌else◌}
 use Rattle.pcl_items.specs.declared.fault.Cause.{Cause}
-use Rattle.pcl_items.specs.Canon.{canon}
-use Rattle.pcl_items.specs.Commands.{introducer_of, character_of, data_group_of, data_letter_of}
+use Rattle.pcl_items.specs.Spellings.Canon.{canon}
+use Rattle.pcl_items.specs.Escapes.Commands.{introducer_of, character_of, data_group_of, data_letter_of}
 use Rattle.pcl_items.specs.Items.{Entry, Placed, Text, WithData, PjlLine}
 use Rattle.pcl_items.specs.Reading.{Reading, Whole, Stopped}
 use Rattle.device_profile.specs.declared.panel.Panel.{Panel}

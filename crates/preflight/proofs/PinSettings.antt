@@ -5,8 +5,8 @@ use Rattle.std.proofs.lemmas.Bool.{and_parts, or_cases, leb-true, eqb-true}
 use Rattle.device_profile.specs.declared.font.FontRequest.{FontRequest}
 use Rattle.device_profile.specs.Faces.{is_request, is_set_letter, is_whole_up_to}
 use Rattle.device_profile.specs.Values.{is_between}
-use Rattle.pcl_items.specs.SetLetters.{IsSetLetter}
-use Rattle.pcl_items.specs.Value.{most}
+use Rattle.pcl_items.specs.Escapes.SetLetters.{IsSetLetter}
+use Rattle.pcl_items.specs.Escapes.Value.{most}
 
 pub within : (least greatest n : ℕ) → IsTrue (is_between least greatest n) → (least ≤ n) × (n ≤ greatest)
 within least greatest n is =

@@ -7,19 +7,19 @@ use Rattle.device_profile.specs.declared.font.FontRequest.{FontRequest}
 use Rattle.device_profile.specs.declared.panel.Panel.{Panel}
 use Rattle.device_profile.specs.Faces.{Face, face_at, is_request}
 use Rattle.device_profile.specs.Printer.{Printer, CanBeSetTo}
-use Rattle.pcl_items.specs.declared.command.Command.TheVariants.{Orientation}
+use Rattle.pcl_items.specs.declared.pcl.command.Command.TheVariants.{Orientation}
 use Rattle.pcl_items.specs.declared.item.Mode.{Mode}
 use Rattle.pcl_items.specs.declared.item.Mode.TheVariants.{Pcl, Frame, Pjl}
-use Rattle.pcl_items.specs.Canon.{canon, IsItem}
+use Rattle.pcl_items.specs.Spellings.Canon.{canon, IsItem}
 use Rattle.pcl_items.specs.Grammar.{MayEnd, follows, behind_line}
 use Rattle.pcl_items.specs.Items.{Entry, Placed, Reset, ExitLanguage, PjlLine, Parameterized, Text}
-use Rattle.pcl_items.specs.LineText.{Line, EnterPcl, at_sign}
+use Rattle.pcl_items.specs.PjlLines.Text.{Line, EnterPcl, at_sign}
 use Rattle.pcl_items.specs.Modes.{between, mode_of}
 use Rattle.pcl_items.specs.Reading.{Whole, IsReading}
-use Rattle.pcl_items.specs.Spelled.{AreAdmitted, none, some, entries, mode_after, mode_behind, spelled}
-use Rattle.pcl_items.specs.Value.{most}
-use Rattle.pcl_items.proofs.Spellings.{AreAdmitted-append, mode_behind-append, reads_mode, spelled-append}
-use Rattle.pcl_items.proofs.Stopping.{read_by_rules}
+use Rattle.pcl_items.specs.Spellings.Spelled.{AreAdmitted, none, some, entries, mode_after, mode_behind, spelled}
+use Rattle.pcl_items.specs.Escapes.Value.{most}
+use Rattle.pcl_items.proofs.Spellings.ReadAgain.{AreAdmitted-append, mode_behind-append, reads_mode, spelled-append}
+use Rattle.pcl_items.proofs.Reading.Stopping.{read_by_rules}
 use Rattle.page_env.specs.FontInForce.{request_at, no_request}
 use Rattle.page_env.specs.Pinned.{is_unpinnable}
 use Rattle.page_machine.specs.Pinning.{spacing, prologue, needs_no_prologue, before, behind, is_due_behind, pinned_items, placed_from, place_behind}

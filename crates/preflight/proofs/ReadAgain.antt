@@ -2,7 +2,7 @@
 use Rattle.std.proofs.Common.{◌≡◌, ◌≤◌, ◌==◌, ℕ, zero, suc, Bool, true, false, cond, List, [], ◌∷◌, ◌++◌, Option, None, Some, refl, ap, sym, ◌∙◌, subst, ℤ, arith}
 use Rattle.std.specs.Prelude.{unsigned_abs}
 use Rattle.std.specs.List.{AllByRecursion, flat_map}
-use Rattle.pcl_items.specs.declared.command.Group.{Group}
+use Rattle.pcl_items.specs.declared.pcl.command.Group.{Group}
 use Rattle.pcl_items.specs.declared.frame.Mnemonic.{Mnemonic}
 use Rattle.pcl_items.specs.declared.frame.Mnemonic.TheVariants as mnemonics
 use Rattle.pcl_items.specs.declared.frame.Setting.TheVariants as settings
@@ -10,22 +10,22 @@ use Rattle.pcl_items.specs.declared.item.Mode.{Mode}
 use Rattle.pcl_items.specs.declared.item.Mode.TheVariants as modes
 use Rattle.pcl_items.specs.declared.number.Sign.{Sign}
 use Rattle.pcl_items.specs.declared.number.Sign.TheVariants.{Absent, Plus, Minus}
-use Rattle.pcl_items.specs.Canon.{canon, IsItem}
-use Rattle.pcl_items.specs.Codes.{control_at, sequence_at}
-use Rattle.pcl_items.specs.CommandParts.{Numbers, Single, Odd, Even}
+use Rattle.pcl_items.specs.Spellings.Canon.{canon, IsItem}
+use Rattle.pcl_items.specs.Escapes.Codes.{control_at, sequence_at}
+use Rattle.pcl_items.specs.Frames.CommandParts.{Numbers, Single, Odd, Even}
 use Rattle.pcl_items.specs.Faults as rules
-use Rattle.pcl_items.specs.FrameFaults as frames
-use Rattle.pcl_items.specs.FrameGrammar.{Start, Part, Word, Number, IsBegun, letters, letters_space, setting, coordinate, behind_pair, further_coordinate, space, comma, IsWhole, without_number, with_number, EndsPair, second_coordinate, IsCommand, without_pairs, pair, behind_pairs, IsFrameUnit, separator, command, ended_command, LeavesFrame, reset, leave_frame}
+use Rattle.pcl_items.specs.Frames.Faults as frames
+use Rattle.pcl_items.specs.Frames.Grammar.{Start, Part, Word, Number, IsBegun, letters, letters_space, setting, coordinate, behind_pair, further_coordinate, space, comma, IsWhole, without_number, with_number, EndsPair, second_coordinate, IsCommand, without_pairs, pair, behind_pairs, IsFrameUnit, separator, command, ended_command, LeavesFrame, reset, leave_frame}
 use Rattle.pcl_items.specs.Grammar.{Commands, last, with_data, more, IsLone, symbol_set, default_font, leave_frame as leaves_lone, enter_frame, IsUnit, text_byte, control_code, two_characters, lone, combined, in_frame, out_of_frame, exit, line, otherwise, SpellsTo, here, next, follows}
 use Rattle.pcl_items.specs.Items.{Entry, Placed, bare}
-use Rattle.pcl_items.specs.NumberText.{IsCoordinate}
+use Rattle.pcl_items.specs.Frames.NumberText.{IsCoordinate}
 use Rattle.pcl_items.specs.Reading.{Reading, Whole, Stopped, IsReading, items_of, reading_of}
-use Rattle.pcl_items.specs.Spelled.{AreAdmitted, none, some, entries, items_in, mode_after, mode_behind, spelled}
-use Rattle.pcl_items.specs.Value.{most, most_units, signed}
-use Rattle.pcl_items.specs.ValueField.{IsField}
-use Rattle.pcl_items.proofs.LineCanonical.{spelled_line}
-use Rattle.pcl_items.proofs.Spellings.{items_in-spelled, reads_mode}
-use Rattle.pcl_items.proofs.Stopping.{read_by_rules}
+use Rattle.pcl_items.specs.Spellings.Spelled.{AreAdmitted, none, some, entries, items_in, mode_after, mode_behind, spelled}
+use Rattle.pcl_items.specs.Escapes.Value.{most, most_units, signed}
+use Rattle.pcl_items.specs.Escapes.ValueField.{IsField}
+use Rattle.pcl_items.proofs.PjlLines.Canonical.{spelled_line}
+use Rattle.pcl_items.proofs.Spellings.ReadAgain.{items_in-spelled, reads_mode}
+use Rattle.pcl_items.proofs.Reading.Stopping.{read_by_rules}
 use Rattle.preflight.specs.Laws.{HaveOnePlainText, IsReadAgain}
 use Rattle.page_machine.specs.Pinning.{placed_from, place_behind}
 use Rattle.preflight.specs.Texts.{plain_text}

@@ -10,12 +10,12 @@ use Rattle.pcl_items.specs.declared.lexer.Lexed.{Lexed}
 use Rattle.pcl_items.specs.declared.lexer.Lexed.TheVariants as answers
 use Rattle.pcl_items.specs.Items.{Entry, Placed, view, at}
 use Rattle.pcl_items.specs.Laws.{HasOneReading}
-use Rattle.pcl_items.specs.LexerState.{LexerState}
-use Rattle.pcl_items.specs.Lexing.{HasRead, MayBe, Decides, Settles, given, Tells as LexerTells, Undecided, IsNext}
+use Rattle.pcl_items.specs.Lexing.State.{LexerState}
+use Rattle.pcl_items.specs.Lexing.Meaning.{HasRead, MayBe, Decides, Settles, given, Tells as LexerTells, Undecided, IsNext}
 use Rattle.pcl_items.specs.Reading.{Reading, Whole, Stopped, IsReading, items_of, read_on, reading_of, with_item}
 use Rattle.pcl_items.specs.Reader.{first_of}
-use Rattle.pcl_items.proofs.Readings.{one_reading}
-use Rattle.pcl_items.proofs.Steps.{decides}
+use Rattle.pcl_items.proofs.Reading.Readings.{one_reading}
+use Rattle.pcl_items.proofs.Lexing.Steps.{decides}
 use Rattle.preflight.specs.declared.error.Error.{Error}
 use Rattle.preflight.specs.declared.outcome.Outcome.{Outcome}
 use Rattle.preflight.specs.Due.{Rendering, list_rendering}

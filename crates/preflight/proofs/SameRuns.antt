@@ -3,7 +3,7 @@ use Rattle.std.proofs.Common.{◌≡◌, ℕ, zero, suc, Bool, true, List, [], �
 use Rattle.std.proofs.lemmas.Bool.{false≢true}
 use Rattle.pcl_items.specs.Items.{Entry, Placed}
 use Rattle.pcl_items.specs.Reading.{Reading}
-use Rattle.pcl_items.specs.Spelled.{entries}
+use Rattle.pcl_items.specs.Spellings.Spelled.{entries}
 use Rattle.device_profile.specs.declared.field.Field.{Field}
 use Rattle.device_profile.specs.declared.field.Field.TheVariants.{Size, Orientation, Vmi, Font, Copies, Sides, Tray, LineTerm}
 use Rattle.device_profile.specs.declared.font.FontRequest.{FontRequest}

@@ -2,18 +2,18 @@
 use Rattle.std.proofs.Common.{◌≡◌, ℕ, ◌+◌, length, true, List, [], ◌∷◌, Some, ap, sym, ◌∙◌, subst}
 use Rattle.pcl_items.specs.declared.item.Mode.{Mode}
 use Rattle.pcl_items.specs.declared.item.Mode.TheVariants.{Pcl, Frame, Pjl}
-use Rattle.pcl_items.specs.Canon.{canon}
-use Rattle.pcl_items.specs.Contexts.{Context, MayEndAt}
-use Rattle.pcl_items.specs.Contexts as contexts
+use Rattle.pcl_items.specs.Spellings.Canon.{canon}
+use Rattle.pcl_items.specs.Lexing.Contexts.{Context, MayEndAt}
+use Rattle.pcl_items.specs.Lexing.Contexts as contexts
 use Rattle.pcl_items.specs.Grammar.{MayEnd}
 use Rattle.pcl_items.specs.Items.{Entry, Placed}
 use Rattle.pcl_items.specs.Modes.{between, mode_of}
 use Rattle.pcl_items.specs.Reading.{ReadsTo, here, Whole, IsReading}
-use Rattle.pcl_items.specs.Spelled.{AreAdmitted, none, some, entries, mode_after, mode_behind, spelled}
-use Rattle.pcl_items.proofs.Canons.{has_canon}
-use Rattle.pcl_items.proofs.ReadsTo.{ReadsTo-append}
-use Rattle.pcl_items.proofs.Spellings.{reads_mode}
-use Rattle.pcl_items.proofs.Stopping.{read_by_rules}
+use Rattle.pcl_items.specs.Spellings.Spelled.{AreAdmitted, none, some, entries, mode_after, mode_behind, spelled}
+use Rattle.pcl_items.proofs.Spellings.Canons.{has_canon}
+use Rattle.pcl_items.proofs.Reading.ReadsTo.{ReadsTo-append}
+use Rattle.pcl_items.proofs.Spellings.ReadAgain.{reads_mode}
+use Rattle.pcl_items.proofs.Reading.Stopping.{read_by_rules}
 use Rattle.page_machine.specs.Pinning.{placed_from, place_behind}
 
 pub placed_reads : (mode final : Mode) (place : ℕ) (items : List Entry) → AreAdmitted mode items → mode_behind mode items ≡ Some final → ReadsTo true (between mode) place (spelled items) (placed_from place items) (between final) (place_behind place items) []

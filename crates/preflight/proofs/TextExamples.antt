@@ -2,13 +2,13 @@
 use Rattle.std.proofs.Common.{◌≡◌, ℕ, List, [], ◌∷◌, ◌++◌, refl}
 use Rattle.std.specs.Prelude.{codes}
 use Rattle.std.specs.Fmt.{digits}
-use Rattle.pcl_items.specs.declared.command.Group.TheVariants.{Layout}
+use Rattle.pcl_items.specs.declared.pcl.command.Group.TheVariants.{Layout}
 use Rattle.pcl_items.specs.declared.fault.Name.TheVariants as names
 use Rattle.pcl_items.specs.declared.fault.Cause.TheVariants.{NotInProfile}
-use Rattle.pcl_items.specs.Exit.{exit_text}
-use Rattle.pcl_items.specs.Field.{field_at, amount_of}
-use Rattle.pcl_items.specs.LineFirst.{at_line}
-use Rattle.pcl_items.specs.LineReader.{trimmed, is_word, past_part, parts_behind, is_language, in_words, line_of}
+use Rattle.pcl_items.specs.PjlLines.Exit.{exit_text}
+use Rattle.pcl_items.specs.Escapes.Field.{field_at, amount_of}
+use Rattle.pcl_items.specs.PjlLines.First.{at_line}
+use Rattle.pcl_items.specs.PjlLines.Reader.{trimmed, is_word, past_part, parts_behind, is_language, in_words, line_of}
 use Rattle.pcl_items.specs.Reader.{first_of, after_escape, after_introducer, after_parenthesis, command_in, without_group}
 use Rattle.pcl_items.specs.Reading.{read_on, reading_of}
 use Rattle.device_profile.specs.declared.panel.Panel.{Panel}

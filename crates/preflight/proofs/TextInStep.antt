@@ -4,13 +4,13 @@ use Rattle.std.specs.List.{AllByRecursion}
 use Rattle.std.proofs.lemmas.List.{take_more, take_more_set, drop_more, drop-set-lt, drop-drop, take_all, take-take, length-set}
 use Rattle.pcl_items.specs.declared.item.Mode.{Mode}
 use Rattle.pcl_items.specs.declared.item.Mode.TheVariants as modes
-use Rattle.pcl_items.specs.Contexts.{Context, Pcl, Sequence, Frame, Letters, Numbered, Pjl, pending}
+use Rattle.pcl_items.specs.Lexing.Contexts.{Context, Pcl, Sequence, Frame, Letters, Numbered, Pjl, pending}
 use Rattle.pcl_items.specs.Grammar.{follows}
 use Rattle.pcl_items.specs.Items.{Text, at, Placed}
 use Rattle.pcl_items.specs.Modes.{mode_of}
 use Rattle.pcl_items.specs.Reading.{left}
-use Rattle.pcl_items.specs.LexerState.{LexerState}
-use Rattle.pcl_items.specs.Passing.{ahead_in, ahead_of, AreText, text_items, Passes}
+use Rattle.pcl_items.specs.Lexing.State.{LexerState}
+use Rattle.pcl_items.specs.Lexing.Passing.{ahead_in, ahead_of, AreText, text_items, Passes}
 use Rattle.device_profile.specs.declared.font.CodeRange.{CodeRange}
 use Rattle.device_profile.specs.Printer.{Printer}
 use Rattle.page_env.specs.declared.mark.Glyph.{Glyph}

@@ -4,10 +4,10 @@ use Rattle.std.specs.List.{concat}
 use Rattle.std.specs.Io.KnownBytes.{Consumes}
 use Rattle.pcl_items.specs.declared.fault.Cause.{Cause}
 use Rattle.pcl_items.specs.declared.item.Mode.{Mode}
-use Rattle.pcl_items.specs.LexerState.{LexerState}
-use Rattle.pcl_items.specs.Lexing.{Decides, Undecided}
+use Rattle.pcl_items.specs.Lexing.State.{LexerState}
+use Rattle.pcl_items.specs.Lexing.Meaning.{Decides, Undecided}
 use Rattle.pcl_items.specs.Reading.{Stopped, IsReading}
-use Rattle.pcl_items.proofs.Steps.{decides}
+use Rattle.pcl_items.proofs.Lexing.Steps.{decides}
 use Rattle.preflight.specs.declared.outcome.Outcome.{Outcome}
 use Rattle.preflight.specs.Due.{Rendering, WritesDue, WritesFront, WritesDecided}
 use Rattle.streams.specs.Outlet.{OutletState}

@@ -3,7 +3,7 @@ use Rattle.std.specs.Prelude.{◌≡◌, ℕ, List, length, Option, None, Some}
 use Rattle.std.specs.List.{Contains}
 use Rattle.pcl_items.specs.Items.{Entry, simple_view, at}
 use Rattle.pcl_items.specs.Items as entries
-use Rattle.pcl_items.specs.LineText.{Line}
+use Rattle.pcl_items.specs.PjlLines.Text.{Line}
 use Rattle.pcl_items.specs.Reading.{Reading, IsReading, items_of}
 use Rattle.device_profile.specs.Printer.{Printer}
 use Rattle.verdict.specs.declared.reason.Reason.TheVariants.{Fault, Finding, Differs, Unpinnable}

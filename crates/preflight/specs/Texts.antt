@@ -1,7 +1,7 @@
 -- The texts that are written of a job: its items in their spelling, and the list of its items.
 use Rattle.std.specs.Prelude.{ℕ, List, ◌++◌, flat_map}
 use Rattle.pcl_items.specs.Items.{Placed}
-use Rattle.pcl_items.specs.Canon.{canon}
+use Rattle.pcl_items.specs.Spellings.Canon.{canon}
 use Rattle.pcl_items.specs.Reading.{Reading, Whole, Stopped, items_of}
 use Rattle.preflight.specs.declared.outcome.Outcome.{Outcome}
 use Rattle.preflight.specs.declared.outcome.Outcome.TheVariants.{Done, Fail}

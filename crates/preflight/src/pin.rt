@@ -5,10 +5,10 @@ ghost use Rattle.device_profile.specs.Printer.{HasItsValues, IsAllowed};
 ghost use Rattle.page_env.specs.JobControl.{is_reset};
 ghost use Rattle.page_env.specs.Pinned.{is_orientation, is_unpinnable};
 ghost use Rattle.page_machine.specs.Pinning.{before, behind, is_due_behind, needs_no_prologue, prologue, unsigned, weight_amount};
-ghost use Rattle.pcl_items.specs.Canon.{canon};
+ghost use Rattle.pcl_items.specs.Spellings.Canon.{canon};
 ghost use Rattle.pcl_items.specs.Items.{Parameterized, SymbolSet, simple_view, view};
-ghost use Rattle.pcl_items.specs.declared.command.Command.TheVariants.{FontWeight};
-ghost use Rattle.pcl_items.specs.Value.{most};
+ghost use Rattle.pcl_items.specs.declared.pcl.command.Command.TheVariants.{FontWeight};
+ghost use Rattle.pcl_items.specs.Escapes.Value.{most};
 ghost use Rattle.preflight.specs.Due.{Renders};
 ghost use Rattle.preflight.specs.Pins.{pinned_item, pins_from, pinned_rendering};
 

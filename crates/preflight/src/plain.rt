@@ -1,6 +1,6 @@
 //! The items of a job in their canonical spelling.
 ghost use Rattle.std.specs.Prelude.{IsFalse};
-ghost use Rattle.pcl_items.specs.Canon.{canon};
+ghost use Rattle.pcl_items.specs.Spellings.Canon.{canon};
 ghost use Rattle.preflight.specs.Due.{Renders, plain_rendering};
 
 use crate::error::Error;

@@ -4,7 +4,7 @@ ghost use Rattle.pcl_items.specs.declared.fault.Cause.{Cause};
 ghost use Rattle.pcl_items.specs.declared.item.Mode.{Mode};
 ghost use Rattle.pcl_items.specs.declared.item.Mode.TheVariants.{Pcl};
 ghost use Rattle.pcl_items.specs.Items.{at, view};
-ghost use Rattle.pcl_items.specs.LexerState.{WantsMore};
+ghost use Rattle.pcl_items.specs.Lexing.State.{WantsMore};
 ghost use Rattle.pcl_items.specs.Modes.{mode_of};
 ghost use Rattle.pcl_items.specs.Reading.{Whole, Stopped};
 ghost use Rattle.preflight.specs.Due.{Renders, Rendering};

@@ -1,6 +1,6 @@
 //! A check of a job that is fed in pieces.
 ghost use Rattle.std.specs.Prelude.{◌≡◌, ◌++◌, ◌<◌, ◌≤◌, ◌+◌, ◌^◌, ◌↔◌, ◌≢◌, ◌⊎◌, ℕ, List, [], length, None, IfOk, IfErr, IsErrOf, Ok, Err, OnOk, false};
-ghost use Rattle.pcl_items.specs.LexerState.{WantsMore};
+ghost use Rattle.pcl_items.specs.Lexing.State.{WantsMore};
 ghost use Rattle.pcl_items.specs.Modes.{mode_of};
 ghost use Rattle.device_profile.specs.Printer.{Printer};
 ghost use Rattle.preflight.specs.declared.error.Error.{Error};
@@ -42,7 +42,7 @@ pub struct Session<'p, A: Allocator + Copy, P: Allocator> {
 
 impl<'p, A: Allocator + Copy, P: Allocator> Model for Session<'p, A, P> {
     ghost use Rattle.std.specs.Prelude.{◌≡◌, ◌≤◌, ◌+◌, ◌^◌, length, None, false};
-    ghost use Rattle.pcl_items.specs.LexerState.{WantsMore};
+    ghost use Rattle.pcl_items.specs.Lexing.State.{WantsMore};
     ghost use Rattle.pcl_items.specs.Modes.{mode_of};
     ghost use Rattle.preflight.specs.declared.standing.Standing.TheVariants.{Open};
     ghost use Rattle.preflight.specs.Session.{SessionState};

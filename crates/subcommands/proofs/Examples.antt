@@ -2,7 +2,7 @@
 use Rattle.std.proofs.Common.{◌≡◌, ℕ, Bool, true, false, List, [], ◌∷◌, Option, Some, None, Result, Ok, Err, refl, lit≤}
 use Rattle.std.specs.Prelude.{codes}
 use Rattle.std.specs.Fmt.{digits}
-use Rattle.pcl_items.specs.declared.command.Command.TheVariants.{PageSize}
+use Rattle.pcl_items.specs.declared.pcl.command.Command.TheVariants.{PageSize}
 use Rattle.pcl_items.specs.declared.fault.Cause.TheVariants.{Syntax}
 use Rattle.pcl_items.specs.declared.item.SimpleItem.TheVariants.{Parameterized}
 use Rattle.pcl_items.specs.declared.number.Sign.TheVariants.{Absent}

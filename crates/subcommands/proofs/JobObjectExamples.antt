@@ -5,7 +5,7 @@ use Rattle.std.specs.Char.{encode_utf8}
 use Rattle.std.specs.Fmt.{digits}
 use Rattle.std.specs.Str.{is_utf8, chars}
 use Rattle.serde_json.proofs.OnLiterals.{serde_json_on_literals}
-use Rattle.pcl_items.specs.declared.command.Command.TheVariants.{PageSize}
+use Rattle.pcl_items.specs.declared.pcl.command.Command.TheVariants.{PageSize}
 use Rattle.pcl_items.specs.declared.item.SimpleItem.TheVariants.{Parameterized}
 use Rattle.pcl_items.specs.declared.number.Sign.TheVariants.{Absent}
 use Rattle.device_profile.specs.declared.field.Field.TheVariants.{Size}

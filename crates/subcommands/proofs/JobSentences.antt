@@ -4,8 +4,8 @@ use Rattle.std.specs.Prelude.{IfOk, decimal, flat_map}
 use Rattle.std.specs.Fmt.{signed_decimal}
 use Rattle.std.specs.List.{AllByRecursion}
 use Rattle.std.proofs.lemmas.List.{length-append}
-use Rattle.pcl_items.specs.declared.command.DataCommand.{DataCommand}
-use Rattle.pcl_items.specs.declared.command.DataCommand.TheVariants.{TransparentText, RasterRow}
+use Rattle.pcl_items.specs.declared.pcl.command.DataCommand.{DataCommand}
+use Rattle.pcl_items.specs.declared.pcl.command.DataCommand.TheVariants.{TransparentText, RasterRow}
 use Rattle.pcl_items.specs.declared.fault.Cause.{Cause}
 use Rattle.pcl_items.specs.declared.fault.Cause.TheVariants.{Syntax, Truncated, NotInProfile, BadNumber, Pjl, EndInFrame}
 use Rattle.pcl_items.specs.declared.fault.Name.{Name}
@@ -15,12 +15,12 @@ use Rattle.pcl_items.specs.declared.number.Sign.{Sign}
 use Rattle.pcl_items.specs.declared.number.Sign.TheVariants.{Absent, Plus, Minus}
 use Rattle.pcl_items.specs.declared.item.SimpleItem.{SimpleItem}
 use Rattle.pcl_items.specs.declared.item.SimpleItem.TheVariants as simple
-use Rattle.pcl_items.specs.Canon.{amount_text, canon, magnitude_text}
-use Rattle.pcl_items.specs.Commands.{character_of, introducer_of, letter_of}
+use Rattle.pcl_items.specs.Spellings.Canon.{amount_text, canon, magnitude_text}
+use Rattle.pcl_items.specs.Escapes.Commands.{character_of, introducer_of, letter_of}
 use Rattle.pcl_items.specs.Items.{amount, simple_view}
-use Rattle.pcl_items.specs.ValueField.{sign_text}
-use Rattle.pcl_items.proofs.Canonical.{setting_spelled}
-use Rattle.pcl_items.proofs.FrameCanonical.{coordinate_spelled}
+use Rattle.pcl_items.specs.Escapes.ValueField.{sign_text}
+use Rattle.pcl_items.proofs.Spellings.Canonical.{setting_spelled}
+use Rattle.pcl_items.proofs.Frames.Canonical.{coordinate_spelled}
 use Rattle.device_profile.specs.declared.field.Field.{Field}
 use Rattle.device_profile.specs.declared.field.Field.TheVariants.{Size}
 use Rattle.page_env.specs.declared.finding.Finding.{Finding}

@@ -1,7 +1,7 @@
 -- The item that a job fails at, in words.
 use Rattle.std.specs.Prelude.{ℕ, ◌==◌, List, [], ◌∷◌, ◌++◌, codes, decimal, flat_map, if◌then◌else◌}
-use Rattle.pcl_items.specs.Canon.{canon}
-use Rattle.pcl_items.specs.Commands.{introducer_of, character_of, data_group_of, data_letter_of}
+use Rattle.pcl_items.specs.Spellings.Canon.{canon}
+use Rattle.pcl_items.specs.Escapes.Commands.{introducer_of, character_of, data_group_of, data_letter_of}
 use Rattle.pcl_items.specs.Items.{simple_view}
 use Rattle.line_words.specs.Figures.{escaped_byte}
 use Rattle.preflight.specs.declared.culprit.Culprit.{Culprit}

@@ -1,6 +1,6 @@
 //! The item that a job fails at, in words.
 ghost use Rattle.std.specs.Prelude.{◌≡◌, ◌++◌, OnOk, flat_map};
-ghost use Rattle.pcl_items.specs.Canon.{canon};
+ghost use Rattle.pcl_items.specs.Spellings.Canon.{canon};
 ghost use Rattle.pcl_items.specs.Items.{simple_view};
 ghost use Rattle.preflight.specs.declared.culprit.Culprit.TheVariants.{WithData};
 ghost use Rattle.subcommands.specs.CommandWords.{code_words, command_words};

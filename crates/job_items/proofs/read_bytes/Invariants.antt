@@ -1,5 +1,5 @@
 use Rattle.std.proofs.Common.{◌≡◌, ◌+◌, length, false}
-use Rattle.pcl_items.specs.LexerState.{WantsMore}
+use Rattle.pcl_items.specs.Lexing.State.{WantsMore}
 use Rattle.job_items.proofs.read_bytes.Given as goal
 
 abbrev pub invariant-loop-byte : goal.invariant-loop-byte

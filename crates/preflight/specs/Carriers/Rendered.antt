@@ -1,8 +1,8 @@
 -- How a job is rendered as it is taken.
 use Rattle.std.specs.Prelude.{◌≡◌, ◌+◌, ◌≤◌, ◌^◌, ℕ, List, [], length, Bool, false}
 use Rattle.pcl_items.specs.declared.item.Mode.{Mode}
-use Rattle.pcl_items.specs.LexerState.{LexerState, WantsMore}
-use Rattle.pcl_items.specs.Lexing.{Undecided}
+use Rattle.pcl_items.specs.Lexing.State.{LexerState, WantsMore}
+use Rattle.pcl_items.specs.Lexing.Meaning.{Undecided}
 use Rattle.pcl_items.specs.Modes.{mode_of}
 use Rattle.preflight.specs.declared.error.Error.{Error}
 use Rattle.preflight.specs.declared.outcome.Outcome.{Outcome}

@@ -5,8 +5,8 @@ use Rattle.pcl_items.specs.declared.item.Mode.{Mode}
 use Rattle.pcl_items.specs.Grammar.{follows}
 use Rattle.pcl_items.specs.Items.{Entry, Placed}
 use Rattle.pcl_items.specs.Reading.{Reading, Whole, Stopped, IsReading, with_item}
-use Rattle.pcl_items.specs.LexerState.{LexerState}
-use Rattle.pcl_items.specs.Lexing.{HasRead, MayBe, Undecided}
+use Rattle.pcl_items.specs.Lexing.State.{LexerState}
+use Rattle.pcl_items.specs.Lexing.Meaning.{HasRead, MayBe, Undecided}
 use Rattle.preflight.specs.declared.error.Error.{Error}
 use Rattle.preflight.specs.declared.error.Error.TheVariants.{Memory, Read, Write, Turns, NoProfile, Items}
 use Rattle.preflight.specs.declared.outcome.Outcome.{Outcome}

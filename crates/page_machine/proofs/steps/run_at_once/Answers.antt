@@ -1,5 +1,5 @@
 use Rattle.std.proofs.Common.{◌≡◌, ap, sym, ◌∙◌, refl, subst}
-use Rattle.pcl_items.specs.declared.command.Command.TheVariants.{FillRectangle}
+use Rattle.pcl_items.specs.declared.pcl.command.Command.TheVariants.{FillRectangle}
 use Rattle.pcl_items.specs.Items.{Move, Parameterized, Text, WithData, amount, pair, view}
 use Rattle.page_env.specs.Settings.{state_at}
 use Rattle.page_machine.specs.Run.{begun_run}

@@ -1,5 +1,5 @@
-use Rattle.pcl_items.proofs.Canons as lemmas
-use Rattle.pcl_items.proofs.Spellings.{one_unit_admitted}
+use Rattle.pcl_items.proofs.Spellings.Canons as lemmas
+use Rattle.pcl_items.proofs.Spellings.ReadAgain.{one_unit_admitted}
 use Rattle.pcl_items.proofs.laws.admitted_by_rules.Goals as goal
 
 pub returns : goal.returns

@@ -1,5 +1,5 @@
 use Rattle.std.proofs.Common.{sym, ◌∙◌}
-use Rattle.pcl_items.proofs.PjlSpellings.{begins_line, begins_other, match_map, stands_in_pjl, nothing_in_pjl}
+use Rattle.pcl_items.proofs.PjlLines.Spellings.{begins_line, begins_other, match_map, stands_in_pjl, nothing_in_pjl}
 use Rattle.pcl_items.proofs.spelling.first_in_pjl.Goals as goal
 
 pub first_spelled_line-requires : goal.first_spelled_line-requires

@@ -5,11 +5,11 @@ use Rattle.std.proofs.lemmas.Slice.Eq.{slice_eq-Decides}
 use Rattle.pcl_items.specs.declared.item.Mode.{Mode}
 use Rattle.pcl_items.specs.declared.item.Mode.TheVariants.{Pcl}
 use Rattle.pcl_items.specs.Items.{view}
-use Rattle.pcl_items.specs.FirstView.{context_view, first_view}
+use Rattle.pcl_items.specs.Lexing.FirstView.{context_view, first_view}
 use Rattle.pcl_items.specs.Reader.{Begins}
-use Rattle.pcl_items.proofs.PjlSpellings.{no_line_read}
-use Rattle.pcl_items.specs.Spelled.{StandsAt}
-use Rattle.pcl_items.proofs.Spellings.{byte_stands, no_item, read_as, spelling_stands, no_spelling}
+use Rattle.pcl_items.proofs.PjlLines.Spellings.{no_line_read}
+use Rattle.pcl_items.specs.Spellings.Spelled.{StandsAt}
+use Rattle.pcl_items.proofs.Spellings.ReadAgain.{byte_stands, no_item, read_as, spelling_stands, no_spelling}
 use Rattle.pcl_items.proofs.spelling.first_item.Goals as goal
 
 pub returns-in-Some : goal.returns-in-Some

@@ -6,10 +6,10 @@ use Rattle.std.proofs.lemmas.Slice.Eq.{starts_is}
 use Rattle.pcl_items.specs.declared.item.Mode.{Mode}
 use Rattle.pcl_items.specs.declared.item.Mode.TheVariants.{Frame}
 use Rattle.pcl_items.specs.Items.{view}
-use Rattle.pcl_items.specs.FirstView.{context_view, head_view}
-use Rattle.pcl_items.specs.Spelled.{StandsAt}
-use Rattle.pcl_items.proofs.FrameSpellings.{front_size, ahead_as, ahead_stands, ahead_differs, nothing_ahead}
-use Rattle.pcl_items.proofs.PjlSpellings.{no_line_ahead}
+use Rattle.pcl_items.specs.Lexing.FirstView.{context_view, head_view}
+use Rattle.pcl_items.specs.Spellings.Spelled.{StandsAt}
+use Rattle.pcl_items.proofs.Frames.Spellings.{front_size, ahead_as, ahead_stands, ahead_differs, nothing_ahead}
+use Rattle.pcl_items.proofs.PjlLines.Spellings.{no_line_ahead}
 use Rattle.pcl_items.proofs.spelling.first_of_frame.Goals as goal
 
 pub returns-in_default : goal.returns-in_default

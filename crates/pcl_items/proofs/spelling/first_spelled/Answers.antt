@@ -2,7 +2,7 @@ use Rattle.std.proofs.Common.{sym, subst}
 use Rattle.std.specs.Prelude.{MatchOption}
 use Rattle.pcl_items.specs.declared.item.Mode.{Mode}
 use Rattle.pcl_items.specs.Items.{view}
-use Rattle.pcl_items.specs.Spelled.{StandsAt, NothingStands}
+use Rattle.pcl_items.specs.Spellings.Spelled.{StandsAt, NothingStands}
 use Rattle.pcl_items.proofs.spelling.first_spelled.Goals as goal
 
 pub returns-in-Pcl : goal.returns-in-Pcl

@@ -2,10 +2,10 @@ use Rattle.std.proofs.Common.{true, refl, sym, ap, subst, ◌∙◌}
 use Rattle.pcl_items.specs.declared.item.Mode.{Mode}
 use Rattle.pcl_items.specs.declared.item.Mode.TheVariants.{Pcl}
 use Rattle.pcl_items.specs.Items.{view}
-use Rattle.pcl_items.specs.FirstView.{context_view, first_view}
+use Rattle.pcl_items.specs.Lexing.FirstView.{context_view, first_view}
 use Rattle.pcl_items.specs.Reader.{Begins}
-use Rattle.pcl_items.specs.Spelled.{StandsAt}
-use Rattle.pcl_items.proofs.Spellings.{byte_stands, no_item, spelled_stands, stands_as}
+use Rattle.pcl_items.specs.Spellings.Spelled.{StandsAt}
+use Rattle.pcl_items.proofs.Spellings.ReadAgain.{byte_stands, no_item, spelled_stands, stands_as}
 use Rattle.pcl_items.proofs.spelling.first_spelled_between.Goals as goal
 
 pub returns-in-Some : goal.returns-in-Some

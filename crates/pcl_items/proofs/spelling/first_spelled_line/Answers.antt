@@ -5,10 +5,10 @@ use Rattle.std.proofs.lemmas.Slice.Eq.{starts_is}
 use Rattle.pcl_items.specs.declared.item.Mode.{Mode}
 use Rattle.pcl_items.specs.declared.item.Mode.TheVariants.{Pjl}
 use Rattle.pcl_items.specs.Items.{PjlLine}
-use Rattle.pcl_items.specs.LineView.{line_view}
-use Rattle.pcl_items.specs.FirstLineView.{first_line_view}
-use Rattle.pcl_items.specs.Spelled.{StandsAt}
-use Rattle.pcl_items.proofs.PjlSpellings.{no_line_there, line_stands_there, other_line_there}
+use Rattle.pcl_items.specs.PjlLines.View.{line_view}
+use Rattle.pcl_items.specs.PjlLines.FirstView.{first_line_view}
+use Rattle.pcl_items.specs.Spellings.Spelled.{StandsAt}
+use Rattle.pcl_items.proofs.PjlLines.Spellings.{no_line_there, line_stands_there, other_line_there}
 use Rattle.pcl_items.proofs.spelling.first_spelled_line.Goals as goal
 
 pub returns-in_default : goal.returns-in_default

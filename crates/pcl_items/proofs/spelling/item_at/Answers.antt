@@ -1,7 +1,7 @@
 use Rattle.std.proofs.Common.{subst}
 use Rattle.std.proofs.lemmas.List.{take_rest}
-use Rattle.pcl_items.specs.Spelled.{NothingStands}
-use Rattle.pcl_items.proofs.Spellings.{nothing_there}
+use Rattle.pcl_items.specs.Spellings.Spelled.{NothingStands}
+use Rattle.pcl_items.proofs.Spellings.ReadAgain.{nothing_there}
 use Rattle.pcl_items.proofs.spelling.item_at.Goals as goal
 
 pub returns-in-None : goal.returns-in-None

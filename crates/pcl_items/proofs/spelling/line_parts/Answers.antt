@@ -1,9 +1,9 @@
 use Rattle.std.proofs.Common.{refl, subst, codes, arith}
-use Rattle.pcl_items.specs.declared.line.Line as code
-use Rattle.pcl_items.specs.LineText.{Remark, JobBegins, JobEnds}
-use Rattle.pcl_items.specs.LineView.{line_view}
-use Rattle.pcl_items.specs.LineCanon.{IsSpelledLine}
-use Rattle.pcl_items.proofs.LineCanonical.{room}
+use Rattle.pcl_items.specs.declared.pjl.Line as code
+use Rattle.pcl_items.specs.PjlLines.Text.{Remark, JobBegins, JobEnds}
+use Rattle.pcl_items.specs.PjlLines.View.{line_view}
+use Rattle.pcl_items.specs.PjlLines.Canon.{IsSpelledLine}
+use Rattle.pcl_items.proofs.PjlLines.Canonical.{room}
 use Rattle.pcl_items.proofs.spelling.line_parts.Goals as goal
 
 pub returns-in-Remark-clause-room : goal.returns-in-Remark-clause-room

@@ -1,5 +1,5 @@
 use Rattle.std.proofs.Common.{◌∙◌, ap, refl, sym, subst}
-use Rattle.pcl_items.specs.Lexing.{IsNext, answer_of}
+use Rattle.pcl_items.specs.Lexing.Meaning.{IsNext, answer_of}
 use Rattle.preflight.specs.Standing.{is_open}
 use Rattle.preflight.proofs.Answered.{comes_on, further, not_further, read_admitted}
 use Rattle.preflight.proofs.Standings.{open_by, where_open}

@@ -2,7 +2,7 @@ use Rattle.verdict.specs.Failing.{failing}
 use Rattle.preflight.specs.Verdict.{IsExact}
 use Rattle.preflight.specs.Culprit.{IsTold}
 use Rattle.std.proofs.Common.{◌≡◌, Bool, true, false, sym, ap, subst, ◌∙◌, refl, Ok, arith}
-use Rattle.pcl_items.specs.Lexing.{given}
+use Rattle.pcl_items.specs.Lexing.Meaning.{given}
 use Rattle.pcl_items.specs.Items.{view}
 use Rattle.preflight.specs.Carriers.Lockstep.{Execute}
 use Rattle.preflight.proofs.Answered.{item_takes, item_admitted, item_done, item_fails_by, fails_behind, nothing_read, same_mode, wants_more, ends, bytes_whole, bytes_fail, all_admit, alike_open, in_next, running_on, through_open}

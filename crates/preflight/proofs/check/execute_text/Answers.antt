@@ -1,6 +1,6 @@
 use Rattle.std.proofs.Common.{◌≡◌, ◌<◌, length, subst, take, ap, arith}
 use Rattle.std.proofs.lemmas.List.{length-take-le}
-use Rattle.pcl_items.specs.Passing.{ahead_of}
+use Rattle.pcl_items.specs.Lexing.Passing.{ahead_of}
 use Rattle.preflight.specs.Carriers.Lockstep.{machines_of, counts_of}
 use Rattle.preflight.specs.Carriers.TextInStep.{PrintInStep}
 use Rattle.preflight.proofs.TextInStep.{text_ahead_in_pcl, text_done, text_less, text_modes, still_run}

@@ -1,5 +1,5 @@
 use Rattle.std.proofs.Common.{◌≡◌, ◌+◌, ℕ, List, IfErr, length, refl, ap, sym, subst}
-use Rattle.pcl_items.specs.LexerState.{LexerState}
+use Rattle.pcl_items.specs.Lexing.State.{LexerState}
 use Rattle.pcl_items.specs.Modes.{mode_of}
 use Rattle.preflight.specs.declared.error.Error.{Error}
 use Rattle.preflight.specs.declared.error.Error.TheVariants.{Read, Turns}

@@ -1,5 +1,5 @@
 use Rattle.pcl_items.specs.Items.{view}
-use Rattle.pcl_items.proofs.Spellings.{item_known}
+use Rattle.pcl_items.proofs.Spellings.ReadAgain.{item_known}
 use Rattle.macro_store.proofs.Calls.{add_laid, add_fits, add_is}
 use Rattle.macro_store.proofs.store.MacroStore.add.Goals as goal
 

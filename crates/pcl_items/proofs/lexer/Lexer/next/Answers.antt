@@ -1,19 +1,19 @@
 use Rattle.std.proofs.Common.{◌+◌, ℕ, List, drop, Some, Ok, subst, refl, sym, ap, arith}
 use Rattle.std.specs.Prelude.{vec_len}
 use Rattle.std.proofs.lemmas.List.{length-drop}
-use Rattle.pcl_items.specs.Contexts.{Context, Numbered, Even}
-use Rattle.pcl_items.specs.FirstView.{context_view}
+use Rattle.pcl_items.specs.Lexing.Contexts.{Context, Numbered, Even}
+use Rattle.pcl_items.specs.Lexing.FirstView.{context_view}
 use Rattle.pcl_items.specs.declared.frame.Gap.TheVariants.{Straight}
 use Rattle.pcl_items.specs.declared.item.Item.TheVariants as items
 use Rattle.pcl_items.specs.declared.item.SimpleItem.TheVariants as simple
 use Rattle.pcl_items.specs.declared.lexer.Lexed.TheVariants as answers
-use Rattle.pcl_items.specs.Ahead.{IsByte}
-use Rattle.pcl_items.specs.LexerState.{LexerState}
-use Rattle.pcl_items.specs.Answers.{Answers}
-use Rattle.pcl_items.specs.ReadCommands.{IsAhead}
-use Rattle.pcl_items.specs.Pairs.{IsPairAhead}
-use Rattle.pcl_items.proofs.Stepped.{standing, byte_is_answer, command_is_answer, command_counts, pair_is_answer}
-use Rattle.pcl_items.proofs.Steps.{is_next}
+use Rattle.pcl_items.specs.Lexing.Ahead.{IsByte}
+use Rattle.pcl_items.specs.Lexing.State.{LexerState}
+use Rattle.pcl_items.specs.Lexing.Answers.{Answers}
+use Rattle.pcl_items.specs.Escapes.ReadCommands.{IsAhead}
+use Rattle.pcl_items.specs.Frames.Pairs.{IsPairAhead}
+use Rattle.pcl_items.proofs.Lexing.Stepped.{standing, byte_is_answer, command_is_answer, command_counts, pair_is_answer}
+use Rattle.pcl_items.proofs.Lexing.Steps.{is_next}
 use Rattle.pcl_items.proofs.lexer.Lexer.next.Goals as goal
 
 pub returns-in-Some : goal.returns-in-Some

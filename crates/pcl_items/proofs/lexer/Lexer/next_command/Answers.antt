@@ -1,15 +1,15 @@
 use Rattle.std.proofs.Common.{◌+◌, ℕ, List, drop, subst, arith}
 use Rattle.std.specs.Prelude.{vec_len}
 use Rattle.std.proofs.lemmas.List.{length-drop}
-use Rattle.pcl_items.specs.FirstView.{context_view}
+use Rattle.pcl_items.specs.Lexing.FirstView.{context_view}
 use Rattle.pcl_items.specs.declared.item.SimpleItem.TheVariants as simple
-use Rattle.pcl_items.specs.LexerState.{LexerState}
-use Rattle.pcl_items.specs.Lexing.{answer_of}
-use Rattle.pcl_items.specs.Answers.{Answers}
-use Rattle.pcl_items.specs.ReadCommands.{IsAhead}
+use Rattle.pcl_items.specs.Lexing.State.{LexerState}
+use Rattle.pcl_items.specs.Lexing.Meaning.{answer_of}
+use Rattle.pcl_items.specs.Lexing.Answers.{Answers}
+use Rattle.pcl_items.specs.Escapes.ReadCommands.{IsAhead}
 use Rattle.pcl_items.specs.declared.lexer.PlacedItem.{PlacedItem}
-use Rattle.pcl_items.proofs.Stepped.{standing, command_is_answer, command_counts}
-use Rattle.pcl_items.proofs.Steps.{is_next}
+use Rattle.pcl_items.proofs.Lexing.Stepped.{standing, command_is_answer, command_counts}
+use Rattle.pcl_items.proofs.Lexing.Steps.{is_next}
 use Rattle.pcl_items.proofs.lexer.Lexer.next_command.Goals as goal
 
 pub returns-clause-command : goal.returns-clause-command

@@ -1,15 +1,15 @@
 use Rattle.std.proofs.Common.{◌+◌, ℕ, List, drop, subst, sym, ap}
 use Rattle.std.specs.Prelude.{vec_len}
-use Rattle.pcl_items.specs.Contexts.{Context}
-use Rattle.pcl_items.specs.FirstView.{context_view}
+use Rattle.pcl_items.specs.Lexing.Contexts.{Context}
+use Rattle.pcl_items.specs.Lexing.FirstView.{context_view}
 use Rattle.pcl_items.specs.declared.item.Item.TheVariants as items
 use Rattle.pcl_items.specs.declared.lexer.PlacedItem.{PlacedItem}
-use Rattle.pcl_items.specs.Ahead.{IsByte}
-use Rattle.pcl_items.specs.LexerState.{LexerState}
-use Rattle.pcl_items.specs.Lexing.{answer_of}
-use Rattle.pcl_items.specs.Answers.{Answers}
-use Rattle.pcl_items.proofs.Stepped.{standing, byte_is_answer}
-use Rattle.pcl_items.proofs.Steps.{is_next}
+use Rattle.pcl_items.specs.Lexing.Ahead.{IsByte}
+use Rattle.pcl_items.specs.Lexing.State.{LexerState}
+use Rattle.pcl_items.specs.Lexing.Meaning.{answer_of}
+use Rattle.pcl_items.specs.Lexing.Answers.{Answers}
+use Rattle.pcl_items.proofs.Lexing.Stepped.{standing, byte_is_answer}
+use Rattle.pcl_items.proofs.Lexing.Steps.{is_next}
 use Rattle.pcl_items.proofs.lexer.Lexer.next_control.Goals as goal
 
 pub returns-clause-control : goal.returns-clause-control

@@ -1,16 +1,16 @@
 use Rattle.std.proofs.Common.{◌+◌, ℕ, List, drop, Some, subst}
 use Rattle.std.specs.Prelude.{vec_len}
-use Rattle.pcl_items.specs.Contexts.{Numbered, Even}
-use Rattle.pcl_items.specs.FirstView.{context_view}
+use Rattle.pcl_items.specs.Lexing.Contexts.{Numbered, Even}
+use Rattle.pcl_items.specs.Lexing.FirstView.{context_view}
 use Rattle.pcl_items.specs.declared.frame.Gap.TheVariants.{Straight}
 use Rattle.pcl_items.specs.declared.item.SimpleItem.TheVariants as simple
 use Rattle.pcl_items.specs.declared.lexer.PlacedItem.{PlacedItem}
-use Rattle.pcl_items.specs.LexerState.{LexerState}
-use Rattle.pcl_items.specs.Lexing.{answer_of}
-use Rattle.pcl_items.specs.Answers.{Answers}
-use Rattle.pcl_items.specs.Pairs.{IsPairAhead}
-use Rattle.pcl_items.proofs.Stepped.{standing, pair_is_answer}
-use Rattle.pcl_items.proofs.Steps.{is_next}
+use Rattle.pcl_items.specs.Lexing.State.{LexerState}
+use Rattle.pcl_items.specs.Lexing.Meaning.{answer_of}
+use Rattle.pcl_items.specs.Lexing.Answers.{Answers}
+use Rattle.pcl_items.specs.Frames.Pairs.{IsPairAhead}
+use Rattle.pcl_items.proofs.Lexing.Stepped.{standing, pair_is_answer}
+use Rattle.pcl_items.proofs.Lexing.Steps.{is_next}
 use Rattle.pcl_items.proofs.lexer.Lexer.next_pair.Goals as goal
 
 pub returns-clause-pair : goal.returns-clause-pair

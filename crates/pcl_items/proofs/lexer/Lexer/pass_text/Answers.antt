@@ -1,9 +1,9 @@
 use Rattle.std.proofs.Common.{◌+◌, subst}
 use Rattle.std.specs.Prelude.{vec_len}
-use Rattle.pcl_items.specs.FirstView.{context_view}
-use Rattle.pcl_items.specs.LexerState.{LexerState}
-use Rattle.pcl_items.proofs.Passed.{Passing, passed}
-use Rattle.pcl_items.proofs.Stepped.{standing}
+use Rattle.pcl_items.specs.Lexing.FirstView.{context_view}
+use Rattle.pcl_items.specs.Lexing.State.{LexerState}
+use Rattle.pcl_items.proofs.Lexing.Passed.{Passing, passed}
+use Rattle.pcl_items.proofs.Lexing.Stepped.{standing}
 use Rattle.pcl_items.proofs.lexer.Lexer.pass_text.Goals as goal
 
 pub returns : goal.returns

@@ -3,11 +3,11 @@ use Rattle.std.specs.Prelude.{vec_len}
 use Rattle.pcl_items.specs.Items.{Entry, view}
 use Rattle.pcl_items.specs.Items as entries
 use Rattle.pcl_items.specs.Reader.{Begins}
-use Rattle.pcl_items.specs.FirstView.{context_view, head_view, first_view}
-use Rattle.pcl_items.specs.Ahead.{StandsAhead}
-use Rattle.pcl_items.specs.LexerState.{LexerState}
-use Rattle.pcl_items.specs.Answers.{GoesOn}
-use Rattle.pcl_items.proofs.Stepped.{standing, item_ahead}
+use Rattle.pcl_items.specs.Lexing.FirstView.{context_view, head_view, first_view}
+use Rattle.pcl_items.specs.Lexing.Ahead.{StandsAhead}
+use Rattle.pcl_items.specs.Lexing.State.{LexerState}
+use Rattle.pcl_items.specs.Lexing.Answers.{GoesOn}
+use Rattle.pcl_items.proofs.Lexing.Stepped.{standing, item_ahead}
 use Rattle.pcl_items.proofs.lexer.Lexer.step.Goals as goal
 
 pub returns-in-Begins : goal.returns-in-Begins

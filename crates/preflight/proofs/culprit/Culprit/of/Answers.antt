@@ -1,6 +1,6 @@
 use Rattle.std.proofs.Common.{ap}
 use Rattle.pcl_items.specs.Items.{view}
-use Rattle.pcl_items.specs.LineView.{line_view}
+use Rattle.pcl_items.specs.PjlLines.View.{line_view}
 use Rattle.preflight.proofs.culprit.Culprit.of.Goals as goal
 
 pub returns-in-PjlLine : goal.returns-in-PjlLine

@@ -1,5 +1,5 @@
 use Rattle.std.proofs.Common.{◌≡◌, [], true, Some, Ok, ap, sym, subst, arith}
-use Rattle.pcl_items.specs.LexerState.{LexerState}
+use Rattle.pcl_items.specs.Lexing.State.{LexerState}
 use Rattle.preflight.specs.Carriers.Rendering.{RenderedTo, HasRendered}
 use Rattle.preflight.proofs.Rendered.{rendered_end}
 use Rattle.preflight.proofs.Renderings.{rendered_to_end}

@@ -1,5 +1,5 @@
 use Rattle.std.proofs.Common.{◌≡◌, ◌+◌, ℕ, List, [], ◌++◌, true, false, length, refl, ap, sym, ◌∙◌, subst, arith, length-append}
-use Rattle.pcl_items.specs.LexerState.{LexerState}
+use Rattle.pcl_items.specs.Lexing.State.{LexerState}
 use Rattle.preflight.specs.declared.error.Error.{Error}
 use Rattle.preflight.specs.declared.outcome.Outcome.{Outcome}
 use Rattle.preflight.specs.declared.render.JobRenderer.{JobRenderer}

@@ -1,0 +1,15 @@
+-- Of the commands of frames.
+mod Examples
+mod Jobs
+pub mod Leaving
+pub mod NumberStarts
+pub mod Heads
+pub mod Reads
+pub mod Numerals
+pub mod Canonical
+pub mod Figures
+pub mod Opening
+pub mod Waiting
+pub mod Skipping
+pub mod Pairs
+pub mod Spellings

@@ -1,5 +1,0 @@
-use Rattle.pcl_items.proofs.Digits.{AreDecimalsSoFar}
-use Rattle.pcl_items.proofs.field.leading_decimals.Given as goal
-
-abbrev pub invariant-loop-len : goal.invariant-loop-len
-invariant-loop-len l = AreDecimalsSoFar l.whole l.bytes l.len l.ten_thousandths l.worth l.is_exact

@@ -1,0 +1,27 @@
+use Rattle.std.proofs.Common.{◌≡◌, ◌+◌, ◌≤◌, ◌<◌, ◌∙◌, Some, sym, ap, refl, arith}
+use Rattle.pcl_items.specs.Escapes.Commands.{command_at}
+use Rattle.pcl_items.specs.Lexing.FirstView.{context_view}
+use Rattle.pcl_items.specs.Items.{amount, Parameterized}
+use Rattle.pcl_items.specs.Reader.{Begins}
+use Rattle.pcl_items.proofs.Escapes.ReadCommands.{named_small, named_capital}
+use Rattle.pcl_items.proofs.pcl.parameterized.ended_by.Goals.{in-0-to-95, in-96-to-255}
+use Rattle.pcl_items.proofs.pcl.parameterized.ended_by.Goals as goal
+
+pub returns : goal.returns
+returns c =
+    let group = c.args.group in
+    let last = c.args.last in
+    let number = amount c.args.number in
+    let command = c.in_ok-command.command in
+    let letter = c.if-last-lt96.letter in
+    let known : command_at group letter.0 ≡ Some command = sym c.of.ensures ∙ c.in_ok-command.was in
+    elim c.if-last-lt96.branch [
+      | in-0-to-95 w ↦
+          let below : last < 96 = omega arith in
+          let named = ap (λ l. command_at group l.0) (sym w.letter-is) ∙ known in
+          (λ bytes. named_capital group number c.args.len last bytes command below named ∙ ap (λ l. Begins (Parameterized command number) (c.args.len + 1) (context_view l.1)) (sym w.letter-is), refl)
+      | in-96-to-255 w ↦
+          let above : 96 ≤ last = omega arith in
+          let named = ap (λ l. command_at group l.0) (sym w.letter-is) ∙ known in
+          (λ bytes. named_small group number c.args.len last bytes command above named ∙ ap (λ l. Begins (Parameterized command number) (c.args.len + 1) (context_view l.1)) (sym w.letter-is), refl)
+    ]

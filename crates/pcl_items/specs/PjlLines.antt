@@ -1,0 +1,10 @@
+-- The lines of the job language, and the universal exit before them.
+pub mod Exit
+pub mod Text
+pub mod View
+pub mod Syntax
+pub mod Units
+pub mod Reader
+pub mod First
+pub mod FirstView
+pub mod Canon

@@ -1,0 +1,3 @@
+-- The one spelling of each item.
+pub mod Canon
+pub mod Spelled

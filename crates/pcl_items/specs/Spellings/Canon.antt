@@ -1,0 +1,118 @@
+-- The one spelling of each item.
+use Rattle.std.specs.Prelude.{ℕ, ℤ, unsigned_abs, Option, None, Some, ◌+◌, ◌/◌, ◌%◌, ◌==◌, ◌≤◌, List, [], ◌∷◌, ◌++◌, length, if◌then◌else◌, decimal, Bool}
+use Rattle.std.specs.Fmt.{signed_decimal}
+use Rattle.pcl_items.specs.declared.frame.Handover.{Handover}
+use Rattle.pcl_items.specs.declared.frame.Handover.TheVariants.{Previous, Current}
+use Rattle.pcl_items.specs.declared.frame.Mnemonic.{Mnemonic}
+use Rattle.pcl_items.specs.declared.frame.Mnemonic.TheVariants as mnemonics
+use Rattle.pcl_items.specs.Frames.Mnemonics.{letters_of}
+use Rattle.pcl_items.specs.declared.item.Mode.{Mode}
+use Rattle.pcl_items.specs.Escapes.Commands.{introducer_of, character_of, group_of, letter_of, data_group_of, data_letter_of}
+use Rattle.pcl_items.specs.Escapes.Value.{Amount, most, most_data, most_units}
+use Rattle.pcl_items.specs.Escapes.ValueField.{sign_text}
+use Rattle.pcl_items.specs.Items.{Entry, Text, CarriageReturn, LineFeed, FormFeed, Reset, ClearMargins, HalfLineFeed, Parameterized, SymbolSet, DefaultFont, EnterFrame, LeaveFrame, Initialize, Set, Move, WithData, ExitLanguage, PjlLine, at}
+use Rattle.pcl_items.specs.Escapes.SetLetters.{IsSetLetter}
+use Rattle.pcl_items.specs.PjlLines.Canon.{canon_line, IsSpelledLine}
+use Rattle.pcl_items.specs.Grammar.{escape, exit_text, IsUnit, SpellsTo}
+use Rattle.pcl_items.specs.Reading.{ReadsTo, between}
+
+-- the four decimals of n ten-thousandths
+abbrev pub four_decimals : ℕ → List ℕ
+four_decimals n = (48 + n / 1000 % 10) ∷ (48 + n / 100 % 10) ∷ (48 + n / 10 % 10) ∷ (48 + n % 10) ∷ []
+
+-- a digit before others, but no zero at the end
+abbrev pub before : ℕ → List ℕ → List ℕ
+before d [] = if d == 48 then [] else d ∷ []
+before d (e ∷ ds) = d ∷ e ∷ ds
+
+abbrev pub without_zeros : List ℕ → List ℕ
+without_zeros [] = []
+without_zeros (d ∷ ds) = before d (without_zeros ds)
+
+-- a point before decimals, where there are some
+abbrev pub with_point : List ℕ → List ℕ
+with_point [] = []
+with_point (d ∷ ds) = 46 ∷ d ∷ ds
+
+-- the whole part without zeros in front, and the decimals without zeros at the end
+abbrev pub magnitude_text : ℕ → List ℕ
+magnitude_text n = decimal (n / 10000) ++ with_point (without_zeros (four_decimals n))
+
+abbrev pub amount_text : Amount → List ℕ
+amount_text a = sign_text a.sign ++ magnitude_text a.ten_thousandths
+
+abbrev pub handover_digit : Handover → ℕ
+handover_digit Previous = 48
+handover_digit Current = 49
+
+-- of a command of a frame: two capitals, and a semicolon behind what follows them
+abbrev pub command_text : Mnemonic → List ℕ → List ℕ
+command_text mnemonic numbers = (letters_of mnemonic).0 ∷ (letters_of mnemonic).1 ∷ (numbers ++ 59 ∷ [])
+
+-- `-` only before a number that is not 0
+abbrev pub pair_text : Option (ℤ × ℤ) → List ℕ
+pair_text None = []
+pair_text (Some p) = signed_decimal p.0 ++ 44 ∷ signed_decimal p.1
+
+abbrev pub canon : Entry → List ℕ
+canon (Text code) = code ∷ []
+canon CarriageReturn = 13 ∷ []
+canon LineFeed = 10 ∷ []
+canon FormFeed = 12 ∷ []
+canon Reset = escape ∷ 69 ∷ []
+canon ClearMargins = escape ∷ 57 ∷ []
+canon HalfLineFeed = escape ∷ 61 ∷ []
+canon (Parameterized command amount) = escape ∷ introducer_of (group_of command) ∷ character_of (group_of command) ∷ (amount_text amount ++ letter_of command ∷ [])
+canon (SymbolSet amount letter) = escape ∷ 40 ∷ (amount_text amount ++ letter ∷ [])
+canon DefaultFont = escape ∷ 40 ∷ 51 ∷ 64 ∷ []
+canon (EnterFrame handover) = escape ∷ 37 ∷ handover_digit handover ∷ 66 ∷ []
+canon (LeaveFrame handover) = escape ∷ 37 ∷ handover_digit handover ∷ 65 ∷ []
+canon Initialize = command_text mnemonics.Initialize []
+canon (Set setting ten_thousandths) = command_text (mnemonics.Sets setting) (magnitude_text ten_thousandths)
+canon (Move motion to) = command_text (mnemonics.Moves motion) (pair_text to)
+canon (WithData command bytes) = escape ∷ introducer_of (data_group_of command) ∷ character_of (data_group_of command) ∷ (decimal (length bytes) ++ data_letter_of command ∷ bytes)
+canon ExitLanguage = exit_text
+canon (PjlLine line) = canon_line line
+
+-- the bytes behind a command that counts them, which end its spelling
+abbrev pub data_of : Entry → List ℕ
+data_of (WithData command bytes) = bytes
+data_of item = []
+
+-- coordinates within the limit
+abbrev pub IsPair : Option (ℤ × ℤ) → Type 0
+IsPair None = Unit {0}
+IsPair (Some p) = (unsigned_abs p.0 ≤ most_units) × (unsigned_abs p.1 ≤ most_units)
+
+-- an item within the limits
+abbrev pub IsItem : Entry → Type 0
+IsItem (Text code) = 32 ≤ code
+IsItem CarriageReturn = Unit {0}
+IsItem LineFeed = Unit {0}
+IsItem FormFeed = Unit {0}
+IsItem Reset = Unit {0}
+IsItem ClearMargins = Unit {0}
+IsItem HalfLineFeed = Unit {0}
+IsItem (Parameterized command amount) = amount.ten_thousandths ≤ most
+IsItem (SymbolSet amount letter) = (amount.ten_thousandths ≤ most) × IsSetLetter letter
+IsItem DefaultFont = Unit {0}
+IsItem (EnterFrame handover) = Unit {0}
+IsItem (LeaveFrame handover) = Unit {0}
+IsItem Initialize = Unit {0}
+IsItem (Set setting ten_thousandths) = ten_thousandths ≤ most
+IsItem (Move motion to) = IsPair to
+IsItem (WithData command bytes) = length bytes ≤ most_data
+IsItem ExitLanguage = Unit {0}
+IsItem (PjlLine line) = IsSpelledLine line
+
+-- an item that is no line
+abbrev pub IsNoLine : Entry → Type 0
+IsNoLine (PjlLine line) = ⊥
+IsNoLine item = Unit {0}
+
+-- In a mode its spelling is one unit, which leaves another mode behind it. Whatever bytes follow, that unit is spelled
+-- first and the item is read first, over all of the spelling.
+pub record HasCanon (mode : Mode) (item : Entry) (mode2 : Mode) : Type 0 where
+  pub unit : (place : ℕ) (rest : List ℕ) → IsUnit mode place (canon item) rest (at place item ∷ []) mode2
+  pub spells : (place : ℕ) (rest : List ℕ) → SpellsTo mode place (canon item ++ rest) (at place item ∷ []) mode2 (place + length (canon item)) rest
+  pub reads : (whole : Bool) (place : ℕ) (rest : List ℕ) → ReadsTo whole (between mode) place (canon item ++ rest) (at place item ∷ []) (between mode2) (place + length (canon item)) rest

@@ -1,0 +1,190 @@
+//! A pair of coordinates that stands first in a frame.
+//!
+//! A plot is mostly these. What `first_in` answers of one by steps, over its comma or its command's letters and over each
+//! coordinate, is answered here at once. Whatever is written in another way than plots mostly are is left to those steps.
+
+ghost use Rattle.std.specs.Prelude.{◌≤◌, ◌+◌, ◌^◌, ℕ, length, IfSome};
+ghost use Rattle.pcl_items.specs.declared.frame.Gap.TheVariants.{Straight};
+ghost use Rattle.pcl_items.specs.Lexing.Contexts.{Numbered, Even};
+ghost use Rattle.pcl_items.specs.Lexing.FirstView.{context_view, numbers_view};
+ghost use Rattle.pcl_items.specs.Frames.Pairs.{IsPairAhead, Leads, LeadsCommand, NamesMotion, HasLetters, IsCoordinateAhead};
+
+use crate::frame::number::{Figures, PAST_COORDINATES};
+use crate::frame::{Coordinate, Coordinates, Gap, Motion};
+use crate::item::Place;
+use crate::lexer::first::{Context, Numbers};
+use crate::pcl::field::{leading_digits, leading_sign};
+
+/// So many bytes decide a coordinate behind its sign, unless it has more digits than the limit or a point.
+const DECIDING: usize = 8;
+
+/// A pair with its motion, where its item stands, and how many bytes there are up to its end.
+#[derive(Clone, Copy)]
+pub struct ReadPair {
+    pub len: usize,
+    pub place: Place,
+    pub motion: Motion,
+    pub to: Coordinates,
+}
+
+/// What stands before a pair: its motion, where its item stands, and how many bytes there are up to its first coordinate.
+#[derive(Clone, Copy)]
+pub struct Lead {
+    pub len: usize,
+    pub place: Place,
+    pub motion: Motion,
+}
+
+/// A coordinate, how many characters it has, and the byte behind it.
+#[derive(Clone, Copy)]
+pub struct ReadCoordinate {
+    pub coordinate: Coordinate,
+    pub len: usize,
+    pub last: u8,
+}
+
+/// The pair that stands first in the bytes at this place, unless they begin with something else.
+#[inline(always)]
+pub fn pair_in(context: Context, place: Place, bytes: &[u8]) -> Option<ReadPair>
+    requires { place + length bytes.now ≤ 2 ^ 62 }
+    ensures { IfSome result (λ read. IsPairAhead read (context_view context) place bytes.now) }
+{
+    let lead = pair_lead(context, place, bytes)?;
+    let x = leading_coordinate(&bytes[lead.len..])?;
+    if x.last != b',' {
+        return None;
+    }
+    let second = lead.len + x.len + 1;
+    let y = leading_coordinate(&bytes[second..])?;
+    Some(ReadPair {
+        len: second + y.len,
+        place: lead.place,
+        motion: lead.motion,
+        to: Coordinates {
+            x: x.coordinate,
+            y: y.coordinate,
+        },
+    })
+}
+
+/// What stands before the pair that is first.
+#[inline(always)]
+fn pair_lead(context: Context, place: Place, bytes: &[u8]) -> Option<Lead>
+    requires { place + length bytes.now ≤ 2 ^ 62 }
+    ensures { IfSome result (λ lead. Leads lead (context_view context) place bytes.now) }
+{
+    match context {
+        Context::Numbered(numbers, gap, _) => further_lead(numbers, gap, place, bytes),
+        Context::Frame => command_lead(place, bytes),
+        _ => None,
+    }
+}
+
+/// What stands behind whole pairs, before another.
+#[inline(always)]
+fn further_lead(numbers: Numbers, gap: Gap, place: Place, bytes: &[u8]) -> Option<Lead>
+    requires { place + length bytes.now ≤ 2 ^ 62 }
+    ensures { (n : ℕ) → IfSome result (λ lead. Leads lead (Numbered (numbers_view numbers) gap n) place bytes.now) }
+{
+    match (numbers, gap) {
+        (Numbers::Even(motion), Gap::Straight) => lead_behind_pair(motion, place, bytes),
+        _ => None,
+    }
+}
+
+/// A comma, or the letters of another command.
+#[inline(always)]
+fn lead_behind_pair(motion: Motion, place: Place, bytes: &[u8]) -> Option<Lead>
+    requires { place + length bytes.now ≤ 2 ^ 62 }
+    ensures { (n : ℕ) → IfSome result (λ lead. Leads lead (Numbered (Even motion) Straight n) place bytes.now) }
+{
+    match bytes {
+        [b',', ..] => Some(Lead {
+            len: 1,
+            place: place + 1,
+            motion,
+        }),
+        _ => command_lead(place, bytes),
+    }
+}
+
+/// The letters of a command that moves the pen, perhaps behind a semicolon.
+#[inline(always)]
+fn command_lead(place: Place, bytes: &[u8]) -> Option<Lead>
+    requires { place + length bytes.now ≤ 2 ^ 62 }
+    ensures { IfSome result (λ lead. LeadsCommand lead place bytes.now) }
+{
+    match bytes {
+        [b';', rest @ ..] => Some(Lead {
+            len: 3,
+            place: place + 1,
+            motion: leading_motion(rest)?,
+        }),
+        _ => Some(Lead {
+            len: 2,
+            place,
+            motion: leading_motion(bytes)?,
+        }),
+    }
+}
+
+/// The motion of the two capitals in front.
+#[inline(always)]
+fn leading_motion(bytes: &[u8]) -> Option<Motion>
+    ensures { IfSome result (λ motion. HasLetters motion bytes.now) }
+{
+    match bytes {
+        [b'P', second, ..] => motion_of(*second),
+        _ => None,
+    }
+}
+
+/// The motion that a capital behind `P` names.
+#[inline(always)]
+#[tactic(auto, unfolding(crate::specs::Frames::Kinds::kind_of))]
+fn motion_of(second: u8) -> Option<Motion>
+    ensures { IfSome result (λ motion. NamesMotion second motion) }
+{
+    match second {
+        b'U' => Some(Motion::Up),
+        b'D' => Some(Motion::Down),
+        b'A' => Some(Motion::Absolute),
+        b'R' => Some(Motion::Relative),
+        _ => None,
+    }
+}
+
+/// The coordinate in front, which is decided, and without a point.
+#[inline(always)]
+fn leading_coordinate(bytes: &[u8]) -> Option<ReadCoordinate>
+    ensures { IfSome result (λ read. IsCoordinateAhead read bytes.now) }
+{
+    let (sign, start) = leading_sign(bytes);
+    let rest = &bytes[start..];
+    if rest.len() < DECIDING {
+        return None;
+    }
+    // The loop over the digits is unrolled, since there are always so many bytes.
+    let front = &rest[..DECIDING];
+    let digits = leading_digits(front, PAST_COORDINATES);
+    if digits.len == 0 || digits.len == DECIDING {
+        return None;
+    }
+    let last = front[digits.len];
+    if last == b'.' {
+        return None;
+    }
+    let len = start + digits.len;
+    let figures = Figures {
+        len,
+        sign,
+        units: digits.number,
+        has_digit: true,
+        is_whole: true,
+    };
+    Some(ReadCoordinate {
+        coordinate: figures.coordinate()?,
+        len,
+        last,
+    })
+}

@@ -1,0 +1,236 @@
+//! What stands ahead in a lexer's window, and what is lent of it.
+
+ghost use Rattle.std.specs.Prelude.{◌≡◌, ◌+◌, ◌<◌, ◌≤◌, ◌-◌, ◌^◌, ◌++◌, length, take, drop, IfSome};
+ghost use Rattle.pcl_items.specs.declared.item.Item.TheVariants.{Simple};
+ghost use Rattle.pcl_items.specs.Items.{Entry, view};
+ghost use Rattle.pcl_items.specs.Spellings.Canon.{canon, data_of};
+ghost use Rattle.pcl_items.specs.Reader.{first_of};
+ghost use Rattle.pcl_items.specs.Lexing.Contexts.{counted};
+ghost use Rattle.pcl_items.specs.Lexing.FirstView.{context_view, data_len, head_view, HasLine, first_view, Within, FirstHasLine, len_of, counted_after};
+ghost use Rattle.pcl_items.specs.declared.lexer.first.Head.TheVariants.{Line};
+ghost use Rattle.pcl_items.specs.PjlLines.View.{line_view};
+ghost use Rattle.pcl_items.specs.Lexing.Ahead.{IsByte, StandsAhead, IsUndecided};
+ghost use Rattle.pcl_items.specs.Escapes.ReadCommands.{IsAhead};
+ghost use Rattle.pcl_items.specs.Frames.Pairs.{IsPairAhead};
+ghost use Rattle.pcl_items.specs.Lexing.Passing.{ahead_in};
+
+use crate::fault::LexFault;
+use crate::frame::pair::{ReadPair, pair_in};
+use crate::item::{Data, Item, PjlLine, Place, SimpleItem, TextByte};
+use crate::lexer::Lexed;
+use crate::lexer::first::{Context, First, Head, first_in};
+use crate::number::DataCount;
+use crate::pcl::code::control_at;
+use crate::pcl::command_with_data::with_data_in;
+use crate::pcl::parameterized::{ReadCommand, parameterized_in};
+use crate::pjl::line_of;
+
+/// The item of the byte at `start` of the window, where it is one by itself between units: text, or a control code.
+#[inline(always)]
+pub fn byte_ahead(start: usize, window: &[u8]) -> Option<Item<'static>>
+    requires { start ≤ length window.now }
+    ensures { IfSome result (λ item. IsByte item (drop start window.now)) }
+{
+    byte_in(&window[start..])
+}
+
+/// The item of the first byte, where it is one by itself.
+#[inline(always)]
+#[tactic(auto, unfolding(crate::specs::Reader::first_of))]
+pub fn byte_in(bytes: &[u8]) -> Option<Item<'static>>
+    ensures first { IfSome result (λ item. IsByte item bytes.now) }
+    ensures spelled { IfSome result (λ item. canon (view item) ≡ take 1 bytes.now) }
+{
+    match bytes {
+        [code @ 32..=255, ..] => Some(Item::Text(TextByte { code: *code })),
+        [code, ..] => Some(Item::Simple(control_at(*code)?)),
+        [] => None,
+    }
+}
+
+/// The item of the control code at `start` of the window, between units, unless another byte stands there.
+#[inline(always)]
+pub fn control_ahead(start: usize, window: &[u8]) -> Option<SimpleItem>
+    requires { start ≤ length window.now }
+    ensures { IfSome result (λ item. IsByte (Simple item) (drop start window.now)) }
+{
+    control_in(&window[start..])
+}
+
+/// The item of the first byte, where that is a control code.
+#[inline(always)]
+#[tactic(auto, unfolding(crate::specs::Reader::first_of))]
+fn control_in(bytes: &[u8]) -> Option<SimpleItem>
+    ensures { IfSome result (λ item. IsByte (Simple item) bytes.now) }
+{
+    match bytes {
+        [32..=255, ..] | [] => None,
+        [code, ..] => control_at(*code),
+    }
+}
+
+/// The bytes from `start` on, where an item may begin between units; else none.
+#[inline]
+pub fn bytes_ahead(context: Context, start: usize, window: &[u8]) -> &[u8]
+    requires { start ≤ length window.now }
+    ensures { result.now ≡ ahead_in (context_view context) (drop start window.now) }
+{
+    match context {
+        Context::Pcl => &window[start..],
+        _ => &[],
+    }
+}
+
+/// The parameterized command at `start` of the window, unless something else stands there.
+#[inline(always)]
+pub fn command_ahead(context: Context, start: usize, window: &[u8]) -> Option<ReadCommand>
+    requires { start ≤ length window.now }
+    ensures { IfSome result (λ read. IsAhead read (context_view context) (drop start window.now)) }
+{
+    parameterized_in(context, &window[start..])
+}
+
+/// The pair of coordinates at `start` of the window, which stands at this place of the job, unless something else does.
+#[inline(always)]
+pub fn pair_ahead(context: Context, place: Place, start: usize, window: &[u8]) -> Option<ReadPair>
+    requires inside { start ≤ length window.now }
+    requires total { place + length (drop start window.now) ≤ 2 ^ 62 }
+    ensures { IfSome result (λ read. IsPairAhead read (context_view context) place (drop start window.now)) }
+{
+    pair_in(context, place, &window[start..])
+}
+
+/// What stands first in a window behind bytes that end no item.
+#[derive(Clone, Copy)]
+pub struct Ahead {
+    /// It stands behind so many bytes of the window.
+    pub start: usize,
+    /// And behind this.
+    pub context: Context,
+    /// It passes over nothing.
+    pub first: First,
+}
+
+/// What stands first from `start` of the window on, behind white space, letters and numbers of a frame that end no item.
+// It is asked where no usual item stands, and is not to crowd the code of those that do.
+#[inline(never)]
+pub fn next_ahead(whole: bool, context: Context, start: usize, window: &[u8]) -> Ahead
+    requires inside { start ≤ length window.now }
+    requires counts { counted (context_view context) + length (drop start window.now) ≤ 2 ^ 62 }
+    ensures { StandsAhead whole (context_view context) start window.now result }
+{
+    let mut at = start;
+    let mut before = context;
+    loop {
+        match first_ahead(whole, before, at, window) {
+            First::Passes(len, next) => {
+                at += len;
+                before = next;
+            }
+            first => {
+                return Ahead {
+                    start: at,
+                    context: before,
+                    first,
+                };
+            }
+        }
+    }
+}
+
+/// What stands first at `start` of the window.
+#[inline(always)]
+#[tactic(auto, using(crate::proofs::Lexing::Spans::first_counted))]
+fn first_ahead(whole: bool, context: Context, start: usize, window: &[u8]) -> First
+    requires inside { start ≤ length window.now }
+    requires counts { counted (context_view context) + length (drop start window.now) ≤ 2 ^ 62 }
+    ensures first { first_view (drop start window.now) result ≡ first_of whole (context_view context) (drop start window.now) }
+    ensures within { Within (length (drop start window.now)) result }
+    ensures line { FirstHasLine (drop start window.now) result }
+    ensures counted { counted_after (first_view (drop start window.now) result) ≤ counted (context_view context) + len_of (first_view (drop start window.now) result) }
+{
+    let bytes = &window[start..];
+    // Most of these are rows.
+    match with_data_in(context, bytes) {
+        Some(read) => {
+            let head = Head::WithData(read.command, read.count);
+            First::Begins(read.len, head, read.next)
+        }
+        None => first_in(whole, context, bytes),
+    }
+}
+
+/// So many bytes of the window, up to `end`.
+pub fn data_before(count: DataCount, end: usize, window: &[u8]) -> Data<'_>
+    requires inside { end ≤ length window.now }
+    requires there { count.bytes ≤ end }
+    ensures { result.bytes.now ≡ take count.bytes (drop (end - count.bytes) window.now) }
+{
+    Data {
+        bytes: &window[end - usize::from(count.bytes)..end],
+    }
+}
+
+/// The line that so many bytes in front spell with their newline.
+pub fn line_before(len: usize, bytes: &[u8]) -> PjlLine<'_>
+    requires inside { len ≤ length bytes.now }
+    requires newline { 1 ≤ len }
+    requires line { HasLine Line len bytes.now }
+    ensures { Entry.PjlLine (line_view result.line) ≡ head_view Line len bytes.now }
+{
+    let Some(line) = line_of(&bytes[..len - 1]) else {
+        unreachable!()
+    };
+    PjlLine { line }
+}
+
+/// The item of so many bytes in front.
+#[inline(always)]
+pub fn with_its_data(head: Head, len: usize, bytes: &[u8]) -> Item<'_>
+    requires inside { len ≤ length bytes.now }
+    requires there { data_len head ≤ len }
+    requires line { HasLine head len bytes.now }
+    ensures item { view result ≡ head_view head len bytes.now }
+    ensures within { length (data_of (view result)) ≤ len }
+    ensures last { take (len - length (data_of (view result))) bytes.now ++ data_of (view result) ≡ take len bytes.now }
+{
+    match head {
+        Head::Text(byte) => Item::Text(byte),
+        Head::Simple(item) => Item::Simple(item),
+        Head::WithData(command, count) => Item::WithData(command, data_before(count, len, bytes)),
+        Head::Line => Item::PjlLine(line_before(len, bytes)),
+    }
+}
+
+/// The item of `len` bytes at `start` of the window, its data lent.
+#[inline(always)]
+pub fn item_ahead(head: Head, len: usize, start: usize, window: &[u8]) -> Item<'_>
+    requires start { start ≤ length window.now }
+    requires inside { len ≤ length (drop start window.now) }
+    requires there { data_len head ≤ len }
+    requires line { HasLine head len (drop start window.now) }
+    ensures { view result ≡ head_view head len (drop start window.now) }
+{
+    with_its_data(head, len, &window[start..])
+}
+
+/// The answer where the bytes from `start` on decide nothing.
+#[inline(always)]
+pub fn undecided(
+    ended: bool,
+    context: Context,
+    place: Place,
+    start: usize,
+    window: &[u8],
+) -> Result<Lexed<'_>, LexFault>
+    requires { start ≤ length window.now }
+    ensures { IsUndecided ended (context_view context) place (drop start window.now) result }
+{
+    if !ended {
+        return Ok(Lexed::NeedMore);
+    }
+    match context.cause_at_end(window[start..].is_empty()) {
+        None => Ok(Lexed::End),
+        Some(cause) => Err(LexFault { place, cause }),
+    }
+}

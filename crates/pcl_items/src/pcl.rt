@@ -1,0 +1,8 @@
+//! Mode PCL: control codes, and escape sequences with and without a group.
+
+pub(crate) mod code;
+pub(crate) mod command;
+pub(crate) mod command_with_data;
+pub(crate) mod counting;
+pub(crate) mod field;
+pub(crate) mod parameterized;

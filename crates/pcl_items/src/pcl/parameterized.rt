@@ -1,0 +1,99 @@
+//! A parameterized command that stands first.
+//!
+//! A job is mostly these. What `first_in` answers of them is answered here in a shape of its own, which stays in registers
+//! where an answer of several shapes goes through memory.
+
+ghost use Rattle.std.specs.Prelude.{◌≤◌, ◌∷◌, length, IfSome};
+ghost use Rattle.pcl_items.specs.Lexing.Contexts.{Pcl};
+ghost use Rattle.pcl_items.specs.Lexing.FirstView.{context_view};
+ghost use Rattle.pcl_items.specs.Escapes.ReadCommands.{IsAhead, IsInGroup, IsEndedBy};
+
+use crate::lexer::first::Context;
+use crate::number::Number;
+use crate::pcl::command::{Command, Group};
+use crate::pcl::field::{MOST_CHARACTERS, MOST_TEN_THOUSANDTHS, longest_field};
+
+/// A command with its number, how many bytes spell it, and what stands before the bytes after them.
+#[derive(Clone, Copy)]
+pub struct ReadCommand {
+    pub len: usize,
+    pub command: Command,
+    pub number: Number,
+    pub next: Context,
+}
+
+/// The parameterized command that stands first in the bytes, unless they begin with something else.
+#[inline(always)]
+#[tactic(auto, unfolding(crate::specs::Reader::first_of))]
+pub fn parameterized_in(context: Context, bytes: &[u8]) -> Option<ReadCommand>
+    ensures { IfSome result (λ read. IsAhead read (context_view context) bytes.now) }
+{
+    match context {
+        Context::Sequence(group) => command(group, bytes),
+        Context::Pcl => match bytes {
+            [b'\x1b', rest @ ..] => escaped(rest),
+            _ => None,
+        },
+        _ => None,
+    }
+}
+
+/// The command that stands first behind an escape character.
+#[inline(always)]
+fn escaped(bytes: &[u8]) -> Option<ReadCommand>
+    ensures { IfSome result (λ read. IsAhead read Pcl (27 ∷ bytes.now)) }
+{
+    match bytes {
+        [introducer, character, rest @ ..] => {
+            let group = Group::of(*introducer, *character)?;
+            // Most commands of rows have data, which is known only behind the number.
+            if let Group::RasterData = group {
+                return None;
+            }
+            let read = command(group, rest)?;
+            Some(ReadCommand {
+                len: 3 + read.len,
+                ..read
+            })
+        }
+        _ => None,
+    }
+}
+
+/// The command of a group that stands first behind the group's characters, or behind a command of the group.
+#[inline(always)]
+#[tactic(auto, unfolding(crate::specs::Reader::command_in))]
+fn command(group: Group, bytes: &[u8]) -> Option<ReadCommand>
+    ensures { IfSome result (λ read. IsInGroup read group bytes.now) }
+{
+    let field = longest_field(bytes);
+    if field.len > MOST_CHARACTERS || field.ten_thousandths > MOST_TEN_THOUSANDTHS {
+        return None;
+    }
+    let last = bytes.get(field.len)?;
+    let number = Number {
+        sign: field.sign,
+        ten_thousandths: field.ten_thousandths,
+    };
+    ended_by(group, *last, number, field.len)
+}
+
+/// The command that a byte ends, behind a field of so many characters.
+#[inline(always)]
+fn ended_by(group: Group, last: u8, number: Number, len: usize) -> Option<ReadCommand>
+    requires { len ≤ 16 }
+    ensures { IfSome result (λ read. IsEndedBy read group number len last) }
+{
+    // The letters of commands are capital ones, so a byte that is no letter names none.
+    let (letter, next) = match last {
+        0..=95 => (last, Context::Pcl),
+        96..=255 => (last - 32, Context::Sequence(group)),
+    };
+    let command = Command::of(group, letter)?;
+    Some(ReadCommand {
+        len: len + 1,
+        command,
+        number,
+        next,
+    })
+}
