@@ -33,8 +33,13 @@ def box_of(element: xml.Element) -> Tuple[Fraction, ...]:
 
 
 def row_of(element: xml.Element) -> Mark:
+    """A row: its runs are drawn smoothed, and once more sharp."""
     place = PLACE.fullmatch(element.get("transform"))
-    data = element.get("d")
+    smooth, sharp = element
+    assert (smooth.tag, sharp.tag) == (SVG + "path", SVG + "path")
+    assert (smooth.attrib.keys(), sharp.attrib.keys()) == ({"d"}, {"d", "shape-rendering"})
+    data = smooth.get("d")
+    assert sharp.get("d") == data, (data, sharp.get("d"))
     runs = [tuple(map(int, run.groups())) for run in RUN.finditer(data)]
     assert "".join(f"M{a} 0h{n}v1h-{m}z" for a, n, m in runs) == data, data
     assert all(n == m > 0 for _, n, m in runs), data

@@ -24,8 +24,10 @@ SETTING = re.compile(r"cd examples$|alias pclcheck=")
 GONE = "No such file or directory"
 INPUT_AGAIN = ("error: standard input can be read only once; --each reads a job for each printer, "
                "and --notes once more\n")
-PIPE_AGAIN = ("error: a job that is no file can be read only once; --each reads it for each printer, "
-              "and --notes once more\n")
+PIPE_AGAIN = ("error: /dev/null: a job that is no file can be read only once; "
+              "--each reads it for each printer, and --notes once more\n")
+PIPE_TO_DRAW = ("error: /dev/null: a job that is no file can be read only once; "
+                "a picture is drawn at a second reading\n")
 NO_VERSION = ": the first line has to be 'pclprofile 1' or 'pclprofile 2' (Version)\n"
 FAULTY = f"faulty.pcl:1: 'A\\x1bQ'{NO_VERSION}"
 # Words, exit status, standard output, standard error.
@@ -65,6 +67,7 @@ STORED = (
     ("check -p @A -p @B --each ruled_form.pcl /dev/null", 2, "", PIPE_AGAIN),
     ("check -p @B --notes ruled_form.pcl -", 2, "", INPUT_AGAIN),
     ("check -p @B --notes /dev/null", 2, "", PIPE_AGAIN),
+    ("picture /dev/null @B", 2, "", PIPE_TO_DRAW),
     ("check -p @B --notes gone.pcl", 3, f"ERROR read gone.pcl: {GONE}\n", ""),
     ("check --format words ruled_form.pcl @B", 0,
      "ruled_form.pcl: each printer prints this job (pages=2 marks=36)\n", ""),

@@ -1,7 +1,7 @@
 -- The fixed parts of the elements of marks.
 use Rattle.std.specs.Prelude.{ℕ, List, codes}
 use Rattle.page_picture.specs.declared.mark_parts.MarkPart.{MarkPart}
-use Rattle.page_picture.specs.declared.mark_parts.MarkPart.TheVariants.{AreaStart, Black, White, Shade, ShadeEnd, Pattern, PatternEnd, BoxStart, BoxEnd, GlyphStart, GlyphText, TextEnd, RowStart, RowScale, RowData, RowEnd, LineStart, LineEnd}
+use Rattle.page_picture.specs.declared.mark_parts.MarkPart.TheVariants.{AreaStart, Black, White, Shade, ShadeEnd, Pattern, PatternEnd, BoxStart, BoxEnd, GlyphStart, Bold, Italic, GlyphText, TextEnd, RowStart, RowScale, RowRuns, RowAgain, RowEnd, LineStart, LineEnd}
 
 unfoldable pub mark_part : MarkPart → List ℕ
 mark_part AreaStart = codes "<rect class=\"area\""
@@ -14,11 +14,14 @@ mark_part PatternEnd = codes ")\"/>\n"
 mark_part BoxStart = codes "<rect class=\"box\""
 mark_part BoxEnd = codes " fill=\"none\" stroke=\"silver\" stroke-width=\"24\"/>\n"
 mark_part GlyphStart = codes "<text class=\"glyph\""
+mark_part Bold = codes " font-weight=\"bold\""
+mark_part Italic = codes " font-style=\"italic\""
 mark_part GlyphText = codes " lengthAdjust=\"spacingAndGlyphs\">"
 mark_part TextEnd = codes "</text>\n"
-mark_part RowStart = codes "<path class=\"row\" shape-rendering=\"crispEdges\" transform=\"translate("
+mark_part RowStart = codes "<g class=\"row\" transform=\"translate("
 mark_part RowScale = codes ") scale("
-mark_part RowData = codes ")\" d=\""
-mark_part RowEnd = codes "\"/>\n"
+mark_part RowRuns = codes ")\"><path d=\""
+mark_part RowAgain = codes "\"/><path shape-rendering=\"crispEdges\" d=\""
+mark_part RowEnd = codes "\"/></g>\n"
 mark_part LineStart = codes "<line class=\"line\""
 mark_part LineEnd = codes " stroke=\"black\" stroke-linecap=\"round\"/>\n"

@@ -1,5 +1,6 @@
 -- The elements of marks.
-use Rattle.std.specs.Prelude.{ℕ, ℤ, pos, ◌/◌, nat_le, if◌then◌else◌, List, [], ◌∷◌, ◌++◌, codes, decimal, Option, None, Some}
+use Rattle.std.specs.Prelude.{ℕ, ℤ, pos, ◌/◌, ◌%◌, int_le, nat_le, nat_lt, Bool, if◌then◌else◌, List, [], ◌∷◌, ◌++◌, codes, decimal, Option, None, Some}
+use Rattle.device_profile.specs.declared.font.FontRequest.{FontRequest}
 use Rattle.page_env.specs.declared.mark.Area.{Area}
 use Rattle.page_env.specs.declared.mark.Fill.{Fill}
 use Rattle.page_env.specs.declared.mark.Fill.TheVariants.{Solid, Erase, Shade, Hatch}
@@ -47,24 +48,40 @@ text_attributes glyph =
     length_attribute X glyph.bounds.left ++ length_attribute Y glyph.y
     ++ attribute FontSize (pos glyph.request.height) ++ attribute TextLength (span glyph.bounds.left glyph.bounds.right)
 
+-- bold from semi bold on, by the stroke weight, in ten-thousandths
+abbrev pub is_bold : ℤ → Bool
+is_bold weight = int_le (pos 10_000) weight
+
+-- italic by the posture, which is what four leaves over of the style, in ten-thousandths
+abbrev pub is_italic : ℕ → Bool
+is_italic style = nat_lt 0 (style / 10_000 % 4)
+
+-- how its face looks
+unfoldable pub face_attributes : FontRequest → List ℕ
+face_attributes request =
+    (if is_bold request.weight then mark_part parts.Bold else []) ++ (if is_italic request.style then mark_part parts.Italic else [])
+
 -- the text of a character, as wide as its box; nothing where none is known for the code
 unfoldable pub text_picture : Glyph → Option ℕ → List ℕ
 text_picture glyph None = []
 text_picture glyph (Some character) =
-    mark_part parts.GlyphStart ++ text_attributes glyph ++ mark_part parts.GlyphText ++ character_text character ++ mark_part parts.TextEnd
+    mark_part parts.GlyphStart ++ text_attributes glyph ++ face_attributes glyph.request ++ mark_part parts.GlyphText ++ character_text character ++ mark_part parts.TextEnd
 
 unfoldable pub glyph_picture : Glyph → List ℕ
 glyph_picture glyph = box_picture glyph ++ text_picture glyph (character_of glyph.request.symbol_set glyph.code)
 
 -- ---- rows of rasters
 
--- where a path stands whose unit is a pixel, and how large that is: an inch has 7200 units
+-- where paths stand whose unit is a pixel, and how large that is: an inch has 7200 units
 unfoldable pub row_place : PixelRow → List ℕ
 row_place row = pair_units row.x row.y ++ mark_part parts.RowScale ++ decimal (7200 / pixels_per_inch row.resolution)
 
+-- drawn twice, one upon the other: smoothed, so that a stroke of one pixel shows at each size, and sharp, so that rows which touch leave no
+-- seam between them
 unfoldable pub row_picture : PixelRow → List ℕ
 row_picture row =
-    mark_part parts.RowStart ++ row_place row ++ mark_part parts.RowData ++ runs_text row.bytes ++ mark_part parts.RowEnd
+    mark_part parts.RowStart ++ row_place row ++ mark_part parts.RowRuns ++ runs_text row.bytes
+    ++ mark_part parts.RowAgain ++ runs_text row.bytes ++ mark_part parts.RowEnd
 
 -- ---- lines of a pen
 

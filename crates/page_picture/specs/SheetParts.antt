@@ -31,6 +31,6 @@ sheet_part SentenceStart = codes "<text class=\"sentence\" text-anchor=\"middle\
 sheet_part SentenceFill = codes " fill=\"red\">"
 sheet_part SentenceEnd = codes "</text>\n"
 sheet_part PictureEnd = codes "</svg>\n"
-sheet_part DocumentStart = codes "<!DOCTYPE html>\n<html lang=\"en\">\n<head>\n<meta charset=\"utf-8\"/>\n<title>Pages</title>\n<style>svg { display: block; margin: 1em 0; }</style>\n</head>\n<body>\n<p>"
+sheet_part DocumentStart = codes "<!DOCTYPE html>\n<html lang=\"en\">\n<head>\n<meta charset=\"utf-8\"/>\n<title>Pages</title>\n<style>svg { display: block; margin: 1em 0; overflow: visible; }</style>\n</head>\n<body>\n<p>"
 sheet_part DocumentPages = codes "</p>\n"
 sheet_part DocumentEnd = codes "</body>\n</html>\n"

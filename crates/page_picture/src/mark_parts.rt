@@ -23,6 +23,10 @@ pub(crate) enum MarkPart {
     BoxEnd,
     /// Before the text of a character.
     GlyphStart,
+    /// Of one in a bold face.
+    Bold,
+    /// Of one in an italic face.
+    Italic,
     /// Between its attributes and its character.
     GlyphText,
     /// Behind it.
@@ -32,7 +36,9 @@ pub(crate) enum MarkPart {
     /// Between its place and how large its pixels are.
     RowScale,
     /// Before its runs.
-    RowData,
+    RowRuns,
+    /// Before its runs once more, which are drawn without smoothing.
+    RowAgain,
     /// Behind them.
     RowEnd,
     /// Before a line of a pen.
@@ -61,14 +67,15 @@ impl MarkPart {
             MarkPart::BoxStart => b"<rect class=\"box\"",
             MarkPart::BoxEnd => b" fill=\"none\" stroke=\"silver\" stroke-width=\"24\"/>\n",
             MarkPart::GlyphStart => b"<text class=\"glyph\"",
+            MarkPart::Bold => b" font-weight=\"bold\"",
+            MarkPart::Italic => b" font-style=\"italic\"",
             MarkPart::GlyphText => b" lengthAdjust=\"spacingAndGlyphs\">",
             MarkPart::TextEnd => b"</text>\n",
-            MarkPart::RowStart => {
-                b"<path class=\"row\" shape-rendering=\"crispEdges\" transform=\"translate("
-            }
+            MarkPart::RowStart => b"<g class=\"row\" transform=\"translate(",
             MarkPart::RowScale => b") scale(",
-            MarkPart::RowData => b")\" d=\"",
-            MarkPart::RowEnd => b"\"/>\n",
+            MarkPart::RowRuns => b")\"><path d=\"",
+            MarkPart::RowAgain => b"\"/><path shape-rendering=\"crispEdges\" d=\"",
+            MarkPart::RowEnd => b"\"/></g>\n",
             MarkPart::LineStart => b"<line class=\"line\"",
             MarkPart::LineEnd => b" stroke=\"black\" stroke-linecap=\"round\"/>\n",
         }

@@ -5,8 +5,11 @@ ghost use Rattle.page_picture.specs.Marks.{
   area_picture,
   box_picture,
   density,
+  face_attributes,
   fill_attributes,
   glyph_picture,
+  is_bold,
+  is_italic,
   line_picture,
   mark_picture,
   row_picture,
@@ -21,6 +24,7 @@ use crate::figures::{push_number, push_pair};
 use crate::mark_parts::MarkPart;
 use crate::rows::push_runs;
 use crate::texts::push_character;
+use device_profile::FontRequest;
 use page_env::{Area, Fill, Glyph, Mark, PenLine, RasterRow, Resolution};
 use std::alloc::{AllocError, Allocator};
 
@@ -122,6 +126,37 @@ fn push_text_attributes<A: Allocator>(
     push_attribute(text, Attribute::TextLength, width)
 }
 
+/// Whether a stroke weight is semi bold or bolder.
+fn is_bold(weight: i32) -> bool
+    ensures { result ≡ is_bold weight }
+{
+    weight >= 10_000
+}
+
+/// Whether a style has an italic posture, which is what four leaves over of it.
+fn is_italic(style: u32) -> bool
+    ensures { result ≡ is_italic style }
+{
+    style / 10_000 % 4 > 0
+}
+
+/// Appends how the face of a character looks.
+#[tactic(auto, unfolding(crate::specs::Marks::face_attributes))]
+fn push_face_attributes<A: Allocator>(
+    text: &mut Vec<u8, A>,
+    request: &FontRequest,
+) -> Result<(), AllocError>
+    ensures { OnOk result (text.new.items ≡ text.old.items ++ face_attributes request.now) }
+{
+    if is_bold(request.weight) {
+        text.extend_from_slice(MarkPart::Bold.bytes())?;
+    }
+    if is_italic(request.style) {
+        text.extend_from_slice(MarkPart::Italic.bytes())?;
+    }
+    Ok(())
+}
+
 /// Appends the text of a character, where one is known for the code.
 #[tactic(auto, unfolding(crate::specs::Marks::text_picture))]
 fn push_text_of<A: Allocator>(
@@ -136,6 +171,7 @@ fn push_text_of<A: Allocator>(
     };
     text.extend_from_slice(MarkPart::GlyphStart.bytes())?;
     push_text_attributes(text, glyph)?;
+    push_face_attributes(text, &glyph.request)?;
     text.extend_from_slice(MarkPart::GlyphText.bytes())?;
     push_character(text, character)?;
     text.extend_from_slice(MarkPart::TextEnd.bytes())
@@ -157,7 +193,7 @@ fn pixel_units(resolution: Resolution) -> u64
     }
 }
 
-/// Appends where a path stands whose unit is a pixel, and how large that is.
+/// Appends where paths stand whose unit is a pixel, and how large that is.
 #[tactic(auto, unfolding(crate::specs::Marks::row_place))]
 fn push_row_place<A: Allocator>(
     text: &mut Vec<u8, A>,
@@ -170,13 +206,16 @@ fn push_row_place<A: Allocator>(
     push_number(text, pixel_units(row.resolution))
 }
 
+/// Appends a row: its runs smoothed, and upon them sharp.
 #[tactic(auto, unfolding(crate::specs::Marks::row_picture))]
 fn push_row<A: Allocator>(text: &mut Vec<u8, A>, row: &RasterRow<'_>) -> Result<(), AllocError>
     ensures { OnOk result (text.new.items ≡ text.old.items ++ row_picture (row_of row.now)) }
 {
     text.extend_from_slice(MarkPart::RowStart.bytes())?;
     push_row_place(text, row)?;
-    text.extend_from_slice(MarkPart::RowData.bytes())?;
+    text.extend_from_slice(MarkPart::RowRuns.bytes())?;
+    push_runs(text, row.bytes)?;
+    text.extend_from_slice(MarkPart::RowAgain.bytes())?;
     push_runs(text, row.bytes)?;
     text.extend_from_slice(MarkPart::RowEnd.bytes())
 }

@@ -111,7 +111,8 @@ impl SheetPart {
             SheetPart::PictureEnd => b"</svg>\n",
             SheetPart::DocumentStart => {
                 b"<!DOCTYPE html>\n<html lang=\"en\">\n<head>\n<meta charset=\"utf-8\"/>\n\
-                <title>Pages</title>\n<style>svg { display: block; margin: 1em 0; }</style>\n\
+                <title>Pages</title>\n\
+                <style>svg { display: block; margin: 1em 0; overflow: visible; }</style>\n\
                 </head>\n<body>\n<p>"
             }
             SheetPart::DocumentPages => b"</p>\n",

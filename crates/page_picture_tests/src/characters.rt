@@ -1,6 +1,8 @@
 //! Characters: their boxes, and which text stands in them.
 
 use crate::marks::{character, check_mark};
+use device_profile::FontRequest;
+use page_env::{Glyph, Mark};
 use std::process::Abort;
 use std::test::Fail;
 
@@ -76,7 +78,7 @@ fn check(
     code: u8,
     wanted: &[u8],
 ) -> Result<(), Fail> {
-    let mark = character(number, letter, code);
+    let mark = Mark::Glyph(character(number, letter, code));
     if wanted.is_empty() {
         return check_mark(rt, &mark, &[BOX]);
     }
@@ -89,6 +91,46 @@ fn sets_differ_above_ascii(rt: HostRuntime) -> Result<(), Fail> {
         for (set, wanted) in SETS.iter().zip(texts) {
             check(&rt, *set, *code, wanted)?;
         }
+    }
+    Ok(())
+}
+
+/// What stands before the attributes of a face.
+const PLACED: &[u8] = b"<text class=\"glyph\" x=\"1800\" y=\"3600\" font-size=\"1200\" \
+    textLength=\"720\"";
+
+/// Styles and stroke weights, and the attributes of their faces.
+const FACES: [(u32, i32, &[u8]); 9] = [
+    (0, -30_000, b""),
+    (0, 9_999, b""),
+    (0, 10_000, b" font-weight=\"bold\""),
+    (0, 30_000, b" font-weight=\"bold\""),
+    (10_000, 0, b" font-style=\"italic\""),
+    (20_000, 0, b" font-style=\"italic\""),
+    // Condensed, upright and italic; and outlined.
+    (40_000, 0, b""),
+    (
+        50_000,
+        30_000,
+        b" font-weight=\"bold\" font-style=\"italic\"",
+    ),
+    (320_000, 0, b""),
+];
+
+#[test]
+fn faces_are_bold_and_italic(rt: HostRuntime) -> Result<(), Fail> {
+    for (style, weight, attributes) in FACES {
+        let upright = character(100_000, b'U', b'A');
+        let mark = Mark::Glyph(Glyph {
+            request: FontRequest {
+                style,
+                weight,
+                ..upright.request
+            },
+            ..upright
+        });
+        let behind = b" lengthAdjust=\"spacingAndGlyphs\">A</text>\n";
+        check_mark(&rt, &mark, &[BOX, PLACED, attributes, behind])?;
     }
     Ok(())
 }

@@ -33,8 +33,8 @@ fn whole_bounds([left, top, right, bottom]: [u32; 4]) -> Bounds {
 }
 
 /// The character of a code of a symbol set, 12 points high and 1/10 inch wide, at 1/4 and 1/2 inch.
-pub(crate) fn character(number: u32, letter: u8, code: u8) -> Mark<'static> {
-    Mark::Glyph(Glyph {
+pub(crate) fn character(number: u32, letter: u8, code: u8) -> Glyph {
+    Glyph {
         code,
         request: FontRequest {
             symbol_set: SymbolSet { number, letter },
@@ -47,7 +47,7 @@ pub(crate) fn character(number: u32, letter: u8, code: u8) -> Mark<'static> {
         },
         y: Length::of_7200ths(3600),
         bounds: whole_bounds([1800, 2700, 2520, 3900]),
-    })
+    }
 }
 
 /// Whether a text is these parts, one behind another.

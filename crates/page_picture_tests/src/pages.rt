@@ -32,13 +32,20 @@ impl<A: Allocator> MarkSink for Drawing<A> {
 }
 
 /// Up to the place of a row of a raster.
-const ROW: &[u8] = b"<path class=\"row\" shape-rendering=\"crispEdges\" transform=\"translate(";
+const ROW: &[u8] = b"<g class=\"row\" transform=\"translate(";
+
+/// Between the runs of a row and the same once more.
+const AGAIN: &[u8] = b"\"/><path shape-rendering=\"crispEdges\" d=\"";
+
+/// Behind a row.
+const ROW_END: &[u8] = b"\"/></g>\n";
 
 /// From the place of a row of one byte, which is black at its ends, up to the size of a pixel.
 const ENDS: &[u8] = b"9000 10800) scale(";
 
 /// Such a row behind the size of its pixel, and the end of the page.
-const ENDS_AND_PAGE: &[u8] = b")\" d=\"M0 0h1v1h-1zM7 0h1v1h-1z\"/>\n<!-- page -->\n";
+const ENDS_AND_PAGE: &[u8] = b")\"><path d=\"M0 0h1v1h-1zM7 0h1v1h-1z\"/>\
+    <path shape-rendering=\"crispEdges\" d=\"M0 0h1v1h-1zM7 0h1v1h-1z\"/></g>\n<!-- page -->\n";
 
 /// Jobs on sample B, and the elements of their marks.
 const ROWS: &[(&[u8], &[&[u8]])] = &[
@@ -49,13 +56,25 @@ const ROWS: &[(&[u8], &[&[u8]])] = &[
           \x1b*b3W\x0f\xff\xf0\x1b*b2W\0\xaa\x1b*rC\x1bE",
         &[
             ROW,
-            b"9000 10800) scale(24)\" d=\"M0 0h1v1h-1z\"/>\n",
+            b"9000 10800) scale(24)\"><path d=\"M0 0h1v1h-1z",
+            AGAIN,
+            b"M0 0h1v1h-1z",
+            ROW_END,
             ROW,
-            b"9000 10824) scale(24)\" d=\"M0 0h8v1h-8z\"/>\n",
+            b"9000 10824) scale(24)\"><path d=\"M0 0h8v1h-8z",
+            AGAIN,
+            b"M0 0h8v1h-8z",
+            ROW_END,
             ROW,
-            b"9000 10848) scale(24)\" d=\"M4 0h16v1h-16z\"/>\n",
+            b"9000 10848) scale(24)\"><path d=\"M4 0h16v1h-16z",
+            AGAIN,
+            b"M4 0h16v1h-16z",
+            ROW_END,
             ROW,
-            b"9192 10872) scale(24)\" d=\"M0 0h1v1h-1zM2 0h1v1h-1zM4 0h1v1h-1zM6 0h1v1h-1z\"/>\n",
+            b"9192 10872) scale(24)\"><path d=\"M0 0h1v1h-1zM2 0h1v1h-1zM4 0h1v1h-1zM6 0h1v1h-1z",
+            AGAIN,
+            b"M0 0h1v1h-1zM2 0h1v1h-1zM4 0h1v1h-1zM6 0h1v1h-1z",
+            ROW_END,
             b"<!-- page -->\n",
         ],
     ),

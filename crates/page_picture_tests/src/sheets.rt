@@ -170,7 +170,7 @@ fn a_document_begins_with_a_verdict(rt: HostRuntime) -> Result<(), Fail> {
 <head>
 <meta charset=\"utf-8\"/>
 <title>Pages</title>
-<style>svg { display: block; margin: 1em 0; }</style>
+<style>svg { display: block; margin: 1em 0; overflow: visible; }</style>
 </head>
 <body>
 <p>each printer prints this job &amp; &lt;that&gt;</p>

@@ -1,11 +1,13 @@
 -- Which jobs would be read again whose bytes are gone once they are read.
-use Rattle.std.specs.Prelude.{◌≡◌, ◌⊎◌, ◌&&◌, ◌||◌, ◌++◌, ℕ, Bool, List, Option, IsTrue, codes, count_by, length, nat_lt, option_to_list}
+use Rattle.std.specs.Prelude.{◌≡◌, ◌⊎◌, ◌&&◌, ◌||◌, ◌++◌, ℕ, Bool, List, Option, Contains, IsTrue, codes, count_by, length, nat_lt, option_to_list}
 use Rattle.std.specs.Str.{bytes_eq}
+use Rattle.preflight.specs.declared.error.Error.TheVariants.{Memory}
 use Rattle.preflight.specs.Writing.{Writes}
 use Rattle.streams.specs.Outlet.{OutletState}
 use Rattle.subcommands.specs.CheckMany.{Asked}
+use Rattle.subcommands.specs.JobSentences.{named_first}
 use Rattle.subcommands.specs.declared.status.Status.{Status}
-use Rattle.subcommands.specs.declared.status.Status.TheVariants.{Usage}
+use Rattle.subcommands.specs.declared.status.Status.TheVariants.{Usage, Stopped}
 
 -- a word for standard input
 abbrev pub is_input : List ℕ → Bool
@@ -23,9 +25,32 @@ input_count names_from jobs = count_by is_input (option_to_list names_from ++ jo
 abbrev pub reads_input_again : Option (List ℕ) → Asked → Bool
 reads_input_again names_from asked = nat_lt 1 (input_count names_from asked.jobs) || (is_apart asked && nat_lt 0 (count_by is_input asked.jobs))
 
--- That is refused, and so may be a job that is no file where each job is read more than once. Standard error is told.
+-- ---- what is told
+
+-- standard input cannot be read again
+abbrev pub input_again : List ℕ
+input_again = codes "error: standard input can be read only once; --each reads a job for each printer, and --notes once more\n"
+
+-- nor can the job of this name, which is no file; this is why it would be
+abbrev pub pipe_again : (name why : List ℕ) → List ℕ
+pipe_again name why = codes "error: " ++ named_first name ++ codes "a job that is no file can be read only once; " ++ why
+
+-- for each printer, or for its notes
+abbrev pub read_apart : List ℕ
+read_apart = codes "--each reads it for each printer, and --notes once more\n"
+
+-- to draw what was found
+abbrev pub read_to_draw : List ℕ
+read_to_draw = codes "a picture is drawn at a second reading\n"
+
+-- One of these jobs is refused, of which standard error is told; without memory for its name nothing is.
+abbrev pub RefusesPipe : (jobs : List (List ℕ)) → (why : List ℕ) → Status → OutletState → OutletState → Type 0
+RefusesPipe jobs why Usage err err' = (name : List ℕ) × Contains jobs name × Writes err err' (pipe_again name why)
+RefusesPipe jobs why (Stopped Memory) err err' = err' ≡ err
+RefusesPipe jobs why _ err err' = ⊥
+
+-- Standard input that would be read again is refused, and so may be a job that is no file where each job is read more than once.
 abbrev pub RefusesInput : Option (List ℕ) → Asked → Status → OutletState → OutletState → Type 0
 RefusesInput names_from asked status err err' =
-    (status ≡ Usage)
-    × ((IsTrue (reads_input_again names_from asked) × Writes err err' (codes "error: standard input can be read only once; --each reads a job for each printer, and --notes once more\n"))
-    ⊎ (IsTrue (is_apart asked) × Writes err err' (codes "error: a job that is no file can be read only once; --each reads it for each printer, and --notes once more\n")))
+    (IsTrue (reads_input_again names_from asked) × (status ≡ Usage) × Writes err err' input_again)
+    ⊎ (IsTrue (is_apart asked) × RefusesPipe asked.jobs read_apart status err err')

@@ -1,17 +1,21 @@
 -- What the commands that write a text of a job come to. Nothing is known of files beforehand, so this is said for some reads of them.
-use Rattle.std.specs.Prelude.{◌≡◌, ◌||◌, [], ℕ, List}
+use Rattle.std.specs.Prelude.{◌≡◌, ◌⊎◌, ◌||◌, [], ◌∷◌, ℕ, List, IsTrue}
+use Rattle.preflight.specs.declared.error.Error.TheVariants.{Turns}
 use Rattle.preflight.specs.Due.{Rendering, plain_rendering}
 use Rattle.streams.specs.Files.{no_outlet, no_source}
 use Rattle.streams.specs.Outlet.{OutletState}
 use Rattle.streams.specs.Source.{SourceState}
 use Rattle.job_picture.specs.declared.selection.Selection.{Selection}
+use Rattle.subcommands.specs.Fleet.{RefusesRead}
 use Rattle.subcommands.specs.JobNotes.{LeavesNotes}
-use Rattle.subcommands.specs.JobTexts.{EndsBy, IsNamed, LeavesOut, LeavesPages, LeavesPinned, LeavesText, TellsOfPin}
-use Rattle.picture_command.specs.Picture.{IsNamedBy, LeavesPicture}
+use Rattle.subcommands.specs.JobTexts.{EndsBy, IsNamed, LeavesOut, LeavesPages, LeavesPinned, LeavesText, RefusesOne, TellsOfPin}
+use Rattle.picture_command.specs.Picture.{HasNoEnd, IsNamedBy, LeavesPicture}
 use Rattle.subcommands.specs.Status.{is_stop_of_read, is_stop_of_write}
 use Rattle.subcommands.specs.Texts.{text_named}
 use Rattle.subcommands.specs.declared.choices.Choice.{Choice}
 use Rattle.subcommands.specs.declared.status.Status.{Status}
+use Rattle.subcommands.specs.declared.status.Status.TheVariants.{Stopped}
+use Rattle.pclcheck.specs.Inputs.{RefusesPipe, read_to_draw}
 
 -- what is due of a job by this rendering
 pub record LeavesRendered (rendering : Rendering) (status : Status) (out out' : OutletState) : Type 0 where
@@ -30,15 +34,26 @@ pub record LeavesNotesFor (word : List ℕ) (status : Status) (out out' : Outlet
   pub texts : List (List ℕ)
   pub ends : EndsBy status (λ old new. LeavesNotes status (IsNamed (text_named word) [] texts) old new out out') no_source job (is_stop_of_read status) out'.failed
 
--- pages of a job as pictures, from the panel that is chosen of the printer that this word names; the job is read twice
-pub record LeavesPictureFor (word : List ℕ) (choices : List Choice) (selection : Selection) (job : List ℕ) (status : Status) (out out' err err' : OutletState) : Type 0 where
+-- Pages of a job as pictures, from the panel that is chosen of the printer that this word names. The job is read twice; the work stops
+-- where one of these reads fails, and for its turns after 2^40 reads.
+pub record LeavesPictureOfFile (word : List ℕ) (choices : List Choice) (selection : Selection) (job : List ℕ) (status : Status) (out out' err err' : OutletState) : Type 0 where
   pub first : SourceState
   pub second : SourceState
   pub texts : List (List ℕ)
   pub left : LeavesPicture status (IsNamedBy [] texts (IsNamed (text_named word) [] texts)) choices selection job
       (record { first = no_source; first' = first; second = no_source; second' = second; out = out; out' = out'; err = err; err' = err' })
+  pub read : IsTrue (first.failed || second.failed) → IsTrue (is_stop_of_read status)
   pub write : out'.failed ≡ is_stop_of_write status
+  pub turns : status ≡ Stopped Turns → HasNoEnd no_source first ⊎ HasNoEnd no_source second
+  pub refusal : RefusesOne (text_named word) status
+  pub refused : RefusesRead [] texts 1 status
   pub choice : TellsOfPin status (IsNamed (text_named word) [] texts) choices err err'
+
+-- the same, unless the job is no file and is refused, since it cannot be read twice
+abbrev pub LeavesPictureFor : (word : List ℕ) → List Choice → Selection → (job : List ℕ) → Status → OutletState → OutletState → OutletState → OutletState → Type 0
+LeavesPictureFor word choices selection job status out out' err err' =
+    LeavesPictureOfFile word choices selection job status out out' err err'
+    ⊎ (RefusesPipe (job ∷ []) read_to_draw status err err' × (out' ≡ out))
 
 -- a job in its canonical spelling, in a file
 pub record LeavesPlain (status : Status) (out out' : OutletState) : Type 0 where

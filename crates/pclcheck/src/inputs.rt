@@ -1,26 +1,26 @@
 //! Jobs whose bytes are gone once they are read.
-ghost use Rattle.std.specs.Prelude.{◌≡◌, IfNone, IfSome, IsFalse, option_map};
+ghost use Rattle.std.specs.Prelude.{◌≡◌, Contains, IfNone, IfSome, IfOk, IsFalse, List, ℕ, map, option_map};
 ghost use Rattle.preflight.specs.Writing.{Writes};
-ghost use Rattle.pclcheck.specs.Inputs.{RefusesInput, is_apart, is_input, reads_input_again};
+ghost use Rattle.pclcheck.specs.Inputs.{RefusesInput, RefusesPipe, is_apart, is_input, pipe_again, reads_input_again};
 ghost use Rattle.subcommands.specs.Asked.{asked_for};
 
-use preflight::{Outlet, write_text};
+use preflight::{Error, Outlet, write_text};
+use std::alloc::{AllocError, Global};
 use std::fs;
 use std::rt::Files;
-use subcommands::Status;
 use subcommands::check_jobs::ManyJobs;
+use subcommands::{Status, push_named_first};
 
 const INPUT_AGAIN: &[u8] =
     b"error: standard input can be read only once; --each reads a job for each printer, \
       and --notes once more\n";
 
-const PIPE_AGAIN: &[u8] =
-    b"error: a job that is no file can be read only once; --each reads it for each printer, \
-      and --notes once more\n";
+/// Why a check reads a job again.
+const READ_APART: &[u8] = b"--each reads it for each printer, and --notes once more\n";
 
 /// Refuses to read standard input again, or a job that is no file: of that standard error is told.
 /// `names_from` is the file of the names of the jobs.
-pub fn refuse_inputs<R: Files, E: Outlet>(
+pub fn refuse_inputs<R: Files + AllocGlobal, E: Outlet>(
     rt: &R,
     names_from: Option<&str>,
     many: &ManyJobs<'_, '_>,
@@ -37,10 +37,13 @@ pub fn refuse_inputs<R: Files, E: Outlet>(
     if reads_input_again(names_from, many) {
         return Some(refuse(INPUT_AGAIN, stderr));
     }
-    if is_apart(many) && has_pipe(rt, many.jobs) {
-        return Some(refuse(PIPE_AGAIN, stderr));
+    if !is_apart(many) {
+        return None;
     }
-    None
+    match first_pipe(rt, many.jobs) {
+        Some(name) => Some(refuse_pipe(rt.alloc(), name, READ_APART, stderr)),
+        None => None,
+    }
 }
 
 /// Tells standard error why words are refused.
@@ -52,6 +55,30 @@ fn refuse<E: Outlet>(text: &[u8], stderr: &mut E) -> Status
     // Where standard error takes nothing, the status alone is left to tell.
     let _ = write_text(stderr, text);
     Status::Usage
+}
+
+/// Refuses a job that is no file, which would be read again; `why` ends the line.
+pub fn refuse_pipe<E: Outlet>(alloc: Global, name: &[u8], why: &[u8], stderr: &mut E) -> Status
+    requires { IsFalse (E.state stderr.old).failed }
+    ensures { (jobs : List (List ℕ)) → Contains jobs name.now →
+        RefusesPipe jobs why.now result (E.state stderr.old) (E.state stderr.new) }
+{
+    match pipe_again(alloc, name, why) {
+        Ok(line) => refuse(line.as_slice(), stderr),
+        Err(_) => Status::Stopped(Error::Memory),
+    }
+}
+
+/// The line on such a job.
+fn pipe_again(alloc: Global, name: &[u8], why: &[u8]) -> Result<Vec<u8>, AllocError>
+    ensures { IfOk result (λ line. line.items ≡ pipe_again name.now why.now) }
+{
+    let mut line = Vec::new(alloc);
+    line.extend_from_slice(b"error: ")?;
+    push_named_first(alloc, &mut line, name)?;
+    line.extend_from_slice(b"a job that is no file can be read only once; ")?;
+    line.extend_from_slice(why)?;
+    Ok(line)
 }
 
 /// Whether standard input would be read more than once, for the names of the jobs or as a job.
@@ -78,12 +105,20 @@ fn is_apart(many: &ManyJobs<'_, '_>) -> bool
     many.tells_notes || many.is_each && many.printers.len() > 1
 }
 
-/// Whether a job is at a path whose bytes are gone once they are read, as those of a pipe.
-fn has_pipe<R: Files>(rt: &R, jobs: &[&[u8]]) -> bool {
-    jobs.iter().any(|job| is_pipe(rt, job))
+/// The first job whose bytes are gone once they are read.
+fn first_pipe<'n, R: Files>(rt: &R, jobs: &[&'n [u8]]) -> Option<&'n [u8]>
+    ensures { IfSome result (λ name. Contains (map (λ name. name.now) jobs.now) name.now) }
+{
+    for job in jobs {
+        if is_pipe(rt, job) {
+            return Some(*job);
+        }
+    }
+    None
 }
 
-fn is_pipe<R: Files>(rt: &R, name: &[u8]) -> bool {
+/// Whether what is at a path is gone once it is read, as the bytes of a pipe.
+pub fn is_pipe<R: Files>(rt: &R, name: &[u8]) -> bool {
     let Ok(path) = str::from_utf8(name) else {
         return false;
     };

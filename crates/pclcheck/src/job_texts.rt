@@ -3,6 +3,7 @@ ghost use Rattle.std.specs.Prelude.{IsFalse};
 ghost use Rattle.pclcheck.specs.JobRequests.{LeavesNotesFor, LeavesPagesFor, LeavesPictureFor, LeavesPin, LeavesPlain, LeavesRendered};
 ghost use Rattle.preflight.specs.Due.{list_rendering};
 
+use crate::inputs::{is_pipe, refuse_pipe};
 use picture_command::PictureAsked;
 use std::rt::Files;
 use streams::{FileOutlet, FileSource, Outlet};
@@ -32,7 +33,11 @@ pub fn pages<R: Files + AllocGlobal, O: Outlet>(
     subcommands::pages::pages(rt.alloc(), &mut job, &mut texts, profile, stdout)
 }
 
-/// Draws pages of the job at a path, from a panel setting of a printer.
+/// Why a picture reads its job again.
+const READ_TO_DRAW: &[u8] = b"a picture is drawn at a second reading\n";
+
+/// Draws pages of the job at a path, from a panel setting of a printer. A job that is no file is
+/// refused, since it cannot be read twice.
 pub fn picture<R: Files + AllocGlobal, O: Outlet, E: Outlet>(
     rt: &R,
     asked: &PictureAsked<'_>,
@@ -45,6 +50,9 @@ pub fn picture<R: Files + AllocGlobal, O: Outlet, E: Outlet>(
         asked.now.selection asked.now.job.now result
         (O.state stdout.old) (O.state stdout.new) (E.state stderr.old) (E.state stderr.new) }
 {
+    if is_pipe(rt, asked.job.as_bytes()) {
+        return refuse_pipe(rt.alloc(), asked.job.as_bytes(), READ_TO_DRAW, stderr);
+    }
     let mut first = FileSource::new(rt, asked.job);
     let mut second = FileSource::new(rt, asked.job);
     let mut texts = FileTexts::new(rt);

@@ -80,9 +80,9 @@ module _ (job : List ℕ) (rendering : Rendering) (a : Around) where
   same_left AllDone due stays = (refl, due, stays)
   same_left (FailsOf place profile finding) due stays = (λ e. absurd cc, due, stays)
 
-  pub left_same : (found outcome : Outcome) (status : Status) → status ≡ status_of outcome → WritesDue rendering a.second a.second' a.out a.out' outcome → Stays a.err a.err' → LeavesDrawn status job rendering found a
-  left_same found outcome status is due stays =
-      subst (λ s. LeavesDrawn s job rendering found a) (sym is) (inl (outcome, same_left outcome due stays))
+  pub left_same : (found outcome : Outcome) (status : Status) → outcome ≡ found → status ≡ status_of outcome → WritesDue rendering a.second a.second' a.out a.out' outcome → Stays a.err a.err' → LeavesDrawn status job rendering found a
+  left_same found outcome status same is due stays =
+      subst (λ o. LeavesDrawn status job rendering o a) same (subst (λ s. LeavesDrawn s job rendering outcome a) (sym is) (inl (same_left outcome due stays)))
 
   -- it came to something else
   other_left : (status : Status) (found outcome : Outcome) → TellsChange status job a.err a.err' → outcome ≢ found → WritesDue rendering a.second a.second' a.out a.out' outcome → LeavesOther status job rendering found a

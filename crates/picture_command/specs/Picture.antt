@@ -86,7 +86,7 @@ IsUndrawn a = (a.second'.given ≡ a.second.given) × Stays a.out a.out'
 abbrev pub IsUnsearched : Around → Type 0
 IsUnsearched a = (a.first'.given ≡ a.first.given) × IsUndrawn a
 
--- where the second reading came to this, and nothing is told of a change
+-- where the second reading came to the same, and nothing is told of a change
 abbrev pub LeavesSame : Status → Rendering → Outcome → Around → Type 0
 LeavesSame Pass rendering outcome a = (outcome ≡ AllDone) × WritesDue rendering a.second a.second' a.out a.out' outcome × Stays a.err a.err'
 LeavesSame Fail rendering outcome a = (outcome ≢ AllDone) × WritesDue rendering a.second a.second' a.out a.out' outcome × Stays a.err a.err'
@@ -109,7 +109,7 @@ LeavesAtStop _ rendering a = ⊥
 -- pages were drawn, of a job whose first reading came to this outcome
 abbrev pub LeavesDrawn : Status → (job : List ℕ) → Rendering → Outcome → Around → Type 0
 LeavesDrawn status job rendering outcome a =
-    ((drawn : Outcome) × LeavesSame status rendering drawn a) ⊎ (LeavesOther status job rendering outcome a ⊎ LeavesAtStop status rendering a)
+    LeavesSame status rendering outcome a ⊎ (LeavesOther status job rendering outcome a ⊎ LeavesAtStop status rendering a)
 
 -- a page is missing, which standard error tells
 pub record LeavesMissing (status : Status) (text : List ℕ) (a : Around) : Type 0 where

@@ -1,5 +1,5 @@
 //! The command `picture`.
-ghost use Rattle.std.specs.Prelude.{◌≡◌, ◌≢◌, ◌⊎◌, ◌||◌, IfErr, IfOk, IsErrOf, IsFalse, IsTrue};
+ghost use Rattle.std.specs.Prelude.{◌≡◌, ◌⊎◌, ◌||◌, IfErr, IfOk, IsErrOf, IsFalse, IsTrue};
 ghost use Rattle.device_profile.specs.Printer.{IsAllowed};
 ghost use Rattle.preflight.specs.Errors.{is_err_of_read};
 ghost use Rattle.subcommands.specs.Fleet.{RefusesRead};
@@ -12,6 +12,7 @@ ghost use Rattle.picture_command.specs.Picture.{Draws, HasNoEnd, IsErrorOfSearch
 
 use crate::named_printer::read_printer;
 use crate::page_search::{Names, PageSearch};
+use crate::same::is_same;
 use device_profile::{Panel, Profile};
 use job_picture::{Selection, Wanted, picture_of};
 use preflight::{Error, Outcome, Outlet, Source, render_job, write_text};
@@ -270,13 +271,6 @@ fn status_of(outcome: Outcome) -> Status
         Outcome::Done => Status::Pass,
         Outcome::Fail { .. } => Status::Fail,
     }
-}
-
-/// Whether the second reading of the job came to the same as the first.
-fn is_same(outcome: Outcome, found: Outcome) -> bool
-    ensures { IsFalse result → outcome ≢ found }
-{
-    outcome == found
 }
 
 /// Tells that the second reading of the job came to something else than the first.

@@ -4,5 +4,6 @@
 mod command;
 mod named_printer;
 mod page_search;
+mod same;
 
 pub use command::{PictureAsked, picture};
