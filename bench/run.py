@@ -8,11 +8,12 @@
     python3 bench/run.py --only lines        one kind; the option may come often
     python3 bench/run.py --size 32           jobs of 32 MiB
     python3 bench/run.py --program PATH      another build of the program
+    python3 bench/run.py --against PATH      beside it this checker, on the same jobs in turns
     python3 bench/run.py --profile           the functions that take most instructions
 
-The same jobs are made each time. Each has to pass for each fleet, which is one printer once, twice
-and four times: sample @B, or for jobs of macros a printer like it with more macro memory. The script
-stops where one does not.
+The same jobs are made each time (made_jobs.py), whose pages all differ. Each has to pass for each
+fleet, of one, two and four printers that differ in what does not show on a page: name, trays, macro
+depth and macro memory. The script stops where one does not.
 
 - MB/s: a million bytes a second, by the wall clock of the fastest of some runs.
 - Instructions a byte: what callgrind counts more on a longer job than on a shorter one, for each
@@ -20,15 +21,20 @@ stops where one does not.
 - The bytes of `macro` are those of `written_out`, which has the commands of the macro on each of as
   many pages: so the rows of the two are of equal pages, and their numbers may be compared.
 - A further printer: how many of these instructions come with each printer after the first.
+- cat, wc -l: MB/s of these on the same file, which no checker passes by much.
+- With --against the same numbers of the other program stand in columns of their own. It has to take
+  the words `check JOB PROFILE..` and to answer as pclcheck does.
 - Peak memory: what the system says of the program while it runs.
 - The commands are run on one kind of job, for one printer. What they write is thrown away: standard
-  output, and the OUT of `plain` and `pin`. To check: by how many times their instructions a byte are those of
-  `check`. Their peak memory is that on a job of an eighth of the size, and on one of the whole size.
-- Pictures: the first page of a job, which has this many marks, is drawn and thrown away. Of each kind of
-  page there is one with an eighth of the marks, so that it is seen that memory stays as it is.
-- Many jobs: 2,000 jobs of the same kind, each of whole pages and at least 4,096 bytes, are checked in one run
-  for two printers, and beside it one job that is their bytes one behind another. More a job: what the run over
-  many takes longer, for each of its jobs.
+  output, and the OUT of `plain` and `pin`. To check: by how many times their instructions a byte
+  are those of `check`. Their peak memory is that on a job of an eighth of the size, and on one of
+  the whole size.
+- Pictures: the first page of a job, which has this many marks, is drawn and thrown away. Of each
+  kind of page there is one with an eighth of the marks, so that it is seen that memory stays as it
+  is.
+- Many jobs: 2,000 jobs of the same kind, each of whole pages and at least 4,096 bytes, are checked
+  in one run for two printers, and beside it one job that is their bytes one behind another. More a
+  job: what the run over many takes longer, for each of its jobs.
 """
 
 import argparse
@@ -43,17 +49,20 @@ import time
 from dataclasses import dataclass
 from pathlib import Path
 
+sys.dont_write_bytecode = True
+
+from made_jobs import KINDS, RESET, characters_of_page, rows_of_page   # noqa: E402
+
 ROOT = Path(__file__).resolve().parent.parent
 PROGRAM = ROOT / "crates" / "pclcheck" / "out" / "pclcheck"
 BUILD = "cd crates/pclcheck && rt run -- check ../../examples/ruled_form.pcl @A"
 
 PRINTER = "@B"
 
-# Sample @B has 100 bytes of macro memory. This printer has the most that a profile may say, and the
-# page and the face of that sample.
-PRINTER_OF_MACROS = b"""\
+# Sample @B but for what stands in NAMED, in which the printers of a fleet differ.
+PRINTER_OF_FLEET = b"""\
 pclprofile 1
-name macros
+name %(name)b
 size 2
 orientation 0
 vmi 8
@@ -61,13 +70,24 @@ font 1
 copies 1
 sides 0
 tray 1
-trays 1
-duplex 0
-depth 8
-memory 1048576
+trays %(trays)b
+duplex 1
+depth %(depth)d
+memory %(memory)d
 geometry 2 0 61200 79200 1800 0 57600 79200 1200 1200 60000 78000
+geometry 2 1 79200 61200 1440 0 76320 61200 1200 1200 78000 60000
+geometry 26 0 59520 84168 1704 0 56112 84168 1200 1200 58320 82968
+geometry 26 1 84168 59520 1416 0 81336 59520 1200 1200 82968 58320
 face 1 10U 10 12 0 0 3 720 900 300 33-126
+face 2 10U 12 10 0 0 3 600 750 250 33-126
 """
+
+NAMED = (
+    {b"name": b"counter", b"trays": b"1 2", b"depth": 8, b"memory": 1 << 20},
+    {b"name": b"office", b"trays": b"1 2 3", b"depth": 7, b"memory": 1000000},
+    {b"name": b"dispatch", b"trays": b"1 2 4 5", b"depth": 6, b"memory": 900000},
+    {b"name": b"cellar", b"trays": b"1 2 6", b"depth": 5, b"memory": 800000},
+)
 
 # How many printers the fleets have.
 FLEETS = (1, 2, 4)
@@ -93,230 +113,13 @@ ROWS_OF_PAGE = (675, 5_400)
 # So many functions of a profile are printed.
 PROFILE_ROWS = 20
 
-RESET = b"\x1bE"
-EXIT = b"\x1b%-12345X"
-CR_LF = b"\r\n"
-HALF_LINE_FEED = b"\x1b="
-FORM_FEED = b"\f"
-PUSH = b"\x1b&f0S"
-POP = b"\x1b&f1S"
-
 
 class BenchError(Exception):
     """Why there is no number to tell."""
 
 
-# The makers of jobs. Each yields the bytes of the page of a number, counted from 0; a job is a
-# reset, pages and a reset. A new kind is one function, named in KINDS.
-
-
-def rectangles(number):
-    """60 rectangles, each at a place of its own."""
-    for i in range(60):
-        yield to_units((37 * number + 29 * i) % 1800, (11 * number + 47 * i) % 2900)
-        yield rectangle(20 + 13 * i % 400, 1 + 7 * i % 60)
-    yield FORM_FEED
-
-
-def lines(number):
-    """A ruled list by lines and columns, whose last line ends the page."""
-    if number == 0:
-        yield b"\x1b&l2a0o6d4e56F\x1b&k0G\x1b&a5l74M"
-    yield b"\x1b&k12H" + PUSH
-    for column in (5, 15, 45, 60, 75):
-        yield to_cell(column, 0) + rectangle(2, 2752)
-    yield POP
-    for line in range(56):
-        yield from line_of_list(number, line)
-
-
-def line_of_list(number, line):
-    """A line of a list, ruled or empty, at times with cells, and a step to the next line."""
-    if line % 8 != 7:
-        yield rectangle(2100, 2)
-    if line % 4 == 2:
-        for column in (16, 46, 61):
-            yield b"\x1b&a%dC" % column + rectangle(30 + 7 * (number + line) % 200, 12)
-    yield b"\r\x1b&a+1R" if line % 8 == 5 else CR_LF
-
-
-def mix(number):
-    """A form that takes every command but those of text, of rasters, of frames and of macros."""
-    yield from settings_of_form(number)
-    for line in range(12):
-        yield rectangle(600 + 10 * line, 2)
-        yield HALF_LINE_FEED if line % 4 == 3 else CR_LF
-    for i in range(8):
-        yield PUSH + to_cell(10 + i, 20 + 2 * i) + rectangle(3, 90)
-        yield b"\x1b&a+3.5c-1R" + rectangle(40, 40) + POP
-    for i in range(8):
-        yield b"\x1b&a%dh%dV" % (400 + 100 * i, 3000 + 120 * i) + rectangle(90, 9)
-        yield to_units(100 * i, 1500 + 20 * i) + rectangle(50, 5)
-        yield b"\x1b*p+40x-7Y\x1b*c0P"
-    yield b"\x1b9\n" + FORM_FEED
-
-
-def settings_of_form(number):
-    """What a form sets before its first mark, which differs from page to page."""
-    if number % 16 == 0:
-        yield RESET
-    yield b"\x1b&l%dx%ds2a%dh0O" % (1 + number % 9, number % 3, 1 + number % 2)
-    yield b"\x1b&u%dD" % (300 + 300 * (number % 2))
-    yield b"\x1b&l0l1l%s4e50F" % (b"8c", b"6d", b"8d")[number % 3]
-    yield b"\x1b&k12h%dG\x1b&a5l74M" % (number % 4)
-
-
-def wrapped(number):
-    """The pages of that form in jobs of four, each wrapped as a spooler does it."""
-    job = b'JOB NAME="form %d" DISPLAY="%d of the queue"' % (number // 4, number // 4)
-    if number % 4 == 0:
-        for line in (job, b"COMMENT Queue: forms. Host: works", b"ENTER LANGUAGE = PCL"):
-            yield (EXIT if line is job else b"") + b"@PJL " + line + CR_LF
-        yield RESET
-    yield from mix(number)
-    if number % 4 == 3:
-        yield RESET + EXIT + b'@PJL EOJ NAME="form %d"' % (number // 4) + CR_LF
-
-
-def text(number):
-    """60 lines of 20 to 80 characters, words and columns of numbers, as a host prints a report."""
-    for line in range(60):
-        yield line_of_text(number, line) + CR_LF
-    yield FORM_FEED
-
-
-def line_of_text(number, line):
-    """A line of so many characters, a sixth of them spaces."""
-    length = 20 + (7 * line + 11 * number) % 61
-    return bytes(32 if i % 6 == 5 else 33 + (number + line + i) % 94 for i in range(length))
-
-
-def raster(number):
-    """600 rows of 40 to 300 bytes, as a scanned form has them, a third of them blank at both ends."""
-    yield b"\x1b*t300R\x1b*r0F" + to_units(0, 300) + b"\x1b*r1A"
-    for row in range(600):
-        data = row_of_raster(number, row)
-        yield b"\x1b*b%dW" % len(data) + data
-    yield b"\x1b*rB" + FORM_FEED
-
-
-def row_of_raster(number, row):
-    """A row of black and white pixels, the first and the last byte black, or with white bytes before and behind."""
-    length = 40 + (37 * row + 53 * number) % 261
-    blank = length // 8 if row % 3 == 2 else 0
-    bytes_between = bytes(1 + (number + 7 * row + 31 * i) % 255 for i in range(length - 2 * blank))
-    return bytes(blank) + bytes_between + bytes(blank)
-
-
-def plot(number):
-    """Two drawings of a plot converter, a frame each, with lines through 1 to 40 places."""
-    for drawing in (2 * number, 2 * number + 1):
-        yield b"\x1b%0BIN;SP1;" + b"PW%s;" % (b"0.25", b"0.35", b"0.5")[drawing % 3]
-        for count in range(1, 41):
-            yield relative_line(drawing, count) if count % 3 == 0 else absolute_line(drawing, count)
-        yield b"PU;SP0;\x1b%0A"
-    yield FORM_FEED
-
-
-def absolute_line(drawing, count):
-    """A line through so many places, anywhere in the frame."""
-    places = ((31 * (drawing + 7 * i) % 8129, 71 * (count + 3 * i) % 10161) for i in range(count))
-    return b"PU%d,%d;" % (97 * count, 101 * (drawing % 90)) + b"PD" + coordinates(places) + b";"
-
-
-def relative_line(drawing, count):
-    """A line of so many steps, which stays near its begin: seven steps across, or five up, lead to where they began."""
-    steps = ((40 * (i % 7 - 3), 40 * (i % 5 - 2)) for i in range(count))
-    begin = b"PU%d,%d;" % (1000 + 53 * (drawing + count) % 6000, 1000 + 97 * (drawing + count) % 8000)
-    return begin + b"PR;PD" + coordinates(steps) + b";PA;"
-
-
-def coordinates(places):
-    """Pairs of coordinates, as one command has them."""
-    return b",".join(b"%d,%d" % place for place in places)
-
-
-def macro(number):
-    """A page of one macro, which the first page defines, executed: 60 rectangles."""
-    if number == 0:
-        yield b"\x1b&f1y0X"
-        yield from rectangles_of_form()
-        yield b"\x1b&f1X"
-    yield b"\x1b&f2X" + FORM_FEED
-
-
-def written_out(number):
-    """The commands of that macro, written out on each page."""
-    yield from rectangles_of_form()
-    yield FORM_FEED
-
-
-def rectangles_of_form():
-    """60 rectangles, each at a place and of a size of its own, the same on all pages."""
-    for i in range(60):
-        yield to_units(7 + 29 * i % 1800, 11 + 47 * i % 2900)
-        yield rectangle(20 + 13 * i % 400, 1 + 7 * i % 60)
-
-
-def overlay(number):
-    """40 lines of text, and the form of an overlay, which the first page defines and enables."""
-    if number == 0:
-        yield b"\x1b&f1y0X"
-        yield from form_of_rules()
-        yield b"\x1b&f1X\x1b&f1y4X"
-    for line in range(40):
-        yield line_of_text(number, line) + CR_LF
-    yield FORM_FEED
-
-
-def form_of_rules():
-    """A frame, 20 rules and a heading, from user defaults."""
-    yield to_units(0, 0) + rectangle(2250, 3) + rectangle(3, 3000)
-    yield to_units(0, 2997) + rectangle(2250, 3) + to_units(2247, 0) + rectangle(3, 3000)
-    for i in range(20):
-        yield to_units(0, 250 + 130 * i) + rectangle(2250, 1 + i % 3)
-    yield to_units(60, 100) + b"Stock of forms by shelf and by size"
-
-
-def characters_of_page(count):
-    """A page of so many characters in lines of 80, printed over and over from its top."""
-    for line in range(count // 80):
-        if line % 60 == 0:
-            yield to_units(0, 0)
-        yield bytes(33 + (line + i) % 94 for i in range(80)) + CR_LF
-
-
-def rows_of_page(count):
-    """A page of so many rows of 500 bytes of a raster of 600 pixels an inch."""
-    yield b"\x1b*t600R\x1b*r0F" + to_units(0, 300) + b"\x1b*r1A"
-    for row in range(count):
-        yield b"\x1b*b500W" + bytes((1 + 7 * row + 31 * i) % 256 for i in range(500))
-    yield b"\x1b*rB"
-
-
-def rectangle(width, height):
-    """A solid rectangle at the cursor, in PCL units."""
-    return b"\x1b*c%da%db0P" % (width, height)
-
-
-def to_units(x, y):
-    """A move of the cursor to a place in PCL units."""
-    return b"\x1b*p%dx%dY" % (x, y)
-
-
-def to_cell(column, row):
-    """A move of the cursor to a column and a row."""
-    return b"\x1b&a%dc%dR" % (column, row)
-
-
-MAKERS = (rectangles, lines, text, raster, mix, wrapped, plot, macro, written_out, overlay)
-KINDS = {maker.__name__: maker for maker in MAKERS}
-
 # The pages that are drawn, and how many marks they have.
 PAGES = {characters_of_page: CHARACTERS_OF_PAGE, rows_of_page: ROWS_OF_PAGE}
-
-# The kinds that need macro memory, and the one that is measured beside one of them.
-KINDS_OF_MACROS = ("macro", "written_out", "overlay")
 
 # The kind whose bytes are counted for another.
 COUNTED_AS = {"macro": "written_out"}
@@ -324,12 +127,11 @@ COUNTED_AS = {"macro": "written_out"}
 
 @dataclass(frozen=True)
 class Job:
-    """A job in a file, how many bytes are counted for it, and the word that names its printer."""
+    """A job in a file, and how many bytes are counted for it."""
 
     kind: str
     path: Path
     size: int
-    printer: str
 
 
 def write_job(folder, kind, size):
@@ -346,16 +148,19 @@ def write_job(folder, kind, size):
             counted += len(b"".join(KINDS[COUNTED_AS.get(kind, kind)](number)))
         file.write(RESET)
         counted += len(RESET)
-    return Job(kind, path, counted, printer_of(folder, kind))
+    write_fleet(folder)
+    return Job(kind, path, counted)
 
 
-def printer_of(folder, kind):
-    """The word that names the printer of a kind of job."""
-    if kind not in KINDS_OF_MACROS:
-        return PRINTER
-    path = Path(folder) / "macros.profile"
-    path.write_bytes(PRINTER_OF_MACROS)
-    return str(path)
+def write_fleet(folder):
+    """Writes the profiles of the fleet."""
+    for path, named in zip(profiles_in(folder), NAMED):
+        path.write_bytes(PRINTER_OF_FLEET % named)
+
+
+def profiles_in(folder):
+    """The files of the profiles of the fleet."""
+    return [Path(folder) / f"printer_{number}.profile" for number in range(len(NAMED))]
 
 
 @dataclass(frozen=True)
@@ -368,13 +173,14 @@ class Run:
 
     def words(self):
         """The words behind the program's name."""
+        fleet = [str(path) for path in profiles_in(self.job.path.parent)[: self.printers]]
         behind = {
-            "check": [self.job.printer] * self.printers,
+            "check": fleet,
             "list": [],
             "plain": [os.devnull],
-            "pages": [self.job.printer],
-            "picture": [self.job.printer, "--all"],
-            "pin": [self.job.printer, os.devnull],
+            "pages": fleet,
+            "picture": [*fleet, "--all"],
+            "pin": [*fleet, os.devnull],
         }
         return [self.command, str(self.job.path), *behind[self.command]]
 
@@ -490,12 +296,7 @@ class Program:
 
     def best_seconds(self, run):
         """The wall clock's time of the fastest of some runs."""
-        times = []
-        for _ in range(RUNS):
-            start = time.perf_counter()
-            self.run(run)
-            times.append(time.perf_counter() - start)
-        return min(times)
+        return best_in_turns([lambda: self.run(run)])[0]
 
     def peak_memory(self, run):
         """The most memory that the program was seen to have, in MiB.
@@ -535,6 +336,23 @@ class Program:
         return more / (long.job.size - short.job.size)
 
 
+def best_in_turns(calls):
+    """The wall clock's time of the fastest run of each of these calls, which are made in turns."""
+    best = [float("inf")] * len(calls)
+    for _ in range(RUNS):
+        for number, call in enumerate(calls):
+            start = time.perf_counter()
+            call()
+            best[number] = min(best[number], time.perf_counter() - start)
+    return best
+
+
+def read_by(*words):
+    """Lets a command of the system read a file."""
+    with open(os.devnull, "wb") as nothing:
+        subprocess.run(words, stdout=nothing, check=True)
+
+
 def high_water(pid):
     """The most memory that a running process had so far, in KiB; 0 where it has ended."""
     try:
@@ -556,15 +374,13 @@ def processor():
 
 
 # The columns of the tables, and to which side and how wide they are written.
-COLUMNS = {
-    "Job": "<11",
-    "Printers": ">8",
-    "Bytes": ">9",
+COLUMNS_OF_SPEED = {
     "MB/s": ">6",
     "Instructions a byte": ">19",
     "A further printer": ">17",
     "Peak memory": ">11",
 }
+COLUMNS_OF_LIMITS = {"cat": ">6", "wc -l": ">6"}
 COLUMNS_OF_COMMANDS = {
     "Command": "<7",
     "MB/s": ">6",
@@ -604,30 +420,45 @@ def print_row(columns, cells):
     print("|", " | ".join(written), "|", flush=True)
 
 
-def print_table(program, folder, kinds, size):
+def columns_of(programs):
+    """The columns of the table of kinds, for so many programs."""
+    columns = {"Job": "<11", "Printers": ">8", "Bytes": ">9"}
+    for number in range(len(programs)):
+        before = "Against: " if number else ""
+        for name, form in COLUMNS_OF_SPEED.items():
+            columns[before + name] = f">{max(int(form[1:]), len(before + name))}"
+    return {**columns, **COLUMNS_OF_LIMITS}
+
+
+def print_table(programs, folder, kinds, size):
     """Prints what each kind of job costs for each fleet."""
-    print_head(COLUMNS)
+    columns = columns_of(programs)
+    print_head(columns)
     for kind in kinds:
-        print_rows_of_kind(program, folder, kind, size)
+        print_rows_of_kind(programs, folder, kind, size, columns)
 
 
-def print_rows_of_kind(program, folder, kind, size):
+def print_rows_of_kind(programs, folder, kind, size, columns):
     """Prints what a kind of job costs for each fleet."""
     job = write_job(folder, kind, size)
     counted = [write_job(folder, kind, count) for count in COUNTED_SIZES]
-    alone = None
+    limits = [lambda: read_by("cat", str(job.path)), lambda: read_by("wc", "-l", str(job.path))]
+    alone = {}
     for printers in FLEETS:
-        speed = job.size / 1e6 / program.best_seconds(Run(job, printers))
-        memory = program.peak_memory(Run(job, printers))
-        cost, further = None, None
-        if shutil.which("valgrind"):
-            cost = program.instructions_a_byte(*(Run(part, printers) for part in counted))
-            if printers == 1:
-                alone = cost
-            else:
-                further = (cost - alone) / (printers - 1)
-        numbers = [tenths(speed), tenths(cost), tenths(further), mebibytes(memory)]
-        print_row(COLUMNS, [kind, printers, job.size, *numbers])
+        calls = [lambda it=it: it.run(Run(job, printers)) for it in programs] + limits
+        seconds = best_in_turns(calls)
+        numbers = []
+        for program, own in zip(programs, seconds):
+            cost, further = None, None
+            if shutil.which("valgrind"):
+                cost = program.instructions_a_byte(*(Run(part, printers) for part in counted))
+                first = alone.setdefault(program, cost)
+                further = (cost - first) / (printers - 1) if printers > 1 else None
+            memory = mebibytes(program.peak_memory(Run(job, printers)))
+            numbers += [tenths(job.size / 1e6 / own), tenths(cost), tenths(further), memory]
+        bytes_read = os.path.getsize(job.path)
+        numbers += [f"{bytes_read / 1e6 / of_limit:.0f}" for of_limit in seconds[len(programs) :]]
+        print_row(columns, [kind, printers, job.size, *numbers])
 
 
 def print_commands(program, folder, size):
@@ -718,6 +549,7 @@ def arguments():
         description=__doc__, formatter_class=argparse.RawDescriptionHelpFormatter
     )
     parser.add_argument("--program", type=Path, default=PROGRAM, help="the built program")
+    parser.add_argument("--against", type=Path, help="a checker that is measured beside it")
     parser.add_argument("--only", action="append", choices=KINDS, help="a kind of job")
     parser.add_argument("--size", type=float, default=8, help="the size of a job in MiB")
     parser.add_argument("--commands", action="store_true", help="the commands alone")
@@ -739,7 +571,8 @@ def print_all(program, folder, words):
     is_whole = not (words.commands or words.many or words.pictures or words.only)
     tables = []
     if words.only or is_whole:
-        tables.append(lambda: print_table(program, folder, kinds, size))
+        programs = [program, Program(words.against.resolve())] if words.against else [program]
+        tables.append(lambda: print_table(programs, folder, kinds, size))
     if words.commands or is_whole:
         tables.append(lambda: print_commands(program, folder, size))
     if words.many or is_whole:
@@ -757,6 +590,8 @@ def main():
     try:
         if not words.program.is_file():
             raise BenchError(f"there is no program at {words.program}; build it: {BUILD}")
+        if words.against and not words.against.is_file():
+            raise BenchError(f"there is no program at {words.against}")
         with tempfile.TemporaryDirectory() as folder:
             print_all(Program(words.program.resolve()), folder, words)
     except (BenchError, OSError, subprocess.CalledProcessError) as error:
