@@ -291,6 +291,8 @@ fn row_behind(page: &Page, black: &[u8]) -> Result<StartedRaster, Finding>
 
 /// A row at a place of the sheet, where the cursor has this vertical place, and the place below it.
 /// There is no row where no byte has a black pixel.
+// Inlined: left to LLVM it is a call of its own where a row is printed for many kinds of sinks.
+#[inline(always)]
 fn judged<'a>(
     geometry: &Geometry,
     resolution: Resolution,
