@@ -1,8 +1,6 @@
 //! Characters: their boxes, and which text stands in them.
 
-use crate::marks::{character, check_mark};
-use device_profile::FontRequest;
-use page_env::{Glyph, Mark};
+use crate::marks::{character, character_in_face, check_mark};
 use std::process::Abort;
 use std::test::Fail;
 
@@ -78,7 +76,7 @@ fn check(
     code: u8,
     wanted: &[u8],
 ) -> Result<(), Fail> {
-    let mark = Mark::Glyph(character(number, letter, code));
+    let mark = character(number, letter, code);
     if wanted.is_empty() {
         return check_mark(rt, &mark, &[BOX]);
     }
@@ -117,20 +115,20 @@ const FACES: [(u32, i32, &[u8]); 9] = [
     (320_000, 0, b""),
 ];
 
+/// Checks that a face of this style and stroke weight has these attributes.
+fn check_face(
+    rt: &(impl Abort + AllocGlobal),
+    (style, weight, attributes): (u32, i32, &[u8]),
+) -> Result<(), Fail> {
+    let mark = character_in_face(style, weight);
+    let behind = b" lengthAdjust=\"spacingAndGlyphs\">A</text>\n";
+    check_mark(rt, &mark, &[BOX, PLACED, attributes, behind])
+}
+
 #[test]
 fn faces_are_bold_and_italic(rt: HostRuntime) -> Result<(), Fail> {
-    for (style, weight, attributes) in FACES {
-        let upright = character(100_000, b'U', b'A');
-        let mark = Mark::Glyph(Glyph {
-            request: FontRequest {
-                style,
-                weight,
-                ..upright.request
-            },
-            ..upright
-        });
-        let behind = b" lengthAdjust=\"spacingAndGlyphs\">A</text>\n";
-        check_mark(&rt, &mark, &[BOX, PLACED, attributes, behind])?;
+    for face in FACES {
+        check_face(&rt, face)?;
     }
     Ok(())
 }

@@ -33,7 +33,7 @@ fn whole_bounds([left, top, right, bottom]: [u32; 4]) -> Bounds {
 }
 
 /// The character of a code of a symbol set, 12 points high and 1/10 inch wide, at 1/4 and 1/2 inch.
-pub(crate) fn character(number: u32, letter: u8, code: u8) -> Glyph {
+fn glyph(number: u32, letter: u8, code: u8) -> Glyph {
     Glyph {
         code,
         request: FontRequest {
@@ -48,6 +48,24 @@ pub(crate) fn character(number: u32, letter: u8, code: u8) -> Glyph {
         y: Length::of_7200ths(3600),
         bounds: whole_bounds([1800, 2700, 2520, 3900]),
     }
+}
+
+/// The same as a mark.
+pub(crate) fn character(number: u32, letter: u8, code: u8) -> Mark<'static> {
+    Mark::Glyph(glyph(number, letter, code))
+}
+
+/// An A of PC-8 there, in a face of this style and stroke weight.
+pub(crate) fn character_in_face(style: u32, weight: i32) -> Mark<'static> {
+    let upright = glyph(100_000, b'U', b'A');
+    Mark::Glyph(Glyph {
+        request: FontRequest {
+            style,
+            weight,
+            ..upright.request
+        },
+        ..upright
+    })
 }
 
 /// Whether a text is these parts, one behind another.
