@@ -1,7 +1,7 @@
 -- Each item comes to the same whatever the panel has in the fields that are unset.
 use Rattle.std.proofs.Common.{◌≡◌, ◌==◌, ◌++◌, ℕ, ℤ, Bool, true, false, cond, List, [], ◌∷◌, Option, Some, None, refl, ap, ◌∙◌}
 use Rattle.pcl_items.specs.declared.pcl.command.Command.{Command}
-use Rattle.pcl_items.specs.declared.pcl.command.Command.TheVariants.{Copies, Sides, Source, PageSize, Orientation, VerticalMotionIndex, LineSpacing, TopMargin, TextLength, PerforationSkip, UnitOfMeasure, HorizontalMotionIndex, LineTermination, LeftMargin, RightMargin, Column, Row, HorizontalDecipoints, VerticalDecipoints, HorizontalUnits, VerticalUnits, CursorStack, MacroId, MacroControl, RectangleWidth, RectangleHeight, FillRectangle, RectangleWidthDecipoints, RectangleHeightDecipoints, FillId, PictureFrameAnchor, PictureFrameWidth, PictureFrameHeight, RasterResolution, StartRaster, RasterWidth, RasterHeight, RasterPresentation, EndRaster, EndRasterAndMethod, CompressionMethod, RasterOffset, FontSpacing, FontPitch, FontHeight, FontStyle, FontWeight, FontTypeface}
+use Rattle.pcl_items.specs.declared.pcl.command.Command.TheVariants.{Sides, Source, PageSize, Orientation, TopMargin, TextLength, LeftMargin, RightMargin, Column, Row, HorizontalDecipoints, VerticalDecipoints, HorizontalUnits, VerticalUnits, CursorStack, MacroControl, FillRectangle, PictureFrameAnchor, StartRaster, RasterOffset}
 use Rattle.pcl_items.specs.declared.pcl.command.DataCommand.TheVariants.{TransparentText, RasterRow}
 use Rattle.pcl_items.specs.declared.frame.Handover.{Handover}
 use Rattle.pcl_items.specs.declared.frame.Handover.TheVariants.{Previous, Current}
@@ -28,20 +28,20 @@ use Rattle.page_env.specs.FontInForce.{font_reads}
 use Rattle.page_env.specs.Settings.{Settings, State, start_state}
 use Rattle.page_env.specs.Numbers.{whole_of}
 use Rattle.page_env.specs.CursorPositioning.{move_x, move_y, move_x_decipoints, move_y_decipoints, move_columns, move_rows, push_cursor, popped, pop_cursor, use_stack}
-use Rattle.page_env.specs.Effect.{checking, first_unset, first_finding, Line, moving, reading, Transition, Step, Closes, Ends, Behind, Effect, Goes, GoesThenCloses, GoesThenEnds, Fails, fails_or, judged, effect_of}
+use Rattle.page_env.specs.Effect.{checking, first_unset, first_finding, Line, moving, reading, Transition, Step, Closes, Ends, Behind, Controls, Effect, Goes, GoesThenCloses, GoesThenEnds, Fails, fails_or, judged, effect_of}
 use Rattle.page_env.specs.Effect as effect
-use Rattle.page_env.specs.Frames.{set_frame_anchor, set_frame_width, set_frame_height, enter_at_cursor, leave_at_pen, enter_frame, leave_frame}
-use Rattle.page_env.specs.Macros.{control_line, set_macro_id}
-use Rattle.page_env.specs.Margins.{set_top_margin, set_text_length, set_perforation_skip, set_left_margin, set_right_margin, clear_margins}
-use Rattle.page_env.specs.Motion.{set_vmi, set_line_spacing, set_hmi, set_line_termination, at_home, fed_to, is_past_bottom, feed_down, feed_by, carriage_return, return_with, before_feed, line_termination}
+use Rattle.page_env.specs.Frames.{set_frame_anchor, enter_at_cursor, leave_at_pen, enter_frame, leave_frame}
+use Rattle.page_env.specs.Macros.{control_line}
+use Rattle.page_env.specs.Margins.{set_top_margin, set_text_length, set_left_margin, set_right_margin, clear_margins}
+use Rattle.page_env.specs.Motion.{at_home, fed_to, is_past_bottom, feed_down, feed_by, carriage_return, return_with, before_feed, line_termination}
 use Rattle.page_env.specs.PageControl.{set_source, source_checks, size_checks, set_size, orientation_checks, set_orientation}
-use Rattle.page_env.specs.JobControl.{set_copies, sides_checks, set_sides, set_units}
-use Rattle.page_env.specs.Fonts.{set_symbol_set, set_spacing, set_pitch, set_height, set_style, set_weight, set_typeface, default_font}
+use Rattle.page_env.specs.JobControl.{sides_checks, set_sides}
+use Rattle.page_env.specs.Fonts.{set_symbol_set, default_font}
 use Rattle.page_env.specs.declared.finding.Finding.TheVariants.{Unset}
 use Rattle.page_env.specs.Pens.{initialize, set_pen, pen_target, draw, carry_pen, motion_step, move_pen}
 use Rattle.page_env.specs.Places.{page_reads, page_and_line_reads, column_reads, vertical_reads}
-use Rattle.page_env.specs.Rasters.{set_resolution, set_raster_width, set_raster_height, set_presentation, set_compression, end_raster, start_raster, skip_rows, print_row}
-use Rattle.page_env.specs.Rectangles.{set_rectangle_width, set_rectangle_height, set_rectangle_width_decipoints, set_rectangle_height_decipoints, set_fill_id, fill_rectangle}
+use Rattle.page_env.specs.Rasters.{start_raster, skip_rows, print_row}
+use Rattle.page_env.specs.Rectangles.{fill_rectangle}
 use Rattle.page_env.specs.Table.{command_transition}
 use Rattle.page_env.specs.Text.{character, space, transparent_space, text_reads, print_byte, print_transparent}
 use Rattle.page_env.specs.AnyPanel.{settings_with, state_with, GoesAlike, IsAlikeItem, IsAlikeControl, IsAlikeByte, IsAlikeMove}
@@ -326,20 +326,21 @@ module _ (printer : Printer) (panel : Panel) where
         GoesAlike panel (effect_of s.settings (Closes (line s) true change)) (effect_of (settings_with panel s.settings) (Closes (line (there s)) true change'))
     closes line change change' s same h = closes_alike panel s (line s) (line (there s)) (plainly_alike panel s (line s) (line (there s)) same) true change change' h
 
+    -- the line of a step
+    abbrev line_in : Transition → Line
+    line_in (Step line) = line
+    line_in (Closes line sets_paper change) = line
+    line_in (Ends line) = line
+    line_in (Behind reads transition) = line_in transition
+    line_in (Controls s n) = moving s
+
     command_alike : (command : Command) (n : Amount) (s : State) → CommandAlike command n s
-    command_alike Copies n s = sets (λ t. set_copies t n) s refl
     command_alike Sides n s = closes (λ t. checking t (sides_checks printer n)) (λ t. set_sides t n) (λ t. set_sides t n) s refl (λ t. refl)
     command_alike Source n s = closes (λ t. checking t (source_checks printer n)) (λ t. set_source t n) (λ t. set_source t n) s refl (source_same n)
     command_alike PageSize n s = closes (λ t. checking t (size_checks printer n)) (λ t. set_size t n) (λ t. set_size t n) s refl (λ t. refl)
     command_alike Orientation n s = closes (λ t. checking t (orientation_checks printer n)) (λ t. set_orientation defaults t n) (λ t. set_orientation (settings_with panel defaults) t n) s refl (λ t. refl)
-    command_alike VerticalMotionIndex n s = sets (λ t. set_vmi t n) s refl
-    command_alike LineSpacing n s = sets (λ t. set_line_spacing t n) s refl
     command_alike TopMargin n s = steps s _ _ (top_margin_alike s n)
     command_alike TextLength n s = steps s _ _ (text_length_alike s n)
-    command_alike PerforationSkip n s = sets (λ t. set_perforation_skip t n) s refl
-    command_alike UnitOfMeasure n s = sets (λ t. set_units t n) s refl
-    command_alike HorizontalMotionIndex n s = sets (λ t. set_hmi t n) s refl
-    command_alike LineTermination n s = sets (λ t. set_line_termination t n) s refl
     command_alike LeftMargin n s = steps s _ _ (left_margin_alike s n)
     command_alike RightMargin n s = steps s _ _ (right_margin_alike s n)
     command_alike Column n s = steps s _ _ (move_columns_alike s n)
@@ -349,32 +350,13 @@ module _ (printer : Printer) (panel : Panel) where
     command_alike HorizontalUnits n s = steps s _ _ (move_x_alike s n)
     command_alike VerticalUnits n s = steps s _ _ (vertical_alike s n.ten_thousandths n.sign)
     command_alike CursorStack n s = steps s _ _ (stack_alike n s)
-    command_alike MacroId n s = sets (λ t. set_macro_id t n) s refl
     command_alike MacroControl n s = (refl, refl)
-    command_alike RectangleWidth n s = sets (λ t. set_rectangle_width t n) s refl
-    command_alike RectangleHeight n s = sets (λ t. set_rectangle_height t n) s refl
     command_alike FillRectangle n s = steps s _ _ (fill_alike s n)
-    command_alike RectangleWidthDecipoints n s = sets (λ t. set_rectangle_width_decipoints t n) s refl
-    command_alike RectangleHeightDecipoints n s = sets (λ t. set_rectangle_height_decipoints t n) s refl
-    command_alike FillId n s = sets (λ t. set_fill_id t n) s refl
     command_alike PictureFrameAnchor n s = steps s _ _ (anchor_alike s n)
-    command_alike PictureFrameWidth n s = sets (λ t. set_frame_width t n) s refl
-    command_alike PictureFrameHeight n s = sets (λ t. set_frame_height t n) s refl
-    command_alike RasterResolution n s = sets (λ t. set_resolution t n) s refl
     command_alike StartRaster n s = steps s _ _ (start_alike s n)
-    command_alike RasterWidth n s = sets (λ t. set_raster_width t n) s refl
-    command_alike RasterHeight n s = sets (λ t. set_raster_height t n) s refl
-    command_alike RasterPresentation n s = sets (λ t. set_presentation t n) s refl
-    command_alike EndRaster n s = sets (λ t. end_raster t n) s refl
-    command_alike EndRasterAndMethod n s = sets (λ t. end_raster t n) s refl
-    command_alike CompressionMethod n s = sets (λ t. set_compression t n) s refl
     command_alike RasterOffset n s = steps s _ _ (skip_alike s n)
-    command_alike FontSpacing n s = sets (λ t. set_spacing t n) s refl
-    command_alike FontPitch n s = sets (λ t. set_pitch t n) s refl
-    command_alike FontHeight n s = sets (λ t. set_height t n) s refl
-    command_alike FontStyle n s = sets (λ t. set_style t n) s refl
-    command_alike FontWeight n s = sets (λ t. set_weight t n) s refl
-    command_alike FontTypeface n s = sets (λ t. set_typeface t n) s refl
+    -- all others read nothing
+    command_alike command n s = sets (λ t. line_in (command_transition printer defaults t command n)) s refl
 
     pub item_alike : (item : Entry) → IsAlikeItem printer panel defaults item
     item_alike (Text code) s = steps s _ _ (byte_alike s code)

@@ -2,7 +2,7 @@
 use Rattle.std.proofs.Common.{◌≡◌, ◌==◌, ℕ, ℤ, Bool, true, false, cond, List, [], ◌∷◌, Option, Some, None, refl, ap, sym, ◌∙◌}
 use Rattle.std.proofs.lemmas.Bool.{false≢true}
 use Rattle.pcl_items.specs.declared.pcl.command.Command.{Command}
-use Rattle.pcl_items.specs.declared.pcl.command.Command.TheVariants.{Copies, Sides, Source, PageSize, Orientation, VerticalMotionIndex, LineSpacing, TopMargin, TextLength, PerforationSkip, UnitOfMeasure, HorizontalMotionIndex, LineTermination, LeftMargin, RightMargin, Column, Row, HorizontalDecipoints, VerticalDecipoints, HorizontalUnits, VerticalUnits, CursorStack, MacroId, MacroControl, RectangleWidth, RectangleHeight, FillRectangle, RectangleWidthDecipoints, RectangleHeightDecipoints, FillId, PictureFrameAnchor, PictureFrameWidth, PictureFrameHeight, RasterResolution, StartRaster, RasterWidth, RasterHeight, RasterPresentation, EndRaster, EndRasterAndMethod, CompressionMethod, RasterOffset, FontSpacing, FontPitch, FontHeight, FontStyle, FontWeight, FontTypeface}
+use Rattle.pcl_items.specs.declared.pcl.command.Command.TheVariants.{Copies, Sides, Source, PageSize, Orientation, VerticalMotionIndex, LineSpacing, LineTermination, CursorStack, MacroControl}
 use Rattle.pcl_items.specs.declared.pcl.command.DataCommand.TheVariants.{TransparentText, RasterRow}
 use Rattle.pcl_items.specs.declared.frame.Handover.{Handover}
 use Rattle.pcl_items.specs.declared.frame.Handover.TheVariants.{Previous, Current}
@@ -122,47 +122,11 @@ module _ (printer : Printer) (defaults : Settings) where
   command_keeps Orientation n s r d e = (e, λ t k. (refl, ap (λ (u : Flags). record u { orientation = false; vmi = defaults.unset.vmi }) k.1 ∙ ap (λ (u : Flags). record unwatched { orientation = false; vmi = u.vmi }) d.1, k.2))
   command_keeps VerticalMotionIndex n s r d e = (e.0, ap (λ (u : Flags). record u { vmi = false }) e.1, e.2)
   command_keeps LineSpacing n s r d e = (e.0, ap (λ (u : Flags). record u { vmi = false }) e.1, e.2)
-  command_keeps TopMargin n s r d e = e
-  command_keeps TextLength n s r d e = e
-  command_keeps PerforationSkip n s r d e = e
-  command_keeps UnitOfMeasure n s r d e = e
-  command_keeps HorizontalMotionIndex n s r d e = e
   command_keeps LineTermination n s r d e = (e.0, ap (λ (u : Flags). record u { line_termination = false }) e.1, e.2)
-  command_keeps LeftMargin n s r d e = e
-  command_keeps RightMargin n s r d e = e
-  command_keeps Column n s r d e = e
-  command_keeps Row n s r d e = e
-  command_keeps HorizontalDecipoints n s r d e = e
-  command_keeps VerticalDecipoints n s r d e = e
-  command_keeps HorizontalUnits n s r d e = e
-  command_keeps VerticalUnits n s r d e = e
   command_keeps CursorStack n s r d e = stack_bare n s e
-  command_keeps MacroId n s r d e = e
   command_keeps MacroControl n s r d e = (e, not_enabled (control_of n) r)
-  command_keeps RectangleWidth n s r d e = e
-  command_keeps RectangleHeight n s r d e = e
-  command_keeps FillRectangle n s r d e = e
-  command_keeps RectangleWidthDecipoints n s r d e = e
-  command_keeps RectangleHeightDecipoints n s r d e = e
-  command_keeps FillId n s r d e = e
-  command_keeps PictureFrameAnchor n s r d e = e
-  command_keeps PictureFrameWidth n s r d e = e
-  command_keeps PictureFrameHeight n s r d e = e
-  command_keeps RasterResolution n s r d e = e
-  command_keeps StartRaster n s r d e = e
-  command_keeps RasterWidth n s r d e = e
-  command_keeps RasterHeight n s r d e = e
-  command_keeps RasterPresentation n s r d e = e
-  command_keeps EndRaster n s r d e = e
-  command_keeps EndRasterAndMethod n s r d e = e
-  command_keeps CompressionMethod n s r d e = e
-  command_keeps RasterOffset n s r d e = e
-  command_keeps FontSpacing n s r d e = e
-  command_keeps FontPitch n s r d e = e
-  command_keeps FontHeight n s r d e = e
-  command_keeps FontStyle n s r d e = e
-  command_keeps FontWeight n s r d e = e
-  command_keeps FontTypeface n s r d e = e
+  -- all others touch neither the overlay nor a flag
+  command_keeps _ n s r d e = e
 
 pub item_bare : (printer : Printer) (item : Entry) → IsBareItem printer item
 item_bare printer (Text code) defaults s r d e = byte_bare printer code s e

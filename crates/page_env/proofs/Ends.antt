@@ -62,6 +62,10 @@ both_taken true true make x taken_x y taken_y e f =
 both_taken true false make x taken_x y taken_y e f = absurd cc
 both_taken false c make x taken_x y taken_y e f = absurd cc
 
+pub first_missing : {X Z : Type 0} (b c : Bool) (x : X) (z : Z) → None ≡ cond b (Some x) None → None ≡ cond (b && c) (Some z) None
+first_missing true c x z e = absurd cc
+first_missing false c x z e = refl
+
 pub second_missing : {X Y Z : Type 0} (b c : Bool) (x taken_x : X) (y : Y) (z : Z) → Some taken_x ≡ cond b (Some x) None → None ≡ cond c (Some y) None → None ≡ cond (b && c) (Some z) None
 second_missing true true x taken_x y z e f = absurd cc
 second_missing true false x taken_x y z e f = refl

@@ -6,19 +6,13 @@ use Rattle.pcl_items.specs.Escapes.Value.{Amount}
 use Rattle.device_profile.specs.Printer.{Printer}
 use Rattle.page_env.specs.Settings.{State}
 use Rattle.page_env.specs.Effect.{moving}
-use Rattle.page_env.specs.Frames.{set_frame_anchor, set_frame_width, set_frame_height, enter_frame, leave_at_pen, leave_frame}
+use Rattle.page_env.specs.Frames.{set_frame_anchor, enter_frame, leave_at_pen, leave_frame}
 use Rattle.page_env.specs.Sound.{plain_state, IsSound}
 use Rattle.page_env.proofs.Sound.{quiet, either_line, page_rises, vertical_rises, page_and_vertical_rise}
 
 module _ (printer : Printer) (s : State) where
   pub anchor_is_sound : (n : Amount) → IsSound printer s (set_frame_anchor s n) (set_frame_anchor (plain_state s) n)
   anchor_is_sound n = quiet (vertical_rises s.cursor.y) refl refl refl refl refl refl refl
-
-  pub width_is_sound : (n : Amount) → IsSound printer s (set_frame_width s n) (set_frame_width (plain_state s) n)
-  width_is_sound n = quiet refl refl refl refl refl refl refl refl
-
-  pub height_is_sound : (n : Amount) → IsSound printer s (set_frame_height s n) (set_frame_height (plain_state s) n)
-  height_is_sound n = quiet refl refl refl refl refl refl refl refl
 
   pub enter_is_sound : (handover : Handover) → IsSound printer s (enter_frame printer s handover) (enter_frame printer (plain_state s) handover)
   enter_is_sound Previous = quiet refl refl refl refl refl refl refl refl

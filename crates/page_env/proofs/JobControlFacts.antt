@@ -4,20 +4,14 @@ use Rattle.pcl_items.specs.Escapes.Value.{Amount}
 use Rattle.device_profile.specs.Printer.{Printer}
 use Rattle.page_env.specs.Settings.{Settings, State}
 use Rattle.page_env.specs.Effect.{checking, Closes}
-use Rattle.page_env.specs.JobControl.{set_copies, sides_checks, set_sides, set_units, reset}
-use Rattle.page_env.specs.Sound.{plain_settings, plain_state, IsSound, IsSoundTransition}
+use Rattle.page_env.specs.JobControl.{sides_checks, set_sides, reset}
+use Rattle.page_env.specs.Sound.{plain_settings, plain_state, IsSoundTransition}
 use Rattle.page_env.proofs.Sound.{quiet, calm, checks_are_sound}
 
 empty_has_room : 0 ≤ 20
 empty_has_room = omega arith
 
 module _ (printer : Printer) (defaults : Settings) (s : State) where
-  pub copies_are_sound : (n : Amount) → IsSound printer s (set_copies s n) (set_copies (plain_state s) n)
-  copies_are_sound n = quiet refl refl refl refl refl refl refl refl
-
-  pub units_are_sound : (n : Amount) → IsSound printer s (set_units s n) (set_units (plain_state s) n)
-  units_are_sound n = quiet refl refl refl refl refl refl refl refl
-
   pub sides_are_sound : (n : Amount) → IsSoundTransition printer defaults s (Closes (checking s (sides_checks printer n)) true (λ t. set_sides t n)) (Closes (checking (plain_state s) (sides_checks printer n)) true (λ t. set_sides t n))
   sides_are_sound n = (checks_are_sound s (sides_checks printer n) refl, calm (λ t. refl) (λ t. refl) (λ t. refl) (λ t. refl), refl)
 

@@ -1,28 +1,14 @@
 -- Facts of motion and line ends.
 use Rattle.std.proofs.Common.{◌≡◌, Bool, true, false, cond, refl}
-use Rattle.pcl_items.specs.Escapes.Value.{Amount}
 use Rattle.device_profile.specs.Printer.{Printer}
 use Rattle.page_env.specs.declared.motion.Feed.{Feed}
 use Rattle.page_env.specs.declared.motion.Feed.TheVariants.{Line as WholeLine, HalfLine}
 use Rattle.page_env.specs.Settings.{Settings, State}
 use Rattle.page_env.specs.Effect.{moving, reading, Step, Closes}
-use Rattle.page_env.specs.Motion.{set_vmi, set_line_spacing, set_hmi, set_line_termination, line_termination, at_home, fed_to, is_past_bottom, feed_down, feed_by, half_line_feed, carriage_return, return_line, line_feed, form_feed}
+use Rattle.page_env.specs.Motion.{line_termination, at_home, fed_to, is_past_bottom, feed_down, feed_by, half_line_feed, carriage_return, return_line, line_feed, form_feed}
 use Rattle.page_env.specs.Places.{page_and_line_reads}
 use Rattle.page_env.specs.Sound.{plain_state, IsSound, IsSoundTransition}
 use Rattle.page_env.proofs.Sound.{quiet, calm, from_there, either, page_and_line_rises}
-
-module _ (printer : Printer) (s : State) where
-  pub vmi_is_sound : (n : Amount) → IsSound printer s (set_vmi s n) (set_vmi (plain_state s) n)
-  vmi_is_sound n = quiet refl refl refl refl refl refl refl refl
-
-  pub line_spacing_is_sound : (n : Amount) → IsSound printer s (set_line_spacing s n) (set_line_spacing (plain_state s) n)
-  line_spacing_is_sound n = quiet refl refl refl refl refl refl refl refl
-
-  pub hmi_is_sound : (n : Amount) → IsSound printer s (set_hmi s n) (set_hmi (plain_state s) n)
-  hmi_is_sound n = quiet refl refl refl refl refl refl refl refl
-
-  pub line_termination_is_sound : (n : Amount) → IsSound printer s (set_line_termination s n) (set_line_termination (plain_state s) n)
-  line_termination_is_sound n = quiet refl refl refl refl refl refl refl refl
 
 module _ (printer : Printer) (defaults : Settings) where
   -- a feed from where a return led, or from where none did

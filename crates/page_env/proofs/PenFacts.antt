@@ -9,11 +9,11 @@ use Rattle.page_env.specs.declared.finding.Finding.TheVariants.{NotPrintable, Ou
 use Rattle.page_env.specs.declared.page.Pen.{Pen}
 use Rattle.page_env.specs.declared.page.PenPlace.{PenPlace}
 use Rattle.page_env.specs.Settings.{State}
-use Rattle.page_env.specs.Places.{geometry_of}
+use Rattle.page_env.specs.Places.{geometry_of, origin_of}
 use Rattle.page_env.specs.Mark.{line_bounds, is_inside}
 use Rattle.page_env.specs.Effect.{moving}
 use Rattle.page_env.specs.Frames.{frame_of}
-use Rattle.page_env.specs.Pens.{initialize, set_pen, line_between, stays_in_frame, draw, motion_step, pen_target, carry_pen, move_pen}
+use Rattle.page_env.specs.Pens.{set_pen, line_between, stays_in_frame, draw, motion_step, pen_target, carry_pen, move_pen}
 use Rattle.page_env.specs.Sound.{plain_state, IsSound, IsSoundMove}
 use Rattle.page_env.proofs.Sound.{quiet, either_line, page_rises}
 
@@ -23,9 +23,6 @@ drawn_inside true within none = refl
 drawn_inside false within none = absurd cc
 
 module _ (printer : Printer) (s : State) where
-  pub initialize_is_sound : IsSound printer s (initialize s) (initialize (plain_state s))
-  initialize_is_sound = quiet refl refl refl refl refl refl refl refl
-
   pub setting_is_sound : (setting : Setting) (n : ℕ) → IsSound printer s (set_pen s setting n) (set_pen (plain_state s) setting n)
   setting_is_sound settings.Pen n = quiet refl refl refl refl refl refl refl refl
   setting_is_sound settings.Width n = quiet refl refl refl refl refl refl refl refl
@@ -33,7 +30,7 @@ module _ (printer : Printer) (s : State) where
   draw_is_sound : (to : PenPlace) → IsSound printer s (draw printer s to) (draw printer (plain_state s) to)
   draw_is_sound to =
       let pen : Pen = s.settings.job.pen in
-      let line = line_between (geometry_of printer s) (frame_of printer s) pen.width pen.place to in
+      let line = line_between (origin_of printer s) (frame_of printer s) pen.width pen.place to in
       record {
         same = refl;
         ordered = refl;

@@ -8,6 +8,7 @@ use Rattle.page_env.specs.declared.frames.Frame.{Frame}
 use Rattle.page_env.specs.declared.mark.PenLine.{PenLine}
 use Rattle.page_env.specs.declared.page.Page.{Page}
 use Rattle.page_env.specs.declared.page.PenPlace.{PenPlace}
+use Rattle.page_env.specs.declared.places.Origin.{Origin}
 use Rattle.page_env.specs.Settings.{settings_at, state_at}
 use Rattle.page_env.specs.Mark.{lines_of, line_bounds, is_inside}
 use Rattle.page_env.specs.Effect.{first_finding, effect_of, Step}
@@ -31,7 +32,7 @@ passes true false x taken_x y taken_y e f = absurd cc
 passes false c x taken_x y taken_y e f = absurd cc
 
 -- a line that lies in the printable area and stays in its frame is the one that is drawn, and nothing is found of it
-pub line_passes : (g : Geometry) (frame : Frame) (width : ℕ) (here start to place : PenPlace) (line : PenLine) → start ≡ here → Some line ≡ cond (is_inside g (line_bounds (line_between g frame width start to))) (Some (line_between g frame width start to)) None → Some place ≡ cond (stays_in_frame frame start to) (Some to) None → (line ≡ line_between g frame width here to) × (place ≡ to) × (first_finding (line_checks g frame width here to) ≡ None)
-line_passes g frame width here start to place line same e f =
-    subst (λ p. (line ≡ line_between g frame width p to) × (place ≡ to) × (first_finding (line_checks g frame width p to) ≡ None)) same
-    (passes (is_inside g (line_bounds (line_between g frame width start to))) (stays_in_frame frame start to) (line_between g frame width start to) line to place e f)
+pub line_passes : (g : Geometry) (origin : Origin) (frame : Frame) (width : ℕ) (here start to place : PenPlace) (line : PenLine) → start ≡ here → Some line ≡ cond (is_inside g (line_bounds (line_between origin frame width start to))) (Some (line_between origin frame width start to)) None → Some place ≡ cond (stays_in_frame frame start to) (Some to) None → (line ≡ line_between origin frame width here to) × (place ≡ to) × (first_finding (line_checks g origin frame width here to) ≡ None)
+line_passes g origin frame width here start to place line same e f =
+    subst (λ p. (line ≡ line_between origin frame width p to) × (place ≡ to) × (first_finding (line_checks g origin frame width p to) ≡ None)) same
+    (passes (is_inside g (line_bounds (line_between origin frame width start to))) (stays_in_frame frame start to) (line_between origin frame width start to) line to place e f)

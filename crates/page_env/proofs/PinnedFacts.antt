@@ -1,7 +1,7 @@
 -- Each item goes alike where the job has set all that the panel chooses, and reads nothing that is unset.
 use Rattle.std.proofs.Common.{◌≡◌, ◌==◌, ℕ, ℤ, Bool, true, false, cond, is_none, List, [], ◌∷◌, Option, Some, None, refl, ap}
 use Rattle.pcl_items.specs.declared.pcl.command.Command.{Command}
-use Rattle.pcl_items.specs.declared.pcl.command.Command.TheVariants.{Copies, Sides, Source, PageSize, Orientation, VerticalMotionIndex, LineSpacing, TopMargin, TextLength, PerforationSkip, UnitOfMeasure, HorizontalMotionIndex, LineTermination, LeftMargin, RightMargin, Column, Row, HorizontalDecipoints, VerticalDecipoints, HorizontalUnits, VerticalUnits, CursorStack, MacroId, MacroControl, RectangleWidth, RectangleHeight, FillRectangle, RectangleWidthDecipoints, RectangleHeightDecipoints, FillId, PictureFrameAnchor, PictureFrameWidth, PictureFrameHeight, RasterResolution, StartRaster, RasterWidth, RasterHeight, RasterPresentation, EndRaster, EndRasterAndMethod, CompressionMethod, RasterOffset, FontSpacing, FontPitch, FontHeight, FontStyle, FontWeight, FontTypeface}
+use Rattle.pcl_items.specs.declared.pcl.command.Command.TheVariants.{Sides, Source, PageSize, Orientation, TopMargin, TextLength, LeftMargin, RightMargin, Column, Row, HorizontalDecipoints, VerticalDecipoints, HorizontalUnits, VerticalUnits, CursorStack, FillRectangle, PictureFrameAnchor, StartRaster, RasterOffset}
 use Rattle.pcl_items.specs.declared.pcl.command.DataCommand.TheVariants.{TransparentText, RasterRow}
 use Rattle.pcl_items.specs.declared.frame.Handover.{Handover}
 use Rattle.pcl_items.specs.declared.frame.Handover.TheVariants.{Previous, Current}
@@ -181,19 +181,12 @@ module _ (printer : Printer) (defaults : Settings) where
 
 module _ (printer : Printer) (defaults defaults' : Settings) where
   command_goes : (command : Command) (n : Amount) (s : State) → returns_to_panel (Parameterized command n) ≡ false → GoesPinnedBy printer defaults' s (command_transition printer defaults s command n) (command_transition printer defaults' (pinned printer defaults' s) command n)
-  command_goes Copies n s e = (refl, refl)
   command_goes Sides n s e = ((refl, refl), refl, λ t. refl)
   command_goes Source n s e = ((refl, refl), refl, source_same printer defaults' n)
   command_goes PageSize n s e = ((refl, refl), refl, λ t. refl)
   command_goes Orientation n s e = absurd cc
-  command_goes VerticalMotionIndex n s e = (refl, refl)
-  command_goes LineSpacing n s e = (refl, refl)
   command_goes TopMargin n s e = (refl, page_and_line_set printer defaults' s)
   command_goes TextLength n s e = (refl, page_and_line_set printer defaults' s)
-  command_goes PerforationSkip n s e = (refl, refl)
-  command_goes UnitOfMeasure n s e = (refl, refl)
-  command_goes HorizontalMotionIndex n s e = (refl, refl)
-  command_goes LineTermination n s e = (refl, refl)
   command_goes LeftMargin n s e = (refl, columns_set printer defaults' s s.settings.job.hmi)
   command_goes RightMargin n s e = (refl, columns_set printer defaults' s s.settings.job.hmi)
   command_goes Column n s e = (refl, columns_set printer defaults' s s.settings.job.hmi)
@@ -203,32 +196,12 @@ module _ (printer : Printer) (defaults defaults' : Settings) where
   command_goes HorizontalUnits n s e = (refl, page_set printer defaults' s)
   command_goes VerticalUnits n s e = (refl, relative_set printer defaults' s n.sign s.cursor.y)
   command_goes CursorStack n s e = stack_goes printer defaults' n s
-  command_goes MacroId n s e = (refl, refl)
-  command_goes MacroControl n s e = (refl, refl)
-  command_goes RectangleWidth n s e = (refl, refl)
-  command_goes RectangleHeight n s e = (refl, refl)
   command_goes FillRectangle n s e = (refl, page_and_vertical_set printer defaults' s s.cursor.y)
-  command_goes RectangleWidthDecipoints n s e = (refl, refl)
-  command_goes RectangleHeightDecipoints n s e = (refl, refl)
-  command_goes FillId n s e = (refl, refl)
   command_goes PictureFrameAnchor n s e = (refl, vertical_set printer defaults' s s.cursor.y)
-  command_goes PictureFrameWidth n s e = (refl, refl)
-  command_goes PictureFrameHeight n s e = (refl, refl)
-  command_goes RasterResolution n s e = (refl, refl)
   command_goes StartRaster n s e = (refl, page_and_vertical_set printer defaults' s s.cursor.y)
-  command_goes RasterWidth n s e = (refl, refl)
-  command_goes RasterHeight n s e = (refl, refl)
-  command_goes RasterPresentation n s e = (refl, refl)
-  command_goes EndRaster n s e = (refl, refl)
-  command_goes EndRasterAndMethod n s e = (refl, refl)
-  command_goes CompressionMethod n s e = (refl, refl)
   command_goes RasterOffset n s e = (refl, page_and_vertical_set printer defaults' s s.cursor.y)
-  command_goes FontSpacing n s e = (refl, refl)
-  command_goes FontPitch n s e = (refl, refl)
-  command_goes FontHeight n s e = (refl, refl)
-  command_goes FontStyle n s e = (refl, refl)
-  command_goes FontWeight n s e = (refl, refl)
-  command_goes FontTypeface n s e = (refl, refl)
+  -- all others read nothing
+  command_goes _ n s e = (refl, refl)
 
   pub item_goes : (item : Entry) → IsPinnedItem printer defaults defaults' item
   item_goes (Text code) s e = byte_goes printer defaults' code s

@@ -6,8 +6,8 @@ use Rattle.device_profile.specs.declared.geometry.Geometry.{Geometry}
 use Rattle.page_env.specs.declared.finding.Finding.TheVariants.{OffPage, NotPrintable}
 use Rattle.page_env.specs.Settings.{State}
 use Rattle.page_env.specs.Mark.{PixelRow, Row, row_bounds, is_inside}
-use Rattle.page_env.specs.Places.{geometry_of, vertical_place}
-use Rattle.page_env.specs.Rasters.{set_resolution, set_raster_width, set_raster_height, set_presentation, set_compression, start_raster, end_raster, skip_rows, up_to_black, has_black, row_from, print_row}
+use Rattle.page_env.specs.Places.{geometry_of, x_on_sheet, y_on_sheet}
+use Rattle.page_env.specs.Rasters.{start_raster, skip_rows, up_to_black, has_black, row_from, print_row}
 use Rattle.page_env.specs.Sound.{plain_state, AreInside, IsSound}
 use Rattle.page_env.proofs.Sound.{quiet, page_and_vertical_rise}
 
@@ -24,26 +24,8 @@ row_unmarked true marked row e = absurd cc
 row_unmarked false marked row e = (e, refl)
 
 module _ (printer : Printer) (s : State) where
-  pub resolution_is_sound : (n : Amount) → IsSound printer s (set_resolution s n) (set_resolution (plain_state s) n)
-  resolution_is_sound n = quiet refl refl refl refl refl refl refl refl
-
-  pub width_is_sound : (n : Amount) → IsSound printer s (set_raster_width s n) (set_raster_width (plain_state s) n)
-  width_is_sound n = quiet refl refl refl refl refl refl refl refl
-
-  pub height_is_sound : (n : Amount) → IsSound printer s (set_raster_height s n) (set_raster_height (plain_state s) n)
-  height_is_sound n = quiet refl refl refl refl refl refl refl refl
-
-  pub presentation_is_sound : (n : Amount) → IsSound printer s (set_presentation s n) (set_presentation (plain_state s) n)
-  presentation_is_sound n = quiet refl refl refl refl refl refl refl refl
-
-  pub compression_is_sound : (n : Amount) → IsSound printer s (set_compression s n) (set_compression (plain_state s) n)
-  compression_is_sound n = quiet refl refl refl refl refl refl refl refl
-
   pub start_is_sound : (n : Amount) → IsSound printer s (start_raster s n) (start_raster (plain_state s) n)
   start_is_sound n = quiet (page_and_vertical_rise s.cursor.y) refl refl refl refl refl refl refl
-
-  pub end_is_sound : (n : Amount) → IsSound printer s (end_raster s n) (end_raster (plain_state s) n)
-  end_is_sound n = quiet refl refl refl refl refl refl refl refl
 
   pub skip_is_sound : (n : Amount) → IsSound printer s (skip_rows printer s n) (skip_rows printer (plain_state s) n)
   skip_is_sound n = quiet (page_and_vertical_rise s.cursor.y) refl refl refl refl refl refl refl
@@ -52,7 +34,7 @@ module _ (printer : Printer) (s : State) where
   row_is_sound bytes =
       let g = geometry_of printer s in
       let black = up_to_black bytes in
-      let row = row_from g s.settings.job.raster.resolution s.cursor.x (vertical_place s) black in
+      let row = row_from s.settings.job.raster.resolution (x_on_sheet printer s) (y_on_sheet printer s) black in
       record {
         same = refl;
         ordered = refl;

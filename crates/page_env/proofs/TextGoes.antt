@@ -95,19 +95,19 @@ module _ (printer : Printer) (s : State) (m : TextMeasure) (h : IsMeasured print
         (λ i. first_finding (check (is_none (column_is i)) NoFont ∷ edge_checks (right_is i) (h.geometry i).logical_width s.cursor.x (behind_is i))) ∙ k.ends in
         goes_line s.settings (space printer s) (Goes (advanced printer s) []) refl space_read none ∙ ap (λ t. Goes t []) advanced_is
 
-    character_goes : (code : ℕ) → has_code m.face.codes code ≡ true → effect_of s.settings (Step (character printer s code)) ≡ Goes (record on { marked = true }) (Character (record { code = code; request = m.request; y = m.geometry.logical_top +ℤ m.y; bounds = box_at m s.cursor.x }) ∷ [])
+    character_goes : (code : ℕ) → has_code m.face.codes code ≡ true → effect_of s.settings (Step (character printer s code)) ≡ Goes (record on { marked = true }) (Character (record { code = code; request = m.request; y = m.origin.y +ℤ m.y; bounds = box_at m s.cursor.x }) ∷ [])
     character_goes code has =
         let x = s.cursor.x in
         let none : first_finding (character printer s code).after ≡ None =
-        (λ i. first_finding (option_map_or (λ face. character_checks (h.geometry i) face code (right_is i) x (behind_is i) (character_box (h.geometry i) face x (place_is i))) (h.face i) (check true NoFont ∷ [])))
+        (λ i. first_finding (option_map_or (λ face. character_checks (h.geometry i) face code (right_is i) x (behind_is i) (character_box face ((h.origin i).x +ℤ x) ((h.origin i).y +ℤ place_is i))) (h.face i) (check true NoFont ∷ [])))
         ∙ none_of_four (has_code m.face.codes code) (not (int_lt x m.right) && int_lt m.geometry.logical_width (x +ℤ pos m.column)) (int_lt x m.right && int_lt m.right (x +ℤ pos m.column)) (is_inside m.geometry (box_at m x)) NoGlyph OffPage PastRightMargin NotPrintable has k.ends k.inside in
         goes_line s.settings (character printer s code) (Goes (character printer s code).state (character printer s code).marks) refl h.read none
-        ∙ (λ i. Goes (record (advanced_is i) { marked = true }) (option_map_or (λ face. Character (record { code = code; request = h.request i; y = (h.geometry i).logical_top +ℤ place_is i; bounds = character_box (h.geometry i) face x (place_is i) }) ∷ []) (h.face i) []))
+        ∙ (λ i. Goes (record (advanced_is i) { marked = true }) (option_map_or (λ face. Character (record { code = code; request = h.request i; y = (h.origin i).y +ℤ place_is i; bounds = character_box face ((h.origin i).x +ℤ x) ((h.origin i).y +ℤ place_is i) }) ∷ []) (h.face i) []))
 
     byte_goes : (code : ℕ) → is_text_of m.face.codes code ≡ true → effect_of s.settings (Step (print_byte printer s code)) ≡ Goes (record on { marked = not (code == 32) || s.marked }) (characters_of (glyph_in (look_at m s.cursor.x) code))
     byte_goes code known = by (code == 32) refl
       where
-        by : (b : Bool) → (code == 32) ≡ b → effect_of s.settings (Step (cond b (space printer s) (character printer s code))) ≡ Goes (record on { marked = not b || s.marked }) (characters_of (cond b None (Some (record { code = code; request = m.request; y = m.geometry.logical_top +ℤ m.y; bounds = box_at m s.cursor.x }))))
+        by : (b : Bool) → (code == 32) ≡ b → effect_of s.settings (Step (cond b (space printer s) (character printer s code))) ≡ Goes (record on { marked = not b || s.marked }) (characters_of (cond b None (Some (record { code = code; request = m.request; y = m.origin.y +ℤ m.y; bounds = box_at m s.cursor.x }))))
         by true e = space_goes
         by false e = character_goes code (known_code m.face code known e)
 
@@ -121,7 +121,7 @@ module _ (printer : Printer) (m : TextMeasure) where
   measure_stays : (look : Look) (code : ℕ) (page : Page) → HasMeasure printer page m → HasMeasure printer (page_behind look code page) m
   measure_stays look code page h = λ panel.
       let k = h panel in
-      record { read = k.read; request = k.request; face = k.face; geometry = k.geometry; y = k.y; column = k.column; right = k.right; no_raster = k.no_raster }
+      record { read = k.read; request = k.request; face = k.face; geometry = k.geometry; origin = k.origin; y = k.y; column = k.column; right = k.right; no_raster = k.no_raster }
 
   goes : (page : Page) (code : ℕ) → HasMeasure printer page m → HasColumn m page.cursor.x → is_text_of m.face.codes code ≡ true → run.Goes printer (look_at m page.cursor.x) page code
   unfolding Marks
@@ -134,9 +134,9 @@ module _ (printer : Printer) (m : TextMeasure) where
 
   next_look : (x : ℤ) → look_at m (x +ℤ pos m.column) ≡ look_behind (look_at m x)
   next_look x =
-      let g = m.geometry in
-      let left : g.logical_left +ℤ (x +ℤ pos m.column) ≡ (g.logical_left +ℤ x) +ℤ pos m.column = omega (arith, ints) in
-      let right : (g.logical_left +ℤ (x +ℤ pos m.column)) +ℤ m.face.advance ≡ ((g.logical_left +ℤ x) +ℤ m.face.advance) +ℤ pos m.column = omega (arith, ints) in
+      let begin = m.origin.x in
+      let left : begin +ℤ (x +ℤ pos m.column) ≡ (begin +ℤ x) +ℤ pos m.column = omega (arith, ints) in
+      let right : (begin +ℤ (x +ℤ pos m.column)) +ℤ m.face.advance ≡ ((begin +ℤ x) +ℤ m.face.advance) +ℤ pos m.column = omega (arith, ints) in
       λ i. record (look_at m x) { bounds = record (box_at m x) { left = left i; right = right i } }
 
   pub all_go : (codes : List ℕ) (page : Page) → HasMeasure printer page m → HasColumns m page.cursor.x (length codes) → CanGoIn m.face.codes codes → AllGo printer (look_at m page.cursor.x) page codes

@@ -44,7 +44,7 @@ is_between-of low high z l h = by (int_lt z low) (int_lt high z) refl refl
 
 module _ (m : TextMeasure) where
   -- a box that is inside, and the one so far to the right of it that ends before the printable area does
-  box_inside : (x : ℤ) → is_inside m.geometry (box_at m x) ≡ true → pos 0 ≤ℤ m.face.advance → (((x +ℤ pos m.column) +ℤ m.geometry.logical_left) +ℤ m.face.advance) ≤ℤ m.geometry.printable_right → is_inside m.geometry (box_at m (x +ℤ pos m.column)) ≡ true
+  box_inside : (x : ℤ) → is_inside m.geometry (box_at m x) ≡ true → pos 0 ≤ℤ m.face.advance → (((x +ℤ pos m.column) +ℤ m.origin.x) +ℤ m.face.advance) ≤ℤ m.geometry.printable_right → is_inside m.geometry (box_at m (x +ℤ pos m.column)) ≡ true
   unfolding is_inside
   box_inside x h ahead ends =
       let g = m.geometry in
@@ -85,7 +85,7 @@ module _ (m : TextMeasure) where
     one_column x here is ends inside = record { within = within_edge x here ends; ends = ends_at x (subst (λ e. (x +ℤ pos m.column) ≤ℤ e) (sym is) ends); inside = inside }
 
     -- as many as end at the edge, and whose last character ends in the printable area
-    pub columns : (x : ℤ) (n : ℕ) → IsInRange x → edge_from m x ≡ edge → is_inside m.geometry (box_at m x) ≡ true → (1 ≤ n → ((x +ℤ pos (n * m.column)) ≤ℤ edge) × ((x +ℤ pos (n * m.column)) ≤ℤ (((m.geometry.printable_right -ℤ m.geometry.logical_left) -ℤ m.face.advance) +ℤ pos m.column))) → HasColumns m x n
+    pub columns : (x : ℤ) (n : ℕ) → IsInRange x → edge_from m x ≡ edge → is_inside m.geometry (box_at m x) ≡ true → (1 ≤ n → ((x +ℤ pos (n * m.column)) ≤ℤ edge) × ((x +ℤ pos (n * m.column)) ≤ℤ (((m.geometry.printable_right -ℤ m.origin.x) -ℤ m.face.advance) +ℤ pos m.column))) → HasColumns m x n
     columns x zero here is inside ends = tt
     columns x (suc zero) here is inside ends =
         let e = (ends (omega arith)).0 in
@@ -112,7 +112,7 @@ begin_up_to x last c r here h (suc (suc k)) some less =
     omega (arith, ints, one, before)
 
 -- a character that is inside begins no later than the last that is
-pub begins_inside : (m : TextMeasure) (x : ℤ) → is_inside m.geometry (box_at m x) ≡ true → x ≤ℤ ((m.geometry.printable_right -ℤ m.geometry.logical_left) -ℤ m.face.advance)
+pub begins_inside : (m : TextMeasure) (x : ℤ) → is_inside m.geometry (box_at m x) ≡ true → x ≤ℤ ((m.geometry.printable_right -ℤ m.origin.x) -ℤ m.face.advance)
 unfolding is_inside
 begins_inside m x h =
     let g = m.geometry in

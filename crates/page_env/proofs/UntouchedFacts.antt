@@ -2,7 +2,7 @@
 use Rattle.std.proofs.Common.{◌≡◌, ◌==◌, ℕ, ℤ, Bool, true, false, cond, List, [], ◌∷◌, Option, Some, None, refl, ap, sym, ◌∙◌, is_none, subst}
 use Rattle.std.proofs.lemmas.Bool.{false≢true}
 use Rattle.pcl_items.specs.declared.pcl.command.Command.{Command}
-use Rattle.pcl_items.specs.declared.pcl.command.Command.TheVariants.{Copies, Sides, Source, PageSize, Orientation, VerticalMotionIndex, LineSpacing, TopMargin, TextLength, PerforationSkip, UnitOfMeasure, HorizontalMotionIndex, LineTermination, LeftMargin, RightMargin, Column, Row, HorizontalDecipoints, VerticalDecipoints, HorizontalUnits, VerticalUnits, CursorStack, MacroId, MacroControl, RectangleWidth, RectangleHeight, FillRectangle, RectangleWidthDecipoints, RectangleHeightDecipoints, FillId, PictureFrameAnchor, PictureFrameWidth, PictureFrameHeight, RasterResolution, StartRaster, RasterWidth, RasterHeight, RasterPresentation, EndRaster, EndRasterAndMethod, CompressionMethod, RasterOffset, FontSpacing, FontPitch, FontHeight, FontStyle, FontWeight, FontTypeface}
+use Rattle.pcl_items.specs.declared.pcl.command.Command.TheVariants.{Copies, Sides, Source, PageSize, Orientation, VerticalMotionIndex, LineSpacing, TopMargin, TextLength, LineTermination, LeftMargin, RightMargin, Column, Row, HorizontalDecipoints, VerticalDecipoints, HorizontalUnits, VerticalUnits, CursorStack, MacroControl, FillRectangle, PictureFrameAnchor, StartRaster, RasterOffset, FontSpacing, FontPitch, FontHeight, FontStyle, FontWeight, FontTypeface}
 use Rattle.pcl_items.specs.declared.pcl.command.DataCommand.TheVariants.{TransparentText, RasterRow}
 use Rattle.pcl_items.specs.declared.frame.Handover.{Handover}
 use Rattle.pcl_items.specs.declared.frame.Handover.TheVariants.{Previous, Current}
@@ -186,9 +186,6 @@ module _ (watched : Flags) where
         command_leaves LineSpacing n s r e = ((refl, λ h. refl), (ap (λ (f : Flags). record f { vmi = false }) e.0, e.1))
         command_leaves TopMargin n s r e = (page_and_line_alike s, e)
         command_leaves TextLength n s r e = (page_and_line_alike s, e)
-        command_leaves PerforationSkip n s r e = ((refl, λ h. refl), e)
-        command_leaves UnitOfMeasure n s r e = ((refl, λ h. refl), e)
-        command_leaves HorizontalMotionIndex n s r e = ((refl, λ h. refl), e)
         command_leaves LineTermination n s r e = ((refl, λ h. refl), (ap (λ (f : Flags). record f { line_termination = false }) e.0, e.1))
         command_leaves LeftMargin n s r e = (page_column_alike s, e)
         command_leaves RightMargin n s r e = (page_column_alike s, e)
@@ -199,25 +196,10 @@ module _ (watched : Flags) where
         command_leaves HorizontalUnits n s r e = (page_alike s, e)
         command_leaves VerticalUnits n s r e = (from_top_alike s n, e)
         command_leaves CursorStack n s r e = stack_leaves n s e
-        command_leaves MacroId n s r e = ((refl, λ h. refl), e)
         command_leaves MacroControl n s r e = absurd (false≢true (sym r))
-        command_leaves RectangleWidth n s r e = ((refl, λ h. refl), e)
-        command_leaves RectangleHeight n s r e = ((refl, λ h. refl), e)
         command_leaves FillRectangle n s r e = (page_vertical_alike s s.cursor.y, e)
-        command_leaves RectangleWidthDecipoints n s r e = ((refl, λ h. refl), e)
-        command_leaves RectangleHeightDecipoints n s r e = ((refl, λ h. refl), e)
-        command_leaves FillId n s r e = ((refl, λ h. refl), e)
         command_leaves PictureFrameAnchor n s r e = (vertical_alike s s.cursor.y, e)
-        command_leaves PictureFrameWidth n s r e = ((refl, λ h. refl), e)
-        command_leaves PictureFrameHeight n s r e = ((refl, λ h. refl), e)
-        command_leaves RasterResolution n s r e = ((refl, λ h. refl), e)
         command_leaves StartRaster n s r e = (page_vertical_alike s s.cursor.y, e)
-        command_leaves RasterWidth n s r e = ((refl, λ h. refl), e)
-        command_leaves RasterHeight n s r e = ((refl, λ h. refl), e)
-        command_leaves RasterPresentation n s r e = ((refl, λ h. refl), e)
-        command_leaves EndRaster n s r e = ((refl, λ h. refl), e)
-        command_leaves EndRasterAndMethod n s r e = ((refl, λ h. refl), e)
-        command_leaves CompressionMethod n s r e = ((refl, λ h. refl), e)
         command_leaves RasterOffset n s r e = (page_vertical_alike s s.cursor.y, e)
         command_leaves FontSpacing n s r e = ((refl, λ h. refl), (e.0, ap (λ (p : PartFlags). record p { spacing = false }) e.1))
         command_leaves FontPitch n s r e = ((refl, λ h. refl), (e.0, ap (λ (p : PartFlags). record p { pitch = false }) e.1))
@@ -225,6 +207,8 @@ module _ (watched : Flags) where
         command_leaves FontStyle n s r e = ((refl, λ h. refl), (e.0, ap (λ (p : PartFlags). record p { style = false }) e.1))
         command_leaves FontWeight n s r e = ((refl, λ h. refl), (e.0, ap (λ (p : PartFlags). record p { weight = false }) e.1))
         command_leaves FontTypeface n s r e = ((refl, λ h. refl), (e.0, ap (λ (p : PartFlags). record p { typeface = false }) e.1))
+        -- all others read nothing, and set nothing that the panel has
+        command_leaves _ n s r e = ((refl, λ h. refl), e)
 
         item_leaves : (item : Entry) (s : State) → is_macro_control item ≡ false → Says s → TransitionLeaves watched s u (untouched_behind item u) (transition_of printer defaults s item) (transition_of printer (plain_settings defaults) (plain_state s) item)
         item_leaves (Text code) s r e = byte_leaves code s e

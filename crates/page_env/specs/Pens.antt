@@ -12,9 +12,10 @@ use Rattle.page_env.specs.declared.frames.Frame.{Frame}
 use Rattle.page_env.specs.declared.mark.PenLine.{PenLine}
 use Rattle.page_env.specs.declared.page.Pen.{Pen}
 use Rattle.page_env.specs.declared.page.PenPlace.{PenPlace}
+use Rattle.page_env.specs.declared.places.Origin.{Origin}
 use Rattle.page_env.specs.declared.target.Target.{Target}
 use Rattle.page_env.specs.Settings.{State, default_pen, with_job}
-use Rattle.page_env.specs.Places.{ticks_in, page_reads, geometry_of}
+use Rattle.page_env.specs.Places.{ticks_in, page_reads, geometry_of, origin_of}
 use Rattle.page_env.specs.Mark.{Line as Drawn, line_bounds, is_inside}
 use Rattle.page_env.specs.Effect.{Check, check, Line, moving, setting}
 use Rattle.page_env.specs.Frames.{frame_of, x_on_page, y_on_page, is_in_frame}
@@ -44,19 +45,23 @@ set_pen s settings.Width n = set_pen_width s n
 
 -- ---- lines
 
--- a line of this width between two places of a frame
-abbrev pub line_between : Geometry → Frame → ℕ → PenPlace → PenPlace → PenLine
-line_between g frame width start end = record {
+-- a line of this width between two places of a frame, where the logical page begins at this origin
+abbrev pub line_between : Origin → Frame → ℕ → PenPlace → PenPlace → PenLine
+line_between origin frame width start end = record {
   width = pos (ticks_in Millimetre width);
-  x0 = g.logical_left +ℤ x_on_page frame start.x;
-  y0 = g.logical_top +ℤ y_on_page frame start.y;
-  x1 = g.logical_left +ℤ x_on_page frame end.x;
-  y1 = g.logical_top +ℤ y_on_page frame end.y;
+  x0 = origin.x +ℤ x_on_page frame start.x;
+  y0 = origin.y +ℤ y_on_page frame start.y;
+  x1 = origin.x +ℤ x_on_page frame end.x;
+  y1 = origin.y +ℤ y_on_page frame end.y;
 }
 
--- how far the pen may be from the origin: 8,388,607 plotter units of 36,000,000 ticks
+-- how far a plotter unit goes, 0.025 mm, in ticks
+abbrev pub plotter_unit : ℕ
+plotter_unit = 36_000_000
+
+-- how far the pen may be from the origin: 8,388,607 plotter units
 abbrev pub furthest : ℕ
-furthest = 8_388_607 * 36_000_000
+furthest = 8_388_607 * plotter_unit
 
 -- along either axis
 abbrev pub is_too_far : PenPlace → Bool
@@ -67,22 +72,22 @@ abbrev pub stays_in_frame : Frame → PenPlace → PenPlace → Bool
 stays_in_frame frame start end = is_in_frame frame start && is_in_frame frame end && not (is_too_far end)
 
 -- what may be wrong with a line once the page is known
-abbrev pub line_checks : Geometry → Frame → ℕ → PenPlace → PenPlace → List Check
-line_checks g frame width start end =
-    check (not (is_inside g (line_bounds (line_between g frame width start end)))) NotPrintable
+abbrev pub line_checks : Geometry → Origin → Frame → ℕ → PenPlace → PenPlace → List Check
+line_checks g origin frame width start end =
+    check (not (is_inside g (line_bounds (line_between origin frame width start end)))) NotPrintable
     ∷ check (not (stays_in_frame frame start end)) OutsideFrame ∷ []
 
 -- the pen, down, draws a line to a place and stays there
 abbrev pub draw : Printer → State → PenPlace → Line
 draw printer s to =
-    let g = geometry_of printer s in
+    let origin = origin_of printer s in
     let pen : Pen = s.settings.job.pen in
     record {
       before = check (pen.number == 0) NoPen ∷ [];
       reads = page_reads;
-      after = line_checks g (frame_of printer s) pen.width pen.place to;
+      after = line_checks (geometry_of printer s) origin (frame_of printer s) pen.width pen.place to;
       state = record (with_pen s (record pen { is_down = true; place = to })) { marked = true };
-      marks = Drawn (line_between g (frame_of printer s) pen.width pen.place to) ∷ [];
+      marks = Drawn (line_between origin (frame_of printer s) pen.width pen.place to) ∷ [];
     }
 
 -- ---- motion
@@ -116,7 +121,7 @@ place_of target = record { x = target.x; y = target.y }
 
 -- where so many plotter units lead along an axis: from the pen where it is relative, and from the origin otherwise
 abbrev pub reached : (is_relative : Bool) → (here units : ℤ) → ℤ
-reached is_relative here units = cond is_relative (here +ℤ (units *ℤ pos 36_000_000)) (units *ℤ pos 36_000_000)
+reached is_relative here units = cond is_relative (here +ℤ (units *ℤ pos plotter_unit)) (units *ℤ pos plotter_unit)
 
 abbrev pub pen_target : Pen → ℤ × ℤ → PenPlace
 pen_target pen to = record { x = reached pen.is_relative pen.place.x to.0; y = reached pen.is_relative pen.place.y to.1 }

@@ -19,7 +19,7 @@ use Rattle.page_env.specs.declared.page.Resolution.TheVariants.{Dots75, Dots100,
 use Rattle.page_env.specs.declared.page.StartedRaster.{StartedRaster}
 use Rattle.page_env.specs.Settings.{State, with_job}
 use Rattle.page_env.specs.Numbers.{is_whole_between, is_whole_from, whole_of}
-use Rattle.page_env.specs.Places.{vertical_place, vertical_reads, geometry_of}
+use Rattle.page_env.specs.Places.{vertical_place, vertical_reads, geometry_of, x_on_sheet, y_on_sheet}
 use Rattle.page_env.specs.Mark.{PixelRow, Shape, Row, pixels_per_inch, pixel_of, black_end, row_bounds, is_inside}
 use Rattle.page_env.specs.Effect.{Check, check, Line, checking, setting}
 
@@ -172,12 +172,12 @@ has_black bytes = nat_lt (blank_ahead bytes) (length bytes)
 abbrev pub passes_width : RasterSettings → List ℕ → Bool
 passes_width raster bytes = option_map_or (λ width. nat_lt width (black_end bytes)) raster.width false
 
--- A row from this place of the logical page, without blank bytes at both ends; each that was before it moves it by eight pixels.
-abbrev pub row_from : Geometry → Dots → (x y : ℤ) → List ℕ → PixelRow
-row_from g resolution x y bytes = record {
+-- A row from this place of the sheet, without blank bytes at both ends; each that was before it moves it by eight pixels.
+abbrev pub row_from : Dots → (x y : ℤ) → List ℕ → PixelRow
+row_from resolution x y bytes = record {
   resolution = resolution;
-  x = (g.logical_left +ℤ x) +ℤ pos (8 * blank_ahead bytes * pixel_of resolution);
-  y = g.logical_top +ℤ y;
+  x = x +ℤ pos (8 * blank_ahead bytes * pixel_of resolution);
+  y = y;
   bytes = drop (blank_ahead bytes) bytes;
 }
 
@@ -186,11 +186,10 @@ abbrev pub row_checks : RasterSettings → Option StartedRaster → List ℕ →
 row_checks settings raster black =
     not_started raster ∷ check (option_map_or (passes_height 1) raster false || passes_width settings black) RasterTooBig ∷ []
 
--- and on it
-abbrev pub place_checks : Geometry → Dots → (x y : ℤ) → List ℕ → List Check
-place_checks g resolution x y black =
-    past_foot g resolution y 1
-    ∷ check (has_black black && not (is_inside g (row_bounds (row_from g resolution x y black)))) NotPrintable ∷ []
+-- and on it, where the cursor has this vertical place
+abbrev pub place_checks : Geometry → (y : ℤ) → List ℕ → PixelRow → List Check
+place_checks g y black row =
+    past_foot g row.resolution y 1 ∷ check (has_black black && not (is_inside g (row_bounds row))) NotPrintable ∷ []
 
 -- the mark of a row: none where no byte has a black pixel
 abbrev pub marks_of : List ℕ → PixelRow → List Shape
@@ -199,13 +198,12 @@ marks_of black row = cond (has_black black) (Row row ∷ []) []
 -- `*b#W` transfer raster data: one row at the cursor, which moves a pixel down. A row without a black pixel makes no mark.
 abbrev pub print_row : Printer → State → List ℕ → Line
 print_row printer s bytes =
-    let g = geometry_of printer s in
     let black = up_to_black bytes in
-    let resolution : Dots = s.settings.job.raster.resolution in
+    let row = row_from s.settings.job.raster.resolution (x_on_sheet printer s) (y_on_sheet printer s) black in
     record {
       before = row_checks s.settings.job.raster s.raster black;
       reads = Size ∷ Orientation ∷ vertical_reads s.cursor.y;
-      after = place_checks g resolution s.cursor.x (vertical_place s) black;
+      after = place_checks (geometry_of printer s) (vertical_place s) black row;
       state = record (rows_down s 1) { marked = has_black black || s.marked };
-      marks = marks_of black (row_from g resolution s.cursor.x (vertical_place s) black);
+      marks = marks_of black row;
     }

@@ -12,7 +12,7 @@ use Rattle.page_env.specs.declared.mark.Glyph.{Glyph}
 use Rattle.page_env.specs.Settings.{State}
 use Rattle.page_env.specs.FontInForce.{request_of, face_of, font_reads}
 use Rattle.page_env.specs.Fonts.{no_font, no_column}
-use Rattle.page_env.specs.Places.{geometry_of, column_width, column_reads, right_of, vertical_place, vertical_reads}
+use Rattle.page_env.specs.Places.{geometry_of, x_on_sheet, y_on_sheet, column_width, column_reads, right_of, vertical_place, vertical_reads}
 use Rattle.page_env.specs.Mark.{Character, is_inside}
 use Rattle.page_env.specs.Effect.{Check, check, Line}
 
@@ -54,14 +54,9 @@ transparent_space printer s = record (space printer s) {
   after = no_font printer s ∷ moves_within printer s;
 }
 
--- the box of a character with its reference point at a place of the logical page
-abbrev pub character_box : Geometry → Face → ℤ → ℤ → Bounds
-character_box g face x y = record {
-  left = g.logical_left +ℤ x;
-  top = (g.logical_top +ℤ y) -ℤ face.ascent;
-  right = (g.logical_left +ℤ x) +ℤ face.advance;
-  bottom = (g.logical_top +ℤ y) +ℤ face.descent;
-}
+-- the box of a character with its reference point at a place of the sheet
+abbrev pub character_box : Face → (x y : ℤ) → Bounds
+character_box face x y = record { left = x; top = y -ℤ face.ascent; right = x +ℤ face.advance; bottom = y +ℤ face.descent }
 
 -- what may be wrong with a character: it has no such code, it leads too far, or its box does not lie in the printable area
 abbrev pub character_checks : Geometry → Face → ℕ → (right x behind : ℤ) → Bounds → List Check
@@ -71,9 +66,7 @@ character_checks g face code right x behind box =
 -- the mark of a character of a face, with its reference point at the cursor
 abbrev pub glyph_of : Printer → State → ℕ → Face → Glyph
 glyph_of printer s code face =
-    let g = geometry_of printer s in
-    let y = vertical_place s in
-    record { code = code; request = request_of printer s; y = g.logical_top +ℤ y; bounds = character_box g face s.cursor.x y }
+    record { code = code; request = request_of printer s; y = y_on_sheet printer s; bounds = character_box face (x_on_sheet printer s) (y_on_sheet printer s) }
 
 -- what may be wrong with it
 abbrev pub checks_of : Printer → State → ℕ → Face → List Check

@@ -6,7 +6,7 @@ ghost use Rattle.pcl_items.specs.Items.{amount};
 ghost use Rattle.page_env.specs.Settings.{state_at};
 ghost use Rattle.page_env.specs.Effect.{Reads};
 ghost use Rattle.page_env.specs.Numbers.{is_absent};
-ghost use Rattle.page_env.specs.Places.{vertical_place, geometry_of, page_reads};
+ghost use Rattle.page_env.specs.Places.{ticks_in, vertical_place, geometry_of, page_reads};
 ghost use Rattle.page_env.specs.CursorPositioning.{push_cursor, pop_cursor, use_stack, move_across, move_from_top, relative_reads, move_x, move_y, move_x_decipoints, move_y_decipoints, move_columns, move_rows};
 ghost use Rattle.page_env.specs.Answers.{CarriesOut, Steps};
 
@@ -22,18 +22,20 @@ use pcl_items::{Number, Sign};
 use std::alloc::Allocator;
 use tick_length::Unit;
 
-/// Moves the cursor to the left or right by so many ticks.
+/// Moves the cursor to the left or right by so many of a unit.
 fn move_across<A: Allocator>(
     profile: &Profile<A>,
     page: &mut Page,
-    sign: Sign,
-    by: u64,
+    unit: Unit,
+    n: Number,
 ) -> Result<(), Finding>
-    ensures { Steps (λ s. move_across profile.now s page_reads [] sign (Some by)) page.old page.new result }
+    ensures { let by = ticks_in unit n.ten_thousandths in
+        Steps (λ s. move_across profile.now s page_reads [] n.sign (Some by)) page.old page.new result }
 {
     let geometry = geometry(profile, page)?;
     let here = page.cursor.x.ticks();
-    match target(sign, 0, here, u128::from(by), geometry.logical_width) {
+    let by = u128::from(ticks_in(unit, n.ten_thousandths));
+    match target(n.sign, 0, here, by, geometry.logical_width) {
         None => Err(Finding::OffPage),
         Some(x) => {
             page.cursor.x = x;
@@ -51,7 +53,7 @@ pub(crate) fn move_x<A: Allocator>(
     ensures { Steps (λ s. move_x profile.now s (amount n)) page.old page.new result }
 {
     let unit = Unit::PclUnit(page.env.job.units_per_inch);
-    move_across(profile, page, n.sign, ticks_in(unit, n.ten_thousandths))
+    move_across(profile, page, unit, n)
 }
 
 /// `&a#H`: moves the cursor to the left or right, in decipoints.
@@ -62,12 +64,7 @@ pub(crate) fn move_x_decipoints<A: Allocator>(
 ) -> Result<(), Finding>
     ensures { Steps (λ s. move_x_decipoints profile.now s (amount n)) page.old page.new result }
 {
-    move_across(
-        profile,
-        page,
-        n.sign,
-        ticks_in(Unit::Decipoint, n.ten_thousandths),
-    )
+    move_across(profile, page, Unit::Decipoint, n)
 }
 
 /// `&a#C`: moves the cursor to the left or right, in columns.
@@ -94,7 +91,7 @@ pub(crate) fn move_columns<A: Allocator>(
 
 /// The page in force, and the vertical place from which a move goes: the top margin where it has no sign, else the cursor.
 #[inline(always)]
-fn geometry_and_origin<A: Allocator>(
+fn geometry_and_start<A: Allocator>(
     profile: &Profile<A>,
     page: &Page,
     sign: Sign,
@@ -121,17 +118,19 @@ fn geometry_and_origin<A: Allocator>(
     }
 }
 
-/// Moves the cursor up or down by so many ticks.
+/// Moves the cursor up or down by so many of a unit.
 fn move_from_top<A: Allocator>(
     profile: &Profile<A>,
     page: &mut Page,
-    sign: Sign,
-    by: u64,
+    unit: Unit,
+    n: Number,
 ) -> Result<(), Finding>
-    ensures { Steps (λ s. move_from_top profile.now s sign by) page.old page.new result }
+    ensures { let by = ticks_in unit n.ten_thousandths in
+        Steps (λ s. move_from_top profile.now s n.sign by) page.old page.new result }
 {
-    let (geometry, from) = geometry_and_origin(profile, page, sign)?;
-    match target_down(sign, from, from, u128::from(by), geometry.logical_height) {
+    let (geometry, from) = geometry_and_start(profile, page, n.sign)?;
+    let by = u128::from(ticks_in(unit, n.ten_thousandths));
+    match target_down(n.sign, from, from, by, geometry.logical_height) {
         None => Err(Finding::OffPage),
         Some(y) => {
             page.cursor.y = Some(y);
@@ -149,7 +148,7 @@ pub(crate) fn move_y<A: Allocator>(
     ensures { Steps (λ s. move_y profile.now s (amount n)) page.old page.new result }
 {
     let unit = Unit::PclUnit(page.env.job.units_per_inch);
-    move_from_top(profile, page, n.sign, ticks_in(unit, n.ten_thousandths))
+    move_from_top(profile, page, unit, n)
 }
 
 /// `&a#V`: moves the cursor up or down, in decipoints.
@@ -160,12 +159,7 @@ pub(crate) fn move_y_decipoints<A: Allocator>(
 ) -> Result<(), Finding>
     ensures { Steps (λ s. move_y_decipoints profile.now s (amount n)) page.old page.new result }
 {
-    move_from_top(
-        profile,
-        page,
-        n.sign,
-        ticks_in(Unit::Decipoint, n.ten_thousandths),
-    )
+    move_from_top(profile, page, Unit::Decipoint, n)
 }
 
 /// `&a#R`: moves the cursor up or down, in rows.

@@ -6,10 +6,9 @@ ghost use Rattle.pcl_items.specs.Items.{amount};
 ghost use Rattle.page_env.specs.Fonts.{set_symbol_set, set_spacing, set_pitch, set_height, set_style, set_weight, set_typeface, default_font};
 ghost use Rattle.page_env.specs.Answers.{CarriesOut, Steps};
 
-use crate::defaults::no_parts;
 use crate::finding::Finding;
 use crate::number::{is_negative, is_whole_between, signed};
-use crate::page::Page;
+use crate::page::{FontParts, Page};
 use device_profile::SymbolSet;
 use pcl_items::Number;
 
@@ -101,7 +100,7 @@ pub(crate) fn set_weight(page: &mut Page, n: Number) -> Result<(), Finding>
 pub(crate) fn default_font(page: &mut Page) -> Result<(), Finding>
     ensures { Steps default_font page.old page.new result }
 {
-    page.env.job.font = no_parts();
+    page.env.job.font = FontParts::none();
     page.env.job.hmi = None;
     Ok(())
 }

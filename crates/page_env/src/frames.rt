@@ -1,10 +1,11 @@
 //! HP-GL/2 frames: the picture frame, and where it is entered and left (the manual's "The Picture Frame").
 #![tactic(auto, unfolding(crate::specs::Answers::Marks))]
 
-ghost use Rattle.std.specs.Prelude.{◌≡◌, ◌+◌, ◌^◌, ◌+ℤ◌, ◌-ℤ◌, cond, Some, None};
+ghost use Rattle.std.specs.Prelude.{◌≡◌, ◌+◌, ◌^◌, ◌+ℤ◌, ◌-ℤ◌, pos, cond, Some, None, Ok, Err};
 ghost use Rattle.pcl_items.specs.Items.{amount};
 ghost use Rattle.page_env.specs.Settings.{default_frame};
-ghost use Rattle.page_env.specs.Numbers.{IsWithin};
+ghost use Rattle.page_env.specs.Numbers.{IsWithin, is_positive};
+ghost use Rattle.page_env.specs.Places.{decipoint_ticks};
 ghost use Rattle.page_env.specs.Frames.{frame_on, framed, set_frame_anchor, set_frame_width, set_frame_height, place_in, x_on_page, y_on_page, is_on_page, enter_at_pen, enter_at_cursor, enter_frame, leave_at_cursor, leave_at_pen, leave_frame};
 ghost use Rattle.page_env.specs.Answers.{Steps};
 
@@ -13,7 +14,7 @@ use crate::number::{is_positive, is_whole_between};
 use crate::page::{Coordinate, Cursor, JobSettings, Page, PenCoordinate, PenPlace, PictureFrame};
 use crate::pens::origin;
 use crate::places::{
-    geometry, geometry_and_vertical, half_inch, length_in, place_between, vertical,
+    geometry, geometry_and_vertical, half_inch, length_between, length_in, vertical,
 };
 use device_profile::{Geometry, Profile};
 use pcl_items::{Handover, Number};
@@ -86,15 +87,25 @@ pub(crate) fn set_frame_anchor(page: &mut Page, n: Number) -> Result<(), Finding
     Ok(())
 }
 
+/// A size of the picture frame, in decipoints.
+fn frame_size(n: Number) -> Result<Length, Finding>
+    ensures { let size = pos (decipoint_ticks (amount n)) in
+        result ≡ cond (is_positive (amount n)) (Ok size) (Err Finding.BadValue) }
+{
+    if is_positive(n) {
+        Ok(length_in(Unit::Decipoint, n.ten_thousandths))
+    } else {
+        Err(Finding::BadValue)
+    }
+}
+
 /// `*c#X`: sets the width of the picture frame, in decipoints.
 pub(crate) fn set_frame_width(page: &mut Page, n: Number) -> Result<(), Finding>
     ensures { Steps (λ s. set_frame_width s (amount n)) page.old page.new result }
 {
-    if !is_positive(n) {
-        return Err(Finding::BadValue);
-    }
+    let width = Some(frame_size(n)?);
     let frame = PictureFrame {
-        width: Some(length_in(Unit::Decipoint, n.ten_thousandths)),
+        width,
         ..page.env.job.frame
     };
     set_frame(&mut page.env.job, frame);
@@ -105,11 +116,9 @@ pub(crate) fn set_frame_width(page: &mut Page, n: Number) -> Result<(), Finding>
 pub(crate) fn set_frame_height(page: &mut Page, n: Number) -> Result<(), Finding>
     ensures { Steps (λ s. set_frame_height s (amount n)) page.old page.new result }
 {
-    if !is_positive(n) {
-        return Err(Finding::BadValue);
-    }
+    let height = Some(frame_size(n)?);
     let frame = PictureFrame {
-        height: Some(length_in(Unit::Decipoint, n.ten_thousandths)),
+        height,
         ..page.env.job.frame
     };
     set_frame(&mut page.env.job, frame);
@@ -124,19 +133,13 @@ pub(crate) fn foot_of(frame: &Frame) -> i64
     frame.top.ticks() + frame.height.ticks()
 }
 
-/// How far a place of the logical page is from the left edge of a frame.
-fn from_left(left: Length, x: Length) -> PenCoordinate
-    ensures { result ≡ x -ℤ left }
+/// How far one place is from another along an axis.
+fn distance(from: i64, to: i64) -> PenCoordinate
+    requires from { IsWithin (2 ^ 60 + 2 ^ 50) from }
+    requires to { IsWithin (2 ^ 61 + 2 ^ 51) to }
+    ensures { result ≡ to -ℤ from }
 {
-    PenCoordinate::from_ticks(x.ticks() - left.ticks())
-}
-
-/// How far a place of the logical page is above the foot of a frame.
-fn from_foot(foot: i64, y: Coordinate) -> PenCoordinate
-    requires { IsWithin (2 ^ 61 + 2 ^ 51) foot }
-    ensures { result ≡ foot -ℤ y }
-{
-    PenCoordinate::from_ticks(foot - y.ticks())
+    PenCoordinate::from_ticks(to - from)
 }
 
 /// A place of the logical page, as the pen sees it.
@@ -144,8 +147,8 @@ fn place_in(frame: &Frame, x: Length, y: Coordinate) -> PenPlace
     ensures { result ≡ place_in frame.now x y }
 {
     PenPlace {
-        x: from_left(frame.left, x),
-        y: from_foot(foot_of(frame), y),
+        x: distance(frame.left.ticks(), x.ticks()),
+        y: distance(y.ticks(), foot_of(frame)),
     }
 }
 
@@ -191,19 +194,18 @@ fn leave_at_cursor(page: &mut Page) -> Result<(), Finding>
     Ok(())
 }
 
-/// Where a place of the pen lies on the logical page, to the right.
-fn x_on_page(left: Length, x: PenCoordinate) -> i64
-    ensures { result ≡ left +ℤ x }
+/// Where a place of the pen lies on the logical page, in ticks to the right.
+fn x_on_page(frame: &Frame, x: PenCoordinate) -> i64
+    ensures { result ≡ x_on_page frame.now x }
 {
-    left.ticks() + x.ticks()
+    frame.left.ticks() + x.ticks()
 }
 
-/// Where a place of the pen lies on the logical page, down.
-fn y_on_page(foot: i64, y: PenCoordinate) -> i64
-    requires { IsWithin (2 ^ 61 + 2 ^ 51) foot }
-    ensures { result ≡ foot -ℤ y }
+/// Where a place of the pen lies on the logical page, in ticks down.
+fn y_on_page(frame: &Frame, y: PenCoordinate) -> i64
+    ensures { result ≡ y_on_page frame.now y }
 {
-    foot - y.ticks()
+    foot_of(frame) - y.ticks()
 }
 
 /// Where the pen is on the logical page, if it is there.
@@ -212,10 +214,10 @@ fn cursor_at(geometry: &Geometry, frame: &Frame, place: PenPlace) -> Option<Curs
         let y = y_on_page frame.now place.y in
         result ≡ cond (is_on_page geometry.now x y) (Some (record { x = x; y = Some y })) None }
 {
-    let across = i128::from(x_on_page(frame.left, place.x));
-    let down = i128::from(y_on_page(foot_of(frame), place.y));
-    let x = place_between(Length::ZERO, geometry.logical_width, across)?;
-    let y = place_between(Length::ZERO, geometry.logical_height, down)?;
+    let across = x_on_page(frame, place.x);
+    let down = y_on_page(frame, place.y);
+    let x = length_between(Length::ZERO, geometry.logical_width, across)?;
+    let y = length_between(Length::ZERO, geometry.logical_height, down)?;
     Some(Cursor {
         x,
         y: Some(Coordinate::from_ticks(y.ticks())),

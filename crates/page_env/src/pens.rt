@@ -8,23 +8,26 @@ ghost use Rattle.page_env.specs.Settings.{default_pen, origin};
 ghost use Rattle.page_env.specs.Mark.{lines_of, line_bounds, is_inside};
 ghost use Rattle.page_env.specs.Places.{is_between};
 ghost use Rattle.page_env.specs.Effect.{first_finding};
-ghost use Rattle.page_env.specs.Frames.{frame_on, x_on_page, y_on_page, is_in_frame};
+ghost use Rattle.page_env.specs.Frames.{frame_on, is_in_frame};
 ghost use Rattle.page_env.specs.Pens.{place_of, initialize, select_pen, set_pen_width, set_pen, line_between, is_too_far, stays_in_frame, line_checks, draw, lower_pen, motion_step, reached, pen_target, carry_pen, move_pen};
 ghost use Rattle.page_env.specs.Answers.{Steps, Marks};
 
 use crate::finding::Finding;
 use crate::frames::{Frame, foot_of, frame_on};
 use crate::mark::PenLine;
-use crate::page::{JobSettings, Page, Pen, PenCoordinate, PenPlace};
-use crate::places::{geometry, length_at, length_in, lies_between, ticks_in};
+use crate::page::{Coordinate, JobSettings, Page, Pen, PenCoordinate, PenPlace};
+use crate::places::{Origin, geometry_and_origin, length_at, length_in, lies_between, ticks_in};
 use crate::target::Target;
 use device_profile::{Geometry, Profile};
 use pcl_items::{Coordinates, Magnitude, Motion, Setting};
 use std::alloc::Allocator;
 use tick_length::{Length, Unit};
 
+/// How far a plotter unit goes, 0.025 mm, in ticks.
+const PLOTTER_UNIT: i64 = 36_000_000;
+
 /// How far the pen may be from the origin along an axis: 8,388,607 plotter units.
-const FURTHEST: u64 = 8_388_607 * 36_000_000;
+const FURTHEST: u64 = 8_388_607 * PLOTTER_UNIT as u64;
 
 /// The lower left corner of the picture frame.
 pub(crate) fn origin() -> PenPlace
@@ -95,7 +98,7 @@ fn reached(is_relative: bool, here: PenCoordinate, units: i32) -> i64
     ensures value { result ≡ reached is_relative here units }
     ensures near { IsWithin (2 ^ 62 + 2 ^ 57) result }
 {
-    let by = i64::from(units) * 36_000_000;
+    let by = i64::from(units) * PLOTTER_UNIT;
     if is_relative { here.ticks() + by } else { by }
 }
 
@@ -150,25 +153,6 @@ fn place_within(frame: &Frame, start: Target, end: Target) -> Option<PenPlace>
     }
 }
 
-/// A place so far to the right of two edges.
-fn right_of(edge: Length, left: Length, x: i64) -> i64
-    requires { IsWithin (2 ^ 62 + 2 ^ 57) x }
-    ensures value { result ≡ edge +ℤ (left +ℤ x) }
-    ensures near { IsWithin (15 * 2 ^ 59) result }
-{
-    edge.ticks() + (left.ticks() + x)
-}
-
-/// A place so far above the foot of a frame.
-fn above(edge: Length, foot: i64, y: i64) -> i64
-    requires foot { IsWithin (2 ^ 61 + 2 ^ 51) foot }
-    requires place { IsWithin (2 ^ 62 + 2 ^ 57) y }
-    ensures value { result ≡ edge +ℤ (foot -ℤ y) }
-    ensures near { IsWithin (15 * 2 ^ 59) result }
-{
-    edge.ticks() + (foot - y)
-}
-
 /// Half a width below the lower of two places.
 fn low_end(a: i64, b: i64, half: u64) -> i64
     requires first { IsWithin (15 * 2 ^ 59) a }
@@ -201,6 +185,25 @@ fn fit_between(low: i64, high: i64, half: u64, a: i64, b: i64) -> bool
     lies_between(low, high, least) && lies_between(low, high, most)
 }
 
+/// Where a place of the pen lies on the sheet, to the right of the left edge of its frame.
+fn x_on_sheet(origin: Coordinate, left: Length, x: i64) -> i64
+    requires { IsWithin (2 ^ 62 + 2 ^ 57) x }
+    ensures value { result ≡ origin +ℤ (left +ℤ x) }
+    ensures near { IsWithin (15 * 2 ^ 59) result }
+{
+    origin.ticks() + (left.ticks() + x)
+}
+
+/// Where a place of the pen lies on the sheet, above the foot of its frame.
+fn y_on_sheet(origin: Coordinate, foot: i64, y: i64) -> i64
+    requires foot { IsWithin (2 ^ 61 + 2 ^ 51) foot }
+    requires place { IsWithin (2 ^ 62 + 2 ^ 57) y }
+    ensures value { result ≡ origin +ℤ (foot -ℤ y) }
+    ensures near { IsWithin (15 * 2 ^ 59) result }
+{
+    origin.ticks() + (foot - y)
+}
+
 /// Both ends of a line along an axis, if they lie so far within two bounds.
 // Inlined, as all that judges a line is, so that a line is put together once.
 #[inline(always)]
@@ -219,72 +222,30 @@ fn ends_between(low: Length, high: Length, half: u64, a: i64, b: i64) -> Option<
     }
 }
 
-/// How far to the right a line begins and ends in page coordinates, if it lies in the printable area along this axis.
-#[inline(always)]
-fn ends_across(
-    geometry: &Geometry,
-    frame: &Frame,
-    half: u64,
-    start: i64,
-    end: i64,
-) -> Option<(Length, Length)>
-    requires half { half ≤ 2 ^ 50 }
-    requires start { IsWithin (2 ^ 62 + 2 ^ 57) start }
-    requires end { IsWithin (2 ^ 62 + 2 ^ 57) end }
-    ensures { let g = geometry.now in
-        let a = g.logical_left +ℤ x_on_page frame.now start in
-        let b = g.logical_left +ℤ x_on_page frame.now end in
-        result ≡ cond (is_between g.printable_left g.printable_right (int_min a b -ℤ pos half) && is_between g.printable_left g.printable_right (int_max a b +ℤ pos half)) (Some (a, b)) None }
-{
-    let edge = geometry.logical_left;
-    let (a, b) = (
-        right_of(edge, frame.left, start),
-        right_of(edge, frame.left, end),
-    );
-    let (low, high) = (geometry.printable_left, geometry.printable_right);
-    ends_between(low, high, half, a, b)
-}
-
-/// How far down a line begins and ends in page coordinates, if it lies in the printable area along this axis.
-#[inline(always)]
-fn ends_down(
-    geometry: &Geometry,
-    frame: &Frame,
-    half: u64,
-    start: i64,
-    end: i64,
-) -> Option<(Length, Length)>
-    requires half { half ≤ 2 ^ 50 }
-    requires start { IsWithin (2 ^ 62 + 2 ^ 57) start }
-    requires end { IsWithin (2 ^ 62 + 2 ^ 57) end }
-    ensures { let g = geometry.now in
-        let a = g.logical_top +ℤ y_on_page frame.now start in
-        let b = g.logical_top +ℤ y_on_page frame.now end in
-        result ≡ cond (is_between g.printable_top g.printable_bottom (int_min a b -ℤ pos half) && is_between g.printable_top g.printable_bottom (int_max a b +ℤ pos half)) (Some (a, b)) None }
-{
-    let edge = geometry.logical_top;
-    let foot = foot_of(frame);
-    let (a, b) = (above(edge, foot, start), above(edge, foot, end));
-    let (low, high) = (geometry.printable_top, geometry.printable_bottom);
-    ends_between(low, high, half, a, b)
-}
-
 /// A line between two places of a frame, its width in ten-thousandths of a millimetre, if it lies in the printable area.
 #[inline(always)]
 #[tactic(auto, unfolding(crate::specs::Mark::is_inside))]
 fn line_inside(
     geometry: &Geometry,
+    origin: Origin,
     frame: &Frame,
     width: u32,
     start: Target,
     end: Target,
 ) -> Option<PenLine>
-    ensures { let line = line_between geometry.now frame.now width (place_of start) (place_of end) in
+    ensures { let line = line_between origin frame.now width (place_of start) (place_of end) in
         result ≡ cond (is_inside geometry.now (line_bounds line)) (Some line) None }
 {
     let half = ticks_in(Unit::Millimetre, width) / 2;
-    let (x0, x1) = ends_across(geometry, frame, half, start.x, end.x)?;
-    let (y0, y1) = ends_down(geometry, frame, half, start.y, end.y)?;
+    let a = x_on_sheet(origin.x, frame.left, start.x);
+    let b = x_on_sheet(origin.x, frame.left, end.x);
+    let (low, high) = (geometry.printable_left, geometry.printable_right);
+    let (x0, x1) = ends_between(low, high, half, a, b)?;
+    let foot = foot_of(frame);
+    let a = y_on_sheet(origin.y, foot, start.y);
+    let b = y_on_sheet(origin.y, foot, end.y);
+    let (low, high) = (geometry.printable_top, geometry.printable_bottom);
+    let (y0, y1) = ends_between(low, high, half, a, b)?;
     Some(PenLine {
         width: length_in(Unit::Millimetre, width),
         x0,
@@ -298,19 +259,20 @@ fn line_inside(
 #[inline(always)]
 fn judged(
     geometry: &Geometry,
+    origin: Origin,
     job: &JobSettings,
     to: Target,
 ) -> Result<(PenLine, PenPlace), Finding>
     ensures { let frame = frame_on geometry.now job.now.frame in
         let pen = job.now.pen in
-        let checks = line_checks geometry.now frame pen.width pen.place (place_of to) in
+        let checks = line_checks geometry.now origin frame pen.width pen.place (place_of to) in
         MatchResult result
-        (λ answer. (answer.0 ≡ line_between geometry.now frame pen.width pen.place (place_of to)) × (answer.1 ≡ place_of to) × (first_finding checks ≡ None))
+        (λ answer. (answer.0 ≡ line_between origin frame pen.width pen.place (place_of to)) × (answer.1 ≡ place_of to) × (first_finding checks ≡ None))
         (λ finding. first_finding checks ≡ Some finding) }
 {
     let frame = frame_on(geometry, &job.frame);
     let start = own_place(job.pen.place);
-    let Some(line) = line_inside(geometry, &frame, job.pen.width, start, to) else {
+    let Some(line) = line_inside(geometry, origin, &frame, job.pen.width, start, to) else {
         return Err(Finding::NotPrintable);
     };
     let Some(place) = place_within(&frame, start, to) else {
@@ -331,8 +293,8 @@ fn draw<A: Allocator>(
     if page.env.job.pen.number == 0 {
         return Err(Finding::NoPen);
     }
-    let geometry = geometry(profile, page)?;
-    let (line, place) = judged(&geometry, &page.env.job, to)?;
+    let (geometry, origin) = geometry_and_origin(profile, page)?;
+    let (line, place) = judged(&geometry, origin, &page.env.job, to)?;
     page.env.job.pen.is_down = true;
     page.env.job.pen.place = place;
     page.marked = true;

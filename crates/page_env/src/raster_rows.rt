@@ -17,7 +17,10 @@ use crate::mark::{Mark, RasterRow};
 use crate::motion::up_to;
 use crate::number::{is_whole_between, whole_of};
 use crate::page::{Coordinate, Page, RasterSettings, Resolution, StartedRaster};
-use crate::places::{geometry_and_vertical, length_at, lies_between, span_between};
+use crate::places::{
+    SheetPlace, geometry_and_vertical, geometry_origin_and_vertical, length_at, lies_between,
+    on_sheet, span_between,
+};
 use device_profile::{Geometry, Profile};
 use pcl_items::Number;
 use std::alloc::Allocator;
@@ -170,13 +173,13 @@ fn width_of(pixels: u32, resolution: Resolution) -> Length
 }
 
 /// Where the first byte with a black pixel begins, where so many come before it.
-fn first_byte(left: Length, x: Length, blank: usize, resolution: Resolution) -> i64
+fn first_byte(place: SheetPlace, blank: usize, resolution: Resolution) -> i64
     requires { blank ≤ 32767 }
-    ensures value { result ≡ (left +ℤ x) +ℤ pos (8 * blank * pixel_of resolution) }
+    ensures value { result ≡ place.x +ℤ pos (8 * blank * pixel_of resolution) }
     ensures near { IsWithin (2 ^ 62) result }
 {
     let ahead = width_of(8 * blank as u32, resolution);
-    left.ticks() + x.ticks() + ahead.ticks()
+    place.x + ahead.ticks()
 }
 
 /// The place so many pixels behind another, in ticks.
@@ -224,48 +227,41 @@ fn row_start(
     }
 }
 
-/// The upper edge of a row at a place of the logical page, if the row lies between two bounds.
-fn row_top(
-    top: Length,
-    y: Coordinate,
-    resolution: Resolution,
-    low: Length,
-    high: Length,
-) -> Option<Length>
-    ensures { let edge = top +ℤ y in
+/// The upper edge of a row at a place of the sheet, if the row lies between two bounds.
+fn row_top(place: SheetPlace, resolution: Resolution, low: Length, high: Length) -> Option<Length>
+    ensures { let edge = place.y in
         result ≡ cond (is_between low high edge && is_between low high (edge +ℤ pos (pixel_of resolution))) (Some edge) None }
 {
     let pixel = width_of(1, resolution);
-    let (edge, _) = span_between(top, y.ticks(), pixel, low, high)?;
+    let (edge, _) = span_between(place.y, pixel, low, high)?;
     Some(edge)
 }
 
-/// A row from a place of the logical page, if its black pixels lie within the printable area. It ends with a byte with a black
+/// A row from a place of the sheet, if its black pixels lie within the printable area. It ends with a byte with a black
 /// pixel, and so many bytes come before the first one.
 #[tactic(auto, unfolding(crate::specs::Mark::is_inside))]
 fn row_inside<'a>(
     geometry: &Geometry,
     resolution: Resolution,
-    x: Length,
-    y: Coordinate,
+    place: SheetPlace,
     black: &'a [u8],
     blank: usize,
 ) -> Option<RasterRow<'a>>
     requires blank { blank ≡ blank_ahead black.now }
     requires some { blank < length black.now }
     requires short { length black.now ≤ 32767 }
-    ensures { let row = row_from geometry.now resolution x y black.now in
+    ensures { let row = row_from resolution place.x place.y black.now in
         option_map row_of result ≡ cond (is_inside geometry.now (row_bounds row)) (Some row) None }
 {
     let bytes = &black[blank..];
-    let left = first_byte(geometry.logical_left, x, blank, resolution);
+    let left = first_byte(place, blank, resolution);
     let (low, high) = (geometry.printable_left, geometry.printable_right);
     let x = row_start(left, white_ahead(bytes), resolution, low, high)?;
     if !pixel_lies_between(left, black_end(bytes), resolution, low, high) {
         return None;
     }
     let (low, high) = (geometry.printable_top, geometry.printable_bottom);
-    let y = row_top(geometry.logical_top, y, resolution, low, high)?;
+    let y = row_top(place, resolution, low, high)?;
     Some(RasterRow {
         resolution,
         x,
@@ -293,29 +289,31 @@ fn row_behind(page: &Page, black: &[u8]) -> Result<StartedRaster, Finding>
     Ok(behind)
 }
 
-/// A row at the cursor, where its vertical place is this, and the place below it; there is no row where no byte has a black pixel.
+/// A row at a place of the sheet, where the cursor has this vertical place, and the place below it.
+/// There is no row where no byte has a black pixel.
+// Inlined: left to LLVM it is a call of its own where a row is printed for many kinds of sinks.
+#[inline(always)]
 fn judged<'a>(
     geometry: &Geometry,
-    page: &Page,
+    resolution: Resolution,
     y: Coordinate,
+    place: SheetPlace,
     black: &'a [u8],
 ) -> Result<(Coordinate, Option<Mark<'a>>), Finding>
     requires { length black.now ≤ 32767 }
-    ensures { let resolution = page.now.env.job.raster.resolution in
-        let x = page.now.cursor.x in
-        let checks = place_checks geometry.now resolution x y black.now in
+    ensures { let row = row_from resolution place.x place.y black.now in
+        let checks = place_checks geometry.now y black.now row in
         MatchResult result
-        (λ answer. (answer.0 ≡ place_behind resolution y 1) × (shapes_of answer.1 ≡ marks_of black.now (row_from geometry.now resolution x y black.now)) × (is_some answer.1 ≡ has_black black.now) × (first_finding checks ≡ None))
+        (λ answer. (answer.0 ≡ place_behind resolution y 1) × (shapes_of answer.1 ≡ marks_of black.now row) × (is_some answer.1 ≡ has_black black.now) × (first_finding checks ≡ None))
         (λ finding. first_finding checks ≡ Some finding) }
 {
-    let resolution = page.env.job.raster.resolution;
     let Some(below) = place_behind(y, 1, resolution, geometry.logical_height) else {
         return Err(Finding::OffPage);
     };
     let Some(blank) = blank_ahead(black) else {
         return Ok((below, None));
     };
-    let Some(row) = row_inside(geometry, resolution, page.cursor.x, y, black, blank) else {
+    let Some(row) = row_inside(geometry, resolution, place, black, blank) else {
         return Err(Finding::NotPrintable);
     };
     Ok((below, Some(Mark::Row(row))))
@@ -332,8 +330,10 @@ pub fn print_row<'a, A: Allocator>(
 {
     let black = up_to_black(bytes);
     let behind = row_behind(page, black)?;
-    let (geometry, y) = geometry_and_vertical(profile, page)?;
-    let (below, row) = match judged(&geometry, page, y, black) {
+    let (geometry, origin, y) = geometry_origin_and_vertical(profile, page)?;
+    let place = on_sheet(origin, page.cursor.x, y);
+    let resolution = page.env.job.raster.resolution;
+    let (below, row) = match judged(&geometry, resolution, y, place, black) {
         Err(finding) => return Err(finding),
         Ok(answer) => answer,
     };

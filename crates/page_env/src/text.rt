@@ -1,12 +1,13 @@
 //! Text, and transparent print data (the manual's "Fonts").
 #![tactic(auto, unfolding(crate::specs::Answers::Marks))]
 
-ghost use Rattle.std.specs.Prelude.{◌≡◌, pos, ◌+ℤ◌, ◌-ℤ◌, ◌≤ℤ◌, cond, unwrap_or, int_lt, true, false, None, Some, MatchResult};
+ghost use Rattle.std.specs.Prelude.{◌≡◌, ◌+◌, ◌^◌, pos, ◌+ℤ◌, ◌-ℤ◌, ◌≤ℤ◌, cond, unwrap_or, int_lt, true, false, None, Some, MatchResult};
 ghost use Rattle.page_env.specs.Settings.{state_at};
+ghost use Rattle.page_env.specs.Numbers.{IsWithin};
 ghost use Rattle.page_env.specs.Mark.{is_inside};
 ghost use Rattle.page_env.specs.Effect.{Reads, first_finding};
 ghost use Rattle.page_env.specs.FontInForce.{font_reads, request_of};
-ghost use Rattle.page_env.specs.Places.{place_between, column_with, column_of, column_reads, geometry_of, vertical_place};
+ghost use Rattle.page_env.specs.Places.{place_between, column_with, column_of, column_reads, geometry_of, origin_of, vertical_place};
 ghost use Rattle.page_env.specs.Text.{edge_checks, character_checks, character_box, text_reads, space, transparent_space, character, print_byte, print_transparent};
 ghost use Rattle.page_env.specs.Answers.{Prints};
 
@@ -15,7 +16,8 @@ use crate::font_in_force::font_request;
 use crate::mark::{Bounds, Glyph};
 use crate::page::{Coordinate, Cursor, JobSettings, Page};
 use crate::places::{
-    column, column_width, geometry_and_vertical, length_at, right_margin, span_between, sum_between,
+    Origin, SheetPlace, column, column_width, geometry_and_vertical, geometry_origin_and_vertical,
+    length_at, length_between, on_sheet, right_margin, span_between,
 };
 use device_profile::{Field, FontRequest, FontRow, Geometry, Profile};
 use std::alloc::Allocator;
@@ -35,19 +37,21 @@ fn space_place<A: Allocator>(
     Ok((geometry, y, column))
 }
 
-/// The page in force, the vertical place of the cursor, and the font request.
+/// The page in force, where it begins on the sheet, the vertical place of the cursor, and the font
+/// request.
 #[inline(always)]
 #[tactic(auto, unfolding(crate::specs::Text::text_reads))]
 fn character_place<A: Allocator>(
     profile: &Profile<A>,
     page: &Page,
-) -> Result<(Geometry, Coordinate, FontRequest), Field>
+) -> Result<(Geometry, Origin, Coordinate, FontRequest), Field>
     ensures { Reads page.now.env (text_reads page.now.cursor.y (font_reads page.now.env.job.font))
-        (λ panel. (geometry_of profile.now (state_at panel page.now), vertical_place (state_at panel page.now), request_of profile.now (state_at panel page.now))) result }
+        (λ panel. let state = state_at panel page.now in
+        (geometry_of profile.now state, origin_of profile.now state, vertical_place state, request_of profile.now state)) result }
 {
-    let (geometry, y) = geometry_and_vertical(profile, page)?;
+    let (geometry, origin, y) = geometry_origin_and_vertical(profile, page)?;
     let request = font_request(profile, page)?;
-    Ok((geometry, y, request))
+    Ok((geometry, origin, y, request))
 }
 
 /// A place so many ticks behind another, unless that is past a limit.
@@ -77,36 +81,38 @@ fn behind(right: Length, width: Length, x: Length, column: u64) -> Result<Length
     }
 }
 
-/// A place so far above a place behind an origin, if it lies between two bounds.
-fn above(origin: Length, place: i64, by: Length, low: Length, high: Length) -> Option<Length>
-    ensures { result ≡ place_between low high (origin +ℤ place -ℤ by) }
+/// A place so far above another, if it lies between two bounds.
+fn above(place: i64, by: Length, low: Length, high: Length) -> Option<Length>
+    requires { IsWithin (2 ^ 61 + 2 ^ 51) place }
+    ensures { result ≡ place_between low high (place -ℤ by) }
 {
-    sum_between(origin.ticks() - by.ticks(), place, low, high)
+    length_between(low, high, place - by.ticks())
 }
 
-/// A place so far below a place behind an origin, if it lies between two bounds.
-fn below(origin: Length, place: i64, by: Length, low: Length, high: Length) -> Option<Length>
-    ensures { result ≡ place_between low high (origin +ℤ place +ℤ by) }
+/// A place so far below another, if it lies between two bounds.
+fn below(place: i64, by: Length, low: Length, high: Length) -> Option<Length>
+    requires { IsWithin (2 ^ 61 + 2 ^ 51) place }
+    ensures { result ≡ place_between low high (place +ℤ by) }
 {
-    sum_between(origin.ticks() + by.ticks(), place, low, high)
+    length_between(low, high, place + by.ticks())
 }
 
-/// The box of a character with its reference point at a place of the logical page, if it lies within the printable area.
+/// The box of a character with its reference point at a place of the sheet, if it lies within the
+/// printable area.
 #[tactic(auto, unfolding(crate::specs::Mark::is_inside))]
 fn box_inside<A: Allocator>(
     geometry: &Geometry,
     face: &FontRow<A>,
-    x: Length,
-    y: Coordinate,
+    place: SheetPlace,
 ) -> Option<Bounds>
-    ensures { let box = character_box geometry.now face.now x y in
+    ensures { let box = character_box face.now place.x place.y in
         result ≡ cond (is_inside geometry.now box) (Some box) None }
 {
     let (low, high) = (geometry.printable_left, geometry.printable_right);
-    let (left, right) = span_between(geometry.logical_left, x.ticks(), face.advance(), low, high)?;
+    let (left, right) = span_between(place.x, face.advance(), low, high)?;
     let (low, high) = (geometry.printable_top, geometry.printable_bottom);
-    let top = above(geometry.logical_top, y.ticks(), face.ascent(), low, high)?;
-    let bottom = below(geometry.logical_top, y.ticks(), face.descent(), low, high)?;
+    let top = above(place.y, face.ascent(), low, high)?;
+    let bottom = below(place.y, face.descent(), low, high)?;
     Some(Bounds {
         left,
         top,
@@ -125,22 +131,22 @@ fn baseline(top: Length, bottom: Length, ascent: Length, descent: Length) -> Len
     length_at(i128::from(top.ticks()) + i128::from(ascent.ticks()))
 }
 
-/// A character of a face with its reference point at a place of the logical page, if it lies within the printable area.
+/// A character of a face with its reference point at a place of the sheet, if it lies within the
+/// printable area.
 // Inlined, so that nothing is put together that the caller takes apart.
 #[inline(always)]
 pub(crate) fn glyph_inside<A: Allocator>(
     geometry: &Geometry,
     face: &FontRow<A>,
-    x: Length,
-    y: Coordinate,
+    place: SheetPlace,
     code: u8,
     request: FontRequest,
 ) -> Option<Glyph>
-    ensures { let box = character_box geometry.now face.now x y in
+    ensures { let box = character_box face.now place.x place.y in
         result ≡ cond (is_inside geometry.now box)
-        (Some (record { code = code; request = request; y = geometry.now.logical_top +ℤ y; bounds = box })) None }
+        (Some (record { code = code; request = request; y = place.y; bounds = box })) None }
 {
-    match box_inside(geometry, face, x, y) {
+    match box_inside(geometry, face, place) {
         None => None,
         Some(bounds) => {
             let y = baseline(bounds.top, bounds.bottom, face.ascent(), face.descent());
@@ -154,22 +160,23 @@ pub(crate) fn glyph_inside<A: Allocator>(
     }
 }
 
-/// A character of a face at the cursor, where its vertical place is this, and where the cursor stands behind it.
+/// A character of a face at the cursor, which stands at this place of the sheet, and where the
+/// cursor stands behind it.
 fn judged<A: Allocator>(
     geometry: &Geometry,
     face: &FontRow<A>,
     page: &Page,
-    y: Coordinate,
+    place: SheetPlace,
     code: u8,
     request: FontRequest,
 ) -> Result<(Length, Glyph), Finding>
     ensures { let x = page.now.cursor.x in
         let right = unwrap_or page.now.env.job.right_margin geometry.now.logical_width in
         let behind = x +ℤ pos (column_with page.now.env.job.hmi face.now) in
-        let box = character_box geometry.now face.now x y in
+        let box = character_box face.now place.x place.y in
         let checks = character_checks geometry.now face.now code right x behind box in
         MatchResult result
-        (λ answer. (answer ≡ (behind, record { code = code; request = request; y = geometry.now.logical_top +ℤ y; bounds = box })) × (first_finding checks ≡ None))
+        (λ answer. (answer ≡ (behind, record { code = code; request = request; y = place.y; bounds = box })) × (first_finding checks ≡ None))
         (λ finding. first_finding checks ≡ Some finding) }
 {
     if !face.has_code(code) {
@@ -179,7 +186,7 @@ fn judged<A: Allocator>(
     let column = column_width(&page.env.job, face);
     match behind(right, geometry.logical_width, page.cursor.x, column) {
         Err(finding) => Err(finding),
-        Ok(after) => match glyph_inside(geometry, face, page.cursor.x, y, code, request) {
+        Ok(after) => match glyph_inside(geometry, face, place, code, request) {
             None => Err(Finding::NotPrintable),
             Some(glyph) => Ok((after, glyph)),
         },
@@ -194,11 +201,12 @@ fn print_character<A: Allocator>(
 ) -> Result<Option<Glyph>, Finding>
     ensures { Prints (λ s. character profile.now s code) page.old page.new result }
 {
-    let (geometry, y, request) = character_place(profile, page)?;
+    let (geometry, origin, y, request) = character_place(profile, page)?;
     let Some(face) = profile.font(&request) else {
         return Err(Finding::NoFont);
     };
-    let (x, glyph) = judged(&geometry, face, page, y, code, request)?;
+    let place = on_sheet(origin, page.cursor.x, y);
+    let (x, glyph) = judged(&geometry, face, page, place, code, request)?;
     page.cursor = Cursor { x, y: Some(y) };
     page.marked = true;
     Ok(Some(glyph))
@@ -228,7 +236,7 @@ fn print_transparent_space<A: Allocator>(
 ) -> Result<Option<Glyph>, Finding>
     ensures { Prints (λ s. transparent_space profile.now s) page.old page.new result }
 {
-    let (geometry, y, request) = character_place(profile, page)?;
+    let (geometry, _, y, request) = character_place(profile, page)?;
     let Some(face) = profile.font(&request) else {
         return Err(Finding::NoFont);
     };

@@ -9,7 +9,7 @@ ghost use Rattle.device_profile.specs.declared.panel.Panel.{Panel};
 ghost use Rattle.page_env.specs.Settings.{state_at};
 ghost use Rattle.page_env.specs.Effect.{first_unset};
 ghost use Rattle.page_env.specs.FontInForce.{font_reads, request_of};
-ghost use Rattle.page_env.specs.Places.{geometry_of};
+ghost use Rattle.page_env.specs.Places.{geometry_of, origin_of};
 ghost use Rattle.page_env.specs.Mark.{is_inside};
 ghost use Rattle.page_env.specs.Lanes.{first_set};
 ghost use Rattle.page_env.specs.TextRun.{AllGo, CanGoIn, GoFirst, IsRun, page_behind_all, glyph_count};
@@ -18,7 +18,7 @@ ghost use Rattle.page_env.specs.TextMeasure.{HasMeasure, HasColumns, GoLike, IsM
 use crate::font_in_force::font_request;
 use crate::mark::Bounds;
 use crate::page::{Coordinate, Page};
-use crate::places::{column_width, length_at, right_margin};
+use crate::places::{Origin, column_width, known_geometry, length_at, on_sheet, right_margin};
 use crate::text::glyph_inside;
 use device_profile::{CodeRange, Field, FontRequest, FontRow, Geometry, Profile, are_same_ranges};
 use std::alloc::Allocator;
@@ -57,6 +57,7 @@ struct TextMeasure<'p, A: Allocator> {
     column: u64,
     right: Length,
     geometry: &'p Geometry,
+    origin: Origin,
     y: Coordinate,
 }
 
@@ -71,31 +72,30 @@ impl<'p, A: Allocator> Model for TextMeasure<'p, A> {
       column = m.column;
       right = m.right;
       geometry = m.geometry.now;
+      origin = m.origin;
       y = m.y;
     } };
 }
 
-/// The page in force, lent, and the font request, where both are known whatever the panel.
+/// The page in force, lent, where it begins on the sheet, and the font request, if these are known
+/// whatever the panel.
 #[inline(always)]
 fn page_and_request<'p, A: Allocator>(
     profile: &'p Profile<A>,
     page: &Page,
-) -> Option<(&'p Geometry, FontRequest)>
+) -> Option<(&'p Geometry, Origin, FontRequest)>
     ensures { IfSome result (λ known. (panel : Panel) → let state = state_at panel page.now in
         (first_unset state.settings (Field.Size ∷ Field.Orientation ∷ font_reads page.now.env.job.font) ≡ None)
-        × (geometry_of profile.now state ≡ known.0.now) × (request_of profile.now state ≡ known.1)) }
+        × (geometry_of profile.now state ≡ known.0.now) × (origin_of profile.now state ≡ known.1)
+        × (request_of profile.now state ≡ known.2)) }
 {
-    let fields = &page.env.fields;
-    let (Ok(size), Ok(orientation)) = (
-        fields.size.known(Field::Size),
-        fields.orientation.known(Field::Orientation),
-    ) else {
+    let Some((geometry, origin)) = known_geometry(profile, page) else {
         return None;
     };
     let Ok(request) = font_request(profile, page) else {
         return None;
     };
-    Some((profile.geometry(size, orientation)?, request))
+    Some((geometry, origin, request))
 }
 
 /// What text takes from the settings, where it is known, a face answers the font request and no raster is started.
@@ -110,7 +110,9 @@ fn text_measure<'p, A: Allocator>(
         return None;
     }
     let y = page.cursor.y?;
-    let (geometry, request) = page_and_request(profile, page)?;
+    let Some((geometry, origin, request)) = page_and_request(profile, page) else {
+        return None;
+    };
     let face = profile.font(&request)?;
     let column = column_width(&page.env.job, face);
     let right = right_margin(&page.env.job, geometry);
@@ -120,6 +122,7 @@ fn text_measure<'p, A: Allocator>(
         column,
         right,
         geometry,
+        origin,
         y,
     })
 }
@@ -129,7 +132,8 @@ fn look_from<A: Allocator>(measure: &TextMeasure<'_, A>, x: Length) -> Option<Lo
     ensures { IfSome result (λ look. (look ≡ look_at measure.now x) × (is_inside measure.now.geometry (box_at measure.now x) ≡ true)) }
 {
     let request = measure.request;
-    let space = glyph_inside(measure.geometry, measure.face, x, measure.y, b' ', request)?;
+    let place = on_sheet(measure.origin, x, measure.y);
+    let space = glyph_inside(measure.geometry, measure.face, place, b' ', request)?;
     Some(Look {
         request,
         y: space.y,
@@ -165,13 +169,17 @@ fn edge_from<A: Allocator>(measure: &TextMeasure<'_, A>, x: Length) -> Length
 }
 
 /// The last place on the logical page where a character ends in the printable area.
-fn last_place<A: Allocator>(geometry: &Geometry, face: &FontRow<A>) -> Option<Length>
-    ensures value { IfSome result (λ last. last ≡ (geometry.now.printable_right -ℤ geometry.now.logical_left) -ℤ face.now.advance) }
+fn last_place<A: Allocator>(
+    geometry: &Geometry,
+    origin: Origin,
+    face: &FontRow<A>,
+) -> Option<Length>
+    ensures value { IfSome result
+        (λ last. last ≡ (geometry.now.printable_right -ℤ origin.x) -ℤ face.now.advance) }
     ensures ahead { pos 0 ≤ℤ face.now.advance }
 {
-    let advance = face.advance();
-    let right = geometry.printable_right.checked_sub(geometry.logical_left)?;
-    right.checked_sub(advance)
+    let right = geometry.printable_right.ticks() - origin.x.ticks();
+    Length::from_ticks(right - face.advance().ticks())
 }
 
 /// How many columns from a place end at an edge and begin up to a last place.
@@ -190,7 +198,7 @@ fn columns_ahead<A: Allocator>(measure: &TextMeasure<'_, A>, x: Length) -> u64
     requires { is_inside measure.now.geometry (box_at measure.now x) ≡ true }
     ensures { (n : ℕ) → n ≤ result → HasColumns measure.now x n }
 {
-    let Some(last) = last_place(measure.geometry, measure.face) else {
+    let Some(last) = last_place(measure.geometry, measure.origin, measure.face) else {
         return 0;
     };
     let edge = edge_from(measure, x);

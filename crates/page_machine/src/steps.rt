@@ -1,11 +1,12 @@
 //! Steps: what carries out an item or a part of one without the closing of a page and without a macro.
 
-ghost use Rattle.std.specs.Prelude.{ℤ, Option, Ok, ◌≡◌, ◌≤◌, [], true, false, length, MatchOption};
+ghost use Rattle.std.specs.Prelude.{ℤ, List, Option, Ok, ◌≡◌, ◌≤◌, [], true, false, length, MatchOption};
 ghost use Rattle.device_profile.specs.declared.panel.Panel.{Panel};
 ghost use Rattle.page_env.specs.Answers.{effect_at, marked_at};
 ghost use Rattle.page_env.specs.Effect.{Effect, Goes};
-ghost use Rattle.page_env.specs.Mark.{characters_of, lines_of, shapes_of};
+ghost use Rattle.page_env.specs.Mark.{Shape, areas_of, characters_of, lines_of, shapes_of};
 ghost use Rattle.page_env.specs.Settings.{state_at};
+ghost use Rattle.page_env.specs.declared.page.Page.{Page};
 ghost use Rattle.page_env.specs.Table.{is_step, page_end_of};
 ghost use Rattle.pcl_items.specs.declared.pcl.command.DataCommand.TheVariants.{RasterRow as RasterRowCommand};
 ghost use Rattle.pcl_items.specs.declared.pcl.command.Command.TheVariants.{FillRectangle};
@@ -19,9 +20,9 @@ ghost use Rattle.page_machine.specs.Follows.{Follows};
 use crate::sink::MarkSink;
 use device_profile::Profile;
 use page_env::{
-    Carried, Finding, Glyph, Mark, Page, PageEnd, PenLine, begin_item, carry_out, carry_out_motion,
-    carry_out_step, fill_rectangle, fill_value, motion_of, move_pen, print_byte, print_row,
-    print_transparent, step_of,
+    Area, Carried, Finding, Glyph, Mark, Page, PageEnd, PenLine, begin_item, carry_out,
+    carry_out_motion, carry_out_step, fill_rectangle, fill_value, motion_of, move_pen, print_byte,
+    print_row, print_transparent, step_of,
 };
 use pcl_items::{Command, Coordinates, Data, DataCommand, Item, Motion, Number};
 use std::alloc::Allocator;
@@ -54,81 +55,62 @@ pub(crate) fn end_page<S: MarkSink>(
     }
 }
 
-/// Hands over what a step of text printed.
-fn hand_over<S: MarkSink>(
-    printed: Result<Option<Glyph>, Finding>,
-    page: &Page,
-    sink: &mut S,
-) -> Result<(), Halt<S::Fault>>
-    ensures { (conditions : Panel → Conditions) (effect : Panel → Effect) →
-        ((panel : Panel) → effect panel ≡ marked_at characters_of panel page.now printed) →
-        Follows S.takes S.refuses (λ panel. effect_run (conditions panel) (effect panel))
-        sink.old sink.new page.now result }
-{
-    match printed {
-        Err(finding) => Err(Halt::Found(finding)),
-        Ok(None) => Ok(()),
-        Ok(Some(glyph)) => match sink.mark(&Mark::Glyph(glyph)) {
-            Err(fault) => Err(Halt::Refused(fault)),
-            Ok(()) => Ok(()),
-        },
-    }
+/// What a step answers that may mark, but for a row, which is a mark itself.
+trait Marking<'a> {
+    /// Its marks, at most one.
+    ghost shapes: { Self → List Shape };
+
+    /// The mark, if there is one.
+    fn mark(self) -> Option<Mark<'a>>
+        ensures { shapes_of result ≡ shapes self };
 }
 
-/// Prints a byte of text.
-// A call of its own: most text goes in runs, and other items pay for what is put together here.
-#[inline(never)]
-fn run_text<S: MarkSink, A: Allocator>(
-    profile: &Profile<A>,
-    code: u8,
-    page: &mut Page,
-    sink: &mut S,
-) -> Result<(), Halt<S::Fault>>
-    ensures { (conditions : Panel → Conditions) → Follows S.takes S.refuses
-        (λ panel. begun_run profile.now (conditions panel) (Text code) (state_at panel page.old))
-        sink.old sink.new page.new result }
-{
-    let printed = print_byte(profile, page, code);
-    hand_over(printed, page, sink)
-}
+impl<'a> Marking<'a> for Option<Glyph> {
+    ghost shapes = { characters_of };
 
-/// Prints a byte of transparent print data.
-fn run_byte<S: MarkSink, A: Allocator>(
-    profile: &Profile<A>,
-    code: u8,
-    page: &mut Page,
-    sink: &mut S,
-) -> Result<(), Halt<S::Fault>>
-    ensures { (conditions : Panel → Conditions) → Follows S.takes S.refuses
-        (λ panel. byte_run profile.now (conditions panel) code (state_at panel page.old))
-        sink.old sink.new page.new result }
-{
-    let printed = print_transparent(profile, page, code);
-    hand_over(printed, page, sink)
-}
-
-/// Prints bytes of transparent print data one after another.
-#[inline(never)]
-fn run_bytes<S: MarkSink, A: Allocator>(
-    profile: &Profile<A>,
-    bytes: &[u8],
-    page: &mut Page,
-    sink: &mut S,
-) -> Result<(), Halt<S::Fault>>
-    ensures { (conditions : Panel → Conditions) → Follows S.takes S.refuses
-        (λ panel. printing profile.now (conditions panel) (unmoved (state_at panel page.old)) bytes.now)
-        sink.old sink.new page.new result }
-{
-    for code in bytes {
-        match run_byte(profile, *code, page, sink) {
-            Err(halt) => return Err(halt),
-            Ok(()) => {}
+    #[inline(always)]
+    fn mark(self) -> Option<Mark<'a>> {
+        match self {
+            None => None,
+            Some(glyph) => Some(Mark::Glyph(glyph)),
         }
     }
-    Ok(())
+}
+
+impl<'a> Marking<'a> for Option<PenLine> {
+    ghost shapes = { lines_of };
+
+    #[inline(always)]
+    fn mark(self) -> Option<Mark<'a>> {
+        match self {
+            None => None,
+            Some(line) => Some(Mark::Line(line)),
+        }
+    }
+}
+
+impl<'a> Marking<'a> for Area {
+    ghost shapes = { areas_of };
+
+    #[inline(always)]
+    fn mark(self) -> Option<Mark<'a>> {
+        Some(Mark::Rect(self))
+    }
+}
+
+/// The mark of an answer.
+#[inline(always)]
+fn marked<'a, T: Marking<'a>>(answer: Result<T, Finding>) -> Result<Option<Mark<'a>>, Finding>
+    ensures { (panel : Panel) (page : Page) → marked_at T.shapes panel page answer ≡ marked_at shapes_of panel page result }
+{
+    match answer {
+        Err(finding) => Err(finding),
+        Ok(answer) => Ok(answer.mark()),
+    }
 }
 
 /// Hands over a mark, if there is one.
+#[inline(always)]
 fn hand_over_mark<S: MarkSink>(
     mark: &Option<Mark<'_>>,
     page: &Page,
@@ -148,21 +130,73 @@ fn hand_over_mark<S: MarkSink>(
     }
 }
 
-/// Hands over what a row of a raster printed.
-fn hand_over_row<S: MarkSink>(
-    printed: &Result<Option<Mark<'_>>, Finding>,
+/// Hands over what a step marked.
+// Inlined, so that no mark is put together for a sink that only counts.
+#[inline(always)]
+fn hand_over<S: MarkSink>(
+    marked: &Result<Option<Mark<'_>>, Finding>,
     page: &Page,
     sink: &mut S,
 ) -> Result<(), Halt<S::Fault>>
     ensures { (conditions : Panel → Conditions) (effect : Panel → Effect) →
-        ((panel : Panel) → effect panel ≡ marked_at shapes_of panel page.now printed.now) →
+        ((panel : Panel) → effect panel ≡ marked_at shapes_of panel page.now marked.now) →
         Follows S.takes S.refuses (λ panel. effect_run (conditions panel) (effect panel))
         sink.old sink.new page.now result }
 {
-    match printed {
+    match marked {
         Err(finding) => Err(Halt::Found(*finding)),
-        Ok(row) => hand_over_mark(row, page, sink),
+        Ok(mark) => hand_over_mark(mark, page, sink),
     }
+}
+
+/// Prints a byte of text.
+// A call of its own: most text goes in runs, and other items pay for what is put together here.
+#[inline(never)]
+fn run_text<S: MarkSink, A: Allocator>(
+    profile: &Profile<A>,
+    code: u8,
+    page: &mut Page,
+    sink: &mut S,
+) -> Result<(), Halt<S::Fault>>
+    ensures { (conditions : Panel → Conditions) → Follows S.takes S.refuses
+        (λ panel. begun_run profile.now (conditions panel) (Text code) (state_at panel page.old))
+        sink.old sink.new page.new result }
+{
+    let printed = marked(print_byte(profile, page, code));
+    hand_over(&printed, page, sink)
+}
+
+/// Prints a byte of transparent print data.
+fn run_byte<S: MarkSink, A: Allocator>(
+    profile: &Profile<A>,
+    code: u8,
+    page: &mut Page,
+    sink: &mut S,
+) -> Result<(), Halt<S::Fault>>
+    ensures { (conditions : Panel → Conditions) → Follows S.takes S.refuses
+        (λ panel. byte_run profile.now (conditions panel) code (state_at panel page.old))
+        sink.old sink.new page.new result }
+{
+    let printed = marked(print_transparent(profile, page, code));
+    hand_over(&printed, page, sink)
+}
+
+/// Prints bytes of transparent print data one after another.
+#[inline(never)]
+fn run_bytes<S: MarkSink, A: Allocator>(
+    profile: &Profile<A>,
+    bytes: &[u8],
+    page: &mut Page,
+    sink: &mut S,
+) -> Result<(), Halt<S::Fault>>
+    ensures { (conditions : Panel → Conditions) → Follows S.takes S.refuses
+        (λ panel. printing profile.now (conditions panel) (unmoved (state_at panel page.old)) bytes.now)
+        sink.old sink.new page.new result }
+{
+    for code in bytes {
+        run_byte(profile, *code, page, sink)?;
+    }
+    Ok(())
 }
 
 /// Prints a row of a raster.
@@ -180,28 +214,7 @@ fn run_row<S: MarkSink, A: Allocator>(
         sink.old sink.new page.new result }
 {
     let printed = print_row(profile, page, bytes);
-    hand_over_row(&printed, page, sink)
-}
-
-/// Hands over what a step of the pen drew.
-fn hand_over_line<S: MarkSink>(
-    drawn: Result<Option<PenLine>, Finding>,
-    page: &Page,
-    sink: &mut S,
-) -> Result<(), Halt<S::Fault>>
-    ensures { (conditions : Panel → Conditions) (effect : Panel → Effect) →
-        ((panel : Panel) → effect panel ≡ marked_at lines_of panel page.now drawn) →
-        Follows S.takes S.refuses (λ panel. effect_run (conditions panel) (effect panel))
-        sink.old sink.new page.now result }
-{
-    match drawn {
-        Err(finding) => Err(Halt::Found(finding)),
-        Ok(None) => Ok(()),
-        Ok(Some(line)) => match sink.mark(&Mark::Line(line)) {
-            Err(fault) => Err(Halt::Refused(fault)),
-            Ok(()) => Ok(()),
-        },
-    }
+    hand_over(&printed, page, sink)
 }
 
 /// Carries out the own step of a command that moves the pen.
@@ -215,8 +228,8 @@ fn run_own_motion<S: MarkSink, A: Allocator>(
         (λ panel. own_run profile.now (conditions panel) (Move motion to) (state_at panel page.old))
         sink.old sink.new page.new result }
 {
-    let drawn = carry_out_motion(profile, page, motion);
-    hand_over_line(drawn, page, sink)
+    let drawn = marked(carry_out_motion(profile, page, motion));
+    hand_over(&drawn, page, sink)
 }
 
 /// Moves the pen to a pair of coordinates.
@@ -230,8 +243,8 @@ fn run_move<S: MarkSink, A: Allocator>(
         (λ panel. move_run profile.now (conditions panel) (to.x.units, to.y.units) (state_at panel page.old))
         sink.old sink.new page.new result }
 {
-    let drawn = move_pen(profile, page, to);
-    hand_over_line(drawn, page, sink)
+    let drawn = marked(move_pen(profile, page, to));
+    hand_over(&drawn, page, sink)
 }
 
 /// Carries out a command that moves the pen: its own step, and then the move to its coordinates.
@@ -248,12 +261,10 @@ fn move_and_draw<S: MarkSink, A: Allocator>(
         (λ panel. begun_run profile.now (conditions panel) (Move motion (pair to)) (state_at panel page.old))
         sink.old sink.new page.new result }
 {
-    match run_own_motion(profile, motion, page, sink) {
-        Err(halt) => Err(halt),
-        Ok(()) => match to {
-            None => Ok(()),
-            Some(to) => run_move(profile, to, page, sink),
-        },
+    run_own_motion(profile, motion, page, sink)?;
+    match to {
+        None => Ok(()),
+        Some(to) => run_move(profile, to, page, sink),
     }
 }
 
@@ -290,13 +301,8 @@ fn fill_and_mark<S: MarkSink, A: Allocator>(
         (λ panel. begun_run profile.now (conditions panel) (Parameterized FillRectangle (amount n)) (state_at panel page.old))
         sink.old sink.new page.new result }
 {
-    match fill_rectangle(profile, page, n) {
-        Err(finding) => Err(Halt::Found(finding)),
-        Ok(area) => match sink.mark(&Mark::Rect(area)) {
-            Err(fault) => Err(Halt::Refused(fault)),
-            Ok(()) => Ok(()),
-        },
-    }
+    let filled = marked(fill_rectangle(profile, page, n));
+    hand_over(&filled, page, sink)
 }
 
 /// Fills a rectangle.

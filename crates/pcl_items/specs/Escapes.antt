@@ -7,4 +7,5 @@ pub mod Lone
 pub mod ValueField
 pub mod FieldFaults
 pub mod Field
+pub mod FieldEnd
 pub mod ReadCommands

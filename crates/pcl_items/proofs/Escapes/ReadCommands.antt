@@ -1,18 +1,22 @@
 -- Parameterized commands that stand first.
 use Rattle.std.proofs.Common.{◌≡◌, ℕ, ◌+◌, ◌≤◌, ◌<◌, ◌-◌, List, [], ◌∷◌, length, get_or, take, drop, Bool, true, false, None, Some, sym, ap, subst, ◌∙◌, arith}
-use Rattle.std.specs.Prelude.{nat_le}
+use Rattle.std.specs.Prelude.{nat_le, Option, IfSome}
 use Rattle.std.proofs.lemmas.Bool.{cond-true, cond-false, and_from, le-leb}
 use Rattle.pcl_items.specs.declared.pcl.command.Group.{Group}
 use Rattle.pcl_items.specs.declared.pcl.command.Command.{Command}
+use Rattle.pcl_items.specs.declared.pcl.field.EndedField.{EndedField}
+use Rattle.pcl_items.specs.declared.pcl.parameterized.ReadCommand.{ReadCommand}
 use Rattle.pcl_items.specs.Lexing.Contexts.{Pcl, Sequence}
 use Rattle.pcl_items.specs.Escapes.Commands.{introducer_of, group_of, group_at, command_at, data_command_at}
-use Rattle.pcl_items.specs.Items.{Parameterized, WithData}
+use Rattle.pcl_items.specs.Escapes.FieldEnd.{Ended, field_end}
+use Rattle.pcl_items.specs.Items.{Parameterized, WithData, amount}
 use Rattle.pcl_items.specs.Reader.{Begins, behind, named, by_last_letter, by_other_letter, by_last_byte, command_in, is_group_or_parameter, is_termination, first_of}
 use Rattle.pcl_items.specs.Escapes.Value.{Amount}
 use Rattle.pcl_items.specs.Lexing.FirstView.{context_view}
 use Rattle.pcl_items.specs.declared.pcl.command_with_data.ReadWithData.{ReadWithData}
-use Rattle.pcl_items.specs.Escapes.ReadCommands.{first_with_data}
+use Rattle.pcl_items.specs.Escapes.ReadCommands.{IsInGroup, IsEndedBy, first_with_data}
 use Rattle.std.proofs.lemmas.List.{take_all, drop-drop}
+use Rattle.pcl_items.proofs.Escapes.FieldEnds.{command_by}
 use Rattle.pcl_items.proofs.Escapes.Heads.{group_read}
 use Rattle.pcl_items.proofs.Reading.ReadsTo.{same_between}
 use Rattle.pcl_items.proofs.Escapes.Tables.{group_found, command_found, capital_letter, no_data}
@@ -94,3 +98,9 @@ with_data_behind read (i ∷ c ∷ bytes) two h =
     let same : drop (read.len - n) bytes ≡ drop (3 + read.len - n) (27 ∷ i ∷ c ∷ bytes) = drop-drop (read.len - n) 3 (27 ∷ i ∷ c ∷ bytes) ∙ ap (λ m. drop m (27 ∷ i ∷ c ∷ bytes)) before in
     ap (λ l. behind 3 (first_with_data read l)) all
     ∙ ap (λ l. Begins (WithData read.command (take n l)) (3 + read.len) (context_view read.next)) same
+
+-- the command that ends a field is that of its group
+pub in_group : (result : Option ReadCommand) (g : Group) (field : EndedField) (bytes : List ℕ) → Ended (amount field.number) field.len field.last ≡ field_end bytes → field.len < length bytes →
+    IfSome result (λ read. IsEndedBy read g field) → IfSome result (λ read. IsInGroup read g bytes)
+in_group None g field bytes e inside h = tt
+in_group (Some read) g field bytes e inside h = (sym (command_by g bytes _ e) ∙ h.0 (drop (field.len + 1) bytes), omega (arith, h.1, inside))

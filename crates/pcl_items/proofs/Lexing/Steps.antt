@@ -297,6 +297,10 @@ allows old (Ok answers.NeedMore) new a = (a.1, a.2)
 allows old (Ok answers.End) new a = (a.1, a.2, a.3)
 allows old (Err fault) new a = (a.1, a.2)
 
+-- an answer behind a call that left all as it was
+pub next_behind : (old between new : LexerState) (result : Result Lexed LexFault) → between ≡ old → IsNext between result new → IsNext old result new
+next_behind old between new result e next = subst (λ (s : LexerState). IsNext s result new) e next
+
 pub is_next : (old : LexerState) (result : Result Lexed LexFault) (new : LexerState) → Answers old result new → IsNext old result new
 is_next old result new a =
     let g = goes old result new a in

@@ -2,7 +2,7 @@
 use Rattle.std.specs.Prelude.{◌≡◌, ◌≤◌, ◌+◌, ◌-◌, ℕ, List, length, take, drop, Bool, Some}
 use Rattle.pcl_items.specs.declared.pcl.command.Group.{Group}
 use Rattle.pcl_items.specs.Lexing.Contexts.{Context}
-use Rattle.pcl_items.specs.declared.number.Number.{Number}
+use Rattle.pcl_items.specs.declared.pcl.field.EndedField.{EndedField}
 use Rattle.pcl_items.specs.declared.pcl.parameterized.ReadCommand.{ReadCommand}
 use Rattle.pcl_items.specs.declared.pcl.command_with_data.ReadWithData.{ReadWithData}
 use Rattle.pcl_items.specs.Items.{amount, Parameterized, WithData}
@@ -21,9 +21,10 @@ IsAhead read context bytes = ((whole : Bool) → first_of whole context bytes �
 abbrev pub IsInGroup : ReadCommand → Group → List ℕ → Type 0
 IsInGroup read group bytes = (command_in group bytes ≡ first_by read) × (read.len ≤ length bytes)
 
--- this byte ends the command, behind a field of so many characters
-abbrev pub IsEndedBy : ReadCommand → Group → Number → ℕ → ℕ → Type 0
-IsEndedBy read group number len last = ((bytes : List ℕ) → by_last_byte (Some (amount number)) group len last bytes ≡ first_by read) × (read.len ≡ len + 1)
+-- the byte behind the field ends the command
+abbrev pub IsEndedBy : ReadCommand → Group → EndedField → Type 0
+IsEndedBy read group field =
+    ((bytes : List ℕ) → by_last_byte (Some (amount field.number)) group field.len field.last bytes ≡ first_by read) × (read.len ≡ field.len + 1)
 
 -- what stands first where this command was read with its data, which end its bytes
 abbrev pub first_with_data : ReadWithData → List ℕ → First

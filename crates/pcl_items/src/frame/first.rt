@@ -1,10 +1,10 @@
 //! What stands first in the bytes of a frame.
 
-ghost use Rattle.std.specs.Prelude.{◌≡◌, ◌≤◌, ◌+◌, ◌^◌, List, ℕ, length};
+ghost use Rattle.std.specs.Prelude.{◌≡◌, ◌≤◌, ◌+◌, ◌^◌, List, ℕ, length, Some};
 ghost use Rattle.std.specs.Option.{option_map};
 ghost use Rattle.pcl_items.specs.Lexing.Contexts.{Single, spaced};
 ghost use Rattle.pcl_items.specs.Lexing.FirstView.{first_view, numbers_view, Within};
-ghost use Rattle.pcl_items.specs.Frames.Reader.{language_in, after_letter, after_frame_escape, at_frame, single, first_number, first_of_pair, second_of_pair, after_letters, further, ended_by, ended, after_numbers};
+ghost use Rattle.pcl_items.specs.Frames.Reader.{language_in, by_language, after_letter, after_frame_escape, at_frame, single, first_number, first_of_pair, second_of_pair, after_letters, further, ended_by, ended, after_numbers};
 ghost use Rattle.pcl_items.specs.Items.{amount, bare, default_of, simple_view};
 ghost use Rattle.pcl_items.specs.Escapes.Lone.{leave_at};
 ghost use Rattle.pcl_items.specs.Frames.NumeralView.{numeral_view, numeral_len};
@@ -16,7 +16,7 @@ use crate::item::SimpleItem;
 use crate::lexer::first::{Context, EXIT, First, Head, Numbers, begins_exit};
 use crate::number::{Magnitude, Number};
 use crate::pcl::counting::handover_of;
-use crate::pcl::field::{MOST_CHARACTERS, longest_field};
+use crate::pcl::field::{EndedField, FieldEnd, field_end};
 
 // ---- between commands
 
@@ -68,25 +68,27 @@ fn escaped_in_frame(bytes: &[u8]) -> First
 }
 
 /// What stands first after ESC and `%`.
-#[tactic(auto, unfolding(crate::specs::Frames::Reader::language_in))]
 fn language(bytes: &[u8]) -> First
     ensures first { (all : List ℕ) → first_view all result ≡ language_in bytes.now }
     ensures within { Within (2 + length bytes.now) result }
 {
-    let field = longest_field(bytes);
-    if field.len > MOST_CHARACTERS {
-        return First::Faulty(Cause::BadNumber);
+    match field_end(bytes) {
+        FieldEnd::Open => First::Open,
+        FieldEnd::BadNumber => First::Faulty(Cause::BadNumber),
+        FieldEnd::Ended(field) => ended_language(field),
     }
-    let Some(last) = bytes.get(field.len) else {
-        return First::Open;
-    };
-    let Some(number) = field.number() else {
-        return First::Faulty(Cause::BadNumber);
-    };
-    match *last {
-        64..=94 => match leave_at(number, *last) {
+}
+
+/// The sequence that a byte ends behind its field.
+fn ended_language(field: EndedField) -> First
+    requires { field.len ≤ 16 }
+    ensures first { (all : List ℕ) → first_view all result ≡ by_language (Some (amount field.number)) field.len field.last }
+    ensures within { Within (field.len + 3) result }
+{
+    match field.last {
+        64..=94 => match leave_at(field.number, field.last) {
             Some(item) => First::Begins(field.len + 3, Head::Simple(item), Context::Pcl),
-            None => First::Faulty(Cause::NotInProfile(Name::Pair(b'%', *last))),
+            None => First::Faulty(Cause::NotInProfile(Name::Pair(b'%', field.last))),
         },
         _ => First::Faulty(Cause::Syntax),
     }

@@ -1,37 +1,47 @@
 //! What stands ahead in a lexer's window, and what is lent of it.
 
-ghost use Rattle.std.specs.Prelude.{◌≡◌, ◌+◌, ◌<◌, ◌≤◌, ◌-◌, ◌^◌, ◌++◌, length, take, drop, IfSome};
-ghost use Rattle.pcl_items.specs.declared.item.Item.TheVariants.{Simple};
+ghost use Rattle.std.specs.Prelude.{◌≡◌, ◌+◌, ◌≤◌, ◌-◌, ◌^◌, ◌++◌, length, take, drop, IfSome};
+ghost use Rattle.pcl_items.specs.declared.item.Item.TheVariants.{Text, Simple};
 ghost use Rattle.pcl_items.specs.Items.{Entry, view};
 ghost use Rattle.pcl_items.specs.Spellings.Canon.{canon, data_of};
-ghost use Rattle.pcl_items.specs.Reader.{first_of};
 ghost use Rattle.pcl_items.specs.Lexing.Contexts.{counted};
-ghost use Rattle.pcl_items.specs.Lexing.FirstView.{context_view, data_len, head_view, HasLine, first_view, Within, FirstHasLine, len_of, counted_after};
+ghost use Rattle.pcl_items.specs.Lexing.FirstView.{context_view, data_len, head_view, HasLine, first_view, Within};
+ghost use Rattle.pcl_items.specs.Reader.{first_of};
 ghost use Rattle.pcl_items.specs.declared.lexer.first.Head.TheVariants.{Line};
 ghost use Rattle.pcl_items.specs.PjlLines.View.{line_view};
 ghost use Rattle.pcl_items.specs.Lexing.Ahead.{IsByte, StandsAhead, IsUndecided};
-ghost use Rattle.pcl_items.specs.Escapes.ReadCommands.{IsAhead};
-ghost use Rattle.pcl_items.specs.Frames.Pairs.{IsPairAhead};
-ghost use Rattle.pcl_items.specs.Lexing.Passing.{ahead_in};
 
 use crate::fault::LexFault;
-use crate::frame::pair::{ReadPair, pair_in};
 use crate::item::{Data, Item, PjlLine, Place, SimpleItem, TextByte};
 use crate::lexer::Lexed;
 use crate::lexer::first::{Context, First, Head, first_in};
 use crate::number::DataCount;
 use crate::pcl::code::control_at;
 use crate::pcl::command_with_data::with_data_in;
-use crate::pcl::parameterized::{ReadCommand, parameterized_in};
 use crate::pjl::line_of;
 
-/// The item of the byte at `start` of the window, where it is one by itself between units: text, or a control code.
+/// The byte of text in front, unless another byte stands there.
 #[inline(always)]
-pub fn byte_ahead(start: usize, window: &[u8]) -> Option<Item<'static>>
-    requires { start ≤ length window.now }
-    ensures { IfSome result (λ item. IsByte item (drop start window.now)) }
+#[tactic(auto, unfolding(crate::specs::Reader::first_of))]
+pub fn text_in(bytes: &[u8]) -> Option<TextByte>
+    ensures { IfSome result (λ byte. IsByte (Text byte) bytes.now) }
 {
-    byte_in(&window[start..])
+    match bytes {
+        [code @ 32..=255, ..] => Some(TextByte { code: *code }),
+        _ => None,
+    }
+}
+
+/// The item of the first byte, where that is a control code.
+#[inline(always)]
+#[tactic(auto, unfolding(crate::specs::Reader::first_of))]
+pub fn control_in(bytes: &[u8]) -> Option<SimpleItem>
+    ensures { IfSome result (λ item. IsByte (Simple item) bytes.now) }
+{
+    match bytes {
+        [32..=255, ..] | [] => None,
+        [code, ..] => control_at(*code),
+    }
 }
 
 /// The item of the first byte, where it is one by itself.
@@ -46,58 +56,6 @@ pub fn byte_in(bytes: &[u8]) -> Option<Item<'static>>
         [code, ..] => Some(Item::Simple(control_at(*code)?)),
         [] => None,
     }
-}
-
-/// The item of the control code at `start` of the window, between units, unless another byte stands there.
-#[inline(always)]
-pub fn control_ahead(start: usize, window: &[u8]) -> Option<SimpleItem>
-    requires { start ≤ length window.now }
-    ensures { IfSome result (λ item. IsByte (Simple item) (drop start window.now)) }
-{
-    control_in(&window[start..])
-}
-
-/// The item of the first byte, where that is a control code.
-#[inline(always)]
-#[tactic(auto, unfolding(crate::specs::Reader::first_of))]
-fn control_in(bytes: &[u8]) -> Option<SimpleItem>
-    ensures { IfSome result (λ item. IsByte (Simple item) bytes.now) }
-{
-    match bytes {
-        [32..=255, ..] | [] => None,
-        [code, ..] => control_at(*code),
-    }
-}
-
-/// The bytes from `start` on, where an item may begin between units; else none.
-#[inline]
-pub fn bytes_ahead(context: Context, start: usize, window: &[u8]) -> &[u8]
-    requires { start ≤ length window.now }
-    ensures { result.now ≡ ahead_in (context_view context) (drop start window.now) }
-{
-    match context {
-        Context::Pcl => &window[start..],
-        _ => &[],
-    }
-}
-
-/// The parameterized command at `start` of the window, unless something else stands there.
-#[inline(always)]
-pub fn command_ahead(context: Context, start: usize, window: &[u8]) -> Option<ReadCommand>
-    requires { start ≤ length window.now }
-    ensures { IfSome result (λ read. IsAhead read (context_view context) (drop start window.now)) }
-{
-    parameterized_in(context, &window[start..])
-}
-
-/// The pair of coordinates at `start` of the window, which stands at this place of the job, unless something else does.
-#[inline(always)]
-pub fn pair_ahead(context: Context, place: Place, start: usize, window: &[u8]) -> Option<ReadPair>
-    requires inside { start ≤ length window.now }
-    requires total { place + length (drop start window.now) ≤ 2 ^ 62 }
-    ensures { IfSome result (λ read. IsPairAhead read (context_view context) place (drop start window.now)) }
-{
-    pair_in(context, place, &window[start..])
 }
 
 /// What stands first in a window behind bytes that end no item.
@@ -122,7 +80,7 @@ pub fn next_ahead(whole: bool, context: Context, start: usize, window: &[u8]) ->
     let mut at = start;
     let mut before = context;
     loop {
-        match first_ahead(whole, before, at, window) {
+        match first_ahead(whole, before, &window[at..]) {
             First::Passes(len, next) => {
                 at += len;
                 before = next;
@@ -138,19 +96,13 @@ pub fn next_ahead(whole: bool, context: Context, start: usize, window: &[u8]) ->
     }
 }
 
-/// What stands first at `start` of the window.
+/// What stands first in the bytes, rows before all else.
 #[inline(always)]
-#[tactic(auto, using(crate::proofs::Lexing::Spans::first_counted))]
-fn first_ahead(whole: bool, context: Context, start: usize, window: &[u8]) -> First
-    requires inside { start ≤ length window.now }
-    requires counts { counted (context_view context) + length (drop start window.now) ≤ 2 ^ 62 }
-    ensures first { first_view (drop start window.now) result ≡ first_of whole (context_view context) (drop start window.now) }
-    ensures within { Within (length (drop start window.now)) result }
-    ensures line { FirstHasLine (drop start window.now) result }
-    ensures counted { counted_after (first_view (drop start window.now) result) ≤ counted (context_view context) + len_of (first_view (drop start window.now) result) }
+fn first_ahead(whole: bool, context: Context, bytes: &[u8]) -> First
+    requires { counted (context_view context) + length bytes.now ≤ 2 ^ 62 }
+    ensures first { first_view bytes.now result ≡ first_of whole (context_view context) bytes.now }
+    ensures within { Within (length bytes.now) result }
 {
-    let bytes = &window[start..];
-    // Most of these are rows.
     match with_data_in(context, bytes) {
         Some(read) => {
             let head = Head::WithData(read.command, read.count);
@@ -200,18 +152,6 @@ pub fn with_its_data(head: Head, len: usize, bytes: &[u8]) -> Item<'_>
         Head::WithData(command, count) => Item::WithData(command, data_before(count, len, bytes)),
         Head::Line => Item::PjlLine(line_before(len, bytes)),
     }
-}
-
-/// The item of `len` bytes at `start` of the window, its data lent.
-#[inline(always)]
-pub fn item_ahead(head: Head, len: usize, start: usize, window: &[u8]) -> Item<'_>
-    requires start { start ≤ length window.now }
-    requires inside { len ≤ length (drop start window.now) }
-    requires there { data_len head ≤ len }
-    requires line { HasLine head len (drop start window.now) }
-    ensures { view result ≡ head_view head len (drop start window.now) }
-{
-    with_its_data(head, len, &window[start..])
 }
 
 /// The answer where the bytes from `start` on decide nothing.

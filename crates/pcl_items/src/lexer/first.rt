@@ -1,8 +1,8 @@
 //! What stands first in bytes.
 
-ghost use Rattle.std.specs.Prelude.{◌≡◌, ◌≤◌, ◌+◌, ◌^◌, ◌∷◌, [], List, ℕ, length, drop, Bool};
+ghost use Rattle.std.specs.Prelude.{◌≡◌, ◌≤◌, ◌<◌, ◌+◌, ◌^◌, ◌∷◌, [], List, ℕ, length, drop, Bool, Some};
 ghost use Rattle.std.specs.Option.{option_map};
-ghost use Rattle.pcl_items.specs.Reader.{command_in, behind_lone, without_group, in_group, after_introducer, after_parenthesis, after_escape, by_line, first_of, behind, by_last_letter, by_other_letter, with_data};
+ghost use Rattle.pcl_items.specs.Reader.{command_in, behind_lone, without_group, in_group, after_introducer, after_parenthesis, after_escape, by_line, first_of, behind, by_last_byte, by_last_letter, by_other_letter, by_termination, with_data};
 ghost use Rattle.pcl_items.specs.Escapes.Commands.{group_at, data_command_at};
 ghost use Rattle.pcl_items.specs.Items.{amount, simple_view};
 ghost use Rattle.pcl_items.specs.Escapes.Lone.{lone_at};
@@ -13,7 +13,7 @@ ghost use Rattle.pcl_items.specs.PjlLines.First.{at_line};
 ghost use Rattle.pcl_items.specs.Lexing.Contexts.{Pcl, Pjl, counted, item_place};
 ghost use Rattle.pcl_items.specs.Fault.{cause_at_end};
 ghost use Rattle.pcl_items.specs.Modes.{mode_of, between, behind_line};
-ghost use Rattle.pcl_items.specs.Lexing.FirstView.{context_view, first_view, Within, FirstHasLine, len_of, counted_after};
+ghost use Rattle.pcl_items.specs.Lexing.FirstView.{context_view, first_view, Within};
 
 use crate::fault::{Cause, Name};
 use crate::frame::first::{after_letters, after_numbers, at_frame};
@@ -23,7 +23,7 @@ use crate::number::{DataCount, Magnitude, Number};
 use crate::pcl::code::{control_at, sequence_at};
 use crate::pcl::command::{Command, DataCommand, Group};
 use crate::pcl::counting::{count_of, handover_of, is_three};
-use crate::pcl::field::{MOST_CHARACTERS, longest_field};
+use crate::pcl::field::{EndedField, FieldEnd, field_end};
 use crate::pjl::{FirstLine, Line, first_line};
 
 /// The numbers of a command of a frame so far.
@@ -123,20 +123,8 @@ pub enum First {
 }
 
 /// What stands first in the bytes, which are all that come or not.
-#[tactic(auto, using(crate::proofs::Lexing::Spans::first_counted, crate::proofs::PjlLines::Heads::first_has_line))]
-pub fn first_in(whole: bool, context: Context, bytes: &[u8]) -> First
-    requires { counted (context_view context) + length bytes.now ≤ 2 ^ 62 }
-    ensures first { first_view bytes.now result ≡ first_of whole (context_view context) bytes.now }
-    ensures within { Within (length bytes.now) result }
-    ensures line { FirstHasLine bytes.now result }
-    ensures counted { counted_after (first_view bytes.now result) ≤ counted (context_view context) + len_of (first_view bytes.now result) }
-{
-    by_context(whole, context, bytes)
-}
-
-#[inline(always)]
 #[tactic(auto, unfolding(crate::specs::Reader::first_of))]
-fn by_context(whole: bool, context: Context, bytes: &[u8]) -> First
+pub fn first_in(whole: bool, context: Context, bytes: &[u8]) -> First
     requires { counted (context_view context) + length bytes.now ≤ 2 ^ 62 }
     ensures first { first_view bytes.now result ≡ first_of whole (context_view context) bytes.now }
     ensures within { Within (length bytes.now) result }
@@ -195,17 +183,8 @@ fn behind_line(line: Line<'_>) -> Context
 }
 
 /// What stands first between the units of mode PCL.
-#[inline(always)]
-pub fn first_between(bytes: &[u8]) -> First
-    ensures first { (whole : Bool) → first_view bytes.now result ≡ first_of whole Pcl bytes.now }
-    ensures within { Within (length bytes.now) result }
-    ensures line { FirstHasLine bytes.now result }
-{
-    between_units(bytes)
-}
-
 #[tactic(auto, unfolding(crate::specs::Reader::first_of))]
-fn between_units(bytes: &[u8]) -> First
+pub fn first_between(bytes: &[u8]) -> First
     ensures first { (whole : Bool) → first_view bytes.now result ≡ first_of whole Pcl bytes.now }
     ensures within { Within (length bytes.now) result }
 {
@@ -294,26 +273,31 @@ fn grouped(introducer: u8, character: u8, bytes: &[u8]) -> First
 }
 
 /// The command of a group that stands first behind the group's characters, or behind a command of the group.
-// Inlined with all that it calls: a job is mostly commands.
+// Inlined with all that it calls: a raster is mostly these.
 #[inline(always)]
-#[tactic(auto, unfolding(crate::specs::Reader::command_in))]
 pub fn command(group: Group, bytes: &[u8]) -> First
     ensures first { first_view bytes.now result ≡ command_in group bytes.now }
     ensures within { Within (length bytes.now) result }
 {
-    let field = longest_field(bytes);
-    if field.len > MOST_CHARACTERS {
-        return First::Faulty(Cause::BadNumber);
+    match field_end(bytes) {
+        FieldEnd::Open => First::Open,
+        FieldEnd::BadNumber => First::Faulty(Cause::BadNumber),
+        FieldEnd::Ended(field) => ended_command(group, field, bytes),
     }
-    let Some(last) = bytes.get(field.len) else {
-        return First::Open;
-    };
-    let Some(number) = field.number() else {
-        return First::Faulty(Cause::BadNumber);
-    };
-    match *last {
-        96..=126 => other_command(group, *last - 32, number, field.len + 1),
-        64..=94 => last_command(group, *last, number, field.len + 1, bytes),
+}
+
+/// The command that a byte ends behind its field, with which the bytes begin.
+#[inline(always)]
+fn ended_command(group: Group, field: EndedField, bytes: &[u8]) -> First
+    requires short { field.len ≤ 16 }
+    requires within { field.len < length bytes.now }
+    ensures first { first_view bytes.now result ≡ by_last_byte (Some (amount field.number)) group field.len field.last (drop (field.len + 1) bytes.now) }
+    ensures within { Within (length bytes.now) result }
+{
+    let len = field.len + 1;
+    match field.last {
+        96..=126 => other_command(group, field.last - 32, field.number, len),
+        64..=94 => last_command(group, field.last, field.number, len, bytes),
         _ => First::Faulty(Cause::Syntax),
     }
 }
@@ -370,25 +354,28 @@ fn with_data(command: DataCommand, count: Option<DataCount>, len: usize, bytes: 
     }
 }
 
-#[tactic(auto, unfolding(crate::specs::Reader::without_group))]
+/// The sequence without a group that stands first behind its introducer.
 fn lone(introducer: u8, bytes: &[u8]) -> First
     ensures first { (all : List ℕ) → first_view all result ≡ without_group introducer bytes.now }
     ensures within { Within (2 + length bytes.now) result }
 {
-    let field = longest_field(bytes);
-    if field.len > MOST_CHARACTERS {
-        return First::Faulty(Cause::BadNumber);
+    match field_end(bytes) {
+        FieldEnd::Open => First::Open,
+        FieldEnd::BadNumber => First::Faulty(Cause::BadNumber),
+        FieldEnd::Ended(field) => ended_lone(introducer, field),
     }
-    let Some(last) = bytes.get(field.len) else {
-        return First::Open;
-    };
-    let Some(number) = field.number() else {
-        return First::Faulty(Cause::BadNumber);
-    };
-    match *last {
-        64..=94 => match lone_at(introducer, number, *last) {
+}
+
+/// The sequence without a group that a byte ends behind its field.
+fn ended_lone(introducer: u8, field: EndedField) -> First
+    requires { field.len ≤ 16 }
+    ensures first { (all : List ℕ) → first_view all result ≡ by_termination (Some (amount field.number)) introducer field.len field.last }
+    ensures within { Within (field.len + 3) result }
+{
+    match field.last {
+        64..=94 => match lone_at(introducer, field.number, field.last) {
             Some(item) => First::Begins(field.len + 3, Head::Simple(item), behind_lone(item)),
-            None => First::Faulty(Cause::NotInProfile(Name::Pair(introducer, *last))),
+            None => First::Faulty(Cause::NotInProfile(Name::Pair(introducer, field.last))),
         },
         _ => First::Faulty(Cause::Syntax),
     }

@@ -3,6 +3,7 @@
 ghost use Rattle.std.specs.Prelude.{◌≡◌, ◌≤◌, ◌<◌, ◌+◌, ◌^◌, ◌==◌, nat_le, if◌then◌else◌, IsTrue, min, length, fold, drop, None};
 ghost use Rattle.std.specs.List.{list_all};
 ghost use Rattle.std.specs.Option.{option_map};
+ghost use Rattle.pcl_items.specs.Escapes.FieldEnd.{field_end, end_view, EndsWithin};
 ghost use Rattle.pcl_items.specs.Escapes.Field.{sign_at, sign_len, has_point, digits, decimal, four, field_at, amount_of, next_digit, within_limit};
 ghost use Rattle.pcl_items.specs.Items.{amount};
 
@@ -44,6 +45,26 @@ impl Field {
     }
 }
 
+/// A value field that a byte ends, and how many characters it has.
+#[derive(Clone, Copy)]
+pub struct EndedField {
+    pub len: usize,
+    pub number: Number,
+    /// The byte behind it.
+    pub last: u8,
+}
+
+/// How a value field ends.
+#[derive(Clone, Copy)]
+pub enum FieldEnd {
+    /// No byte stands behind it yet.
+    Open,
+    /// It has too many characters, or no number within the limit.
+    BadNumber,
+    /// A byte stands behind it.
+    Ended(EndedField),
+}
+
 /// Digits, and the number that they give.
 #[derive(Clone, Copy)]
 pub struct Digits {
@@ -57,6 +78,35 @@ struct Decimals {
     len: usize,
     ten_thousandths: u32,
     is_exact: bool,
+}
+
+/// How the longest field in front ends.
+// Inlined with all that it calls, so that its answer is never put together: a job is mostly commands.
+#[inline(always)]
+#[tactic(auto, unfolding(crate::specs::Escapes::FieldEnd::field_end))]
+pub fn field_end(bytes: &[u8]) -> FieldEnd
+    ensures end { end_view result ≡ field_end bytes.now }
+    ensures within { EndsWithin (length bytes.now) result }
+{
+    let field = longest_field(bytes);
+    if field.len > MOST_CHARACTERS {
+        return FieldEnd::BadNumber;
+    }
+    let Some(last) = bytes.get(field.len) else {
+        return FieldEnd::Open;
+    };
+    if field.ten_thousandths > MOST_TEN_THOUSANDTHS {
+        return FieldEnd::BadNumber;
+    }
+    let number = Number {
+        sign: field.sign,
+        ten_thousandths: field.ten_thousandths,
+    };
+    FieldEnd::Ended(EndedField {
+        len: field.len,
+        number,
+        last: *last,
+    })
 }
 
 /// The longest field in front.

@@ -11,7 +11,7 @@ ghost use Rattle.pcl_items.specs.Escapes.ReadCommands.{IsAhead, IsInGroup, IsEnd
 use crate::lexer::first::Context;
 use crate::number::Number;
 use crate::pcl::command::{Command, Group};
-use crate::pcl::field::{MOST_CHARACTERS, MOST_TEN_THOUSANDTHS, longest_field};
+use crate::pcl::field::{EndedField, FieldEnd, field_end};
 
 /// A command with its number, how many bytes spell it, and what stands before the bytes after them.
 #[derive(Clone, Copy)]
@@ -62,38 +62,31 @@ fn escaped(bytes: &[u8]) -> Option<ReadCommand>
 
 /// The command of a group that stands first behind the group's characters, or behind a command of the group.
 #[inline(always)]
-#[tactic(auto, unfolding(crate::specs::Reader::command_in))]
 fn command(group: Group, bytes: &[u8]) -> Option<ReadCommand>
     ensures { IfSome result (λ read. IsInGroup read group bytes.now) }
 {
-    let field = longest_field(bytes);
-    if field.len > MOST_CHARACTERS || field.ten_thousandths > MOST_TEN_THOUSANDTHS {
-        return None;
+    match field_end(bytes) {
+        FieldEnd::Ended(field) => ended_by(group, field),
+        FieldEnd::Open | FieldEnd::BadNumber => None,
     }
-    let last = bytes.get(field.len)?;
-    let number = Number {
-        sign: field.sign,
-        ten_thousandths: field.ten_thousandths,
-    };
-    ended_by(group, *last, number, field.len)
 }
 
-/// The command that a byte ends, behind a field of so many characters.
+/// The command that a byte ends behind its field.
 #[inline(always)]
-fn ended_by(group: Group, last: u8, number: Number, len: usize) -> Option<ReadCommand>
-    requires { len ≤ 16 }
-    ensures { IfSome result (λ read. IsEndedBy read group number len last) }
+fn ended_by(group: Group, field: EndedField) -> Option<ReadCommand>
+    requires { field.len ≤ 16 }
+    ensures { IfSome result (λ read. IsEndedBy read group field) }
 {
     // The letters of commands are capital ones, so a byte that is no letter names none.
-    let (letter, next) = match last {
-        0..=95 => (last, Context::Pcl),
-        96..=255 => (last - 32, Context::Sequence(group)),
+    let (letter, next) = match field.last {
+        0..=95 => (field.last, Context::Pcl),
+        96..=255 => (field.last - 32, Context::Sequence(group)),
     };
     let command = Command::of(group, letter)?;
     Some(ReadCommand {
-        len: len + 1,
+        len: field.len + 1,
         command,
-        number,
+        number: field.number,
         next,
     })
 }

@@ -4,14 +4,27 @@ use Rattle.page_env.specs.declared.mark.PenLine.{PenLine}
 use Rattle.page_env.specs.Mark.{line_bounds, is_inside}
 use Rattle.page_env.specs.Places.{is_between}
 use Rattle.page_env.specs.Pens.{place_of, line_between}
-use Rattle.page_env.proofs.Ends.{both_taken, second_missing}
+use Rattle.page_env.proofs.Ends.{both_taken, first_missing, second_missing}
 use Rattle.page_env.proofs.pens.line_inside.Goals as goal
+
+pub returns-in_err-x0 : goal.returns-in_err-x0
+unfolding is_inside
+returns-in_err-x0 c =
+    let g = c.args.geometry.now in
+    let line : PenLine = line_between c.args.origin c.args.frame.now c.args.width (place_of c.args.start) (place_of c.args.end) in
+    let box : Bounds = line_bounds line in
+    let x_fits : Bool = is_between g.printable_left g.printable_right box.left && is_between g.printable_left g.printable_right box.right in
+    let y_fits : Bool = is_between g.printable_top g.printable_bottom box.top && is_between g.printable_top g.printable_bottom box.bottom in
+    let x : ℤ × ℤ = (line.x0, line.x1) in
+    let xs : None ≡ cond x_fits (Some x) None = search rules in
+    let none : c.from_residual.result ≡ None = search rules in
+    none ∙ first_missing x_fits y_fits x line xs
 
 pub returns-in_err-y0 : goal.returns-in_err-y0
 unfolding is_inside
 returns-in_err-y0 c =
     let g = c.args.geometry.now in
-    let line : PenLine = line_between g c.args.frame.now c.args.width (place_of c.args.start) (place_of c.args.end) in
+    let line : PenLine = line_between c.args.origin c.args.frame.now c.args.width (place_of c.args.start) (place_of c.args.end) in
     let box : Bounds = line_bounds line in
     let x_fits : Bool = is_between g.printable_left g.printable_right box.left && is_between g.printable_left g.printable_right box.right in
     let y_fits : Bool = is_between g.printable_top g.printable_bottom box.top && is_between g.printable_top g.printable_bottom box.bottom in
@@ -27,7 +40,7 @@ pub returns : goal.returns
 unfolding is_inside
 returns c =
     let g = c.args.geometry.now in
-    let line : PenLine = line_between g c.args.frame.now c.args.width (place_of c.args.start) (place_of c.args.end) in
+    let line : PenLine = line_between c.args.origin c.args.frame.now c.args.width (place_of c.args.start) (place_of c.args.end) in
     let box : Bounds = line_bounds line in
     let x_fits : Bool = is_between g.printable_left g.printable_right box.left && is_between g.printable_left g.printable_right box.right in
     let y_fits : Bool = is_between g.printable_top g.printable_bottom box.top && is_between g.printable_top g.printable_bottom box.bottom in

@@ -15,10 +15,10 @@ unfolding is_inside
 returns-then-not-pixel_lies_between c =
     let g = c.args.geometry.now in
     let pixel = pixel_of c.args.resolution in
-    let row : PixelRow = row_from g c.args.resolution c.args.x c.args.y c.args.black.now in
+    let row : PixelRow = row_from c.args.resolution c.args.place.x c.args.place.y c.args.black.now in
     let box : Bounds = row_bounds row in
     let no : c.pixel_lies_between.result ≡ false = search rules in
-    let start : c.first_byte-left.result ≡ row.x = c.first_byte-left.ensures.value ∙ ap (λ n. (g.logical_left +ℤ c.args.x) +ℤ pos (8 * n * pixel)) c.requires.blank in
+    let start : c.first_byte-left.result ≡ row.x = c.first_byte-left.ensures.value ∙ ap (λ n. c.args.place.x +ℤ pos (8 * n * pixel)) c.requires.blank in
     let end : c.black_end.result ≡ black_end row.bytes = c.black_end.ensures.value ∙ ap black_end (take_rest c.args.black.now c.args.blank) ∙ ap (λ n. black_end (drop n c.args.black.now)) c.requires.blank in
     let same : cast_signed w64 (cast_unsigned w64 c.first_byte-left.result) ≡ c.first_byte-left.result = grind (arith, to_z-of_z, c.first_byte-left.ensures.near) in
     let at : c.pixel_lies_between.result ≡ is_between g.printable_left g.printable_right box.right =
@@ -32,10 +32,10 @@ unfolding is_inside
 returns-in_err-x c =
     let g = c.args.geometry.now in
     let pixel = pixel_of c.args.resolution in
-    let row : PixelRow = row_from g c.args.resolution c.args.x c.args.y c.args.black.now in
+    let row : PixelRow = row_from c.args.resolution c.args.place.x c.args.place.y c.args.black.now in
     let box : Bounds = row_bounds row in
     let starts : ℤ → ℕ → Option ℤ = λ left white. cond (is_between g.printable_left g.printable_right (left +ℤ pos (white * pixel))) (Some left) None in
-    let start : c.first_byte-left.result ≡ row.x = c.first_byte-left.ensures.value ∙ ap (λ n. (g.logical_left +ℤ c.args.x) +ℤ pos (8 * n * pixel)) c.requires.blank in
+    let start : c.first_byte-left.result ≡ row.x = c.first_byte-left.ensures.value ∙ ap (λ n. c.args.place.x +ℤ pos (8 * n * pixel)) c.requires.blank in
     let same : cast_signed w64 (cast_unsigned w64 c.first_byte-left.result) ≡ c.first_byte-left.result = grind (arith, to_z-of_z, c.first_byte-left.ensures.near) in
     let white : c.white_ahead.result ≡ white_ahead row.bytes = c.white_ahead.ensures.value ∙ ap white_ahead (take_rest c.args.black.now c.args.blank) ∙ ap (λ n. white_ahead (drop n c.args.black.now)) c.requires.blank in
     let at_left : c.row_start.result ≡ starts row.x (white_ahead row.bytes) = c.row_start.ensures ∙ ap (λ left. starts left c.white_ahead.result) (same ∙ start) ∙ ap (starts row.x) white in
@@ -47,7 +47,7 @@ pub returns-in_err-y : goal.returns-in_err-y
 unfolding is_inside
 returns-in_err-y c =
     let g = c.args.geometry.now in
-    let row : PixelRow = row_from g c.args.resolution c.args.x c.args.y c.args.black.now in
+    let row : PixelRow = row_from c.args.resolution c.args.place.x c.args.place.y c.args.black.now in
     let box : Bounds = row_bounds row in
     ap (option_map row_of) c.from_residual-in_err-y.ensures
     ∙ down_missing (is_between g.printable_left g.printable_right box.left && is_between g.printable_left g.printable_right box.right)
@@ -59,11 +59,11 @@ returns c =
     let g = c.args.geometry.now in
     let pixel = pixel_of c.args.resolution in
     let black = c.args.black.now in
-    let row : PixelRow = row_from g c.args.resolution c.args.x c.args.y black in
+    let row : PixelRow = row_from c.args.resolution c.args.place.x c.args.place.y black in
     let box : Bounds = row_bounds row in
     let is_across : ℤ → Bool = is_between g.printable_left g.printable_right in
     let starts : ℤ → ℕ → Option ℤ = λ left white. cond (is_across (left +ℤ pos (white * pixel))) (Some left) None in
-    let start : c.first_byte-left.result ≡ row.x = c.first_byte-left.ensures.value ∙ ap (λ n. (g.logical_left +ℤ c.args.x) +ℤ pos (8 * n * pixel)) c.requires.blank in
+    let start : c.first_byte-left.result ≡ row.x = c.first_byte-left.ensures.value ∙ ap (λ n. c.args.place.x +ℤ pos (8 * n * pixel)) c.requires.blank in
     let same : cast_signed w64 (cast_unsigned w64 c.first_byte-left.result) ≡ c.first_byte-left.result = grind (arith, to_z-of_z, c.first_byte-left.ensures.near) in
     let white : c.white_ahead.result ≡ white_ahead row.bytes = c.white_ahead.ensures.value ∙ ap white_ahead (take_rest black c.args.blank) ∙ ap (λ n. white_ahead (drop n black)) c.requires.blank in
     let at_left : c.row_start.result ≡ starts row.x (white_ahead row.bytes) = c.row_start.ensures ∙ ap (λ left. starts left c.white_ahead.result) (same ∙ start) ∙ ap (starts row.x) white in

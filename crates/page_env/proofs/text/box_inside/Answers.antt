@@ -1,6 +1,4 @@
-use Rattle.std.proofs.Common.{arith, rules, ◌≡◌, ◌&&◌, ◌+ℤ◌, ℤ, Bool, cond, Option, Some, None, sym, ap, ◌∙◌}
-use Rattle.std.proofs.lemmas.Int.{to_z-of_z}
-use Rattle.std.specs.Int.{w64, cast_signed, cast_unsigned}
+use Rattle.std.proofs.Common.{rules, ◌≡◌, ◌&&◌, ℤ, Bool, cond, Some, None}
 use Rattle.page_env.specs.declared.mark.Bounds.{Bounds}
 use Rattle.page_env.specs.Mark.{is_inside}
 use Rattle.page_env.specs.Places.{is_between}
@@ -12,14 +10,10 @@ pub returns : goal.returns
 unfolding is_inside
 returns g c =
     let geometry = c.args.geometry.now in
-    let box = character_box geometry c.args.face.now c.args.x c.args.y in
+    let box = character_box c.args.face.now c.args.place.x c.args.place.y in
     let is_across : ℤ → Bool = is_between geometry.printable_left geometry.printable_right in
     let is_down : ℤ → Bool = is_between geometry.printable_top geometry.printable_bottom in
-    let spans : ℤ → ℤ → Option (ℤ × ℤ) = λ x by.
-    cond (is_across (geometry.logical_left +ℤ x) && is_across (geometry.logical_left +ℤ x +ℤ by)) (Some (geometry.logical_left +ℤ x, geometry.logical_left +ℤ x +ℤ by)) None in
-    let place : cast_signed w64 (cast_unsigned w64 c.ticks.result) ≡ c.args.x = grind (arith, to_z-of_z, c.ticks.ensures) in
-    let across : Some (c.in_ok-left.left, c.in_ok-left.right) ≡ spans c.args.x c.args.face.now.advance =
-    sym c.in_ok-left.was ∙ c.span_between.ensures ∙ ap (λ x. spans x c.advance.result) place ∙ ap (spans c.args.x) c.advance.ensures.value in
+    let across : Some (c.in_ok-left.left, c.in_ok-left.right) ≡ cond (is_across box.left && is_across box.right) (Some (box.left, box.right)) None = search rules in
     let top : Some c.in_ok-top.top ≡ cond (is_down box.top) (Some box.top) None = search rules in
     let bottom : Some c.in_ok-bottom.bottom ≡ cond (is_down box.bottom) (Some box.bottom) None = search rules in
     let down : Some (c.in_ok-top.top, c.in_ok-bottom.bottom) ≡ cond (is_down box.top && is_down box.bottom) (Some (box.top, box.bottom)) None =

@@ -8,7 +8,7 @@ use Rattle.page_env.proofs.text_run.columns_ahead.Goals as goal
 pub columns_up_to-requires : goal.columns_up_to-requires
 columns_up_to-requires g c =
     subst (λ z. c.args.x ≤ℤ z) (sym c.in-Some.ensures.value)
-    (subst (λ m. c.args.x ≤ℤ ((m.geometry.printable_right -ℤ m.geometry.logical_left) -ℤ m.face.advance)) (sym c.measure.view_is) (begins_inside c.args.measure.now c.args.x c.requires))
+    (subst (λ m. c.args.x ≤ℤ ((m.geometry.printable_right -ℤ m.origin.x) -ℤ m.face.advance)) (sym c.measure.view_is) (begins_inside c.args.measure.now c.args.x c.requires))
 
 pub returns : goal.returns
 returns g c = λ n less.

@@ -16,12 +16,13 @@ unfolding text_reads
 returns g c = λ panel.
     let page = c.args.page.now in
     let y : page.cursor.y ≡ Some c.in_ok-y.y = c.in_ok-y.was in
-    let known = c.in_ok-geometry.ensures panel in
+    let known = c.in-Some.ensures panel in
     record {
       read = subst (λ (o : Option ℤ). first_unset (settings_at panel page.env) (text_reads o (font_reads page.env.job.font)) ≡ None) (sym y) known.0;
-      request = known.2;
-      face = ap (face_for c.args.profile.now.faces) known.2 ∙ sym c.font.ensures.face ∙ ap option_copied c.in_ok-face.was;
+      request = known.3;
+      face = ap (face_for c.args.profile.now.faces) known.3 ∙ sym c.font.ensures.face ∙ ap option_copied c.in_ok-face.was;
       geometry = known.1;
+      origin = known.2;
       y = y;
       column = c.column_width-column.ensures;
       right = c.right_margin-right.ensures;

@@ -9,7 +9,7 @@ use Rattle.page_machine.specs.Run.{Run, followed_by, just, Done, Halts, goes, pe
 use Rattle.page_machine.specs.Macros.{put_back, give_up, refused, at_level, raster_ended, ended, overlay_run, body_run, macro_item_run, control_body, close_in}
 use Rattle.page_machine.specs.Machine.{context_with, conditions_with}
 use Rattle.page_machine.proofs.Cases.{page_close-deep, page_close-unset, page_close-passes, overlay_run-unknown, overlay_run-found, marked_close-marked, marked_close-unmarked, control_run-found, control_run-goes, execute-is, call-is, no_body, executed_body, called_body, body_run-none, body_run-some, entries_run-end, entries_run-next}
-use Rattle.page_machine.proofs.Composed.{TakesUpTo-none, TakesUpTo-is, TakesUpTo-rest, TakesUpTo-first, TakesUpTo-after, TakesUpTo-done, Follows-done, Follows-found, Follows-is, Follows-step, Follows-stepped, Follows-onward, Follows-overlay_stopped, Follows-stopped, Follows-took, Follows-after, Follows-put_back, Follows-call_stopped, Follows-give_up}
+use Rattle.page_machine.proofs.Composed.{Follows-handed, TakesUpTo-none, TakesUpTo-is, TakesUpTo-rest, TakesUpTo-first, TakesUpTo-after, TakesUpTo-done, Follows-done, Follows-found, Follows-is, Follows-step, Follows-stepped, Follows-onward, Follows-overlay_stopped, Follows-stopped, Follows-took, Follows-after, Follows-put_back, Follows-call_stopped, Follows-give_up}
 use Rattle.page_machine.proofs.carrying.+run.Goals as goal
 
 -- ---- closing a page
@@ -60,19 +60,20 @@ pub run_overlay-returns-in_default-body-clause-runs : goal.run_overlay-returns-i
 run_overlay-returns-in_default-body-clause-runs g t c = λ begins.
     Follows-done _ _ _ _ _ _ _ (λ panel. overlay_run-unknown (context_with c.args.around.now panel) (state_at panel c.args.page.now) c.args.page.now.env.job.overlay c.in-Some.id c.in-Some.is (sym c.body.ensures ∙ c.in_default-body.is))
 
-pub run_overlay-returns-in-Err-clause-runs : goal.run_overlay-returns-in-Err-clause-runs
-run_overlay-returns-in-Err-clause-runs g t c = λ begins.
-    Follows-is _ _ _ _ _ _ _ _ _
+pub run_overlay-returns-in_err-run_body-clause-runs : goal.run_overlay-returns-in_err-run_body-clause-runs
+run_overlay-returns-in_err-run_body-clause-runs g t c = λ begins.
+    Follows-handed _ _ _ _ _ _ _ c.in_err-run_body.field-0.0 c.from_residual.result c.from_residual.ensures.1
+    (Follows-is _ _ _ _ _ _ _ _ _
     (λ panel. overlay_run-found (context_with c.args.around.now panel) (state_at panel c.args.page.now) c.args.page.now.env.job.overlay c.in-Some.id c.in-Some.is c.in-Some-body.body (state_at panel c.args.overlaid.now) (sym c.body.ensures ∙ c.in-Some-body.is) (begins panel)
     ∙ ap (λ n. give_up (state_at panel c.args.page.now) (body_run (context_with c.args.around.now panel) refused n 1 Overlaid c.in-Some-body.body (state_at panel c.args.overlaid.now))) (sym c.depth.ensures))
-    (Follows-overlay_stopped _ _ _ _ _ c.run_body.new.page c.args.page.now _ _ _ (c.in-Err.ensures 1))
+    (Follows-overlay_stopped _ _ _ _ _ c.run_body.new.page c.args.page.now _ _ _ (c.in_err-run_body.ensures 1)))
 
-pub run_overlay-returns-in-Ok-clause-runs : goal.run_overlay-returns-in-Ok-clause-runs
-run_overlay-returns-in-Ok-clause-runs g t c = λ begins.
+pub run_overlay-returns-clause-runs : goal.run_overlay-returns-clause-runs
+run_overlay-returns-clause-runs g t c = λ begins.
     Follows-is _ _ _ _ _ _ _ _ _
     (λ panel. overlay_run-found (context_with c.args.around.now panel) (state_at panel c.args.page.now) c.args.page.now.env.job.overlay c.in-Some.id c.in-Some.is c.in-Some-body.body (state_at panel c.args.overlaid.now) (sym c.body.ensures ∙ c.in-Some-body.is) (begins panel)
     ∙ ap (λ n. give_up (state_at panel c.args.page.now) (body_run (context_with c.args.around.now panel) refused n 1 Overlaid c.in-Some-body.body (state_at panel c.args.overlaid.now))) (sym c.depth.ensures))
-    (Follows-give_up _ _ _ _ _ c.run_body.new.page c.args.page.now _ _ _ (c.in-Ok.ensures 1))
+    (Follows-give_up _ _ _ _ _ c.run_body.new.page c.args.page.now _ _ _ (c.in_ok-run_body.ensures 1))
 
 -- ---- bodies
 
@@ -80,19 +81,20 @@ pub run_body-returns-then-around-eq0 : goal.run_body-returns-then-around-eq0
 run_body-returns-then-around-eq0 g t c = λ level.
     Follows-found _ _ _ _ _ _ _ (λ panel. body_run-none (context_with c.args.around.now panel) (close_in (context_with c.args.around.now panel) c.args.nesting) level c.args.nesting c.args.body.now (state_at panel c.args.page.now) c.args.around.now.left c.if-around-eq0.true)
 
-pub run_body-returns-in-Err : goal.run_body-returns-in-Err
-run_body-returns-in-Err g t c = λ level.
+pub run_body-returns-in_err-run_items : goal.run_body-returns-in_err-run_items
+run_body-returns-in_err-run_items g t c = λ level.
     let some : 0 < c.args.around.now.left = omega arith in
-    Follows-is _ _ _ _ _ _ _ _ _ (λ panel. body_run-some (context_with c.args.around.now panel) (close_in (context_with c.args.around.now panel) c.args.nesting) level c.args.nesting c.args.body.now (state_at panel c.args.page.now) c.args.around.now.left some)
+    Follows-handed _ _ _ _ _ _ _ c.in_err-run_items.field-0.0 c.from_residual.result c.from_residual.ensures.1
+    (Follows-is _ _ _ _ _ _ _ _ _ (λ panel. body_run-some (context_with c.args.around.now panel) (close_in (context_with c.args.around.now panel) c.args.nesting) level c.args.nesting c.args.body.now (state_at panel c.args.page.now) c.args.around.now.left some)
     (Follows-step _ _ _ _ _ _ _ (λ panel. at_level level) _
-    (Follows-stopped _ _ _ _ _ c.run_items.new.page _ _ (λ panel. raster_ended) _ (c.in-Err.ensures (suc level))))
+    (Follows-stopped _ _ _ _ _ c.run_items.new.page _ _ (λ panel. raster_ended) _ (c.in_err-run_items.ensures (suc level)))))
 
-pub run_body-returns-in-Ok : goal.run_body-returns-in-Ok
-run_body-returns-in-Ok g t c = λ level.
+pub run_body-returns : goal.run_body-returns
+run_body-returns g t c = λ level.
     let some : 0 < c.args.around.now.left = omega arith in
     Follows-is _ _ _ _ _ _ _ _ _ (λ panel. body_run-some (context_with c.args.around.now panel) (close_in (context_with c.args.around.now panel) c.args.nesting) level c.args.nesting c.args.body.now (state_at panel c.args.page.now) c.args.around.now.left some)
     (Follows-step _ _ _ _ _ _ _ (λ panel. at_level level) _
-    (Follows-onward _ _ _ _ _ _ c.run_items.new.page _ _ (λ panel. raster_ended) _ _ (c.in-Ok.ensures (suc level))
+    (Follows-onward _ _ _ _ _ _ c.run_items.new.page _ _ (λ panel. raster_ended) _ _ (c.in_ok-run_items.ensures (suc level))
     (Follows-done _ _ _ c.run_items.new.sink (record c.run_items.new.page { raster = None }) (λ panel. raster_ended (state_at panel c.run_items.new.page)) _ (λ panel. refl))))
 
 pub run_items-loop-item-init : goal.run_items-loop-item-init
@@ -108,13 +110,14 @@ run_items-loop-item-preserved g t c = λ level.
     TakesUpTo-after _ g.S.MarkSink.refuses _ _ _ _ _ _ (c.loop-item.invariant level)
     (TakesUpTo-is _ g.S.MarkSink.refuses _ _ _ _ _ (λ panel. entries_run-next (macro_item_run c.args.around.now.profile.now (conditions_with c.args.around.now level panel)) c.loop-item.body c.next.new.self (view c.in-Some.item) (state_at panel c.loop-item.page) c.in-Some.ensures)
     (TakesUpTo-first _ g.S.MarkSink.refuses _ _ (λ panel. macro_item_run c.args.around.now.profile.now (conditions_with c.args.around.now level panel) (view c.in-Some.item) (state_at panel c.loop-item.page)) (λ panel. state_at panel c.run_macro_item.new.page) (λ panel. entries_run (macro_item_run c.args.around.now.profile.now (conditions_with c.args.around.now level panel)) c.next.new.self)
-    (TakesUpTo-done _ g.S.MarkSink.refuses _ _ _ c.run_macro_item.new.page _ _ (c.in-Ok.ensures level))))
+    (TakesUpTo-done _ g.S.MarkSink.refuses _ _ _ c.run_macro_item.new.page _ _ (c.in_ok-run_macro_item.ensures level))))
 
-pub run_items-returns-in-Err : goal.run_items-returns-in-Err
-run_items-returns-in-Err g t c = λ level.
-    Follows-after _ _ _ _ _ _ c.run_macro_item.new.page _ _ _ (c.loop-item.invariant level)
+pub run_items-returns-in_err-run_macro_item : goal.run_items-returns-in_err-run_macro_item
+run_items-returns-in_err-run_macro_item g t c = λ level.
+    Follows-handed _ _ _ _ _ _ _ c.in_err-run_macro_item.field-0.0 c.from_residual.result c.from_residual.ensures.1
+    (Follows-after _ _ _ _ _ _ c.run_macro_item.new.page _ _ _ (c.loop-item.invariant level)
     (Follows-is _ _ _ _ _ _ _ _ _ (λ panel. entries_run-next (macro_item_run c.args.around.now.profile.now (conditions_with c.args.around.now level panel)) c.loop-item.body c.next.new.self (view c.in-Some.item) (state_at panel c.loop-item.page) c.in-Some.ensures)
-    (Follows-stopped _ _ _ _ _ c.run_macro_item.new.page _ (λ panel. macro_item_run c.args.around.now.profile.now (conditions_with c.args.around.now level panel) (view c.in-Some.item) (state_at panel c.loop-item.page)) (λ panel. entries_run (macro_item_run c.args.around.now.profile.now (conditions_with c.args.around.now level panel)) c.next.new.self) _ (c.in-Err.ensures level)))
+    (Follows-stopped _ _ _ _ _ c.run_macro_item.new.page _ (λ panel. macro_item_run c.args.around.now.profile.now (conditions_with c.args.around.now level panel) (view c.in-Some.item) (state_at panel c.loop-item.page)) (λ panel. entries_run (macro_item_run c.args.around.now.profile.now (conditions_with c.args.around.now level panel)) c.next.new.self) _ (c.in_err-run_macro_item.ensures level))))
 
 pub run_macro_item-returns-in-Err : goal.run_macro_item-returns-in-Err
 unfolding Marks
@@ -147,19 +150,20 @@ pub call-returns-in_default : goal.call-returns-in_default
 call-returns-in_default g t c = λ level.
     Follows-done _ _ _ _ _ _ _ (λ panel. call-is c.args.around.now.macros.now (body_run (context_with c.args.around.now panel) (close_in (context_with c.args.around.now panel) c.args.around.now.nesting) c.args.around.now.left level) c.args.around.now.nesting (state_at panel c.args.page.now) None (sym c.body.ensures ∙ c.in_default.is))
 
-pub call-returns-in-Err : goal.call-returns-in-Err
-call-returns-in-Err g t c = λ level.
-    Follows-is _ _ _ _ _ _ _ _ _
+pub call-returns-in_err-run_body : goal.call-returns-in_err-run_body
+call-returns-in_err-run_body g t c = λ level.
+    Follows-handed _ _ _ _ _ _ _ c.in_err-run_body.field-0.0 c.from_residual.result c.from_residual.ensures.1
+    (Follows-is _ _ _ _ _ _ _ _ _
     (λ panel. call-is c.args.around.now.macros.now (body_run (context_with c.args.around.now panel) (close_in (context_with c.args.around.now panel) c.args.around.now.nesting) c.args.around.now.left level) c.args.around.now.nesting (state_at panel c.args.page.now) (Some c.in-Some.body) (sym c.body.ensures ∙ c.in-Some.is)
     ∙ ap (put_back (settings_at panel c.args.page.now.env)) (called_body (context_with c.args.around.now panel) c.args.around.now.left level c.args.around.now.nesting c.called.result c.in-Some.body (state_at panel c.args.page.now) c.called.ensures))
-    (Follows-call_stopped _ _ _ _ _ c.run_body.new.page _ c.args.page.now.env _ _ (c.in-Err.ensures level))
+    (Follows-call_stopped _ _ _ _ _ c.run_body.new.page _ c.args.page.now.env _ _ (c.in_err-run_body.ensures level)))
 
-pub call-returns-in-Ok : goal.call-returns-in-Ok
-call-returns-in-Ok g t c = λ level.
+pub call-returns : goal.call-returns
+call-returns g t c = λ level.
     Follows-is _ _ _ _ _ _ _ _ _
     (λ panel. call-is c.args.around.now.macros.now (body_run (context_with c.args.around.now panel) (close_in (context_with c.args.around.now panel) c.args.around.now.nesting) c.args.around.now.left level) c.args.around.now.nesting (state_at panel c.args.page.now) (Some c.in-Some.body) (sym c.body.ensures ∙ c.in-Some.is)
     ∙ ap (put_back (settings_at panel c.args.page.now.env)) (called_body (context_with c.args.around.now panel) c.args.around.now.left level c.args.around.now.nesting c.called.result c.in-Some.body (state_at panel c.args.page.now) c.called.ensures))
-    (Follows-put_back _ _ _ _ _ c.run_body.new.page c.args.page.now.env _ _ _ (c.in-Ok.ensures level))
+    (Follows-put_back _ _ _ _ _ c.run_body.new.page c.args.page.now.env _ _ _ (c.in_ok-run_body.ensures level))
 
 pub run_control-returns-in-Err : goal.run_control-returns-in-Err
 unfolding Marks
@@ -203,20 +207,21 @@ pub close_and_change-returns-then-refuses : goal.close_and_change-returns-then-r
 close_and_change-returns-then-refuses g t c = λ level.
     Follows-found _ _ _ _ _ _ _ (λ panel. ap (λ b. cond b (just [] (Halts InMacro)) (close_and_change (conditions_with c.args.around.now level panel) (state_at panel c.args.page.now) (λ u. changed (settings_at panel c.args.around.now.defaults.now) u c.args.change))) (sym c.refuses.ensures ∙ c.if-refuses.true))
 
-pub close_and_change-returns-in-Err : goal.close_and_change-returns-in-Err
-close_and_change-returns-in-Err g t c = λ level.
-    Follows-is _ _ _ _ _ _ _ _ _ (λ panel. ap (λ b. cond b (just [] (Halts InMacro)) (close_and_change (conditions_with c.args.around.now level panel) (state_at panel c.args.page.now) (λ u. changed (settings_at panel c.args.around.now.defaults.now) u c.args.change))) (sym c.refuses.ensures ∙ c.if-refuses.false))
+pub close_and_change-returns-in_err-close_marked : goal.close_and_change-returns-in_err-close_marked
+close_and_change-returns-in_err-close_marked g t c = λ level.
+    Follows-handed _ _ _ _ _ _ _ c.in_err-close_marked.field-0.0 c.from_residual.result c.from_residual.ensures.1
+    (Follows-is _ _ _ _ _ _ _ _ _ (λ panel. ap (λ b. cond b (just [] (Halts InMacro)) (close_and_change (conditions_with c.args.around.now level panel) (state_at panel c.args.page.now) (λ u. changed (settings_at panel c.args.around.now.defaults.now) u c.args.change))) (sym c.refuses.ensures ∙ c.if-refuses.false))
     (Follows-step _ _ _ _ _ _ _ (λ panel. peaks_of (state_at panel c.args.page.now)) _
     (Follows-stopped _ _ _ _ _ c.close_marked.new.page _ (λ panel. marked_close (close_in (context_with c.args.around.now panel) c.args.around.now.nesting) (state_at panel c.args.page.now))
-    (λ panel u. just [] (Done (changed (settings_at panel c.args.around.now.defaults.now) u c.args.change))) _ c.in-Err.ensures))
+    (λ panel u. just [] (Done (changed (settings_at panel c.args.around.now.defaults.now) u c.args.change))) _ c.in_err-close_marked.ensures)))
 
-pub close_and_change-returns-in-Ok : goal.close_and_change-returns-in-Ok
+pub close_and_change-returns : goal.close_and_change-returns
 unfolding Changes
-close_and_change-returns-in-Ok g t c = λ level.
+close_and_change-returns g t c = λ level.
     Follows-is _ _ _ _ _ _ _ _ _ (λ panel. ap (λ b. cond b (just [] (Halts InMacro)) (close_and_change (conditions_with c.args.around.now level panel) (state_at panel c.args.page.now) (λ u. changed (settings_at panel c.args.around.now.defaults.now) u c.args.change))) (sym c.refuses.ensures ∙ c.if-refuses.false))
     (Follows-step _ _ _ _ _ _ _ (λ panel. peaks_of (state_at panel c.args.page.now)) _
     (Follows-onward _ _ _ _ c.close_marked.new.sink _ c.close_marked.new.page _ (λ panel. marked_close (close_in (context_with c.args.around.now panel) c.args.around.now.nesting) (state_at panel c.args.page.now))
-    (λ panel u. just [] (Done (changed (settings_at panel c.args.around.now.defaults.now) u c.args.change))) _ _ c.in-Ok.ensures
+    (λ panel u. just [] (Done (changed (settings_at panel c.args.around.now.defaults.now) u c.args.change))) _ _ c.in_ok-close_marked.ensures
     (Follows-done _ _ _ c.close_marked.new.sink c.change_page.new.page _ _ (λ panel. ap (λ s. just [] (Done s)) (c.change_page.ensures panel)))))
 
 -- ---- items

@@ -1,3 +1,4 @@
+use Rattle.std.proofs.Common.{◌∙◌}
 use Rattle.page_env.specs.Answers.{Marks}
 use Rattle.page_env.specs.Effect.{Step, effect_of}
 use Rattle.page_env.specs.Pens.{motion_step}
@@ -7,6 +8,6 @@ use Rattle.page_machine.proofs.steps.run_own_motion.Goals as goal
 pub returns : goal.returns
 unfolding Marks
 returns g c = λ to conditions.
-    c.hand_over_line.ensures conditions
+    c.hand_over.ensures conditions
     (λ panel. effect_of (settings_at panel c.args.page.now.env) (Step (motion_step c.args.profile.now (state_at panel c.args.page.now) c.args.motion)))
-    c.carry_out_motion-drawn.ensures
+    (λ panel. c.carry_out_motion.ensures panel ∙ c.marked-drawn.ensures panel c.carry_out_motion.new.page)

@@ -1,3 +1,4 @@
+use Rattle.std.proofs.Common.{◌∙◌}
 use Rattle.page_env.specs.Answers.{Marks}
 use Rattle.page_env.specs.Effect.{Step, effect_of}
 use Rattle.page_env.specs.Settings.{settings_at, state_at}
@@ -9,4 +10,4 @@ unfolding Marks
 returns g c = λ conditions.
     c.hand_over.ensures conditions
     (λ panel. effect_of (settings_at panel c.args.page.now.env) (Step (print_byte c.args.profile.now (state_at panel c.args.page.now) c.args.code)))
-    c.print_byte-printed.ensures
+    (λ panel. c.print_byte.ensures panel ∙ c.marked-printed.ensures panel c.print_byte.new.page)

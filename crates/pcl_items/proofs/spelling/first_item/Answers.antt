@@ -4,9 +4,11 @@ use Rattle.std.proofs.lemmas.Bool.{both_ways}
 use Rattle.std.proofs.lemmas.Slice.Eq.{slice_eq-Decides}
 use Rattle.pcl_items.specs.declared.item.Mode.{Mode}
 use Rattle.pcl_items.specs.declared.item.Mode.TheVariants.{Pcl}
+use Rattle.pcl_items.specs.declared.lexer.first.First.TheVariants as firsts
 use Rattle.pcl_items.specs.Items.{view}
 use Rattle.pcl_items.specs.Lexing.FirstView.{context_view, first_view}
 use Rattle.pcl_items.specs.Reader.{Begins}
+use Rattle.pcl_items.proofs.PjlLines.Heads.{pcl_has_line}
 use Rattle.pcl_items.proofs.PjlLines.Spellings.{no_line_read}
 use Rattle.pcl_items.specs.Spellings.Spelled.{StandsAt}
 use Rattle.pcl_items.proofs.Spellings.ReadAgain.{byte_stands, no_item, read_as, spelling_stands, no_spelling}
@@ -44,3 +46,8 @@ head_text-text-requires c =
     let b = c.in-Begins in
     no_line_read c.args.bytes.now (view c.with_its_data-item.result) b.len (context_view b.next)
     (sym (c.first_between.ensures.first true) ∙ ap (first_view c.args.bytes.now) b.is ∙ ap (λ x. Begins x b.len (context_view b.next)) (sym c.with_its_data-item.ensures.item))
+
+pub with_its_data-item-requires-clause-line : goal.with_its_data-item-requires-clause-line
+with_its_data-item-requires-clause-line c =
+    let b = c.in-Begins in
+    pcl_has_line (firsts.Begins b.len b.head b.next) c.args.bytes.now (b.ensures.first true)

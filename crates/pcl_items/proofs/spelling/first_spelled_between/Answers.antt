@@ -1,10 +1,12 @@
 use Rattle.std.proofs.Common.{true, refl, sym, ap, subst, ◌∙◌}
 use Rattle.pcl_items.specs.declared.item.Mode.{Mode}
 use Rattle.pcl_items.specs.declared.item.Mode.TheVariants.{Pcl}
+use Rattle.pcl_items.specs.declared.lexer.first.First.TheVariants as firsts
 use Rattle.pcl_items.specs.Items.{view}
 use Rattle.pcl_items.specs.Lexing.FirstView.{context_view, first_view}
 use Rattle.pcl_items.specs.Reader.{Begins}
 use Rattle.pcl_items.specs.Spellings.Spelled.{StandsAt}
+use Rattle.pcl_items.proofs.PjlLines.Heads.{pcl_has_line}
 use Rattle.pcl_items.proofs.Spellings.ReadAgain.{byte_stands, no_item, spelled_stands, stands_as}
 use Rattle.pcl_items.proofs.spelling.first_spelled_between.Goals as goal
 
@@ -17,6 +19,11 @@ returns-in-Some-parameterized_in c =
 
 pub returns-in_default-first_between : goal.returns-in_default-first_between
 returns-in_default-first_between c = no_item c.args.bytes.now c.first_between.result (c.first_between.ensures.first true) c.in_default-first_between.not-Begins
+
+pub with_its_data-requires-clause-line : goal.with_its_data-requires-clause-line
+with_its_data-requires-clause-line c =
+    let b = c.in-Begins in
+    pcl_has_line (firsts.Begins b.len b.head b.next) c.args.bytes.now (b.ensures.first true)
 
 pub returns : goal.returns
 returns c =

@@ -1,12 +1,15 @@
-use Rattle.std.proofs.Common.{◌+◌, ℕ, List, drop, Some, subst}
+use Rattle.std.proofs.Common.{◌≡◌, ◌+◌, ℕ, List, drop, Some, Result, Ok, subst, sym, ap, ◌∙◌, arith}
 use Rattle.std.specs.Prelude.{vec_len}
+use Rattle.std.proofs.lemmas.List.{length-drop}
+use Rattle.pcl_items.specs.declared.fault.LexFault.{LexFault}
+use Rattle.pcl_items.specs.declared.frame.Gap.TheVariants.{Straight}
+use Rattle.pcl_items.specs.declared.item.Item.TheVariants as items
+use Rattle.pcl_items.specs.declared.item.SimpleItem.TheVariants as simple
+use Rattle.pcl_items.specs.declared.lexer.Lexed.{Lexed}
+use Rattle.pcl_items.specs.declared.lexer.Lexed.TheVariants as answers
 use Rattle.pcl_items.specs.Lexing.Contexts.{Numbered, Even}
 use Rattle.pcl_items.specs.Lexing.FirstView.{context_view}
-use Rattle.pcl_items.specs.declared.frame.Gap.TheVariants.{Straight}
-use Rattle.pcl_items.specs.declared.item.SimpleItem.TheVariants as simple
-use Rattle.pcl_items.specs.declared.lexer.PlacedItem.{PlacedItem}
 use Rattle.pcl_items.specs.Lexing.State.{LexerState}
-use Rattle.pcl_items.specs.Lexing.Meaning.{answer_of}
 use Rattle.pcl_items.specs.Lexing.Answers.{Answers}
 use Rattle.pcl_items.specs.Frames.Pairs.{IsPairAhead}
 use Rattle.pcl_items.proofs.Lexing.Stepped.{standing, pair_is_answer}
@@ -19,10 +22,21 @@ returns-clause-pair g c =
     let read = c.in-Some.read in
     let window : List ℕ = l.window.items in
     let held = vec_len l.window in
-    let given : PlacedItem = record { place = read.place; item = simple.Move read.motion (Some read.to) } in
-    let first : IsPairAhead read (context_view l.context) (l.dropped + l.at) (drop l.at window) =
-    subst (λ (bytes : List ℕ). IsPairAhead read (context_view l.context) (l.dropped + l.at) (drop l.at bytes)) c.deref.ensures.value c.in-Some.ensures in
-    let exact : Answers c.args.self.now (answer_of given) (standing window (l.at + read.len) l.dropped (Numbered (Even read.motion) Straight 0) l.ended held) =
-    subst (λ (old : LexerState). Answers old (answer_of given) (standing window (l.at + read.len) l.dropped (Numbered (Even read.motion) Straight 0) l.ended held)) c.self.view_is
+    let result : Result Lexed LexFault = Ok (answers.Item read.place (items.Simple (simple.Move read.motion (Some read.to)))) in
+    let new : LexerState = standing window (l.at + read.len) l.dropped (Numbered (Even read.motion) Straight 0) l.ended held in
+    let place : c.place.result ≡ l.dropped + l.at = c.place.ensures ∙ sym (ap (λ (s : LexerState). s.place) c.self.view_is) in
+    let there : IsPairAhead read (context_view l.context) c.place.result (drop l.at window) = subst (λ (bytes : List ℕ). IsPairAhead read (context_view l.context) c.place.result bytes) (c.unread.ensures ∙ sym (ap (λ (s : LexerState). s.rest) c.self.view_is)) c.in-Some.ensures in
+    let first : IsPairAhead read (context_view l.context) (l.dropped + l.at) (drop l.at window) = subst (λ (n : ℕ). IsPairAhead read (context_view l.context) n (drop l.at window)) place there in
+    let exact : Answers c.args.self.now result new =
+    subst (λ (old : LexerState). Answers old result new) c.self.view_is
     (pair_is_answer window l.at l.dropped (context_view l.context) l.ended held read first) in
     is_next _ _ _ exact
+
+pub invariant_of-self : goal.invariant_of-self
+invariant_of-self g c =
+    let l = c.self.inside in
+    let read = c.in-Some.read in
+    let window : List ℕ = l.window.items in
+    let there : IsPairAhead read (context_view l.context) c.place.result (drop l.at window) = subst (λ (bytes : List ℕ). IsPairAhead read (context_view l.context) c.place.result bytes) (c.unread.ensures ∙ sym (ap (λ (s : LexerState). s.rest) c.self.view_is)) c.in-Some.ensures in
+    let before = c.self.invariant in
+    (omega (arith, there.within, length-drop l.at window, before.0), before.1, before.2, omega arith)

@@ -1,5 +1,6 @@
 use Rattle.std.proofs.Common.{◌≡◌, ◌+◌, ℕ, List, [], ◌∷◌, drop, subst, refl, sym, ap, ◌∙◌}
 use Rattle.std.specs.Prelude.{vec_len}
+use Rattle.std.proofs.lemmas.List.{take_rest}
 use Rattle.pcl_items.specs.Items.{Entry, view}
 use Rattle.pcl_items.specs.Items as entries
 use Rattle.pcl_items.specs.Reader.{Begins}
@@ -18,8 +19,8 @@ returns-in-Begins g c =
     let window : List ℕ = l.window.items in
     let held = vec_len l.window in
     let h : StandsAhead l.ended (context_view l.context) l.at window ahead = subst (λ (bytes : List ℕ). StandsAhead l.ended (context_view l.context) l.at bytes ahead) c.deref.ensures.value c.next_ahead-start.ensures in
-    let entry : Entry = view c.item_ahead-item.result in
-    let entry_is : entry ≡ head_view w.head w.len (drop ahead.start window) = c.item_ahead-item.ensures ∙ ap (λ (bytes : List ℕ). head_view w.head w.len (drop ahead.start bytes)) c.deref-in-Begins.ensures.value in
+    let entry : Entry = view c.with_its_data-item.result in
+    let entry_is : entry ≡ head_view w.head w.len (drop ahead.start window) = c.with_its_data-item.ensures.item ∙ ap (head_view w.head w.len) (take_rest _ ahead.start ∙ ap (drop ahead.start) c.deref-in-Begins.ensures.value) in
     let first : first_view (drop ahead.start window) ahead.first ≡ Begins entry w.len (context_view w.next) =
     ap (first_view (drop ahead.start window)) w.is ∙ ap (λ (e : Entry). Begins e w.len (context_view w.next)) (sym entry_is) in
     let exact : GoesOn c.args.self.now (entries.at c.item_place-place.result entry ∷ []) (standing window (ahead.start + w.len) l.dropped (context_view w.next) l.ended held) =

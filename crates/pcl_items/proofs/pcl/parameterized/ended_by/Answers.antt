@@ -10,18 +10,19 @@ use Rattle.pcl_items.proofs.pcl.parameterized.ended_by.Goals as goal
 pub returns : goal.returns
 returns c =
     let group = c.args.group in
-    let last = c.args.last in
-    let number = amount c.args.number in
+    let last = c.args.field.last in
+    let len = c.args.field.len in
+    let number = amount c.args.field.number in
     let command = c.in_ok-command.command in
-    let letter = c.if-last-lt96.letter in
+    let letter = c.if-field-lt96.letter in
     let known : command_at group letter.0 ≡ Some command = sym c.of.ensures ∙ c.in_ok-command.was in
-    elim c.if-last-lt96.branch [
+    elim c.if-field-lt96.branch [
       | in-0-to-95 w ↦
           let below : last < 96 = omega arith in
           let named = ap (λ l. command_at group l.0) (sym w.letter-is) ∙ known in
-          (λ bytes. named_capital group number c.args.len last bytes command below named ∙ ap (λ l. Begins (Parameterized command number) (c.args.len + 1) (context_view l.1)) (sym w.letter-is), refl)
+          (λ bytes. named_capital group number len last bytes command below named ∙ ap (λ l. Begins (Parameterized command number) (len + 1) (context_view l.1)) (sym w.letter-is), refl)
       | in-96-to-255 w ↦
           let above : 96 ≤ last = omega arith in
           let named = ap (λ l. command_at group l.0) (sym w.letter-is) ∙ known in
-          (λ bytes. named_small group number c.args.len last bytes command above named ∙ ap (λ l. Begins (Parameterized command number) (c.args.len + 1) (context_view l.1)) (sym w.letter-is), refl)
+          (λ bytes. named_small group number len last bytes command above named ∙ ap (λ l. Begins (Parameterized command number) (len + 1) (context_view l.1)) (sym w.letter-is), refl)
     ]

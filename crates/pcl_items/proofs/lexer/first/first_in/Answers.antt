@@ -2,7 +2,7 @@ use Rattle.std.proofs.Common.{◌≡◌, sym, subst}
 use Rattle.pcl_items.specs.declared.lexer.first.Context.{Context}
 use Rattle.pcl_items.specs.Lexing.FirstView.{context_view, first_view}
 use Rattle.pcl_items.specs.Reader.{first_of}
-use Rattle.pcl_items.proofs.lexer.first.by_context.Goals as goal
+use Rattle.pcl_items.proofs.lexer.first.first_in.Goals as goal
 
 pub returns-in-Pcl-clause-first : goal.returns-in-Pcl-clause-first
 returns-in-Pcl-clause-first c =
