@@ -1,6 +1,6 @@
 //! Steps: what carries out an item or a part of one without the closing of a page and without a macro.
 
-ghost use Rattle.std.specs.Prelude.{ℤ, List, Option, Ok, ◌≡◌, ◌≤◌, [], true, false, length, MatchOption};
+ghost use Rattle.std.specs.Prelude.{ℤ, List, Option, Ok, ◌≡◌, ◌≤◌, true, false, length, MatchOption};
 ghost use Rattle.device_profile.specs.declared.panel.Panel.{Panel};
 ghost use Rattle.page_env.specs.Answers.{effect_at, marked_at};
 ghost use Rattle.page_env.specs.Effect.{Effect, Goes};
