@@ -127,7 +127,7 @@ def controls_of_code():
 
 def findings_of_code():
     """The numbers and names that the program writes, as `12 Unset`."""
-    variant = r"((?:Cause|Finding|Reason)::\w+)(?:\(_\))?"
+    variant = r"((?:LexCause|Finding|Reason)::\w+)(?:\(_\))?"
     tables = "".join(path.read_text(encoding="utf-8") for path in NUMBERS)
     numbers = re.findall(rf"{variant} => (\d+),", tables)
     names = re.findall(rf'{variant} => b"([A-Z]\w+)",', NAMES.read_text(encoding="utf-8"))

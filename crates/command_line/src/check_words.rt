@@ -98,7 +98,7 @@ Exit status, of many jobs the greatest of theirs:
   3  a read or a write failed, memory ran out, no end after 2^40 reads, or too many items";
 
 /// The words of the command `check`.
-pub fn check_command<'a>(alloc: Global) -> Result<Command<'a>, AllocError> {
+pub fn check_args<'a>(alloc: Global) -> Result<Command<'a>, AllocError> {
     let job = Arg::new(alloc, "JOB")
         .required_unless_present("NAMES")?
         .action(ArgAction::Set)

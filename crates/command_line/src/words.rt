@@ -2,7 +2,7 @@
 ghost use Rattle.std.specs.Prelude.{◌≡◌, ◌≢◌, IsFalse, OnOk, IfOk, IfErr, IfSome, is_some};
 ghost use Rattle.command_line.specs.Words.{IsEndOfWords, KeepsWhatItReads, NamesSome};
 
-use crate::check_words::{EXPLANATION, check_command, check_request};
+use crate::check_words::{EXPLANATION, check_args, check_request};
 use crate::many_words::ManyWords;
 use crate::panel_words::ChoiceFault;
 use crate::picture_words::{picture_command, picture_request};
@@ -130,7 +130,7 @@ fn command<'a>(alloc: Global) -> Result<Command<'a>, AllocError> {
         .about("A preflight checker for PCL 5 print jobs")
         .after_help(EXPLANATION)
         .subcommand_required(true);
-    let command = with_command(command, check_command(alloc))?;
+    let command = with_command(command, check_args(alloc))?;
     let command = with_command(command, list_command(alloc))?;
     let command = with_command(command, pages_command(alloc))?;
     let command = with_command(command, picture_command(alloc))?;

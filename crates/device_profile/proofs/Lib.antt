@@ -1,7 +1,7 @@
 mod RowExamples
 mod WordExamples
 pub mod Additions
-pub mod AmountLemmas
+pub mod Amounts
 pub mod CodeRanges
 pub mod Examples
 pub mod Finished
@@ -11,10 +11,10 @@ pub mod Parts
 pub mod Reading
 pub mod RowNumbers
 pub mod Samples
-pub mod ScanLemmas
+pub mod ScanFacts
 pub mod Singles
 pub mod Sound
 pub mod TextLaws
 pub mod Valid
-pub mod ValueLemmas
+pub mod ValueFacts
 mod SameRanges

@@ -37,7 +37,8 @@ pub(crate) fn code_ranges<A: Allocator>(
 
 /// The range that a word gives, where it begins at a code or behind it.
 fn range_from(least: u64, word: &[u8]) -> Option<CodeRange>
-    ensures { result ≡ option_and_then (λ range. if is_range_from least range then Some range else None) (range_of word.now) }
+    ensures { result ≡ option_and_then (λ range. if is_range_from least range then Some range
+        else None) (range_of word.now) }
 {
     let (first, rest) = first_part(word, b'-');
     let (last, more) = first_part(rest?, b'-');
@@ -55,7 +56,8 @@ fn range_from(least: u64, word: &[u8]) -> Option<CodeRange>
     }
 }
 
-/// What stands before the first such byte, and what stands behind it; or all, where there is no such byte.
+/// What stands before the first such byte, and what stands behind it; or all, where there is no
+/// such byte.
 fn first_part(text: &[u8], byte: u8) -> (&[u8], Option<&[u8]>)
     ensures parts { slice_split (λ b. b == byte) text.now
         ≡ result.0.now ∷ option_map_or (λ rest. slice_split (λ b. b == byte) rest.now) result.1 [] }

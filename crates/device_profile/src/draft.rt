@@ -94,8 +94,8 @@ impl<A: Allocator + Copy> Draft<A> {
         })
     }
 
-    /// Takes one more line of a text of this version, given by its words; a line without words gives
-    /// nothing. An error leaves what was given before.
+    /// Takes one more line of a text of this version, given by its words; a line without words
+    /// gives nothing. An error leaves what was given before.
     pub fn take_line(&mut self, alloc: A, format: Format, line: &[u8]) -> Result<(), LineFault>
         ensures { Gives (draft_after format self.old (words_of line.now)) self.old result self.new }
     {

@@ -117,7 +117,8 @@ fn length_between(word: &[u8], least: u32, most: u32) -> Option<Length>
     Some(Length::of_7200ths(number_between(word, least, most)?))
 }
 
-/// The request of six words: symbol set, pitch, height, style, weight and typeface. Spacing is fixed.
+/// The request of six words: symbol set, pitch, height, style, weight and typeface. Spacing is
+/// fixed.
 #[tactic(auto, unfolding(crate::specs::FaceLine::request_of))]
 fn request(words: &[u8]) -> Option<FontRequest>
     ensures { result ≡ request_of (words_of words.now) }

@@ -11,12 +11,13 @@ pub enum Cause {
     Unknown,
     /// The line gives once more what was given before, or a value twice.
     Repeated,
-    /// Something else in the line is not as its key wants it. Of the whole: the text has more than 65,536 bytes, or the panel
-    /// offers a face, a tray or sides that the device does not have.
+    /// Something else in the line is not as its key wants it. Of the whole: the text has more than
+    /// 65,536 bytes, or the panel offers a face, a tray or sides that the device does not have.
     Range,
     /// A key was not given, or no page or no face.
     Missing,
-    /// A size or an orientation of the panel has no page, or a size of a page has none in an orientation of a page.
+    /// A size or an orientation of the panel has no page, or a size of a page has none in an
+    /// orientation of a page.
     NoGeometry,
 }
 

@@ -15,8 +15,8 @@ pub struct SymbolSet {
     pub letter: u8,
 }
 
-/// The seven parts by which a font is selected. Numbers are in ten-thousandths. (The manual's "Font Selection by
-/// Characteristic".)
+/// The seven parts by which a font is selected. Numbers are in ten-thousandths. (The manual's "Font
+/// Selection by Characteristic".)
 #[derive(Clone, Copy, Debug, PartialEq, Eq)]
 pub struct FontRequest {
     /// The symbol set, as `ESC (` names it.

@@ -1,11 +1,11 @@
 //! A page of one size, as it is read in one orientation.
 use tick_length::Length;
 
-/// A page of one size, as it is read in one orientation: the physical page, the logical page and the
-/// printable area.
+/// A page of one size, as it is read in one orientation: the physical page, the logical page and
+/// the printable area.
 ///
-/// Lengths are in ticks. Places are from the upper left corner of the physical page, to the right and
-/// down. (The manual's "Page Size" and "Orientation" have the areas of a page.)
+/// Lengths are in ticks. Places are from the upper left corner of the physical page, to the right
+/// and down. (The manual's "Page Size" and "Orientation" have the areas of a page.)
 #[derive(Clone, Copy, Debug, PartialEq, Eq)]
 pub struct Geometry {
     /// The page size, as `ESC &l#A` numbers it.
@@ -54,9 +54,9 @@ impl Geometry {
         printable_bottom: Length::ZERO,
     };
 
-    /// The page that these numbers describe: its size and orientation; then, in 7200ths of an inch, the
-    /// physical page's width and height, the logical page's left and upper edge, width and height, and the
-    /// printable area's left, upper, right and lower edge.
+    /// The page that these numbers describe: its size and orientation; then, in 7200ths of an inch,
+    /// the physical page's width and height, the logical page's left and upper edge, width and
+    /// height, and the printable area's left, upper, right and lower edge.
     pub fn from_row(numbers: &[u32; 12]) -> Geometry
         ensures { result ≡ row_of numbers.now }
     {

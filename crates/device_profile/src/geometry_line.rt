@@ -75,7 +75,8 @@ const MOST_SIZE: u32 = 999;
 
 const MOST_ORIENTATION: u32 = 3;
 
-/// The row that twelve numbers give, where the size and the orientation are such and both areas lie in the page.
+/// The row that twelve numbers give, where the size and the orientation are such and both areas lie
+/// in the page.
 fn row_of_numbers(numbers: &[u32; 12]) -> Option<Geometry>
     ensures { result ≡ row_of_numbers numbers.now }
 {

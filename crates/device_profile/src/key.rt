@@ -48,7 +48,8 @@ const KEYS: &[(&[u8], Key)] = &[
 
 /// The row of a word that is a key.
 fn row_of(word: &[u8]) -> Option<&'static (&'static [u8], Key)>
-    ensures { option_map (λ row. (row.now.0.now, row.now.1)) result ≡ find (λ row. bytes_eq row.0 word.now) keys }
+    ensures { option_map (λ row. (row.now.0.now, row.now.1)) result ≡
+        find (λ row. bytes_eq row.0 word.now) keys }
 {
     KEYS.iter().find(|(name, _)| *name == word)
 }

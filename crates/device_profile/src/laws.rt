@@ -13,8 +13,8 @@ pub fn each_key_once()
     ensures { (text : List ℕ) → HasEachKeyOnce text }
 {}
 
-/// All lines of an accepted text but the first may stand in any order: the text is accepted, and gives the same printer but for the
-/// order of its rows.
+/// All lines of an accepted text but the first may stand in any order: the text is accepted, and
+/// gives the same printer but for the order of its rows.
 pub fn order_is_free()
     ensures { (text other : List ℕ) → OrderIsFree text other }
 {}

@@ -1,4 +1,5 @@
-//! What is known of a printer, as a profile's text tells it: the values that its panel may have, its pages and its faces.
+//! What is known of a printer, as a profile's text tells it: the values that its panel may have,
+//! its pages and its faces.
 #![tactic(auto)]
 
 mod code_ranges;

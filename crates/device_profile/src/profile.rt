@@ -12,7 +12,8 @@ use std::alloc::{Allocator, Global};
 use std::marker::Model;
 use tick_length::Length;
 
-/// What is known of a printer: the values that its panel may have, its trays, pages and faces, and its limits.
+/// What is known of a printer: the values that its panel may have, its trays, pages and faces, and
+/// its limits.
 ///
 /// Clauses see a profile as a `Printer`, which is valid.
 #[derive(Drop)]
@@ -56,7 +57,8 @@ impl<A: Allocator> Profile<A> {
     /// The page of a size and an orientation.
     pub fn geometry(&self, size: u32, orientation: u32) -> Option<&Geometry>
         ensures row { option_copied result ≡ row_at self.now.geometries size orientation }
-        ensures fits { IfSome (row_at self.now.geometries size orientation) (λ page. IsTrue (fits_page page)) }
+        ensures fits { IfSome (row_at self.now.geometries size orientation)
+            (λ page. IsTrue (fits_page page)) }
         // Each panel that the printer may have leads to a page.
         ensures allowed { HasPages self.now }
     {
@@ -103,11 +105,13 @@ impl<A: Allocator> Profile<A> {
         self.faces.iter().find(|face| face.id() == id)
     }
 
-    /// The face that a request selects: the one of these seven parts, or None where no face has them all.
+    /// The face that a request selects: the one of these seven parts, or None where no face has
+    /// them all.
     #[tactic(auto, unfolding(crate::specs::Faces::face_for))]
     pub fn font(&self, request: &FontRequest) -> Option<&FontRow<A>>
         ensures face { option_copied result ≡ face_for self.now.faces request.now }
-        ensures metrics { IfSome (face_for self.now.faces request.now) (λ face. IsTrue (has_metrics face)) }
+        ensures metrics { IfSome (face_for self.now.faces request.now)
+            (λ face. IsTrue (has_metrics face)) }
     {
         self.faces
             .iter()
@@ -134,7 +138,8 @@ impl<A: Allocator> Profile<A> {
     pub fn first_panel(&self) -> Panel
         ensures value { result ≡ first_panel self.now }
         ensures allowed { IsAllowed self.now result }
-        // Each panel that the printer may have has a page, and each size of a page goes with each orientation of a page.
+        // Each panel that the printer may have has a page, and each size of a page goes with each
+        // orientation of a page.
         ensures pages { HasPages self.now }
         ensures pairs { IsTrue (has_every_pair self.now.geometries) }
     {

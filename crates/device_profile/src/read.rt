@@ -19,15 +19,16 @@ pub const MOST_BYTES: usize = 65_536;
 impl<A: Allocator + Copy> Profile<A> {
     /// The profile that a text describes.
     ///
-    /// The first line holds the words `pclprofile 1` or `pclprofile 2`, each other line a key and its words; lines without a word and lines that
-    /// begin with `#` are skipped.
+    /// The first line holds the words `pclprofile 1` or `pclprofile 2`, each other line a key and
+    /// its words; lines without a word and lines that begin with `#` are skipped.
     ///
-    /// An error is `Memory` where the allocator refused a request, or the first thing wrong: that the text has more than 65,536
-    /// bytes (`Range` with line 0); then the first faulty line, counted from 1; then, with line 0, `Missing`, `NoGeometry` or
-    /// `Range` of the whole.
+    /// An error is `Memory` where the allocator refused a request, or the first thing wrong: that
+    /// the text has more than 65,536 bytes (`Range` with line 0); then the first faulty line,
+    /// counted from 1; then, with line 0, `Missing`, `NoGeometry` or `Range` of the whole.
     #[tactic(auto, unfolding(crate::specs::Text::printer_of_text))]
     pub fn read(alloc: A, text: &[u8]) -> Result<Profile<A>, ProfileFault>
-        ensures { MatchResult result (λ profile. printer_of_text text.now ≡ Ok profile) (IsErrorOfText text.now) }
+        ensures { MatchResult result (λ profile. printer_of_text text.now ≡ Ok profile)
+            (IsErrorOfText text.now) }
     {
         if text.len() > MOST_BYTES {
             return Err(ProfileFault::Fault {
@@ -48,7 +49,8 @@ const NO_VERSION: ProfileFault = ProfileFault::Fault {
 /// What all lines of a text give, or the first faulty line.
 fn read_lines<A: Allocator + Copy>(alloc: A, text: &[u8]) -> Result<Draft<A>, ProfileFault>
     requires { length text.now ≤ 65_536 }
-    ensures { MatchResult result (λ draft. draft_of (lines text.now) ≡ Ok draft) (IsFaultOf (draft_of (lines text.now))) }
+    ensures { MatchResult result (λ draft. draft_of (lines text.now) ≡ Ok draft)
+        (IsFaultOf (draft_of (lines text.now))) }
 {
     let Some((first, rest)) = next_line(text) else {
         return Err(NO_VERSION);

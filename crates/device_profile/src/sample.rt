@@ -10,7 +10,8 @@ use std::alloc::{AllocError, Allocator};
 /// A profile for examples and tests.
 #[derive(Clone, Copy, Debug, PartialEq, Eq)]
 pub enum Sample {
-    /// A printer whose panel may have letter and A4 paper in portrait and landscape; it has duplex, two trays and two faces.
+    /// A printer whose panel may have letter and A4 paper in portrait and landscape; it has duplex,
+    /// two trays and two faces.
     A,
     /// Sample A with letter paper in portrait alone.
     B,

@@ -20,7 +20,8 @@ pub(crate) fn place_of(text: &[u8], byte: u8) -> usize
 
 /// The first line, without its end, and the text after it.
 pub fn next_line(text: &[u8]) -> Option<(&[u8], &[u8])>
-    ensures line { MatchOption result (lines text.now ≡ []) (λ cut. lines text.now ≡ cut.0.now ∷ lines cut.1.now) }
+    ensures line { MatchOption result (lines text.now ≡ [])
+        (λ cut. lines text.now ≡ cut.0.now ∷ lines cut.1.now) }
     ensures shorter { IfSome result (λ cut. length cut.1.now < length text.now) }
 {
     if text.is_empty() {
@@ -59,7 +60,8 @@ fn without_spaces(line: &[u8]) -> &[u8]
 
 /// The first word of a line, and the line after it.
 pub fn next_word(line: &[u8]) -> Option<(&[u8], &[u8])>
-    ensures word { MatchOption result (words_of line.now ≡ []) (λ cut. words_of line.now ≡ cut.0.now ∷ words_of cut.1.now) }
+    ensures word { MatchOption result (words_of line.now ≡ [])
+        (λ cut. words_of line.now ≡ cut.0.now ∷ words_of cut.1.now) }
     ensures shorter { IfSome result (λ cut. length cut.1.now < length line.now) }
 {
     let rest = without_spaces(line);

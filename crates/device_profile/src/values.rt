@@ -27,7 +27,8 @@ fn numbers_of<A: Allocator>(
     field: Field,
     words: &[u8],
 ) -> Result<Vec<u128, A>, AllocError>
-    ensures { IfOk result (λ numbers. numbers.items ≡ filter_map (value_of field) (words_of words.now)) }
+    ensures { IfOk result (λ numbers. numbers.items ≡
+        filter_map (value_of field) (words_of words.now)) }
 {
     let mut numbers = Vec::new(alloc);
     let mut rest = words;
@@ -146,7 +147,7 @@ fn only_word(line: &[u8]) -> Option<&[u8]>
 }
 
 /// The one number behind a key, up to the most.
-#[tactic(auto, using(crate::proofs::ValueLemmas::no_number), unfolding(crate::specs::Values::number_on_line))]
+#[tactic(auto, using(crate::proofs::ValueFacts::no_number), unfolding(crate::specs::Values::number_on_line))]
 pub(crate) fn number_on_line(most: u32, words: &[u8]) -> Option<u32>
     ensures { result ≡ number_on_line most (words_of words.now) }
 {
@@ -168,7 +169,7 @@ fn is_graphic(word: &[u8]) -> bool
 const LONGEST_NAME: usize = 32;
 
 /// Whether the words behind `name` are a name: one word of 1 to 32 printable bytes.
-#[tactic(auto, using(crate::proofs::ValueLemmas::no_name), unfolding(crate::specs::Values::is_name))]
+#[tactic(auto, using(crate::proofs::ValueFacts::no_name), unfolding(crate::specs::Values::is_name))]
 pub(crate) fn is_name(words: &[u8]) -> bool
     ensures { result ≡ is_name (words_of words.now) }
 {

@@ -62,8 +62,8 @@ impl<A: Allocator> Draft<A> {
             && !self.faces.is_empty()
     }
 
-    /// Whether each size and each orientation of the panel has a page, and each size of a page has one in each orientation of a
-    /// page.
+    /// Whether each size and each orientation of the panel has a page, and each size of a page has
+    /// one in each orientation of a page.
     fn has_its_pages(&self) -> bool
         ensures { result ≡ has_its_pages self.now }
     {
@@ -133,7 +133,8 @@ fn has_each_size(rows: &[Geometry], sizes: &[u32]) -> bool
 
 /// Whether each of these orientations is one of some row.
 fn has_each_orientation(rows: &[Geometry], orientations: &[u32]) -> bool
-    ensures { result ≡ list_all (λ orientation. has_orientation rows.now orientation) orientations.now }
+    ensures { result ≡ list_all (λ orientation. has_orientation rows.now orientation)
+        orientations.now }
 {
     orientations
         .iter()
@@ -163,7 +164,8 @@ fn has_each_face<A: Allocator>(faces: &[FontRow<A>], fonts: &[u32]) -> bool
 
 /// Whether each of these trays is one of the device.
 fn has_each_tray(device_trays: &[u32], trays: &[u32]) -> bool
-    ensures { result ≡ list_all (λ tray. list_any (λ held. held == tray) device_trays.now) trays.now }
+    ensures { result ≡ list_all (λ tray. list_any (λ held. held == tray) device_trays.now)
+        trays.now }
 {
     trays.iter().all(|tray| device_trays.contains(tray))
 }

@@ -1,6 +1,6 @@
 -- What an item draws on a machine that knows its panel, and what is due of the rest of the job.
 use Rattle.std.proofs.Common.{◌≡◌, ℕ, Bool, true, false, if◌then◌else◌, List, [], ◌∷◌, ◌++◌, refl, ap, sym, ◌∙◌, append_assoc, append-nil}
-use Rattle.pcl_items.specs.declared.fault.Cause.{Cause}
+use Rattle.pcl_items.specs.declared.fault.LexCause.{LexCause}
 use Rattle.pcl_items.specs.Items.{Placed}
 use Rattle.pcl_items.specs.Reading.{Reading, Whole, Stopped, with_item}
 use Rattle.device_profile.specs.declared.panel.Panel.{Panel}
@@ -119,7 +119,7 @@ module _ (selection : Selection) (sentence : List ℕ) where
           λ rest. sym (ap (λ (m : MachineState). reading_drawing selection sentence m.printer (settings_at any_panel m.defaults) p' rest m.macros t) is) in
           let known : (rest : Reading) → rest_drawing selection sentence machine p (with_item x rest) ≡ then_draws drawn (rest_drawing selection sentence machine' p' rest) =
           λ rest. item_known rest events peaks (Done t) false run goes ∙ ap (then_draws drawn) (rest_is rest) in
-          let added : (rest : List Placed) (place : ℕ) (cause : Cause) → fault_behind selection sentence machine.printer defaults place cause p' rest macros t
+          let added : (rest : List Placed) (place : ℕ) (cause : LexCause) → fault_behind selection sentence machine.printer defaults place cause p' rest macros t
           ≡ fault_behind selection sentence machine'.printer (settings_at any_panel machine'.defaults) place cause p' rest machine'.macros t
           = λ rest place cause. sym (ap (λ (m : MachineState). fault_behind selection sentence m.printer (settings_at any_panel m.defaults) place cause p' rest m.macros t) is) in
           record {

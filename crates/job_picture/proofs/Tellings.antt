@@ -1,7 +1,7 @@
 -- What a call of the renderer puts, and leaves due.
 use Rattle.std.proofs.Common.{◌≡◌, ℕ, Bool, true, false, Ok, Err, List, [], ◌++◌, Option, None, Some, Result, ap, sym, ◌∙◌, subst, append_assoc}
 use Rattle.std.specs.Result.{IsErr}
-use Rattle.pcl_items.specs.declared.fault.Cause.{Cause}
+use Rattle.pcl_items.specs.declared.fault.LexCause.{LexCause}
 use Rattle.pcl_items.specs.Items.{Placed}
 use Rattle.pcl_items.specs.Reading.{Reading, Whole, Stopped}
 use Rattle.page_env.specs.declared.finding.Finding.{Finding}
@@ -171,7 +171,7 @@ module _ (selection : Selection) (sentence : List ℕ) (machine : MachineState) 
 
   -- ---- a fault of the bytes
 
-  pub tells_fault : (place : ℕ) (cause : Cause) → kept' ≡ mid ++ failing p → Ended rendering (λ reading. reading ≡ Stopped [] place cause) old old kept kept' (Ok (Fail place 0 (FaultOfBytes cause)))
+  pub tells_fault : (place : ℕ) (cause : LexCause) → kept' ≡ mid ++ failing p → Ended rendering (λ reading. reading ≡ Stopped [] place cause) old old kept kept' (Ok (Fail place 0 (FaultOfBytes cause)))
   tells_fault place cause told = (
     start ++ failing p,
     puts_before old old kept mid kept' start (failing p) (Puts-kept old kept mid start started) told,
@@ -257,7 +257,7 @@ module _ (selection : Selection) (sentence : List ℕ) (machine : MachineState) 
           tells_end_cut place mid' p' some.0 some.1 r err
 
     -- and a fault of the bytes
-    pub fault_fails : (place : ℕ) (cause : Cause) → old ≡ new → kept' ≡ mid ++ (drawn_failure sheet p spot sentence ++ end_of_all selection) → (outcome : Outcome) → outcome ≡ Fail place 0 (FaultOfBytes cause)
+    pub fault_fails : (place : ℕ) (cause : LexCause) → old ≡ new → kept' ≡ mid ++ (drawn_failure sheet p spot sentence ++ end_of_all selection) → (outcome : Outcome) → outcome ≡ Fail place 0 (FaultOfBytes cause)
         → Ended rendering (λ reading. reading ≡ Stopped [] place cause) old old kept kept' (Ok outcome)
     fault_fails place cause same told outcome outcome_is =
         subst (λ o. Ended rendering (λ reading. reading ≡ Stopped [] place cause) old old kept kept' (Ok o)) (sym outcome_is) (tells_fault place cause (failing_is p mid told))

@@ -1,7 +1,7 @@
 -- The pictures of pages of a job: what is written of its plain run from a panel, and what comes of it.
 use Rattle.std.specs.Prelude.{ℕ, Bool, true, false, if◌then◌else◌, List, [], ◌∷◌, ◌++◌}
-use Rattle.pcl_items.specs.declared.fault.Cause.{Cause}
-use Rattle.pcl_items.specs.declared.fault.Cause.TheVariants.{Truncated}
+use Rattle.pcl_items.specs.declared.fault.LexCause.{LexCause}
+use Rattle.pcl_items.specs.declared.fault.LexCause.TheVariants.{Truncated}
 use Rattle.pcl_items.specs.Items.{Placed}
 use Rattle.pcl_items.specs.Reading.{Reading, Whole, Stopped}
 use Rattle.device_profile.specs.declared.panel.Panel.{Panel}
@@ -85,7 +85,7 @@ end_drawing selection sentence printer defaults place p macros s =
     run_drawing selection sentence printer p s place (job_end_run (with_macros printer defaults macros) s) (λ p' t. at_the_end selection place)
 
 -- of a fault of the bytes
-abbrev pub fault_drawing : Selection → (sentence : List ℕ) → Printer → ℕ → Cause → Progress → Store → State → Drawing
+abbrev pub fault_drawing : Selection → (sentence : List ℕ) → Printer → ℕ → LexCause → Progress → Store → State → Drawing
 fault_drawing selection sentence printer place cause p macros s =
     at_failure selection sentence printer s p (Fail place 0 (FaultOfBytes cause))
 
@@ -108,7 +108,7 @@ added_behind selection p r next =
     let p' = progress_behind_all p r.events in if is_behind selection p'.page then [] else (added_at_ending r.ending (next p'))
 
 -- the failure, behind items
-abbrev pub fault_behind : Selection → (sentence : List ℕ) → Printer → Settings → ℕ → Cause → Progress → List Placed → Store → State → List ℕ
+abbrev pub fault_behind : Selection → (sentence : List ℕ) → Printer → Settings → ℕ → LexCause → Progress → List Placed → Store → State → List ℕ
 fault_behind selection sentence printer defaults place cause p [] macros s = (fault_drawing selection sentence printer place cause p macros s).text
 fault_behind selection sentence printer defaults place cause p (x ∷ items) macros s =
     added_behind selection p (job_item_run (with_macros printer defaults macros) x.item s)

@@ -16,7 +16,7 @@ use crate::sheet::{Sheet, Spot, push_drawn_failure, push_end_of_all, push_start_
 use device_profile::{Panel, Profile};
 use page_env::{Finding, Page};
 use page_machine::{Machine, Start};
-use pcl_items::{Cause, Item, LexFault, Place};
+use pcl_items::{Item, LexCause, LexFault, Place};
 use preflight::{Error, Outcome, Outlet, Reason, Renderer, Source, render_job};
 use std::alloc::{AllocError, Allocator};
 
@@ -61,7 +61,7 @@ fn late_end(selection: Selection, place: Place) -> Outcome
     match selection {
         Selection::All => Outcome::Done,
         Selection::One(_) => fails_by(LexFault {
-            cause: Cause::Truncated,
+            cause: LexCause::Truncated,
             place,
         }),
     }

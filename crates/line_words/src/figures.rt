@@ -152,7 +152,8 @@ pub fn push_hex<A: Allocator>(text: &mut Vec<u8, A>, bytes: &[u8]) -> Result<(),
     Ok(())
 }
 
-/// Appends a byte as itself; one that shows nothing, or a backslash, as `\x` and two hexadecimal digits.
+/// Appends a byte as itself; one that shows nothing, or a backslash, as `\x` and two hexadecimal
+/// digits.
 fn push_escaped_byte<A: Allocator>(text: &mut Vec<u8, A>, byte: u8) -> Result<(), AllocError>
     ensures { OnOk result (text.new.items ≡ text.old.items ++ escaped_byte byte) }
 {

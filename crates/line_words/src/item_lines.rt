@@ -11,14 +11,16 @@ use pcl_items::{Command, Group, Item, LexFault, Number, Place, SimpleItem, spell
 use std::alloc::{AllocError, Allocator};
 use verdict::Reason;
 
-/// Appends the line of an item. `spelling` is room for its spelling, so that none is asked for at each item.
+/// Appends the line of an item. `spelling` is room for its spelling, so that none is asked for at
+/// each item.
 pub fn push_item<A: Allocator, B: Allocator>(
     text: &mut Vec<u8, A>,
     spelling: &mut Vec<u8, B>,
     place: Place,
     item: &Item<'_>,
 ) -> Result<(), AllocError>
-    ensures { OnOk result (text.new.items ≡ text.old.items ++ item_line (at place (view item.now))) }
+    ensures { OnOk result (text.new.items ≡
+        text.old.items ++ item_line (at place (view item.now))) }
 {
     if let Item::Simple(SimpleItem::Parameterized(command, number)) = item {
         return push_command(text, place, *command, *number);
@@ -32,22 +34,24 @@ pub fn push_item<A: Allocator, B: Allocator>(
     Ok(())
 }
 
-/// Appends the line of a parameterized command, as most items are. Of its spelling only the escape character shows nothing.
+/// Appends the line of a parameterized command, as most items are. Of its spelling only the escape
+/// character shows nothing.
 fn push_command<A: Allocator>(
     text: &mut Vec<u8, A>,
     place: Place,
     command: Command,
     number: Number,
 ) -> Result<(), AllocError>
-    ensures { OnOk result (text.new.items ≡ text.old.items ++ item_line (at place (Entry.Parameterized command (amount number)))) }
+    ensures { OnOk result (text.new.items ≡
+        text.old.items ++ item_line (at place (Entry.Parameterized command (amount number)))) }
 {
     push_front(text, place, command.group())?;
     push_amount(text, number)?;
     text.extend_from_slice(&[command.letter(), b'\n'])
 }
 
-/// Appends a place, and behind a space what begins a command of a group: the escape character by its
-/// digits, and two characters.
+/// Appends a place, and behind a space what begins a command of a group: the escape character by
+/// its digits, and two characters.
 fn push_front<A: Allocator>(
     text: &mut Vec<u8, A>,
     place: Place,

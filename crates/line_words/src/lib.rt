@@ -1,4 +1,5 @@
-//! The words of the lines that are written on a job: why it fails, its items, its marks and the ends of its pages.
+//! The words of the lines that are written on a job: why it fails, its items, its marks and the
+//! ends of its pages.
 #![tactic(auto)]
 
 mod figures;

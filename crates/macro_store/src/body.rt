@@ -1,9 +1,9 @@
 //! The items of a body.
 
-ghost use Rattle.std.specs.Prelude.{◌≡◌, ◌∷◌, [], MatchOption};
-ghost use Rattle.pcl_items.specs.Items.{view as entry_of};
+ghost use Rattle.std.specs.Prelude.{◌≡◌, ◌∷◌, [], IfNone, IfSome, MatchOption};
+ghost use Rattle.pcl_items.specs.Items.{simple_view, view as entry_of};
 
-use pcl_items::{Item, Mode, first_spelled};
+use pcl_items::{Item, Mode, SimpleItem, first_spelled, first_spelled_command};
 use std::marker::Model;
 
 /// The items of a body that are still to come, in order.
@@ -29,7 +29,8 @@ impl<'a> Model for Body<'a> {
 impl<'a> Body<'a> {
     /// The next item. Its data are lent from the store.
     pub fn next(&mut self) -> Option<Item<'a>>
-        ensures { MatchOption result ((self.old ≡ []) × (self.new ≡ [])) (λ item. self.old ≡ entry_of item ∷ self.new) }
+        ensures { MatchOption result ((self.old ≡ []) × (self.new ≡ []))
+            (λ item. self.old ≡ entry_of item ∷ self.new) }
     {
         match first_spelled(self.rest, self.mode) {
             None => None,
@@ -38,6 +39,25 @@ impl<'a> Body<'a> {
                 self.mode = mode;
                 Some(item)
             }
+        }
+    }
+
+    /// The next item, where it is a command. It may always answer none.
+    // So what carries out the item knows which kind it has.
+    #[inline(always)]
+    pub fn next_command(&mut self) -> Option<SimpleItem>
+        ensures some { IfSome result (λ item. self.old ≡ simple_view item ∷ self.new) }
+        ensures none { IfNone result (self.new ≡ self.old) }
+    {
+        match self.mode {
+            Mode::Pcl => match first_spelled_command(self.rest) {
+                None => None,
+                Some((item, end)) => {
+                    self.rest = &self.rest[end..];
+                    Some(item)
+                }
+            },
+            _ => None,
         }
     }
 }

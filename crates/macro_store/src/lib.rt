@@ -1,7 +1,7 @@
 //! The macros of a job: a store of their bodies, and the one definition that is open.
 //!
-//! The bodies lie one behind another in one pool of bytes, each item in its one spelling. `specs/Store.antt` says what a
-//! store is, `specs/Layout.antt` how the pool keeps it.
+//! The bodies lie one behind another in one pool of bytes, each item in its one spelling.
+//! `specs/Store.antt` says what a store is, `specs/Layout.antt` how the pool keeps it.
 #![tactic(auto)]
 
 mod body;

@@ -48,7 +48,8 @@ fn move_down<A: Allocator + Copy>(spans: &mut Spans<A>, place: usize, by: usize)
 fn take_out<A: Allocator + Copy>(pool: &mut Vec<u8, A>, spans: &mut Spans<A>, id: u16)
     requires { IsLaidOut pool.old.items spans.old.entries None }
     ensures laid { IsLaidOut pool.new.items spans.new.entries None }
-    ensures bodies { bodies_in pool.new.items spans.new.entries ≡ remove_entry (nat_eq id) (bodies_in pool.old.items spans.old.entries) }
+    ensures bodies { bodies_in pool.new.items spans.new.entries ≡
+        remove_entry (nat_eq id) (bodies_in pool.old.items spans.old.entries) }
     ensures fewer { length pool.new.items ≤ length pool.old.items }
     ensures gone { lookup (nat_eq id) spans.new.entries ≡ None }
     ensures room { spare spans.old ≤ spare spans.new }
@@ -92,11 +93,13 @@ impl<A: Allocator + Copy> Model for MacroStore<A> {
       definition = definition_in s.pool.items s.definition;
     } };
 
-    ghost invariant = { λ s. IsLaidOut s.pool.items s.spans.entries s.definition × (length s.pool.items ≤ s.limit) × (IsSome s.definition → 0 < spare s.spans) };
+    ghost invariant = { λ s. IsLaidOut s.pool.items s.spans.entries s.definition ×
+        (length s.pool.items ≤ s.limit) × (IsSome s.definition → 0 < spare s.spans) };
 }
 
 impl<A: Allocator + Copy> MacroStore<A> {
-    /// A store of no macros. All items in it together, each in its one spelling, have at most `limit` bytes.
+    /// A store of no macros. All items in it together, each in its one spelling, have at most
+    /// `limit` bytes.
     pub fn new(alloc: A, limit: u32) -> Self
         ensures { result ≡ no_macros limit }
     {
@@ -115,7 +118,8 @@ impl<A: Allocator + Copy> MacroStore<A> {
         self.definition.is_some()
     }
 
-    /// The bytes of all items in the store, each in its one spelling, those of an open definition among them.
+    /// The bytes of all items in the store, each in its one spelling, those of an open definition
+    /// among them.
     pub fn bytes(&self) -> u64
         ensures bytes { result ≡ stored_bytes self.now }
         ensures within { result ≤ self.now.limit }
@@ -125,8 +129,8 @@ impl<A: Allocator + Copy> MacroStore<A> {
 
     /// Opens the definition of a macro, whose old body goes.
     ///
-    /// An error means that memory was refused; the store then stands as before. Room for the body's entry is made here, so
-    /// that the definition can always be ended.
+    /// An error means that memory was refused; the store then stands as before. Room for the body's
+    /// entry is made here, so that the definition can always be ended.
     pub fn begin(&mut self, id: u16) -> Result<(), AllocError>
         requires { self.old.definition ≡ None }
         ensures ok { OnOk result (self.new ≡ began id self.old) }
@@ -141,12 +145,14 @@ impl<A: Allocator + Copy> MacroStore<A> {
         Ok(())
     }
 
-    /// Adds an item to the open definition, in a mode that admits it, unless it would take the store past its limit.
+    /// Adds an item to the open definition, in a mode that admits it, unless it would take the
+    /// store past its limit.
     ///
     /// An error leaves the store as before.
     pub fn append(&mut self, item: &Item<'_>) -> Result<(), Refusal>
         requires { Admits self.old (entry_of item.now) }
-        ensures full { (result ≡ Err Refusal.MacroMemory) ↔ (self.old.limit < stored_bytes self.old + length (canon (entry_of item.now))) }
+        ensures full { (result ≡ Err Refusal.MacroMemory) ↔
+            (self.old.limit < stored_bytes self.old + length (canon (entry_of item.now))) }
         ensures ok { OnOk result (self.new ≡ appended (entry_of item.now) self.old) }
         ensures err { OnErr result (self.new ≡ self.old) }
     {
@@ -163,7 +169,8 @@ impl<A: Allocator + Copy> MacroStore<A> {
     // Adds an item that has room.
     fn add(&mut self, item: &Item<'_>) -> Result<(), AllocError>
         requires admitted { Admits self.old (entry_of item.now) }
-        requires fits { stored_bytes self.old + length (canon (entry_of item.now)) ≤ self.old.limit }
+        requires fits { stored_bytes self.old + length (canon (entry_of item.now)) ≤
+            self.old.limit }
         ensures ok { OnOk result (self.new ≡ appended (entry_of item.now) self.old) }
         ensures err { OnErr result (self.new ≡ self.old) }
     {

@@ -2,7 +2,7 @@
 use Rattle.std.proofs.Common.{◌≡◌, ℕ, Bool, true, false, not, ◌||◌, cond, unwrap_or, Result, Ok, Err, List, [], ◌∷◌, ◌++◌, flat_map, Option, None, Some, refl, ap, sym, ◌∙◌, subst, append_assoc, append-nil}
 use Rattle.std.specs.Option.{option_map_or}
 use Rattle.std.specs.Result.{IsErr}
-use Rattle.pcl_items.specs.declared.fault.Cause.{Cause}
+use Rattle.pcl_items.specs.declared.fault.LexCause.{LexCause}
 use Rattle.pcl_items.specs.declared.item.Mode.{Mode}
 use Rattle.pcl_items.specs.Grammar.{follows}
 use Rattle.pcl_items.specs.Items.{Entry, Placed}
@@ -30,19 +30,19 @@ use Rattle.preflight.specs.PageTexts.{run_outcome}
 use Rattle.preflight.specs.Texts.{reading_outcome}
 use Rattle.preflight.specs.Carriers.Rendering.{Puts, RestGoesOn, EndsWith, StartsWith, Ended as EndedWith, RendersItem}
 use Rattle.streams.specs.Outlet.{OutletState}
-use Rattle.streams.proofs.OutletLemmas.{Adds-none}
+use Rattle.streams.proofs.OutletFacts.{Adds-none}
 use Rattle.notes.specs.declared.closing.Closing.{Closing}
 use Rattle.notes.specs.declared.note.Note.{Note}
 use Rattle.notes.specs.declared.past.Past.{Past}
-use Rattle.notes.specs.declared.standing.Standing.{Standing}
+use Rattle.notes.specs.declared.state_before.StateBefore.{StateBefore}
 use Rattle.notes.specs.Note.{Told, firsts}
 use Rattle.notes.specs.StateNotes.{has_rows_left, state_notes}
 use Rattle.notes.specs.Notes.{carried_notes, ended_notes, notes_of_items, is_end_of_page, closes_page, is_done, notes_at_end, end_notes, long_run, noted_outcome, notes_rendering}
 use Rattle.notes.specs.Carriers.Past.{no_past, past_behind, past_notes, past_of}
-use Rattle.notes.specs.Carriers.Rest.{Tells, told_behind, closing_behind, rest_of_items, rest_of_end, rest_run, rest_notes, notes_from}
-use Rattle.notes.specs.Carriers.Standing.{standing_of, standing_at, standing_notes, behind_notes}
+use Rattle.notes.specs.Carriers.Rest.{WritesNotes, told_behind, closing_behind, rest_of_items, rest_of_end, rest_run, rest_notes, notes_from}
+use Rattle.notes.specs.Carriers.StateBefore.{state_before_of, state_before_at, before_notes, behind_notes}
 use Rattle.notes.proofs.Pasts.{past_is, ends_open_more, ends_open_none}
-use Rattle.notes.proofs.ToldNotes.{Tells-then, lines-then}
+use Rattle.notes.proofs.ToldNotes.{WritesNotes-then, lines-then}
 
 -- ---- whether a page was closed
 
@@ -80,10 +80,10 @@ closing_all old new (e ∷ es) h =
 
 -- ---- what was kept of the state before an item
 
-pub carried_is : (machine : MachineState) (panel : Panel) (x : Placed) (t : State) → behind_notes x t (standing_at machine panel x.item) ≡ carried_notes machine.printer machine.macros x (state_at panel machine.page) t
+pub carried_is : (machine : MachineState) (panel : Panel) (x : Placed) (t : State) → behind_notes x t (state_before_at machine panel x.item) ≡ carried_notes machine.printer machine.macros x (state_at panel machine.page) t
 carried_is machine panel x t =
-    let standing : Standing = standing_of machine.printer x.item (state_at panel machine.page) in
-    elim (is_defining machine.macros) as (λ b. option_map_or (standing_notes x t) (cond b None (Some standing)) [] ≡ cond b [] (state_notes machine.printer x (state_at panel machine.page) t)) [
+    let before : StateBefore = state_before_of machine.printer x.item (state_at panel machine.page) in
+    elim (is_defining machine.macros) as (λ b. option_map_or (before_notes x t) (cond b None (Some before)) [] ≡ cond b [] (state_notes machine.printer x (state_at panel machine.page) t)) [
       | true ↦ refl
       | false ↦ refl
     ]
@@ -263,20 +263,20 @@ module _ (write : Told → List ℕ) (machine : MachineState) (panel : Panel) (p
   rendering = notes_from write machine panel past closing.closed told
 
   -- the item was executed to its end
-  pub tells_item : (x : Placed) (machine' : MachineState) (closing' : Closing) (past' : Past) (standing : Option Standing) (page : Page) (mid told' : List Note) (middle : List ℕ)
+  pub tells_item : (x : Placed) (machine' : MachineState) (closing' : Closing) (past' : Past) (before : Option StateBefore) (page : Page) (mid told' : List Note) (middle : List ℕ)
       → machine' ≡ record machine { page = machine'.page; macros = (item_of machine x.item).macros; mode = (item_of machine x.item).mode; stopped = false }
       → TakesUpTo takes closing closing' (item_of machine x.item).run (λ panel. just [] (Done (state_at panel machine'.page)))
-      → Tells write told mid kept middle (past_notes past x)
-      → standing ≡ standing_at machine panel x.item → page ≡ machine'.page
-      → Tells write mid told' middle kept' (behind_notes x (state_at panel page) standing)
+      → WritesNotes write told mid kept middle (past_notes past x)
+      → before ≡ state_before_at machine panel x.item → page ≡ machine'.page
+      → WritesNotes write mid told' middle kept' (behind_notes x (state_at panel page) before)
       → past' ≡ past_behind past x.item
       → RendersItem rendering (notes_from write machine' panel past' closing'.closed told') x a a kept kept' (Ok None)
-  tells_item x machine' closing' past' standing page mid told' middle is took first standing_is page_is second past_is =
+  tells_item x machine' closing' past' before page mid told' middle is took first before_is page_is second past_is =
       let t : State = state_at panel machine'.page in
       let own : List Told = past_notes past x in
       let carried : List Told = carried_notes machine.printer machine.macros x (state_at panel machine.page) t in
-      let carried_by : behind_notes x (state_at panel page) standing ≡ carried = ap (λ p. behind_notes x (state_at panel p) standing) page_is ∙ (ap (behind_notes x t) standing_is ∙ carried_is machine panel x t) in
-      let both : Tells write told told' kept kept' (own ++ carried) = Tells-then first (subst (Tells write mid told' middle kept') carried_by second) in
+      let carried_by : behind_notes x (state_at panel page) before ≡ carried = ap (λ p. behind_notes x (state_at panel p) before) page_is ∙ (ap (behind_notes x t) before_is ∙ carried_is machine panel x t) in
+      let both : WritesNotes write told told' kept kept' (own ++ carried) = WritesNotes-then first (subst (WritesNotes write mid told' middle kept') carried_by second) in
       let text : List ℕ = flat_map write (firsts told (own ++ carried)) in
       let closed_is : closing'.closed ≡ closing.closed || closes_page took.events = closing_all closing closing' took.events took.leads in (
         text,
@@ -290,7 +290,7 @@ module _ (write : Told → List ℕ) (machine : MachineState) (panel : Panel) (p
   -- it had a finding
   pub tells_finding : (x : Placed) (closing' : Closing) (told' : List Note) (finding : Finding)
       → TakesUpTo takes closing closing' (item_of machine x.item).run (λ panel. just [] (Halts finding))
-      → Tells write told told' kept kept' (past_notes past x ++ long_run (Fail x.place 1 (FindingOfRun finding)))
+      → WritesNotes write told told' kept kept' (past_notes past x ++ long_run (Fail x.place 1 (FindingOfRun finding)))
       → EndedWith rendering (StartsWith x) a a kept kept' (Ok (noted_outcome (Fail x.place 1 (FindingOfRun finding))))
   tells_finding x closing' told' finding took tells =
       let text : List ℕ = flat_map write (firsts told (past_notes past x ++ long_run (Fail x.place 1 (FindingOfRun finding)))) in
@@ -300,7 +300,7 @@ module _ (write : Told → List ℕ) (machine : MachineState) (panel : Panel) (p
   pub tells_end : (place : ℕ) (page : Page) (is_short : Bool) (closing' : Closing) (told' : List Note) (s : Panel → State)
       → page ≡ machine.page → is_short ≡ has_rows_left page.raster
       → TakesUpTo takes closing closing' (end_of machine).run (λ panel. just [] (Done (s panel)))
-      → Tells write told told' kept kept' (notes_at_end past.is_open (not closing'.closed) is_short place)
+      → WritesNotes write told told' kept kept' (notes_at_end past.is_open (not closing'.closed) is_short place)
       → EndedWith rendering (λ reading. reading ≡ Whole [] place) a a kept kept' (Ok AllDone)
   tells_end place page is_short closing' told' s page_is short_is took last =
       let closed_is : closing'.closed ≡ closing.closed || closes_page took.events = closing_all closing closing' took.events took.leads in
@@ -315,14 +315,14 @@ module _ (write : Told → List ℕ) (machine : MachineState) (panel : Panel) (p
 
   pub tells_end_finding : (place : ℕ) (closing' : Closing) (told' : List Note) (finding : Finding)
       → TakesUpTo takes closing closing' (end_of machine).run (λ panel. just [] (Halts finding))
-      → Tells write told told' kept kept' (long_run (Fail place 1 (FindingOfRun finding)))
+      → WritesNotes write told told' kept kept' (long_run (Fail place 1 (FindingOfRun finding)))
       → EndedWith rendering (λ reading. reading ≡ Whole [] place) a a kept kept' (Ok (noted_outcome (Fail place 1 (FindingOfRun finding))))
   tells_end_finding place closing' told' finding took tells =
       let text : List ℕ = flat_map write (firsts told (long_run (Fail place 1 (FindingOfRun finding)))) in
       (text, puts a kept kept' text tells.text_is, end_found machine panel past closing.closed write told place finding took.events (took.peaks panel) (took.is panel))
 
   -- the bytes have a fault
-  pub tells_fault : (place : ℕ) (cause : Cause) → kept' ≡ kept → EndedWith rendering (λ reading. reading ≡ Stopped [] place cause) a a kept kept' (Ok (Fail place 0 (Fault cause)))
+  pub tells_fault : (place : ℕ) (cause : LexCause) → kept' ≡ kept → EndedWith rendering (λ reading. reading ≡ Stopped [] place cause) a a kept kept' (Ok (Fail place 0 (Fault cause)))
   tells_fault place cause same =
       ([], puts a kept kept' [] (same ∙ sym (append-nil kept)), record { due = λ reading is. ap rendering.text is; outcome_is = λ reading is. ap rendering.outcome is })
 

@@ -3,7 +3,7 @@ use Rattle.std.proofs.Common.{◌≡◌, ℕ, Bool, true, false, cond, List, [],
 use Rattle.std.proofs.lemmas.Grind.{flat_map-append}
 use Rattle.notes.specs.declared.note.Note.{Note}
 use Rattle.notes.specs.Note.{Told, told_if, firsts, is_among, among_behind}
-use Rattle.notes.specs.Carriers.Rest.{Tells, told_behind}
+use Rattle.notes.specs.Carriers.Rest.{WritesNotes, told_behind}
 
 firsts-append : (told : List Note) (xs ys : List Told) → firsts told (xs ++ ys) ≡ firsts told xs ++ firsts (told_behind told xs) ys
 firsts-append told [] ys = refl
@@ -21,12 +21,12 @@ pub lines-then : (write : Told → List ℕ) (told : List Note) (xs ys : List To
 lines-then write told xs ys = ap (flat_map write) (firsts-append told xs ys) ∙ flat_map-append write (firsts told xs) (firsts (told_behind told xs) ys)
 
 -- nothing was told
-pub Tells-none : (write : Told → List ℕ) (told : List Note) (text : List ℕ) → Tells write told told text text []
-Tells-none write told text = record { text_is = sym (append-nil text); told_is = refl }
+pub WritesNotes-none : (write : Told → List ℕ) (told : List Note) (text : List ℕ) → WritesNotes write told told text text []
+WritesNotes-none write told text = record { text_is = sym (append-nil text); told_is = refl }
 
 -- notes were told, and then others
-pub Tells-then : {write : Told → List ℕ} {a b c : List Note} {k l m : List ℕ} {xs ys : List Told} → Tells write a b k l xs → Tells write b c l m ys → Tells write a c k m (xs ++ ys)
-Tells-then {write = write} {a = a} {b = b} {c = c} {k = k} {l = l} {m = m} {xs = xs} {ys = ys} p q = record {
+pub WritesNotes-then : {write : Told → List ℕ} {a b c : List Note} {k l m : List ℕ} {xs ys : List Told} → WritesNotes write a b k l xs → WritesNotes write b c l m ys → WritesNotes write a c k m (xs ++ ys)
+WritesNotes-then {write = write} {a = a} {b = b} {c = c} {k = k} {l = l} {m = m} {xs = xs} {ys = ys} p q = record {
   text_is =
       q.text_is
       ∙ (ap (λ told. l ++ flat_map write (firsts told ys)) p.told_is
@@ -43,27 +43,27 @@ module _ (write : Told → List ℕ) (told : List Note) (text : List ℕ) (holds
   one = record { place = place; note = note }
 
   -- it does not hold
-  pub tells_not : holds ≡ false → Tells write told told text text (told_if holds place note)
-  tells_not e = subst (λ b. Tells write told told text text (told_if b place note)) (sym e) (Tells-none write told text)
+  pub tells_not : holds ≡ false → WritesNotes write told told text text (told_if holds place note)
+  tells_not e = subst (λ b. WritesNotes write told told text text (told_if b place note)) (sym e) (WritesNotes-none write told text)
 
   -- it was told before
-  again : is_among told note ≡ true → Tells write told told text text (one ∷ [])
+  again : is_among told note ≡ true → WritesNotes write told told text text (one ∷ [])
   again e = record {
     text_is = sym (append-nil text) ∙ ap (λ b. text ++ flat_map write (cond b [] (one ∷ []) ++ [])) (sym e);
     told_is = ap (λ b. cond b told (told ++ note ∷ [])) (sym e);
   }
 
-  pub tells_again : is_among told note ≡ true → Tells write told told text text (told_if holds place note)
+  pub tells_again : is_among told note ≡ true → WritesNotes write told told text text (told_if holds place note)
   tells_again e =
-      elim holds as (λ b. Tells write told told text text (told_if b place note)) [
+      elim holds as (λ b. WritesNotes write told told text text (told_if b place note)) [
         | true ↦ again e
-        | false ↦ Tells-none write told text
+        | false ↦ WritesNotes-none write told text
       ]
 
   -- it was told now
-  pub tells_now : (told' : List Note) (text' : List ℕ) → holds ≡ true → is_among told note ≡ false → text' ≡ text ++ write one → told' ≡ told ++ note ∷ [] → Tells write told told' text text' (told_if holds place note)
+  pub tells_now : (told' : List Note) (text' : List ℕ) → holds ≡ true → is_among told note ≡ false → text' ≡ text ++ write one → told' ≡ told ++ note ∷ [] → WritesNotes write told told' text text' (told_if holds place note)
   tells_now told' text' e new text_is told_is =
-      subst (λ b. Tells write told told' text text' (told_if b place note)) (sym e) (record {
+      subst (λ b. WritesNotes write told told' text text' (told_if b place note)) (sym e) (record {
         text_is =
             text_is
             ∙ (ap (λ t. text ++ t) (sym (append-nil (write one)))
@@ -72,5 +72,5 @@ module _ (write : Told → List ℕ) (told : List Note) (text : List ℕ) (holds
       })
 
 -- the same note by other words
-pub tells_at : (write : Told → List ℕ) (a b : List Note) (k l : List ℕ) (holds holds' : Bool) (place place' : ℕ) (note : Note) → holds ≡ holds' → place ≡ place' → Tells write a b k l (told_if holds place note) → Tells write a b k l (told_if holds' place' note)
-tells_at write a b k l holds holds' place place' note e f h = subst (λ n. Tells write a b k l (told_if holds' n note)) f (subst (λ v. Tells write a b k l (told_if v place note)) e h)
+pub tells_at : (write : Told → List ℕ) (a b : List Note) (k l : List ℕ) (holds holds' : Bool) (place place' : ℕ) (note : Note) → holds ≡ holds' → place ≡ place' → WritesNotes write a b k l (told_if holds place note) → WritesNotes write a b k l (told_if holds' place' note)
+tells_at write a b k l holds holds' place place' note e f h = subst (λ n. WritesNotes write a b k l (told_if holds' n note)) f (subst (λ v. WritesNotes write a b k l (told_if v place note)) e h)

@@ -1,4 +1,4 @@
 -- What stands here is about how the code finds notes; nothing of it has to be believed.
 pub mod Past
-pub mod Standing
+pub mod StateBefore
 pub mod Rest

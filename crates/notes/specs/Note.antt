@@ -2,50 +2,50 @@
 use Rattle.std.specs.Prelude.{ℕ, ◌==◌, Bool, List, [], ◌∷◌, ◌++◌, codes, decimal, cond}
 use Rattle.std.specs.List.{list_any}
 use Rattle.notes.specs.declared.note.Note.{Note}
-use Rattle.notes.specs.declared.note.Note.TheVariants.{OpenStart, OpenEnd, NoPage, PjlAsText, SameOrientation, RoundedColumn, FractionOfUnit, LaterLanguage, ShortRaster, BlankOverflow, SourceMovesLeft, LongRun}
+use Rattle.notes.specs.declared.note.Note.TheVariants as note_kinds
 
 abbrev pub note_number : Note → ℕ
-note_number OpenStart = 101
-note_number OpenEnd = 102
-note_number NoPage = 103
-note_number PjlAsText = 104
-note_number SameOrientation = 105
-note_number RoundedColumn = 106
-note_number FractionOfUnit = 107
-note_number LaterLanguage = 108
-note_number ShortRaster = 109
-note_number BlankOverflow = 110
-note_number SourceMovesLeft = 111
-note_number LongRun = 112
+note_number note_kinds.OpenStart = 101
+note_number note_kinds.OpenEnd = 102
+note_number note_kinds.NoPage = 103
+note_number note_kinds.PjlAsText = 104
+note_number note_kinds.SameOrientation = 105
+note_number note_kinds.RoundedColumn = 106
+note_number note_kinds.FractionOfUnit = 107
+note_number note_kinds.LaterLanguage = 108
+note_number note_kinds.ShortRaster = 109
+note_number note_kinds.BlankOverflow = 110
+note_number note_kinds.SourceMovesLeft = 111
+note_number note_kinds.LongRun = 112
 
 abbrev pub note_name : Note → List ℕ
-note_name OpenStart = codes "OpenStart"
-note_name OpenEnd = codes "OpenEnd"
-note_name NoPage = codes "NoPage"
-note_name PjlAsText = codes "PjlAsText"
-note_name SameOrientation = codes "SameOrientation"
-note_name RoundedColumn = codes "RoundedColumn"
-note_name FractionOfUnit = codes "FractionOfUnit"
-note_name LaterLanguage = codes "LaterLanguage"
-note_name ShortRaster = codes "ShortRaster"
-note_name BlankOverflow = codes "BlankOverflow"
-note_name SourceMovesLeft = codes "SourceMovesLeft"
-note_name LongRun = codes "LongRun"
+note_name note_kinds.OpenStart = codes "OpenStart"
+note_name note_kinds.OpenEnd = codes "OpenEnd"
+note_name note_kinds.NoPage = codes "NoPage"
+note_name note_kinds.PjlAsText = codes "PjlAsText"
+note_name note_kinds.SameOrientation = codes "SameOrientation"
+note_name note_kinds.RoundedColumn = codes "RoundedColumn"
+note_name note_kinds.FractionOfUnit = codes "FractionOfUnit"
+note_name note_kinds.LaterLanguage = codes "LaterLanguage"
+note_name note_kinds.ShortRaster = codes "ShortRaster"
+note_name note_kinds.BlankOverflow = codes "BlankOverflow"
+note_name note_kinds.SourceMovesLeft = codes "SourceMovesLeft"
+note_name note_kinds.LongRun = codes "LongRun"
 
 -- in short words
 abbrev pub short_note : Note → List ℕ
-short_note OpenStart = codes "something prints, moves or sets before the first reset"
-short_note OpenEnd = codes "something prints, moves or sets behind the last reset"
-short_note NoPage = codes "the job closes no page"
-short_note PjlAsText = codes "a line of the job language is printed as text"
-short_note SameOrientation = codes "the orientation is set again where spacing or a margin is set"
-short_note RoundedColumn = codes "a column is used that is no whole number of PCL units"
-short_note FractionOfUnit = codes "a move has a fraction of a PCL unit"
-short_note LaterLanguage = codes "printers before PCL 5e pass over this command"
-short_note ShortRaster = codes "a raster ends before the last row of its height"
-short_note BlankOverflow = codes "a line feed leads past the bottom margin of a blank page"
-short_note SourceMovesLeft = codes "a tray or sides are chosen where the left margin is not 0"
-short_note LongRun = codes "macros carry out more than a million items"
+short_note note_kinds.OpenStart = codes "something prints, moves or sets before the first reset"
+short_note note_kinds.OpenEnd = codes "something prints, moves or sets behind the last reset"
+short_note note_kinds.NoPage = codes "the job closes no page"
+short_note note_kinds.PjlAsText = codes "a line of the job language is printed as text"
+short_note note_kinds.SameOrientation = codes "the orientation is set again where spacing or a margin is set"
+short_note note_kinds.RoundedColumn = codes "a column is used that is no whole number of PCL units"
+short_note note_kinds.FractionOfUnit = codes "a move has a fraction of a PCL unit"
+short_note note_kinds.LaterLanguage = codes "printers before PCL 5e pass over this command"
+short_note note_kinds.ShortRaster = codes "a raster ends before the last row of its height"
+short_note note_kinds.BlankOverflow = codes "a line feed leads past the bottom margin of a blank page"
+short_note note_kinds.SourceMovesLeft = codes "a tray or sides are chosen where the left margin is not 0"
+short_note note_kinds.LongRun = codes "macros carry out more than a million items"
 
 -- ---- notes at their places
 

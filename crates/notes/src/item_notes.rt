@@ -1,7 +1,7 @@
 //! The notes that hold by the items of a job alone.
 ghost use Rattle.std.specs.Prelude.{◌≡◌, OnOk};
 ghost use Rattle.notes.specs.Carriers.Past.{ends_job_word, opens, past_notes};
-ghost use Rattle.notes.specs.Carriers.Rest.{Tells};
+ghost use Rattle.notes.specs.Carriers.Rest.{WritesNotes};
 ghost use Rattle.notes.specs.ItemNotes.{has_decimals, is_fraction, is_later, is_later_resolution};
 ghost use Rattle.pcl_items.specs.Items.{amount, at, view};
 
@@ -83,7 +83,7 @@ pub(crate) fn tell_item<N: NoteText, A: Allocator, B: Allocator>(
     place: Place,
     item: &Item<'_>,
 ) -> Result<(), AllocError>
-    ensures { OnOk result (Tells (N.note_text form.now) told.old.items
+    ensures { OnOk result (WritesNotes (N.note_text form.now) told.old.items
         told.new.items text.old.items text.new.items
         (past_notes past (at place (view item.now)))) }
 {

@@ -1,7 +1,7 @@
 //! The notes of a job on one printer, from one panel.
 ghost use Rattle.std.specs.Prelude.{◌≡◌, IfOk, IsFalse, OnOk, false, refl};
 ghost use Rattle.device_profile.specs.Printer.{IsAllowed};
-ghost use Rattle.notes.specs.Carriers.Rest.{Tells, notes_from};
+ghost use Rattle.notes.specs.Carriers.Rest.{WritesNotes, notes_from};
 ghost use Rattle.notes.specs.Notes.{long_run, noted_outcome, notes_at_end, notes_rendering};
 ghost use Rattle.preflight.specs.Due.{Renders};
 
@@ -9,7 +9,7 @@ use crate::closing::Closing;
 use crate::item_notes::tell_item;
 use crate::note::{Note, NoteText};
 use crate::past::Past;
-use crate::standing::{has_rows_left, standing_at, tell_behind};
+use crate::state_before::{has_rows_left, state_before_at, tell_behind};
 use crate::telling::tell;
 use device_profile::{Panel, Profile};
 use page_env::Finding;
@@ -41,7 +41,7 @@ fn end_at<N: NoteText, A: Allocator, B: Allocator>(
     place: Place,
     finding: Finding,
 ) -> Result<Outcome, AllocError>
-    ensures tells { OnOk result (Tells (N.note_text form.now) told.old.items
+    ensures tells { OnOk result (WritesNotes (N.note_text form.now) told.old.items
         told.new.items text.old.items text.new.items
         (long_run (Outcome.Fail place 1 (Reason.Finding finding)))) }
     ensures outcome { IfOk result
@@ -70,7 +70,7 @@ fn tell_end<N: NoteText, A: Allocator, B: Allocator>(
     is_short: bool,
     place: Place,
 ) -> Result<(), AllocError>
-    ensures { OnOk result (Tells (N.note_text form.now) told.old.items
+    ensures { OnOk result (WritesNotes (N.note_text form.now) told.old.items
         told.new.items text.old.items text.new.items
         (notes_at_end is_open has_no_page is_short place)) }
 {
@@ -93,7 +93,7 @@ impl<N: NoteText, P: Allocator, B: Allocator + Copy> Renderer for Notes<'_, N, P
         place: Place,
         item: &Item<'_>,
     ) -> Result<Option<Outcome>, Error> {
-        let standing = standing_at(&self.machine, &self.panel, item);
+        let before = state_before_at(&self.machine, &self.panel, item);
         tell_item(self.form, &mut self.told, kept, self.past, place, item)?;
         match self.machine.step(place, item, &mut self.closing) {
             Ok(()) => {
@@ -102,7 +102,7 @@ impl<N: NoteText, P: Allocator, B: Allocator + Copy> Renderer for Notes<'_, N, P
                     self.form,
                     &mut self.told,
                     kept,
-                    standing,
+                    before,
                     page,
                     panel,
                     place,

@@ -6,7 +6,7 @@ mod item_notes;
 mod job_notes;
 mod note;
 mod past;
-mod standing;
+mod state_before;
 mod telling;
 
 pub use job_notes::notes_of;

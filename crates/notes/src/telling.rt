@@ -1,6 +1,6 @@
 //! Notes are told once each.
 ghost use Rattle.std.specs.Prelude.{◌≡◌, OnOk};
-ghost use Rattle.notes.specs.Carriers.Rest.{Tells};
+ghost use Rattle.notes.specs.Carriers.Rest.{WritesNotes};
 ghost use Rattle.notes.specs.Note.{is_among, is_same, told_if};
 
 use crate::note::{Note, NoteText};
@@ -30,7 +30,7 @@ pub(crate) fn tell<N: NoteText, A: Allocator, B: Allocator>(
     place: Place,
     note: Note,
 ) -> Result<(), AllocError>
-    ensures { OnOk result (Tells (N.note_text form.now) told.old.items
+    ensures { OnOk result (WritesNotes (N.note_text form.now) told.old.items
         told.new.items text.old.items text.new.items
         (told_if holds place note)) }
 {

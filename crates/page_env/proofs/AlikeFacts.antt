@@ -7,7 +7,7 @@ use Rattle.device_profile.specs.declared.panel.Panel.{Panel}
 use Rattle.page_env.specs.declared.finding.Finding.{Finding}
 use Rattle.page_env.specs.declared.page.FontParts.{FontParts}
 use Rattle.page_env.specs.Settings.{Flags, Settings, State}
-use Rattle.page_env.specs.Effect.{is_unset, first_finding, first_unset, Line, Transition, Step, Closes, Ends, Behind, Effect, Goes, GoesThenCloses, GoesThenEnds, Fails, fails_or, judged, effect_of}
+use Rattle.page_env.specs.Effect.{is_unset, first_finding, first_unset, TableLine, Transition, Step, Closes, Ends, Behind, Effect, Goes, GoesThenCloses, GoesThenEnds, Fails, fails_or, judged, effect_of}
 use Rattle.page_env.specs.Effect as effect
 use Rattle.page_env.specs.FontInForce.{font_reads}
 use Rattle.page_env.specs.Places.{column_reads, vertical_reads}
@@ -56,12 +56,12 @@ module _ (panel : Panel) where
 
 -- Two lines, the second at the panel: they check the same before they read, read the same, and where nothing of that is unset they
 -- are the same but for the state.
-pub record IsAlike (panel : Panel) (s : State) (line line' : Line) : Type 0 where
+pub record IsAlike (panel : Panel) (s : State) (line line' : TableLine) : Type 0 where
   pub before : line'.before ≡ line.before
   pub reads : line'.reads ≡ line.reads
   pub same : first_unset s.settings line.reads ≡ None → line' ≡ record line { state = state_with panel line.state }
 
-module _ (panel : Panel) (s : State) (line line' : Line) (alike : IsAlike panel s line line') where
+module _ (panel : Panel) (s : State) (line line' : TableLine) (alike : IsAlike panel s line line') where
   -- what is behind the checks of such lines
   pub judged_alike : (e e' : Effect) → (line' ≡ record line { state = state_with panel line.state } → GoesAlike panel e e') → GoesAlike panel (judged s.settings line e) (judged (settings_with panel s.settings) line' e')
   judged_alike e e' h =
@@ -81,7 +81,7 @@ module _ (panel : Panel) (s : State) (line line' : Line) (alike : IsAlike panel 
       judged_alike (GoesThenCloses line.state sets change) (GoesThenCloses line'.state sets change') (λ same. (ap (λ l. l.state) same, refl, h))
 
 -- a line that reads nothing, or nothing of what the panel chooses
-pub plainly_alike : (panel : Panel) (s : State) (line line' : Line) → line' ≡ record line { state = state_with panel line.state } → IsAlike panel s line line'
+pub plainly_alike : (panel : Panel) (s : State) (line line' : TableLine) → line' ≡ record line { state = state_with panel line.state } → IsAlike panel s line line'
 plainly_alike panel s line line' same = record { before = ap (λ l. l.before) same; reads = ap (λ l. l.reads) same; same = λ set. same }
 
 -- ---- what is known of a state in which fields that are read are not unset
@@ -199,7 +199,7 @@ columns_set P s set known all number = by_hmi s.settings.job.hmi set
 
 -- ---- one of two
 
-pub either_line : (panel : Panel) (s : State) (b : Bool) (l m l' m' : Line) → IsAlike panel s l l' → IsAlike panel s m m' → IsAlike panel s (cond b l m) (cond b l' m')
+pub either_line : (panel : Panel) (s : State) (b : Bool) (l m l' m' : TableLine) → IsAlike panel s l l' → IsAlike panel s m m' → IsAlike panel s (cond b l m) (cond b l' m')
 either_line panel s true l m l' m' h k = h
 either_line panel s false l m l' m' h k = k
 

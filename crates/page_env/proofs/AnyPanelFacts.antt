@@ -1,7 +1,7 @@
 -- Each item comes to the same whatever the panel has in the fields that are unset.
 use Rattle.std.proofs.Common.{◌≡◌, ◌==◌, ◌++◌, ℕ, ℤ, Bool, true, false, cond, List, [], ◌∷◌, Option, Some, None, refl, ap, ◌∙◌}
 use Rattle.pcl_items.specs.declared.pcl.command.Command.{Command}
-use Rattle.pcl_items.specs.declared.pcl.command.Command.TheVariants.{Sides, Source, PageSize, Orientation, TopMargin, TextLength, LeftMargin, RightMargin, Column, Row, HorizontalDecipoints, VerticalDecipoints, HorizontalUnits, VerticalUnits, CursorStack, MacroControl, FillRectangle, PictureFrameAnchor, StartRaster, RasterOffset}
+use Rattle.pcl_items.specs.declared.pcl.command.Command.TheVariants as commands
 use Rattle.pcl_items.specs.declared.pcl.command.DataCommand.TheVariants.{TransparentText, RasterRow}
 use Rattle.pcl_items.specs.declared.frame.Handover.{Handover}
 use Rattle.pcl_items.specs.declared.frame.Handover.TheVariants.{Previous, Current}
@@ -28,7 +28,7 @@ use Rattle.page_env.specs.FontInForce.{font_reads}
 use Rattle.page_env.specs.Settings.{Settings, State, start_state}
 use Rattle.page_env.specs.Numbers.{whole_of}
 use Rattle.page_env.specs.CursorPositioning.{move_x, move_y, move_x_decipoints, move_y_decipoints, move_columns, move_rows, push_cursor, popped, pop_cursor, use_stack}
-use Rattle.page_env.specs.Effect.{checking, first_unset, first_finding, Line, moving, reading, Transition, Step, Closes, Ends, Behind, Controls, Effect, Goes, GoesThenCloses, GoesThenEnds, Fails, fails_or, judged, effect_of}
+use Rattle.page_env.specs.Effect.{checking, first_unset, first_finding, TableLine, moving, reading, Transition, Step, Closes, Ends, Behind, Controls, Effect, Goes, GoesThenCloses, GoesThenEnds, Fails, fails_or, judged, effect_of}
 use Rattle.page_env.specs.Effect as effect
 use Rattle.page_env.specs.Frames.{set_frame_anchor, enter_at_cursor, leave_at_pen, enter_frame, leave_frame}
 use Rattle.page_env.specs.Macros.{control_line}
@@ -52,12 +52,12 @@ module _ (printer : Printer) (panel : Panel) where
   there s = state_with panel s
 
   -- a line by its state: the same at the panel but for the state
-  abbrev Same : (State → Line) → State → Type 0
+  abbrev Same : (State → TableLine) → State → Type 0
   Same line s = line (there s) ≡ record (line s) { state = there (line s).state }
 
   -- what reads the page alone
   module _ (s : State) where
-    by_page : (line : State → Line) → ((t : State) → Same line (paged t)) → first_unset s.settings page_reads ≡ None → Same line s
+    by_page : (line : State → TableLine) → ((t : State) → Same line (paged t)) → first_unset s.settings page_reads ≡ None → Same line s
     unfolding page_reads
     by_page line h set = page_set (Same line) s [] set (λ none. h s)
 
@@ -67,11 +67,11 @@ module _ (printer : Printer) (panel : Panel) where
     by_line P h set = page_set P s (Vmi ∷ []) set (λ rest. line_set P (paged s) [] rest (λ none. h s))
 
     -- the vertical place
-    by_place : (line : State → Line) → ((t : State) → Same line (spaced (at_place t None))) → ((t : State) (y : ℤ) → Same line (at_place t (Some y))) → first_unset s.settings (vertical_reads s.cursor.y) ≡ None → Same line s
+    by_place : (line : State → TableLine) → ((t : State) → Same line (spaced (at_place t None))) → ((t : State) (y : ℤ) → Same line (at_place t (Some y))) → first_unset s.settings (vertical_reads s.cursor.y) ≡ None → Same line s
     by_place line home number set = place_alone (Same line) s set (home s) (number s)
 
     -- the page and the vertical place
-    by_page_and_place : (line : State → Line) → ((t : State) → Same line (spaced (at_place (paged t) None))) → ((t : State) (y : ℤ) → Same line (at_place (paged t) (Some y))) →
+    by_page_and_place : (line : State → TableLine) → ((t : State) → Same line (spaced (at_place (paged t) None))) → ((t : State) (y : ℤ) → Same line (at_place (paged t) (Some y))) →
         first_unset s.settings (SizeField ∷ OrientationField ∷ vertical_reads s.cursor.y) ≡ None → Same line s
     by_page_and_place line home number set =
         page_set (Same line) s (vertical_reads s.cursor.y) set (λ rest. place_alone (Same line) (paged s) rest (home s) (number s))
@@ -80,7 +80,7 @@ module _ (printer : Printer) (panel : Panel) where
 
   module _ (s : State) where
     -- a line that reads nothing
-    plain : (line : State → Line) → Same line s → IsAlike panel s (line s) (line (there s))
+    plain : (line : State → TableLine) → Same line s → IsAlike panel s (line s) (line (there s))
     plain line same = plainly_alike panel s (line s) (line (there s)) same
 
     draw_alike : (to : PenPlace) → IsAlike panel s (draw printer s to) (draw printer (there s) to)
@@ -104,7 +104,7 @@ module _ (printer : Printer) (panel : Panel) where
     move_rows_alike : (n : Amount) → IsAlike panel s (move_rows printer s n) (move_rows printer (there s) n)
     move_rows_alike n = record { before = refl; reads = refl; same = by_line s (Same (λ t. move_rows printer t n)) (λ t. refl) }
 
-    by_columns : (line : State → Line) →
+    by_columns : (line : State → TableLine) →
         ((t : State) (parts : FontParts) → Same line (faced (with_parts_of (with_hmi (paged t) None) parts))) →
         ((t : State) (symbol_set : Symbols) (spacing pitch height style : ℕ) (weight : ℤ) (typeface : ℕ) → Same line (with_parts_of (with_hmi (paged t) None) (all_parts symbol_set spacing pitch height style weight typeface))) →
         ((t : State) (hmi : ℕ) → Same line (with_hmi (paged t) (Some hmi))) →
@@ -162,10 +162,10 @@ module _ (printer : Printer) (panel : Panel) where
 
     -- ---- text
 
-    abbrev Known : (State → Line) → State → Type 0
+    abbrev Known : (State → TableLine) → State → Type 0
     Known line t = (parts : FontParts) → Same line (faced (with_parts_of t parts))
 
-    abbrev AllSet : (State → Line) → State → Type 0
+    abbrev AllSet : (State → TableLine) → State → Type 0
     AllSet line t = (symbol_set : Symbols) (spacing pitch height style : ℕ) (weight : ℤ) (typeface : ℕ) → Same line (with_parts_of t (all_parts symbol_set spacing pitch height style weight typeface))
 
     by_text : (P : State → Type 0) (others : List Field) → first_unset s.settings (text_reads s.cursor.y others) ≡ None →
@@ -174,7 +174,7 @@ module _ (printer : Printer) (panel : Panel) where
     unfolding text_reads
     by_text P others set home number = page_set P s (vertical_reads s.cursor.y ++ others) set (λ rest. place_set P (paged s) others rest home number)
 
-    by_font : (line : State → Line) → ((t : State) → Known line (spaced (at_place (paged t) None))) → ((t : State) → AllSet line (spaced (at_place (paged t) None))) →
+    by_font : (line : State → TableLine) → ((t : State) → Known line (spaced (at_place (paged t) None))) → ((t : State) → AllSet line (spaced (at_place (paged t) None))) →
         ((t : State) (y : ℤ) → Known line (at_place (paged t) (Some y))) → ((t : State) (y : ℤ) → AllSet line (at_place (paged t) (Some y))) →
         first_unset s.settings (text_reads s.cursor.y (font_reads s.settings.job.font)) ≡ None → Same line s
     by_font line home_known home_set known all set =
@@ -314,20 +314,20 @@ module _ (printer : Printer) (panel : Panel) where
         GoesAlike panel (effect_of s.settings (command_transition printer defaults s command n)) (effect_of (settings_with panel s.settings) (command_transition printer (settings_with panel defaults) (there s) command n))
 
     -- a setting, which reads nothing
-    sets : (line : State → Line) (s : State) → Same line s → GoesAlike panel (effect_of s.settings (Step (line s))) (effect_of (settings_with panel s.settings) (Step (line (there s))))
+    sets : (line : State → TableLine) (s : State) → Same line s → GoesAlike panel (effect_of s.settings (Step (line s))) (effect_of (settings_with panel s.settings) (Step (line (there s))))
     sets line s same = step_alike panel s (line s) (line (there s)) (plainly_alike panel s (line s) (line (there s)) same)
 
     -- a line
-    steps : (s : State) (line line' : Line) → IsAlike panel s line line' → GoesAlike panel (effect_of s.settings (Step line)) (effect_of (settings_with panel s.settings) (Step line'))
+    steps : (s : State) (line line' : TableLine) → IsAlike panel s line line' → GoesAlike panel (effect_of s.settings (Step line)) (effect_of (settings_with panel s.settings) (Step line'))
     steps s line line' alike = step_alike panel s line line' alike
 
     -- a change behind the closing of the page
-    closes : (line : State → Line) (change change' : State → State) (s : State) → Same line s → ((t : State) → change' (there t) ≡ there (change t)) →
+    closes : (line : State → TableLine) (change change' : State → State) (s : State) → Same line s → ((t : State) → change' (there t) ≡ there (change t)) →
         GoesAlike panel (effect_of s.settings (Closes (line s) true change)) (effect_of (settings_with panel s.settings) (Closes (line (there s)) true change'))
     closes line change change' s same h = closes_alike panel s (line s) (line (there s)) (plainly_alike panel s (line s) (line (there s)) same) true change change' h
 
     -- the line of a step
-    abbrev line_in : Transition → Line
+    abbrev line_in : Transition → TableLine
     line_in (Step line) = line
     line_in (Closes line sets_paper change) = line
     line_in (Ends line) = line
@@ -335,26 +335,26 @@ module _ (printer : Printer) (panel : Panel) where
     line_in (Controls s n) = moving s
 
     command_alike : (command : Command) (n : Amount) (s : State) → CommandAlike command n s
-    command_alike Sides n s = closes (λ t. checking t (sides_checks printer n)) (λ t. set_sides t n) (λ t. set_sides t n) s refl (λ t. refl)
-    command_alike Source n s = closes (λ t. checking t (source_checks printer n)) (λ t. set_source t n) (λ t. set_source t n) s refl (source_same n)
-    command_alike PageSize n s = closes (λ t. checking t (size_checks printer n)) (λ t. set_size t n) (λ t. set_size t n) s refl (λ t. refl)
-    command_alike Orientation n s = closes (λ t. checking t (orientation_checks printer n)) (λ t. set_orientation defaults t n) (λ t. set_orientation (settings_with panel defaults) t n) s refl (λ t. refl)
-    command_alike TopMargin n s = steps s _ _ (top_margin_alike s n)
-    command_alike TextLength n s = steps s _ _ (text_length_alike s n)
-    command_alike LeftMargin n s = steps s _ _ (left_margin_alike s n)
-    command_alike RightMargin n s = steps s _ _ (right_margin_alike s n)
-    command_alike Column n s = steps s _ _ (move_columns_alike s n)
-    command_alike Row n s = steps s _ _ (move_rows_alike s n)
-    command_alike HorizontalDecipoints n s = steps s _ _ (move_x_decipoints_alike s n)
-    command_alike VerticalDecipoints n s = steps s _ _ (vertical_decipoints_alike s n.ten_thousandths n.sign)
-    command_alike HorizontalUnits n s = steps s _ _ (move_x_alike s n)
-    command_alike VerticalUnits n s = steps s _ _ (vertical_alike s n.ten_thousandths n.sign)
-    command_alike CursorStack n s = steps s _ _ (stack_alike n s)
-    command_alike MacroControl n s = (refl, refl)
-    command_alike FillRectangle n s = steps s _ _ (fill_alike s n)
-    command_alike PictureFrameAnchor n s = steps s _ _ (anchor_alike s n)
-    command_alike StartRaster n s = steps s _ _ (start_alike s n)
-    command_alike RasterOffset n s = steps s _ _ (skip_alike s n)
+    command_alike commands.Sides n s = closes (λ t. checking t (sides_checks printer n)) (λ t. set_sides t n) (λ t. set_sides t n) s refl (λ t. refl)
+    command_alike commands.Source n s = closes (λ t. checking t (source_checks printer n)) (λ t. set_source t n) (λ t. set_source t n) s refl (source_same n)
+    command_alike commands.PageSize n s = closes (λ t. checking t (size_checks printer n)) (λ t. set_size t n) (λ t. set_size t n) s refl (λ t. refl)
+    command_alike commands.Orientation n s = closes (λ t. checking t (orientation_checks printer n)) (λ t. set_orientation defaults t n) (λ t. set_orientation (settings_with panel defaults) t n) s refl (λ t. refl)
+    command_alike commands.TopMargin n s = steps s _ _ (top_margin_alike s n)
+    command_alike commands.TextLength n s = steps s _ _ (text_length_alike s n)
+    command_alike commands.LeftMargin n s = steps s _ _ (left_margin_alike s n)
+    command_alike commands.RightMargin n s = steps s _ _ (right_margin_alike s n)
+    command_alike commands.Column n s = steps s _ _ (move_columns_alike s n)
+    command_alike commands.Row n s = steps s _ _ (move_rows_alike s n)
+    command_alike commands.HorizontalDecipoints n s = steps s _ _ (move_x_decipoints_alike s n)
+    command_alike commands.VerticalDecipoints n s = steps s _ _ (vertical_decipoints_alike s n.ten_thousandths n.sign)
+    command_alike commands.HorizontalUnits n s = steps s _ _ (move_x_alike s n)
+    command_alike commands.VerticalUnits n s = steps s _ _ (vertical_alike s n.ten_thousandths n.sign)
+    command_alike commands.CursorStack n s = steps s _ _ (stack_alike n s)
+    command_alike commands.MacroControl n s = (refl, refl)
+    command_alike commands.FillRectangle n s = steps s _ _ (fill_alike s n)
+    command_alike commands.PictureFrameAnchor n s = steps s _ _ (anchor_alike s n)
+    command_alike commands.StartRaster n s = steps s _ _ (start_alike s n)
+    command_alike commands.RasterOffset n s = steps s _ _ (skip_alike s n)
     -- all others read nothing
     command_alike command n s = sets (λ t. line_in (command_transition printer defaults t command n)) s refl
 

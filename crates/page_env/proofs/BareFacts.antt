@@ -21,7 +21,7 @@ use Rattle.page_env.specs.declared.page.Cursor.{Cursor}
 use Rattle.page_env.specs.Settings.{Flags, Settings, State, unwatched}
 use Rattle.page_env.specs.Numbers.{whole_of}
 use Rattle.page_env.specs.CursorPositioning.{push_cursor, popped, pop_cursor}
-use Rattle.page_env.specs.Effect.{Line, moving, reading, Transition, Step, Closes}
+use Rattle.page_env.specs.Effect.{TableLine, moving, reading, Transition, Step, Closes}
 use Rattle.page_env.specs.Frames.{leave_at_pen, enter_frame, leave_frame}
 use Rattle.page_env.specs.Motion.{at_home, fed_to, is_past_bottom, feed_down, feed_by, carriage_return, line_termination}
 use Rattle.page_env.specs.Pens.{set_pen, pen_target, draw, carry_pen, motion_step}
@@ -33,7 +33,7 @@ use Rattle.page_env.specs.Text.{print_byte}
 use Rattle.page_env.specs.CursorPositioning.{use_stack}
 use Rattle.page_env.specs.Pinned.{enables_overlay, returns_to_panel, AreBare, IsBare, KeepsBare, IsBareItem, IsBareControl, IsBareByte, IsBareMove}
 
-bare_line : (b : Bool) (l m : Line) → IsBare l.state → IsBare m.state → IsBare (cond b l m).state
+bare_line : (b : Bool) (l m : TableLine) → IsBare l.state → IsBare m.state → IsBare (cond b l m).state
 bare_line true l m h k = h
 bare_line false l m h k = k
 

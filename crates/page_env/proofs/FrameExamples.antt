@@ -13,7 +13,7 @@ use Rattle.page_env.specs.declared.mark.PenLine.{PenLine}
 use Rattle.page_env.specs.Settings.{State, start_state, user_defaults, unwatched, default_pen, with_job}
 use Rattle.page_env.specs.Places.{page_reads, is_between}
 use Rattle.page_env.specs.Mark.{Line as Drawn, is_inside}
-use Rattle.page_env.specs.Effect.{Line, Step, Effect, Goes, Fails, effect_of}
+use Rattle.page_env.specs.Effect.{TableLine, Step, Effect, Goes, Fails, effect_of}
 use Rattle.page_env.specs.Frames.{set_frame_anchor, set_frame_width, enter_frame, leave_frame}
 use Rattle.page_env.specs.Pens.{with_pen, initialize, select_pen, set_pen_width, lower_pen, move_pen}
 
@@ -27,7 +27,7 @@ start = start_state None (user_defaults unwatched letter)
 abbrev number : ℕ → Amount
 number n = record { sign = Absent; ten_thousandths = n * 10_000 }
 
-abbrev effect : State → Line → Effect
+abbrev effect : State → TableLine → Effect
 effect s line = effect_of s.settings (Step line)
 
 -- a line of 0.35 mm

@@ -1,7 +1,7 @@
 -- Each item goes alike where the job has set all that the panel chooses, and reads nothing that is unset.
 use Rattle.std.proofs.Common.{◌≡◌, ◌==◌, ℕ, ℤ, Bool, true, false, cond, is_none, List, [], ◌∷◌, Option, Some, None, refl, ap}
 use Rattle.pcl_items.specs.declared.pcl.command.Command.{Command}
-use Rattle.pcl_items.specs.declared.pcl.command.Command.TheVariants.{Sides, Source, PageSize, Orientation, TopMargin, TextLength, LeftMargin, RightMargin, Column, Row, HorizontalDecipoints, VerticalDecipoints, HorizontalUnits, VerticalUnits, CursorStack, FillRectangle, PictureFrameAnchor, StartRaster, RasterOffset}
+use Rattle.pcl_items.specs.declared.pcl.command.Command.TheVariants as commands
 use Rattle.pcl_items.specs.declared.pcl.command.DataCommand.TheVariants.{TransparentText, RasterRow}
 use Rattle.pcl_items.specs.declared.frame.Handover.{Handover}
 use Rattle.pcl_items.specs.declared.frame.Handover.TheVariants.{Previous, Current}
@@ -23,7 +23,7 @@ use Rattle.page_env.specs.declared.page.PenPlace.{PenPlace}
 use Rattle.page_env.specs.Settings.{Settings, State, unwatched}
 use Rattle.page_env.specs.Numbers.{whole_of}
 use Rattle.page_env.specs.CursorPositioning.{push_cursor, popped, pop_cursor, relative_reads}
-use Rattle.page_env.specs.Effect.{Line, moving, reading, Transition, Step, Closes}
+use Rattle.page_env.specs.Effect.{TableLine, moving, reading, Transition, Step, Closes}
 use Rattle.page_env.specs.Frames.{leave_at_pen, enter_frame, leave_frame}
 use Rattle.page_env.specs.Motion.{at_home, fed_to, is_past_bottom, feed_down, feed_by, carriage_return, line_termination}
 use Rattle.page_env.specs.PageControl.{set_source}
@@ -81,7 +81,7 @@ module _ (printer : Printer) (defaults : Settings) where
 
   -- ---- one of two
 
-  either_line : (b : Bool) (s : State) (l m l' m' : Line) → GoesPinned printer defaults s l l' → GoesPinned printer defaults s m m' → GoesPinned printer defaults s (cond b l m) (cond b l' m')
+  either_line : (b : Bool) (s : State) (l m l' m' : TableLine) → GoesPinned printer defaults s l l' → GoesPinned printer defaults s m m' → GoesPinned printer defaults s (cond b l m) (cond b l' m')
   either_line true s l m l' m' h k = h
   either_line false s l m l' m' h k = k
 
@@ -181,25 +181,25 @@ module _ (printer : Printer) (defaults : Settings) where
 
 module _ (printer : Printer) (defaults defaults' : Settings) where
   command_goes : (command : Command) (n : Amount) (s : State) → returns_to_panel (Parameterized command n) ≡ false → GoesPinnedBy printer defaults' s (command_transition printer defaults s command n) (command_transition printer defaults' (pinned printer defaults' s) command n)
-  command_goes Sides n s e = ((refl, refl), refl, λ t. refl)
-  command_goes Source n s e = ((refl, refl), refl, source_same printer defaults' n)
-  command_goes PageSize n s e = ((refl, refl), refl, λ t. refl)
-  command_goes Orientation n s e = absurd cc
-  command_goes TopMargin n s e = (refl, page_and_line_set printer defaults' s)
-  command_goes TextLength n s e = (refl, page_and_line_set printer defaults' s)
-  command_goes LeftMargin n s e = (refl, columns_set printer defaults' s s.settings.job.hmi)
-  command_goes RightMargin n s e = (refl, columns_set printer defaults' s s.settings.job.hmi)
-  command_goes Column n s e = (refl, columns_set printer defaults' s s.settings.job.hmi)
-  command_goes Row n s e = (refl, page_and_line_set printer defaults' s)
-  command_goes HorizontalDecipoints n s e = (refl, page_set printer defaults' s)
-  command_goes VerticalDecipoints n s e = (refl, relative_set printer defaults' s n.sign s.cursor.y)
-  command_goes HorizontalUnits n s e = (refl, page_set printer defaults' s)
-  command_goes VerticalUnits n s e = (refl, relative_set printer defaults' s n.sign s.cursor.y)
-  command_goes CursorStack n s e = stack_goes printer defaults' n s
-  command_goes FillRectangle n s e = (refl, page_and_vertical_set printer defaults' s s.cursor.y)
-  command_goes PictureFrameAnchor n s e = (refl, vertical_set printer defaults' s s.cursor.y)
-  command_goes StartRaster n s e = (refl, page_and_vertical_set printer defaults' s s.cursor.y)
-  command_goes RasterOffset n s e = (refl, page_and_vertical_set printer defaults' s s.cursor.y)
+  command_goes commands.Sides n s e = ((refl, refl), refl, λ t. refl)
+  command_goes commands.Source n s e = ((refl, refl), refl, source_same printer defaults' n)
+  command_goes commands.PageSize n s e = ((refl, refl), refl, λ t. refl)
+  command_goes commands.Orientation n s e = absurd cc
+  command_goes commands.TopMargin n s e = (refl, page_and_line_set printer defaults' s)
+  command_goes commands.TextLength n s e = (refl, page_and_line_set printer defaults' s)
+  command_goes commands.LeftMargin n s e = (refl, columns_set printer defaults' s s.settings.job.hmi)
+  command_goes commands.RightMargin n s e = (refl, columns_set printer defaults' s s.settings.job.hmi)
+  command_goes commands.Column n s e = (refl, columns_set printer defaults' s s.settings.job.hmi)
+  command_goes commands.Row n s e = (refl, page_and_line_set printer defaults' s)
+  command_goes commands.HorizontalDecipoints n s e = (refl, page_set printer defaults' s)
+  command_goes commands.VerticalDecipoints n s e = (refl, relative_set printer defaults' s n.sign s.cursor.y)
+  command_goes commands.HorizontalUnits n s e = (refl, page_set printer defaults' s)
+  command_goes commands.VerticalUnits n s e = (refl, relative_set printer defaults' s n.sign s.cursor.y)
+  command_goes commands.CursorStack n s e = stack_goes printer defaults' n s
+  command_goes commands.FillRectangle n s e = (refl, page_and_vertical_set printer defaults' s s.cursor.y)
+  command_goes commands.PictureFrameAnchor n s e = (refl, vertical_set printer defaults' s s.cursor.y)
+  command_goes commands.StartRaster n s e = (refl, page_and_vertical_set printer defaults' s s.cursor.y)
+  command_goes commands.RasterOffset n s e = (refl, page_and_vertical_set printer defaults' s s.cursor.y)
   -- all others read nothing
   command_goes _ n s e = (refl, refl)
 

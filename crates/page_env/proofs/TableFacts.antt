@@ -1,7 +1,7 @@
 -- Each item of the table is carried out soundly.
 use Rattle.std.proofs.Common.{refl}
 use Rattle.pcl_items.specs.declared.pcl.command.Command.{Command}
-use Rattle.pcl_items.specs.declared.pcl.command.Command.TheVariants.{LeftMargin, RightMargin, Column, Row, HorizontalDecipoints, VerticalDecipoints, CursorStack, MacroControl, PageSize, Orientation, Sides, Source, TopMargin, TextLength, FillRectangle, PictureFrameAnchor, StartRaster, RasterOffset, HorizontalUnits, VerticalUnits}
+use Rattle.pcl_items.specs.declared.pcl.command.Command.TheVariants as commands
 use Rattle.pcl_items.specs.declared.pcl.command.DataCommand.TheVariants.{RasterRow}
 use Rattle.pcl_items.specs.Items.{Entry, Text, CarriageReturn, LineFeed, FormFeed, Reset, HalfLineFeed, Parameterized, EnterFrame, LeaveFrame, Set, Move, WithData, ExitLanguage}
 use Rattle.pcl_items.specs.Escapes.Value.{Amount}
@@ -23,26 +23,26 @@ use Rattle.page_env.proofs.Sound.{quiet}
 
 module _ (printer : Printer) (defaults : Settings) where
   command_is_sound : (command : Command) (n : Amount) (s : State) → IsSoundTransition printer defaults s (command_transition printer defaults s command n) (command_transition printer (plain_settings defaults) (plain_state s) command n)
-  command_is_sound Sides n s = sides_are_sound printer defaults s n
-  command_is_sound Source n s = source_is_sound printer defaults s n
-  command_is_sound PageSize n s = size_is_sound printer defaults s n
-  command_is_sound Orientation n s = orientation_is_sound printer defaults s n
-  command_is_sound TopMargin n s = top_margin_is_sound printer s n
-  command_is_sound TextLength n s = text_length_is_sound printer s n
-  command_is_sound LeftMargin n s = left_margin_is_sound printer s n
-  command_is_sound RightMargin n s = right_margin_is_sound printer s n
-  command_is_sound HorizontalUnits n s = move_x_is_sound printer s n
-  command_is_sound VerticalUnits n s = move_y_is_sound printer s n
-  command_is_sound HorizontalDecipoints n s = move_x_decipoints_is_sound printer s n
-  command_is_sound VerticalDecipoints n s = move_y_decipoints_is_sound printer s n
-  command_is_sound Column n s = move_columns_is_sound printer s n
-  command_is_sound Row n s = move_rows_is_sound printer s n
-  command_is_sound CursorStack n s = stack_is_sound printer s n
-  command_is_sound MacroControl n s = (refl, refl, refl)
-  command_is_sound FillRectangle n s = fill_is_sound printer s n
-  command_is_sound PictureFrameAnchor n s = frames.anchor_is_sound printer s n
-  command_is_sound StartRaster n s = rasters.start_is_sound printer s n
-  command_is_sound RasterOffset n s = rasters.skip_is_sound printer s n
+  command_is_sound commands.Sides n s = sides_are_sound printer defaults s n
+  command_is_sound commands.Source n s = source_is_sound printer defaults s n
+  command_is_sound commands.PageSize n s = size_is_sound printer defaults s n
+  command_is_sound commands.Orientation n s = orientation_is_sound printer defaults s n
+  command_is_sound commands.TopMargin n s = top_margin_is_sound printer s n
+  command_is_sound commands.TextLength n s = text_length_is_sound printer s n
+  command_is_sound commands.LeftMargin n s = left_margin_is_sound printer s n
+  command_is_sound commands.RightMargin n s = right_margin_is_sound printer s n
+  command_is_sound commands.HorizontalUnits n s = move_x_is_sound printer s n
+  command_is_sound commands.VerticalUnits n s = move_y_is_sound printer s n
+  command_is_sound commands.HorizontalDecipoints n s = move_x_decipoints_is_sound printer s n
+  command_is_sound commands.VerticalDecipoints n s = move_y_decipoints_is_sound printer s n
+  command_is_sound commands.Column n s = move_columns_is_sound printer s n
+  command_is_sound commands.Row n s = move_rows_is_sound printer s n
+  command_is_sound commands.CursorStack n s = stack_is_sound printer s n
+  command_is_sound commands.MacroControl n s = (refl, refl, refl)
+  command_is_sound commands.FillRectangle n s = fill_is_sound printer s n
+  command_is_sound commands.PictureFrameAnchor n s = frames.anchor_is_sound printer s n
+  command_is_sound commands.StartRaster n s = rasters.start_is_sound printer s n
+  command_is_sound commands.RasterOffset n s = rasters.skip_is_sound printer s n
   -- all others read nothing, and mark nothing
   command_is_sound _ n s = quiet refl refl refl refl refl refl refl refl
 

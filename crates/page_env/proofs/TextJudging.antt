@@ -14,7 +14,7 @@ use Rattle.page_env.specs.declared.places.Origin.{Origin}
 use Rattle.page_env.specs.Settings.{Settings, State, settings_at}
 use Rattle.page_env.specs.FontInForce.{request_of, face_of, font_reads}
 use Rattle.page_env.specs.Places.{geometry_of, origin_of, vertical_place, column_with, column_from}
-use Rattle.page_env.specs.Effect.{check, is_unset, first_finding, first_unset, effect_of, Step, Goes, Fails, Reads}
+use Rattle.page_env.specs.Effect.{check, is_unset, first_finding, first_unset, effect_of, Step, Goes, Fails, ReadsFields}
 use Rattle.page_env.specs.Text.{behind_of, text_reads, edge_checks, transparent_space, character_checks, character_box, character}
 use Rattle.page_env.specs.declared.finding.Finding.{Finding}
 use Rattle.page_env.specs.declared.finding.Finding.TheVariants.{NoFont}
@@ -60,7 +60,7 @@ unset_in_second settings (x ∷ xs) ys found set e = by (is_unset settings x) (f
     by false u v h e = h e
 
 -- an answer of `?` that names the field
-pub reads_fail : {T : Type 0} (env : Env) (fields : List Field) (f : Panel → T) (field : Field) (r : Result T Field) → IsErrAnd r (λ e. e ≡ field) → ((panel : Panel) → first_unset (settings_at panel env) fields ≡ Some field) → Reads env fields f r
+pub reads_fail : {T : Type 0} (env : Env) (fields : List Field) (f : Panel → T) (field : Field) (r : Result T Field) → IsErrAnd r (λ e. e ≡ field) → ((panel : Panel) → first_unset (settings_at panel env) fields ≡ Some field) → ReadsFields env fields f r
 reads_fail env fields f field (Ok value) is h = absurd is
 reads_fail env fields f field (Err found) is h = λ panel. h panel ∙ ap Some (sym is)
 

@@ -8,7 +8,7 @@ use Rattle.page_env.specs.declared.motion.LineTermination.{LineTermination}
 use Rattle.device_profile.specs.declared.field.Field.{Field}
 use Rattle.page_env.specs.declared.page.Page.{Page}
 use Rattle.page_env.specs.Settings.{Settings, State, fields_at, settings_at, state_at}
-use Rattle.page_env.specs.Effect.{Effect, Fails, effect_of, unset_or, Reads, Transition, Behind}
+use Rattle.page_env.specs.Effect.{Effect, Fails, effect_of, unset_or, ReadsFields, Transition, Behind}
 use Rattle.page_env.specs.Motion.{carriage_return, before_feed, termination_of, line_termination, line_termination_reads}
 use Rattle.std.specs.Result.{IsErrAnd}
 use Rattle.page_env.specs.Answers.{CarriesOut, Changes, Moves}
@@ -53,7 +53,7 @@ before_keeps termination s = kept termination.returns_at_feed
 
 module _ (old : Page) (transition : LineTermination → State → Transition) where
   abbrev Read : Result LineTermination Field → Type 0
-  Read read = Reads old.env line_termination_reads (λ panel. termination_of (fields_at panel old.env.fields).line_termination) read
+  Read read = ReadsFields old.env line_termination_reads (λ panel. termination_of (fields_at panel old.env.fields).line_termination) read
 
   -- where it is known, what is carried out with it
   pub carries_behind : (termination : LineTermination) (new : Page) (r : Result Carried Finding) → Read (Ok termination)

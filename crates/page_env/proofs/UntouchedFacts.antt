@@ -2,7 +2,7 @@
 use Rattle.std.proofs.Common.{◌≡◌, ◌==◌, ℕ, ℤ, Bool, true, false, cond, List, [], ◌∷◌, Option, Some, None, refl, ap, sym, ◌∙◌, is_none, subst}
 use Rattle.std.proofs.lemmas.Bool.{false≢true}
 use Rattle.pcl_items.specs.declared.pcl.command.Command.{Command}
-use Rattle.pcl_items.specs.declared.pcl.command.Command.TheVariants.{Copies, Sides, Source, PageSize, Orientation, VerticalMotionIndex, LineSpacing, TopMargin, TextLength, LineTermination, LeftMargin, RightMargin, Column, Row, HorizontalDecipoints, VerticalDecipoints, HorizontalUnits, VerticalUnits, CursorStack, MacroControl, FillRectangle, PictureFrameAnchor, StartRaster, RasterOffset, FontSpacing, FontPitch, FontHeight, FontStyle, FontWeight, FontTypeface}
+use Rattle.pcl_items.specs.declared.pcl.command.Command.TheVariants as commands
 use Rattle.pcl_items.specs.declared.pcl.command.DataCommand.TheVariants.{TransparentText, RasterRow}
 use Rattle.pcl_items.specs.declared.frame.Handover.{Handover}
 use Rattle.pcl_items.specs.declared.frame.Handover.TheVariants.{Previous, Current}
@@ -19,7 +19,7 @@ use Rattle.page_env.specs.declared.page.Cursor.{Cursor}
 use Rattle.page_env.specs.Settings.{Flags, Settings, State}
 use Rattle.page_env.specs.Numbers.{whole_of, is_absent}
 use Rattle.page_env.specs.CursorPositioning.{push_cursor, popped, pop_cursor, relative_reads}
-use Rattle.page_env.specs.Effect.{Line, moving, reading, Transition, Step, Closes}
+use Rattle.page_env.specs.Effect.{TableLine, moving, reading, Transition, Step, Closes}
 use Rattle.page_env.specs.Frames.{leave_at_pen, enter_frame, leave_frame}
 use Rattle.page_env.specs.Motion.{at_home, fed_to, is_past_bottom, feed_down, feed_by, carriage_return, line_termination}
 use Rattle.page_env.specs.Pens.{set_pen, pen_target, draw, carry_pen, motion_step, move_pen}
@@ -83,7 +83,7 @@ module _ (watched : Flags) where
 
   -- ---- one of two
 
-  either_leaves : (s : State) (u : Untouched) (b : Bool) (l l' m m' : Line) → LineLeaves watched s u l l' → LineLeaves watched s u m m' → LineLeaves watched s u (cond b l m) (cond b l' m')
+  either_leaves : (s : State) (u : Untouched) (b : Bool) (l l' m m' : TableLine) → LineLeaves watched s u l l' → LineLeaves watched s u m m' → LineLeaves watched s u (cond b l m) (cond b l' m')
   either_leaves s u true l l' m m' h k = h
   either_leaves s u false l l' m m' h k = k
 
@@ -96,7 +96,7 @@ module _ (watched : Flags) where
     abbrev Says : State → Type 0
     Says s = SaysUntouched watched u s.settings
 
-    abbrev Leaves : State → Line → Line → Type 0
+    abbrev Leaves : State → TableLine → TableLine → Type 0
     Leaves s line plain = LineLeaves watched s u line plain
 
     popped_says : (s : State) (stack : List Cursor) → Says s → Says (popped s stack)
@@ -177,36 +177,36 @@ module _ (watched : Flags) where
 
       module _ (defaults : Settings) (d : SaysUntouched watched all_untouched defaults) where
         command_leaves : (command : Command) (n : Amount) (s : State) → is_macro_control (Parameterized command n) ≡ false → Says s → TransitionLeaves watched s u (untouched_behind (Parameterized command n) u) (command_transition printer defaults s command n) (command_transition printer (plain_settings defaults) (plain_state s) command n)
-        command_leaves Copies n s r e = ((refl, λ h. refl), (ap (λ (f : Flags). record f { copies = false }) e.0, e.1))
-        command_leaves Sides n s r e = (((refl, λ h. refl), e), λ t k. (ap (λ (f : Flags). record f { sides = false }) k.0, k.1))
-        command_leaves Source n s r e = (((refl, λ h. refl), e), λ t k. (tray_left (whole_of n == 0) t.settings.unset k.0, k.1))
-        command_leaves PageSize n s r e = (((refl, λ h. refl), e), λ t k. (ap (λ (f : Flags). record f { size = false }) k.0, k.1))
-        command_leaves Orientation n s r e = (((refl, λ h. refl), e), λ t k. (ap (λ (f : Flags). record f { orientation = false; vmi = defaults.unset.vmi }) k.0 ∙ ap (λ (f : Flags). record (unset_where watched u) { orientation = false; vmi = f.vmi }) d.0, k.1))
-        command_leaves VerticalMotionIndex n s r e = ((refl, λ h. refl), (ap (λ (f : Flags). record f { vmi = false }) e.0, e.1))
-        command_leaves LineSpacing n s r e = ((refl, λ h. refl), (ap (λ (f : Flags). record f { vmi = false }) e.0, e.1))
-        command_leaves TopMargin n s r e = (page_and_line_alike s, e)
-        command_leaves TextLength n s r e = (page_and_line_alike s, e)
-        command_leaves LineTermination n s r e = ((refl, λ h. refl), (ap (λ (f : Flags). record f { line_termination = false }) e.0, e.1))
-        command_leaves LeftMargin n s r e = (page_column_alike s, e)
-        command_leaves RightMargin n s r e = (page_column_alike s, e)
-        command_leaves Column n s r e = (page_column_alike s, e)
-        command_leaves Row n s r e = (page_and_line_alike s, e)
-        command_leaves HorizontalDecipoints n s r e = (page_alike s, e)
-        command_leaves VerticalDecipoints n s r e = (from_top_alike s n, e)
-        command_leaves HorizontalUnits n s r e = (page_alike s, e)
-        command_leaves VerticalUnits n s r e = (from_top_alike s n, e)
-        command_leaves CursorStack n s r e = stack_leaves n s e
-        command_leaves MacroControl n s r e = absurd (false≢true (sym r))
-        command_leaves FillRectangle n s r e = (page_vertical_alike s s.cursor.y, e)
-        command_leaves PictureFrameAnchor n s r e = (vertical_alike s s.cursor.y, e)
-        command_leaves StartRaster n s r e = (page_vertical_alike s s.cursor.y, e)
-        command_leaves RasterOffset n s r e = (page_vertical_alike s s.cursor.y, e)
-        command_leaves FontSpacing n s r e = ((refl, λ h. refl), (e.0, ap (λ (p : PartFlags). record p { spacing = false }) e.1))
-        command_leaves FontPitch n s r e = ((refl, λ h. refl), (e.0, ap (λ (p : PartFlags). record p { pitch = false }) e.1))
-        command_leaves FontHeight n s r e = ((refl, λ h. refl), (e.0, ap (λ (p : PartFlags). record p { height = false }) e.1))
-        command_leaves FontStyle n s r e = ((refl, λ h. refl), (e.0, ap (λ (p : PartFlags). record p { style = false }) e.1))
-        command_leaves FontWeight n s r e = ((refl, λ h. refl), (e.0, ap (λ (p : PartFlags). record p { weight = false }) e.1))
-        command_leaves FontTypeface n s r e = ((refl, λ h. refl), (e.0, ap (λ (p : PartFlags). record p { typeface = false }) e.1))
+        command_leaves commands.Copies n s r e = ((refl, λ h. refl), (ap (λ (f : Flags). record f { copies = false }) e.0, e.1))
+        command_leaves commands.Sides n s r e = (((refl, λ h. refl), e), λ t k. (ap (λ (f : Flags). record f { sides = false }) k.0, k.1))
+        command_leaves commands.Source n s r e = (((refl, λ h. refl), e), λ t k. (tray_left (whole_of n == 0) t.settings.unset k.0, k.1))
+        command_leaves commands.PageSize n s r e = (((refl, λ h. refl), e), λ t k. (ap (λ (f : Flags). record f { size = false }) k.0, k.1))
+        command_leaves commands.Orientation n s r e = (((refl, λ h. refl), e), λ t k. (ap (λ (f : Flags). record f { orientation = false; vmi = defaults.unset.vmi }) k.0 ∙ ap (λ (f : Flags). record (unset_where watched u) { orientation = false; vmi = f.vmi }) d.0, k.1))
+        command_leaves commands.VerticalMotionIndex n s r e = ((refl, λ h. refl), (ap (λ (f : Flags). record f { vmi = false }) e.0, e.1))
+        command_leaves commands.LineSpacing n s r e = ((refl, λ h. refl), (ap (λ (f : Flags). record f { vmi = false }) e.0, e.1))
+        command_leaves commands.TopMargin n s r e = (page_and_line_alike s, e)
+        command_leaves commands.TextLength n s r e = (page_and_line_alike s, e)
+        command_leaves commands.LineTermination n s r e = ((refl, λ h. refl), (ap (λ (f : Flags). record f { line_termination = false }) e.0, e.1))
+        command_leaves commands.LeftMargin n s r e = (page_column_alike s, e)
+        command_leaves commands.RightMargin n s r e = (page_column_alike s, e)
+        command_leaves commands.Column n s r e = (page_column_alike s, e)
+        command_leaves commands.Row n s r e = (page_and_line_alike s, e)
+        command_leaves commands.HorizontalDecipoints n s r e = (page_alike s, e)
+        command_leaves commands.VerticalDecipoints n s r e = (from_top_alike s n, e)
+        command_leaves commands.HorizontalUnits n s r e = (page_alike s, e)
+        command_leaves commands.VerticalUnits n s r e = (from_top_alike s n, e)
+        command_leaves commands.CursorStack n s r e = stack_leaves n s e
+        command_leaves commands.MacroControl n s r e = absurd (false≢true (sym r))
+        command_leaves commands.FillRectangle n s r e = (page_vertical_alike s s.cursor.y, e)
+        command_leaves commands.PictureFrameAnchor n s r e = (vertical_alike s s.cursor.y, e)
+        command_leaves commands.StartRaster n s r e = (page_vertical_alike s s.cursor.y, e)
+        command_leaves commands.RasterOffset n s r e = (page_vertical_alike s s.cursor.y, e)
+        command_leaves commands.FontSpacing n s r e = ((refl, λ h. refl), (e.0, ap (λ (p : PartFlags). record p { spacing = false }) e.1))
+        command_leaves commands.FontPitch n s r e = ((refl, λ h. refl), (e.0, ap (λ (p : PartFlags). record p { pitch = false }) e.1))
+        command_leaves commands.FontHeight n s r e = ((refl, λ h. refl), (e.0, ap (λ (p : PartFlags). record p { height = false }) e.1))
+        command_leaves commands.FontStyle n s r e = ((refl, λ h. refl), (e.0, ap (λ (p : PartFlags). record p { style = false }) e.1))
+        command_leaves commands.FontWeight n s r e = ((refl, λ h. refl), (e.0, ap (λ (p : PartFlags). record p { weight = false }) e.1))
+        command_leaves commands.FontTypeface n s r e = ((refl, λ h. refl), (e.0, ap (λ (p : PartFlags). record p { typeface = false }) e.1))
         -- all others read nothing, and set nothing that the panel has
         command_leaves _ n s r e = ((refl, λ h. refl), e)
 

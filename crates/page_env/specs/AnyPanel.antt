@@ -6,7 +6,7 @@ use Rattle.device_profile.specs.Printer.{Printer}
 use Rattle.pcl_items.specs.Items.{Entry}
 use Rattle.page_env.specs.declared.macros.Control.{Control}
 use Rattle.page_env.specs.Settings.{Flags, Settings, State}
-use Rattle.page_env.specs.Effect.{Line, Step, Effect, Goes, GoesThenCloses, GoesThenEnds, Controlling, Fails, effect_of}
+use Rattle.page_env.specs.Effect.{TableLine, Step, Effect, Goes, GoesThenCloses, GoesThenEnds, Controlling, Fails, effect_of}
 use Rattle.page_env.specs.Macros.{control_line}
 use Rattle.page_env.specs.Pens.{move_pen}
 use Rattle.page_env.specs.Table.{transition_of}
@@ -42,7 +42,7 @@ GoesAlike panel (Controlling s n) (Controlling s' n') = (s' ≡ state_with panel
 GoesAlike panel (Fails finding) (Fails finding') = finding' ≡ finding
 GoesAlike panel _ _ = ⊥
 
-abbrev pub line_effect : State → Line → Effect
+abbrev pub line_effect : State → TableLine → Effect
 line_effect s line = effect_of s.settings (Step line)
 
 -- an item comes to the same from every state, whatever the panel has in the fields that are unset

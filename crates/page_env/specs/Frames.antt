@@ -14,7 +14,7 @@ use Rattle.page_env.specs.declared.page.PictureFrame.{PictureFrame}
 use Rattle.page_env.specs.Settings.{State, half_inch, origin, with_job}
 use Rattle.page_env.specs.Numbers.{is_positive, is_whole_between}
 use Rattle.page_env.specs.Places.{decipoint_ticks, page_reads, geometry_of, vertical_place, vertical_reads, is_between}
-use Rattle.page_env.specs.Effect.{check, Line, moving, setting}
+use Rattle.page_env.specs.Effect.{check, TableLine, moving, setting}
 
 -- ---- the picture frame
 
@@ -42,7 +42,7 @@ abbrev pub with_frame : State → PictureFrame → State
 with_frame s frame = with_job s (framed s.settings.job frame)
 
 -- `*c0T` picture frame anchor point: the upper left corner of the frame is at the cursor, a home of which becomes a number
-abbrev pub set_frame_anchor : State → Amount → Line
+abbrev pub set_frame_anchor : State → Amount → TableLine
 set_frame_anchor s n =
     let y = vertical_place s in
     record {
@@ -54,12 +54,12 @@ set_frame_anchor s n =
     }
 
 -- `*c#X` picture frame horizontal size in decipoints
-abbrev pub set_frame_width : State → Amount → Line
+abbrev pub set_frame_width : State → Amount → TableLine
 set_frame_width s n =
     setting (check (not (is_positive n)) BadValue ∷ []) (with_frame s (record s.settings.job.frame { width = Some (pos (decipoint_ticks n)) }))
 
 -- `*c#Y` picture frame vertical size in decipoints
-abbrev pub set_frame_height : State → Amount → Line
+abbrev pub set_frame_height : State → Amount → TableLine
 set_frame_height s n =
     setting (check (not (is_positive n)) BadValue ∷ []) (with_frame s (record s.settings.job.frame { height = Some (pos (decipoint_ticks n)) }))
 
@@ -88,11 +88,11 @@ is_on_page g x y = is_between (pos 0) g.logical_width x && is_between (pos 0) g.
 -- ---- the change of language
 
 -- `%0B` enter HP-GL/2 mode, with the pen where it was
-abbrev pub enter_at_pen : State → Line
+abbrev pub enter_at_pen : State → TableLine
 enter_at_pen s = moving (record s { in_frame = true })
 
 -- `%1B` enter HP-GL/2 mode, with the pen at the cursor, a home of which becomes a number
-abbrev pub enter_at_cursor : Printer → State → Line
+abbrev pub enter_at_cursor : Printer → State → TableLine
 enter_at_cursor printer s =
     let y = vertical_place s in
     let job : JobSettings = s.settings.job in
@@ -108,16 +108,16 @@ enter_at_cursor printer s =
     }
 
 -- `%#B` enter HP-GL/2 mode
-abbrev pub enter_frame : Printer → State → Handover → Line
+abbrev pub enter_frame : Printer → State → Handover → TableLine
 enter_frame printer s Previous = enter_at_pen s
 enter_frame printer s Current = enter_at_cursor printer s
 
 -- `%0A` enter PCL mode, with the cursor where it was
-abbrev pub leave_at_cursor : State → Line
+abbrev pub leave_at_cursor : State → TableLine
 leave_at_cursor s = moving (record s { in_frame = false })
 
 -- `%1A` enter PCL mode, with the cursor where the pen is
-abbrev pub leave_at_pen : Printer → State → Line
+abbrev pub leave_at_pen : Printer → State → TableLine
 leave_at_pen printer s =
     let g = geometry_of printer s in
     let x = x_on_page (frame_of printer s) s.settings.job.pen.place.x in
@@ -131,6 +131,6 @@ leave_at_pen printer s =
     }
 
 -- `%#A` enter PCL mode: outside a frame it does nothing
-abbrev pub leave_frame : Printer → State → Handover → Line
+abbrev pub leave_frame : Printer → State → Handover → TableLine
 leave_frame printer s Previous = leave_at_cursor s
 leave_frame printer s Current = cond s.in_frame (leave_at_pen printer s) (moving s)

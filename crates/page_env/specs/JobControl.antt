@@ -8,10 +8,10 @@ use Rattle.device_profile.specs.Printer.{Printer}
 use Rattle.page_env.specs.declared.finding.Finding.TheVariants.{BadValue, NotOnDevice}
 use Rattle.page_env.specs.Settings.{Settings, State, home_cursor, start_state, with_job}
 use Rattle.page_env.specs.Numbers.{is_whole_between, is_whole_from, whole_of}
-use Rattle.page_env.specs.Effect.{Check, check, Line, moving, setting, Transition, Closes}
+use Rattle.page_env.specs.Effect.{Check, check, TableLine, moving, setting, Transition, Closes}
 
 -- `&l#X` number of copies
-abbrev pub set_copies : State → Amount → Line
+abbrev pub set_copies : State → Amount → TableLine
 set_copies s n = setting (check (not (is_whole_between 1 32_767 n)) BadValue ∷ []) (record s {
   settings = record s.settings {
     fields = record s.settings.fields { copies = whole_of n };
@@ -34,7 +34,7 @@ set_sides s n = record s {
 }
 
 -- `&u#D` unit of measure: so many PCL units an inch
-abbrev pub set_units : State → Amount → Line
+abbrev pub set_units : State → Amount → TableLine
 set_units s n =
     setting (check (not (is_whole_from 0 n && list_any (λ units. units == whole_of n) units_per_inch)) BadValue ∷ [])
     (with_job s (record s.settings.job { units_per_inch = whole_of n }))

@@ -8,10 +8,10 @@ use Rattle.page_env.specs.declared.macros.Control.TheVariants.{Begin, End, Execu
 use Rattle.page_env.specs.declared.page.JobSettings.{JobSettings}
 use Rattle.page_env.specs.Settings.{Settings, State, home_cursor, with_job}
 use Rattle.page_env.specs.Numbers.{is_whole_between, whole_of}
-use Rattle.page_env.specs.Effect.{Check, check, Line, setting}
+use Rattle.page_env.specs.Effect.{Check, check, TableLine, setting}
 
 -- `&f#Y` macro id
-abbrev pub set_macro_id : State → Amount → Line
+abbrev pub set_macro_id : State → Amount → TableLine
 set_macro_id s n =
     setting (check (not (is_whole_between 0 32_767 n)) BadValue ∷ []) (with_job s (record s.settings.job { macro_id = whole_of n }))
 
@@ -62,7 +62,7 @@ abbrev pub controlled : Option Control → State → State
 controlled control s = with_job s (record s.settings.job { overlay = overlay_after control s.settings.job })
 
 -- the own step of a control, before a macro that it runs
-abbrev pub control_line : (known in_macro : Bool) → Option Control → State → Line
+abbrev pub control_line : (known in_macro : Bool) → Option Control → State → TableLine
 control_line known in_macro control s = setting (control_checks known in_macro control) (controlled control s)
 
 -- An overlay begins with the user defaults, but for the page's five values, with the cursor at the left edge and at home, an
@@ -103,5 +103,5 @@ less_one None = None
 less_one (Some left) = Some (left - 1)
 
 -- an item of a macro begins, where one may still be carried out
-abbrev pub spend_item : State → Line
+abbrev pub spend_item : State → TableLine
 spend_item s = setting (check (is_spent s.items_left) ManyItems ∷ []) (record s { items_left = less_one s.items_left })

@@ -8,7 +8,7 @@ use Rattle.page_env.specs.Settings.{State, half_inch, with_job}
 use Rattle.page_env.specs.Numbers.{is_whole_between, is_whole_from, whole_of}
 use Rattle.page_env.specs.Places.{geometry_of, line_of, page_and_line_reads, column_width, column_reads, right_of}
 use Rattle.page_env.specs.Fonts.{no_column}
-use Rattle.page_env.specs.Effect.{Check, check, Line, moving, setting}
+use Rattle.page_env.specs.Effect.{Check, check, TableLine, moving, setting}
 
 -- ---- vertical margins
 
@@ -22,7 +22,7 @@ abbrev pub lines_of : State → Amount → ℤ
 lines_of s n = pos (line_of s * whole_of n)
 
 -- `&l#E` top margin: so many lines from the upper edge of the logical page; the bottom margin is its default again
-abbrev pub set_top_margin : Printer → State → Amount → Line
+abbrev pub set_top_margin : Printer → State → Amount → TableLine
 set_top_margin printer s n = record {
   before = check (not (is_whole_from 0 n)) BadValue ∷ [];
   reads = page_and_line_reads;
@@ -32,7 +32,7 @@ set_top_margin printer s n = record {
 }
 
 -- `&l#F` text length: the bottom margin is so many lines below the top margin
-abbrev pub set_text_length : Printer → State → Amount → Line
+abbrev pub set_text_length : Printer → State → Amount → TableLine
 set_text_length printer s n =
     let bottom : ℤ = s.settings.job.top_margin +ℤ lines_of s n in
     record {
@@ -47,7 +47,7 @@ abbrev pub is_same : Bool → Bool → Bool
 is_same a b = cond a b (not b)
 
 -- `&l#L` perforation skip: another value than the one in force returns the top and the bottom margin to their defaults
-abbrev pub set_perforation_skip : State → Amount → Line
+abbrev pub set_perforation_skip : State → Amount → TableLine
 set_perforation_skip s n =
     let skips : Bool = whole_of n == 1 in
     let same : Bool = is_same skips s.settings.job.skips_perforation in
@@ -69,7 +69,7 @@ horizontal_margin_checks printer s margin left right =
     check (int_lt (geometry_of printer s).logical_width margin || not (int_lt left right)) MarginIgnored ∷ []
 
 -- `&a#L` left margin: the left edge of so-many columns; a cursor left of it moves to it
-abbrev pub set_left_margin : Printer → State → Amount → Line
+abbrev pub set_left_margin : Printer → State → Amount → TableLine
 set_left_margin printer s n =
     let left : ℤ = columns_of printer s (whole_of n) in
     record {
@@ -83,7 +83,7 @@ set_left_margin printer s n =
     }
 
 -- `&a#M` right margin: the right edge of that column; a cursor right of it moves to it
-abbrev pub set_right_margin : Printer → State → Amount → Line
+abbrev pub set_right_margin : Printer → State → Amount → TableLine
 set_right_margin printer s n =
     let right : ℤ = columns_of printer s (whole_of n + 1) in
     record {
@@ -97,5 +97,5 @@ set_right_margin printer s n =
     }
 
 -- `ESC 9` clear horizontal margins
-abbrev pub clear_margins : State → Line
+abbrev pub clear_margins : State → TableLine
 clear_margins s = moving (with_job s (record s.settings.job { left_margin = pos 0; right_margin = None }))

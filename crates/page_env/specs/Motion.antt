@@ -12,7 +12,7 @@ use Rattle.page_env.specs.declared.motion.Feed.TheVariants.{Line as WholeLine, H
 use Rattle.page_env.specs.Settings.{State, with_job}
 use Rattle.page_env.specs.Numbers.{is_whole_between, is_whole_from, whole_of, is_up_to}
 use Rattle.page_env.specs.Places.{page_and_line_reads, geometry_of, bottom_of, vertical_place, line_of}
-use Rattle.page_env.specs.Effect.{check, Line, moving, reading, setting, Transition, Step, Closes, Ends, Behind}
+use Rattle.page_env.specs.Effect.{check, TableLine, moving, reading, setting, Transition, Step, Closes, Ends, Behind}
 
 -- ---- how far lines and columns are apart
 
@@ -25,20 +25,20 @@ with_vmi s vmi = record s {
 }
 
 -- `&l#C` vertical motion index, from 0 to 335 times 1/48 inch
-abbrev pub set_vmi : State → Amount → Line
+abbrev pub set_vmi : State → Amount → TableLine
 set_vmi s n = setting (check (not (is_up_to 3_350_000 n)) BadValue ∷ []) (with_vmi s n.ten_thousandths)
 
 abbrev pub line_spacings : List ℕ
 line_spacings = 1 ∷ 2 ∷ 3 ∷ 4 ∷ 6 ∷ 8 ∷ 12 ∷ 16 ∷ 24 ∷ 48 ∷ []
 
 -- `&l#D` line spacing: so many lines an inch, a divisor of 48
-abbrev pub set_line_spacing : State → Amount → Line
+abbrev pub set_line_spacing : State → Amount → TableLine
 set_line_spacing s n =
     setting (check (not (is_whole_from 1 n && list_any (λ lines. lines == whole_of n) line_spacings)) BadValue ∷ [])
     (with_vmi s (480_000 / whole_of n))
 
 -- `&k#H` horizontal motion index, from 0 to 840 times 1/120 inch
-abbrev pub set_hmi : State → Amount → Line
+abbrev pub set_hmi : State → Amount → TableLine
 set_hmi s n =
     setting (check (not (is_up_to 8_400_000 n)) BadValue ∷ []) (with_job s (record s.settings.job { hmi = Some n.ten_thousandths }))
 
@@ -62,7 +62,7 @@ abbrev pub is_past_bottom : Printer → State → ℤ → Bool
 is_past_bottom printer s y = s.settings.job.skips_perforation && int_lt (bottom_of printer s) y
 
 -- a feed to a place of the page, which may lie below the logical page only where the perforation is skipped
-abbrev pub feed_down : Printer → State → ℤ → Line
+abbrev pub feed_down : Printer → State → ℤ → TableLine
 feed_down printer s y = record {
   before = [];
   reads = page_and_line_reads;
@@ -84,7 +84,7 @@ half_line_feed printer s = feed_by printer s HalfLine
 -- where it led
 
 -- `&k#G` line termination
-abbrev pub set_line_termination : State → Amount → Line
+abbrev pub set_line_termination : State → Amount → TableLine
 set_line_termination s n = setting (check (not (is_whole_between 0 3 n)) BadValue ∷ []) (record s {
   settings = record s.settings {
     fields = record s.settings.fields { line_termination = whole_of n };

@@ -3,8 +3,8 @@ use Rattle.std.specs.Prelude.{ℕ, ◌==◌, nat_le, ◌&&◌, ◌||◌, not, Bo
 use Rattle.device_profile.specs.declared.field.Field.{Field}
 use Rattle.device_profile.specs.declared.field.Field.TheVariants.{Size, Orientation, Vmi, Font, Copies, Sides, Tray, LineTerm}
 use Rattle.page_env.specs.declared.finding.Finding.{Finding}
-use Rattle.page_env.specs.declared.finding.Finding.TheVariants.{BadValue, NotOnDevice, Unset, NoFont, NoGlyph, OffPage, PastRightMargin, NotPrintable, StackFull, StackEmpty, NoMacro, MacroDepth, MacroMemory, InMacro, DefinitionOpen, RasterNotStarted, RasterLocked, RasterTooBig, NoPen, OutsideFrame, EmptyRectangle, Inexact, MarginIgnored, RotatedRaster, ManyItems}
-use Rattle.page_env.specs.Effect.{Check, Line}
+use Rattle.page_env.specs.declared.finding.Finding.TheVariants as findings
+use Rattle.page_env.specs.Effect.{Check, TableLine}
 
 -- the numbers of all findings of a step, in the order in which they are reported
 abbrev pub report_order : List ℕ
@@ -14,31 +14,31 @@ report_order =
     ∷ 13 ∷ 14 ∷ 31 ∷ 34 ∷ 15 ∷ 16 ∷ 17 ∷ 29 ∷ 32 ∷ []
 
 abbrev pub number_of : Finding → ℕ
-number_of BadValue = 10
-number_of NotOnDevice = 11
-number_of (Unset field) = 12
-number_of NoFont = 13
-number_of NoGlyph = 14
-number_of OffPage = 15
-number_of PastRightMargin = 16
-number_of NotPrintable = 17
-number_of StackFull = 18
-number_of StackEmpty = 19
-number_of NoMacro = 20
-number_of MacroDepth = 21
-number_of MacroMemory = 22
-number_of InMacro = 23
-number_of DefinitionOpen = 24
-number_of RasterNotStarted = 25
-number_of RasterLocked = 26
-number_of RasterTooBig = 27
-number_of NoPen = 28
-number_of OutsideFrame = 29
-number_of EmptyRectangle = 30
-number_of Inexact = 31
-number_of MarginIgnored = 32
-number_of RotatedRaster = 34
-number_of ManyItems = 36
+number_of findings.BadValue = 10
+number_of findings.NotOnDevice = 11
+number_of (findings.Unset field) = 12
+number_of findings.NoFont = 13
+number_of findings.NoGlyph = 14
+number_of findings.OffPage = 15
+number_of findings.PastRightMargin = 16
+number_of findings.NotPrintable = 17
+number_of findings.StackFull = 18
+number_of findings.StackEmpty = 19
+number_of findings.NoMacro = 20
+number_of findings.MacroDepth = 21
+number_of findings.MacroMemory = 22
+number_of findings.InMacro = 23
+number_of findings.DefinitionOpen = 24
+number_of findings.RasterNotStarted = 25
+number_of findings.RasterLocked = 26
+number_of findings.RasterTooBig = 27
+number_of findings.NoPen = 28
+number_of findings.OutsideFrame = 29
+number_of findings.EmptyRectangle = 30
+number_of findings.Inexact = 31
+number_of findings.MarginIgnored = 32
+number_of findings.RotatedRaster = 34
+number_of findings.ManyItems = 36
 
 -- the place of a number in that order
 abbrev pub rank_of : ℕ → ℕ
@@ -71,7 +71,7 @@ abbrev pub ranks : List Check → List ℕ
 ranks checks = map (λ c. rank c.finding) checks
 
 abbrev pub is_unset_finding : Finding → Bool
-is_unset_finding (Unset field) = true
+is_unset_finding (findings.Unset field) = true
 is_unset_finding _ = false
 
 -- some check finds that a field is unset
@@ -81,9 +81,9 @@ find_unset (c ∷ cs) = is_unset_finding c.finding || find_unset cs
 
 -- The checks before the reading, what is unset, and the checks after it stand in the order of their findings; and that a field is unset
 -- is found by the reading alone.
-abbrev pub is_in_order : Line → Bool
+abbrev pub is_in_order : TableLine → Bool
 is_in_order line = not (find_unset line.before) && not (find_unset line.after) && rises (ranks line.before ++ rank_of 12 ∷ ranks line.after)
 
 -- the fields that are read stand in the order of the panel's
-abbrev pub reads_in_order : Line → Bool
+abbrev pub reads_in_order : TableLine → Bool
 reads_in_order line = rises (map field_rank line.reads)

@@ -17,7 +17,7 @@ use Rattle.page_env.specs.declared.target.Target.{Target}
 use Rattle.page_env.specs.Settings.{State, default_pen, with_job}
 use Rattle.page_env.specs.Places.{ticks_in, page_reads, geometry_of, origin_of}
 use Rattle.page_env.specs.Mark.{Line as Drawn, line_bounds, is_inside}
-use Rattle.page_env.specs.Effect.{Check, check, Line, moving, setting}
+use Rattle.page_env.specs.Effect.{Check, check, TableLine, moving, setting}
 use Rattle.page_env.specs.Frames.{frame_of, x_on_page, y_on_page, is_in_frame}
 
 abbrev pub with_pen : State → Pen → State
@@ -26,20 +26,20 @@ with_pen s pen = with_job s (record s.settings.job { pen = pen })
 -- ---- settings
 
 -- `IN` initialize; the picture frame stays
-abbrev pub initialize : State → Line
+abbrev pub initialize : State → TableLine
 initialize s = moving (with_pen s default_pen)
 
 -- `SP` select pen: 0, which draws nothing, or 1, in ten-thousandths
-abbrev pub select_pen : State → ℕ → Line
+abbrev pub select_pen : State → ℕ → TableLine
 select_pen s n =
     setting (check (not ((n == 0) || (n == 10_000))) BadValue ∷ []) (with_pen s (record s.settings.job.pen { number = n / 10_000 }))
 
 -- `PW` pen width, in ten-thousandths of a millimetre
-abbrev pub set_pen_width : State → ℕ → Line
+abbrev pub set_pen_width : State → ℕ → TableLine
 set_pen_width s n = setting (check (n == 0) BadValue ∷ []) (with_pen s (record s.settings.job.pen { width = n }))
 
 -- `SP` and `PW`
-abbrev pub set_pen : State → Setting → ℕ → Line
+abbrev pub set_pen : State → Setting → ℕ → TableLine
 set_pen s settings.Pen n = select_pen s n
 set_pen s settings.Width n = set_pen_width s n
 
@@ -78,7 +78,7 @@ line_checks g origin frame width start end =
     ∷ check (not (stays_in_frame frame start end)) OutsideFrame ∷ []
 
 -- the pen, down, draws a line to a place and stays there
-abbrev pub draw : Printer → State → PenPlace → Line
+abbrev pub draw : Printer → State → PenPlace → TableLine
 draw printer s to =
     let origin = origin_of printer s in
     let pen : Pen = s.settings.job.pen in
@@ -93,23 +93,23 @@ draw printer s to =
 -- ---- motion
 
 -- `PU` pen up
-abbrev pub raise_pen : State → Line
+abbrev pub raise_pen : State → TableLine
 raise_pen s = moving (with_pen s (record s.settings.job.pen { is_down = false }))
 
 -- `PD` pen down: a raised pen marks a line of no length where it is
-abbrev pub lower_pen : Printer → State → Line
+abbrev pub lower_pen : Printer → State → TableLine
 lower_pen printer s = cond s.settings.job.pen.is_down (moving s) (draw printer s s.settings.job.pen.place)
 
 -- `PA` plot absolute
-abbrev pub plot_absolute : State → Line
+abbrev pub plot_absolute : State → TableLine
 plot_absolute s = moving (with_pen s (record s.settings.job.pen { is_relative = false }))
 
 -- `PR` plot relative
-abbrev pub plot_relative : State → Line
+abbrev pub plot_relative : State → TableLine
 plot_relative s = moving (with_pen s (record s.settings.job.pen { is_relative = true }))
 
 -- the own step of a command that moves the pen
-abbrev pub motion_step : Printer → State → Motion → Line
+abbrev pub motion_step : Printer → State → Motion → TableLine
 motion_step printer s Up = raise_pen s
 motion_step printer s Down = lower_pen printer s
 motion_step printer s Absolute = plot_absolute s
@@ -127,11 +127,11 @@ abbrev pub pen_target : Pen → ℤ × ℤ → PenPlace
 pen_target pen to = record { x = reached pen.is_relative pen.place.x to.0; y = reached pen.is_relative pen.place.y to.1 }
 
 -- the raised pen moves to a place
-abbrev pub carry_pen : State → PenPlace → Line
+abbrev pub carry_pen : State → PenPlace → TableLine
 carry_pen s to = record (moving (with_pen s (record s.settings.job.pen { place = to }))) { after = check (is_too_far to) OutsideFrame ∷ [] }
 
 -- a pair of coordinates moves the pen, behind the own step of its command: where it is down it draws
-abbrev pub move_pen : Printer → State → ℤ × ℤ → Line
+abbrev pub move_pen : Printer → State → ℤ × ℤ → TableLine
 move_pen printer s to =
     let target = pen_target s.settings.job.pen to in
     cond s.settings.job.pen.is_down (draw printer s target) (carry_pen s target)

@@ -10,7 +10,7 @@ use Rattle.page_env.specs.declared.macros.Control.TheVariants.{EnableOverlay}
 use Rattle.page_env.specs.declared.page.FontParts.{FontParts}
 use Rattle.page_env.specs.Settings.{Settings, State, unwatched}
 use Rattle.page_env.specs.FontInForce.{request_at}
-use Rattle.page_env.specs.Effect.{first_unset, Line, Transition, Step, Closes, Ends, Behind, Controls}
+use Rattle.page_env.specs.Effect.{first_unset, TableLine, Transition, Step, Closes, Ends, Behind, Controls}
 use Rattle.page_env.specs.JobControl.{is_reset}
 use Rattle.page_env.specs.Macros.{control_of, control_line}
 use Rattle.page_env.specs.Text.{print_transparent}
@@ -46,7 +46,7 @@ AreSet printer defaults s reads = first_unset (pinned printer defaults s).settin
 
 -- A line from a state, and the same from where all is set: but for what they read they go alike, and nothing that the second reads is
 -- unset.
-abbrev pub GoesPinned : Printer → Settings → State → Line → Line → Type 0
+abbrev pub GoesPinned : Printer → Settings → State → TableLine → TableLine → Type 0
 GoesPinned printer defaults s line set =
     (set ≡ record line { reads = set.reads; state = pinned printer defaults line.state }) × AreSet printer defaults s set.reads
 

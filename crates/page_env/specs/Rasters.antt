@@ -21,7 +21,7 @@ use Rattle.page_env.specs.Settings.{State, with_job}
 use Rattle.page_env.specs.Numbers.{is_whole_between, is_whole_from, whole_of}
 use Rattle.page_env.specs.Places.{vertical_place, vertical_reads, geometry_of, x_on_sheet, y_on_sheet}
 use Rattle.page_env.specs.Mark.{PixelRow, Shape, Row, pixels_per_inch, pixel_of, black_end, row_bounds, is_inside}
-use Rattle.page_env.specs.Effect.{Check, check, Line, checking, setting}
+use Rattle.page_env.specs.Effect.{Check, check, TableLine, checking, setting}
 
 -- ---- which items end a raster
 
@@ -57,19 +57,19 @@ abbrev pub resolution_of : Amount → Option Dots
 resolution_of n = cond (is_whole_from 0 n) (find (λ r. pixels_per_inch r == whole_of n) resolutions) None
 
 -- `*t#R` raster graphics resolution
-abbrev pub set_resolution : State → Amount → Line
+abbrev pub set_resolution : State → Amount → TableLine
 set_resolution s n =
     setting (check (is_none (resolution_of n)) BadValue ∷ locked s.raster ∷ [])
     (with_raster s (record s.settings.job.raster { resolution = unwrap_or (resolution_of n) s.settings.job.raster.resolution }))
 
 -- `*r#S` raster width, in pixels
-abbrev pub set_raster_width : State → Amount → Line
+abbrev pub set_raster_width : State → Amount → TableLine
 set_raster_width s n =
     setting (check (not (is_whole_from 1 n)) BadValue ∷ locked s.raster ∷ [])
     (with_raster s (record s.settings.job.raster { width = Some (whole_of n) }))
 
 -- `*r#T` raster height, in rows
-abbrev pub set_raster_height : State → Amount → Line
+abbrev pub set_raster_height : State → Amount → TableLine
 set_raster_height s n =
     setting (check (not (is_whole_from 1 n)) BadValue ∷ locked s.raster ∷ [])
     (with_raster s (record s.settings.job.raster { height = Some (whole_of n) }))
@@ -78,13 +78,13 @@ set_raster_height s n =
 abbrev pub presentation_of : Amount → Option Presentation
 presentation_of n = cond (is_whole_between 0 0 n) (Some LogicalPage) (cond (is_whole_between 3 3 n) (Some PhysicalPage) None)
 
-abbrev pub set_presentation : State → Amount → Line
+abbrev pub set_presentation : State → Amount → TableLine
 set_presentation s n =
     setting (check (is_none (presentation_of n)) BadValue ∷ locked s.raster ∷ [])
     (with_raster s (record s.settings.job.raster { presentation = unwrap_or (presentation_of n) s.settings.job.raster.presentation }))
 
 -- `*b#M` compression method: none
-abbrev pub set_compression : State → Amount → Line
+abbrev pub set_compression : State → Amount → TableLine
 set_compression s n = checking s (check (not (is_whole_between 0 0 n)) BadValue ∷ [])
 
 -- ---- start and end
@@ -98,7 +98,7 @@ abbrev pub is_rotated : State → Bool
 is_rotated s = is_physical s.settings.job.raster.presentation && not (s.settings.fields.orientation == 0)
 
 -- `*r#A` start raster graphics: 0 at the left edge of the logical page, 1 at the cursor. A home becomes a number.
-abbrev pub start_raster : State → Amount → Line
+abbrev pub start_raster : State → Amount → TableLine
 start_raster s n = record {
   before = check (not (is_whole_between 0 1 n)) BadValue ∷ locked s.raster ∷ [];
   reads = Size ∷ Orientation ∷ vertical_reads s.cursor.y;
@@ -111,7 +111,7 @@ start_raster s n = record {
 }
 
 -- `*rB` and `*rC` end raster graphics
-abbrev pub end_raster : State → Amount → Line
+abbrev pub end_raster : State → Amount → TableLine
 end_raster s n = setting (check (not (is_whole_between 0 0 n)) BadValue ∷ []) (record s { raster = None })
 
 -- ---- rows
@@ -141,7 +141,7 @@ abbrev pub past_foot : Geometry → Dots → ℤ → ℕ → Check
 past_foot g resolution y rows = check (int_lt g.logical_height (place_behind resolution y rows)) OffPage
 
 -- `*b#Y` raster Y offset: so many rows that stay white. A started raster has a vertical place, so the VMI is not read here.
-abbrev pub skip_rows : Printer → State → Amount → Line
+abbrev pub skip_rows : Printer → State → Amount → TableLine
 skip_rows printer s n = record {
   before =
       check (not (is_whole_between 0 32_767 n)) BadValue ∷ not_started s.raster
@@ -196,7 +196,7 @@ abbrev pub marks_of : List ℕ → PixelRow → List Shape
 marks_of black row = cond (has_black black) (Row row ∷ []) []
 
 -- `*b#W` transfer raster data: one row at the cursor, which moves a pixel down. A row without a black pixel makes no mark.
-abbrev pub print_row : Printer → State → List ℕ → Line
+abbrev pub print_row : Printer → State → List ℕ → TableLine
 print_row printer s bytes =
     let black = up_to_black bytes in
     let row = row_from s.settings.job.raster.resolution (x_on_sheet printer s) (y_on_sheet printer s) black in

@@ -14,7 +14,7 @@ use Rattle.page_env.specs.FontInForce.{request_of, face_of, font_reads}
 use Rattle.page_env.specs.Fonts.{no_font, no_column}
 use Rattle.page_env.specs.Places.{geometry_of, x_on_sheet, y_on_sheet, column_width, column_reads, right_of, vertical_place, vertical_reads}
 use Rattle.page_env.specs.Mark.{Character, is_inside}
-use Rattle.page_env.specs.Effect.{Check, check, Line}
+use Rattle.page_env.specs.Effect.{Check, check, TableLine}
 
 -- A character that begins left of the right margin may not lead past it, and another one not past the logical page.
 abbrev pub edge_checks : (right width x behind : ℤ) → List Check
@@ -38,7 +38,7 @@ unfoldable pub text_reads : Option ℤ → List Field → List Field
 text_reads y others = Size ∷ Orientation ∷ vertical_reads y ++ others
 
 -- a space, which makes no mark: a column
-abbrev pub space : Printer → State → Line
+abbrev pub space : Printer → State → TableLine
 space printer s = record {
   before = [];
   reads = text_reads s.cursor.y (column_reads s.settings.job);
@@ -48,7 +48,7 @@ space printer s = record {
 }
 
 -- a space of transparent print data, for which there has to be a font
-abbrev pub transparent_space : Printer → State → Line
+abbrev pub transparent_space : Printer → State → TableLine
 transparent_space printer s = record (space printer s) {
   reads = text_reads s.cursor.y (font_reads s.settings.job.font);
   after = no_font printer s ∷ moves_within printer s;
@@ -74,7 +74,7 @@ checks_of printer s code face =
     character_checks (geometry_of printer s) face code (right_of printer s) s.cursor.x (behind_of printer s) (glyph_of printer s code face).bounds
 
 -- a character that prints, where a face answers the request
-abbrev pub character : Printer → State → ℕ → Line
+abbrev pub character : Printer → State → ℕ → TableLine
 character printer s code = record {
   before = [];
   reads = text_reads s.cursor.y (font_reads s.settings.job.font);
@@ -84,9 +84,9 @@ character printer s code = record {
 }
 
 -- a byte of text
-abbrev pub print_byte : Printer → State → ℕ → Line
+abbrev pub print_byte : Printer → State → ℕ → TableLine
 print_byte printer s code = cond (code == 32) (space printer s) (character printer s code)
 
 -- a byte of transparent print data, whatever its code
-abbrev pub print_transparent : Printer → State → ℕ → Line
+abbrev pub print_transparent : Printer → State → ℕ → TableLine
 print_transparent printer s code = cond (code == 32) (transparent_space printer s) (character printer s code)

@@ -1,12 +1,12 @@
 -- What no item has set since the last return to user defaults.
 use Rattle.std.specs.Prelude.{◌≡◌, ℕ, ℤ, ◌==◌, ◌||◌, Bool, true, false, cond, is_none, List, [], ◌∷◌}
-use Rattle.pcl_items.specs.declared.pcl.command.Command.TheVariants.{PageSize, Orientation as OrientationCommand, VerticalMotionIndex, LineSpacing, Copies as CopiesCommand, Sides as SidesCommand, Source, MacroControl, LineTermination, FontSpacing, FontPitch, FontHeight, FontStyle, FontWeight, FontTypeface}
+use Rattle.pcl_items.specs.declared.pcl.command.Command.TheVariants as commands
 use Rattle.pcl_items.specs.Items.{Entry, Reset, ExitLanguage, Parameterized, SymbolSet, DefaultFont}
 use Rattle.device_profile.specs.declared.field.Field.{Field}
 use Rattle.device_profile.specs.declared.field.Field.TheVariants.{Size, Orientation, Vmi, Font, Copies, Sides, Tray, LineTerm}
 use Rattle.device_profile.specs.Printer.{Printer}
 use Rattle.page_env.specs.declared.page.FontParts.{FontParts}
-use Rattle.page_env.specs.Effect.{Line, Transition, Step, Closes, Ends, Behind}
+use Rattle.page_env.specs.Effect.{TableLine, Transition, Step, Closes, Ends, Behind}
 use Rattle.page_env.specs.FontInForce.{are_set}
 use Rattle.page_env.specs.Numbers.{whole_of}
 use Rattle.page_env.specs.Pens.{move_pen}
@@ -59,22 +59,22 @@ untouched_in_overlay = record all_untouched { size = false; orientation = false;
 -- What an item's own step leaves untouched, where it is carried out: it sets a field or a part of the font, or returns it to the user
 -- default. What a macro control runs is counted beside it.
 abbrev pub untouched_behind : Entry → Untouched → Untouched
-untouched_behind (Parameterized PageSize n) u = record u { size = false }
-untouched_behind (Parameterized OrientationCommand n) u = record u { orientation = false; vmi = true }
-untouched_behind (Parameterized VerticalMotionIndex n) u = record u { vmi = false }
-untouched_behind (Parameterized LineSpacing n) u = record u { vmi = false }
+untouched_behind (Parameterized commands.PageSize n) u = record u { size = false }
+untouched_behind (Parameterized commands.Orientation n) u = record u { orientation = false; vmi = true }
+untouched_behind (Parameterized commands.VerticalMotionIndex n) u = record u { vmi = false }
+untouched_behind (Parameterized commands.LineSpacing n) u = record u { vmi = false }
 untouched_behind (SymbolSet n letter) u = record u { parts = record u.parts { symbol_set = false } }
-untouched_behind (Parameterized FontSpacing n) u = record u { parts = record u.parts { spacing = false } }
-untouched_behind (Parameterized FontPitch n) u = record u { parts = record u.parts { pitch = false } }
-untouched_behind (Parameterized FontHeight n) u = record u { parts = record u.parts { height = false } }
-untouched_behind (Parameterized FontStyle n) u = record u { parts = record u.parts { style = false } }
-untouched_behind (Parameterized FontWeight n) u = record u { parts = record u.parts { weight = false } }
-untouched_behind (Parameterized FontTypeface n) u = record u { parts = record u.parts { typeface = false } }
+untouched_behind (Parameterized commands.FontSpacing n) u = record u { parts = record u.parts { spacing = false } }
+untouched_behind (Parameterized commands.FontPitch n) u = record u { parts = record u.parts { pitch = false } }
+untouched_behind (Parameterized commands.FontHeight n) u = record u { parts = record u.parts { height = false } }
+untouched_behind (Parameterized commands.FontStyle n) u = record u { parts = record u.parts { style = false } }
+untouched_behind (Parameterized commands.FontWeight n) u = record u { parts = record u.parts { weight = false } }
+untouched_behind (Parameterized commands.FontTypeface n) u = record u { parts = record u.parts { typeface = false } }
 untouched_behind DefaultFont u = record u { parts = all_parts }
-untouched_behind (Parameterized CopiesCommand n) u = record u { copies = false }
-untouched_behind (Parameterized SidesCommand n) u = record u { sides = false }
-untouched_behind (Parameterized Source n) u = record u { tray = cond (whole_of n == 0) u.tray false }
-untouched_behind (Parameterized LineTermination n) u = record u { line_termination = false }
+untouched_behind (Parameterized commands.Copies n) u = record u { copies = false }
+untouched_behind (Parameterized commands.Sides n) u = record u { sides = false }
+untouched_behind (Parameterized commands.Source n) u = record u { tray = cond (whole_of n == 0) u.tray false }
+untouched_behind (Parameterized commands.LineTermination n) u = record u { line_termination = false }
 untouched_behind Reset u = all_untouched
 untouched_behind ExitLanguage u = all_untouched
 untouched_behind _ u = u
@@ -147,7 +147,7 @@ abbrev pub IsReadAlike : State → List Field → List Field → Type 0
 IsReadAlike s reads plain = (plain ≡ reads) × (are_set s.settings.job.font ≡ true → names_font reads ≡ false)
 
 -- the state that a line leads to says what is left untouched; beside it the same line where nothing is watched, which reads the same
-abbrev pub LineLeaves : Flags → State → Untouched → Line → Line → Type 0
+abbrev pub LineLeaves : Flags → State → Untouched → TableLine → TableLine → Type 0
 LineLeaves watched s left line plain = IsReadAlike s line.reads plain.reads × SaysUntouched watched left line.state.settings
 
 -- An item's own step leads to what is left untouched; where it closes a page, this is left behind the closing.
@@ -164,7 +164,7 @@ TransitionLeaves watched s u left _ _ = ⊥
 
 -- a macro control: where it runs a body, this may set what it will
 abbrev pub is_macro_control : Entry → Bool
-is_macro_control (Parameterized MacroControl n) = true
+is_macro_control (Parameterized commands.MacroControl n) = true
 is_macro_control _ = false
 
 -- an item but a macro control leaves so much untouched, from every state that says what was untouched before
@@ -176,7 +176,7 @@ LeavesItsUntouched printer item =
     (transition_of printer (plain_settings defaults) (plain_state s) item)
 
 -- a line sets nothing that is in the panel, and reads the same where nothing is watched
-abbrev pub SetsNothing : (State → Line) → Type 0
+abbrev pub SetsNothing : (State → TableLine) → Type 0
 SetsNothing line =
     (watched : Flags) (u : Untouched) (s : State) → SaysUntouched watched u s.settings → LineLeaves watched s u (line s) (line (plain_state s))
 

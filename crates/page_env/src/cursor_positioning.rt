@@ -4,7 +4,7 @@
 ghost use Rattle.std.specs.Prelude.{cond, Some, []};
 ghost use Rattle.pcl_items.specs.Items.{amount};
 ghost use Rattle.page_env.specs.Settings.{state_at};
-ghost use Rattle.page_env.specs.Effect.{Reads};
+ghost use Rattle.page_env.specs.Effect.{ReadsFields};
 ghost use Rattle.page_env.specs.Numbers.{is_absent};
 ghost use Rattle.page_env.specs.Places.{ticks_in, vertical_place, geometry_of, page_reads};
 ghost use Rattle.page_env.specs.CursorPositioning.{push_cursor, pop_cursor, use_stack, move_across, move_from_top, relative_reads, move_x, move_y, move_x_decipoints, move_y_decipoints, move_columns, move_rows};
@@ -30,7 +30,8 @@ fn move_across<A: Allocator>(
     n: Number,
 ) -> Result<(), Finding>
     ensures { let by = ticks_in unit n.ten_thousandths in
-        Steps (λ s. move_across profile.now s page_reads [] n.sign (Some by)) page.old page.new result }
+        Steps (λ s. move_across profile.now s page_reads [] n.sign (Some by)) page.old page.new
+        result }
 {
     let geometry = geometry(profile, page)?;
     let here = page.cursor.x.ticks();
@@ -89,17 +90,19 @@ pub(crate) fn move_columns<A: Allocator>(
     Ok(())
 }
 
-/// The page in force, and the vertical place from which a move goes: the top margin where it has no sign, else the cursor.
+/// The page in force, and the vertical place from which a move goes: the top margin where it has no
+/// sign, else the cursor.
 #[inline(always)]
 fn geometry_and_start<A: Allocator>(
     profile: &Profile<A>,
     page: &Page,
     sign: Sign,
 ) -> Result<(Geometry, Coordinate), Field>
-    ensures { Reads page.now.env (relative_reads sign page.now.cursor.y)
+    ensures { ReadsFields page.now.env (relative_reads sign page.now.cursor.y)
         (λ panel. (
           geometry_of profile.now (state_at panel page.now),
-          cond (is_absent sign) page.now.env.job.top_margin (vertical_place (state_at panel page.now)),
+          cond (is_absent sign) page.now.env.job.top_margin
+              (vertical_place (state_at panel page.now)),
         )) result }
 {
     let fields = &page.env.fields;

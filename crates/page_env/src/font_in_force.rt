@@ -2,7 +2,7 @@
 
 ghost use Rattle.std.specs.Prelude.{◌≡◌};
 ghost use Rattle.page_env.specs.Settings.{state_at};
-ghost use Rattle.page_env.specs.Effect.{Reads};
+ghost use Rattle.page_env.specs.Effect.{ReadsFields};
 ghost use Rattle.page_env.specs.FontInForce.{are_set, no_request, request_at, with_parts, request_of, font_reads};
 
 use crate::page::{FontParts, Page};
@@ -70,7 +70,7 @@ pub(crate) fn font_request<A: Allocator>(
     profile: &Profile<A>,
     page: &Page,
 ) -> Result<FontRequest, Field>
-    ensures { Reads page.now.env (font_reads page.now.env.job.font)
+    ensures { ReadsFields page.now.env (font_reads page.now.env.job.font)
         (λ panel. request_of profile.now (state_at panel page.now)) result }
 {
     let parts = &page.env.job.font;

@@ -1,4 +1,5 @@
-//! HP-GL/2 frames: the picture frame, and where it is entered and left (the manual's "The Picture Frame").
+//! HP-GL/2 frames: the picture frame, and where it is entered and left (the manual's "The Picture
+//! Frame").
 #![tactic(auto, unfolding(crate::specs::Answers::Marks))]
 
 ghost use Rattle.std.specs.Prelude.{◌≡◌, ◌+◌, ◌^◌, ◌+ℤ◌, ◌-ℤ◌, pos, cond, Some, None, Ok, Err};

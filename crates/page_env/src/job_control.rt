@@ -37,7 +37,8 @@ pub(crate) fn choose_sides<A: Allocator>(
     page: &mut Page,
     n: Number,
 ) -> Result<Carried, Finding>
-    ensures { CarriesOut (λ defaults s. Closes (checking s (sides_checks profile.now (amount n))) true (λ t. set_sides t (amount n)))
+    ensures { CarriesOut (λ defaults s. Closes (checking s (sides_checks profile.now (amount n)))
+        true (λ t. set_sides t (amount n)))
         page.old page.new result }
 {
     if !is_whole_between(0, 2, n) {
@@ -60,8 +61,10 @@ pub(crate) fn set_sides(page: &mut Page, n: Number)
 
 /// The number of PCL units an inch that a value is, if an inch may have so many.
 fn units_of(n: Number) -> Option<UnitsPerInch>
-    ensures { let is_known = is_whole_from 0 (amount n) && list_any (λ units. units == whole_of (amount n)) units_per_inch in
-        MatchOption result (is_known ≡ false) (λ units. (is_known ≡ true) × (units ≡ whole_of (amount n))) }
+    ensures { let is_known = is_whole_from 0 (amount n)
+        && list_any (λ units. units == whole_of (amount n)) units_per_inch in
+        MatchOption result (is_known ≡ false)
+        (λ units. (is_known ≡ true) × (units ≡ whole_of (amount n))) }
 {
     if is_whole_from(0, n) {
         UnitsPerInch::new(whole_of(n) as u16)

@@ -104,8 +104,8 @@ fn set_overlay(control: Control, job: &mut JobSettings)
     }
 }
 
-/// The own step of a control, where the macro of the id in force is known or not, and in a macro or not. What it does with
-/// macros is not done here.
+/// The own step of a control, where the macro of the id in force is known or not, and in a macro or
+/// not. What it does with macros is not done here.
 pub fn carry_out_control(
     known: bool,
     in_macro: bool,
@@ -125,7 +125,8 @@ pub fn carry_out_control(
 /// Where the overlay of a page begins.
 pub fn overlay_page(defaults: &Env, page: &Page) -> Page
     ensures { (panel : Panel) →
-        overlay_state (settings_at panel defaults.now) (state_at panel page.now) ≡ state_at panel result }
+        overlay_state (settings_at panel defaults.now) (state_at panel page.now) ≡
+        state_at panel result }
 {
     Page {
         env: Env {

@@ -94,7 +94,8 @@ fn is_same(a: bool, b: bool) -> bool
     if a { b } else { !b }
 }
 
-/// `&l#L`: sets the perforation skip. A change returns the top and the bottom margin to their defaults.
+/// `&l#L`: sets the perforation skip. A change returns the top and the bottom margin to their
+/// defaults.
 pub(crate) fn set_perforation_skip(page: &mut Page, n: Number) -> Result<(), Finding>
     ensures { Steps (λ s. set_perforation_skip s (amount n)) page.old page.new result }
 {
@@ -120,7 +121,8 @@ fn left_margin_behind(
 ) -> Option<Length>
     ensures { let left = pos (column * columns) in
         result ≡ cond (int_lt geometry.now.logical_width left
-        || not (int_lt left (unwrap_or job.now.right_margin geometry.now.logical_width))) None (Some left) }
+        || not (int_lt left (unwrap_or job.now.right_margin geometry.now.logical_width))) None
+        (Some left) }
 {
     let left = i128::from(column) * i128::from(columns);
     let right = right_margin(job, geometry);
@@ -139,7 +141,8 @@ fn right_margin_behind(
     columns: u32,
 ) -> Option<Length>
     ensures { let right = pos (column * (columns + 1)) in
-        result ≡ cond (int_lt geometry.now.logical_width right || not (int_lt job.now.left_margin right)) None (Some right) }
+        result ≡ cond (int_lt geometry.now.logical_width right
+        || not (int_lt job.now.left_margin right)) None (Some right) }
 {
     let right = i128::from(column) * (i128::from(columns) + 1);
     let left = job.left_margin;

@@ -7,7 +7,7 @@ ghost use Rattle.pcl_items.specs.Items.{amount};
 ghost use Rattle.page_env.specs.Numbers.{is_whole_from, whole_of};
 ghost use Rattle.page_env.specs.Places.{ticks_in, first_line};
 ghost use Rattle.page_env.specs.Settings.{half_inch, fields_at};
-ghost use Rattle.page_env.specs.Effect.{Reads};
+ghost use Rattle.page_env.specs.Effect.{ReadsFields};
 ghost use Rattle.page_env.specs.Motion.{line_spacings, set_vmi, set_line_spacing, set_hmi, set_line_termination, termination_of, line_termination_reads, carriage_return, at_home, distance_of, feed_by, return_with, return_line, before_feed, line_feed, form_feed, half_line_feed};
 ghost use Rattle.page_env.specs.Answers.{CarriesOut, Changes, Steps, Moves};
 
@@ -53,7 +53,8 @@ fn is_line_spacing(lines: u32) -> bool
 
 /// The VMI of so many lines an inch, in ten-thousandths of 1/48 inch.
 fn vmi_of_spacing(n: Number) -> Option<u32>
-    ensures { result ≡ cond (is_whole_from 1 (amount n) && list_any (λ spacing. spacing == whole_of (amount n)) line_spacings)
+    ensures { result ≡ cond (is_whole_from 1 (amount n)
+        && list_any (λ spacing. spacing == whole_of (amount n)) line_spacings)
         (Some (480_000 / whole_of (amount n))) None }
 {
     let lines = whole_of(n);
@@ -106,11 +107,13 @@ fn distance_of(feed: Feed, line: u64) -> u64
     }
 }
 
-/// How far down a feed may lead, in ticks: to the bottom margin, or to the foot of the page where the perforation is not skipped.
+/// How far down a feed may lead, in ticks: to the bottom margin, or to the foot of the page where
+/// the perforation is not skipped.
 fn feed_limit(page: &Page, geometry: &Geometry) -> i64
     ensures near { result ≤ℤ pos (2 ^ 60) }
     ensures value { result ≡ cond page.now.env.job.skips_perforation
-        (unwrap_or page.now.env.job.bottom_margin (geometry.now.logical_height -ℤ half_inch)) geometry.now.logical_height }
+        (unwrap_or page.now.env.job.bottom_margin (geometry.now.logical_height -ℤ half_inch))
+        geometry.now.logical_height }
 {
     if page.env.job.skips_perforation {
         bottom_margin(&page.env.job, geometry)
@@ -121,7 +124,8 @@ fn feed_limit(page: &Page, geometry: &Geometry) -> i64
 
 /// Where a feed leads, in ticks from the upper edge of the logical page.
 fn fed_to(page: &Page, vmi: u32, feed: Feed) -> i128
-    ensures value { result ≡ unwrap_or page.now.cursor.y (first_line page.now.env.job.top_margin vmi)
+    ensures value { result ≡ unwrap_or page.now.cursor.y
+        (first_line page.now.env.job.top_margin vmi)
         +ℤ pos (distance_of feed (ticks_in Unit.FortyEighthInch vmi)) }
     ensures low { neg_ℤ (pos (2 ^ 60 + 2 ^ 50)) ≤ℤ result }
 {
@@ -144,7 +148,8 @@ pub(crate) fn up_to(limit: i64, y: i128) -> Option<Coordinate>
 
 /// What a feed past the limit comes to: the closing of the page, where the perforation is skipped.
 fn past_limit(page: &Page) -> Result<Carried, Finding>
-    ensures { result ≡ cond page.now.env.job.skips_perforation (Ok (Carried.Closing PageChange.Home)) (Err Finding.OffPage) }
+    ensures { result ≡ cond page.now.env.job.skips_perforation
+        (Ok (Carried.Closing PageChange.Home)) (Err Finding.OffPage) }
 {
     if page.env.job.skips_perforation {
         Ok(Carried::Closing(PageChange::Home))
@@ -153,7 +158,8 @@ fn past_limit(page: &Page) -> Result<Carried, Finding>
     }
 }
 
-/// Feeds a line or half a line. Past the bottom margin the page is to be closed, where the perforation is skipped.
+/// Feeds a line or half a line. Past the bottom margin the page is to be closed, where the
+/// perforation is skipped.
 fn feed_by<A: Allocator>(
     profile: &Profile<A>,
     page: &mut Page,
@@ -203,7 +209,7 @@ struct LineTermination {
 
 /// The line termination in force. CR, LF and FF read it as a step of their own, before all else.
 fn line_termination(page: &Page) -> Result<LineTermination, Field>
-    ensures { Reads page.now.env line_termination_reads
+    ensures { ReadsFields page.now.env line_termination_reads
         (λ panel. termination_of (fields_at panel page.now.env.fields).line_termination) result }
 {
     let value = page.env.fields.line_termination.known(Field::LineTerm)?;
@@ -227,7 +233,8 @@ fn return_with<A: Allocator>(
     page: &mut Page,
     termination: LineTermination,
 ) -> Result<Carried, Finding>
-    ensures { CarriesOut (λ defaults s. return_with profile.now termination s) page.old page.new result }
+    ensures { CarriesOut (λ defaults s. return_with profile.now termination s) page.old page.new
+        result }
 {
     go_left(page);
     if termination.feeds_at_return {

@@ -25,7 +25,8 @@ pub(crate) fn choose_source<A: Allocator>(
     page: &mut Page,
     n: Number,
 ) -> Result<Carried, Finding>
-    ensures { CarriesOut (λ defaults s. Closes (checking s (source_checks profile.now (amount n))) true (λ t. set_source t (amount n)))
+    ensures { CarriesOut (λ defaults s. Closes (checking s (source_checks profile.now (amount n)))
+        true (λ t. set_source t (amount n)))
         page.old page.new result }
 {
     if !is_whole_between(0, 255, n) {
@@ -34,7 +35,7 @@ pub(crate) fn choose_source<A: Allocator>(
     if whole_of(n) > 0 && !profile.has_tray(whole_of(n)) {
         return Err(Finding::NotOnDevice);
     }
-    Ok(Carried::Closing(PageChange::Source(n)))
+    Ok(Carried::Closing(PageChange::Tray(n)))
 }
 
 /// Sets the paper source, where the value names one.
@@ -54,7 +55,8 @@ pub(crate) fn choose_size<A: Allocator>(
     page: &mut Page,
     n: Number,
 ) -> Result<Carried, Finding>
-    ensures { CarriesOut (λ defaults s. Closes (checking s (size_checks profile.now (amount n))) true (λ t. set_size t (amount n)))
+    ensures { CarriesOut (λ defaults s. Closes (checking s (size_checks profile.now (amount n)))
+        true (λ t. set_size t (amount n)))
         page.old page.new result }
 {
     if !is_whole_between(1, 999, n) {
@@ -72,7 +74,9 @@ pub(crate) fn choose_orientation<A: Allocator>(
     page: &mut Page,
     n: Number,
 ) -> Result<Carried, Finding>
-    ensures { CarriesOut (λ defaults s. Closes (checking s (orientation_checks profile.now (amount n))) true (λ t. set_orientation defaults t (amount n)))
+    ensures { CarriesOut (λ defaults s. Closes
+        (checking s (orientation_checks profile.now (amount n))) true
+        (λ t. set_orientation defaults t (amount n)))
         page.old page.new result }
 {
     if !is_whole_between(0, 3, n) {

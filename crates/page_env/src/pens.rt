@@ -1,4 +1,5 @@
-//! The pen of an HP-GL/2 frame (the manual's "The Vector Group" and "The Line and Fill Attributes Group").
+//! The pen of an HP-GL/2 frame (the manual's "The Vector Group" and "The Line and Fill Attributes
+//! Group").
 #![tactic(auto, unfolding(crate::specs::Answers::Marks))]
 
 ghost use Rattle.std.specs.Prelude.{◌≡◌, ◌≤◌, ◌+◌, ◌*◌, ◌^◌, pos, cond, ◌&&◌, ◌+ℤ◌, ◌-ℤ◌, Some, None, MatchResult};
@@ -144,7 +145,8 @@ fn is_in_frame(frame: &Frame, place: Target) -> bool
 
 /// The pen's place at the end of a line, if both ends lie in a frame and it is not too far.
 fn place_within(frame: &Frame, start: Target, end: Target) -> Option<PenPlace>
-    ensures { result ≡ cond (stays_in_frame frame.now (place_of start) (place_of end)) (Some (place_of end)) None }
+    ensures { result ≡ cond (stays_in_frame frame.now (place_of start) (place_of end))
+        (Some (place_of end)) None }
 {
     if is_in_frame(frame, start) && is_in_frame(frame, end) {
         place_at(end)
@@ -178,7 +180,8 @@ fn fit_between(low: i64, high: i64, half: u64, a: i64, b: i64) -> bool
     requires first { IsWithin (15 * 2 ^ 59) a }
     requires second { IsWithin (15 * 2 ^ 59) b }
     requires half { half ≤ 2 ^ 50 }
-    ensures { result ≡ (is_between low high (int_min a b -ℤ pos half) && is_between low high (int_max a b +ℤ pos half)) }
+    ensures { result ≡ (is_between low high (int_min a b -ℤ pos half)
+        && is_between low high (int_max a b +ℤ pos half)) }
 {
     let least = low_end(a, b, half);
     let most = high_end(a, b, half);
@@ -212,7 +215,8 @@ fn ends_between(low: Length, high: Length, half: u64, a: i64, b: i64) -> Option<
     requires first { IsWithin (15 * 2 ^ 59) a }
     requires second { IsWithin (15 * 2 ^ 59) b }
     requires half { half ≤ 2 ^ 50 }
-    ensures { result ≡ cond (is_between low high (int_min a b -ℤ pos half) && is_between low high (int_max a b +ℤ pos half)) (Some (a, b)) None }
+    ensures { result ≡ cond (is_between low high (int_min a b -ℤ pos half)
+        && is_between low high (int_max a b +ℤ pos half)) (Some (a, b)) None }
 {
     let fit = fit_between(low.ticks(), high.ticks(), half, a, b);
     if fit {
@@ -222,7 +226,8 @@ fn ends_between(low: Length, high: Length, half: u64, a: i64, b: i64) -> Option<
     }
 }
 
-/// A line between two places of a frame, its width in ten-thousandths of a millimetre, if it lies in the printable area.
+/// A line between two places of a frame, its width in ten-thousandths of a millimetre, if it lies
+/// in the printable area.
 #[inline(always)]
 #[tactic(auto, unfolding(crate::specs::Mark::is_inside))]
 fn line_inside(
@@ -267,7 +272,8 @@ fn judged(
         let pen = job.now.pen in
         let checks = line_checks geometry.now origin frame pen.width pen.place (place_of to) in
         MatchResult result
-        (λ answer. (answer.0 ≡ line_between origin frame pen.width pen.place (place_of to)) × (answer.1 ≡ place_of to) × (first_finding checks ≡ None))
+        (λ answer. (answer.0 ≡ line_between origin frame pen.width pen.place (place_of to)) ×
+        (answer.1 ≡ place_of to) × (first_finding checks ≡ None))
         (λ finding. first_finding checks ≡ Some finding) }
 {
     let frame = frame_on(geometry, &job.frame);
@@ -305,7 +311,8 @@ fn draw<A: Allocator>(
 // A call of its own: most lines begin where the last one ended.
 #[inline(never)]
 fn draw_dot<A: Allocator>(profile: &Profile<A>, page: &mut Page) -> Result<Option<PenLine>, Finding>
-    ensures { Marks lines_of (λ s. draw profile.now s s.settings.job.pen.place) page.old page.new result }
+    ensures { Marks lines_of (λ s. draw profile.now s s.settings.job.pen.place) page.old page.new
+        result }
 {
     let here = own_place(page.env.job.pen.place);
     draw(profile, page, here)
@@ -324,7 +331,8 @@ fn lower_pen<A: Allocator>(
     draw_dot(profile, page)
 }
 
-/// The own step of a command that moves the pen. A pen that is lowered marks a dot, unless it is pen 0.
+/// The own step of a command that moves the pen. A pen that is lowered marks a dot, unless it is
+/// pen 0.
 pub fn carry_out_motion<A: Allocator>(
     profile: &Profile<A>,
     page: &mut Page,
@@ -354,14 +362,16 @@ fn carry_pen(page: &mut Page, to: Target) -> Result<Option<PenLine>, Finding>
     }
 }
 
-/// Moves the pen to a pair of coordinates, behind the own step of its command. With the pen down it draws, unless it is pen 0.
+/// Moves the pen to a pair of coordinates, behind the own step of its command. With the pen down it
+/// draws, unless it is pen 0.
 #[inline(always)]
 pub fn move_pen<A: Allocator>(
     profile: &Profile<A>,
     page: &mut Page,
     to: Coordinates,
 ) -> Result<Option<PenLine>, Finding>
-    ensures { Marks lines_of (λ s. move_pen profile.now s (to.x.units, to.y.units)) page.old page.new result }
+    ensures { Marks lines_of (λ s. move_pen profile.now s (to.x.units, to.y.units)) page.old
+        page.new result }
 {
     let target = pen_target(&page.env.job.pen, to);
     if page.env.job.pen.is_down {

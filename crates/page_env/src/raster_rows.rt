@@ -207,7 +207,8 @@ fn pixel_lies_between(
     lies_between(low.ticks(), high.ticks(), place)
 }
 
-/// Where a row begins, if its first black pixel, which so many white ones come before, lies between two bounds.
+/// Where a row begins, if its first black pixel, which so many white ones come before, lies between
+/// two bounds.
 fn row_start(
     left: i64,
     white: u32,
@@ -217,7 +218,8 @@ fn row_start(
 ) -> Option<Coordinate>
     requires left { IsWithin (2 ^ 62) left }
     requires white { white ≤ 8 }
-    ensures { result ≡ cond (is_between low high (left +ℤ pos (white * pixel_of resolution))) (Some left) None }
+    ensures { result ≡ cond (is_between low high (left +ℤ pos (white * pixel_of resolution)))
+        (Some left) None }
 {
     let fits = pixel_lies_between(left, white, resolution, low, high);
     if fits {
@@ -230,15 +232,18 @@ fn row_start(
 /// The upper edge of a row at a place of the sheet, if the row lies between two bounds.
 fn row_top(place: SheetPlace, resolution: Resolution, low: Length, high: Length) -> Option<Length>
     ensures { let edge = place.y in
-        result ≡ cond (is_between low high edge && is_between low high (edge +ℤ pos (pixel_of resolution))) (Some edge) None }
+        result ≡ cond (is_between low high edge
+        && is_between low high (edge +ℤ pos (pixel_of resolution))) (Some edge) None }
 {
     let pixel = width_of(1, resolution);
     let (edge, _) = span_between(place.y, pixel, low, high)?;
     Some(edge)
 }
 
-/// A row from a place of the sheet, if its black pixels lie within the printable area. It ends with a byte with a black
-/// pixel, and so many bytes come before the first one.
+/// A row from a place of the sheet, if its black pixels lie within the printable area. It ends with
+/// a byte with a black pixel, and so many bytes come before the first one.
+// Inlined, as `judged` is, which alone calls it.
+#[inline(always)]
 #[tactic(auto, unfolding(crate::specs::Mark::is_inside))]
 fn row_inside<'a>(
     geometry: &Geometry,
@@ -273,8 +278,10 @@ fn row_inside<'a>(
 /// The raster behind a row, unless the row has no place in it.
 fn row_behind(page: &Page, black: &[u8]) -> Result<StartedRaster, Finding>
     requires { length black.now ≤ 32767 }
-    ensures { let checks = row_checks page.now.env.job.raster page.now.raster black.now in MatchResult result
-        (λ behind. (option_map (raster_behind 1) page.now.raster ≡ Some behind) × (first_finding checks ≡ None))
+    ensures { let checks = row_checks page.now.env.job.raster page.now.raster black.now in
+        MatchResult result
+        (λ behind. (option_map (raster_behind 1) page.now.raster ≡ Some behind) ×
+        (first_finding checks ≡ None))
         (λ finding. first_finding checks ≡ Some finding) }
 {
     let Some(raster) = page.raster else {
@@ -304,7 +311,9 @@ fn judged<'a>(
     ensures { let row = row_from resolution place.x place.y black.now in
         let checks = place_checks geometry.now y black.now row in
         MatchResult result
-        (λ answer. (answer.0 ≡ place_behind resolution y 1) × (shapes_of answer.1 ≡ marks_of black.now row) × (is_some answer.1 ≡ has_black black.now) × (first_finding checks ≡ None))
+        (λ answer. (answer.0 ≡ place_behind resolution y 1) ×
+        (shapes_of answer.1 ≡ marks_of black.now row) × (is_some answer.1 ≡ has_black black.now) ×
+        (first_finding checks ≡ None))
         (λ finding. first_finding checks ≡ Some finding) }
 {
     let Some(below) = place_behind(y, 1, resolution, geometry.logical_height) else {
@@ -319,7 +328,8 @@ fn judged<'a>(
     Ok((below, Some(Mark::Row(row))))
 }
 
-/// `*b#W`: one row of a raster at the cursor, which moves a pixel down. A row without a black pixel makes no mark.
+/// `*b#W`: one row of a raster at the cursor, which moves a pixel down. A row without a black pixel
+/// makes no mark.
 pub fn print_row<'a, A: Allocator>(
     profile: &Profile<A>,
     page: &mut Page,

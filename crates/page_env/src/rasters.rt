@@ -2,6 +2,7 @@
 #![tactic(auto, unfolding(crate::specs::Answers::Marks))]
 
 ghost use Rattle.std.specs.Prelude.{◌≡◌, ◌==◌, not, is_some, ◌&&◌};
+ghost use Rattle.pcl_items.specs.Escapes.Commands.{group_of};
 ghost use Rattle.pcl_items.specs.Items.{amount, view};
 ghost use Rattle.page_env.specs.Rasters.{is_of_raster, is_raster_group, begun_by, resolution_of, set_resolution, set_raster_width, set_raster_height, presentation_of, set_presentation, set_compression, is_physical, start_raster, end_raster};
 ghost use Rattle.page_env.specs.Settings.{state_at};
@@ -13,7 +14,7 @@ use crate::number::{is_whole_between, is_whole_from, whole_of};
 use crate::page::{Page, Presentation, Resolution, StartedRaster};
 use crate::places::vertical;
 use device_profile::Field;
-use pcl_items::{Group, Item, Number, SimpleItem};
+use pcl_items::{Command, Group, Item, Number, SimpleItem};
 use tick_length::Length;
 
 /// Whether a group is `*t`, `*r` or `*b`.
@@ -23,14 +24,22 @@ fn is_raster_group(group: Group) -> bool
     matches!(group, Group::Resolution | Group::Raster | Group::RasterData)
 }
 
-/// Whether an item is of the groups `*t`, `*r` and `*b`.
+/// Whether a command is of the groups `*t`, `*r` and `*b`.
 // A call of its own, so that a group is looked up only where a raster is started.
 #[inline(never)]
+fn is_raster_command(command: Command) -> bool
+    ensures { result ≡ is_raster_group (group_of command) }
+{
+    is_raster_group(command.group())
+}
+
+/// Whether an item is of the groups `*t`, `*r` and `*b`.
+#[inline(always)]
 pub fn is_of_raster(item: &Item<'_>) -> bool
     ensures { result ≡ is_of_raster (view item.now) }
 {
     match item {
-        Item::Simple(SimpleItem::Parameterized(command, _)) => is_raster_group(command.group()),
+        Item::Simple(SimpleItem::Parameterized(command, _)) => is_raster_command(*command),
         Item::WithData(command, _) => is_raster_group(command.group()),
         _ => false,
     }
@@ -39,7 +48,8 @@ pub fn is_of_raster(item: &Item<'_>) -> bool
 /// Ends the raster as an item begins, unless the item is of rasters itself.
 #[inline(always)]
 pub fn begin_item(page: &mut Page, item: &Item<'_>)
-    ensures { (panel : Panel) → begun_by (view item.now) (state_at panel page.old) ≡ state_at panel page.new }
+    ensures { (panel : Panel) → begun_by (view item.now) (state_at panel page.old) ≡
+        state_at panel page.new }
 {
     if page.raster.is_some() && !is_of_raster(item) {
         page.raster = None;

@@ -5,7 +5,7 @@ ghost use Rattle.std.specs.Prelude.{◌≡◌, ◌+◌, ◌^◌, pos, ◌+ℤ◌
 ghost use Rattle.page_env.specs.Settings.{state_at};
 ghost use Rattle.page_env.specs.Numbers.{IsWithin};
 ghost use Rattle.page_env.specs.Mark.{is_inside};
-ghost use Rattle.page_env.specs.Effect.{Reads, first_finding};
+ghost use Rattle.page_env.specs.Effect.{ReadsFields, first_finding};
 ghost use Rattle.page_env.specs.FontInForce.{font_reads, request_of};
 ghost use Rattle.page_env.specs.Places.{place_between, column_with, column_of, column_reads, geometry_of, origin_of, vertical_place};
 ghost use Rattle.page_env.specs.Text.{edge_checks, character_checks, character_box, text_reads, space, transparent_space, character, print_byte, print_transparent};
@@ -29,8 +29,14 @@ fn space_place<A: Allocator>(
     profile: &Profile<A>,
     page: &Page,
 ) -> Result<(Geometry, Coordinate, Option<u64>), Field>
-    ensures { Reads page.now.env (text_reads page.now.cursor.y (column_reads page.now.env.job))
-        (λ panel. (geometry_of profile.now (state_at panel page.now), vertical_place (state_at panel page.now), column_of profile.now (state_at panel page.now))) result }
+    ensures { ReadsFields page.now.env (text_reads page.now.cursor.y
+        (column_reads page.now.env.job))
+        (λ panel. (
+          geometry_of profile.now (state_at panel page.now),
+          vertical_place (state_at panel page.now),
+          column_of profile.now (state_at panel page.now),
+        ))
+        result }
 {
     let (geometry, y) = geometry_and_vertical(profile, page)?;
     let column = column(profile, page)?;
@@ -45,9 +51,14 @@ fn character_place<A: Allocator>(
     profile: &Profile<A>,
     page: &Page,
 ) -> Result<(Geometry, Origin, Coordinate, FontRequest), Field>
-    ensures { Reads page.now.env (text_reads page.now.cursor.y (font_reads page.now.env.job.font))
-        (λ panel. let state = state_at panel page.now in
-        (geometry_of profile.now state, origin_of profile.now state, vertical_place state, request_of profile.now state)) result }
+    ensures { ReadsFields page.now.env (text_reads page.now.cursor.y
+        (font_reads page.now.env.job.font))
+        (λ panel. let state = state_at panel page.now in (
+          geometry_of profile.now state,
+          origin_of profile.now state,
+          vertical_place state,
+          request_of profile.now state,
+        )) result }
 {
     let (geometry, origin, y) = geometry_origin_and_vertical(profile, page)?;
     let request = font_request(profile, page)?;
@@ -176,7 +187,15 @@ fn judged<A: Allocator>(
         let box = character_box face.now place.x place.y in
         let checks = character_checks geometry.now face.now code right x behind box in
         MatchResult result
-        (λ answer. (answer ≡ (behind, record { code = code; request = request; y = place.y; bounds = box })) × (first_finding checks ≡ None))
+        (λ answer. (answer ≡ (
+          behind,
+          record {
+            code = code;
+            request = request;
+            y = place.y;
+            bounds = box;
+          },
+        )) × (first_finding checks ≡ None))
         (λ finding. first_finding checks ≡ Some finding) }
 {
     if !face.has_code(code) {

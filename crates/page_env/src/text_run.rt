@@ -85,7 +85,8 @@ fn page_and_request<'p, A: Allocator>(
     page: &Page,
 ) -> Option<(&'p Geometry, Origin, FontRequest)>
     ensures { IfSome result (λ known. (panel : Panel) → let state = state_at panel page.now in
-        (first_unset state.settings (Field.Size ∷ Field.Orientation ∷ font_reads page.now.env.job.font) ≡ None)
+        (first_unset state.settings (Field.Size ∷ Field.Orientation
+        ∷ font_reads page.now.env.job.font) ≡ None)
         × (geometry_of profile.now state ≡ known.0.now) × (origin_of profile.now state ≡ known.1)
         × (request_of profile.now state ≡ known.2)) }
 {
@@ -98,7 +99,8 @@ fn page_and_request<'p, A: Allocator>(
     Some((geometry, origin, request))
 }
 
-/// What text takes from the settings, where it is known, a face answers the font request and no raster is started.
+/// What text takes from the settings, where it is known, a face answers the font request and no
+/// raster is started.
 #[inline(always)]
 fn text_measure<'p, A: Allocator>(
     profile: &'p Profile<A>,
@@ -127,9 +129,11 @@ fn text_measure<'p, A: Allocator>(
     })
 }
 
-/// How a run from a place of the logical page looks, if a character there lies within the printable area.
+/// How a run from a place of the logical page looks, if a character there lies within the printable
+/// area.
 fn look_from<A: Allocator>(measure: &TextMeasure<'_, A>, x: Length) -> Option<Look>
-    ensures { IfSome result (λ look. (look ≡ look_at measure.now x) × (is_inside measure.now.geometry (box_at measure.now x) ≡ true)) }
+    ensures { IfSome result (λ look. (look ≡ look_at measure.now x) ×
+        (is_inside measure.now.geometry (box_at measure.now x) ≡ true)) }
 {
     let request = measure.request;
     let place = on_sheet(measure.origin, x, measure.y);
@@ -185,7 +189,8 @@ fn last_place<A: Allocator>(
 /// How many columns from a place end at an edge and begin up to a last place.
 fn columns_up_to(column: u64, x: Length, edge: Length, last: Length) -> u64
     requires { x ≤ℤ last }
-    ensures columns { (n : ℕ) → 1 ≤ n → n ≤ result → ((x +ℤ pos (n * column)) ≤ℤ edge) × ((x +ℤ pos (n * column)) ≤ℤ (last +ℤ pos column)) }
+    ensures columns { (n : ℕ) → 1 ≤ n → n ≤ result → ((x +ℤ pos (n * column)) ≤ℤ edge) ×
+        ((x +ℤ pos (n * column)) ≤ℤ (last +ℤ pos column)) }
     ensures in_range { IsInRange x × IsInRange edge }
 {
     let ended = columns_between(column, x, edge);
@@ -193,7 +198,8 @@ fn columns_up_to(column: u64, x: Length, edge: Length, last: Length) -> u64
     ended.min(others.saturating_add(1))
 }
 
-/// How many columns there are from a place to the edges, where a character at the place lies within the printable area.
+/// How many columns there are from a place to the edges, where a character at the place lies within
+/// the printable area.
 fn columns_ahead<A: Allocator>(measure: &TextMeasure<'_, A>, x: Length) -> u64
     requires { is_inside measure.now.geometry (box_at measure.now x) ≡ true }
     ensures { (n : ℕ) → n ≤ result → HasColumns measure.now x n }
@@ -235,7 +241,8 @@ fn text_of_range(range: CodeRange, bytes: &[u8]) -> usize
     first_set(others.to_bitmask())
 }
 
-/// How many of the first bytes are spaces or in the first range of a face's codes, as most text is, counted in lanes.
+/// How many of the first bytes are spaces or in the first range of a face's codes, as most text is,
+/// counted in lanes.
 #[inline(always)]
 fn text_of_first_range<A: Allocator>(face: &FontRow<A>, bytes: &[u8]) -> usize
     ensures short { result ≤ length bytes.now }
@@ -305,7 +312,8 @@ fn run_from<'p, A: Allocator>(
     }
 }
 
-/// The first bytes that go one after another from where the cursor stands, if it is known that one goes.
+/// The first bytes that go one after another from where the cursor stands, if it is known that one
+/// goes.
 ///
 /// It tells nothing of the byte behind them: printed by itself it may go, or have a finding.
 pub fn text_ahead<'p, A: Allocator>(
@@ -332,7 +340,8 @@ fn text_of_like_face<A: Allocator>(face: &FontRow<A>, codes: &[CodeRange], bytes
     }
 }
 
-/// How many of the first bytes of a run go from a place as characters that look as in the run, if it is known that one does.
+/// How many of the first bytes of a run go from a place as characters that look as in the run, if
+/// it is known that one does.
 fn alike_from<A: Allocator>(
     measure: &TextMeasure<'_, A>,
     x: Length,
@@ -354,7 +363,8 @@ fn alike_from<A: Allocator>(
     }
 }
 
-/// How many of the first bytes of another page's run go on this page, too, with the same marks, if it is known that one does.
+/// How many of the first bytes of another page's run go on this page, too, with the same marks, if
+/// it is known that one does.
 // A call of its own, as `text_ahead` is by its caller: its answer stays in registers.
 #[inline(never)]
 pub fn text_alike<A: Allocator>(

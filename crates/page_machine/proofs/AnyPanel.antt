@@ -20,7 +20,7 @@ use Rattle.page_env.specs.Effect.{check, first_finding, is_unset, first_unset, E
 use Rattle.page_env.specs.Macros.{control_of, control_checks, controlled, overlay_state, spend_item}
 use Rattle.page_env.specs.Settings.{Flags, Settings, State, has_choice, start_state, user_defaults, watched}
 use Rattle.page_env.specs.Rasters.{is_of_raster}
-use Rattle.page_env.specs.Table.{transition_of}
+use Rattle.page_env.specs.Table.{printed_bytes, coordinates_of, transition_of}
 use Rattle.page_env.specs.Pens.{move_pen}
 use Rattle.page_env.specs.Text.{print_transparent}
 use Rattle.page_machine.specs.declared.defining.Defining.{Defining}
@@ -28,8 +28,8 @@ use Rattle.page_machine.specs.declared.defining.Defining.TheVariants.{Refused, C
 use Rattle.page_machine.specs.declared.nesting.Nesting.{Nesting}
 use Rattle.page_machine.specs.declared.nesting.Nesting.TheVariants.{Job, Overlaid}
 use Rattle.page_machine.specs.Event.{Event}
-use Rattle.page_machine.specs.Run.{Peaks, peaks_of, Run, just, after, onward, followed_by, finding_or, unset_or, goes, effect_run, Ending, Done, Halts, marked_close, close_and_change, transition_run, Conditions, reset_run, byte_run, printing, printed_bytes, move_run, drawing, coordinates_of, own_run, begun_run, item_run, entries_run}
-use Rattle.page_machine.specs.Macros.{Context, is_macro, fixes_paper, executed_in, called_in, ending_with, put_back, found_run, control_body, control_run, conditions_in, raster_ended, at_level, body_run, macro_item_run, closing_reads, ended, refused, ending_at, give_up, overlay_run, is_too_deep, page_close, in_job}
+use Rattle.page_machine.specs.Run.{Peaks, peaks_of, Run, just, after, onward, followed_by, finding_or, unset_or, goes, effect_run, Ending, Done, Halts, marked_close, close_and_change, transition_run, Conditions, reset_run, byte_run, printing, move_run, drawing, own_run, begun_run, item_run, entries_run}
+use Rattle.page_machine.specs.Macros.{MacroContext, is_macro, fixes_paper, executed_in, called_in, ending_with, put_back, found_run, control_body, control_run, conditions_in, raster_ended, at_level, body_run, macro_item_run, closing_reads, ended, refused, ending_at, give_up, overlay_run, is_too_deep, page_close, in_job}
 use Rattle.page_machine.specs.Defining.{defining_of, of_memory, defining_run, is_defining, job_item_run, macros_after, job_end_run}
 use Rattle.page_machine.specs.Job.{JobRun, at_end, begun_with, one_item, ended_item, after_item, with_macros, items_run, end_run, no_end, reading_run, run_from}
 use Rattle.page_machine.specs.Laws.{ending_with_panel, run_with_panel, RunsAlike, IsWatchedAlike}
@@ -272,10 +272,10 @@ module _ (panel : Panel) where
 
   module _ (printer : Printer) (defaults : Settings) (items : (item : Entry) → IsAlikeItem printer panel defaults item) (bytes : (code : ℕ) → IsAlikeByte printer panel code) (moves : (to : ℤ × ℤ) → IsAlikeMove printer panel to) where
     module _ (macros : Store) where
-      abbrev ours : Context
+      abbrev ours : MacroContext
       ours = with_macros printer defaults macros
 
-      abbrev theirs : Context
+      abbrev theirs : MacroContext
       theirs = with_macros printer (settings_with panel defaults) macros
 
       -- an item where bodies run alike one level deeper

@@ -9,21 +9,21 @@ use Rattle.page_env.specs.declared.finding.Finding.{Finding}
 use Rattle.page_env.specs.declared.finding.Finding.TheVariants.{MacroDepth, InMacro}
 use Rattle.page_env.specs.declared.macros.Control.{Control}
 use Rattle.page_env.specs.declared.macros.Control.TheVariants.{Execute, Call}
-use Rattle.page_env.specs.Effect.{check, first_finding, first_unset, Line, Effect, Goes, GoesThenCloses, GoesThenEnds, fails_or, judged, effect_of, Transition, Step, Closes, Ends, Behind, Controls}
+use Rattle.page_env.specs.Effect.{check, first_finding, first_unset, TableLine, Effect, Goes, GoesThenCloses, GoesThenEnds, fails_or, judged, effect_of, Transition, Step, Closes, Ends, Behind, Controls}
 use Rattle.page_env.specs.Effect as effect
 use Rattle.page_env.specs.Macros.{control_of, control_checks, controlled, overlay_state, spend_item}
 use Rattle.page_env.specs.Settings.{Settings, State}
 use Rattle.page_env.specs.Sound.{plain_settings, plain_state, IsSound, IsSoundTransition, IsSoundItem}
 use Rattle.page_env.specs.Rasters.{begun_by}
-use Rattle.page_env.specs.Table.{transition_of}
+use Rattle.page_env.specs.Table.{printed_bytes, coordinates_of, transition_of}
 use Rattle.page_env.specs.Pens.{move_pen}
 use Rattle.page_env.specs.Text.{print_transparent}
 use Rattle.page_machine.specs.declared.nesting.Nesting.{Nesting}
 use Rattle.page_machine.specs.declared.nesting.Nesting.TheVariants.{Job, Executed, Called, Overlaid}
 use Rattle.page_machine.specs.Event.{Event}
-use Rattle.page_machine.specs.Run.{Peaks, Run, just, onward, followed_by, finding_or, unset_or, goes, effect_run, Ending, Done, Halts, marked_close, close_and_change, transition_run, Conditions, byte_run, printing, printed_bytes, move_run, drawing, coordinates_of, own_run, item_run, entries_run}
+use Rattle.page_machine.specs.Run.{Peaks, Run, just, onward, followed_by, finding_or, unset_or, goes, effect_run, Ending, Done, Halts, marked_close, close_and_change, transition_run, Conditions, byte_run, printing, move_run, drawing, own_run, item_run, entries_run}
 use Rattle.page_machine.proofs.Parts.{AreSoundParts}
-use Rattle.page_machine.specs.Macros.{Context, is_macro, fixes_paper, executed_in, called_in, ending_with, put_back, found_run, control_body, control_run, conditions_in, raster_ended, body_run, macro_item_run, closing_reads, ended, refused, ending_at, give_up, overlay_run, is_too_deep, page_close}
+use Rattle.page_machine.specs.Macros.{MacroContext, is_macro, fixes_paper, executed_in, called_in, ending_with, put_back, found_run, control_body, control_run, conditions_in, raster_ended, body_run, macro_item_run, closing_reads, ended, refused, ending_at, give_up, overlay_run, is_too_deep, page_close}
 use Rattle.page_machine.specs.Job.{with_macros}
 use Rattle.page_machine.proofs.Cases.{has_begun}
 use Rattle.page_machine.proofs.Spending.{spend_is_sound}
@@ -73,7 +73,7 @@ module _ (printer : Printer) (defaults : Settings) (fixed : Bool) (is_fixed : fi
   here = record { defaults = defaults; fixes_paper = fixed; close = close; control = control }
 
   -- what begins behind a line begins on its page
-  behind : (s : State) (line plain : Line) (r : Run) → IsSound printer s line plain → KeepsPaper line.state r → KeepsPaper s r
+  behind : (s : State) (line plain : TableLine) (r : Run) → IsSound printer s line plain → KeepsPaper line.state r → KeepsPaper s r
   behind s line plain r sound h = kept_on s line.state r.ending (sound.size, sound.orientation) h
 
   marked_keeps : (s : State) → KeepsPaper s (marked_close close s)
@@ -92,7 +92,7 @@ module _ (printer : Printer) (defaults : Settings) (fixed : Bool) (is_fixed : fi
   parts_keep s None (Some finding) None e h = tt
   parts_keep s None None None e h = h
 
-  judged_keeps : (s : State) (line : Line) (e : Effect) → KeepsPaper s (effect_run here e) → KeepsPaper s (effect_run here (judged s.settings line e))
+  judged_keeps : (s : State) (line : TableLine) (e : Effect) → KeepsPaper s (effect_run here e) → KeepsPaper s (effect_run here (judged s.settings line e))
   judged_keeps s line e h = parts_keep s (first_finding line.before) (first_finding line.after) (first_unset s.settings line.reads) e h
 
   read_keeps : (s : State) (unset : Option Field) (e : Effect) → KeepsPaper s (effect_run here e) → KeepsPaper s (effect_run here (effect.unset_or unset e))
@@ -202,7 +202,7 @@ give_up_keeps s (Done t) = (refl, refl)
 give_up_keeps s (Halts finding) = tt
 
 module _ (printer : Printer) (defaults : Settings) (sound : (item : Entry) → IsSoundItem printer defaults item) (parts : AreSoundParts printer) (macros : Store) where
-  abbrev the_context : Context
+  abbrev the_context : MacroContext
   the_context = with_macros printer defaults macros
 
   pub body_keeps : (close : State → Run) → ((s : State) → KeepsPaper s (close s)) → (left level : ℕ) (nesting : Nesting) → fixes_paper nesting ≡ true → (items : List Entry) (s : State) → KeepsPaper s (body_run the_context close left level nesting items s)

@@ -18,7 +18,7 @@ use Rattle.page_env.specs.Pinned.{is_orientation, pinned, returns_to_panel, IsPi
 use Rattle.page_machine.specs.declared.nesting.Nesting.{Nesting}
 use Rattle.page_machine.specs.Event.{Event}
 use Rattle.page_machine.specs.Run.{Peaks, Run, just, onward, followed_by, finding_or, unset_or, goes, Ending, Done, Halts, item_run, entries_run}
-use Rattle.page_machine.specs.Macros.{Context, is_macro, fixes_paper, executed_in, called_in, ending_with, put_back, found_run, control_body, control_run, conditions_in, raster_ended, at_level, macro_item_run, body_run, closing_reads, ended, overlay_run, is_too_deep, page_close}
+use Rattle.page_machine.specs.Macros.{MacroContext, is_macro, fixes_paper, executed_in, called_in, ending_with, put_back, found_run, control_body, control_run, conditions_in, raster_ended, at_level, macro_item_run, body_run, closing_reads, ended, overlay_run, is_too_deep, page_close}
 use Rattle.page_machine.specs.Job.{with_macros}
 use Rattle.page_machine.specs.Laws.{IsSet}
 use Rattle.page_machine.specs.Pinning.{spacing}
@@ -154,14 +154,14 @@ pub record ArePinnedMacros (v : ℕ) (macros macros' : Store) : Type 0 where
   pub all : (id : ℕ) (body : List Entry) → body_of macros id ≡ Some body → AreAllPinned body
 
 module _ (printer : Printer) (defaults from : Settings) (laws : AreLaws printer defaults from) (v : ℕ) (d : ArePinnedDefaults v defaults from) (macros macros' : Store) (m : ArePinnedMacros v macros macros') where
-  abbrev here : Context
+  abbrev here : MacroContext
   here = with_macros printer defaults macros
 
-  abbrev there : Context
+  abbrev there : MacroContext
   there = with_macros printer from macros'
 
   -- the closing of a page with this overlay
-  abbrev closing : Context → State → Option ℕ → Run
+  abbrev closing : MacroContext → State → Option ℕ → Run
   closing context s overlay =
       finding_or (first_finding (check (is_some overlay && (printer.depth == 0)) MacroDepth ∷ []))
       (unset_or (first_unset s.settings closing_reads) (followed_by (overlay_run context s overlay) ended))

@@ -21,7 +21,7 @@ use Rattle.page_machine.specs.declared.nesting.Nesting.{Nesting}
 use Rattle.page_machine.specs.declared.nesting.Nesting.TheVariants.{Job}
 use Rattle.page_machine.specs.Event.{Event}
 use Rattle.page_machine.specs.Run.{Peaks, Run, just, after, onward, followed_by, finding_or, Ending, Done, Halts, item_run}
-use Rattle.page_machine.specs.Macros.{Context, in_job, body_run, page_close}
+use Rattle.page_machine.specs.Macros.{MacroContext, in_job, body_run, page_close}
 use Rattle.page_machine.specs.Pinning.{spacing, FindsRoom}
 use Rattle.page_env.specs.JobControl.{is_reset}
 use Rattle.page_machine.specs.Defining.{control_in, defining_of, of_memory, defining_run, defined_after, controlled_after, carried_after, is_defining, job_item_run, macros_after}
@@ -174,10 +174,10 @@ module _ (printer : Printer) (from : Settings) where
   twice_stored false false false peaks peaks' more s o le room = record { events = refl; ending = refl; bare = o; set = tt }
 
   module _ (defaults : Settings) (laws : AreLaws printer defaults from) (v : ℕ) (d : ArePinnedDefaults v defaults from) where
-    abbrev pub context : Store → Context
+    abbrev pub context : Store → MacroContext
     context macros = with_macros printer defaults macros
 
-    abbrev pub pinned_context : Store → Context
+    abbrev pub pinned_context : Store → MacroContext
     pinned_context macros = with_macros printer from macros
 
     module _ (macros : Store) (p : IsPinnable macros) where

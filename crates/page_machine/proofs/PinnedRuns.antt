@@ -6,7 +6,7 @@ use Rattle.device_profile.specs.declared.field.Field.{Field}
 use Rattle.device_profile.specs.Printer.{Printer}
 use Rattle.page_env.specs.declared.finding.Finding.{Finding}
 use Rattle.page_env.specs.declared.finding.Finding.TheVariants.{InMacro, Unset}
-use Rattle.page_env.specs.Effect.{Check, first_finding, first_unset, Line, Effect, Goes, GoesThenCloses, GoesThenEnds, fails_or, judged, effect_of, Transition, Step, Closes, Ends, Behind, Controls}
+use Rattle.page_env.specs.Effect.{Check, first_finding, first_unset, TableLine, Effect, Goes, GoesThenCloses, GoesThenEnds, fails_or, judged, effect_of, Transition, Step, Closes, Ends, Behind, Controls}
 use Rattle.page_env.specs.Effect as effect
 use Rattle.page_env.specs.Settings.{Flags, Settings, State, unwatched}
 use Rattle.page_env.specs.Macros.{control_of, spend_item}
@@ -21,11 +21,11 @@ use Rattle.pcl_items.specs.Items.{Parameterized}
 use Rattle.pcl_items.specs.declared.pcl.command.Command.TheVariants.{Orientation}
 use Rattle.page_env.specs.Pinned.{pinned, AreSet, GoesPinned, GoesPinnedBy, returns_to_panel, IsPinnedItem, IsPinnedByte, IsPinnedMove, AreBare, IsBare, KeepsBare, IsBareItem, IsBareByte, IsBareMove}
 use Rattle.page_env.specs.Rasters.{is_of_raster}
-use Rattle.page_env.specs.Table.{transition_of}
+use Rattle.page_env.specs.Table.{printed_bytes, coordinates_of, transition_of}
 use Rattle.page_env.specs.Pens.{move_pen}
 use Rattle.page_env.specs.Text.{print_transparent}
 use Rattle.page_machine.specs.Event.{Event, Marked}
-use Rattle.page_machine.specs.Run.{Peaks, peaks_of, Run, just, after, onward, followed_by, finding_or, unset_or, goes, effect_run, Ending, Done, Halts, marked_close, close_and_change, transition_run, Conditions, byte_run, printing, printed_bytes, move_run, drawing, coordinates_of, own_run, begun_run, item_run}
+use Rattle.page_machine.specs.Run.{Peaks, peaks_of, Run, just, after, onward, followed_by, finding_or, unset_or, goes, effect_run, Ending, Done, Halts, marked_close, close_and_change, transition_run, Conditions, byte_run, printing, move_run, drawing, own_run, begun_run, item_run}
 use Rattle.page_machine.specs.Laws.{IsSet, IsNotUnset}
 use Rattle.page_machine.specs.Macros.{macro_item_run}
 use Rattle.page_machine.specs.Pinning.{spacing}
@@ -85,7 +85,7 @@ three true b c e = absurd cc
 three false true c e = absurd cc
 three false false c e = (refl, refl)
 
-pub line_is_set : (line : Line) → is_in_order line ≡ true → FindsSet (first_finding line.before) × FindsSet (first_finding line.after)
+pub line_is_set : (line : TableLine) → is_in_order line ≡ true → FindsSet (first_finding line.before) × FindsSet (first_finding line.after)
 line_is_set line e =
     let none = three (find_unset line.before) (find_unset line.after) _ e in
     (checks_are_set line.before none.0, checks_are_set line.after none.1)
@@ -176,12 +176,12 @@ module _ (printer : Printer) (from : Settings) where
     parts_alike None (Some finding) None e e' none first second p = halts_alike finding (second finding refl)
     parts_alike None None None e e' none first second p = p
 
-    judged_alike : (s : State) (line line' : Line) (e e' : Effect) → IsBare s → is_in_order line ≡ true → GoesPinned printer from s line line' → Alike printer from (effect_run here e) (effect_run there e') → Alike printer from (effect_run here (judged s.settings line e)) (effect_run there (judged (pinned printer from s).settings line' e'))
+    judged_alike : (s : State) (line line' : TableLine) (e e' : Effect) → IsBare s → is_in_order line ≡ true → GoesPinned printer from s line line' → Alike printer from (effect_run here e) (effect_run there e') → Alike printer from (effect_run here (judged s.settings line e)) (effect_run there (judged (pinned printer from s).settings line' e'))
     judged_alike s line line' e e' o ordered goes p =
         let run : Run = effect_run here (judged s.settings line e) in
         let set = line_is_set line ordered in
         subst (λ (u : Option Field). Alike printer from run (effect_run there (fails_or (first_finding line'.before) (effect.unset_or u (fails_or (first_finding line'.after) e'))))) (sym goes.1)
-        (subst (λ (l : Line). Alike printer from run (effect_run there (fails_or (first_finding l.before) (fails_or (first_finding l.after) e')))) (sym goes.0)
+        (subst (λ (l : TableLine). Alike printer from run (effect_run there (fails_or (first_finding l.before) (fails_or (first_finding l.after) e')))) (sym goes.0)
         (parts_alike (first_finding line.before) (first_finding line.after) (first_unset s.settings line.reads) e e' (nothing_unset s line.reads o) set.0 set.1 p))
 
     behind_alike : (unset : Option Field) (e : Effect) (r' : Run) → unset ≡ None → Alike printer from (effect_run here e) r' → Alike printer from (effect_run here (effect.unset_or unset e)) r'
@@ -191,17 +191,17 @@ module _ (printer : Printer) (from : Settings) where
     pub transition_alike : (s : State) (m m' : Transition) → IsBare s → KeepsBare m → IsOrdered m → GoesPinnedBy printer from s m m' → Alike printer from (transition_run here s m) (transition_run there (pinned printer from s) m')
     transition_alike s (Step line) (Step line') o keeps ordered g =
         judged_alike s line line' (Goes line.state line.marks) (Goes line'.state line'.marks) o ordered g
-        (record { events = ap (λ (l : Line). map Marked l.marks) g.0; ending = ap (λ (l : Line). Done l.state) g.0; bare = keeps; set = tt })
+        (record { events = ap (λ (l : TableLine). map Marked l.marks) g.0; ending = ap (λ (l : TableLine). Done l.state) g.0; bare = keeps; set = tt })
     transition_alike s (Closes line sets change) (Closes line' sets' change') o keeps ordered g =
         let run : Run = effect_run here (GoesThenCloses line.state sets change) in
         judged_alike s line line' (GoesThenCloses line.state sets change) (GoesThenCloses line'.state sets' change') o ordered g.0
         (subst (λ (b : Bool). Alike printer from run (effect_run there (GoesThenCloses line'.state b change'))) (sym g.1)
-        (subst (λ (l : Line). Alike printer from run (effect_run there (GoesThenCloses l.state sets change'))) (sym g.0.0)
+        (subst (λ (l : TableLine). Alike printer from run (effect_run there (GoesThenCloses l.state sets change'))) (sym g.0.0)
         (change_alike (sets && fixed) line.state change change' g.2 keeps.1 keeps.0)))
     transition_alike s (Ends line) (Ends line') o keeps ordered g =
         let run : Run = effect_run here (GoesThenEnds line.state) in
         judged_alike s line line' (GoesThenEnds line.state) (GoesThenEnds line'.state) o ordered g
-        (subst (λ (l : Line). Alike printer from run (effect_run there (GoesThenEnds l.state))) (sym g.0)
+        (subst (λ (l : TableLine). Alike printer from run (effect_run there (GoesThenEnds l.state))) (sym g.0)
         (after_alike (peaks_of line.state) (peaks_of (pinned printer from line.state)) (close line.state) (close' (pinned printer from line.state)) (closes line.state keeps)))
     transition_alike s (Behind reads m) (Behind reads' m') o keeps ordered g =
         let run : Run = effect_run here (effect.unset_or (first_unset s.settings reads) (effect_of s.settings m)) in

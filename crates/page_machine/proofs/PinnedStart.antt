@@ -3,7 +3,7 @@ use Rattle.std.proofs.Common.{◌≡◌, ℕ, ℤ, pos, negsuc, suc, ◌==◌, �
 use Rattle.std.proofs.Math.Nat.{mul-div_cancel, mul-mod_left}
 use Rattle.std.proofs.lemmas.Bool.Decides.{nat_tests}
 use Rattle.std.proofs.lemmas.Int.{ints}
-use Rattle.pcl_items.specs.declared.pcl.command.Command.TheVariants.{PageSize, Orientation, Copies, Sides, Source, VerticalMotionIndex, LineTermination, FontSpacing, FontPitch, FontHeight, FontStyle, FontWeight, FontTypeface}
+use Rattle.pcl_items.specs.declared.pcl.command.Command.TheVariants as commands
 use Rattle.pcl_items.specs.declared.number.Sign.TheVariants.{Absent, Minus}
 use Rattle.pcl_items.specs.Items.{Entry, Placed, Reset, Parameterized, SymbolSet}
 use Rattle.pcl_items.specs.Escapes.Value.{Amount}
@@ -64,26 +64,26 @@ module _ (printer : Printer) (conditions : Conditions) where
   abbrev begun : State → State
   begun s = record s { raster = None }
 
-  pub pitch_leads : (n : ℕ) (s : State) → LeadsTo (item_run printer conditions (Parameterized FontPitch (unsigned n)) s) (with_font (begun s) (record s.settings.job.font { pitch = Some n }))
+  pub pitch_leads : (n : ℕ) (s : State) → LeadsTo (item_run printer conditions (Parameterized commands.FontPitch (unsigned n)) s) (with_font (begun s) (record s.settings.job.font { pitch = Some n }))
   pitch_leads n s = record { events = refl; ending = refl }
 
-  pub height_leads : (n : ℕ) (s : State) → LeadsTo (item_run printer conditions (Parameterized FontHeight (unsigned n)) s) (with_font (begun s) (record s.settings.job.font { height = Some n }))
+  pub height_leads : (n : ℕ) (s : State) → LeadsTo (item_run printer conditions (Parameterized commands.FontHeight (unsigned n)) s) (with_font (begun s) (record s.settings.job.font { height = Some n }))
   height_leads n s = record { events = refl; ending = refl }
 
-  pub style_leads : (n : ℕ) (s : State) → LeadsTo (item_run printer conditions (Parameterized FontStyle (unsigned n)) s) (with_font (begun s) (record s.settings.job.font { style = Some n }))
+  pub style_leads : (n : ℕ) (s : State) → LeadsTo (item_run printer conditions (Parameterized commands.FontStyle (unsigned n)) s) (with_font (begun s) (record s.settings.job.font { style = Some n }))
   style_leads n s = record { events = refl; ending = refl }
 
-  pub typeface_leads : (n : ℕ) (s : State) → LeadsTo (item_run printer conditions (Parameterized FontTypeface (unsigned n)) s) (with_font (begun s) (record s.settings.job.font { typeface = Some n }))
+  pub typeface_leads : (n : ℕ) (s : State) → LeadsTo (item_run printer conditions (Parameterized commands.FontTypeface (unsigned n)) s) (with_font (begun s) (record s.settings.job.font { typeface = Some n }))
   typeface_leads n s = record { events = refl; ending = refl }
 
-  pub weight_leads : (n : Amount) (s : State) → LeadsTo (item_run printer conditions (Parameterized FontWeight n) s) (with_font (begun s) (record s.settings.job.font { weight = Some (signed n) }))
+  pub weight_leads : (n : Amount) (s : State) → LeadsTo (item_run printer conditions (Parameterized commands.FontWeight n) s) (with_font (begun s) (record s.settings.job.font { weight = Some (signed n) }))
   weight_leads n s = record { events = refl; ending = refl }
 
   pub symbol_set_leads : (n letter : ℕ) (s : State) → LeadsTo (item_run printer conditions (SymbolSet (unsigned n) letter) s) (with_font (begun s) (record s.settings.job.font { symbol_set = Some (record { number = n; letter = letter }) }))
   symbol_set_leads n letter s = record { events = refl; ending = refl }
 
   -- all faces are of fixed spacing
-  pub spacing_leads : (s : State) → LeadsTo (item_run printer conditions (Parameterized FontSpacing (unsigned 0)) s) (with_font (begun s) (record s.settings.job.font { spacing = Some 0 }))
+  pub spacing_leads : (s : State) → LeadsTo (item_run printer conditions (Parameterized commands.FontSpacing (unsigned 0)) s) (with_font (begun s) (record s.settings.job.font { spacing = Some 0 }))
   spacing_leads s = record { events = refl; ending = refl }
 
   -- ---- fields of the panel
@@ -103,7 +103,7 @@ module _ (printer : Printer) (conditions : Conditions) where
   goes_on : (found : Option Finding) (t : State) → found ≡ None → LeadsTo (effect_run conditions (fails_or found (Goes t []))) t
   goes_on found t e = subst (λ (o : Option Finding). LeadsTo (effect_run conditions (fails_or o (Goes t []))) t) (sym e) (record { events = refl; ending = refl })
 
-  pub vmi_leads : (n : ℕ) (s : State) → nat_le n 3_350_000 ≡ true → LeadsTo (item_run printer conditions (Parameterized VerticalMotionIndex (unsigned n)) s) (with_vmi (begun s) n)
+  pub vmi_leads : (n : ℕ) (s : State) → nat_le n 3_350_000 ≡ true → LeadsTo (item_run printer conditions (Parameterized commands.VerticalMotionIndex (unsigned n)) s) (with_vmi (begun s) n)
   vmi_leads n s few = goes_on _ (with_vmi (begun s) n) (one_passes (nat_le n 3_350_000) few)
 
   -- a change of the page where it has no mark, and no paper is fixed
@@ -116,26 +116,26 @@ module _ (printer : Printer) (conditions : Conditions) where
 
   -- the paper can be set, on a page without a mark
   module _ (s : State) (unmarked : s.marked ≡ false) (free : conditions.fixes_paper ≡ false) where
-    pub size_leads : (n : ℕ) → is_whole_between 1 999 (whole n) ≡ true → has_size printer.geometries (whole_of (whole n)) ≡ true → LeadsTo (item_run printer conditions (Parameterized PageSize (whole n)) s) (set_size (begun s) (whole n))
+    pub size_leads : (n : ℕ) → is_whole_between 1 999 (whole n) ≡ true → has_size printer.geometries (whole_of (whole n)) ≡ true → LeadsTo (item_run printer conditions (Parameterized commands.PageSize (whole n)) s) (set_size (begun s) (whole n))
     size_leads n good has =
         changes (first_finding (size_checks printer (whole n))) (begun s) (λ t. set_size t (whole n)) (two_pass (is_whole_between 1 999 (whole n)) (not (has_size printer.geometries (whole_of (whole n)))) good (ap not has)) unmarked free
 
-    pub orientation_leads : (n : ℕ) → is_whole_between 0 3 (whole n) ≡ true → has_orientation printer.geometries (whole_of (whole n)) ≡ true → LeadsTo (item_run printer conditions (Parameterized Orientation (whole n)) s) (set_orientation conditions.defaults (begun s) (whole n))
+    pub orientation_leads : (n : ℕ) → is_whole_between 0 3 (whole n) ≡ true → has_orientation printer.geometries (whole_of (whole n)) ≡ true → LeadsTo (item_run printer conditions (Parameterized commands.Orientation (whole n)) s) (set_orientation conditions.defaults (begun s) (whole n))
     orientation_leads n good has =
         changes (first_finding (orientation_checks printer (whole n))) (begun s) (λ t. set_orientation conditions.defaults t (whole n)) (two_pass (is_whole_between 0 3 (whole n)) (not (has_orientation printer.geometries (whole_of (whole n)))) good (ap not has)) unmarked free
 
-    pub source_leads : (n : ℕ) → is_whole_between 0 255 (whole n) ≡ true → (nat_lt 0 (whole_of (whole n)) && not (has_tray printer (whole_of (whole n)))) ≡ false → LeadsTo (item_run printer conditions (Parameterized Source (whole n)) s) (set_source (begun s) (whole n))
+    pub source_leads : (n : ℕ) → is_whole_between 0 255 (whole n) ≡ true → (nat_lt 0 (whole_of (whole n)) && not (has_tray printer (whole_of (whole n)))) ≡ false → LeadsTo (item_run printer conditions (Parameterized commands.Source (whole n)) s) (set_source (begun s) (whole n))
     source_leads n good has =
         changes (first_finding (source_checks printer (whole n))) (begun s) (λ t. set_source t (whole n)) (two_pass (is_whole_between 0 255 (whole n)) (nat_lt 0 (whole_of (whole n)) && not (has_tray printer (whole_of (whole n)))) good has) unmarked free
 
-    pub sides_leads : (n : ℕ) → is_whole_between 0 2 (whole n) ≡ true → (nat_lt 0 (whole_of (whole n)) && not printer.has_duplex) ≡ false → LeadsTo (item_run printer conditions (Parameterized Sides (whole n)) s) (set_sides (begun s) (whole n))
+    pub sides_leads : (n : ℕ) → is_whole_between 0 2 (whole n) ≡ true → (nat_lt 0 (whole_of (whole n)) && not printer.has_duplex) ≡ false → LeadsTo (item_run printer conditions (Parameterized commands.Sides (whole n)) s) (set_sides (begun s) (whole n))
     sides_leads n good has =
         changes (first_finding (sides_checks printer (whole n))) (begun s) (λ t. set_sides t (whole n)) (two_pass (is_whole_between 0 2 (whole n)) (nat_lt 0 (whole_of (whole n)) && not printer.has_duplex) good has) unmarked free
 
-  pub copies_leads : (n : ℕ) (s : State) → is_whole_between 1 32_767 (whole n) ≡ true → LeadsTo (item_run printer conditions (Parameterized Copies (whole n)) s) (set_copies (begun s) (whole n)).state
+  pub copies_leads : (n : ℕ) (s : State) → is_whole_between 1 32_767 (whole n) ≡ true → LeadsTo (item_run printer conditions (Parameterized commands.Copies (whole n)) s) (set_copies (begun s) (whole n)).state
   copies_leads n s good = goes_on (first_finding (set_copies (begun s) (whole n)).before) (set_copies (begun s) (whole n)).state (one_passes (is_whole_between 1 32_767 (whole n)) good)
 
-  pub line_termination_leads : (n : ℕ) (s : State) → is_whole_between 0 3 (whole n) ≡ true → LeadsTo (item_run printer conditions (Parameterized LineTermination (whole n)) s) (set_line_termination (begun s) (whole n)).state
+  pub line_termination_leads : (n : ℕ) (s : State) → is_whole_between 0 3 (whole n) ≡ true → LeadsTo (item_run printer conditions (Parameterized commands.LineTermination (whole n)) s) (set_line_termination (begun s) (whole n)).state
   line_termination_leads n s good = goes_on (first_finding (set_line_termination (begun s) (whole n)).before) (set_line_termination (begun s) (whole n)).state (one_passes (is_whole_between 0 3 (whole n)) good)
 
 -- ---- the prologue
@@ -235,9 +235,9 @@ module _ (printer : Printer) (flags : Flags) (origin panel : Panel) (request : F
       (on (first_of (following 13)) (following 14) r with_typeface terminated (λ id. refl) (line_termination_leads printer conditions panel.line_termination with_typeface can.line_termination)
       behind)))))))))))))
     where
-      fixed : LeadsTo (item_run printer conditions (Parameterized FontSpacing (unsigned request.spacing)) with_symbols) with_spacing
+      fixed : LeadsTo (item_run printer conditions (Parameterized commands.FontSpacing (unsigned request.spacing)) with_symbols) with_spacing
       fixed =
-          subst (λ (n : ℕ). LeadsTo (item_run printer conditions (Parameterized FontSpacing (unsigned n)) with_symbols) (with_font with_symbols (record with_symbols.settings.job.font { spacing = Some n }))) (sym can.spacing)
+          subst (λ (n : ℕ). LeadsTo (item_run printer conditions (Parameterized commands.FontSpacing (unsigned n)) with_symbols) (with_font with_symbols (record with_symbols.settings.job.font { spacing = Some n }))) (sym can.spacing)
           (spacing_leads printer conditions with_symbols)
 
   -- the state behind the prologue, with these fields of the panel

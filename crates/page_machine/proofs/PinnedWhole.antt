@@ -21,7 +21,7 @@ use Rattle.page_machine.specs.Defining.{is_defining, of_memory, defining_run, ca
 use Rattle.page_machine.specs.Event.{Event}
 use Rattle.page_machine.specs.Job.{JobRun, at_end, after_item, with_macros, items_run, end_run}
 use Rattle.page_machine.specs.Laws.{IsSet}
-use Rattle.page_machine.specs.Macros.{Context, in_job, page_close}
+use Rattle.page_machine.specs.Macros.{MacroContext, in_job, page_close}
 use Rattle.page_machine.specs.Pinning.{spacing, prologue, pinned_items, place_behind, placed_from, moved_from, FindsRoom}
 use Rattle.page_machine.specs.Run.{Peaks, peaks_of, Run, just, after, onward, finding_or, Ending, Done, Halts, marked_close, reset_run, item_run}
 use Rattle.page_machine.proofs.PinnedRuns.{pinned_ending, EndsBare, Alike, done_alike, cond_alike}
@@ -59,10 +59,10 @@ module _ (printer : Printer) (flags : Flags) (origin panel : Panel) (laws : AreL
   both : ArePinnedDefaults v defaults from
   both = record { bare = (refl, refl); vmi = refl; few = can.vmi; hmi = refl }
 
-  abbrev here : Store → Context
+  abbrev here : Store → MacroContext
   here macros = with_macros printer defaults macros
 
-  abbrev there : Store → Context
+  abbrev there : Store → MacroContext
   there macros = with_macros printer from macros
 
   -- ---- the spacing ends a run, if at all, for want of memory

@@ -1,36 +1,13 @@
 -- What an item does behind its own step: bytes that are printed one after another, and a move of the pen.
-use Rattle.std.proofs.Common.{◌≡◌, ◌<◌, ◌+◌, ℕ, ℤ, zero, suc, false, Option, None, Some, List, [], ◌∷◌, take, drop, length, get_or, Err, refl, ap, ◌∙◌, arith}
+use Rattle.std.proofs.Common.{◌≡◌, ◌<◌, ◌+◌, ℕ, ℤ, zero, suc, Option, None, Some, List, [], ◌∷◌, take, drop, length, get_or, Err, refl, ap, ◌∙◌, arith}
 use Rattle.device_profile.specs.declared.panel.Panel.{Panel}
-use Rattle.pcl_items.specs.declared.item.SimpleItem.{SimpleItem}
-use Rattle.pcl_items.specs.declared.item.SimpleItem.TheVariants as simple
-use Rattle.pcl_items.specs.Items.{simple_view}
 use Rattle.device_profile.specs.Printer.{Printer}
 use Rattle.page_env.specs.declared.page.Page.{Page}
-use Rattle.page_env.specs.Settings.{State}
-use Rattle.page_machine.specs.Machine.{may_mark}
 use Rattle.page_machine.specs.declared.steps.Halt.{Halt}
 use Rattle.page_machine.specs.Event.{Event}
-use Rattle.page_machine.specs.Run.{Run, followed_by, Conditions, byte_run, printing, move_run, drawing, own_run, begun_run}
+use Rattle.page_machine.specs.Run.{Run, followed_by, Conditions, byte_run, printing, move_run, drawing}
 use Rattle.page_machine.specs.Follows.{Follows}
 use Rattle.page_machine.proofs.Composed.{Follows-stopped}
-
--- an item that marks nothing is its own step
-pub simple_run : (printer : Printer) (conditions : Conditions) (item : SimpleItem) (s : State) → may_mark (simple_view item) ≡ false → begun_run printer conditions (simple_view item) s ≡ own_run printer conditions (simple_view item) s
-simple_run printer conditions simple.CarriageReturn s h = refl
-simple_run printer conditions simple.LineFeed s h = refl
-simple_run printer conditions simple.FormFeed s h = refl
-simple_run printer conditions simple.Reset s h = refl
-simple_run printer conditions simple.ExitLanguage s h = refl
-simple_run printer conditions simple.ClearMargins s h = refl
-simple_run printer conditions simple.HalfLineFeed s h = refl
-simple_run printer conditions (simple.Parameterized command number) s h = refl
-simple_run printer conditions (simple.SymbolSet letter number) s h = refl
-simple_run printer conditions simple.DefaultFont s h = refl
-simple_run printer conditions (simple.EnterFrame handover) s h = refl
-simple_run printer conditions (simple.LeaveFrame handover) s h = refl
-simple_run printer conditions simple.Initialize s h = refl
-simple_run printer conditions (simple.Set setting magnitude) s h = refl
-simple_run printer conditions (simple.Move motion to) s h = absurd cc
 
 -- one byte more
 printing-suc : (printer : Printer) (conditions : Conditions) (r : Run) (xs : List ℕ) (i d : ℕ) → i < length xs → printing printer conditions r (take (suc i) xs) ≡ followed_by (printing printer conditions r (take i xs)) (byte_run printer conditions (get_or xs i d))

@@ -18,7 +18,7 @@ use Rattle.page_env.specs.declared.finding.Finding.TheVariants.{MacroDepth, Macr
 use Rattle.page_env.specs.declared.macros.Control.{Control}
 use Rattle.page_env.specs.declared.macros.Control.TheVariants.{Begin, End, Execute, Call, EnableOverlay, DisableOverlay, DeleteAll, Delete, MakeTemporary}
 use Rattle.page_env.specs.declared.page.FontParts.{FontParts}
-use Rattle.page_env.specs.Effect.{Check, check, first_finding, is_unset, first_unset, Line, Effect, Goes, GoesThenCloses, GoesThenEnds, fails_or, judged, effect_of, Transition, Step, Closes, Ends, Behind, Controls}
+use Rattle.page_env.specs.Effect.{Check, check, first_finding, is_unset, first_unset, TableLine, Effect, Goes, GoesThenCloses, GoesThenEnds, fails_or, judged, effect_of, Transition, Step, Closes, Ends, Behind, Controls}
 use Rattle.page_env.specs.Effect as effect
 use Rattle.page_env.specs.FontInForce.{are_set}
 use Rattle.page_env.specs.JobControl.{reset}
@@ -37,7 +37,7 @@ use Rattle.page_machine.specs.declared.nesting.Nesting.{Nesting}
 use Rattle.page_machine.specs.declared.nesting.Nesting.TheVariants.{Job, Overlaid}
 use Rattle.page_machine.specs.Event.{Event}
 use Rattle.page_machine.specs.Run.{Peaks, Run, just, after, onward, followed_by, finding_or, unset_or, goes, effect_run, Ending, Done, Halts, marked_close, close_and_change, transition_run, Conditions, reset_run, byte_run, printing, move_run, drawing, own_run, begun_run, item_run, entries_run}
-use Rattle.page_machine.specs.Macros.{Context, is_macro, fixes_paper, executed_in, called_in, ending_with, put_back, found_run, control_body, control_run, conditions_in, raster_ended, macro_item_run, body_run, closing_reads, ended, refused, ending_at, give_up, overlay_run, is_too_deep, page_close, in_job}
+use Rattle.page_machine.specs.Macros.{MacroContext, is_macro, fixes_paper, executed_in, called_in, ending_with, put_back, found_run, control_body, control_run, conditions_in, raster_ended, macro_item_run, body_run, closing_reads, ended, refused, ending_at, give_up, overlay_run, is_too_deep, page_close, in_job}
 use Rattle.page_machine.specs.Defining.{is_defining, defining_of, defining_run, of_memory, job_item_run, macros_after, job_end_run}
 use Rattle.page_machine.specs.Job.{ItemRun, JobRun, ended_item, with_macros, items_run, end_run, no_end, at_end, reading_run}
 use Rattle.page_machine.specs.Laws.{plain_ending, IsSet, IsNotUnset}
@@ -168,7 +168,7 @@ module _ (watched : Flags) where
   -- ---- items
 
   -- a line's plain checks find nothing, and nothing is unset: what it comes to
-  judged_plain : (settings : Settings) (line : Line) (e : Effect) → first_finding line.before ≡ None → first_finding line.after ≡ None → judged (plain_settings settings) line e ≡ e
+  judged_plain : (settings : Settings) (line : TableLine) (e : Effect) → first_finding line.before ≡ None → first_finding line.after ≡ None → judged (plain_settings settings) line e ≡ e
   judged_plain settings line e before behind =
       ap (λ o. fails_or o (effect.unset_or (first_unset (plain_settings settings) line.reads) (fails_or (first_finding line.after) e))) before
       ∙ ap (λ o. effect.unset_or o (fails_or (first_finding line.after) e)) (first_unset-plain settings line.reads)
@@ -182,7 +182,7 @@ module _ (watched : Flags) where
     plainly = record { defaults = plain_settings defaults; fixes_paper = fixed; close = close'; control = control' }
 
     -- a line, whose plain reads are the same
-    judged_comes : (u left : Untouched) (R : Field → Type 0) (s : State) (line line' : Line) (e : Effect) → IsSound printer s line line' → IsReadAlike s line.reads line'.reads → Says u s → ((f : Field) → LineReads f u line' → R f) → (first_finding line'.before ≡ None → first_finding line'.after ≡ None → Comes left R (effect_run here e).ending) → Comes left R (effect_run here (judged s.settings line e)).ending
+    judged_comes : (u left : Untouched) (R : Field → Type 0) (s : State) (line line' : TableLine) (e : Effect) → IsSound printer s line line' → IsReadAlike s line.reads line'.reads → Says u s → ((f : Field) → LineReads f u line' → R f) → (first_finding line'.before ≡ None → first_finding line'.after ≡ None → Comes left R (effect_run here e).ending) → Comes left R (effect_run here (judged s.settings line e)).ending
     judged_comes u left R s line line' e sound alike says reads goes_on =
         by (first_finding line.before) refl (first_unset s.settings line.reads) refl (first_finding line.after) refl
       where
@@ -194,10 +194,10 @@ module _ (watched : Flags) where
         by None b (Some field) n behind a = λ f is.
             let same : field ≡ f = cc in
             let there = read_there u s line.reads line'.reads f alike says (n ∙ ap Some same) in
-            (reads f (ap (λ (l : Line). first_finding l.before) sound.same ∙ b, there.0), there.1)
+            (reads f (ap (λ (l : TableLine). first_finding l.before) sound.same ∙ b, there.0), there.1)
         by None b None n (Some finding) a = set_comes left R finding (set.1 finding a)
         by None b None n None a =
-            goes_on (ap (λ (l : Line). first_finding l.before) sound.same ∙ b) (ap (λ (l : Line). first_finding l.after) sound.same ∙ a)
+            goes_on (ap (λ (l : TableLine). first_finding l.before) sound.same ∙ b) (ap (λ (l : TableLine). first_finding l.after) sound.same ∙ a)
 
     abbrev Reads : Untouched → State → Transition → Field → Type 0
     Reads u s m f = TransitionReads fixed (closing f u) (controlling f u) f u s m
@@ -219,14 +219,14 @@ module _ (watched : Flags) where
         let R : Field → Type 0 = Reads u (plain_state s) (Closes line' sets' change') in
         let comes_to : first_finding line'.before ≡ None → first_finding line'.after ≡ None → effect_of (plain_settings s.settings) (Closes line' sets' change') ≡ GoesThenCloses (plain_state line.state) sets change' =
         λ b a. judged_plain s.settings line' (GoesThenCloses line'.state sets' change') b a
-        ∙ ap (λ (l : Line). GoesThenCloses l.state sets' change') sound.0.same ∙ ap (λ x. GoesThenCloses (plain_state line.state) x change') sound.2 in
+        ∙ ap (λ (l : TableLine). GoesThenCloses l.state sets' change') sound.0.same ∙ ap (λ x. GoesThenCloses (plain_state line.state) x change') sound.2 in
         judged_comes u left R s line line' (GoesThenCloses line.state sets change) sound.0 leaves.0.0 says (λ f h. inl h)
         (λ b a. change_comes u left R (sets && fixed) line.state change leaves.0.1
         (λ f fix mark c. inr (subst (BehindReads fixed (closing f u) (controlling f u)) (sym (comes_to b a)) (fix, mark, c))) leaves.1)
     transition_comes u left s (Ends line) (Ends line') sound leaves says =
         let R : Field → Type 0 = Reads u (plain_state s) (Ends line') in
         let comes_to : first_finding line'.before ≡ None → first_finding line'.after ≡ None → effect_of (plain_settings s.settings) (Ends line') ≡ GoesThenEnds (plain_state line.state) =
-        λ b a. judged_plain s.settings line' (GoesThenEnds line'.state) b a ∙ ap (λ (l : Line). GoesThenEnds l.state) sound.same in
+        λ b a. judged_plain s.settings line' (GoesThenEnds line'.state) b a ∙ ap (λ (l : TableLine). GoesThenEnds l.state) sound.same in
         judged_comes u left R s line line' (GoesThenEnds line.state) sound leaves.0.0 says (λ f h. inl h)
         (λ b a. leads_on u left R (close line.state).ending leaves.1
         (weaken u (λ f. closing f u (plain_state line.state)) R (λ f c. inr (subst (BehindReads fixed (closing f u) (controlling f u)) (sym (comes_to b a)) c)) (close line.state).ending (closes u line.state leaves.0.1)))
@@ -424,10 +424,10 @@ module _ (watched : Flags) where
 
   module _ (printer : Printer) (defaults : Settings) (sound : (item : Entry) → IsSoundItem printer defaults item) (parts : AreSoundParts printer) (items : (item : Entry) → LeavesItsUntouched printer item) (bytes : (code : ℕ) → ByteSetsNothing printer code) (moves : (to : ℤ × ℤ) → MoveSetsNothing printer to) (chosen : SaysUntouched watched all_untouched defaults) where
     module _ (macros : Store) where
-      abbrev watching : Context
+      abbrev watching : MacroContext
       watching = with_macros printer defaults macros
 
-      abbrev unwatching : Context
+      abbrev unwatching : MacroContext
       unwatching = with_macros printer (plain_settings defaults) macros
 
       module _ (close close' : State → Run) (closing : Field → Untouched → State → Type 0) (closes_plainly : (s : State) → IsSet (close s).ending → close' (plain_state s) ≡ plain (close s)) (closes : (u : Untouched) (s : State) → Says u s → Comes u (λ f. closing f u (plain_state s)) (close s).ending) where

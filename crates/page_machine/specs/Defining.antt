@@ -15,7 +15,7 @@ use Rattle.page_env.specs.Settings.{State}
 use Rattle.page_machine.specs.declared.defining.Defining.{Defining}
 use Rattle.page_machine.specs.declared.defining.Defining.TheVariants.{Refused, Completed, Stored}
 use Rattle.page_machine.specs.Run.{Peaks, Run, just, after, finding_or, Done, Halts, item_run, reset_run}
-use Rattle.page_machine.specs.Macros.{Context, in_job}
+use Rattle.page_machine.specs.Macros.{MacroContext, in_job}
 
 -- the control that an item is
 abbrev pub control_in : Entry → Option Control
@@ -77,7 +77,7 @@ carried_after id item macros = cond (is_reset item) (cleared macros) (controlled
 abbrev pub is_defining : Store → Bool
 is_defining macros = is_some macros.definition
 
-abbrev pub job_item_run : Context → Entry → State → Run
+abbrev pub job_item_run : MacroContext → Entry → State → Run
 job_item_run context item s =
     cond (is_defining context.macros) (defining_run context.macros item (defining_of item) s) (item_run context.printer (in_job context) item s)
 
@@ -86,7 +86,7 @@ abbrev pub macros_after : ℕ → Entry → Store → Store
 macros_after id item macros = cond (is_defining macros) (defined_after item (defining_of item) macros) (carried_after id item macros)
 
 -- the end of the bytes acts as a reset
-abbrev pub job_end_run : Context → State → Run
+abbrev pub job_end_run : MacroContext → State → Run
 job_end_run context s = cond (is_defining context.macros) (just [] (Halts DefinitionOpen)) (reset_run (in_job context) s)
 
 -- ---- memory

@@ -19,7 +19,7 @@ use Rattle.page_machine.specs.Event.{Ended}
 use Rattle.page_machine.specs.Run.{Peaks, Run, just, after, followed_by, finding_or, unset_or, goes, Ending, Done, Halts, Conditions, transition_run, item_run, entries_run}
 
 -- what does not change while an item of the job is carried out
-pub record Context : Type 0 where
+pub record MacroContext : Type 0 where
   pub printer : Printer
   pub defaults : Settings
   pub macros : Store
@@ -87,7 +87,7 @@ control_run macros inner nesting n s =
 -- ---- bodies
 
 -- the conditions of items that stand there, where a page closes so and `inner` runs a body one level deeper
-abbrev pub conditions_in : Context → (State → Run) → Nesting → (Nesting → List Entry → State → Run) → Conditions
+abbrev pub conditions_in : MacroContext → (State → Run) → Nesting → (Nesting → List Entry → State → Run) → Conditions
 conditions_in context close nesting inner = record {
   defaults = context.defaults;
   fixes_paper = fixes_paper nesting;
@@ -104,7 +104,7 @@ abbrev pub macro_item_run : Printer → Conditions → Entry → State → Run
 macro_item_run printer conditions item s = followed_by (transition_run conditions s (Step (spend_item s))) (item_run printer conditions item)
 
 -- a body at a level, where so many levels are left, its own among them
-abbrev pub body_run : Context → (State → Run) → (left level : ℕ) → Nesting → List Entry → State → Run
+abbrev pub body_run : MacroContext → (State → Run) → (left level : ℕ) → Nesting → List Entry → State → Run
 body_run context close zero level nesting items s = just [] (Halts MacroDepth)
 body_run context close (suc left) level nesting items s =
     after [] (at_level level)
@@ -133,7 +133,7 @@ abbrev pub give_up : State → Run → Run
 give_up s r = record r { ending = ending_at s r.ending }
 
 -- the overlay of a page, if one is enabled: its body from where an overlay begins, at level 1
-abbrev pub overlay_run : Context → State → Option ℕ → Run
+abbrev pub overlay_run : MacroContext → State → Option ℕ → Run
 overlay_run context s None = just [] (Done s)
 overlay_run context s (Some id) =
     found_run (body_of context.macros id) s
@@ -144,24 +144,24 @@ abbrev pub is_too_deep : Printer → State → Bool
 is_too_deep printer s = is_some s.settings.job.overlay && (printer.depth == 0)
 
 -- its own check, what it reads, the enabled overlay, and the end of the page
-abbrev pub page_close : Context → State → Run
+abbrev pub page_close : MacroContext → State → Run
 page_close context s =
     finding_or (first_finding (check (is_too_deep context.printer s) MacroDepth ∷ []))
     (unset_or (first_unset s.settings closing_reads)
     (followed_by (overlay_run context s s.settings.job.overlay) ended))
 
 -- how a page is closed there
-abbrev pub close_in : Context → Nesting → State → Run
+abbrev pub close_in : MacroContext → Nesting → State → Run
 close_in context Overlaid = refused
 close_in context _ = page_close context
 
 -- ---- the conditions of items
 
 -- those of items that stand there: bodies below them begin at this level, and so many levels are left for them
-abbrev pub conditions_at : Context → (left level : ℕ) → Nesting → Conditions
+abbrev pub conditions_at : MacroContext → (left level : ℕ) → Nesting → Conditions
 conditions_at context left level nesting =
     conditions_in context (close_in context nesting) nesting (body_run context (close_in context nesting) left level)
 
 -- the items of a job: all levels are left
-abbrev pub in_job : Context → Conditions
+abbrev pub in_job : MacroContext → Conditions
 in_job context = conditions_at context context.printer.depth 1 Job

@@ -4,7 +4,7 @@ use Rattle.std.specs.Prelude.{◌≡◌, ℕ, ℤ, pos, int_lt, unsigned_abs, �
 use Rattle.device_profile.specs.declared.font.FontRequest.{FontRequest}
 use Rattle.device_profile.specs.declared.panel.Panel.{Panel}
 use Rattle.device_profile.specs.Printer.{Printer}
-use Rattle.pcl_items.specs.declared.pcl.command.Command.TheVariants.{PageSize, Orientation, Copies, Sides, Source, VerticalMotionIndex, LineTermination, FontSpacing, FontPitch, FontHeight, FontStyle, FontWeight, FontTypeface}
+use Rattle.pcl_items.specs.declared.pcl.command.Command.TheVariants as commands
 use Rattle.pcl_items.specs.declared.number.Sign.TheVariants.{Absent, Minus}
 use Rattle.pcl_items.specs.Spellings.Canon.{canon}
 use Rattle.pcl_items.specs.Items.{Entry, Placed, Parameterized, SymbolSet, Reset, ExitLanguage, PjlLine}
@@ -36,25 +36,25 @@ weight_amount weight = record { sign = if int_lt weight (pos 0) then Minus else 
 
 -- the command that sets the VMI, in ten-thousandths of 1/48 inch
 abbrev pub spacing : ℕ → Entry
-spacing vmi = Parameterized VerticalMotionIndex (unsigned vmi)
+spacing vmi = Parameterized commands.VerticalMotionIndex (unsigned vmi)
 
 -- the prologue: commands that set all that a panel chooses, whose font has this request
 abbrev pub prologue : Panel → FontRequest → List Entry
 prologue panel request =
-    Parameterized PageSize (whole panel.size)
-    ∷ Parameterized Orientation (whole panel.orientation)
-    ∷ Parameterized Copies (whole panel.copies)
-    ∷ Parameterized Sides (whole panel.sides)
-    ∷ Parameterized Source (whole panel.tray)
+    Parameterized commands.PageSize (whole panel.size)
+    ∷ Parameterized commands.Orientation (whole panel.orientation)
+    ∷ Parameterized commands.Copies (whole panel.copies)
+    ∷ Parameterized commands.Sides (whole panel.sides)
+    ∷ Parameterized commands.Source (whole panel.tray)
     ∷ spacing panel.vmi
     ∷ SymbolSet (unsigned request.symbol_set.number) request.symbol_set.letter
-    ∷ Parameterized FontSpacing (unsigned request.spacing)
-    ∷ Parameterized FontPitch (unsigned request.pitch)
-    ∷ Parameterized FontHeight (unsigned request.height)
-    ∷ Parameterized FontStyle (unsigned request.style)
-    ∷ Parameterized FontWeight (weight_amount request.weight)
-    ∷ Parameterized FontTypeface (unsigned request.typeface)
-    ∷ Parameterized LineTermination (whole panel.line_termination)
+    ∷ Parameterized commands.FontSpacing (unsigned request.spacing)
+    ∷ Parameterized commands.FontPitch (unsigned request.pitch)
+    ∷ Parameterized commands.FontHeight (unsigned request.height)
+    ∷ Parameterized commands.FontStyle (unsigned request.style)
+    ∷ Parameterized commands.FontWeight (weight_amount request.weight)
+    ∷ Parameterized commands.FontTypeface (unsigned request.typeface)
+    ∷ Parameterized commands.LineTermination (whole panel.line_termination)
     ∷ []
 
 -- ---- where it stands

@@ -13,19 +13,19 @@ use Rattle.page_env.specs.declared.finding.Finding.TheVariants.{MacroDepth, Unse
 use Rattle.page_env.specs.declared.finding.Finding.{Finding}
 use Rattle.page_env.specs.declared.macros.Control.{Control}
 use Rattle.page_env.specs.declared.macros.Control.TheVariants.{Execute, Call}
-use Rattle.page_env.specs.Effect.{Line, Transition, Step, Closes, Ends, Behind, Controls, Effect, Goes, GoesThenCloses, GoesThenEnds, Controlling, Fails, check, first_finding, effect_of}
+use Rattle.page_env.specs.Effect.{TableLine, Transition, Step, Closes, Ends, Behind, Controls, Effect, Goes, GoesThenCloses, GoesThenEnds, Controlling, Fails, check, first_finding, effect_of}
 use Rattle.page_env.specs.JobControl.{reset}
 use Rattle.page_env.specs.Macros.{control_of, control_checks, controlled, overlay_state, spend_item}
 use Rattle.page_env.specs.Pens.{move_pen}
 use Rattle.page_env.specs.Rasters.{begun_by}
 use Rattle.page_env.specs.Settings.{Flags, Settings, State, start_state, user_defaults, unwatched}
-use Rattle.page_env.specs.Table.{transition_of}
+use Rattle.page_env.specs.Table.{printed_bytes, coordinates_of, transition_of}
 use Rattle.page_env.specs.Text.{print_transparent}
 use Rattle.page_env.specs.Untouched.{Untouched, all_untouched, untouched_in_overlay, untouched_behind, is_untouched, is_flagged}
 use Rattle.page_machine.specs.declared.nesting.Nesting.{Nesting}
 use Rattle.page_machine.specs.declared.nesting.Nesting.TheVariants.{Job, Overlaid}
-use Rattle.page_machine.specs.Run.{Run, Ending, Done, Halts, Conditions, followed_by, byte_run, printing, printed_bytes, coordinates_of, own_run}
-use Rattle.page_machine.specs.Macros.{Context, is_macro, executed_in, called_in, closing_reads, is_too_deep, conditions_in, macro_item_run, body_run, refused, page_close, in_job}
+use Rattle.page_machine.specs.Run.{Run, Ending, Done, Halts, Conditions, followed_by, byte_run, printing, own_run}
+use Rattle.page_machine.specs.Macros.{MacroContext, is_macro, executed_in, called_in, closing_reads, is_too_deep, conditions_in, macro_item_run, body_run, refused, page_close, in_job}
 use Rattle.page_machine.specs.Defining.{is_defining, job_item_run, macros_after}
 use Rattle.page_machine.specs.Job.{ItemRun, run_from, with_macros}
 
@@ -62,7 +62,7 @@ abbrev pub item_leaves : Store → (Nesting → List Entry → State → Untouch
 item_leaves macros inner nesting item s u = begun_leaves macros inner nesting item (begun_by item s) u
 
 -- the run of an item of a body, where so many levels are left for the bodies below it
-abbrev pub nested_run : Context → (State → Run) → (left level : ℕ) → Nesting → Entry → State → Run
+abbrev pub nested_run : MacroContext → (State → Run) → (left level : ℕ) → Nesting → Entry → State → Run
 nested_run context close left level nesting =
     macro_item_run context.printer (conditions_in context close nesting (body_run context close left level))
 
@@ -71,14 +71,14 @@ abbrev pub macro_item_leaves : (Entry → State → Untouched → Untouched) →
 macro_item_leaves leaves item s u = leaves item (spend_item s).state u
 
 -- a body at a level, where so many levels are left, its own among them
-abbrev pub body_leaves : Context → (State → Run) → (left level : ℕ) → Nesting → List Entry → State → Untouched → Untouched
+abbrev pub body_leaves : MacroContext → (State → Run) → (left level : ℕ) → Nesting → List Entry → State → Untouched → Untouched
 body_leaves context close zero level nesting items s u = u
 body_leaves context close (suc left) level nesting items s u =
     entries_leave (nested_run context close left (suc level) nesting)
     (macro_item_leaves (item_leaves context.macros (body_leaves context close left (suc level)) nesting)) items s u
 
 -- an item of the job: one that is stored is not carried out
-abbrev pub job_item_leaves : Context → Entry → State → Untouched → Untouched
+abbrev pub job_item_leaves : MacroContext → Entry → State → Untouched → Untouched
 job_item_leaves context item s u =
     cond (is_defining context.macros) u
     (item_leaves context.macros (body_leaves context (page_close context) context.printer.depth 1) Job item s u)
@@ -90,7 +90,7 @@ abbrev pub ReadsUntouched : Field → Untouched → List Field → Type 0
 ReadsUntouched field u reads = Contains reads field × (is_untouched u field ≡ true)
 
 -- a line comes to its reads, and reads it there
-abbrev pub LineReads : Field → Untouched → Line → Type 0
+abbrev pub LineReads : Field → Untouched → TableLine → Type 0
 LineReads field u line = (first_finding line.before ≡ None) × ReadsUntouched field u line.reads
 
 -- an item's own step reads it, or it is read before that step is known
@@ -159,7 +159,7 @@ ControlReads macros inner nesting u n s =
     × ControlBodyReads macros inner nesting u (control_of n) (controlled (control_of n) s)
 
 -- an item reads it that stands there, where a page closes so, and bodies read so one level deeper
-abbrev pub NestedReads : Field → Context → Conditions → (Untouched → State → Type 0) → (Nesting → Untouched → List Entry → State → Type 0) → Nesting → Untouched → Entry → State → Type 0
+abbrev pub NestedReads : Field → MacroContext → Conditions → (Untouched → State → Type 0) → (Nesting → Untouched → List Entry → State → Type 0) → Nesting → Untouched → Entry → State → Type 0
 NestedReads field context conditions closing inner nesting u item s =
     ItemReads context.printer conditions (closing u) (ControlReads context.macros inner nesting u) field u item s
 
@@ -168,7 +168,7 @@ abbrev pub MacroItemReads : (Untouched → Entry → State → Type 0) → Untou
 MacroItemReads reads u item s = (first_finding (spend_item s).before ≡ None) × reads u item (spend_item s).state
 
 -- a body at a level, where so many levels are left, its own among them
-abbrev pub BodyReads : Field → Context → (State → Run) → (Untouched → State → Type 0) → (left level : ℕ) → Nesting → Untouched → List Entry → State → Type 0
+abbrev pub BodyReads : Field → MacroContext → (State → Run) → (Untouched → State → Type 0) → (left level : ℕ) → Nesting → Untouched → List Entry → State → Type 0
 BodyReads field context close closing zero level nesting u items s = ⊥
 BodyReads field context close closing (suc left) level nesting u items s =
     EntriesRead (nested_run context close left (suc level) nesting)
@@ -179,13 +179,13 @@ BodyReads field context close closing (suc left) level nesting u items s =
 -- ---- where a page is closed
 
 -- in the overlay, if one is enabled
-abbrev pub OverlayReads : Field → Context → State → Type 0
+abbrev pub OverlayReads : Field → MacroContext → State → Type 0
 OverlayReads field context s =
     (id : ℕ) × (s.settings.job.overlay ≡ Some id) × (body : List Entry) × (body_of context.macros id ≡ Some body)
     × BodyReads field context refused (λ v t. ⊥) context.printer.depth 1 Overlaid untouched_in_overlay body (overlay_state context.defaults s)
 
 -- by the closing itself, or in the overlay
-abbrev pub CloseReads : Field → Context → Untouched → State → Type 0
+abbrev pub CloseReads : Field → MacroContext → Untouched → State → Type 0
 CloseReads field context u s =
     (first_finding (check (is_too_deep context.printer s) MacroDepth ∷ []) ≡ None)
     × (ReadsUntouched field u closing_reads ⊎ OverlayReads field context s)
@@ -193,14 +193,14 @@ CloseReads field context u s =
 -- ---- in jobs
 
 -- an item of the job that is carried out
-abbrev pub JobItemReads : Field → Context → Untouched → Entry → State → Type 0
+abbrev pub JobItemReads : Field → MacroContext → Untouched → Entry → State → Type 0
 JobItemReads field context u item s =
     (is_defining context.macros ≡ false)
     × NestedReads field context (in_job context) (CloseReads field context)
     (BodyReads field context (page_close context) (CloseReads field context) context.printer.depth 1) Job u item s
 
 -- the end of the bytes, which acts as a reset
-abbrev pub JobEndReads : Field → Context → Untouched → State → Type 0
+abbrev pub JobEndReads : Field → MacroContext → Untouched → State → Type 0
 JobEndReads field context u s =
     (is_defining context.macros ≡ false)
     × TransitionReads (in_job context).fixes_paper (CloseReads field context u) (λ n t. ⊥) field u s (reset context.defaults s)

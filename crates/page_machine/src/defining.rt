@@ -5,13 +5,14 @@ ghost use Rattle.pcl_items.specs.declared.item.Mode.{Mode};
 ghost use Rattle.pcl_items.specs.Grammar.{follows};
 ghost use Rattle.macro_store.specs.Store.{Admits};
 ghost use Rattle.pcl_items.specs.Items.{view};
+ghost use Rattle.page_env.specs.Action.{page_view};
 ghost use Rattle.page_env.specs.JobControl.{is_reset};
-ghost use Rattle.page_machine.specs.Defining.{control_in, defining_control, defining_of, begins, carried_after, StandsIn};
+ghost use Rattle.page_machine.specs.Defining.{control_in, defining_control, defining_of, begins, carried_after, controlled_after, StandsIn};
 ghost use Rattle.page_machine.specs.Machine.{Defines};
 
 use crate::machine::Stop;
 use macro_store::{MacroStore, Refusal};
-use page_env::{Control, Finding, control_of};
+use page_env::{Control, Finding, PageCommand, PageItem, control_of};
 use pcl_items::{Command, Item, SimpleItem};
 use std::alloc::{AllocError, Allocator};
 
@@ -80,7 +81,8 @@ pub(crate) fn define<F, B: Allocator + Copy>(
 ) -> Result<(), Stop<F>>
     requires { Admits macros.old (view item.now) }
     ensures defines { Defines (view item.now) macros.old macros.new result }
-    ensures stands { (mode next : Mode) → StandsIn macros.old mode → follows mode (view item.now) ≡ Some next → OnOk result (StandsIn macros.new next) }
+    ensures stands { (mode next : Mode) → StandsIn macros.old mode → follows mode (view item.now) ≡
+        Some next → OnOk result (StandsIn macros.new next) }
 {
     match defining_of(item) {
         Defining::Refused => Err(Stop::Found(Finding::DefinitionOpen)),
@@ -96,22 +98,18 @@ pub(crate) fn define<F, B: Allocator + Copy>(
     }
 }
 
-/// Does to the macros what an item that was carried out does, with this id in force.
+/// Does to the macros what a macro control that was carried out does, with this id in force.
 #[inline(always)]
-pub(crate) fn keep<B: Allocator + Copy>(
+fn keep_control<B: Allocator + Copy>(
     macros: &mut MacroStore<B>,
     id: u16,
-    item: &Item<'_>,
+    control: Option<Control>,
 ) -> Result<(), AllocError>
     requires { macros.old.definition ≡ None }
-    ensures ok { OnOk result (macros.new ≡ carried_after id (view item.now) macros.old) }
-    ensures err { OnErr result (begins (control_in (view item.now)) ≡ true) }
+    ensures ok { OnOk result (macros.new ≡ controlled_after id control macros.old) }
+    ensures err { OnErr result (begins control ≡ true) }
 {
-    if is_reset(item) {
-        macros.clear();
-        return Ok(());
-    }
-    match control_in(item) {
+    match control {
         Some(Control::Begin) => macros.begin(id),
         Some(Control::DeleteAll) => {
             macros.clear();
@@ -123,4 +121,26 @@ pub(crate) fn keep<B: Allocator + Copy>(
         }
         _ => Ok(()),
     }
+}
+
+/// Does to the macros what an item that was carried out does, with this id in force.
+#[inline(always)]
+pub(crate) fn keep<B: Allocator + Copy>(
+    macros: &mut MacroStore<B>,
+    id: u16,
+    item: PageItem,
+) -> Result<(), AllocError>
+    requires { macros.old.definition ≡ None }
+    ensures ok { OnOk result (macros.new ≡ carried_after id (page_view item) macros.old) }
+    ensures err { OnErr result (begins (control_in (page_view item)) ≡ true) }
+{
+    match item {
+        PageItem::Reset => macros.clear(),
+        PageItem::ExitLanguage => macros.clear(),
+        PageItem::Command(PageCommand::MacroControl, n) => {
+            return keep_control(macros, id, control_of(n));
+        }
+        _ => {}
+    }
+    Ok(())
 }

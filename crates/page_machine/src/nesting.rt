@@ -9,7 +9,8 @@ use macro_store::MacroStore;
 use page_env::{Env, PageChange};
 use std::alloc::Allocator;
 
-/// In what an item stands. What an executed body executes in turn stands in what it stands in itself.
+/// In what an item stands. What an executed body executes in turn stands in what it stands in
+/// itself.
 #[derive(Clone, Copy, PartialEq, Eq)]
 pub enum Nesting {
     /// The job.
@@ -71,7 +72,8 @@ impl Nesting {
     }
 }
 
-/// What surrounds an item: what does not change while an item of the job is carried out, and where in it the item stands.
+/// What surrounds an item: what does not change while an item of the job is carried out, and where
+/// in it the item stands.
 #[derive(Drop)]
 pub struct Surroundings<'a, A: Allocator, B: Allocator + Copy> {
     pub profile: &'a Profile<A>,

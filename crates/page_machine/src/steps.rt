@@ -1,30 +1,29 @@
-//! Steps: what carries out an item or a part of one without the closing of a page and without a macro.
+//! Steps: what carries out an item or a part of one without the closing of a page and without a
+//! macro.
 
-ghost use Rattle.std.specs.Prelude.{ℤ, List, Option, Ok, ◌≡◌, ◌≤◌, true, false, length, MatchOption};
+ghost use Rattle.std.specs.Prelude.{ℤ, List, Option, Ok, ◌≡◌, ◌≤◌, length};
 ghost use Rattle.device_profile.specs.declared.panel.Panel.{Panel};
-ghost use Rattle.page_env.specs.Answers.{effect_at, marked_at};
+ghost use Rattle.page_env.specs.Answers.{marked_at};
 ghost use Rattle.page_env.specs.Effect.{Effect, Goes};
 ghost use Rattle.page_env.specs.Mark.{Shape, areas_of, characters_of, lines_of, shapes_of};
 ghost use Rattle.page_env.specs.Settings.{state_at};
 ghost use Rattle.page_env.specs.declared.page.Page.{Page};
-ghost use Rattle.page_env.specs.Table.{is_step, page_end_of};
+ghost use Rattle.page_env.specs.Table.{page_end_of};
 ghost use Rattle.pcl_items.specs.declared.pcl.command.DataCommand.TheVariants.{RasterRow as RasterRowCommand};
 ghost use Rattle.pcl_items.specs.declared.pcl.command.Command.TheVariants.{FillRectangle};
 ghost use Rattle.pcl_items.specs.Items.{Move, Parameterized, Text, WithData, amount, pair, view};
-ghost use Rattle.page_machine.specs.Run.{unmoved, effect_run, Conditions, byte_run, printing, move_run, own_run, begun_run, item_run};
+ghost use Rattle.page_machine.specs.Run.{unmoved, effect_run, Conditions, byte_run, printing, move_run, own_run, begun_run};
 ghost use Rattle.page_machine.specs.Macros.{ended};
-ghost use Rattle.page_machine.specs.Defining.{LeavesMacros};
-ghost use Rattle.page_machine.specs.Machine.{may_mark};
 ghost use Rattle.page_machine.specs.Follows.{Follows};
+ghost use Rattle.page_machine.specs.Machine.{RunsAtOnce};
 
 use crate::sink::MarkSink;
 use device_profile::Profile;
 use page_env::{
-    Area, Carried, Finding, Glyph, Mark, Page, PageEnd, PenLine, begin_item, carry_out,
-    carry_out_motion, carry_out_step, fill_rectangle, fill_value, motion_of, move_pen, print_byte,
-    print_row, print_transparent, step_of,
+    Action, Area, Finding, Glyph, Mark, Page, PageEnd, PageItem, PenLine, begin_item, carry_out,
+    carry_out_motion, fill_rectangle, move_pen, print_byte, print_row, print_transparent,
 };
-use pcl_items::{Command, Coordinates, Data, DataCommand, Item, Motion, Number};
+use pcl_items::{Coordinates, Data, DataCommand, Item, Motion, Number};
 use std::alloc::Allocator;
 
 /// Why an item was not carried out to its end.
@@ -101,7 +100,8 @@ impl<'a> Marking<'a> for Area {
 /// The mark of an answer.
 #[inline(always)]
 fn marked<'a, T: Marking<'a>>(answer: Result<T, Finding>) -> Result<Option<Mark<'a>>, Finding>
-    ensures { (panel : Panel) (page : Page) → marked_at T.shapes panel page answer ≡ marked_at shapes_of panel page result }
+    ensures { (panel : Panel) (page : Page) → marked_at T.shapes panel page answer ≡
+        marked_at shapes_of panel page result }
 {
     match answer {
         Err(finding) => Err(finding),
@@ -190,7 +190,8 @@ fn run_bytes<S: MarkSink, A: Allocator>(
     sink: &mut S,
 ) -> Result<(), Halt<S::Fault>>
     ensures { (conditions : Panel → Conditions) → Follows S.takes S.refuses
-        (λ panel. printing profile.now (conditions panel) (unmoved (state_at panel page.old)) bytes.now)
+        (λ panel. printing profile.now (conditions panel) (unmoved (state_at panel page.old))
+        bytes.now)
         sink.old sink.new page.new result }
 {
     for code in bytes {
@@ -210,11 +211,39 @@ fn run_row<S: MarkSink, A: Allocator>(
 ) -> Result<(), Halt<S::Fault>>
     requires { length bytes.now ≤ 32767 }
     ensures { (conditions : Panel → Conditions) → Follows S.takes S.refuses
-        (λ panel. begun_run profile.now (conditions panel) (WithData RasterRowCommand bytes.now) (state_at panel page.old))
+        (λ panel. begun_run profile.now (conditions panel) (WithData RasterRowCommand bytes.now)
+        (state_at panel page.old))
         sink.old sink.new page.new result }
 {
     let printed = print_row(profile, page, bytes);
     hand_over(&printed, page, sink)
+}
+
+/// Prints the data of a command.
+// It matches the answers as `run_fill` does.
+#[inline(always)]
+fn run_data<S: MarkSink, A: Allocator>(
+    profile: &Profile<A>,
+    command: DataCommand,
+    lent: Data<'_>,
+    page: &mut Page,
+    sink: &mut S,
+) -> Result<(), Halt<S::Fault>>
+    ensures { (conditions : Panel → Conditions) → Follows S.takes S.refuses
+        (λ panel. begun_run profile.now (conditions panel) (WithData command lent.entry.bytes.now)
+        (state_at panel page.old))
+        sink.old sink.new page.new result }
+{
+    match command {
+        DataCommand::TransparentText => {
+            run_bytes(profile, lent.bytes, page, sink)?;
+            Ok(())
+        }
+        DataCommand::RasterRow => {
+            run_row(profile, lent.bytes, page, sink)?;
+            Ok(())
+        }
+    }
 }
 
 /// Carries out the own step of a command that moves the pen.
@@ -240,7 +269,8 @@ fn run_move<S: MarkSink, A: Allocator>(
     sink: &mut S,
 ) -> Result<(), Halt<S::Fault>>
     ensures { (conditions : Panel → Conditions) → Follows S.takes S.refuses
-        (λ panel. move_run profile.now (conditions panel) (to.x.units, to.y.units) (state_at panel page.old))
+        (λ panel. move_run profile.now (conditions panel) (to.x.units, to.y.units)
+        (state_at panel page.old))
         sink.old sink.new page.new result }
 {
     let drawn = marked(move_pen(profile, page, to));
@@ -258,7 +288,8 @@ fn move_and_draw<S: MarkSink, A: Allocator>(
     sink: &mut S,
 ) -> Result<(), Halt<S::Fault>>
     ensures { (conditions : Panel → Conditions) → Follows S.takes S.refuses
-        (λ panel. begun_run profile.now (conditions panel) (Move motion (pair to)) (state_at panel page.old))
+        (λ panel. begun_run profile.now (conditions panel) (Move motion (pair to))
+        (state_at panel page.old))
         sink.old sink.new page.new result }
 {
     run_own_motion(profile, motion, page, sink)?;
@@ -279,7 +310,8 @@ fn run_motion<S: MarkSink, A: Allocator>(
     sink: &mut S,
 ) -> Result<(), Halt<S::Fault>>
     ensures { (conditions : Panel → Conditions) → Follows S.takes S.refuses
-        (λ panel. begun_run profile.now (conditions panel) (Move motion (pair to)) (state_at panel page.old))
+        (λ panel. begun_run profile.now (conditions panel) (Move motion (pair to))
+        (state_at panel page.old))
         sink.old sink.new page.new result }
 {
     match move_and_draw(profile, motion, to, page, sink) {
@@ -298,7 +330,8 @@ fn fill_and_mark<S: MarkSink, A: Allocator>(
     sink: &mut S,
 ) -> Result<(), Halt<S::Fault>>
     ensures { (conditions : Panel → Conditions) → Follows S.takes S.refuses
-        (λ panel. begun_run profile.now (conditions panel) (Parameterized FillRectangle (amount n)) (state_at panel page.old))
+        (λ panel. begun_run profile.now (conditions panel) (Parameterized FillRectangle (amount n))
+        (state_at panel page.old))
         sink.old sink.new page.new result }
 {
     let filled = marked(fill_rectangle(profile, page, n));
@@ -315,7 +348,8 @@ fn run_fill<S: MarkSink, A: Allocator>(
     sink: &mut S,
 ) -> Result<(), Halt<S::Fault>>
     ensures { (conditions : Panel → Conditions) → Follows S.takes S.refuses
-        (λ panel. begun_run profile.now (conditions panel) (Parameterized FillRectangle (amount n)) (state_at panel page.old))
+        (λ panel. begun_run profile.now (conditions panel) (Parameterized FillRectangle (amount n))
+        (state_at panel page.old))
         sink.old sink.new page.new result }
 {
     match fill_and_mark(profile, n, page, sink) {
@@ -333,103 +367,42 @@ fn halted<F>(finding: Finding) -> Halt<F>
     Halt::Found(finding)
 }
 
-/// Carries out a command that is one step without a mark.
-// Most items are these, and nothing is left of them but a finding.
-#[inline(always)]
-fn run_step<S: MarkSink, A: Allocator>(
-    profile: &Profile<A>,
-    command: Command,
-    n: Number,
-    page: &mut Page,
-    sink: &mut S,
-) -> Result<(), Halt<S::Fault>>
-    requires { is_step command ≡ true }
-    ensures { (conditions : Panel → Conditions) → Follows S.takes S.refuses
-        (λ panel. begun_run profile.now (conditions panel) (Parameterized command (amount n)) (state_at panel page.old))
-        sink.old sink.new page.new result }
-{
-    match carry_out_step(profile, page, command, n) {
-        Ok(()) => Ok(()),
-        Err(finding) => Err(halted(finding)),
-    }
+/// How far an item was carried out at once.
+pub(crate) enum Ran<F> {
+    /// To its end.
+    Ended(Result<(), Halt<F>>),
+    /// It has begun. It may close the page, and nothing of it is done.
+    Left(PageItem),
 }
 
-/// Carries out a command with its data.
-#[inline(always)]
-fn run_data<S: MarkSink, A: Allocator>(
-    profile: &Profile<A>,
-    command: DataCommand,
-    item_data: &Data<'_>,
-    page: &mut Page,
-    sink: &mut S,
-) -> Result<(), Halt<S::Fault>>
-    ensures { (conditions : Panel → Conditions) → Follows S.takes S.refuses
-        (λ panel. begun_run profile.now (conditions panel) (WithData command item_data.now.bytes.now) (state_at panel page.old))
-        sink.old sink.new page.new result }
-{
-    match command {
-        DataCommand::TransparentText => run_bytes(profile, item_data.bytes, page, sink),
-        DataCommand::RasterRow => run_row(profile, item_data.bytes, page, sink),
-    }
-}
-
-/// Carries out an item that is one step, or that may mark. `None`: it is another one, and nothing is done.
-// Most items are these, so nothing is put together for them that only others need.
+/// Carries out an item to its end, unless it may close the page.
+// Most items are one step, of which nothing is left but a finding, so nothing is put together for
+// them that only others need.
 #[inline(always)]
 pub(crate) fn run_at_once<S: MarkSink, A: Allocator>(
     profile: &Profile<A>,
     item: &Item<'_>,
     page: &mut Page,
     sink: &mut S,
-) -> Option<Result<(), Halt<S::Fault>>>
-    ensures { MatchOption result
-        ((page.new ≡ page.old) × (sink.new ≡ sink.old) × (may_mark (view item.now) ≡ false))
-        (λ ran. LeavesMacros (view item.now) × ((conditions : Panel → Conditions) → Follows S.takes S.refuses
-        (λ panel. item_run profile.now (conditions panel) (view item.now) (state_at panel page.old))
-        sink.old sink.new page.new ran)) }
-{
-    match item {
-        Item::Simple(simple) => {
-            if let Some((command, n)) = step_of(simple) {
-                begin_item(page, item);
-                return Some(run_step(profile, command, n, page, sink));
-            }
-            if let Some(n) = fill_value(simple) {
-                begin_item(page, item);
-                return Some(run_fill(profile, n, page, sink));
-            }
-            let (motion, to) = motion_of(simple)?;
-            begin_item(page, item);
-            Some(run_motion(profile, motion, to, page, sink))
-        }
-        Item::Text(byte) => {
-            begin_item(page, item);
-            Some(run_text(profile, byte.code, page, sink))
-        }
-        Item::WithData(command, data) => {
-            begin_item(page, item);
-            Some(run_data(profile, *command, data, page, sink))
-        }
-        Item::PjlLine(_) => None,
-    }
-}
-
-/// Carries out the own step of an item that marks nothing; what is left of the item is the closing of a page or a macro control.
-#[inline(always)]
-pub(crate) fn run_own_step<A: Allocator>(
-    profile: &Profile<A>,
-    item: &Item<'_>,
-    page: &mut Page,
-) -> Result<Carried, Finding>
-    requires { may_mark (view item.now) ≡ false }
-    ensures runs { (conditions : Conditions) (panel : Panel) → item_run profile.now conditions (view item.now) (state_at panel page.old)
-        ≡ effect_run conditions (effect_at panel conditions.defaults page.new result) }
-    ensures leaves { result ≡ Ok Carried.Stepped → LeavesMacros (view item.now) }
+) -> Ran<S::Fault>
+    ensures { RunsAtOnce S.takes S.refuses profile.now (view item.now) sink.old sink.new page.old
+        page.new result }
 {
     begin_item(page, item);
     match item {
-        Item::Simple(item) => carry_out(profile, page, item),
-        Item::PjlLine(_) => Ok(Carried::Stepped),
-        Item::Text(_) | Item::WithData(_, _) => unreachable!(),
+        Item::Text(byte) => Ran::Ended(run_text(profile, byte.code, page, sink)),
+        Item::WithData(command, data) => {
+            Ran::Ended(run_data(profile, *command, *data, page, sink))
+        }
+        Item::PjlLine(_) => Ran::Ended(Ok(())),
+        Item::Simple(item) => match carry_out(profile, page, item) {
+            Err(finding) => Ran::Ended(Err(halted(finding))),
+            Ok(Action::Stepped) => Ran::Ended(Ok(())),
+            Ok(Action::Fill(n)) => Ran::Ended(run_fill(profile, n, page, sink)),
+            Ok(Action::Move(motion, to)) => {
+                Ran::Ended(run_motion(profile, motion, to, page, sink))
+            }
+            Ok(Action::Page(item)) => Ran::Left(item),
+        },
     }
 }

@@ -9,6 +9,6 @@ pub mod Limits
 pub mod Shapes
 pub mod Tables
 pub mod Counted
-pub mod Lones
+pub mod Ungrouped
 pub mod Values
 pub mod ReadCommands

@@ -3,7 +3,7 @@ pub mod Value
 pub mod Commands
 pub mod Codes
 pub mod SetLetters
-pub mod Lone
+pub mod Ungrouped
 pub mod ValueField
 pub mod FieldFaults
 pub mod Field

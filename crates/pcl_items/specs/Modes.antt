@@ -4,7 +4,7 @@ use Rattle.pcl_items.specs.declared.item.Mode.{Mode}
 use Rattle.pcl_items.specs.declared.item.Mode.TheVariants as modes
 use Rattle.pcl_items.specs.Lexing.Contexts.{Context, Pcl, Sequence, Frame, Letters, Numbered, Pjl}
 use Rattle.pcl_items.specs.Items.{Entry, Text, Reset, EnterFrame, LeaveFrame, Initialize, Set, Move, ExitLanguage, PjlLine}
-use Rattle.pcl_items.specs.PjlLines.Text.{at_sign, Line, EnterPcl}
+use Rattle.pcl_items.specs.PjlLines.Text.{at_sign, PjlCommand, EnterPcl}
 
 -- the mode behind an item of mode PCL
 abbrev pcl_follows : Entry → Option Mode
@@ -17,9 +17,9 @@ pcl_follows (PjlLine line) = None
 pcl_follows item = Some modes.Pcl
 
 -- the mode behind a line
-abbrev pub behind_line : Line → Mode
-behind_line EnterPcl = modes.Pcl
-behind_line line = modes.Pjl
+abbrev pub behind_pjl : PjlCommand → Mode
+behind_pjl EnterPcl = modes.Pcl
+behind_pjl line = modes.Pjl
 
 -- The mode behind an item, where the mode admits it. Mode PJL has lines, and else what mode PCL has; there `@` begins a line.
 abbrev pub follows : Mode → Entry → Option Mode
@@ -32,7 +32,7 @@ follows modes.Frame (Move motion to) = Some modes.Frame
 follows modes.Frame ExitLanguage = Some modes.Pjl
 follows modes.Frame item = None
 follows modes.Pjl (Text code) = if code == at_sign then None else Some modes.Pcl
-follows modes.Pjl (PjlLine line) = Some (behind_line line)
+follows modes.Pjl (PjlLine line) = Some (behind_pjl line)
 follows modes.Pjl item = pcl_follows item
 
 -- what stands before a unit of a mode

@@ -55,7 +55,7 @@ pub enum Gap {
 
 /// A coordinate in plotter units.
 #[derive(Clone, Copy, Debug, PartialEq, Eq)]
-pub struct Coordinate {
+pub struct PlotterCoordinate {
     /// So many plotter units.
     pub units: i32,
     /// At most 8,388,607 to either side of 0.
@@ -66,9 +66,9 @@ pub struct Coordinate {
 #[derive(Clone, Copy, Debug, PartialEq, Eq)]
 pub struct Coordinates {
     /// The first coordinate.
-    pub x: Coordinate,
+    pub x: PlotterCoordinate,
     /// The second one.
-    pub y: Coordinate,
+    pub y: PlotterCoordinate,
 }
 
 /// Which position is taken on the way from one language to the other.

@@ -2,13 +2,13 @@
 
 ghost use Rattle.std.specs.Prelude.{◌≡◌, ◌≤◌, length, IfOk};
 ghost use Rattle.pcl_items.specs.Escapes.Value.{most_data};
-ghost use Rattle.pcl_items.specs.PjlLines.View.{line_view, owned_line_view};
-ghost use Rattle.pcl_items.specs.PjlLines.Canon.{IsSpelledLine};
+ghost use Rattle.pcl_items.specs.PjlLines.View.{pjl_view, owned_pjl_view};
+ghost use Rattle.pcl_items.specs.PjlLines.Canon.{IsSpelledPjl};
 ghost use Rattle.std.proofs.Props.{props};
 
 use crate::item::{Data, Item, PjlLine, SimpleItem, TextByte};
 use crate::pcl::command::DataCommand;
-use crate::pjl::Line;
+use crate::pjl::PjlCommand;
 use std::alloc::{AllocError, Allocator, Global};
 
 /// Bytes behind a command, kept.
@@ -19,9 +19,9 @@ pub struct OwnedData<A: Allocator = Global> {
     pub ghost within: { length bytes.items ≤ most_data },
 }
 
-/// A line of the job language, its text kept.
+/// What a line of the job language says, its text kept.
 #[derive(Drop)]
-pub enum OwnedLine<A: Allocator = Global> {
+pub enum OwnedPjlCommand<A: Allocator = Global> {
     /// No word.
     Bare,
     /// `COMMENT`, and any text or none.
@@ -34,12 +34,12 @@ pub enum OwnedLine<A: Allocator = Global> {
     EnterPcl,
 }
 
-/// A line as an item that is kept.
+/// A line of the job language as an item that is kept.
 #[derive(Drop)]
 pub struct OwnedPjlLine<A: Allocator = Global> {
-    pub line: OwnedLine<A>,
+    pub command: OwnedPjlCommand<A>,
     /// Some text of at most 1024 bytes with its newline spells it.
-    pub ghost spelled: { IsSpelledLine (owned_line_view line) } by { Prim.hlevel props },
+    pub ghost spelled: { IsSpelledPjl (owned_pjl_view command) } by { Prim.hlevel props },
 }
 
 /// One item of a job with data of its own.
@@ -71,8 +71,8 @@ impl<A: Allocator> OwnedItem<A> {
                 Ok(OwnedItem::WithData(*command, OwnedData { bytes }))
             }
             Item::PjlLine(spelled) => {
-                let line = line_of(alloc, spelled.line)?;
-                Ok(OwnedItem::PjlLine(OwnedPjlLine { line }))
+                let command = kept_pjl(alloc, spelled.command)?;
+                Ok(OwnedItem::PjlLine(OwnedPjlLine { command }))
             }
         }
     }
@@ -91,7 +91,7 @@ impl<A: Allocator> OwnedItem<A> {
                 },
             ),
             OwnedItem::PjlLine(spelled) => Item::PjlLine(PjlLine {
-                line: lent_line(&spelled.line),
+                command: lent_pjl(&spelled.command),
             }),
         }
     }
@@ -106,28 +106,31 @@ fn bytes_of<A: Allocator>(alloc: A, bytes: &[u8]) -> Result<Vec<u8, A>, AllocErr
     Ok(copy)
 }
 
-/// A copy of a line, with its text.
-fn line_of<A: Allocator>(alloc: A, line: Line<'_>) -> Result<OwnedLine<A>, AllocError>
-    ensures { IfOk result (λ copy. owned_line_view copy ≡ line_view line.entry) }
+/// A copy of what a line of the job language says, with its text.
+fn kept_pjl<A: Allocator>(
+    alloc: A,
+    command: PjlCommand<'_>,
+) -> Result<OwnedPjlCommand<A>, AllocError>
+    ensures { IfOk result (λ copy. owned_pjl_view copy ≡ pjl_view command.entry) }
 {
-    match line {
-        Line::Bare => Ok(OwnedLine::Bare),
-        Line::Remark(text) => Ok(OwnedLine::Remark(bytes_of(alloc, text)?)),
-        Line::JobBegins(text) => Ok(OwnedLine::JobBegins(bytes_of(alloc, text)?)),
-        Line::JobEnds(text) => Ok(OwnedLine::JobEnds(bytes_of(alloc, text)?)),
-        Line::EnterPcl => Ok(OwnedLine::EnterPcl),
+    match command {
+        PjlCommand::Bare => Ok(OwnedPjlCommand::Bare),
+        PjlCommand::Remark(text) => Ok(OwnedPjlCommand::Remark(bytes_of(alloc, text)?)),
+        PjlCommand::JobBegins(text) => Ok(OwnedPjlCommand::JobBegins(bytes_of(alloc, text)?)),
+        PjlCommand::JobEnds(text) => Ok(OwnedPjlCommand::JobEnds(bytes_of(alloc, text)?)),
+        PjlCommand::EnterPcl => Ok(OwnedPjlCommand::EnterPcl),
     }
 }
 
-/// The line, its text lent.
-fn lent_line<A: Allocator>(line: &OwnedLine<A>) -> Line<'_>
-    ensures { line_view result ≡ owned_line_view line.now }
+/// What it says, its text lent.
+fn lent_pjl<A: Allocator>(command: &OwnedPjlCommand<A>) -> PjlCommand<'_>
+    ensures { pjl_view result ≡ owned_pjl_view command.now }
 {
-    match line {
-        OwnedLine::Bare => Line::Bare,
-        OwnedLine::Remark(text) => Line::Remark(text.as_slice()),
-        OwnedLine::JobBegins(text) => Line::JobBegins(text.as_slice()),
-        OwnedLine::JobEnds(text) => Line::JobEnds(text.as_slice()),
-        OwnedLine::EnterPcl => Line::EnterPcl,
+    match command {
+        OwnedPjlCommand::Bare => PjlCommand::Bare,
+        OwnedPjlCommand::Remark(text) => PjlCommand::Remark(text.as_slice()),
+        OwnedPjlCommand::JobBegins(text) => PjlCommand::JobBegins(text.as_slice()),
+        OwnedPjlCommand::JobEnds(text) => PjlCommand::JobEnds(text.as_slice()),
+        OwnedPjlCommand::EnterPcl => PjlCommand::EnterPcl,
     }
 }

@@ -1,28 +1,24 @@
-//! The lines of the printer job language.
+//! The printer job language: the lines of mode PJL.
+//!
+//! A line is `@PJL`, a command and its options, in the words of HP's Printer Job Language Technical
+//! Reference Manual.
 
 ghost use Rattle.std.specs.Prelude.{◌≡◌, ◌≤◌, length, Some};
+ghost use Rattle.std.specs.List.{prefix_len};
 ghost use Rattle.std.specs.Option.{option_map};
 ghost use Rattle.pcl_items.specs.PjlLines.Text.{is_blank, is_solid, is_name_byte, is_quotable, language, pcl};
-ghost use Rattle.pcl_items.specs.PjlLines.Reader.{front, past, trimmed, is_word, past_byte, past_equals, past_value, is_name, past_part, parts_behind, are_parts, is_language, word_at, with_text, in_words, line_of};
-ghost use Rattle.pcl_items.specs.PjlLines.View.{line_view};
-ghost use Rattle.std.specs.List.{prefix_len};
-ghost use Rattle.pcl_items.specs.PjlLines.Text.{is_inside};
-ghost use Rattle.pcl_items.specs.PjlLines.First.{at_line};
-ghost use Rattle.pcl_items.specs.PjlLines.FirstView.{first_line_view, first_line_len};
+ghost use Rattle.pcl_items.specs.PjlLines.Reader.{front, past, trimmed, is_word, past_byte, past_equals, past_value, is_name, past_part, parts_behind, are_parts, is_language, word_at, with_text, in_words, pjl_command_of};
+ghost use Rattle.pcl_items.specs.PjlLines.View.{pjl_view};
 
-use crate::fault::Cause;
+pub(crate) mod first;
+
 use crate::frame::capital;
-use crate::item::{Mode, PjlLine};
+use crate::item::Mode;
 
-/// No line has more bytes with its newline.
-pub(crate) const MOST_IN_LINE: usize = 1024;
-
-/// No line has more bytes before its newline.
-const MOST_INSIDE: usize = MOST_IN_LINE - 1;
-
-/// A line that begins with `@PJL`, by its word. A text is that of the job, without blanks at both ends.
+/// What a line says behind `@PJL`, by the word of its command. A text is that of the job, without
+/// blanks at both ends.
 #[derive(Clone, Copy, Debug, PartialEq, Eq)]
-pub enum Line<'a> {
+pub enum PjlCommand<'a> {
     /// No word.
     Bare,
     /// `COMMENT`, and any text or none.
@@ -35,21 +31,21 @@ pub enum Line<'a> {
     EnterPcl,
 }
 
-impl<'a> Line<'a> {
-    ghost use Rattle.pcl_items.specs.Modes.{behind_line};
+impl<'a> PjlCommand<'a> {
+    ghost use Rattle.pcl_items.specs.Modes.{behind_pjl};
 
-    /// The mode behind the line.
+    /// The mode behind its line.
     pub fn mode_behind(&self) -> Mode
-        ensures { result ≡ behind_line (line_view self.now) }
+        ensures { result ≡ behind_pjl (pjl_view self.now) }
     {
         match self {
-            Line::EnterPcl => Mode::Pcl,
+            PjlCommand::EnterPcl => Mode::Pcl,
             _ => Mode::Pjl,
         }
     }
 }
 
-/// The words of lines.
+/// The words of commands.
 #[derive(Clone, Copy)]
 pub enum Word {
     /// `COMMENT`
@@ -62,23 +58,14 @@ pub enum Word {
     Enter,
 }
 
-/// What stands first where a line begins.
-#[derive(Clone, Copy)]
-pub enum FirstLine<'a> {
-    /// No whole line and no fault.
-    Open,
-    /// A line, and its length in bytes with the newline.
-    Begins(PjlLine<'a>, usize),
-    /// A fault, in the stead of a line.
-    Faulty(Cause),
-}
-
+/// Whether the byte is a blank: a tab, a carriage return or a space.
 fn is_blank(byte: u8) -> bool
     ensures { result ≡ is_blank byte }
 {
     byte == b'\t' || byte == b'\r' || byte == b' '
 }
 
+/// How many bytes in front are no blanks.
 fn solid_len(bytes: &[u8]) -> usize
     ensures length { result ≡ prefix_len is_solid bytes.now }
     ensures within { result ≤ length bytes.now }
@@ -86,12 +73,14 @@ fn solid_len(bytes: &[u8]) -> usize
     bytes.iter().take_while(|b| !is_blank(**b)).count()
 }
 
+/// Whether the byte may stand in the name of an option, which a blank or `=` ends.
 fn is_name_byte(byte: u8) -> bool
     ensures { result ≡ is_name_byte byte }
 {
     !(is_blank(byte) || byte == b'=')
 }
 
+/// How many bytes in front may stand in the name of an option.
 fn name_len(bytes: &[u8]) -> usize
     ensures length { result ≡ prefix_len is_name_byte bytes.now }
     ensures within { result ≤ length bytes.now }
@@ -99,6 +88,7 @@ fn name_len(bytes: &[u8]) -> usize
     bytes.iter().take_while(|b| is_name_byte(**b)).count()
 }
 
+/// How many bytes in front may stand between quotation marks.
 fn quotable_len(bytes: &[u8]) -> usize
     ensures length { result ≡ prefix_len is_quotable bytes.now }
     ensures within { result ≤ length bytes.now }
@@ -106,6 +96,7 @@ fn quotable_len(bytes: &[u8]) -> usize
     bytes.iter().take_while(|b| **b != b'"').count()
 }
 
+/// How many bytes in front are blanks.
 fn blanks_len(bytes: &[u8]) -> usize
     ensures length { result ≡ prefix_len is_blank bytes.now }
     ensures within { result ≤ length bytes.now }
@@ -113,13 +104,14 @@ fn blanks_len(bytes: &[u8]) -> usize
     bytes.iter().take_while(|b| is_blank(**b)).count()
 }
 
+/// The bytes behind the blanks in front.
 fn past_blanks(bytes: &[u8]) -> &[u8]
     ensures { result.now ≡ past is_blank bytes.now }
 {
     &bytes[blanks_len(bytes)..]
 }
 
-// Without the blanks at the end.
+/// The bytes without the blanks at their end.
 #[tactic(auto, using(crate::proofs::PjlLines::Trims::blank_last, crate::proofs::PjlLines::Trims::solid_last))]
 fn trimmed(bytes: &[u8]) -> &[u8]
     ensures { result.now ≡ trimmed bytes.now }
@@ -131,7 +123,7 @@ fn trimmed(bytes: &[u8]) -> &[u8]
     &bytes[..len]
 }
 
-// Whether this is the word, in either case.
+/// Whether this is the word, in either case.
 #[tactic(auto, unfolding(crate::specs::PjlLines::Reader::is_word))]
 fn is_word(text: &[u8], capitals: &[u8]) -> bool
     ensures { result ≡ is_word text.now capitals.now }
@@ -145,6 +137,7 @@ fn is_word(text: &[u8], capitals: &[u8]) -> bool
     }
 }
 
+/// The bytes behind this one, where it stands in front.
 fn past_byte(byte: u8, bytes: &[u8]) -> Option<&[u8]>
     ensures { option_map (λ b. b.now) result ≡ past_byte byte bytes.now }
 {
@@ -154,6 +147,7 @@ fn past_byte(byte: u8, bytes: &[u8]) -> Option<&[u8]>
     }
 }
 
+/// The bytes behind the `=` of an option of a PJL command, with blanks about it or none.
 fn past_equals(bytes: &[u8]) -> Option<&[u8]>
     ensures { option_map (λ b. b.now) result ≡ past_equals bytes.now }
 {
@@ -161,6 +155,7 @@ fn past_equals(bytes: &[u8]) -> Option<&[u8]>
     Some(past_blanks(rest))
 }
 
+/// The bytes behind the value of an option, a text between quotation marks.
 fn past_value(bytes: &[u8]) -> Option<&[u8]>
     ensures { option_map (λ b. b.now) result ≡ past_value (Some bytes.now) }
 {
@@ -168,12 +163,14 @@ fn past_value(bytes: &[u8]) -> Option<&[u8]>
     past_byte(b'"', &rest[quotable_len(rest)..])
 }
 
+/// Whether the text names an option of `@PJL JOB`, or else of `@PJL EOJ`.
 fn is_name(job: bool, text: &[u8]) -> bool
     ensures { result ≡ is_name job text.now }
 {
     is_word(text, b"NAME") || (job && is_word(text, b"DISPLAY"))
 }
 
+/// The bytes behind an option of `@PJL JOB`, or else of `@PJL EOJ`: its name and its value.
 #[tactic(auto, unfolding(crate::specs::PjlLines::Reader::past_part))]
 fn past_part(job: bool, bytes: &[u8]) -> Option<&[u8]>
     ensures { option_map (λ b. b.now) result ≡ past_part job bytes.now }
@@ -188,7 +185,7 @@ fn past_part(job: bool, bytes: &[u8]) -> Option<&[u8]>
     }
 }
 
-// Whether behind a part come at most so many further ones, and nothing else.
+/// Whether behind an option come at most so many further ones, and nothing else.
 #[tactic(auto, unfolding(crate::specs::PjlLines::Reader::parts_behind))]
 fn parts_behind(job: bool, most: usize, rest: Option<&[u8]>) -> bool
     ensures { result ≡ parts_behind job most (option_map (λ b. b.now) rest.entry) }
@@ -204,12 +201,14 @@ fn parts_behind(job: bool, most: usize, rest: Option<&[u8]>) -> bool
     }
 }
 
+/// Whether the text is nothing, or one option and at most so many further ones.
 fn are_parts(job: bool, most: usize, text: &[u8]) -> bool
     ensures { result ≡ are_parts job most text.now }
 {
     text.is_empty() || parts_behind(job, most, past_part(job, text))
 }
 
+/// Whether the text is the option of `@PJL ENTER` that enters PCL.
 #[tactic(auto, unfolding(crate::specs::PjlLines::Reader::is_language))]
 fn is_language(text: &[u8]) -> bool
     ensures { result ≡ is_language text.now }
@@ -224,6 +223,7 @@ fn is_language(text: &[u8]) -> bool
     }
 }
 
+/// The command that this word names.
 fn word_at(text: &[u8]) -> Option<Word>
     ensures { result ≡ word_at text.now }
 {
@@ -240,64 +240,40 @@ fn word_at(text: &[u8]) -> Option<Word>
     }
 }
 
-fn with_text(word: Word, text: &[u8]) -> Option<Line<'_>>
-    ensures { option_map line_view result ≡ with_text (Some word) text.now }
+/// The command of this word, where it may have the text behind it.
+fn with_text(word: Word, text: &[u8]) -> Option<PjlCommand<'_>>
+    ensures { option_map pjl_view result ≡ with_text (Some word) text.now }
 {
     match word {
-        Word::Comment => Some(Line::Remark(text)),
-        Word::Job if are_parts(true, text.len(), text) => Some(Line::JobBegins(text)),
-        Word::EndOfJob if are_parts(false, 0, text) => Some(Line::JobEnds(text)),
-        Word::Enter if is_language(text) => Some(Line::EnterPcl),
+        Word::Comment => Some(PjlCommand::Remark(text)),
+        Word::Job if are_parts(true, text.len(), text) => Some(PjlCommand::JobBegins(text)),
+        Word::EndOfJob if are_parts(false, 0, text) => Some(PjlCommand::JobEnds(text)),
+        Word::Enter if is_language(text) => Some(PjlCommand::EnterPcl),
         _ => None,
     }
 }
 
+/// The command whose word stands first, without blanks at both ends.
 #[tactic(auto, unfolding(crate::specs::PjlLines::Reader::in_words))]
-fn in_words(words: &[u8]) -> Option<Line<'_>>
-    ensures { option_map line_view result ≡ in_words words.now }
+fn in_words(words: &[u8]) -> Option<PjlCommand<'_>>
+    ensures { option_map pjl_view result ≡ in_words words.now }
 {
     let len = solid_len(words);
     let word = word_at(&words[..len])?;
     with_text(word, past_blanks(&words[len..]))
 }
 
-/// The line without its newline.
-#[tactic(auto, unfolding(crate::specs::PjlLines::Reader::line_of))]
-pub fn line_of(bytes: &[u8]) -> Option<Line<'_>>
-    ensures { option_map line_view result ≡ line_of bytes.now }
+/// The command of a line without its newline.
+#[tactic(auto, unfolding(crate::specs::PjlLines::Reader::pjl_command_of))]
+pub fn pjl_command_of(bytes: &[u8]) -> Option<PjlCommand<'_>>
+    ensures { option_map pjl_view result ≡ pjl_command_of bytes.now }
 {
     let [b'@', b'P', b'J', b'L', rest @ ..] = bytes else {
         return None;
     };
     match trimmed(rest) {
-        [] => Some(Line::Bare),
+        [] => Some(PjlCommand::Bare),
         [byte, words @ ..] if is_blank(*byte) => in_words(past_blanks(words)),
         _ => None,
-    }
-}
-
-fn inside_len(bytes: &[u8]) -> usize
-    ensures length { result ≡ prefix_len is_inside bytes.now }
-    ensures within { result ≤ length bytes.now }
-{
-    bytes.iter().take_while(|b| **b != b'\n').count()
-}
-
-/// What stands first in bytes that begin with `@`. The line lends its text out of these bytes.
-#[tactic(auto, unfolding(crate::specs::PjlLines::First::at_line))]
-pub fn first_line(bytes: &[u8]) -> FirstLine<'_>
-    ensures first { first_line_view result ≡ at_line bytes.now }
-    ensures within { first_line_len result ≤ length bytes.now }
-{
-    let len = inside_len(bytes);
-    if len > MOST_INSIDE {
-        return FirstLine::Faulty(Cause::Pjl);
-    }
-    match &bytes[len..] {
-        [] => FirstLine::Open,
-        [_, ..] => match line_of(&bytes[..len]) {
-            Some(line) => FirstLine::Begins(PjlLine { line }, len + 1),
-            None => FirstLine::Faulty(Cause::Pjl),
-        },
     }
 }

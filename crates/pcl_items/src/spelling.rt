@@ -1,34 +1,36 @@
 //! The one spelling of each item, written and read again.
 
-ghost use Rattle.std.specs.Prelude.{◌≡◌, ◌≤◌, ◌+◌, ◌-◌, ◌%◌, List, ◌++◌, ◌∷◌, [], ℕ, take, length, decimal, MatchOption, OnOk, OnErr};
+ghost use Rattle.std.specs.Prelude.{◌≡◌, ◌≤◌, ◌+◌, ◌-◌, ◌%◌, List, ◌++◌, ◌∷◌, [], ℕ, take, length, decimal, IfSome, MatchOption, OnOk, OnErr};
 ghost use Rattle.std.specs.Fmt.{signed_decimal};
 ghost use Rattle.arrayvec.specs.ArrayVec.{array_vec_len};
 ghost use Rattle.pcl_items.specs.declared.item.Mode.TheVariants.{Pcl, Frame, Pjl};
 ghost use Rattle.pcl_items.specs.Items.{Entry, view, simple_view, amount, pair};
-ghost use Rattle.pcl_items.specs.PjlLines.Text.{BeginsLine};
-ghost use Rattle.pcl_items.specs.PjlLines.View.{line_view};
-ghost use Rattle.pcl_items.specs.PjlLines.Canon.{behind_space, canon_line};
-ghost use Rattle.pcl_items.specs.Spellings.Canon.{canon, IsNoLine, data_of, amount_text, magnitude_text, with_point, without_zeros, four_decimals};
+ghost use Rattle.pcl_items.specs.PjlLines.Text.{BeginsPjl};
+ghost use Rattle.pcl_items.specs.PjlLines.View.{pjl_view};
+ghost use Rattle.pcl_items.specs.PjlLines.Canon.{behind_space, canon_pjl};
+ghost use Rattle.pcl_items.specs.Spellings.Canon.{canon, IsNoPjl, data_of, amount_text, magnitude_text, with_point, without_zeros, four_decimals};
 ghost use Rattle.pcl_items.specs.Frames.Mnemonics.{letters_of};
 ghost use Rattle.pcl_items.specs.Escapes.ValueField.{sign_text};
 ghost use Rattle.pcl_items.specs.Spellings.Spelled.{StandsAt, NothingStands, IsSpelled};
 
 pub(crate) mod decimals;
 
-use crate::frame::{Coordinate, Coordinates, Handover, Mnemonic, Motion, Setting};
+use crate::frame::{Coordinates, Handover, Mnemonic, Motion, PlotterCoordinate, Setting};
 use crate::item::{Item, Mode, PjlLine, SetLetter, SimpleItem};
 use crate::lexer::ahead::{byte_in, next_ahead, with_its_data};
-use crate::lexer::first::{Context, First, begins_line, first_between};
+use crate::lexer::first::{Context, First, first_between};
 use crate::number::{Magnitude, Number, Sign};
 use crate::pcl::command::{Command, DataCommand};
 use crate::pcl::parameterized::parameterized_in;
-use crate::pjl::{FirstLine, Line, MOST_IN_LINE, first_line};
+use crate::pjl::PjlCommand;
+use crate::pjl::first::{FirstPjl, MOST_IN_PJL_LINE, at_pjl, begins_pjl};
 use crate::spelling::decimals::{point_and_decimals, shown};
 use arrayvec::ArrayVec;
 use itoa::Buffer;
 use std::alloc::{AllocError, Allocator};
 
-/// The most bytes of a spelling but for data: two letters, two coordinates, a comma and a semicolon.
+/// The most bytes of a spelling but for data: two letters, two coordinates, a comma and a
+/// semicolon.
 const LONGEST: usize = 26;
 
 /// No spelling of an item of a frame has more bytes.
@@ -38,7 +40,7 @@ const MOST_IN_FRAME: usize = 64;
 type HeadText = ArrayVec<u8, LONGEST>;
 
 /// The spelling of a line.
-type LineText = ArrayVec<u8, MOST_IN_LINE>;
+type PjlText = ArrayVec<u8, MOST_IN_PJL_LINE>;
 
 /// Appends bytes that have room.
 fn append(text: &mut HeadText, bytes: &[u8])
@@ -116,7 +118,7 @@ fn append_magnitude(text: &mut HeadText, n: u32)
 }
 
 /// Appends a coordinate.
-fn append_coordinate(text: &mut HeadText, x: Coordinate)
+fn append_coordinate(text: &mut HeadText, x: PlotterCoordinate)
     requires { array_vec_len text.old ≤ 14 }
     ensures text { text.new.items ≡ text.old.items ++ signed_decimal x.units }
     ensures len { array_vec_len text.new ≤ array_vec_len text.old + 11 }
@@ -139,7 +141,8 @@ fn append_command(text: &mut HeadText, command: Command, n: Number)
 /// Appends the two letters of a command of a frame.
 fn append_letters(text: &mut HeadText, mnemonic: Mnemonic)
     requires { array_vec_len text.old ≡ 0 }
-    ensures text { text.new.items ≡ text.old.items ++ (letters_of mnemonic).0 ∷ (letters_of mnemonic).1 ∷ [] }
+    ensures text { text.new.items ≡ text.old.items ++ (letters_of mnemonic).0
+        ∷ (letters_of mnemonic).1 ∷ [] }
     ensures len { array_vec_len text.new ≡ 2 }
 {
     let (first, second) = mnemonic.letters();
@@ -149,7 +152,8 @@ fn append_letters(text: &mut HeadText, mnemonic: Mnemonic)
 /// Appends a command of a frame with its number.
 fn append_setting(text: &mut HeadText, setting: Setting, magnitude: Magnitude)
     requires { array_vec_len text.old ≡ 0 }
-    ensures { text.new.items ≡ text.old.items ++ canon (Entry.Set setting magnitude.ten_thousandths) }
+    ensures { text.new.items ≡ text.old.items
+        ++ canon (Entry.Set setting magnitude.ten_thousandths) }
 {
     append_letters(text, Mnemonic::Sets(setting));
     append_magnitude(text, magnitude.ten_thousandths);
@@ -217,7 +221,8 @@ fn simple_text(item: &SimpleItem) -> HeadText
 
 /// A command with the count of its data, which are to follow.
 fn counting_text(command: DataCommand, count: u16) -> HeadText
-    ensures { (bytes : List ℕ) → length bytes ≡ count → result.items ++ bytes ≡ canon (Entry.WithData command bytes) }
+    ensures { (bytes : List ℕ) → length bytes ≡ count →
+        result.items ++ bytes ≡ canon (Entry.WithData command bytes) }
 {
     let group = command.group();
     let mut text = ArrayVec::new();
@@ -238,7 +243,7 @@ fn byte_text(code: u8) -> HeadText
 
 /// The spelling of an item that is no line, but for its data.
 fn head_text(item: &Item<'_>) -> HeadText
-    requires { IsNoLine (view item.now) }
+    requires { IsNoPjl (view item.now) }
     ensures { result.items ++ data_of (view item.now) ≡ canon (view item.now) }
 {
     match item {
@@ -263,21 +268,22 @@ fn data_of<'a>(item: &Item<'a>) -> &'a [u8]
 }
 
 /// What stands in front of a line in its spelling, up to its word, and the text behind the word.
-fn line_parts<'a>(spelled: &PjlLine<'a>) -> (&'static [u8], &'a [u8])
-    ensures text { canon_line (line_view spelled.now.line) ≡ result.0.now ++ (behind_space result.1.now ++ 10 ∷ []) }
+fn pjl_parts<'a>(spelled: &PjlLine<'a>) -> (&'static [u8], &'a [u8])
+    ensures text { canon_pjl (pjl_view spelled.now.command) ≡
+        result.0.now ++ (behind_space result.1.now ++ 10 ∷ []) }
     ensures room { length result.0.now + length result.1.now + 2 ≤ 1024 }
 {
-    match spelled.line {
-        Line::Bare => (b"@PJL", &[]),
-        Line::Remark(text) => (b"@PJL COMMENT", text),
-        Line::JobBegins(text) => (b"@PJL JOB", text),
-        Line::JobEnds(text) => (b"@PJL EOJ", text),
-        Line::EnterPcl => (b"@PJL ENTER LANGUAGE=PCL", &[]),
+    match spelled.command {
+        PjlCommand::Bare => (b"@PJL", &[]),
+        PjlCommand::Remark(text) => (b"@PJL COMMENT", text),
+        PjlCommand::JobBegins(text) => (b"@PJL JOB", text),
+        PjlCommand::JobEnds(text) => (b"@PJL EOJ", text),
+        PjlCommand::EnterPcl => (b"@PJL ENTER LANGUAGE=PCL", &[]),
     }
 }
 
 /// Appends bytes that have room.
-fn append_to_line(line: &mut LineText, bytes: &[u8])
+fn append_to_pjl(line: &mut PjlText, bytes: &[u8])
     requires { array_vec_len line.old + length bytes.now ≤ 1024 }
     ensures text { line.new.items ≡ line.old.items ++ bytes.now }
     ensures len { array_vec_len line.new ≡ array_vec_len line.old + length bytes.now }
@@ -288,15 +294,15 @@ fn append_to_line(line: &mut LineText, bytes: &[u8])
 }
 
 /// The spelling of a line.
-fn line_text(spelled: &PjlLine<'_>) -> LineText
-    ensures { result.items ≡ canon_line (line_view spelled.now.line) }
+fn pjl_text(spelled: &PjlLine<'_>) -> PjlText
+    ensures { result.items ≡ canon_pjl (pjl_view spelled.now.command) }
 {
-    let (front, text) = line_parts(spelled);
+    let (front, text) = pjl_parts(spelled);
     let mut all = ArrayVec::new();
-    append_to_line(&mut all, front);
+    append_to_pjl(&mut all, front);
     if !text.is_empty() {
         all.push(b' ');
-        append_to_line(&mut all, text);
+        append_to_pjl(&mut all, text);
     }
     all.push(b'\n');
     all
@@ -309,11 +315,13 @@ fn spell_with_data<A: Allocator>(
     bytes: &mut Vec<u8, A>,
 ) -> Result<(), AllocError>
     requires { length «data».now ≤ 32767 }
-    ensures ok { OnOk result (bytes.new.items ≡ bytes.old.items ++ canon (Entry.WithData command «data».now)) }
+    ensures ok { OnOk result (bytes.new.items ≡
+        bytes.old.items ++ canon (Entry.WithData command «data».now)) }
     ensures err { OnErr result (bytes.new.items ≡ bytes.old.items) }
 {
     let head = counting_text(command, data.len() as u16);
-    // There is room for both before the first is appended, so that no part of a spelling is left behind.
+    // There is room for both before the first is appended, so that no part of a spelling is left
+    // behind.
     bytes.reserve(head.len() + data.len())?;
     bytes.extend_from_slice(&head)?;
     bytes.extend_from_slice(data)
@@ -333,7 +341,7 @@ pub fn spell<A: Allocator>(item: &Item<'_>, bytes: &mut Vec<u8, A>) -> Result<()
         }
         Item::Simple(item) => bytes.extend_from_slice(&simple_text(item)),
         Item::WithData(command, data) => spell_with_data(*command, data.bytes, bytes),
-        Item::PjlLine(spelled) => bytes.extend_from_slice(&line_text(spelled)),
+        Item::PjlLine(spelled) => bytes.extend_from_slice(&pjl_text(spelled)),
     }
 }
 
@@ -343,14 +351,16 @@ pub fn spelled_len(item: &Item<'_>) -> u64
     ensures short { result ≤ 65536 }
 {
     match item {
-        Item::PjlLine(spelled) => line_text(spelled).len() as u64,
+        Item::PjlLine(spelled) => pjl_text(spelled).len() as u64,
         _ => (head_text(item).len() + data_of(item).len()) as u64,
     }
 }
 
-/// The item whose spelling stands first in bytes of mode PCL, how many bytes it takes, and the mode behind it.
+/// The item whose spelling stands first in bytes of mode PCL, how many bytes it takes, and the mode
+/// behind it.
 fn first_item(bytes: &[u8]) -> Option<(Item<'_>, usize, Mode)>
-    ensures { MatchOption result (NothingStands Pcl bytes.now 0) (λ found. StandsAt Pcl bytes.now 0 (view found.0) found.1 found.2) }
+    ensures { MatchOption result (NothingStands Pcl bytes.now 0)
+        (λ found. StandsAt Pcl bytes.now 0 (view found.0) found.1 found.2) }
 {
     // A byte that is an item by itself has no other spelling.
     if let Some(item) = byte_in(bytes) {
@@ -369,9 +379,11 @@ fn first_item(bytes: &[u8]) -> Option<(Item<'_>, usize, Mode)>
     }
 }
 
-/// The item whose spelling stands first in bytes of a frame, how many bytes it takes, and the mode behind it.
+/// The item whose spelling stands first in bytes of a frame, how many bytes it takes, and the mode
+/// behind it.
 fn first_of_frame(bytes: &[u8]) -> Option<(Item<'_>, usize, Mode)>
-    ensures { MatchOption result (NothingStands Frame bytes.now 0) (λ found. StandsAt Frame bytes.now 0 (view found.0) found.1 found.2) }
+    ensures { MatchOption result (NothingStands Frame bytes.now 0)
+        (λ found. StandsAt Frame bytes.now 0 (view found.0) found.1 found.2) }
 {
     let front = &bytes[..bytes.len().min(MOST_IN_FRAME)];
     let ahead = next_ahead(true, Context::Frame, 0, front);
@@ -387,49 +399,66 @@ fn first_of_frame(bytes: &[u8]) -> Option<(Item<'_>, usize, Mode)>
     }
 }
 
-/// The line whose spelling stands first in bytes that begin with `@`, as an item of mode PJL, how many bytes it takes, and
-/// the mode behind it.
-fn first_spelled_line(bytes: &[u8]) -> Option<(Item<'_>, usize, Mode)>
-    requires { BeginsLine bytes.now }
-    ensures { MatchOption result (NothingStands Pjl bytes.now 0) (λ found. StandsAt Pjl bytes.now 0 (view found.0) found.1 found.2) }
+/// The line whose spelling stands first in bytes that begin with `@`, as an item of mode PJL, how
+/// many bytes it takes, and the mode behind it.
+fn first_spelled_pjl(bytes: &[u8]) -> Option<(Item<'_>, usize, Mode)>
+    requires { BeginsPjl bytes.now }
+    ensures { MatchOption result (NothingStands Pjl bytes.now 0)
+        (λ found. StandsAt Pjl bytes.now 0 (view found.0) found.1 found.2) }
 {
-    let FirstLine::Begins(spelled, _) = first_line(bytes) else {
+    let FirstPjl::Begins(spelled, _) = at_pjl(bytes) else {
         return None;
     };
-    let spelling = line_text(&spelled);
+    let spelling = pjl_text(&spelled);
     if bytes.starts_with(spelling.as_slice()) {
         Some((
             Item::PjlLine(spelled),
             spelling.len(),
-            spelled.line.mode_behind(),
+            spelled.command.mode_behind(),
         ))
     } else {
         None
     }
 }
 
-/// The item whose spelling stands first in bytes of mode PJL, how many bytes it takes, and the mode behind it.
+/// The item whose spelling stands first in bytes of mode PJL, how many bytes it takes, and the mode
+/// behind it.
 fn first_in_pjl(bytes: &[u8]) -> Option<(Item<'_>, usize, Mode)>
-    ensures { MatchOption result (NothingStands Pjl bytes.now 0) (λ found. StandsAt Pjl bytes.now 0 (view found.0) found.1 found.2) }
+    ensures { MatchOption result (NothingStands Pjl bytes.now 0)
+        (λ found. StandsAt Pjl bytes.now 0 (view found.0) found.1 found.2) }
 {
-    if begins_line(bytes) {
-        first_spelled_line(bytes)
+    if begins_pjl(bytes) {
+        first_spelled_pjl(bytes)
     } else {
         first_item(bytes)
     }
 }
 
+/// The command that stands first in bytes of mode PCL that are the spellings of items, and how many
+/// bytes it takes. It may always answer none, as it does where no command stands, or one of rows.
+#[inline(always)]
+pub fn first_spelled_command(bytes: &[u8]) -> Option<(SimpleItem, usize)>
+    requires { IsSpelled Pcl bytes.now }
+    ensures { IfSome result (λ found. StandsAt Pcl bytes.now 0 (simple_view found.0) found.1 Pcl) }
+{
+    let read = parameterized_in(Context::Pcl, bytes)?;
+    Some((
+        SimpleItem::Parameterized(read.command, read.number),
+        read.len,
+    ))
+}
+
 /// The first item of bytes of mode PCL that are the spellings of items.
 fn first_spelled_between(bytes: &[u8]) -> Option<(Item<'_>, usize, Mode)>
     requires { IsSpelled Pcl bytes.now }
-    ensures { MatchOption result (NothingStands Pcl bytes.now 0) (λ found. StandsAt Pcl bytes.now 0 (view found.0) found.1 found.2) }
+    ensures { MatchOption result (NothingStands Pcl bytes.now 0)
+        (λ found. StandsAt Pcl bytes.now 0 (view found.0) found.1 found.2) }
 {
     if let Some(item) = byte_in(bytes) {
         return Some((item, 1, Mode::Pcl));
     }
-    if let Some(read) = parameterized_in(Context::Pcl, bytes) {
-        let item = SimpleItem::Parameterized(read.command, read.number);
-        return Some((Item::Simple(item), read.len, Mode::Pcl));
+    if let Some((item, len)) = first_spelled_command(bytes) {
+        return Some((Item::Simple(item), len, Mode::Pcl));
     }
     let First::Begins(len, head, next) = first_between(bytes) else {
         return None;
@@ -437,13 +466,14 @@ fn first_spelled_between(bytes: &[u8]) -> Option<(Item<'_>, usize, Mode)>
     Some((with_its_data(head, len, bytes), len, next.mode()))
 }
 
-/// The first item of bytes that are the spellings of items from a mode on, how many bytes it takes, and the mode behind
-/// it; none where no item is left.
+/// The first item of bytes that are the spellings of items from a mode on, how many bytes it takes,
+/// and the mode behind it; none where no item is left.
 ///
 /// Unlike `item_at` it compares nothing in mode PCL: the bytes are known to be spellings.
 pub fn first_spelled(bytes: &[u8], mode: Mode) -> Option<(Item<'_>, usize, Mode)>
     requires { IsSpelled mode bytes.now }
-    ensures { MatchOption result (NothingStands mode bytes.now 0) (λ found. StandsAt mode bytes.now 0 (view found.0) found.1 found.2) }
+    ensures { MatchOption result (NothingStands mode bytes.now 0)
+        (λ found. StandsAt mode bytes.now 0 (view found.0) found.1 found.2) }
 {
     match mode {
         Mode::Pcl => first_spelled_between(bytes),
@@ -452,9 +482,11 @@ pub fn first_spelled(bytes: &[u8], mode: Mode) -> Option<(Item<'_>, usize, Mode)
     }
 }
 
-/// The item whose spelling stands first in bytes of a mode, how many bytes it takes, and the mode behind it.
+/// The item whose spelling stands first in bytes of a mode, how many bytes it takes, and the mode
+/// behind it.
 fn first_of_mode(bytes: &[u8], mode: Mode) -> Option<(Item<'_>, usize, Mode)>
-    ensures { MatchOption result (NothingStands mode bytes.now 0) (λ found. StandsAt mode bytes.now 0 (view found.0) found.1 found.2) }
+    ensures { MatchOption result (NothingStands mode bytes.now 0)
+        (λ found. StandsAt mode bytes.now 0 (view found.0) found.1 found.2) }
 {
     match mode {
         Mode::Pcl => first_item(bytes),
@@ -468,7 +500,8 @@ fn first_of_mode(bytes: &[u8], mode: Mode) -> Option<(Item<'_>, usize, Mode)>
 /// None means that no item that the mode admits has its spelling there.
 pub fn item_at(bytes: &[u8], at: usize, mode: Mode) -> Option<(Item<'_>, usize, Mode)>
     requires { at ≤ length bytes.now }
-    ensures { MatchOption result (NothingStands mode bytes.now at) (λ found. StandsAt mode bytes.now at (view found.0) found.1 found.2) }
+    ensures { MatchOption result (NothingStands mode bytes.now at)
+        (λ found. StandsAt mode bytes.now at (view found.0) found.1 found.2) }
 {
     match first_of_mode(&bytes[at..], mode) {
         None => None,

@@ -1,5 +1,5 @@
 mod Asking
+mod Contained
 mod Fulfilling
-mod NameLemmas
+mod NameFacts
 mod OnFiles
-mod WordLemmas

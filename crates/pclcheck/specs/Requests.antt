@@ -1,7 +1,7 @@
 -- What the program leaves of what it is asked for. Nothing is known of its files beforehand, so this is said for some reads of them.
 use Rattle.std.specs.Prelude.{◌≡◌, List, [], ℕ, Option, map, option_map, IsFalse, IsTrue}
 use Rattle.command_line.specs.declared.words.Request.{Request}
-use Rattle.command_line.specs.declared.words.Request.TheVariants.{Check, CheckMany, List as ListOf, Pages, Picture, Notes, Plain, Pin, Explain, ProfileList, ProfileNew, ProfileLint, ProfileShow, ProfileSheet, ProfileFromPjl}
+use Rattle.command_line.specs.declared.words.Request.TheVariants as requests
 use Rattle.preflight.specs.Due.{list_rendering}
 use Rattle.streams.specs.Files.{no_source}
 use Rattle.streams.specs.Outlet.{OutletState}
@@ -37,18 +37,18 @@ pub record LeavesExplanation (texts : List (List ℕ)) (code : Option (List ℕ)
 
 -- what a request comes to, on standard output and on standard error; an explanation is one of these texts
 abbrev pub Fulfils : List (List ℕ) → Request → Status → OutletState → OutletState → OutletState → OutletState → Type 0
-Fulfils texts (Check job profiles) status out out' err err' = LeavesCheck (map (λ word. text_named word.now) profiles.items) status out out' × (err' ≡ err)
-Fulfils texts (CheckMany words) status out out' err err' = LeavesChecks (asking texts words) status out out' err err'
-Fulfils texts (ListOf job) status out out' err err' = LeavesRendered list_rendering status out out' × (err' ≡ err)
-Fulfils texts (Pages job profile) status out out' err err' = LeavesPagesFor profile.now status out out' × (err' ≡ err)
-Fulfils texts (Picture job profile choices selection) status out out' err err' = LeavesPictureFor profile.now choices.items selection job.now status out out' err err'
-Fulfils texts (Notes job profile) status out out' err err' = LeavesNotesFor profile.now status out out' × (err' ≡ err)
-Fulfils texts (Plain job file) status out out' err err' = LeavesPlain status out out' × (err' ≡ err)
-Fulfils texts (Pin job profile choices file) status out out' err err' = LeavesPin profile.now choices.items status out out' err err'
-Fulfils texts (Explain code) status out out' err err' = LeavesExplanation texts (option_map (λ word. word.now) code) status out out' err err'
-Fulfils texts ProfileList status out out' err err' = LeavesModels status out out' × (err' ≡ err)
-Fulfils texts (ProfileNew words) status out out' err err' = LeavesProfile words.model.now (map (λ name. name.now) words.papers.items) words.lists status out out' err err'
-Fulfils texts (ProfileLint profiles) status out out' err err' = LeavesLintFor (map (λ word. word.now) profiles.items) status out out' err err'
-Fulfils texts (ProfileShow profile) status out out' err err' = LeavesShownFor profile.now status out out' err err'
-Fulfils texts (ProfileSheet profile file) status out out' err err' = LeavesSheetFor profile.now status err err' × (out' ≡ out)
-Fulfils texts (ProfileFromPjl answer base) status out out' err err' = LeavesAnsweredFor answer.now (option_map (λ word. word.now) base) status out out' err err'
+Fulfils texts (requests.Check job profiles) status out out' err err' = LeavesCheck (map (λ word. text_named word.now) profiles.items) status out out' × (err' ≡ err)
+Fulfils texts (requests.CheckMany words) status out out' err err' = LeavesChecks (asking texts words) status out out' err err'
+Fulfils texts (requests.List job) status out out' err err' = LeavesRendered list_rendering status out out' × (err' ≡ err)
+Fulfils texts (requests.Pages job profile) status out out' err err' = LeavesPagesFor profile.now status out out' × (err' ≡ err)
+Fulfils texts (requests.Picture job profile choices selection) status out out' err err' = LeavesPictureFor profile.now choices.items selection job.now status out out' err err'
+Fulfils texts (requests.Notes job profile) status out out' err err' = LeavesNotesFor profile.now status out out' × (err' ≡ err)
+Fulfils texts (requests.Plain job file) status out out' err err' = LeavesPlain status out out' × (err' ≡ err)
+Fulfils texts (requests.Pin job profile choices file) status out out' err err' = LeavesPin profile.now choices.items status out out' err err'
+Fulfils texts (requests.Explain code) status out out' err err' = LeavesExplanation texts (option_map (λ word. word.now) code) status out out' err err'
+Fulfils texts requests.ProfileList status out out' err err' = LeavesModels status out out' × (err' ≡ err)
+Fulfils texts (requests.ProfileNew words) status out out' err err' = LeavesProfile words.model.now (map (λ name. name.now) words.papers.items) words.lists status out out' err err'
+Fulfils texts (requests.ProfileLint profiles) status out out' err err' = LeavesLintFor (map (λ word. word.now) profiles.items) status out out' err err'
+Fulfils texts (requests.ProfileShow profile) status out out' err err' = LeavesShownFor profile.now status out out' err err'
+Fulfils texts (requests.ProfileSheet profile file) status out out' err err' = LeavesSheetFor profile.now status err err' × (out' ≡ out)
+Fulfils texts (requests.ProfileFromPjl answer base) status out out' err err' = LeavesAnsweredFor answer.now (option_map (λ word. word.now) base) status out out' err err'

@@ -24,7 +24,7 @@ use Rattle.subcommands.specs.JobTexts.{RefusesOne, TellsOfChoice, TellsOfPin}
 use Rattle.subcommands.specs.Choices.{choice_line, chosen_panel}
 use Rattle.preflight.specs.Writing.{Writes}
 use Rattle.subcommands.specs.Status.{is_refusal, is_refused_choice, is_stop_of_read, is_stop_of_write}
-use Rattle.picture_command.specs.Picture.{Around, Draws, IsErrorOfSearch, IsUnsearched, IsUntouched, LeavesDrawn, LeavesOther, LeavesPicture, LeavesPictureOf, LeavesSame, LeavesTold, Tells, TellsChange, status_of}
+use Rattle.picture_command.specs.Picture.{Around, Draws, IsErrorOfSearch, IsUnsearched, IsUntouched, LeavesDrawn, LeavesOther, LeavesPicture, LeavesPictureOf, LeavesSame, LeavesTold, TellsOutcome, TellsChange, status_of}
 
 pub Stays-none : (a : OutletState) → Stays a a
 Stays-none a = record { taken = refl; contents = Keeps-refl a.contents }
@@ -32,7 +32,7 @@ Stays-none a = record { taken = refl; contents = Keeps-refl a.contents }
 -- ---- the first reading
 
 -- a text that was kept in memory is told
-pub kept_told : (rendering : Rendering) (job job' : SourceState) (kept kept' : OutletState) (outcome : Outcome) (text : List ℕ) → Renders rendering job job' kept kept' (Ok outcome) → kept.taken ≡ [] → text ≡ kept'.taken → Tells rendering job job' text outcome
+pub kept_told : (rendering : Rendering) (job job' : SourceState) (kept kept' : OutletState) (outcome : Outcome) (text : List ℕ) → Renders rendering job job' kept kept' (Ok outcome) → kept.taken ≡ [] → text ≡ kept'.taken → TellsOutcome rendering job job' text outcome
 kept_told rendering job job' kept kept' outcome text rendered empty is =
     let due = rendered.written in
     let text_is : due.text ≡ text = sym (is ∙ (due.adds.taken ∙ ap (λ l. l ++ due.text) empty)) in

@@ -1,6 +1,6 @@
 -- What a call of the renderer keeps, and leaves due.
 use Rattle.std.proofs.Common.{◌≡◌, ℕ, true, false, List, [], ◌++◌, Option, None, Some, Result, Ok, Err, ap, sym, ◌∙◌, subst}
-use Rattle.pcl_items.specs.declared.fault.Cause.{Cause}
+use Rattle.pcl_items.specs.declared.fault.LexCause.{LexCause}
 use Rattle.pcl_items.specs.Items.{Placed}
 use Rattle.pcl_items.specs.Reading.{Reading, Whole, Stopped}
 use Rattle.page_env.specs.declared.finding.Finding.{Finding}
@@ -109,7 +109,7 @@ module _ (selection : Selection) (job : List ℕ) (group : Groups) (machine : Ma
 
 -- ---- a fault of the bytes
 
-pub fault_fails : (selection : Selection) (job : List ℕ) (group : Groups) (machine : MachineState) (counts : Counts) (old : OutletState) (kept kept' : List ℕ) (place : ℕ) (cause : Cause) (failure : Failure) → failure ≡ record { place = place; profile = 0; reason = FaultOfBytes cause }
+pub fault_fails : (selection : Selection) (job : List ℕ) (group : Groups) (machine : MachineState) (counts : Counts) (old : OutletState) (kept kept' : List ℕ) (place : ℕ) (cause : LexCause) (failure : Failure) → failure ≡ record { place = place; profile = 0; reason = FaultOfBytes cause }
     → (r : Result Outcome Error) → Keeps kept kept' (found_at_failure selection job group counts [] failure) r → Ended (search_from selection job group machine counts) (λ reading. reading ≡ Stopped [] place cause) old old kept kept' r
 fault_fails selection job group machine counts old kept kept' place cause failure failure_is r told =
     let rendering : Rendering = search_from selection job group machine counts in

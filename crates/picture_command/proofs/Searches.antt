@@ -1,6 +1,6 @@
 -- What is told of an item on a machine that knows its panel, and of the rest of the job.
 use Rattle.std.proofs.Common.{◌≡◌, ℕ, Bool, true, false, if◌then◌else◌, List, [], ◌∷◌, ◌++◌, refl, ap, sym, ◌∙◌, append-nil}
-use Rattle.pcl_items.specs.declared.fault.Cause.{Cause}
+use Rattle.pcl_items.specs.declared.fault.LexCause.{LexCause}
 use Rattle.pcl_items.specs.Items.{Placed}
 use Rattle.pcl_items.specs.Reading.{Reading, Whole, Stopped, with_item}
 use Rattle.device_profile.specs.declared.panel.Panel.{Panel}

@@ -1,6 +1,6 @@
 -- What is told of the pages of a job before they are drawn: whether the job fails on them, and whether it has them.
 use Rattle.std.specs.Prelude.{ℕ, ◌+◌, false, List, [], ◌∷◌, ◌++◌, codes, decimal, flat_map, length, get_or, Option, None, Some, Ok, if◌then◌else◌}
-use Rattle.pcl_items.specs.declared.fault.Cause.{Cause}
+use Rattle.pcl_items.specs.declared.fault.LexCause.{LexCause}
 use Rattle.pcl_items.specs.Spellings.Canon.{canon}
 use Rattle.pcl_items.specs.Escapes.Commands.{introducer_of, character_of, data_group_of, data_letter_of}
 use Rattle.pcl_items.specs.Items.{Entry, Placed, Text, WithData, PjlLine}
@@ -137,7 +137,7 @@ end_search selection job group printer defaults place counts macros s =
     run_search selection job group counts [] place (job_end_run (with_macros printer defaults macros) s)
     (λ counts' t. found_at_end selection job group counts')
 
-abbrev pub fault_search : Selection → (job : List ℕ) → Groups → ℕ → Cause → Counts → Store → State → Searched
+abbrev pub fault_search : Selection → (job : List ℕ) → Groups → ℕ → LexCause → Counts → Store → State → Searched
 fault_search selection job group place cause counts macros s =
     found_at_failure selection job group counts [] (record { place = place; profile = 0; reason = FaultOfBytes cause })
 

@@ -26,8 +26,8 @@ use Rattle.picture_command.specs.PageSearch.{search_rendering}
 -- ---- what the first reading tells
 
 -- this text and this outcome are due of each job that may be by what the reads gave
-abbrev pub Tells : Rendering → SourceState → SourceState → (text : List ℕ) → Outcome → Type 0
-Tells rendering job job' text outcome = ByReads job job' (λ bytes. IsDue rendering bytes text outcome)
+abbrev pub TellsOutcome : Rendering → SourceState → SourceState → (text : List ℕ) → Outcome → Type 0
+TellsOutcome rendering job job' text outcome = ByReads job job' (λ bytes. IsDue rendering bytes text outcome)
 
 -- the job does not have the page that is wanted alone: nothing fails on it, and yet something is told
 abbrev pub is_missing : Selection → (text : List ℕ) → Outcome → Bool
@@ -127,7 +127,7 @@ pub record LeavesBehind (status : Status) (printer : Printer) (panel : Panel) (s
 pub record LeavesTold (status : Status) (printer : Printer) (panel : Panel) (selection : Selection) (job : List ℕ) (group : Groups) (a : Around) : Type 0 where
   pub text : List ℕ
   pub outcome : Outcome
-  pub told : Tells (search_rendering printer panel selection job group) a.first a.first' text outcome
+  pub told : TellsOutcome (search_rendering printer panel selection job group) a.first a.first' text outcome
   pub behind : LeavesBehind status printer panel selection job text outcome a
 
 -- what is left for this printer, which sentences name so, from this panel; where the first reading stopped nothing was drawn

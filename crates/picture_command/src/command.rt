@@ -8,7 +8,7 @@ ghost use Rattle.subcommands.specs.Status.{is_refusal, is_stop_of_read, is_stop_
 ghost use Rattle.streams.specs.Source.{SourceState};
 ghost use Rattle.job_picture.specs.JobPicture.{picture_rendering};
 ghost use Rattle.picture_command.specs.PageSearch.{search_rendering};
-ghost use Rattle.picture_command.specs.Picture.{Draws, HasNoEnd, IsErrorOfSearch, IsNamedBy, LeavesDrawn, LeavesPicture, Tells, TellsChange, change_line, is_missing, status_of, without_line_end};
+ghost use Rattle.picture_command.specs.Picture.{Draws, HasNoEnd, IsErrorOfSearch, IsNamedBy, LeavesDrawn, LeavesPicture, TellsOutcome, TellsChange, change_line, is_missing, status_of, without_line_end};
 
 use crate::named_printer::read_printer;
 use crate::page_search::{Names, PageSearch};
@@ -20,7 +20,7 @@ use std::alloc::{AllocError, Allocator};
 use subcommands::job_notes::kept_error;
 use subcommands::pin::refuse_choice;
 use subcommands::{
-    Group, KeptText, PanelSetting, ProfileTexts, Status, chosen_panel, push_named_first,
+    KeptText, PanelSetting, PrinterGroup, ProfileTexts, Status, chosen_panel, push_named_first,
 };
 
 /// What is asked of the command `picture`.
@@ -108,7 +108,7 @@ pub fn picture<S: Source, T: ProfileTexts, O: Outlet, E: Outlet, A: Allocator + 
         Err(choice) => return refuse_choice(alloc, &printer.profile, choice, stderr),
     };
     // Sentences take the names of a group alone.
-    let printers = Group::new(&[], &[], printer.names.as_slice(), false);
+    let printers = PrinterGroup::new(&[], &[], printer.names.as_slice(), false);
     let drawn = Drawn {
         profile: &printer.profile,
         panel,
@@ -177,7 +177,7 @@ fn find<S: Source, A: Allocator + Copy>(
 ) -> Result<Found<A>, Error>
     requires reading { IsFalse (S.state job.old).failed }
     requires allowed { IsAllowed drawn.now.profile.now drawn.now.panel }
-    ensures told { IfOk result (λ found. Tells
+    ensures told { IfOk result (λ found. TellsOutcome
         (search_rendering drawn.now.profile.now drawn.now.panel drawn.now.selection
         drawn.now.names.job.now drawn.now.names.printers.now)
         (S.state job.old) (S.state job.new) found.text.items found.outcome) }

@@ -19,7 +19,7 @@ use pcl_items::{Item, LexFault, Place};
 use preflight::{Culprit, Error, Judgement, Outcome, Outlet, Renderer, Verdict};
 use sinks::Counts;
 use std::alloc::{AllocError, Allocator};
-use subcommands::{Group, Report, push_job_sentence, push_named_first};
+use subcommands::{PrinterGroup, Report, push_job_sentence, push_named_first};
 use verdict::Failure;
 
 /// Whose pages are searched for, and for which printer: names for sentences.
@@ -27,7 +27,7 @@ use verdict::Failure;
 pub(crate) struct Names<'n, B: Allocator> {
     /// The name of the job.
     pub job: &'n [u8],
-    pub printers: &'n Group<'n, B>,
+    pub printers: &'n PrinterGroup<'n, B>,
 }
 
 // ---- calls of the machine

@@ -4,7 +4,7 @@
 ghost use Rattle.std.specs.Prelude.{◌≡◌, ◌≢◌, IsFalse, IsTrue};
 
 use page_env::Finding;
-use pcl_items::Cause;
+use pcl_items::LexCause;
 use preflight::{Outcome, Reason};
 
 /// Whether the second reading of the job came to the same as the first.
@@ -42,7 +42,7 @@ fn is_same_reason(a: Reason, b: Reason) -> bool
     }
 }
 
-fn is_same_cause(a: Cause, b: Cause) -> bool
+fn is_same_cause(a: LexCause, b: LexCause) -> bool
     ensures same { IsTrue result → a ≡ b }
     ensures other { IsFalse result → a ≢ b }
 {

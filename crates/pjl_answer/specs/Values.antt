@@ -9,7 +9,7 @@ use Rattle.printer_models.specs.declared.paper.Paper.{Paper}
 use Rattle.printer_models.specs.declared.paper.Paper.TheVariants as papers
 use Rattle.printer_models.specs.Paper.{every_paper}
 use Rattle.pjl_answer.specs.declared.variable.Variable.{Variable}
-use Rattle.pjl_answer.specs.declared.variable.Variable.TheVariants.{Paper as PaperVariable, Orientation, FormLines, FontSource, FontNumber, SymbolSet, Pitch, Copies, Duplex, Binding, ManualFeed, MpTray, LineTermination, AppendCrToLf, WideA4, EdgeToEdge, OverrideA4WithLetter, PanelLock, Personality, Memory}
+use Rattle.pjl_answer.specs.declared.variable.Variable.TheVariants as variables
 use Rattle.pjl_answer.specs.SetName.{set_named}
 
 -- a number, where it passes a test
@@ -75,23 +75,23 @@ is_first value = option_map_or (λ n. n == 0) (number_of value) false
 
 -- whether a value of a variable is one that is known; one that is told of in a warning alone may be any
 abbrev pub is_understood : Variable → List ℕ → Bool
-is_understood PaperVariable value = is_some (paper_of value)
-is_understood Orientation value = is_some (orientation_of value)
-is_understood FormLines value = is_some (form_lines_of value)
-is_understood FontSource value = is_internal value
-is_understood FontNumber value = is_first value
-is_understood SymbolSet value = is_some (set_named value)
-is_understood Pitch value = is_some (amount_of value)
-is_understood Copies value = is_some (copies_of value)
-is_understood Duplex value = is_some (is_on value)
-is_understood Binding value = is_some (binding_of value)
-is_understood ManualFeed value = is_some (is_on value)
-is_understood MpTray value = is_some (mp_trays_of value)
-is_understood LineTermination value = is_some (line_termination_of value)
-is_understood AppendCrToLf value = true
-is_understood WideA4 value = true
-is_understood EdgeToEdge value = true
-is_understood OverrideA4WithLetter value = true
-is_understood PanelLock value = true
-is_understood Personality value = true
-is_understood Memory value = true
+is_understood variables.Paper value = is_some (paper_of value)
+is_understood variables.Orientation value = is_some (orientation_of value)
+is_understood variables.FormLines value = is_some (form_lines_of value)
+is_understood variables.FontSource value = is_internal value
+is_understood variables.FontNumber value = is_first value
+is_understood variables.SymbolSet value = is_some (set_named value)
+is_understood variables.Pitch value = is_some (amount_of value)
+is_understood variables.Copies value = is_some (copies_of value)
+is_understood variables.Duplex value = is_some (is_on value)
+is_understood variables.Binding value = is_some (binding_of value)
+is_understood variables.ManualFeed value = is_some (is_on value)
+is_understood variables.MpTray value = is_some (mp_trays_of value)
+is_understood variables.LineTermination value = is_some (line_termination_of value)
+is_understood variables.AppendCrToLf value = true
+is_understood variables.WideA4 value = true
+is_understood variables.EdgeToEdge value = true
+is_understood variables.OverrideA4WithLetter value = true
+is_understood variables.PanelLock value = true
+is_understood variables.Personality value = true
+is_understood variables.Memory value = true

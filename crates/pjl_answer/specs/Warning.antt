@@ -8,8 +8,8 @@ use Rattle.device_profile.specs.declared.field.Field.TheVariants.{Size, Orientat
 use Rattle.device_profile.specs.Printer.{Printer}
 use Rattle.pjl_answer.specs.declared.variable.Variable.{Variable}
 use Rattle.pjl_answer.specs.declared.variable.Variable.TheVariants as variables
-use Rattle.pjl_answer.specs.declared.warning.Note.{Note}
-use Rattle.pjl_answer.specs.declared.warning.Note.TheVariants.{NotUnderstood, NotHeld, MeasureLines, WideA4, EdgeToEdge, A4WithLetter, AppendsReturn, UnknownSwitch, FreePanel, OtherLanguage, WholeMemory}
+use Rattle.pjl_answer.specs.declared.warning.PjlNote.{PjlNote}
+use Rattle.pjl_answer.specs.declared.warning.PjlNote.TheVariants as pjl_notes
 use Rattle.pjl_answer.specs.declared.warning.Warning.{Warning}
 use Rattle.pjl_answer.specs.Answer.{entry_of, is_given, value_of}
 use Rattle.pjl_answer.specs.Told.{every_field, is_vmi_rounded, told}
@@ -34,14 +34,14 @@ variables_of LineTerm = variables.LineTermination ∷ []
 abbrev pub is_wrong : List ℕ → Variable → Bool
 is_wrong answer variable = option_map_or (λ value. not (is_understood variable value)) (value_of answer variable) false
 
-abbrev pub warning : Variable → Note → Warning
+abbrev pub warning : Variable → PjlNote → Warning
 warning variable note = record { variable = variable; note = note }
 
 -- of a field's variables the first whose value is not known, else the first that is given
 abbrev pub blame : List ℕ → Field → Option Warning
 blame answer field =
-    option_or (option_map (λ variable. warning variable NotUnderstood) (find (is_wrong answer) (variables_of field)))
-    (option_map (λ variable. warning variable NotHeld) (find (is_given answer) (variables_of field)))
+    option_or (option_map (λ variable. warning variable pjl_notes.NotUnderstood) (find (is_wrong answer) (variables_of field)))
+    (option_map (λ variable. warning variable pjl_notes.NotHeld) (find (is_given answer) (variables_of field)))
 
 -- a field that is given, and not told
 abbrev pub field_warning : Printer → List ℕ → Field → Option Warning
@@ -49,24 +49,24 @@ field_warning printer answer field = if is_some (told printer answer field) then
 
 -- ---- of values
 
-abbrev pub note_if : Note → Bool → Option Note
+abbrev pub note_if : PjlNote → Bool → Option PjlNote
 note_if note holds = if holds then Some note else None
 
 -- a switch that is on, or neither on nor off
-abbrev pub switch_note : Note → List ℕ → Option Note
+abbrev pub switch_note : PjlNote → List ℕ → Option PjlNote
 switch_note note value =
-    if bytes_eq value (codes "YES") then Some note else note_if UnknownSwitch (not (bytes_eq value (codes "NO")))
+    if bytes_eq value (codes "YES") then Some note else note_if pjl_notes.UnknownSwitch (not (bytes_eq value (codes "NO")))
 
 -- THE TABLE OF VALUES that a user is warned of
-abbrev pub note_of : List ℕ → Variable → List ℕ → Option Note
-note_of answer variables.FormLines value = note_if MeasureLines (is_vmi_rounded answer)
-note_of answer variables.WideA4 value = switch_note WideA4 value
-note_of answer variables.EdgeToEdge value = switch_note EdgeToEdge value
-note_of answer variables.OverrideA4WithLetter value = switch_note A4WithLetter value
-note_of answer variables.AppendCrToLf value = switch_note AppendsReturn value
-note_of answer variables.PanelLock value = note_if FreePanel (bytes_eq value (codes "OFF") || bytes_eq value (codes "NONE"))
-note_of answer variables.Personality value = note_if OtherLanguage (not (bytes_eq value (codes "AUTO") || bytes_eq value (codes "PCL")))
-note_of answer variables.Memory value = Some WholeMemory
+abbrev pub note_of : List ℕ → Variable → List ℕ → Option PjlNote
+note_of answer variables.FormLines value = note_if pjl_notes.MeasureLines (is_vmi_rounded answer)
+note_of answer variables.WideA4 value = switch_note pjl_notes.WideA4 value
+note_of answer variables.EdgeToEdge value = switch_note pjl_notes.EdgeToEdge value
+note_of answer variables.OverrideA4WithLetter value = switch_note pjl_notes.A4WithLetter value
+note_of answer variables.AppendCrToLf value = switch_note pjl_notes.AppendsReturn value
+note_of answer variables.PanelLock value = note_if pjl_notes.FreePanel (bytes_eq value (codes "OFF") || bytes_eq value (codes "NONE"))
+note_of answer variables.Personality value = note_if pjl_notes.OtherLanguage (not (bytes_eq value (codes "AUTO") || bytes_eq value (codes "PCL")))
+note_of answer variables.Memory value = Some pjl_notes.WholeMemory
 note_of answer variables.Paper value = None
 note_of answer variables.Orientation value = None
 note_of answer variables.FontSource value = None
@@ -90,18 +90,18 @@ warnings printer answer =
 
 -- ---- in words
 
-abbrev pub note_words : Note → List ℕ
-note_words NotUnderstood = codes "not understood; the profile keeps its list"
-note_words NotHeld = codes "the profile has nothing that goes with it, or the answer lacks a line that it needs; it keeps its list"
-note_words MeasureLines = codes "the line spacing is reckoned from it; measure ten lines"
-note_words WideA4 = codes "the A4 pages have to be those of 80 columns"
-note_words EdgeToEdge = codes "the printable area is larger than the pages say"
-note_words A4WithLetter = codes "A4 may come out on letter paper, and letter on A4"
-note_words AppendsReturn = codes "CR is added to LF; no profile can say that"
-note_words UnknownSwitch = codes "not understood; see at the printer whether it is on"
-note_words FreePanel = codes "anyone can change the panel; each list promises that nobody does"
-note_words OtherLanguage = codes "the printer may not read a job as PCL"
-note_words WholeMemory = codes "bytes in all; what macros may take is not told"
+abbrev pub note_words : PjlNote → List ℕ
+note_words pjl_notes.NotUnderstood = codes "not understood; the profile keeps its list"
+note_words pjl_notes.NotHeld = codes "the profile has nothing that goes with it, or the answer lacks a line that it needs; it keeps its list"
+note_words pjl_notes.MeasureLines = codes "the line spacing is reckoned from it; measure ten lines"
+note_words pjl_notes.WideA4 = codes "the A4 pages have to be those of 80 columns"
+note_words pjl_notes.EdgeToEdge = codes "the printable area is larger than the pages say"
+note_words pjl_notes.A4WithLetter = codes "A4 may come out on letter paper, and letter on A4"
+note_words pjl_notes.AppendsReturn = codes "CR is added to LF; no profile can say that"
+note_words pjl_notes.UnknownSwitch = codes "not understood; see at the printer whether it is on"
+note_words pjl_notes.FreePanel = codes "anyone can change the panel; each list promises that nobody does"
+note_words pjl_notes.OtherLanguage = codes "the printer may not read a job as PCL"
+note_words pjl_notes.WholeMemory = codes "bytes in all; what macros may take is not told"
 
 -- of a value at most so many bytes are shown
 abbrev pub most_shown : ℕ

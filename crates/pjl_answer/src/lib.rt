@@ -22,4 +22,4 @@ pub use papers::asked_papers;
 pub use set_name::SetName;
 pub use told_values::{ToldValues, told};
 pub use variable::{VARIABLES, Variable};
-pub use warning::{Note, Warning, warnings};
+pub use warning::{PjlNote, Warning, warnings};

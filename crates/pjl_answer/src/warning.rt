@@ -14,7 +14,7 @@ use std::alloc::{AllocError, Allocator};
 
 /// What is to be known of a variable's value.
 #[derive(Clone, Copy, Debug, PartialEq, Eq)]
-pub enum Note {
+pub enum PjlNote {
     /// The value is not known, and the profile keeps its list.
     NotUnderstood,
     /// The profile has no pages, face, trays or sides that go with the value, or the answer does
@@ -44,11 +44,11 @@ pub enum Note {
 #[derive(Clone, Copy, Debug, PartialEq, Eq)]
 pub struct Warning {
     pub variable: Variable,
-    pub note: Note,
+    pub note: PjlNote,
 }
 
 impl Warning {
-    fn new(variable: Variable, note: Note) -> Warning
+    fn new(variable: Variable, note: PjlNote) -> Warning
         ensures { result ≡ warning variable note }
     {
         Warning { variable, note }
@@ -126,8 +126,8 @@ fn blame(answer: &[u8], field: Field) -> Option<Warning>
 {
     let variables = variables_of(field);
     match first_wrong(answer, variables) {
-        Some(variable) => Some(Warning::new(variable, Note::NotUnderstood)),
-        None => Some(Warning::new(first_given(answer, variables)?, Note::NotHeld)),
+        Some(variable) => Some(Warning::new(variable, PjlNote::NotUnderstood)),
+        None => Some(Warning::new(first_given(answer, variables)?, PjlNote::NotHeld)),
     }
 }
 
@@ -142,42 +142,42 @@ fn field_warning<A: Allocator>(base: &Profile<A>, answer: &[u8], field: Field) -
 }
 
 /// The note, where it holds.
-fn note_if(note: Note, holds: bool) -> Option<Note>
+fn note_if(note: PjlNote, holds: bool) -> Option<PjlNote>
     ensures { result ≡ note_if note holds }
 {
     if holds { Some(note) } else { None }
 }
 
 /// What is to be known of a switch that is on, or that is neither on nor off.
-fn switch_note(note: Note, value: &[u8]) -> Option<Note>
+fn switch_note(note: PjlNote, value: &[u8]) -> Option<PjlNote>
     ensures { result ≡ switch_note note value.now }
 {
     if value == b"YES".as_slice() {
         Some(note)
     } else {
-        note_if(Note::UnknownSwitch, value != b"NO".as_slice())
+        note_if(PjlNote::UnknownSwitch, value != b"NO".as_slice())
     }
 }
 
 /// What is to be known of a value.
-fn note_of(answer: &[u8], variable: Variable, value: &[u8]) -> Option<Note>
+fn note_of(answer: &[u8], variable: Variable, value: &[u8]) -> Option<PjlNote>
     ensures { result ≡ note_of answer.now variable value.now }
 {
     match variable {
-        Variable::FormLines => note_if(Note::MeasureLines, is_vmi_rounded(answer)),
-        Variable::WideA4 => switch_note(Note::WideA4, value),
-        Variable::EdgeToEdge => switch_note(Note::EdgeToEdge, value),
-        Variable::OverrideA4WithLetter => switch_note(Note::A4WithLetter, value),
-        Variable::AppendCrToLf => switch_note(Note::AppendsReturn, value),
+        Variable::FormLines => note_if(PjlNote::MeasureLines, is_vmi_rounded(answer)),
+        Variable::WideA4 => switch_note(PjlNote::WideA4, value),
+        Variable::EdgeToEdge => switch_note(PjlNote::EdgeToEdge, value),
+        Variable::OverrideA4WithLetter => switch_note(PjlNote::A4WithLetter, value),
+        Variable::AppendCrToLf => switch_note(PjlNote::AppendsReturn, value),
         Variable::PanelLock => note_if(
-            Note::FreePanel,
+            PjlNote::FreePanel,
             value == b"OFF".as_slice() || value == b"NONE".as_slice(),
         ),
         Variable::Personality => note_if(
-            Note::OtherLanguage,
+            PjlNote::OtherLanguage,
             !(value == b"AUTO".as_slice() || value == b"PCL".as_slice()),
         ),
-        Variable::Memory => Some(Note::WholeMemory),
+        Variable::Memory => Some(PjlNote::WholeMemory),
         Variable::Paper
         | Variable::Orientation
         | Variable::FontSource

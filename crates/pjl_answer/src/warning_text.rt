@@ -3,31 +3,31 @@ ghost use Rattle.std.specs.Prelude.{◌≡◌, ◌++◌, OnOk};
 ghost use Rattle.pjl_answer.specs.Warning.{note_words, shown_value, warning_at, warning_line, warning_lines, warning_words};
 
 use crate::entry::entry_of;
-use crate::warning::{Note, Warning};
+use crate::warning::{PjlNote, Warning};
 use itoa::Buffer;
 use shown_bytes::push_shown;
 use std::alloc::{AllocError, Allocator};
 
-impl Note {
+impl PjlNote {
     /// The note in words.
     fn words(self) -> &'static str
         ensures { result.now ≡ note_words self }
     {
         match self {
-            Note::NotUnderstood => "not understood; the profile keeps its list",
-            Note::NotHeld =>
+            PjlNote::NotUnderstood => "not understood; the profile keeps its list",
+            PjlNote::NotHeld =>
                 "the profile has nothing that goes with it, or the answer lacks a line that it needs; it keeps its list",
-            Note::MeasureLines => "the line spacing is reckoned from it; measure ten lines",
-            Note::WideA4 => "the A4 pages have to be those of 80 columns",
-            Note::EdgeToEdge => "the printable area is larger than the pages say",
-            Note::A4WithLetter => "A4 may come out on letter paper, and letter on A4",
-            Note::AppendsReturn => "CR is added to LF; no profile can say that",
-            Note::UnknownSwitch => "not understood; see at the printer whether it is on",
-            Note::FreePanel => {
+            PjlNote::MeasureLines => "the line spacing is reckoned from it; measure ten lines",
+            PjlNote::WideA4 => "the A4 pages have to be those of 80 columns",
+            PjlNote::EdgeToEdge => "the printable area is larger than the pages say",
+            PjlNote::A4WithLetter => "A4 may come out on letter paper, and letter on A4",
+            PjlNote::AppendsReturn => "CR is added to LF; no profile can say that",
+            PjlNote::UnknownSwitch => "not understood; see at the printer whether it is on",
+            PjlNote::FreePanel => {
                 "anyone can change the panel; each list promises that nobody does"
             }
-            Note::OtherLanguage => "the printer may not read a job as PCL",
-            Note::WholeMemory => "bytes in all; what macros may take is not told",
+            PjlNote::OtherLanguage => "the printer may not read a job as PCL",
+            PjlNote::WholeMemory => "bytes in all; what macros may take is not told",
         }
     }
 }

@@ -1,7 +1,7 @@
 -- A Pass tells that the end was read: bytes that may go on may go on, or end, with a fault.
 use Rattle.std.proofs.Common.{◌≡◌, ℕ, zero, suc, ◌+◌, ◌<◌, List, [], ◌∷◌, ◌++◌, drop, true, false, Option, None, Some, refl, ap, sym, ◌∙◌, subst, append-nil, arith, inl, inr}
-use Rattle.pcl_items.specs.declared.fault.Cause.{Cause}
-use Rattle.pcl_items.specs.declared.fault.Cause.TheVariants.{NotInProfile}
+use Rattle.pcl_items.specs.declared.fault.LexCause.{LexCause}
+use Rattle.pcl_items.specs.declared.fault.LexCause.TheVariants.{NotInProfile}
 use Rattle.pcl_items.specs.declared.fault.Name.TheVariants as names
 use Rattle.pcl_items.specs.Lexing.Contexts.{Context, Pcl, item_place}
 use Rattle.pcl_items.specs.Items.{Placed, at}
@@ -60,11 +60,11 @@ read_up_to (suc n) c p bytes h =
     step_on c p bytes (first_of false c bytes) refl (λ next len less. read_up_to n next (p + len) (drop len bytes) (omega (arith, less, h)))
 
 -- a reading that stops is passed by no fleet
-fail_by : (wrong : Option Wrong) (items : List Placed) (place : ℕ) (cause : Cause) (events : List Event) (pages marks : ℕ) → Pass pages marks ≡ verdict_by wrong (Stopped items place cause) events → ⊥
+fail_by : (wrong : Option Wrong) (items : List Placed) (place : ℕ) (cause : LexCause) (events : List Event) (pages marks : ℕ) → Pass pages marks ≡ verdict_by wrong (Stopped items place cause) events → ⊥
 fail_by (Some w) items place cause events pages marks e = absurd cc
 fail_by None items place cause events pages marks e = absurd cc
 
-stopped_fails : (fleet : List Printer) (items : List Placed) (place : ℕ) (cause : Cause) (pages marks : ℕ) → Pass pages marks ≡ verdict_of fleet (Stopped items place cause) → ⊥
+stopped_fails : (fleet : List Printer) (items : List Placed) (place : ℕ) (cause : LexCause) (pages marks : ℕ) → Pass pages marks ≡ verdict_of fleet (Stopped items place cause) → ⊥
 stopped_fails fleet items place cause pages marks e =
     let runs = runs_of fleet (Stopped items place cause) in
     fail_by (first_wrong runs) items place cause (events_of (first_run runs)) pages marks e
@@ -74,7 +74,7 @@ module _ (fleet : List Printer) (bytes : List ℕ) (pages marks : ℕ) (one : (j
   so_far = read_up_to (suc (left Pcl bytes)) Pcl 0 bytes (omega arith)
 
   -- with these bytes behind them no fault stands there
-  no_fault : (more : List ℕ) (cause : Cause) → IsFault true (first_of true so_far.context (so_far.rest ++ more)) so_far.context (so_far.rest ++ more) cause → ⊥
+  no_fault : (more : List ℕ) (cause : LexCause) → IsFault true (first_of true so_far.context (so_far.rest ++ more)) so_far.context (so_far.rest ++ more) cause → ⊥
   no_fault more cause fault =
       let job : List ℕ = bytes ++ more in
       let reading : Reading = Stopped so_far.items (item_place so_far.context so_far.place) cause in
@@ -83,12 +83,12 @@ module _ (fleet : List Printer) (bytes : List ℕ) (pages marks : ℕ) (one : (j
       let same : exact.0 ≡ reading = (one job).only exact.0 exact.1 ∙ sym ((one job).only reading stops) in
       stopped_fails fleet so_far.items (item_place so_far.context so_far.place) cause pages marks (exact.2 ∙ ap (verdict_of fleet) same)
 
-  faulty_fails : (cause : Cause) → first_of false so_far.context so_far.rest ≡ Faulty cause → ⊥
+  faulty_fails : (cause : LexCause) → first_of false so_far.context so_far.rest ≡ Faulty cause → ⊥
   faulty_fails cause e =
       let stays : first_of true so_far.context (so_far.rest ++ []) ≡ Faulty cause = stays_decided so_far.context so_far.rest true [] (λ o. let both : Open ≡ Faulty cause = sym o ∙ e in absurd cc) ∙ e in
       no_fault [] cause (subst (λ (f : First). IsFault true f so_far.context (so_far.rest ++ []) cause) (sym stays) refl)
 
-  end_fails : (o : Option Cause) → end_cause so_far.context so_far.rest ≡ o → first_of true so_far.context so_far.rest ≡ Open → ⊥
+  end_fails : (o : Option LexCause) → end_cause so_far.context so_far.rest ≡ o → first_of true so_far.context so_far.rest ≡ Open → ⊥
   end_fails (Some cause) at_end e =
       let ends = subst (λ (f : First). IsFault true f so_far.context so_far.rest cause) (sym e) at_end in
       no_fault [] cause (subst (λ (l : List ℕ). IsFault true (first_of true so_far.context l) so_far.context l cause) (sym (append-nil so_far.rest)) ends)

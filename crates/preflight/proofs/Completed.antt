@@ -20,9 +20,9 @@ use Rattle.pcl_items.specs.Items.{Entry}
 use Rattle.pcl_items.specs.Frames.Kinds.{kind_of, capital}
 use Rattle.pcl_items.specs.PjlLines.First as lines
 use Rattle.pcl_items.specs.PjlLines.Text.{Bare, Remark, JobBegins, JobEnds, EnterPcl}
-use Rattle.pcl_items.specs.Escapes.Lone.{leave_at}
+use Rattle.pcl_items.specs.Escapes.Ungrouped.{leave_at}
 use Rattle.pcl_items.specs.Frames.Mnemonics.{mnemonic_at}
-use Rattle.pcl_items.specs.Reader.{First, Open, Passes, Begins, Faulty, is_termination, between_units, by_line, first_of}
+use Rattle.pcl_items.specs.Reader.{First, Open, Passes, Begins, Faulty, is_termination, between_units, by_pjl, first_of}
 use Rattle.pcl_items.specs.Escapes.Value.{Amount}
 use Rattle.pcl_items.proofs.Frames.Opening.{ended_open}
 use Rattle.pcl_items.proofs.Lexing.Spans.{IsNumeralSpan, numeral-span, begins-taken, pcl_item, pcl_item_in}
@@ -112,7 +112,7 @@ unfolding at_frame
 frame_last [] = tt
 frame_last (b ∷ bytes) = kind_last (kind_of b) b bytes
 
-line_last : (f : lines.FirstLine) → IsLast (by_line f)
+line_last : (f : lines.FirstPjl) → IsLast (by_pjl f)
 line_last lines.Open = tt
 line_last (lines.Begins Bare len) = refl
 line_last (lines.Begins (Remark text) len) = refl
@@ -130,7 +130,7 @@ pcl_last (Faulty cause) b bytes e = tt
 pjl_last : (bytes : List ℕ) → IsLast (first_of true Pjl bytes)
 unfolding first_of
 pjl_last [] = tt
-pjl_last (b ∷ bytes) = cond_both (b == 64) _ _ IsLast (λ _. line_last (lines.at_line (b ∷ bytes))) (λ _. pcl_last (between_units b bytes) b bytes refl)
+pjl_last (b ∷ bytes) = cond_both (b == 64) _ _ IsLast (λ _. line_last (lines.at_pjl (b ∷ bytes))) (λ _. pcl_last (between_units b bytes) b bytes refl)
 
 -- ---- behind the letters of a command
 

@@ -10,7 +10,7 @@ use Rattle.preflight.specs.declared.error.Error.TheVariants.{Memory, Read, Write
 use Rattle.streams.specs.Pieces.{ByReads, MayBeBy, Spell}
 use Rattle.streams.specs.Source.{SourceState}
 use Rattle.preflight.specs.Carriers.Driving.{ComesByEnd, ComesByPiece, IsAnswered, IsErrorOfPiece, IsStopped, IsUnderWay, StopsBy}
-use Rattle.streams.proofs.OutletLemmas.{concat_more}
+use Rattle.streams.proofs.OutletFacts.{concat_more}
 use Rattle.streams.proofs.Pieces.{all_read, at_front, at_job, by_length, given_more, spell_none, spell_more}
 
 -- an error of what takes the pieces stops it there

@@ -1,5 +1,5 @@
 -- What the machines of a fleet did, one after another.
-use Rattle.std.proofs.Common.{◌≡◌, ◌≢◌, ◌↔◌, IsFalse, inl, inr, ◌+◌, ◌<◌, ◌≤◌, ℕ, zero, suc, Bool, true, false, List, [], ◌∷◌, ◌++◌, length, take, drop, set, get_or, Option, None, Some, Result, Err, refl, ap, sym, ◌∙◌, subst, append_assoc, append-nil, arith}
+use Rattle.std.proofs.Common.{◌≡◌, ◌≢◌, ◌↔◌, IsFalse, inl, inr, ◌+◌, ◌<◌, ◌≤◌, ℕ, zero, suc, Bool, true, false, List, [], ◌∷◌, ◌++◌, length, take, drop, set, get_or, Option, None, Some, Result, Ok, Err, IfErr, refl, ap, sym, ◌∙◌, subst, append_assoc, append-nil, arith}
 use Rattle.std.specs.Option.{option_or}
 use Rattle.std.specs.Bool.{then_some}
 use Rattle.std.specs.List.{AllByRecursion}
@@ -20,19 +20,64 @@ use Rattle.verdict.specs.declared.reason.Reason.TheVariants as reasons
 use Rattle.sinks.specs.Counts.{counts_after}
 use Rattle.sinks.specs.Recorder.{Recorded, recorded_all}
 use Rattle.sinks.proofs.Recording.{recorder_takes, TakesAll-recorded}
+use Rattle.preflight.specs.Standing.{StandsAfter, StandsBy, found_at, is_open}
+use Rattle.preflight.specs.declared.standing.Standing.{Standing}
 use Rattle.preflight.specs.Carriers.Each.{Each}
 use Rattle.preflight.specs.Carriers.Lockstep.{Action, carrying_of, is_last, Does, IsDone, Finds, FoundFrom, DiffersFrom, WrongFrom, IsWrong, Compared, GoesInStep}
+use Rattle.preflight.proofs.Counting.{counter_takes, counter_refuses, TakesAll-counts}
+use Rattle.preflight.proofs.Standings.{failed_by, open_by, refused_by}
 
 -- ---- one machine
 
-module _ {S : Type 0} (takes : S → Event → S → Type 0) (action : Action) (sink sink' : S) (machine machine' : MachineState) where
-  pub does_of : machine' ≡ record machine { page = machine'.page; macros = (carrying_of machine action).macros; mode = (carrying_of machine action).mode; stopped = is_last action } → (took : TakesUpTo takes sink sink' (carrying_of machine action).run (λ panel. just [] (Done (state_at panel machine'.page)))) → Does action took.events machine machine'
-  does_of is took = record { is = is; peaks = took.peaks; run = took.is }
+does_of : {S : Type 0} (takes : S → Event → S → Type 0) (action : Action) (sink sink' : S) (machine machine' : MachineState) → machine' ≡ record machine { page = machine'.page; macros = (carrying_of machine action).macros; mode = (carrying_of machine action).mode; stopped = is_last action } → (took : TakesUpTo takes sink sink' (carrying_of machine action).run (λ panel. just [] (Done (state_at panel machine'.page)))) → Does action took.events machine machine'
+does_of takes action sink sink' machine machine' is took = record { is = is; peaks = took.peaks; run = took.is }
 
-  pub finds_of : {F : Type 0} (refuses : S → Event → S → Type 0) (result : Result Unit (Stop F)) (finding : Finding) → result ≡ Err (stops.Found finding) → CarriesOn takes refuses (carrying_of machine action) (is_last action) sink sink' machine machine' result → Finds action finding machine
-  finds_of refuses result finding is carries =
-      let h = subst (λ r. CarriesOn takes refuses (carrying_of machine action) (is_last action) sink sink' machine machine' r) is carries in
-      record { events = h.2.events; peaks = h.2.peaks; run = h.2.is }
+-- what a machine that was running answered, and how the check stands behind it
+module _ {S F : Type 0} (takes refuses : S → Event → S → Type 0) (action : Action) (sink sink' : S) (machine machine' : MachineState) where
+  abbrev pub Answers : Result Unit (Stop F) → Type 0
+  Answers answer = CarriesOn takes refuses (carrying_of machine action) (is_last action) sink sink' machine machine' answer
+
+  -- it says not that it had stopped before
+  pub was_running : (answer : Result Unit (Stop F)) → machine.stopped ≡ false → Answers answer → IfErr answer (λ stop. stop ≢ stops.Stopped)
+  was_running (Ok done) running h = tt
+  was_running (Err (stops.Found finding)) running h = λ is. absurd cc
+  was_running (Err (stops.Refused fault)) running h = λ is. absurd cc
+  was_running (Err (stops.Memory error)) running h = λ is. absurd cc
+  was_running (Err stops.Stopped) running h = let both : true ≡ false = sym h.0 ∙ running in absurd cc
+
+  -- where the check is open, it executed the action
+  pub does_by : (place number : ℕ) (answer : Result Unit (Stop F)) (standing : Standing) → StandsAfter place number answer standing → is_open standing ≡ true → Answers answer → (events : List Event) × Does action events machine machine' × TakesAll takes sink events sink'
+  does_by place number (Ok done) standing stands is h = (h.2.events, does_of takes action sink sink' machine machine' h.1 h.2, h.2.leads)
+  does_by place number (Err (stops.Found finding)) standing stands is h = let both : false ≡ true = sym (ap is_open stands) ∙ is in absurd cc
+  does_by place number (Err (stops.Refused fault)) standing stands is h = let both : false ≡ true = sym (ap is_open stands) ∙ is in absurd cc
+  does_by place number (Err (stops.Memory error)) standing stands is h = let both : false ≡ true = sym (ap is_open stands) ∙ is in absurd cc
+  does_by place number (Err stops.Stopped) standing stands is h = absurd stands
+
+  -- where it is not, it has a finding, or memory was refused
+  pub fails_by : (P : Option Failure → Type 0) (place number : ℕ) (answer : Result Unit (Stop F)) (standing : Standing) → StandsAfter place number answer standing → is_open standing ≡ false → Answers answer
+      → ((finding : Finding) → Finds action finding machine → P (Some (found_at place number finding))) → StandsBy standing P
+  fails_by P place number (Ok done) standing stands is h wrong = let both : true ≡ false = sym (ap is_open stands) ∙ is in absurd cc
+  fails_by P place number (Err (stops.Found finding)) standing stands is h wrong =
+      failed_by P standing (found_at place number finding) stands (wrong finding record { events = h.2.events; peaks = h.2.peaks; run = h.2.is })
+  fails_by P place number (Err (stops.Refused fault)) standing stands is h wrong = refused_by P standing stands
+  fails_by P place number (Err (stops.Memory error)) standing stands is h wrong = refused_by P standing stands
+  fails_by P place number (Err stops.Stopped) standing stands is h wrong = absurd stands
+
+-- a machine that is alone
+module _ (action : Action) (place : ℕ) (counts counts' : Counts) (machine machine' : MachineState) where
+  abbrev came : Option Failure → Type 0
+  came failed = GoesInStep action place (machine ∷ []) (machine' ∷ []) counts counts' failed
+
+  pub alone_in_step : {F : Type 0} (answer : Result Unit (Stop F)) (standing : Standing) → StandsAfter place 1 answer standing
+      → CarriesOn counter_takes counter_refuses (carrying_of machine action) (is_last action) counts counts' machine machine' answer
+      → StandsBy standing (λ failed. GoesInStep action place (machine ∷ []) (machine' ∷ []) counts counts' failed)
+  alone_in_step (Ok done) standing stands h =
+      open_by came standing stands (h.2.events, (does_of counter_takes action counts counts' machine machine' h.1 h.2, tt), TakesAll-counts counts counts' h.2.events h.2.leads)
+  alone_in_step (Err (stops.Found finding)) standing stands h =
+      failed_by came standing (found_at place 1 finding) stands (refl, inl (refl, record { events = h.2.events; peaks = h.2.peaks; run = h.2.is }))
+  alone_in_step (Err (stops.Refused fault)) standing stands h = refused_by came standing stands
+  alone_in_step (Err (stops.Memory error)) standing stands h = refused_by came standing stands
+  alone_in_step (Err stops.Stopped) standing stands h = absurd stands
 
 pub done_of : (action : Action) (events : List Event) (machine machine' : MachineState) → Does action events machine machine' → IsDone action machine
 done_of action events machine machine' does = record { events = events; emits = record { new = machine'; does = does } }

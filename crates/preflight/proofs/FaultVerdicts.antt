@@ -2,7 +2,7 @@
 use Rattle.std.proofs.Common.{◌≡◌, ℕ, ◌+◌, Bool, true, false, List, [], ◌∷◌, ◌++◌, Option, None, Some, refl, subst}
 use Rattle.std.specs.Prelude.{nat_le, if◌then◌else◌}
 use Rattle.std.specs.List.{AllByRecursion}
-use Rattle.pcl_items.specs.declared.fault.Cause.{Cause}
+use Rattle.pcl_items.specs.declared.fault.LexCause.{LexCause}
 use Rattle.pcl_items.specs.Reading.{Reading, Whole, Stopped, items_of}
 use Rattle.device_profile.specs.Printer.{Printer}
 use Rattle.page_env.specs.declared.finding.Finding.{Finding}
@@ -69,7 +69,7 @@ soonest_is (v ∷ ws) h w e = by (soonest ws) (soonest_is ws h.1) e
     by (Some u) k e = either u (nat_le v.before u.before) (k u refl) e
 
 -- such a verdict comes where nothing is wrong in the runs
-stops_by : (o : Option Wrong) (reading : Reading) (events : List Event) (place : ℕ) (cause : Cause) → ((w : Wrong) → o ≡ Some w → IsOfRuns w.reason) → Fail place 0 (FaultOfBytes cause) ≡ verdict_by o reading events → reading ≡ Stopped (items_of reading) place cause
+stops_by : (o : Option Wrong) (reading : Reading) (events : List Event) (place : ℕ) (cause : LexCause) → ((w : Wrong) → o ≡ Some w → IsOfRuns w.reason) → Fail place 0 (FaultOfBytes cause) ≡ verdict_by o reading events → reading ≡ Stopped (items_of reading) place cause
 stops_by (Some w) reading events place cause h e =
     let reason : w.reason ≡ FaultOfBytes cause = cc in absurd (subst IsOfRuns reason (h w refl))
 stops_by None (Stopped items stop found) events place cause h e =
@@ -78,7 +78,7 @@ stops_by None (Stopped items stop found) events place cause h e =
     λ i. Stopped items (at i) (is i)
 stops_by None (Whole items stop) events place cause h e = absurd cc
 
-pub stops_there : (fleet : List Printer) (reading : Reading) (place : ℕ) (cause : Cause) → Fail place 0 (FaultOfBytes cause) ≡ verdict_of fleet reading → reading ≡ Stopped (items_of reading) place cause
+pub stops_there : (fleet : List Printer) (reading : Reading) (place : ℕ) (cause : LexCause) → Fail place 0 (FaultOfBytes cause) ≡ verdict_of fleet reading → reading ≡ Stopped (items_of reading) place cause
 stops_there fleet reading place cause e =
     let runs = runs_of fleet reading in
     stops_by (first_wrong runs) reading (events_of (first_run runs)) place cause (soonest_is (all_wrong runs) (all_are runs)) e

@@ -11,9 +11,9 @@ use Rattle.pcl_items.specs.declared.pcl.command.Command.TheVariants.{Orientation
 use Rattle.pcl_items.specs.declared.item.Mode.{Mode}
 use Rattle.pcl_items.specs.declared.item.Mode.TheVariants.{Pcl, Frame, Pjl}
 use Rattle.pcl_items.specs.Spellings.Canon.{canon, IsItem}
-use Rattle.pcl_items.specs.Grammar.{MayEnd, follows, behind_line}
+use Rattle.pcl_items.specs.Grammar.{MayEnd, follows, behind_pjl}
 use Rattle.pcl_items.specs.Items.{Entry, Placed, Reset, ExitLanguage, PjlLine, Parameterized, Text}
-use Rattle.pcl_items.specs.PjlLines.Text.{Line, EnterPcl, at_sign}
+use Rattle.pcl_items.specs.PjlLines.Text.{PjlCommand, EnterPcl, at_sign}
 use Rattle.pcl_items.specs.Modes.{between, mode_of}
 use Rattle.pcl_items.specs.Reading.{Whole, IsReading}
 use Rattle.pcl_items.specs.Spellings.Spelled.{AreAdmitted, none, some, entries, mode_after, mode_behind, spelled}
@@ -74,7 +74,7 @@ prologue_then Pjl out item next needs e = e
 outside : (mode next : Mode) → MayEnd mode → Some mode ≡ Some next → MayEnd next
 outside mode next out e = let same : mode ≡ next = cc in subst MayEnd same out
 
-line_outside : (line : Line) → MayEnd (behind_line line)
+line_outside : (line : PjlCommand) → MayEnd (behind_pjl line)
 line_outside EnterPcl = tt
 line_outside _ = tt
 
@@ -92,7 +92,7 @@ due_outside Frame next due ExitLanguage e d = outside Pjl next tt e
 due_outside Pjl next due ExitLanguage e d = outside Pjl next tt e
 due_outside Pcl next due (PjlLine line) e d = absurd cc
 due_outside Frame next due (PjlLine line) e d = absurd cc
-due_outside Pjl next due (PjlLine line) e d = outside (behind_line line) next (line_outside line) e
+due_outside Pjl next due (PjlLine line) e d = outside (behind_pjl line) next (line_outside line) e
 due_outside mode next due item e d = absurd (never_due due d)
 
 -- ---- the items

@@ -16,7 +16,7 @@ use Rattle.pcl_items.specs.Frames.CommandParts.{Numbers, Single, Odd, Even}
 use Rattle.pcl_items.specs.Faults as rules
 use Rattle.pcl_items.specs.Frames.Faults as frames
 use Rattle.pcl_items.specs.Frames.Grammar.{Start, Part, Word, Number, IsBegun, letters, letters_space, setting, coordinate, behind_pair, further_coordinate, space, comma, IsWhole, without_number, with_number, EndsPair, second_coordinate, IsCommand, without_pairs, pair, behind_pairs, IsFrameUnit, separator, command, ended_command, LeavesFrame, reset, leave_frame}
-use Rattle.pcl_items.specs.Grammar.{Commands, last, with_data, more, IsLone, symbol_set, default_font, leave_frame as leaves_lone, enter_frame, IsUnit, text_byte, control_code, two_characters, lone, combined, in_frame, out_of_frame, exit, line, otherwise, SpellsTo, here, next, follows}
+use Rattle.pcl_items.specs.Grammar.{Commands, last, with_data, more, IsUngrouped, symbol_set, default_font, leave_frame as leaves_ungrouped, enter_frame, IsUnit, text_byte, control_code, two_characters, ungrouped, combined, in_frame, out_of_frame, exit, line, otherwise, SpellsTo, here, next, follows}
 use Rattle.pcl_items.specs.Items.{Entry, Placed, bare}
 use Rattle.pcl_items.specs.Frames.NumberText.{IsCoordinate}
 use Rattle.pcl_items.specs.Reading.{Reading, Whole, Stopped, IsReading, items_of, reading_of}
@@ -60,11 +60,11 @@ commands_known (last c field) = (field.limited, tt)
 commands_known (with_data c field counts) = (counts.limited, tt)
 commands_known (more c field others) = (field.limited, commands_known others)
 
-lone_known : {introducer letter : ℕ} {text : List ℕ} {item : Entry} {mode : Mode} (amount : _) → IsField text amount → IsLone introducer amount letter item mode → IsItem item
-lone_known amount field (symbol_set known) = (field.limited, known)
-lone_known amount field (default_font three sign) = tt
-lone_known amount field (leaves_lone hands) = tt
-lone_known amount field (enter_frame hands) = tt
+ungrouped_known : {introducer letter : ℕ} {text : List ℕ} {item : Entry} {mode : Mode} (amount : _) → IsField text amount → IsUngrouped introducer amount letter item mode → IsItem item
+ungrouped_known amount field (symbol_set known) = (field.limited, known)
+ungrouped_known amount field (default_font three sign) = tt
+ungrouped_known amount field (leaves_ungrouped hands) = tt
+ungrouped_known amount field (enter_frame hands) = tt
 
 -- ---- frames
 
@@ -130,7 +130,7 @@ unit_known : {mode mode1 : Mode} {place : ℕ} {text rest : List ℕ} {items : L
 unit_known (text_byte printing) = (printing, tt)
 unit_known (control_code {code = code} {item = item} e) = (control_known code item e, tt)
 unit_known (two_characters {character = character} {item = item} e) = (sequence_known character item e, tt)
-unit_known (lone {amount = amount} field is) = (lone_known amount field is, tt)
+unit_known (ungrouped {amount = amount} field is) = (ungrouped_known amount field is, tt)
 unit_known (combined h) = let all = commands_known h in (all.0, all.1)
 unit_known (in_frame h) = frame_known h
 unit_known (out_of_frame h) = leaving_known h

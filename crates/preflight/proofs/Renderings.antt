@@ -23,7 +23,7 @@ use Rattle.streams.specs.Outlet.{OutletState, Adds, AddsFront}
 use Rattle.preflight.specs.Texts.{reading_outcome, list_text}
 use Rattle.line_words.specs.ItemLines.{item_line, fault_line}
 use Rattle.preflight.specs.Carriers.Rendering.{RendersItem, StaysIn, MayCome, RenderedTo, Puts, RestGoesOn, BeginsWith, StartsWith, Ended, behind, HasRendered, HasEnded, IsFrontFor}
-use Rattle.streams.proofs.OutletLemmas.{Adds-none, Adds-trans}
+use Rattle.streams.proofs.OutletFacts.{Adds-none, Adds-trans}
 
 -- ---- what was put
 

@@ -1,7 +1,7 @@
 -- Bytes that decide no further item and no fault leave the verdict open: they go on in two ways.
 use Rattle.std.proofs.Common.{◌≡◌, ◌+◌, ◌≤◌, ◌<◌, ℕ, Bool, true, false, List, Option, None, Some, [], ◌∷◌, ◌++◌, refl, ap, sym, ◌∙◌, subst, append-nil, arith}
-use Rattle.pcl_items.specs.declared.fault.Cause.{Cause}
-use Rattle.pcl_items.specs.declared.fault.Cause.TheVariants.{NotInProfile}
+use Rattle.pcl_items.specs.declared.fault.LexCause.{LexCause}
+use Rattle.pcl_items.specs.declared.fault.LexCause.TheVariants.{NotInProfile}
 use Rattle.pcl_items.specs.declared.fault.Name.TheVariants as names
 use Rattle.pcl_items.specs.Lexing.Contexts.{Context, Pcl, Sequence, Frame, Letters, Numbered, Pjl, Single, Odd, Even, counted, item_place, MayEndAt}
 use Rattle.pcl_items.specs.Items.{Entry, Placed}
@@ -51,7 +51,7 @@ counted_back (Numbered (Even motion) gap n) q = omega arith
 counted_back Pjl q = omega arith
 
 -- where an item begins that takes more bytes than are counted behind it, the bytes do not stop
-no_stop : (bytes : List ℕ) (items more_items : List Placed) (c : Context) (place : ℕ) (rest : List ℕ) (entry : Entry) (len : ℕ) (next : Context) (cause : Cause) → item_place c place + counted next < place + len → ReadsTo true Pcl 0 bytes items c place rest → first_of true c rest ≡ Begins entry len next → IsReadFrom Pcl 0 bytes (Stopped more_items (item_place c place) cause) → ⊥
+no_stop : (bytes : List ℕ) (items more_items : List Placed) (c : Context) (place : ℕ) (rest : List ℕ) (entry : Entry) (len : ℕ) (next : Context) (cause : LexCause) → item_place c place + counted next < place + len → ReadsTo true Pcl 0 bytes items c place rest → first_of true c rest ≡ Begins entry len next → IsReadFrom Pcl 0 bytes (Stopped more_items (item_place c place) cause) → ⊥
 no_stop bytes items more_items c place rest entry len next cause takes reads e stops =
     let front = ReadsTo-append reads (begins entry len next e here) in
     let behind = behind_front front stops.reads (fault_last stops.last stops.rest cause stops.fault) in
@@ -65,7 +65,7 @@ one_verdict fleet job a b first second =
     let one : HasOneReading job = one_reading job in
     first.2 ∙ ap (verdict_of fleet) (one.only first.0 first.1 ∙ sym (one.only second.0 second.1)) ∙ sym second.2
 
-one_cause : (place : ℕ) (a b : Cause) → Fail place 0 (FaultOfBytes a) ≡ Fail place 0 (FaultOfBytes b) → a ≡ b
+one_cause : (place : ℕ) (a b : LexCause) → Fail place 0 (FaultOfBytes a) ≡ Fail place 0 (FaultOfBytes b) → a ≡ b
 one_cause place a b e = cc
 
 one_byte : (a b : ℕ) → NotInProfile (names.Byte a) ≡ NotInProfile (names.Byte b) → a ≡ b
@@ -91,7 +91,7 @@ byte_1 (Letters m n) ends = absurd ends
 byte_1 (Numbered x gap n) ends = absurd ends
 
 -- behind whole items
-pub behind_whole : (c : Context) (rest more : List ℕ) (cause : Cause) → rest ≡ [] → IsFault true (first_of true c more) c more cause → IsFault true (first_of true c (rest ++ more)) c (rest ++ more) cause
+pub behind_whole : (c : Context) (rest more : List ℕ) (cause : LexCause) → rest ≡ [] → IsFault true (first_of true c more) c more cause → IsFault true (first_of true c (rest ++ more)) c (rest ++ more) cause
 behind_whole c rest more cause f h = subst (λ (l : List ℕ). IsFault true (first_of true c (l ++ more)) c (l ++ more) cause) (sym f) h
 
 module _ (fleet : List Printer) (bytes : List ℕ) (lexer : LexerState) (machines : List MachineState) (counts : Counts) (executed : HasExecuted fleet bytes lexer machines counts) (goes_on : lexer.ended ≡ false) where
@@ -99,7 +99,7 @@ module _ (fleet : List Printer) (bytes : List ℕ) (lexer : LexerState) (machine
   place_here = item_place lexer.context lexer.place
 
   -- the bytes, and behind them these, which make a fault
-  fault_behind : (more : List ℕ) (cause : Cause) → IsFault true (first_of true lexer.context (lexer.rest ++ more)) lexer.context (lexer.rest ++ more) cause → IsFirst fleet (bytes ++ more) (Fail place_here 0 (FaultOfBytes cause))
+  fault_behind : (more : List ℕ) (cause : LexCause) → IsFault true (first_of true lexer.context (lexer.rest ++ more)) lexer.context (lexer.rest ++ more) cause → IsFirst fleet (bytes ++ more) (Fail place_here 0 (FaultOfBytes cause))
   fault_behind more cause fault =
       let all : List ℕ = bytes ++ more in
       let behind : LexerState = record { rest = lexer.rest ++ more; place = lexer.place; context = lexer.context; ended = true; held = 0 } in
@@ -115,11 +115,11 @@ module _ (fleet : List Printer) (bytes : List ℕ) (lexer : LexerState) (machine
 
   module _ (verdict : Verdict) (known : (more : List ℕ) → IsExact fleet (bytes ++ more) verdict) where
     -- so the verdict is that fault
-    is_fault : (more : List ℕ) (cause : Cause) → IsFault true (first_of true lexer.context (lexer.rest ++ more)) lexer.context (lexer.rest ++ more) cause → verdict ≡ Fail place_here 0 (FaultOfBytes cause)
+    is_fault : (more : List ℕ) (cause : LexCause) → IsFault true (first_of true lexer.context (lexer.rest ++ more)) lexer.context (lexer.rest ++ more) cause → verdict ≡ Fail place_here 0 (FaultOfBytes cause)
     is_fault more cause fault = one_verdict fleet (bytes ++ more) verdict (Fail place_here 0 (FaultOfBytes cause)) (known more) (fault_behind more cause fault)
 
     -- and all bytes that the job may have stop at it
-    stops_here : (cause : Cause) → verdict ≡ Fail place_here 0 (FaultOfBytes cause) → (job : List ℕ) → IsExact fleet job verdict → (items : List Placed) × IsReadFrom Pcl 0 job (Stopped items place_here cause)
+    stops_here : (cause : LexCause) → verdict ≡ Fail place_here 0 (FaultOfBytes cause) → (job : List ℕ) → IsExact fleet job verdict → (items : List Placed) × IsReadFrom Pcl 0 job (Stopped items place_here cause)
     stops_here cause is job exact =
         let fails : IsExact fleet job (Fail place_here 0 (FaultOfBytes cause)) = subst (IsExact fleet job) is exact in
         let stopped : fails.0 ≡ Stopped (items_of fails.0) place_here cause = stops_there fleet fails.0 place_here cause fails.2 in
@@ -140,7 +140,7 @@ module _ (fleet : List Printer) (bytes : List ℕ) (lexer : LexerState) (machine
     not_completed : (more : List ℕ) (entry : Entry) (len : ℕ) (next : Context) → first_of true lexer.context (lexer.rest ++ more) ≡ Begins entry len next → first_of true lexer.context lexer.rest ≡ Open → ⊥
     not_completed more entry len next e is_open = by_end (end_cause lexer.context lexer.rest) refl
       where
-        by_end : (o : Option Cause) → end_cause lexer.context lexer.rest ≡ o → ⊥
+        by_end : (o : Option LexCause) → end_cause lexer.context lexer.rest ≡ o → ⊥
         by_end (Some cause) at_end =
             let ends : IsFault true (first_of true lexer.context lexer.rest) lexer.context lexer.rest cause = subst (λ (f : First). IsFault true f lexer.context lexer.rest cause) (sym is_open) at_end in
             let fault = subst (λ (l : List ℕ). IsFault true (first_of true lexer.context l) lexer.context l cause) (sym (append-nil lexer.rest)) ends in

@@ -4,11 +4,11 @@ use Rattle.std.specs.Prelude.{codes}
 use Rattle.std.specs.Fmt.{digits}
 use Rattle.pcl_items.specs.declared.pcl.command.Group.TheVariants.{Layout}
 use Rattle.pcl_items.specs.declared.fault.Name.TheVariants as names
-use Rattle.pcl_items.specs.declared.fault.Cause.TheVariants.{NotInProfile}
+use Rattle.pcl_items.specs.declared.fault.LexCause.TheVariants.{NotInProfile}
 use Rattle.pcl_items.specs.PjlLines.Exit.{exit_text}
 use Rattle.pcl_items.specs.Escapes.Field.{field_at, amount_of}
-use Rattle.pcl_items.specs.PjlLines.First.{at_line}
-use Rattle.pcl_items.specs.PjlLines.Reader.{trimmed, is_word, past_part, parts_behind, is_language, in_words, line_of}
+use Rattle.pcl_items.specs.PjlLines.First.{at_pjl}
+use Rattle.pcl_items.specs.PjlLines.Reader.{trimmed, is_word, past_part, parts_behind, is_language, in_words, pjl_command_of}
 use Rattle.pcl_items.specs.Reader.{first_of, after_escape, after_introducer, after_parenthesis, command_in, without_group}
 use Rattle.pcl_items.specs.Reading.{read_on, reading_of}
 use Rattle.device_profile.specs.declared.panel.Panel.{Panel}
@@ -62,17 +62,17 @@ fails_at_the_fault = refl
 -- the usual wrapping, each line in its canonical spelling
 plain_lines : plain_text (reading_of (exit_text ++ codes "@PJL JOB NAME=\"x\"" ++ 13 ∷ 10 ∷ codes "@PJL ENTER LANGUAGE = PCL" ++ 13 ∷ 10 ∷ escape ∷ 69 ∷ exit_text))
     ≡ exit_text ++ codes "@PJL JOB NAME=\"x\"\n@PJL ENTER LANGUAGE=PCL\n" ++ escape ∷ 69 ∷ exit_text
-unfolding first_of after_escape read_on reading_of at_line line_of trimmed in_words is_word past_part parts_behind is_language
+unfolding first_of after_escape read_on reading_of at_pjl pjl_command_of trimmed in_words is_word past_part parts_behind is_language
 plain_lines = refl
 
 -- a line and its newline are one item
 listed_lines : list_text (reading_of (exit_text ++ codes "@PJL\n" ++ 13 ∷ 64 ∷ [])) ≡ codes "0 \\x1b%-12345X\n9 @PJL\\x0a\n14 \\x0d\n15 @\n"
-unfolding first_of after_escape read_on reading_of at_line line_of trimmed digits
+unfolding first_of after_escape read_on reading_of at_pjl pjl_command_of trimmed digits
 listed_lines = refl
 
 -- a line that is none
 listed_fault : list_text (reading_of (exit_text ++ codes "@PJL SET COPIES=2\n")) ≡ codes "0 \\x1b%-12345X\n9 FAULT 5 Pjl\n"
-unfolding first_of after_escape read_on reading_of at_line line_of trimmed in_words is_word digits
+unfolding first_of after_escape read_on reading_of at_pjl pjl_command_of trimmed in_words is_word digits
 listed_fault = refl
 
 -- a mark, and the end of its page

@@ -10,7 +10,7 @@ use Rattle.pcl_items.specs.Items.{Text, at, Placed}
 use Rattle.pcl_items.specs.Modes.{mode_of}
 use Rattle.pcl_items.specs.Reading.{left}
 use Rattle.pcl_items.specs.Lexing.State.{LexerState}
-use Rattle.pcl_items.specs.Lexing.Passing.{ahead_in, ahead_of, AreText, text_items, Passes}
+use Rattle.pcl_items.specs.Lexing.Passing.{ahead_in, ahead_of, AreText, text_items, ReadsText}
 use Rattle.device_profile.specs.declared.font.CodeRange.{CodeRange}
 use Rattle.device_profile.specs.Printer.{Printer}
 use Rattle.page_env.specs.declared.mark.Glyph.{Glyph}
@@ -202,7 +202,7 @@ module _ (fleet : List Printer) where
       subst (λ l. CarriedItems fleet l machines' counts') (append_assoc items (at place (Text code) ∷ []) (text_items (place + 1) codes))
       (items_on codes (items ++ at place (Text code) ∷ []) (place + 1) step.0 machines' step.1 counts' (item_on items place code machines step.0 counts step.1 h step.2) step.3)
 
-  pub text_done : (bytes codes : List ℕ) (old new : LexerState) (machines machines' : List MachineState) (counts counts' : Counts) → Passes old codes new → PrintInStep codes machines machines' counts counts' → HasExecuted fleet bytes old machines counts → HasExecuted fleet bytes new machines' counts'
+  pub text_done : (bytes codes : List ℕ) (old new : LexerState) (machines machines' : List MachineState) (counts counts' : Counts) → ReadsText old codes new → PrintInStep codes machines machines' counts counts' → HasExecuted fleet bytes old machines counts → HasExecuted fleet bytes new machines' counts'
   text_done bytes codes old new machines machines' counts counts' passes step executed =
       let h : CarriedItems fleet (executed.items ++ text_items old.place codes) machines' counts' =
       items_on codes executed.items old.place machines machines' counts counts' (record { done = executed.done; agreed = executed.agreed; counts_are = executed.counts_are; along = executed.along }) step in
@@ -239,7 +239,7 @@ ahead_in_pcl Pjl rest machines in_mode some = absurd (omega (arith, some))
 pub text_ahead_in_pcl : (lexer : LexerState) (machines : List MachineState) → AreIn (mode_of lexer.context) machines → 0 < length (ahead_of lexer) → AreIn modes.Pcl machines
 text_ahead_in_pcl lexer machines in_mode some = ahead_in_pcl lexer.context lexer.rest machines in_mode some
 
-module _ (codes : List ℕ) (old new : LexerState) (passes : Passes old codes new) where
+module _ (codes : List ℕ) (old new : LexerState) (passes : ReadsText old codes new) where
   pub text_modes : (machines machines' : List MachineState) (counts counts' : Counts) → PrintInStep codes machines machines' counts counts' → AreIn (mode_of old.context) machines → AreIn (mode_of new.context) machines'
   text_modes machines machines' counts counts' step in_mode =
       subst (λ c. AreIn (mode_of c) machines') (sym passes.behind)

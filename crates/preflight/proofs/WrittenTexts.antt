@@ -2,7 +2,7 @@
 use Rattle.std.proofs.Common.{◌≡◌, ℕ, false, List, [], ◌++◌, refl, ap, sym, ◌∙◌, subst, append-nil, Result, Ok, Err, IfErr, IfSome}
 use Rattle.std.specs.List.{concat}
 use Rattle.std.specs.Io.KnownBytes.{Consumes}
-use Rattle.pcl_items.specs.declared.fault.Cause.{Cause}
+use Rattle.pcl_items.specs.declared.fault.LexCause.{LexCause}
 use Rattle.pcl_items.specs.declared.item.Mode.{Mode}
 use Rattle.pcl_items.specs.Lexing.State.{LexerState}
 use Rattle.pcl_items.specs.Lexing.Meaning.{Decides, Undecided}
@@ -46,7 +46,7 @@ module _ (first : Rendering) (start written : OutletState) (source source' : Sou
     front_told = front_by (rendered_front first start bytes lexer rendering written [] goes.rendered bytes ([], sym (append-nil bytes), λ e. refl))
 
     -- and all that the bytes decide
-    pub decided_told : ((place : ℕ) (cause : Cause) → rendering.text (Stopped [] place cause) ≡ rendering.at_fault [] place cause) → WritesDecided first source source' start written
+    pub decided_told : ((place : ℕ) (cause : LexCause) → rendering.text (Stopped [] place cause) ≡ rendering.at_fault [] place cause) → WritesDecided first source source' start written
     decided_told adds = record {
       pieces = pieces;
       given_is = given_is;

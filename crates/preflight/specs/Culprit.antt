@@ -3,7 +3,7 @@ use Rattle.std.specs.Prelude.{◌≡◌, ℕ, List, length, Option, None, Some}
 use Rattle.std.specs.List.{Contains}
 use Rattle.pcl_items.specs.Items.{Entry, simple_view, at}
 use Rattle.pcl_items.specs.Items as entries
-use Rattle.pcl_items.specs.PjlLines.Text.{Line}
+use Rattle.pcl_items.specs.PjlLines.Text.{PjlCommand}
 use Rattle.pcl_items.specs.Reading.{Reading, IsReading, items_of}
 use Rattle.device_profile.specs.Printer.{Printer}
 use Rattle.verdict.specs.declared.reason.Reason.TheVariants.{Fault, Finding, Differs, Unpinnable}
@@ -18,7 +18,7 @@ abbrev pub IsCulprit : Culprit → Entry → Type 0
 IsCulprit (culprits.Text code) entry = entry ≡ entries.Text code
 IsCulprit (culprits.Simple item) entry = entry ≡ simple_view item
 IsCulprit (culprits.WithData command count) entry = (bytes : List ℕ) × (entry ≡ entries.WithData command bytes) × (length bytes ≡ count)
-IsCulprit culprits.Line entry = (line : Line) × (entry ≡ entries.PjlLine line)
+IsCulprit culprits.Line entry = (line : PjlCommand) × (entry ≡ entries.PjlLine line)
 
 -- there is one, and the item is this
 abbrev pub Names : Option Culprit → Entry → Type 0

@@ -2,7 +2,7 @@
 use Rattle.std.specs.Prelude.{◌≡◌, ◌≢◌, ◌+◌, ◌^◌, ◌≤◌, ℕ, List, [], ◌++◌, length, flat_map, false, Result, IfOk, IfErr, IsErrOf}
 use Rattle.std.specs.List.{concat}
 use Rattle.std.specs.Io.KnownBytes.{Consumes}
-use Rattle.pcl_items.specs.declared.fault.Cause.{Cause}
+use Rattle.pcl_items.specs.declared.fault.LexCause.{LexCause}
 use Rattle.pcl_items.specs.Items.{Placed}
 use Rattle.pcl_items.specs.Lexing.Meaning.{Decides, Undecided}
 use Rattle.pcl_items.specs.Reading.{Reading, Stopped, IsReading, items_of}
@@ -24,7 +24,7 @@ use Rattle.preflight.specs.Texts.{plain_text, list_text, reading_outcome}
 pub record Rendering : Type 0 where
   pub text : Reading → List ℕ
   pub outcome : Reading → Outcome
-  pub at_fault : List Placed → ℕ → Cause → List ℕ
+  pub at_fault : List Placed → ℕ → LexCause → List ℕ
 
 -- the text is what is due for the job's one reading, and the outcome is what comes of it
 abbrev pub IsDue : Rendering → List ℕ → List ℕ → Outcome → Type 0
@@ -59,7 +59,7 @@ pub record WritesDecided (rendering : Rendering) (source source' : SourceState)
   pub no_more : Undecided (concat pieces) items
   pub text : List ℕ
   pub adds : Adds outlet outlet' text
-  pub due : (place : ℕ) (cause : Cause) → rendering.text (Stopped items place cause) ≡ text ++ rendering.at_fault items place cause
+  pub due : (place : ℕ) (cause : LexCause) → rendering.text (Stopped items place cause) ≡ text ++ rendering.at_fault items place cause
 
 -- What a call that writes a text of a job leaves, with this result. Of every job that may be by what
 -- the reads gave, the text was written that is due, and nothing else; after an error a front of what
@@ -78,7 +78,7 @@ pub record Renders (rendering : Rendering) (source source' : SourceState)
   pub never_items : IfErr result (λ error. error ≢ Items)
 
 -- a fault adds nothing
-abbrev pub nothing_at_fault : List Placed → ℕ → Cause → List ℕ
+abbrev pub nothing_at_fault : List Placed → ℕ → LexCause → List ℕ
 nothing_at_fault items place cause = []
 
 -- each item by itself, and nothing for a fault

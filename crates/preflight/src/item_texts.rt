@@ -23,7 +23,8 @@ pub trait ItemText {
         place: Place,
         item: &Item<'_>,
     ) -> Result<(), AllocError>
-        ensures { OnOk result (kept.new.items ≡ kept.old.items ++ text (at place (view item.now))) };
+        ensures { OnOk result (kept.new.items ≡
+            kept.old.items ++ text (at place (view item.now))) };
 }
 
 /// Writes the text of each item, and nothing behind the last.

@@ -1,6 +1,6 @@
 //! Renders the items of a job one after another, as they are read.
 ghost use Rattle.std.specs.Prelude.{◌≡◌, ◌+◌, ℕ, List, [], length, None, Ok, IfOk, IfErr, IsFalse, false};
-ghost use Rattle.pcl_items.specs.declared.fault.Cause.{Cause};
+ghost use Rattle.pcl_items.specs.declared.fault.LexCause.{LexCause};
 ghost use Rattle.pcl_items.specs.declared.item.Mode.{Mode};
 ghost use Rattle.pcl_items.specs.declared.item.Mode.TheVariants.{Pcl};
 ghost use Rattle.pcl_items.specs.Items.{at, view};
@@ -77,7 +77,7 @@ pub trait Renderer {
         ensures err { IfErr result IsErrorOfRendering };
 
     // A fault that stands first is all that is due, and so is what it adds.
-    ghost adds_at_fault: { (renderer : Self) (place : ℕ) (cause : Cause) →
+    ghost adds_at_fault: { (renderer : Self) (place : ℕ) (cause : LexCause) →
         (rendering renderer).text (Stopped [] place cause)
         ≡ (rendering renderer).at_fault [] place cause };
 }

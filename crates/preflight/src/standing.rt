@@ -1,10 +1,13 @@
 //! How far a check has come.
-ghost use Rattle.std.specs.Prelude.{◌≡◌, false};
+ghost use Rattle.std.specs.Prelude.{◌≡◌, ◌≢◌, false, IfErr};
 ghost use Rattle.preflight.specs.declared.error.Error.TheVariants.{Memory};
+ghost use Rattle.preflight.specs.declared.standing.Standing.TheVariants.{Open};
+ghost use Rattle.preflight.specs.Standing.{StandsAfter, is_open};
 ghost use Rattle.verdict.specs.Failing.{failing};
 
 use crate::error::Error;
-use std::alloc::AllocError;
+use page_machine::Stop;
+use pcl_items::Place;
 use verdict::{Failure, Verdict};
 
 /// How far a check has come.
@@ -31,8 +34,28 @@ impl Standing {
         false
     }
 
+    /// Judges what the machine of this number answered for what stands at this place, where it was
+    /// running and the check was open: a finding is the verdict. Tells whether the check is still
+    /// open.
+    #[inline(always)]
+    pub fn judge<F: Drop>(&mut self, place: Place, number: u64, answer: Result<(), Stop<F>>) -> bool
+        requires open { self.old ≡ Open }
+        requires running { IfErr answer (λ stop. stop ≢ Stop.Stopped) }
+        ensures standing { StandsAfter place number answer self.new }
+        ensures open { result ≡ is_open self.new }
+    {
+        match answer {
+            Ok(()) => true,
+            Err(Stop::Found(finding)) => self.fail(Failure::of_finding(place, number, finding)),
+            // A sink of a check refuses an event for want of memory alone.
+            Err(Stop::Refused(_)) => self.refuse(),
+            Err(Stop::Memory(_)) => self.refuse(),
+            Err(Stop::Stopped) => unreachable!(),
+        }
+    }
+
     /// The allocator refused a request. It is not open any more, which is the answer.
-    pub fn refuse(&mut self, _error: AllocError) -> bool
+    fn refuse(&mut self) -> bool
         ensures standing { self.new ≡ Standing.Stopped Memory }
         ensures closed { result ≡ false }
     {

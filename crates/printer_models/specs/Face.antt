@@ -9,8 +9,8 @@ use Rattle.printer_models.specs.declared.face.CharacterSet.{CharacterSet}
 use Rattle.printer_models.specs.declared.face.CharacterSet.TheVariants.{Roman8, Pc8, Pc850, Latin1, Windows, Ascii}
 use Rattle.printer_models.specs.declared.face.Cut.{Cut}
 use Rattle.printer_models.specs.declared.face.Cut.TheVariants.{Ten, Twelve, Elite, Small, OldSmall}
-use Rattle.printer_models.specs.declared.face.Look.{Look}
-use Rattle.printer_models.specs.declared.face.Look.TheVariants.{Medium, Bold, Italic}
+use Rattle.printer_models.specs.declared.face.FaceLook.{FaceLook}
+use Rattle.printer_models.specs.declared.face.FaceLook.TheVariants.{Medium, Bold, Italic}
 use Rattle.printer_models.specs.declared.face.Typeface.{Typeface}
 use Rattle.printer_models.specs.declared.face.Typeface.TheVariants.{Courier, BaseCourier, LinePrinter, LetterGothic, BaseLetterGothic}
 use Rattle.printer_models.specs.declared.face.FaceRow.{FaceRow}
@@ -58,13 +58,13 @@ metrics_of Small = metrics 166_700 85_000 432 638 213
 metrics_of OldSmall = metrics 166_600 85_000 432 638 213
 
 -- upright or italic, as `ESC (s#S` numbers it
-abbrev pub style_of : Look → ℕ
+abbrev pub style_of : FaceLook → ℕ
 style_of Medium = 0
 style_of Bold = 0
 style_of Italic = 1
 
 -- the stroke weight, as `ESC (s#B` numbers it
-abbrev pub weight_of : Look → ℕ
+abbrev pub weight_of : FaceLook → ℕ
 weight_of Medium = 0
 weight_of Bold = 3
 weight_of Italic = 0
@@ -101,7 +101,7 @@ face_of id row = record {
 }
 
 -- the faces of a cut, a look and a typeface in these sets
-abbrev pub in_sets : Cut → Look → Typeface → List CharacterSet → List FaceRow
+abbrev pub in_sets : Cut → FaceLook → Typeface → List CharacterSet → List FaceRow
 in_sets cut look typeface sets = map (λ set. record { set = set; cut = cut; look = look; typeface = typeface }) sets
 
 -- the set that the panel has at the factory, and the one that it had in the other generation
@@ -119,7 +119,7 @@ abbrev pub oldest_sets : List CharacterSet
 oldest_sets = Roman8 ∷ Pc8 ∷ []
 
 -- Courier under both of its numbers
-abbrev pub courier : Cut → Look → List CharacterSet → List FaceRow
+abbrev pub courier : Cut → FaceLook → List CharacterSet → List FaceRow
 courier cut look sets = in_sets cut look Courier sets ++ in_sets cut look BaseCourier sets
 
 -- THE TABLE OF FACES, in the order of their ids, from 1 on

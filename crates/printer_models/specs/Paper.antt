@@ -4,7 +4,7 @@ use Rattle.std.specs.Str.{str_eq_ignore_ascii_case}
 use Rattle.printer_models.specs.declared.paper.Measure.{Measure}
 use Rattle.printer_models.specs.declared.paper.Measure.TheVariants.{Inch, Metric}
 use Rattle.printer_models.specs.declared.paper.Paper.{Paper}
-use Rattle.printer_models.specs.declared.paper.Paper.TheVariants.{Executive, Letter, Legal, Ledger, A6, A5, A4, A3, JisB5, JisB4, Monarch, Com10, Dl, C5, B5}
+use Rattle.printer_models.specs.declared.paper.Paper.TheVariants as papers
 use Rattle.printer_models.specs.declared.paper.Sheet.{Sheet}
 
 -- a paper that is cut by inches: its number in `ESC &l#A`, and its width and height in thousandths of an inch
@@ -17,21 +17,21 @@ millimetres code width height = record { code = code; measure = Metric; width = 
 
 -- THE TABLE OF PAPERS
 abbrev pub sheet_of : Paper → Sheet
-sheet_of Executive = inches 1 7_250 10_500
-sheet_of Letter = inches 2 8_500 11_000
-sheet_of Legal = inches 3 8_500 14_000
-sheet_of Ledger = inches 6 11_000 17_000
-sheet_of A6 = millimetres 24 105 148
-sheet_of A5 = millimetres 25 148 210
-sheet_of A4 = millimetres 26 210 297
-sheet_of A3 = millimetres 27 297 420
-sheet_of JisB5 = millimetres 45 182 257
-sheet_of JisB4 = millimetres 46 257 364
-sheet_of Monarch = inches 80 3_875 7_500
-sheet_of Com10 = inches 81 4_125 9_500
-sheet_of Dl = millimetres 90 110 220
-sheet_of C5 = millimetres 91 162 229
-sheet_of B5 = millimetres 100 176 250
+sheet_of papers.Executive = inches 1 7_250 10_500
+sheet_of papers.Letter = inches 2 8_500 11_000
+sheet_of papers.Legal = inches 3 8_500 14_000
+sheet_of papers.Ledger = inches 6 11_000 17_000
+sheet_of papers.A6 = millimetres 24 105 148
+sheet_of papers.A5 = millimetres 25 148 210
+sheet_of papers.A4 = millimetres 26 210 297
+sheet_of papers.A3 = millimetres 27 297 420
+sheet_of papers.JisB5 = millimetres 45 182 257
+sheet_of papers.JisB4 = millimetres 46 257 364
+sheet_of papers.Monarch = inches 80 3_875 7_500
+sheet_of papers.Com10 = inches 81 4_125 9_500
+sheet_of papers.Dl = millimetres 90 110 220
+sheet_of papers.C5 = millimetres 91 162 229
+sheet_of papers.B5 = millimetres 100 176 250
 
 -- its number in `ESC &l#A`
 abbrev pub code_of : Paper → ℕ
@@ -39,25 +39,25 @@ code_of paper = (sheet_of paper).code
 
 -- the paper's name, as a user types it
 abbrev pub word_of : Paper → List ℕ
-word_of Executive = codes "executive"
-word_of Letter = codes "letter"
-word_of Legal = codes "legal"
-word_of Ledger = codes "ledger"
-word_of A6 = codes "a6"
-word_of A5 = codes "a5"
-word_of A4 = codes "a4"
-word_of A3 = codes "a3"
-word_of JisB5 = codes "jis-b5"
-word_of JisB4 = codes "jis-b4"
-word_of Monarch = codes "monarch"
-word_of Com10 = codes "com-10"
-word_of Dl = codes "dl"
-word_of C5 = codes "c5"
-word_of B5 = codes "b5"
+word_of papers.Executive = codes "executive"
+word_of papers.Letter = codes "letter"
+word_of papers.Legal = codes "legal"
+word_of papers.Ledger = codes "ledger"
+word_of papers.A6 = codes "a6"
+word_of papers.A5 = codes "a5"
+word_of papers.A4 = codes "a4"
+word_of papers.A3 = codes "a3"
+word_of papers.JisB5 = codes "jis-b5"
+word_of papers.JisB4 = codes "jis-b4"
+word_of papers.Monarch = codes "monarch"
+word_of papers.Com10 = codes "com-10"
+word_of papers.Dl = codes "dl"
+word_of papers.C5 = codes "c5"
+word_of papers.B5 = codes "b5"
 
 abbrev pub every_paper : List Paper
 every_paper =
-    Executive ∷ Letter ∷ Legal ∷ Ledger ∷ A6 ∷ A5 ∷ A4 ∷ A3 ∷ JisB5 ∷ JisB4 ∷ Monarch ∷ Com10 ∷ Dl ∷ C5 ∷ B5 ∷ []
+    papers.Executive ∷ papers.Letter ∷ papers.Legal ∷ papers.Ledger ∷ papers.A6 ∷ papers.A5 ∷ papers.A4 ∷ papers.A3 ∷ papers.JisB5 ∷ papers.JisB4 ∷ papers.Monarch ∷ papers.Com10 ∷ papers.Dl ∷ papers.C5 ∷ papers.B5 ∷ []
 
 -- the paper of a name, in any letter case
 abbrev pub paper_named : List ℕ → Option Paper

@@ -39,7 +39,7 @@ pub enum Cut {
 
 /// How the letters stand.
 #[derive(Clone, Copy, Debug, PartialEq, Eq)]
-pub enum Look {
+pub enum FaceLook {
     /// Upright, of medium weight.
     Medium,
     /// Upright and bold.
@@ -78,7 +78,7 @@ pub struct Metrics {
 pub struct FaceRow {
     pub set: CharacterSet,
     pub cut: Cut,
-    pub look: Look,
+    pub look: FaceLook,
     pub typeface: Typeface,
 }
 
@@ -251,14 +251,14 @@ impl Metrics {
     }
 }
 
-impl Look {
+impl FaceLook {
     /// The style, as `ESC (s#S` numbers it.
     pub fn style(self) -> u8
         ensures { result ≡ style_of self }
     {
         match self {
-            Look::Medium | Look::Bold => 0,
-            Look::Italic => 1,
+            FaceLook::Medium | FaceLook::Bold => 0,
+            FaceLook::Italic => 1,
         }
     }
 
@@ -267,8 +267,8 @@ impl Look {
         ensures { result ≡ weight_of self }
     {
         match self {
-            Look::Medium | Look::Italic => 0,
-            Look::Bold => 3,
+            FaceLook::Medium | FaceLook::Italic => 0,
+            FaceLook::Bold => 3,
         }
     }
 }
@@ -327,7 +327,7 @@ pub fn faces_of<A: Allocator>(
     ensures { IfOk result (λ faces. faces.items ≡ faces_of generation) }
 {
     use Cut::{Elite, OldSmall, Small, Ten, Twelve};
-    use Look::{Bold, Italic, Medium};
+    use FaceLook::{Bold, Italic, Medium};
     use Typeface::{BaseCourier, BaseLetterGothic, Courier, LetterGothic, LinePrinter};
 
     let mut faces = Vec::new(alloc);
@@ -356,7 +356,7 @@ pub fn faces_of<A: Allocator>(
 fn push_courier<A: Allocator>(
     faces: &mut Vec<FaceRow, A>,
     cut: Cut,
-    look: Look,
+    look: FaceLook,
     sets: &[CharacterSet],
 ) -> Result<(), AllocError>
     ensures { OnOk result (faces.new.items ≡ faces.old.items ++ courier cut look sets.now) }
@@ -369,7 +369,7 @@ fn push_courier<A: Allocator>(
 fn push<A: Allocator>(
     faces: &mut Vec<FaceRow, A>,
     cut: Cut,
-    look: Look,
+    look: FaceLook,
     typeface: Typeface,
     sets: &[CharacterSet],
 ) -> Result<(), AllocError>

@@ -66,7 +66,8 @@ fn put_answer<T: ProfileTexts, O: Outlet, E: Outlet, A: Allocator + Copy>(
     requires texts { IsFalse (T.failed texts.old) }
     requires stdout { IsFalse (O.state stdout.old).failed }
     requires stderr { IsFalse (E.state stderr.old).failed }
-    ensures { LeavesOfAnswer (T.text_of texts.old) word.now (option_map (λ word. word.now) base.entry)
+    ensures { LeavesOfAnswer (T.text_of texts.old) word.now
+        (option_map (λ word. word.now) base.entry)
         (T.given texts.old) (T.given texts.new) (T.failed texts.new) answer.now result
         (O.state stdout.old) (O.state stdout.new) (E.state stderr.old) (E.state stderr.new) }
 {

@@ -1,3 +1,3 @@
 pub mod Pushed
 mod WordsAt
-mod LintLemmas
+mod LintFacts

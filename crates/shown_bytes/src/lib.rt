@@ -18,8 +18,8 @@ fn hex_digit(digit: u8) -> u8
     }
 }
 
-/// Appends a byte as itself, and one that shows nothing, or a backslash, as `\x` and two hexadecimal
-/// digits.
+/// Appends a byte as itself, and one that shows nothing, or a backslash, as `\x` and two
+/// hexadecimal digits.
 fn push_shown_byte<A: Allocator>(out: &mut Vec<u8, A>, byte: u8) -> Result<(), AllocError>
     ensures { OnOk result (out.new.items ≡ out.old.items ++ shown_byte byte) }
 {
@@ -30,7 +30,8 @@ fn push_shown_byte<A: Allocator>(out: &mut Vec<u8, A>, byte: u8) -> Result<(), A
     out.extend_from_slice(&[b'\\', b'x', hex_digit(byte / 16), hex_digit(byte % 16)])
 }
 
-/// Appends bytes of a name or a line, and those that show nothing, and backslashes, by their digits.
+/// Appends bytes of a name or a line, and those that show nothing, and backslashes, by their
+/// digits.
 ///
 /// An error means that the allocator refused a request.
 pub fn push_shown<A: Allocator>(out: &mut Vec<u8, A>, bytes: &[u8]) -> Result<(), AllocError>

@@ -45,7 +45,8 @@ impl<'a, A: Allocator> Comparer<'a, A> {
     }
 
     /// Expects nothing any more: an event came that differs.
-    // The call is rare, and keeps LLVM from choosing what is expected at each word that is compared.
+    // The call is rare, and keeps LLVM from choosing what is expected at each word that is
+    // compared.
     #[inline(never)]
     fn differ(&mut self)
         ensures { self.new ≡ None }

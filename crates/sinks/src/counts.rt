@@ -26,7 +26,8 @@ impl Counts {
 
     /// Counts so many marks, as if they were handed over one after another.
     pub fn add_marks(&mut self, marks: u64)
-        ensures { (shapes : List Shape) → length shapes ≡ marks → self.new ≡ counts_after (map Marked shapes) self.old }
+        ensures { (shapes : List Shape) → length shapes ≡ marks →
+            self.new ≡ counts_after (map Marked shapes) self.old }
     {
         self.marks = self.marks.saturating_add(marks);
     }

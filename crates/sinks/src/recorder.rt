@@ -14,7 +14,8 @@ use std::alloc::{AllocError, Allocator, Global};
 use std::marker::Model;
 use std::mem;
 
-/// Keeps the events that it was handed since it was cleared, and counts all the pages and marks that it was ever handed.
+/// Keeps the events that it was handed since it was cleared, and counts all the pages and marks
+/// that it was ever handed.
 ///
 /// It refuses an event where the allocator refuses to keep it, and then it is as before.
 #[derive(Drop)]
@@ -33,7 +34,10 @@ impl<A: Allocator + Copy> Model for Recorder<A> {
 
     ghost Value = { Recorded };
 
-    ghost view = { λ recorder. record { events = map event_of recorder.events.items; counts = recorder.counts } };
+    ghost view = { λ recorder. record {
+      events = map event_of recorder.events.items;
+      counts = recorder.counts;
+    } };
 }
 
 impl<A: Allocator + Copy> Recorder<A> {
@@ -65,7 +69,11 @@ impl<A: Allocator + Copy> Recorder<A> {
 
     /// Counts so many marks, as if they were handed over one after another and then forgotten.
     pub fn add_marks(&mut self, marks: u64)
-        ensures { (shapes : List Shape) → length shapes ≡ marks → self.new ≡ record self.old { counts = counts_after (map Marked shapes) self.old.counts } }
+        ensures { (shapes : List Shape) → length shapes ≡ marks →
+            self.new ≡ record self.old {
+              counts = counts_after (map Marked shapes)
+                  self.old.counts;
+            } }
     {
         self.counts.add_marks(marks);
     }

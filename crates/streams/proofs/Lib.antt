@@ -1,3 +1,3 @@
 mod Walks
-pub mod OutletLemmas
+pub mod OutletFacts
 pub mod Pieces

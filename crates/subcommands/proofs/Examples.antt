@@ -3,7 +3,7 @@ use Rattle.std.proofs.Common.{◌≡◌, ℕ, Bool, true, false, List, [], ◌�
 use Rattle.std.specs.Prelude.{codes}
 use Rattle.std.specs.Fmt.{digits}
 use Rattle.pcl_items.specs.declared.pcl.command.Command.TheVariants.{PageSize}
-use Rattle.pcl_items.specs.declared.fault.Cause.TheVariants.{Syntax}
+use Rattle.pcl_items.specs.declared.fault.LexCause.TheVariants.{Syntax}
 use Rattle.pcl_items.specs.declared.item.SimpleItem.TheVariants.{Parameterized}
 use Rattle.pcl_items.specs.declared.number.Sign.TheVariants.{Absent}
 use Rattle.device_profile.specs.declared.fault.Cause.TheVariants.{Range, Repeated, Version}

@@ -14,11 +14,11 @@ use Rattle.preflight.specs.declared.error.Error.TheVariants.{Memory, Read, Write
 use Rattle.preflight.specs.declared.culprit.Judgement.{Judgement}
 use Rattle.streams.specs.Outlet.{OutletState, Adds, AddsFront}
 use Rattle.streams.specs.Source.{SourceState}
-use Rattle.streams.proofs.OutletLemmas.{Adds-none, Adds-trans}
+use Rattle.streams.proofs.OutletFacts.{Adds-none, Adds-trans}
 use Rattle.subcommands.specs.declared.job_checks.Ending.{Ending}
 use Rattle.subcommands.specs.declared.job_checks.Ending.TheVariants.{Passes, Fails, HasNoVerdict}
 use Rattle.subcommands.specs.Groups.{Groups, group_at, group_count, of_group, reported}
-use Rattle.subcommands.specs.JobChecks.{AddsTold, AreRightToCut, CutsNotes, CutsTold, IsErrorOfJob, IsErrorOfLine, IsRightAnswer, IsRightLine, Line, Tells, TellsAll, TellsFront, TellsNotes, Work, afters, afters_of, due_of, ending_of, ending_of_line, keyed, line_text, worse, worst}
+use Rattle.subcommands.specs.JobChecks.{AddsTold, AreRightToCut, CutsNotes, CutsTold, IsErrorOfJob, IsErrorOfLine, IsRightAnswer, IsRightLine, CheckLine, TellsLines, TellsAll, TellsFront, TellsNotes, Work, afters, afters_of, due_of, ending_of, ending_of_line, keyed, line_text, worse, worst}
 use Rattle.subcommands.specs.JobNoting.{IsRightlyNoted, Noted, ending_of_notes, note_printer, notes_text}
 use Rattle.notes.specs.Note.{Told as ToldNote}
 use Rattle.subcommands.specs.NoteReports.{subject_of, told_note}
@@ -28,7 +28,7 @@ use Rattle.subcommands.specs.CheckMany.{AreOfTexts, limited}
 use Rattle.subcommands.specs.CopiedTexts.{AreNotePrinters}
 use Rattle.device_profile.specs.Text.{printer_of_text}
 use Rattle.subcommands.specs.Fleet.{DescribeBy, DescribeFleet, IsEndOfFleet}
-use Rattle.subcommands.proofs.FleetLemmas.{DescribeBy-more}
+use Rattle.subcommands.proofs.FleetFacts.{DescribeBy-more}
 use Rattle.subcommands.specs.Texts.{IsErrorOfReading}
 use Rattle.subcommands.specs.declared.status.Status.{Status}
 use Rattle.subcommands.specs.declared.status.Status.TheVariants.{Stopped}
@@ -52,17 +52,17 @@ worse-passes Fails = refl
 worse-passes HasNoVerdict = refl
 
 module _ (exit_zero : Bool) where
-  abbrev one_more : Ending → Line → Ending
+  abbrev one_more : Ending → CheckLine → Ending
   one_more ending line = worse ending (ending_of_line exit_zero line)
 
-  fold_worse : (start : Ending) (lines : List Line) → fold one_more start lines ≡ worse start (worst exit_zero lines)
+  fold_worse : (start : Ending) (lines : List CheckLine) → fold one_more start lines ≡ worse start (worst exit_zero lines)
   fold_worse start [] = sym (worse-passes start)
   fold_worse start (line ∷ lines) =
       fold_worse (one_more start line) lines
       ∙ worse-assoc start (ending_of_line exit_zero line) (worst exit_zero lines)
       ∙ ap (worse start) (sym (fold_worse (ending_of_line exit_zero line) lines))
 
-  pub worst-append : (xs ys : List Line) → worst exit_zero (xs ++ ys) ≡ worse (worst exit_zero xs) (worst exit_zero ys)
+  pub worst-append : (xs ys : List CheckLine) → worst exit_zero (xs ++ ys) ≡ worse (worst exit_zero xs) (worst exit_zero ys)
   worst-append xs ys = fold-append one_more Passes xs ys ∙ fold_worse (worst exit_zero xs) ys
 
 -- ---- lines behind lines
@@ -71,12 +71,12 @@ All-append : {X : Type 0} (P : X → Type 0) (xs ys : List X) → AllByRecursion
 All-append P [] ys first second = second
 All-append P (x ∷ xs) ys first second = (first.0, All-append P xs ys first.1 second)
 
-abbrev key : Line → List ℕ × ℕ
+abbrev key : CheckLine → List ℕ × ℕ
 key line = (line.job, line.group)
 
 module _ (groups : Groups) (telling : HowTold) (start : List ℕ → SourceState) where
   -- lines that are right, and then some of which the last may lack its notes
-  right_behind : (xs ys : List Line) → AllByRecursion (IsRightLine groups telling start) xs → AreRightToCut groups telling start ys → AreRightToCut groups telling start (xs ++ ys)
+  right_behind : (xs ys : List CheckLine) → AllByRecursion (IsRightLine groups telling start) xs → AreRightToCut groups telling start ys → AreRightToCut groups telling start (xs ++ ys)
   right_behind [] ys first second = second
   right_behind (x ∷ xs) ys first second = (inl first.0, right_behind xs ys first.1 second)
 
@@ -84,7 +84,7 @@ module _ (groups : Groups) (telling : HowTold) (start : List ℕ → SourceState
   tells_none old = ([], record { in_order = refl; right = tt; written = Adds-none old.out; ended = sym (append-nil old.ended) }, refl)
 
   module _ (due due' : List (List ℕ × ℕ)) (old mid new : Work) where
-    tells_both : (lines lines' : List Line) → Tells groups telling start due lines old mid → Tells groups telling start due' lines' mid new → Tells groups telling start (due ++ due') (lines ++ lines') old new
+    tells_both : (lines lines' : List CheckLine) → TellsLines groups telling start due lines old mid → TellsLines groups telling start due' lines' mid new → TellsLines groups telling start (due ++ due') (lines ++ lines') old new
     tells_both lines lines' first second = record {
       in_order = map-append key lines lines' ∙ ap (λ ks. ks ++ map key lines') first.in_order ∙ ap (λ ks. due ++ ks) second.in_order;
       right = All-append (IsRightLine groups telling start) lines lines' first.right second.right;
@@ -132,7 +132,7 @@ module _ (groups : Groups) (telling : HowTold) (start : List ℕ → SourceState
     abbrev group : Groups
     group = group_at groups number
 
-    abbrev line_with : Option (List ℕ) → Option Noted → Line
+    abbrev line_with : Option (List ℕ) → Option Noted → CheckLine
     line_with cause noted = record { job = job; group = number; after = after; answer = answer; cause = cause; noted = noted }
 
     abbrev told : Option (List ℕ) → List ℕ

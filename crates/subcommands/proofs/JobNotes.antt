@@ -10,7 +10,7 @@ use Rattle.preflight.specs.Errors.{is_read, is_write}
 use Rattle.streams.specs.Outlet.{OutletState, Adds}
 use Rattle.streams.specs.Pieces.{ByReads}
 use Rattle.streams.specs.Source.{SourceState}
-use Rattle.streams.proofs.OutletLemmas.{Adds-none}
+use Rattle.streams.proofs.OutletFacts.{Adds-none}
 use Rattle.notes.specs.Note.{note_line}
 use Rattle.notes.specs.Notes.{notes_rendering, with_most_items}
 use Rattle.subcommands.specs.declared.status.Status.{Status}

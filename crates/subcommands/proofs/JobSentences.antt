@@ -6,8 +6,8 @@ use Rattle.std.specs.List.{AllByRecursion}
 use Rattle.std.proofs.lemmas.List.{length-append}
 use Rattle.pcl_items.specs.declared.pcl.command.DataCommand.{DataCommand}
 use Rattle.pcl_items.specs.declared.pcl.command.DataCommand.TheVariants.{TransparentText, RasterRow}
-use Rattle.pcl_items.specs.declared.fault.Cause.{Cause}
-use Rattle.pcl_items.specs.declared.fault.Cause.TheVariants.{Syntax, Truncated, NotInProfile, BadNumber, Pjl, EndInFrame}
+use Rattle.pcl_items.specs.declared.fault.LexCause.{LexCause}
+use Rattle.pcl_items.specs.declared.fault.LexCause.TheVariants.{Syntax, Truncated, NotInProfile, BadNumber, Pjl, EndInFrame}
 use Rattle.pcl_items.specs.declared.fault.Name.{Name}
 use Rattle.pcl_items.specs.declared.fault.Name.TheVariants as fault_names
 use Rattle.pcl_items.specs.declared.number.Number.{Number}
@@ -32,7 +32,7 @@ use Rattle.verdict.specs.declared.verdict.Verdict.{Verdict}
 use Rattle.verdict.specs.declared.verdict.Verdict.TheVariants.{Pass, Fail}
 use Rattle.verdict.specs.Numbers.{cause_number, reason_number}
 use Rattle.line_words.specs.Figures.{escaped_byte, named}
-use Rattle.line_words.specs.Reason.{bare_cause_name, bare_finding_name, bare_name, brackets, field_name, name_words, reason_words, short_cause, short_finding, short_reason, shown_byte}
+use Rattle.line_words.specs.Reason.{bare_cause_name, bare_finding_name, bare_name, brackets, field_name, name_words, reason_words, short_cause, short_finding, short_reason, named_byte}
 use Rattle.preflight.specs.declared.culprit.Culprit.{Culprit}
 use Rattle.preflight.specs.declared.culprit.Culprit.TheVariants.{Text, Simple, WithData, Line}
 use Rattle.preflight.specs.declared.culprit.Judgement.{Judgement}
@@ -104,7 +104,7 @@ at_part (Some culprit) h = joined (codes ", ") (command_words culprit) (literal 
 
 -- ---- what is wrong
 
-short_cause_part : (cause : Cause) → IsWithin 80 (short_cause cause)
+short_cause_part : (cause : LexCause) → IsWithin 80 (short_cause cause)
 short_cause_part Syntax = literal 80 _ refl refl
 short_cause_part Truncated = literal 80 _ refl refl
 short_cause_part (NotInProfile name) = literal 80 _ refl refl
@@ -122,7 +122,7 @@ short_part (Found finding) = short_finding_part finding
 short_part Differs = literal 80 _ refl refl
 short_part Unpinnable = literal 80 _ refl refl
 
-cause_name_part : (cause : Cause) → IsWithin 20 (bare_cause_name cause)
+cause_name_part : (cause : LexCause) → IsWithin 20 (bare_cause_name cause)
 cause_name_part Syntax = literal 20 _ refl refl
 cause_name_part Truncated = literal 20 _ refl refl
 cause_name_part (NotInProfile name) = literal 20 _ refl refl
@@ -142,9 +142,9 @@ bare_part Unpinnable = literal 20 _ refl refl
 
 name_words_part : (name : Name) → IsWithin 9 (name_words name)
 name_words_part (fault_names.Byte b) = wider 9 _ (omega arith) (shown_part b)
-name_words_part (fault_names.Pair a b) = wider 9 _ (omega arith) (joined (shown_byte a) (shown_byte b) (shown_part a) (shown_part b))
+name_words_part (fault_names.Pair a b) = wider 9 _ (omega arith) (joined (named_byte a) (named_byte b) (shown_part a) (shown_part b))
 name_words_part (fault_names.Command group letter) =
-    joined (shown_byte (introducer_of group) ++ shown_byte (character_of group)) (shown_byte letter) (joined (shown_byte (introducer_of group)) (shown_byte (character_of group)) (shown_part (introducer_of group)) (shown_part (character_of group))) (shown_part letter)
+    joined (named_byte (introducer_of group) ++ named_byte (character_of group)) (named_byte letter) (joined (named_byte (introducer_of group)) (named_byte (character_of group)) (shown_part (introducer_of group)) (shown_part (character_of group))) (shown_part letter)
 
 field_part : (field : Field) → IsWithin 11 (field_name field)
 field_part Size = literal 11 _ refl refl
@@ -162,7 +162,7 @@ finding_number : (finding : Finding) → number_of finding < 2 ^ 64
 finding_number BadValue = omega arith
 finding_number _ = omega arith
 
-cause_number_small : (cause : Cause) → cause_number cause < 2 ^ 64
+cause_number_small : (cause : LexCause) → cause_number cause < 2 ^ 64
 cause_number_small Syntax = omega arith
 cause_number_small _ = omega arith
 

@@ -1,21 +1,21 @@
 mod Appending
-mod ChoiceLemmas
+mod ChoiceFacts
 mod Examples
-mod ExplainLemmas
+mod ExplainFacts
 mod ExplainedReasons
-pub mod FleetLemmas
-mod FrontLemmas
+pub mod FleetFacts
+mod FrontFacts
 mod JobChecks
 mod JobNotes
 mod JobNoting
 mod JobObjectExamples
 pub mod JobSentences
 mod JobTexts
-mod JsonObjectLemmas
-mod JsonTextLemmas
+mod JsonObjectFacts
+mod JsonTextFacts
 mod Leaves
 mod Limiting
-pub mod TextLemmas
+pub mod TextFacts
 mod Walks
 mod Within
 mod Writing

@@ -6,7 +6,7 @@ use Rattle.std.proofs.lemmas.Bool.{leb-true, and_parts}
 use Rattle.std.proofs.lemmas.Fmt.{decimal_by_steps, length-decimal-le}
 use Rattle.std.proofs.lemmas.List.{length-append, length-drop, length-take}
 use Rattle.line_words.specs.Figures.{escaped_byte, hex_digit, named}
-use Rattle.line_words.specs.Reason.{shown_byte}
+use Rattle.line_words.specs.Reason.{named_byte}
 use Rattle.subcommands.specs.CommandWords.{code_words}
 use Rattle.subcommands.specs.JobLines.{name_byte}
 use Rattle.subcommands.specs.JobSentences.{IsWithin, first_of, last_of}
@@ -84,7 +84,7 @@ code_part b =
     (one_of 4 (b == 10) (codes "LF") _ (λ e. literal 4 _ refl refl)
     (one_of 4 (b == 12) (codes "FF") _ (λ e. literal 4 _ refl refl) (escaped_part b))))
 
-pub shown_part : (b : ℕ) → IsWithin 3 (shown_byte b)
+pub shown_part : (b : ℕ) → IsWithin 3 (named_byte b)
 shown_part b = one_of 3 (nat_le 33 b && nat_le b 126) (b ∷ []) _ (λ e. self_part 3 b (omega arith) (let h : 33 ≤ b = leb-true 33 b (and_parts (nat_le 33 b) (nat_le b 126) e).0 in omega arith)) (joined (120 ∷ []) _ (literal 1 _ refl refl) (digits_part b))
 
 -- ---- texts of many bytes

@@ -4,7 +4,7 @@ use Rattle.std.proofs.Math.Seq.{split_at}
 use Rattle.std.proofs.lemmas.List.{map_more, map-append}
 use Rattle.std.proofs.lemmas.List.Folds.{concat-append}
 use Rattle.std.specs.List.{concat}
-use Rattle.streams.proofs.OutletLemmas.{Adds-trans}
+use Rattle.streams.proofs.OutletFacts.{Adds-trans}
 use Rattle.device_profile.specs.declared.fault.Cause.{Cause}
 use Rattle.streams.specs.Outlet.{OutletState, Adds, AddsFront}
 use Rattle.preflight.specs.Writing.{Writes}

@@ -80,7 +80,7 @@ work out ended = record { out = out; ended = ended }
 
 -- a line, and what stands below it: the job, the number of the group from 0, what reading the job led to, what came of it, what the
 -- system said of a read that failed, and what came of the notes where they are told
-pub record Line : Type 0 where
+pub record CheckLine : Type 0 where
   pub job : List ℕ
   pub group : ℕ
   pub after : SourceState
@@ -88,17 +88,17 @@ pub record Line : Type 0 where
   pub cause : Option (List ℕ)
   pub noted : Option Noted
 
-abbrev pub line_text : Groups → HowTold → Line → List ℕ
+abbrev pub line_text : Groups → HowTold → CheckLine → List ℕ
 line_text groups telling line =
     let group = group_at groups line.group in
     report_text telling (reported group line.job line.answer line.cause) ++ noted_text telling group line.job line.noted
 
 -- its answer is right for its group, where reading the job began as this says
-abbrev pub IsAnswered : Groups → (List ℕ → SourceState) → Line → Type 0
+abbrev pub IsAnswered : Groups → (List ℕ → SourceState) → CheckLine → Type 0
 IsAnswered groups start line = IsRightAnswer (group_at groups line.group).fleet (start line.job) line.after line.answer
 
 -- and so are the notes for its first printer, which there are just where they are told and the job passes
-abbrev pub IsRightLine : Groups → HowTold → (List ℕ → SourceState) → Line → Type 0
+abbrev pub IsRightLine : Groups → HowTold → (List ℕ → SourceState) → CheckLine → Type 0
 IsRightLine groups telling start line =
     let group = group_at groups line.group in
     IsAnswered groups start line
@@ -112,33 +112,33 @@ abbrev pub due_of : Groups → List ℕ → List (List ℕ × ℕ)
 due_of groups job = map (keyed job) (range_with_len 0 (group_count groups))
 
 -- what the readings of a job led to
-abbrev pub afters_of : Line → List SourceState
+abbrev pub afters_of : CheckLine → List SourceState
 afters_of line = line.after ∷ noted_after line.noted
 
-abbrev pub afters : List Line → List SourceState
+abbrev pub afters : List CheckLine → List SourceState
 afters lines = flat_map afters_of lines
 
 -- these lines stand there, one for each that is due, each right for what its job gave
-pub record Tells (groups : Groups) (telling : HowTold) (start : List ℕ → SourceState) (due : List (List ℕ × ℕ)) (lines : List Line) (old new : Work) : Type 0 where
+pub record TellsLines (groups : Groups) (telling : HowTold) (start : List ℕ → SourceState) (due : List (List ℕ × ℕ)) (lines : List CheckLine) (old new : Work) : Type 0 where
   pub in_order : map (λ line. (line.job, line.group)) lines ≡ due
   pub right : AllByRecursion (IsRightLine groups telling start) lines
   pub written : Adds old.out new.out (flat_map (line_text groups telling) lines)
   pub ended : new.ended ≡ old.ended ++ afters lines
 
 -- how a line counts, with its notes
-abbrev pub ending_of_line : Bool → Line → Ending
+abbrev pub ending_of_line : Bool → CheckLine → Ending
 ending_of_line exit_zero line = worse (ending_of exit_zero (verdict_of line.answer)) (ending_of_noted line.noted)
 
-abbrev pub worst : Bool → List Line → Ending
+abbrev pub worst : Bool → List CheckLine → Ending
 worst exit_zero lines = fold (λ ending line. worse ending (ending_of_line exit_zero line)) Passes lines
 
 -- all lines that are due stand there, and the ending is the worst of theirs
 abbrev pub TellsAll : Groups → HowTold → List (List ℕ × ℕ) → (List ℕ → SourceState) → Ending → Work → Work → Type 0
 TellsAll groups telling due start ending old new =
-    (lines : List Line) × Tells groups telling start due lines old new × (ending ≡ worst telling.exit_zero lines)
+    (lines : List CheckLine) × TellsLines groups telling start due lines old new × (ending ≡ worst telling.exit_zero lines)
 
 -- each line is right, but the last one may lack its notes
-abbrev pub AreRightToCut : Groups → HowTold → (List ℕ → SourceState) → List Line → Type 0
+abbrev pub AreRightToCut : Groups → HowTold → (List ℕ → SourceState) → List CheckLine → Type 0
 AreRightToCut groups telling start [] = ⊤
 AreRightToCut groups telling start (line ∷ lines) =
     (IsRightLine groups telling start line ⊎ (IsAnswered groups start line × (line.noted ≡ None) × (lines ≡ [])))
@@ -147,7 +147,7 @@ AreRightToCut groups telling start (line ∷ lines) =
 -- Some first lines of those that are due are right, and a front of their text stands there; of the next job, or of the notes of the last
 -- one, perhaps there was no memory for the line.
 pub record TellsFront (groups : Groups) (telling : HowTold) (start : List ℕ → SourceState) (due : List (List ℕ × ℕ)) (old new : Work) : Type 0 where
-  pub lines : List Line
+  pub lines : List CheckLine
   pub later : List (List ℕ × ℕ)
   pub untold : List SourceState
   pub in_order : map (λ line. (line.job, line.group)) lines ++ later ≡ due

@@ -8,7 +8,7 @@ ghost use Rattle.subcommands.specs.Texts.{IsErrorOfReading};
 
 use crate::copied_texts::{CopiedTexts, note_printers, printer_names};
 use crate::fleet::{limited_fleet, read_fleet};
-use crate::groups::Group;
+use crate::groups::PrinterGroup;
 use crate::job_checks::{Ending, check_jobs};
 use crate::jobs::Jobs;
 use crate::refusals::{
@@ -78,7 +78,7 @@ pub fn check_many<'n, J: Jobs<'n>, T: ProfileTexts, O: Outlet, E: Outlet, A: All
     let Ok(note_printers) = note_printers(alloc, asked.tells_notes, copies.as_slice()) else {
         return Status::Stopped(Error::Memory);
     };
-    let printers = Group::new(
+    let printers = PrinterGroup::new(
         fleet.as_slice(),
         note_printers.as_slice(),
         names.as_slice(),
@@ -92,7 +92,7 @@ fn check_for<'n, J: Jobs<'n>, O: Outlet, A: Allocator + Copy>(
     alloc: A,
     jobs: &mut J,
     asked: &ManyJobs<'_, 'n>,
-    printers: &Group<'_, A>,
+    printers: &PrinterGroup<'_, A>,
     stdout: &mut O,
 ) -> Status
     requires stdout { IsFalse (O.state stdout.old).failed }

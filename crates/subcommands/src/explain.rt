@@ -9,9 +9,9 @@ use crate::status::{Status, write_pieces};
 use itoa::Buffer;
 use preflight::{Error, Outlet, write_text};
 
-/// The command `explain`: on standard output what the faults, findings and notes mean that have this
-/// number or name, or what all mean. A code that none has is a usage error, of which standard error
-/// tells.
+/// The command `explain`: on standard output what the faults, findings and notes mean that have
+/// this number or name, or what all mean. A code that none has is a usage error, of which standard
+/// error tells.
 pub fn explain<O: Outlet, E: Outlet>(code: Option<&str>, stdout: &mut O, stderr: &mut E) -> Status
     requires stdout { IsFalse (O.state stdout.old).failed }
     requires stderr { IsFalse (E.state stderr.old).failed }

@@ -2,9 +2,9 @@
 ghost use Rattle.std.specs.Prelude.{map};
 ghost use Rattle.subcommands.specs.Explanations.{ExplainReasons};
 
-/// The faults of a job's bytes, the findings of a printer and the notes of a job, in the order of their
-/// numbers: for each its number and name, when it comes, of a note what a printer may do, what to
-/// change, and where HP's PCL 5 Printer Language Technical Reference Manual treats of it.
+/// The faults of a job's bytes, the findings of a printer and the notes of a job, in the order of
+/// their numbers: for each its number and name, when it comes, of a note what a printer may do,
+/// what to change, and where HP's PCL 5 Printer Language Technical Reference Manual treats of it.
 ///
 /// `docs/DEFINITIONS.md` has the same sentences, and `docs/check_commands.py` compares the two.
 pub const EXPLANATIONS: [&str; 45] = [

@@ -8,7 +8,7 @@ use std::marker::Model;
 
 /// Printers with their names, which stand in the same order.
 #[derive(Drop)]
-pub struct Group<'f, A: Allocator> {
+pub struct PrinterGroup<'f, A: Allocator> {
     profiles: &'f [Profile<A>],
     /// The printers that notes are told for.
     note_printers: &'f [Profile<A>],
@@ -16,7 +16,7 @@ pub struct Group<'f, A: Allocator> {
     is_each: bool,
 }
 
-impl<'f, A: Allocator> Model for Group<'f, A> {
+impl<'f, A: Allocator> Model for PrinterGroup<'f, A> {
     ghost use Rattle.std.specs.Prelude.{map};
     ghost use Rattle.subcommands.specs.Groups.{Groups};
 
@@ -30,7 +30,7 @@ impl<'f, A: Allocator> Model for Group<'f, A> {
     } };
 }
 
-impl<'f, A: Allocator> Group<'f, A> {
+impl<'f, A: Allocator> PrinterGroup<'f, A> {
     /// Printers, those that notes are told for, and the names; where `is_each` is set each printer
     /// has lines of its own, which name it.
     pub fn new(
@@ -38,7 +38,7 @@ impl<'f, A: Allocator> Group<'f, A> {
         note_printers: &'f [Profile<A>],
         names: &'f [Vec<u8, A>],
         is_each: bool,
-    ) -> Group<'f, A>
+    ) -> PrinterGroup<'f, A>
         ensures { result ≡ record {
           fleet = profiles.now;
           note_printers = note_printers.now;
@@ -46,7 +46,7 @@ impl<'f, A: Allocator> Group<'f, A> {
           is_each = is_each;
         } }
     {
-        Group {
+        PrinterGroup {
             profiles,
             note_printers,
             names,
@@ -101,10 +101,10 @@ impl<'f, A: Allocator> Group<'f, A> {
 
     /// The group of this number, from 0.
     #[tactic(auto, using(crate::proofs::JobChecks::map_of_group))]
-    pub fn part(&self, number: usize) -> Group<'f, A>
+    pub fn part(&self, number: usize) -> PrinterGroup<'f, A>
         ensures { result ≡ group_at self.now number }
     {
-        Group {
+        PrinterGroup {
             profiles: of_group(self.is_each, self.profiles, number),
             note_printers: of_group(self.is_each, self.note_printers, number),
             names: of_group(self.is_each, self.names, number),

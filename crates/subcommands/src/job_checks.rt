@@ -7,7 +7,7 @@ ghost use Rattle.subcommands.specs.JobChecks.{AddsTold, CutsTold, IsErrorOfLine,
 ghost use Rattle.subcommands.specs.Reports.{verdict_of};
 ghost use Rattle.subcommands.specs.Telling.{report_text};
 
-use crate::groups::Group;
+use crate::groups::PrinterGroup;
 use crate::job_noting::{note_printer, tell_notes};
 use crate::jobs::Jobs;
 use crate::reports::Report;
@@ -68,7 +68,7 @@ pub fn check_jobs<'n, J: Jobs<'n>, O: Outlet, A: Allocator + Copy>(
     alloc: A,
     jobs: &mut J,
     names: &[&'n [u8]],
-    printers: &Group<'_, A>,
+    printers: &PrinterGroup<'_, A>,
     telling: &Telling<'_>,
     stdout: &mut O,
 ) -> Result<Ending, Error>
@@ -99,7 +99,7 @@ fn tell_job<'n, J: Jobs<'n>, O: Outlet, A: Allocator + Copy>(
     alloc: A,
     jobs: &mut J,
     name: &'n [u8],
-    printers: &Group<'_, A>,
+    printers: &PrinterGroup<'_, A>,
     telling: &Telling<'_>,
     stdout: &mut O,
 ) -> Result<Ending, Error>
@@ -131,7 +131,7 @@ fn tell_group<'n, J: Jobs<'n>, O: Outlet, A: Allocator + Copy>(
     alloc: A,
     jobs: &mut J,
     name: &'n [u8],
-    printers: &Group<'_, A>,
+    printers: &PrinterGroup<'_, A>,
     number: usize,
     telling: &Telling<'_>,
     stdout: &mut O,
@@ -170,7 +170,7 @@ fn tell_group<'n, J: Jobs<'n>, O: Outlet, A: Allocator + Copy>(
 fn check_group<S: Source, A: Allocator + Copy>(
     alloc: A,
     job: &mut S,
-    group: &Group<'_, A>,
+    group: &PrinterGroup<'_, A>,
 ) -> Result<Judgement, Error>
     requires job { IsFalse (S.state job.old).failed }
     requires some { group.now.fleet ≢ [] }
@@ -182,7 +182,7 @@ fn check_group<S: Source, A: Allocator + Copy>(
 /// Writes what came of a job, with what the system says of an error, where it can be had.
 pub(crate) fn tell_line<'t, O: Outlet, A: Allocator + Copy>(
     alloc: A,
-    group: &'t Group<'t, A>,
+    group: &'t PrinterGroup<'t, A>,
     name: &'t [u8],
     answer: Result<Judgement, Error>,
     error: Option<io::Error>,
@@ -205,7 +205,7 @@ pub(crate) fn tell_line<'t, O: Outlet, A: Allocator + Copy>(
 /// What is told of a job, with what the system says of an error, where it can be had.
 fn line_of_job<'t, A: Allocator + Copy>(
     alloc: A,
-    group: &'t Group<'t, A>,
+    group: &'t PrinterGroup<'t, A>,
     name: &'t [u8],
     answer: Result<Judgement, Error>,
     error: Option<io::Error>,

@@ -9,7 +9,7 @@ ghost use Rattle.subcommands.specs.JobNoting.{AreRightNotes, Noted, ending_of_no
 ghost use Rattle.subcommands.specs.NoteReports.{subject_of, told_note};
 ghost use Rattle.subcommands.specs.Reports.{verdict_of};
 
-use crate::groups::Group;
+use crate::groups::PrinterGroup;
 use crate::job_checks::{Ending, tell_line};
 use crate::job_notes::kept_error;
 use crate::jobs::Jobs;
@@ -46,7 +46,7 @@ pub fn tell_notes<'n, J: Jobs<'n>, O: Outlet, A: Allocator + Copy>(
     alloc: A,
     jobs: &mut J,
     name: &'n [u8],
-    group: &Group<'_, A>,
+    group: &PrinterGroup<'_, A>,
     printer: &Profile<A>,
     telling: &Telling<'_>,
     stdout: &mut O,
@@ -81,7 +81,7 @@ fn read_notes<'t, S: Source, A: Allocator + Copy>(
     alloc: A,
     job: &mut S,
     name: &'t [u8],
-    group: &'t Group<'t, A>,
+    group: &'t PrinterGroup<'t, A>,
     printer: &Profile<A>,
     telling: &Telling<'t>,
 ) -> Result<Vec<u8, A>, Error>
@@ -125,7 +125,7 @@ fn write_notes<'t, O: Outlet, A: Allocator + Copy>(
     notes: Result<Vec<u8, A>, Error>,
     error: Option<io::Error>,
     name: &'t [u8],
-    group: &'t Group<'t, A>,
+    group: &'t PrinterGroup<'t, A>,
     telling: &Telling<'_>,
     stdout: &mut O,
 ) -> Result<Ending, Error>

@@ -49,7 +49,7 @@ pub use file_jobs::{FileJobs, JobSource};
 pub use file_texts::FileTexts;
 pub use fleet::refusal;
 pub use front::read_front;
-pub use groups::Group;
+pub use groups::PrinterGroup;
 pub use job_sentences::{push_job_sentence, push_named_first, sentences_are_short};
 pub use jobs::Jobs;
 pub use kept_text::KeptText;

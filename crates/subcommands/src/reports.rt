@@ -2,7 +2,7 @@
 ghost use Rattle.std.specs.Prelude.{◌≡◌, ◌≤◌, ◌-◌, [], get_or};
 ghost use Rattle.subcommands.specs.Reports.{culprit_of, number_told, verdict_of};
 
-use crate::groups::Group;
+use crate::groups::PrinterGroup;
 use preflight::{Culprit, Error, Judgement, Verdict};
 use std::alloc::Allocator;
 use std::marker::Model;
@@ -10,7 +10,7 @@ use std::marker::Model;
 /// What came of a job for some printers.
 #[derive(Drop)]
 pub struct Report<'t, 'c, A: Allocator> {
-    pub printers: &'t Group<'t, A>,
+    pub printers: &'t PrinterGroup<'t, A>,
     /// The name of the job.
     pub job: &'t [u8],
     pub answer: Result<Judgement, Error>,

@@ -1,12 +1,12 @@
 -- The numbers of faults, and those of all reasons; of findings they stand in the order of these.
 use Rattle.std.specs.Prelude.{ℕ}
-use Rattle.pcl_items.specs.declared.fault.Cause.{Cause}
-use Rattle.pcl_items.specs.declared.fault.Cause.TheVariants.{Syntax, Truncated, NotInProfile, BadNumber, Pjl, EndInFrame}
+use Rattle.pcl_items.specs.declared.fault.LexCause.{LexCause}
+use Rattle.pcl_items.specs.declared.fault.LexCause.TheVariants.{Syntax, Truncated, NotInProfile, BadNumber, Pjl, EndInFrame}
 use Rattle.page_env.specs.Order.{number_of}
 use Rattle.verdict.specs.declared.reason.Reason.{Reason}
 use Rattle.verdict.specs.declared.reason.Reason.TheVariants.{Fault, Finding, Differs, Unpinnable}
 
-abbrev pub cause_number : Cause → ℕ
+abbrev pub cause_number : LexCause → ℕ
 cause_number Syntax = 1
 cause_number Truncated = 2
 cause_number (NotInProfile name) = 3

@@ -20,7 +20,11 @@ pub struct Failure {
 impl Failure {
     /// The failure of a job with a fault of its bytes.
     pub fn of_fault(fault: LexFault) -> Failure
-        ensures { result ≡ record { place = fault.place; profile = 0; reason = Reason.Fault fault.cause } }
+        ensures { result ≡ record {
+          place = fault.place;
+          profile = 0;
+          reason = Reason.Fault fault.cause;
+        } }
     {
         Failure {
             place: fault.place,
@@ -31,7 +35,11 @@ impl Failure {
 
     /// The failure of a job by what the item at this place comes to on the printer of this number.
     pub fn of_finding(place: u64, profile: u64, finding: Finding) -> Failure
-        ensures { result ≡ record { place = place; profile = profile; reason = Reason.Finding finding } }
+        ensures { result ≡ record {
+          place = place;
+          profile = profile;
+          reason = Reason.Finding finding;
+        } }
     {
         Failure {
             place,
@@ -40,8 +48,8 @@ impl Failure {
         }
     }
 
-    /// The failure of a job by the item at this place, which gives other marks or pages on the printer of this number than on the
-    /// first.
+    /// The failure of a job by the item at this place, which gives other marks or pages on the
+    /// printer of this number than on the first.
     pub fn of_difference(place: u64, profile: u64) -> Failure
         ensures { result ≡ record { place = place; profile = profile; reason = Reason.Differs } }
     {

@@ -4,19 +4,19 @@ ghost use Rattle.page_env.specs.Order.{number_of};
 ghost use Rattle.verdict.specs.Numbers.{cause_number};
 
 use page_env::Finding;
-use pcl_items::Cause;
+use pcl_items::LexCause;
 
 /// The number of a fault.
-pub fn cause_number(cause: Cause) -> u8
+pub fn cause_number(cause: LexCause) -> u8
     ensures { result ≡ cause_number cause }
 {
     match cause {
-        Cause::Syntax => 1,
-        Cause::Truncated => 2,
-        Cause::NotInProfile(_) => 3,
-        Cause::BadNumber => 4,
-        Cause::Pjl => 5,
-        Cause::EndInFrame => 6,
+        LexCause::Syntax => 1,
+        LexCause::Truncated => 2,
+        LexCause::NotInProfile(_) => 3,
+        LexCause::BadNumber => 4,
+        LexCause::Pjl => 5,
+        LexCause::EndInFrame => 6,
     }
 }
 

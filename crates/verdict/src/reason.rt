@@ -5,13 +5,13 @@ ghost use Rattle.verdict.specs.Numbers.{reason_number};
 
 use crate::numbers::{cause_number, number_of};
 use page_env::Finding;
-use pcl_items::Cause;
+use pcl_items::LexCause;
 
 /// Why a job fails.
 #[derive(Clone, Copy, Debug, PartialEq, Eq)]
 pub enum Reason {
     /// The bytes at the place are no item.
-    Fault(Cause),
+    Fault(LexCause),
     /// The item at the place is wrong for a printer.
     Finding(Finding),
     /// The item at the place gives other marks or pages than with the first profile.

@@ -30,7 +30,7 @@ told_behind told [] = told
 told_behind told (x ∷ notes) = told_behind (among_behind told x.note) notes
 
 -- what is told so of the first of these was appended, and these count as told
-pub record Tells (write : Told → List ℕ) (told told' : List Note) (text text' : List ℕ) (notes : List Told) : Type 0 where
+pub record WritesNotes (write : Told → List ℕ) (told told' : List Note) (text text' : List ℕ) (notes : List Told) : Type 0 where
   pub text_is : text' ≡ text ++ flat_map write (firsts told notes)
   pub told_is : told' ≡ told_behind told notes
 

@@ -5,7 +5,7 @@ use Rattle.std.proofs.lemmas.Bool.{eqb-true, eq-eqb, leb-true, le-leb, and_from,
 use Rattle.pcl_items.specs.declared.number.Sign.{Sign}
 use Rattle.pcl_items.specs.declared.number.Sign.TheVariants.{Absent, Plus, Minus}
 use Rattle.pcl_items.specs.Escapes.Value.{Amount, Counts}
-use Rattle.pcl_items.specs.Escapes.Lone.{is_minus, count_of}
+use Rattle.pcl_items.specs.Escapes.Ungrouped.{is_minus, count_of}
 use Rattle.pcl_items.proofs.Escapes.Tables.{both_true}
 
 -- the tests of the sign and the magnitude

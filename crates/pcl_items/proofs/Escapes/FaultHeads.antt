@@ -8,24 +8,24 @@ use Rattle.pcl_items.specs.declared.pcl.command.Command.{Command}
 use Rattle.pcl_items.specs.declared.pcl.command.DataCommand.{DataCommand}
 use Rattle.pcl_items.specs.Lexing.Contexts.{Context, Pcl, Sequence}
 use Rattle.pcl_items.specs.declared.fault.Name.TheVariants as names
-use Rattle.pcl_items.specs.declared.fault.Cause.TheVariants.{Syntax, Truncated, NotInProfile}
+use Rattle.pcl_items.specs.declared.fault.LexCause.TheVariants.{Syntax, Truncated, NotInProfile}
 use Rattle.pcl_items.specs.declared.item.Mode.TheVariants as modes
 use Rattle.pcl_items.specs.Escapes.Commands.{introducer_of, character_of, letter_of, group_at, command_at, data_group_of, data_letter_of, data_command_at}
 use Rattle.pcl_items.specs.Escapes.Value.{Amount}
 use Rattle.pcl_items.specs.Escapes.Field.{field_at, amount_of}
 use Rattle.pcl_items.specs.Escapes.ValueField.{IsField}
 use Rattle.pcl_items.specs.Grammar.{escape, small}
-use Rattle.pcl_items.specs.Reader.{First, Open, Passes, Begins, Faulty, behind, named, with_data, by_last_letter, by_other_letter, by_last_byte, after_field, command_in, is_group_or_parameter, is_termination, lone, by_termination, after_lone_field, without_group, in_group, after_introducer, after_parenthesis, by_character, after_escape, by_code, exit_or, first_of}
+use Rattle.pcl_items.specs.Reader.{First, Open, Passes, Begins, Faulty, behind, named, with_data, by_last_letter, by_other_letter, by_last_byte, after_field, command_in, is_group_or_parameter, is_termination, ungrouped, by_termination, after_ungrouped_field, without_group, in_group, after_introducer, after_parenthesis, by_character, after_escape, by_code, exit_or, first_of}
 use Rattle.pcl_items.specs.Items.{Entry}
 use Rattle.pcl_items.specs.Escapes.Codes.{control_at, sequence_at}
-use Rattle.pcl_items.specs.Escapes.Lone.{lone_at, count_of}
+use Rattle.pcl_items.specs.Escapes.Ungrouped.{ungrouped_at, count_of}
 use Rattle.pcl_items.specs.Faults as rules
-use Rattle.pcl_items.specs.Faults.{Ends, NumberFault, IsCut, IsCapital, IsSmall, IsUnknown, CommandFault, number, no_letter, unknown_last, unknown_more, data_goes_on, no_count, cut_data, cut_command, LoneFault, lone_number, no_end, unknown_end, cut_lone, HasGroups, BeginsSmall, UnitFault, no_byte, cut_escape, no_sequence, no_character, cut_introducer, no_group, unknown_group, font, language}
+use Rattle.pcl_items.specs.Faults.{Ends, NumberFault, IsCut, IsCapital, IsSmall, IsUnknown, CommandFault, number, no_letter, unknown_last, unknown_more, data_goes_on, no_count, cut_data, cut_command, UngroupedFault, ungrouped_number, no_end, unknown_end, cut_ungrouped, HasGroups, BeginsSmall, UnitFault, no_byte, cut_escape, no_sequence, no_character, cut_introducer, no_group, unknown_group, font, language}
 use Rattle.pcl_items.specs.PjlLines.Exit.{exit_field, BeginsExit, begins_with}
 use Rattle.pcl_items.proofs.PjlLines.Exits.{not_exit}
 use Rattle.pcl_items.proofs.Escapes.Tables.{both_true, command_known, group_found, group_known, data_command_known, data_command_found}
 use Rattle.pcl_items.proofs.Escapes.Counted.{counts_of, no_counts_of}
-use Rattle.pcl_items.proofs.Escapes.Lones.{lone_known}
+use Rattle.pcl_items.proofs.Escapes.Ungrouped.{ungrouped_known}
 use Rattle.pcl_items.proofs.Escapes.Fields.{field_spelled}
 use Rattle.pcl_items.proofs.Escapes.Shapes.{longest, long_fault, range_fault, cut_shape}
 
@@ -128,33 +128,33 @@ command_told g bytes =
 
 -- ---- a sequence without a group
 
-abbrev pub TellsLone : ℕ → List ℕ → First → Type 0
-TellsLone i bytes Open = LoneFault i bytes Truncated
-TellsLone i bytes (Passes len next) = Unit {0}
-TellsLone i bytes (Begins item len next) = Unit {0}
-TellsLone i bytes (Faulty cause) = LoneFault i bytes cause
+abbrev pub TellsUngrouped : ℕ → List ℕ → First → Type 0
+TellsUngrouped i bytes Open = UngroupedFault i bytes Truncated
+TellsUngrouped i bytes (Passes len next) = Unit {0}
+TellsUngrouped i bytes (Begins item len next) = Unit {0}
+TellsUngrouped i bytes (Faulty cause) = UngroupedFault i bytes cause
 
-told_lone : (o : Option Entry) (i : ℕ) (text : List ℕ) (a : Amount) (c : ℕ) (rest : List ℕ) (len : ℕ) → IsField text a → IsCapital c → lone_at i a c ≡ o → TellsLone i (text ++ c ∷ rest) (lone o i c len)
-told_lone None i text a c rest len f h e = unknown_end rest f h (λ item mode k. let both : None ≡ Some item = sym e ∙ lone_known k in absurd cc)
-told_lone (Some item) i text a c rest len f h e = tt
+told_ungrouped : (o : Option Entry) (i : ℕ) (text : List ℕ) (a : Amount) (c : ℕ) (rest : List ℕ) (len : ℕ) → IsField text a → IsCapital c → ungrouped_at i a c ≡ o → TellsUngrouped i (text ++ c ∷ rest) (ungrouped o i c len)
+told_ungrouped None i text a c rest len f h e = unknown_end rest f h (λ item mode k. let both : None ≡ Some item = sym e ∙ ungrouped_known k in absurd cc)
+told_ungrouped (Some item) i text a c rest len f h e = tt
 
-lone_amount : (o : Option Amount) (i : ℕ) (bytes : List ℕ) (c : ℕ) (rest : List ℕ) → (field_at bytes).len ≤ 16 → amount_of (field_at bytes) ≡ o → drop (field_at bytes).len bytes ≡ c ∷ rest → TellsLone i bytes (by_termination o i (field_at bytes).len c)
-lone_amount None i bytes c rest short e d = lone_number (range_fault bytes c rest short d e)
-lone_amount (Some a) i bytes c rest short e d =
+ungrouped_amount : (o : Option Amount) (i : ℕ) (bytes : List ℕ) (c : ℕ) (rest : List ℕ) → (field_at bytes).len ≤ 16 → amount_of (field_at bytes) ≡ o → drop (field_at bytes).len bytes ≡ c ∷ rest → TellsUngrouped i bytes (by_termination o i (field_at bytes).len c)
+ungrouped_amount None i bytes c rest short e d = ungrouped_number (range_fault bytes c rest short d e)
+ungrouped_amount (Some a) i bytes c rest short e d =
     let f = front bytes a c rest short e d in
-    subst (λ (l : List ℕ). TellsLone i l (by_termination (Some a) i (field_at bytes).len c)) (sym f.whole)
-    (cond_both (is_termination c) _ _ (TellsLone i (f.text ++ c ∷ rest)) (λ t. told_lone (lone_at i a c) i f.text a c rest ((field_at bytes).len + 3) f.field (capital_is c t) refl)
+    subst (λ (l : List ℕ). TellsUngrouped i l (by_termination (Some a) i (field_at bytes).len c)) (sym f.whole)
+    (cond_both (is_termination c) _ _ (TellsUngrouped i (f.text ++ c ∷ rest)) (λ t. told_ungrouped (ungrouped_at i a c) i f.text a c rest ((field_at bytes).len + 3) f.field (capital_is c t) refl)
     (λ t. no_end rest f.field f.ends (λ h. both_ways (is_termination c) t (is_capital c h))))
 
-lone_rest : (i : ℕ) (bytes rest : List ℕ) → (field_at bytes).len ≤ 16 → drop (field_at bytes).len bytes ≡ rest → TellsLone i bytes (after_lone_field i (field_at bytes) rest)
-lone_rest i bytes [] short d = cut_lone (cut_shape bytes short d)
-lone_rest i bytes (c ∷ rest) short d = lone_amount (amount_of (field_at bytes)) i bytes c rest short refl d
+ungrouped_rest : (i : ℕ) (bytes rest : List ℕ) → (field_at bytes).len ≤ 16 → drop (field_at bytes).len bytes ≡ rest → TellsUngrouped i bytes (after_ungrouped_field i (field_at bytes) rest)
+ungrouped_rest i bytes [] short d = cut_ungrouped (cut_shape bytes short d)
+ungrouped_rest i bytes (c ∷ rest) short d = ungrouped_amount (amount_of (field_at bytes)) i bytes c rest short refl d
 
-lone_told : (i : ℕ) (bytes : List ℕ) → TellsLone i bytes (without_group i bytes)
+ungrouped_told : (i : ℕ) (bytes : List ℕ) → TellsUngrouped i bytes (without_group i bytes)
 unfolding without_group
-lone_told i bytes =
-    cond_both (nat_lt 16 (field_at bytes).len) _ _ (TellsLone i bytes) (λ e. lone_number (long_fault bytes (ltb-true 16 (field_at bytes).len e)))
-    (λ e. lone_rest i bytes (drop (field_at bytes).len bytes) (ltb-false 16 (field_at bytes).len e) refl)
+ungrouped_told i bytes =
+    cond_both (nat_lt 16 (field_at bytes).len) _ _ (TellsUngrouped i bytes) (λ e. ungrouped_number (long_fault bytes (ltb-true 16 (field_at bytes).len e)))
+    (λ e. ungrouped_rest i bytes (drop (field_at bytes).len bytes) (ltb-false 16 (field_at bytes).len e) refl)
 
 -- ---- what is read of a unit
 
@@ -189,13 +189,13 @@ introducer_told i (c ∷ bytes) h k =
     cond_both (is_group_or_parameter c) _ _ (TellsUnit (escape ∷ i ∷ c ∷ bytes)) (λ e. group_told (group_at i c) i c bytes h (small_is c e) refl)
     (λ e. no_group h k (λ s. both_ways (is_group_or_parameter c) e (is_small c s)))
 
-font_told : (bytes : List ℕ) (f : First) → (BeginsSmall bytes → ⊥) → TellsLone 40 bytes f → TellsUnit (escape ∷ 40 ∷ bytes) f
+font_told : (bytes : List ℕ) (f : First) → (BeginsSmall bytes → ⊥) → TellsUngrouped 40 bytes f → TellsUnit (escape ∷ 40 ∷ bytes) f
 font_told bytes Open k h = font k h
 font_told bytes (Passes len next) k h = tt
 font_told bytes (Begins item len next) k h = tt
 font_told bytes (Faulty cause) k h = font k h
 
-language_told : (bytes : List ℕ) (f : First) → (BeginsExit bytes → ⊥) → TellsLone 37 bytes f → TellsUnit (escape ∷ 37 ∷ bytes) f
+language_told : (bytes : List ℕ) (f : First) → (BeginsExit bytes → ⊥) → TellsUngrouped 37 bytes f → TellsUnit (escape ∷ 37 ∷ bytes) f
 language_told bytes Open k h = language k h
 language_told bytes (Passes len next) k h = tt
 language_told bytes (Begins item len next) k h = tt
@@ -203,14 +203,14 @@ language_told bytes (Faulty cause) k h = language k h
 
 percent_told : (bytes : List ℕ) → TellsUnit (escape ∷ 37 ∷ bytes) (exit_or (without_group 37 bytes) bytes)
 percent_told bytes =
-    cond_both (begins_with exit_field bytes) _ _ (TellsUnit (escape ∷ 37 ∷ bytes)) (λ _. tt) (λ e. language_told bytes (without_group 37 bytes) (not_exit bytes e) (lone_told 37 bytes))
+    cond_both (begins_with exit_field bytes) _ _ (TellsUnit (escape ∷ 37 ∷ bytes)) (λ _. tt) (λ e. language_told bytes (without_group 37 bytes) (not_exit bytes e) (ungrouped_told 37 bytes))
 
 parenthesis_told : (bytes : List ℕ) → TellsUnit (escape ∷ 40 ∷ bytes) (after_parenthesis bytes)
 unfolding after_parenthesis
 parenthesis_told [] = cut_introducer (inr (inr refl))
 parenthesis_told (c ∷ bytes) =
     cond_both (is_group_or_parameter c) _ _ (TellsUnit (escape ∷ 40 ∷ c ∷ bytes)) (λ e. group_told (group_at 40 c) 40 c bytes (inr (inr refl)) (small_is c e) refl)
-    (λ e. font_told (c ∷ bytes) (without_group 40 (c ∷ bytes)) (λ s. both_ways (is_group_or_parameter c) e (is_small c s)) (lone_told 40 (c ∷ bytes)))
+    (λ e. font_told (c ∷ bytes) (without_group 40 (c ∷ bytes)) (λ s. both_ways (is_group_or_parameter c) e (is_small c s)) (ungrouped_told 40 (c ∷ bytes)))
 
 either_byte : (b : ℕ) → ((b == 38) || (b == 42)) ≡ true → (b ≡ 38) ⊎ (b ≡ 42)
 either_byte b e = go (b == 38) (b == 42) (eqb-true b 38) (eqb-true b 42) e

@@ -6,12 +6,12 @@ use Rattle.std.proofs.lemmas.Bool.{leb-true, le-leb, le-ltb, lt-ltb, and_from, c
 use Rattle.std.proofs.lemmas.List.{drop_all, drop-drop}
 use Rattle.std.proofs.Math.Seq.{drop-cons}
 use Rattle.pcl_items.specs.declared.pcl.command.Group.{Group}
-use Rattle.pcl_items.specs.declared.fault.Cause.TheVariants as causes
+use Rattle.pcl_items.specs.declared.fault.LexCause.TheVariants as causes
 use Rattle.pcl_items.specs.Escapes.Value.{Amount}
 use Rattle.pcl_items.specs.Escapes.Field.{Field, field_at, amount_of}
 use Rattle.pcl_items.specs.Escapes.FieldEnd.{FieldEnd, Open, BadNumber, Ended, ended_by, with_byte, field_end}
 use Rattle.pcl_items.specs.Frames.Reader.{by_language, after_language_field, language_in}
-use Rattle.pcl_items.specs.Reader.{First, Faulty, by_last_byte, after_field, command_in, by_termination, after_lone_field, without_group}
+use Rattle.pcl_items.specs.Reader.{First, Faulty, by_last_byte, after_field, command_in, by_termination, after_ungrouped_field, without_group}
 use Rattle.pcl_items.specs.Reader as firsts
 use Rattle.pcl_items.proofs.Escapes.Tables.{both_true, by_test}
 
@@ -100,17 +100,17 @@ pub command_by : (g : Group) (bytes : List ℕ) (e : FieldEnd) → e ≡ field_e
 unfolding command_in
 command_by g bytes e is = by_field_end bytes e _ _ is (command_behind g bytes (field_at bytes) (drop (field_at bytes).len bytes) refl)
 
-lone_behind : (introducer : ℕ) (f : Field) (rest : List ℕ) → by_end (with_byte f rest) (λ amount len last. by_termination (Some amount) introducer len last) ≡ after_lone_field introducer f rest
-lone_behind introducer f [] = refl
-lone_behind introducer f (last ∷ rest) = by_number (amount_of f)
+ungrouped_behind : (introducer : ℕ) (f : Field) (rest : List ℕ) → by_end (with_byte f rest) (λ amount len last. by_termination (Some amount) introducer len last) ≡ after_ungrouped_field introducer f rest
+ungrouped_behind introducer f [] = refl
+ungrouped_behind introducer f (last ∷ rest) = by_number (amount_of f)
   where
     by_number : (o : Option Amount) → by_end (ended_by o f.len last) (λ amount len last. by_termination (Some amount) introducer len last) ≡ by_termination o introducer f.len last
     by_number None = refl
     by_number (Some amount) = refl
 
-pub lone_by : (introducer : ℕ) (bytes : List ℕ) (e : FieldEnd) → e ≡ field_end bytes → by_end e (λ amount len last. by_termination (Some amount) introducer len last) ≡ without_group introducer bytes
+pub ungrouped_by : (introducer : ℕ) (bytes : List ℕ) (e : FieldEnd) → e ≡ field_end bytes → by_end e (λ amount len last. by_termination (Some amount) introducer len last) ≡ without_group introducer bytes
 unfolding without_group
-lone_by introducer bytes e is = by_field_end bytes e _ _ is (lone_behind introducer (field_at bytes) (drop (field_at bytes).len bytes))
+ungrouped_by introducer bytes e is = by_field_end bytes e _ _ is (ungrouped_behind introducer (field_at bytes) (drop (field_at bytes).len bytes))
 
 language_behind : (f : Field) (rest : List ℕ) → by_end (with_byte f rest) (λ amount len last. by_language (Some amount) len last) ≡ after_language_field f rest
 language_behind f [] = refl

@@ -7,7 +7,7 @@ use Rattle.std.proofs.lemmas.Bool as bools
 use Rattle.std.proofs.lemmas.List.{drop-drop, length-append, length-take-le, take-append-drop}
 use Rattle.std.proofs.Math.Seq.{drop-append_seam, take-append_seam}
 use Rattle.pcl_items.specs.declared.pcl.command.Group.{Group}
-use Rattle.pcl_items.specs.declared.pcl.command.Group.TheVariants.{Position, Macro, Spacing, Layout, Transparent, Units, RasterData, Rectangle, UnitPosition, Raster, Resolution, Font}
+use Rattle.pcl_items.specs.declared.pcl.command.Group.TheVariants as groups
 use Rattle.pcl_items.specs.declared.pcl.command.Command.{Command}
 use Rattle.pcl_items.specs.declared.pcl.command.DataCommand.{DataCommand}
 use Rattle.pcl_items.specs.declared.item.Mode.{Mode}
@@ -18,15 +18,15 @@ use Rattle.pcl_items.specs.Escapes.Field.{field_at, amount_of}
 use Rattle.pcl_items.specs.Escapes.ValueField.{IsField}
 use Rattle.pcl_items.specs.Items.{Entry, Text, Parameterized, WithData, ExitLanguage}
 use Rattle.pcl_items.specs.PjlLines.Exit.{exit_field, exit_text, BeginsExit, begins_with}
-use Rattle.pcl_items.specs.Escapes.Lone.{lone_at, count_of}
+use Rattle.pcl_items.specs.Escapes.Ungrouped.{ungrouped_at, count_of}
 use Rattle.pcl_items.specs.Escapes.Codes.{control_at, sequence_at}
 use Rattle.pcl_items.specs.Modes.{between}
-use Rattle.pcl_items.specs.Grammar.{escape, small, IsLone}
-use Rattle.pcl_items.specs.Reader.{First, Open, Passes, Begins, Faulty, behind, named, with_data, by_last_letter, by_other_letter, by_last_byte, after_field, command_in, is_group_or_parameter, is_termination, lone, by_termination, after_lone_field, without_group, in_group, after_introducer, after_parenthesis, by_character, after_escape, by_code, exit_or, first_of}
+use Rattle.pcl_items.specs.Grammar.{escape, small, IsUngrouped}
+use Rattle.pcl_items.specs.Reader.{First, Open, Passes, Begins, Faulty, behind, named, with_data, by_last_letter, by_other_letter, by_last_byte, after_field, command_in, is_group_or_parameter, is_termination, ungrouped, by_termination, after_ungrouped_field, without_group, in_group, after_introducer, after_parenthesis, by_character, after_escape, by_code, exit_or, first_of}
 use Rattle.pcl_items.proofs.PjlLines.Exits.{exit_there}
 use Rattle.pcl_items.proofs.Escapes.Tables.{both_true, command_known, capital_letter, group_found, command_found, no_data, data_command_known, data_capital_letter, data_command_found}
 use Rattle.pcl_items.proofs.Escapes.Counted.{counted, counts_of}
-use Rattle.pcl_items.proofs.Escapes.Lones.{lone_known, lone_behind_is, lone_found, lone_letter}
+use Rattle.pcl_items.proofs.Escapes.Ungrouped.{ungrouped_known, ungrouped_behind_is, ungrouped_found, ungrouped_letter}
 use Rattle.pcl_items.proofs.Escapes.Fields.{EndsIn, ends_at_letter, field_read, field_spelled}
 
 pub drop_behind : (text : List ℕ) (c : ℕ) (rest : List ℕ) → drop (length text + 1) (text ++ c ∷ rest) ≡ rest
@@ -36,8 +36,8 @@ pub data_behind : (text : List ℕ) (c : ℕ) (bytes rest : List ℕ) → drop (
 data_behind text c bytes rest =
     sym (drop-drop (length bytes) (length text + 1) (text ++ c ∷ (bytes ++ rest))) ∙ ap (drop (length bytes)) (drop_behind text c (bytes ++ rest)) ∙ drop-append_seam bytes rest
 
-pub lone_behind : (a b : ℕ) (text : List ℕ) (c : ℕ) (rest : List ℕ) → drop (length text + 3) (a ∷ b ∷ (text ++ c ∷ rest)) ≡ rest
-lone_behind a b text c rest = let e : length text + 3 ≡ suc (suc (length text + 1)) = omega arith in ap (λ n. drop n (a ∷ b ∷ (text ++ c ∷ rest))) e ∙ drop_behind text c rest
+pub ungrouped_behind : (a b : ℕ) (text : List ℕ) (c : ℕ) (rest : List ℕ) → drop (length text + 3) (a ∷ b ∷ (text ++ c ∷ rest)) ≡ rest
+ungrouped_behind a b text c rest = let e : length text + 3 ≡ suc (suc (length text + 1)) = omega arith in ap (λ n. drop n (a ∷ b ∷ (text ++ c ∷ rest))) e ∙ drop_behind text c rest
 
 -- ---- a command that is spelled is read
 
@@ -201,22 +201,22 @@ command_spelled g bytes item len next e = subst (Tells g bytes) e (command_tells
 
 pub group_read : (g : Group) (bytes : List ℕ) → first_of true Pcl (escape ∷ introducer_of g ∷ character_of g ∷ bytes) ≡ behind 3 (command_in g bytes)
 unfolding first_of after_escape after_introducer after_parenthesis
-group_read Position bytes = refl
-group_read Macro bytes = refl
-group_read Spacing bytes = refl
-group_read Layout bytes = refl
-group_read Transparent bytes = refl
-group_read Units bytes = refl
-group_read RasterData bytes = refl
-group_read Rectangle bytes = refl
-group_read UnitPosition bytes = refl
-group_read Raster bytes = refl
-group_read Resolution bytes = refl
-group_read Font bytes = refl
+group_read groups.Position bytes = refl
+group_read groups.Macro bytes = refl
+group_read groups.Spacing bytes = refl
+group_read groups.Layout bytes = refl
+group_read groups.Transparent bytes = refl
+group_read groups.Units bytes = refl
+group_read groups.RasterData bytes = refl
+group_read groups.Rectangle bytes = refl
+group_read groups.UnitPosition bytes = refl
+group_read groups.Raster bytes = refl
+group_read groups.Resolution bytes = refl
+group_read groups.Font bytes = refl
 
 pub data HeadUnit : List ℕ → Entry → ℕ → Context → Type 0 where
   text_byte : {code : ℕ} {rest : List ℕ} → 32 ≤ code → HeadUnit (code ∷ rest) (Text code) 1 Pcl
-  lone_item : {introducer letter : ℕ} {text : List ℕ} {amount : Amount} {item : Entry} {mode : Mode} (rest : List ℕ) → IsField text amount → IsLone introducer amount letter item mode →
+  ungrouped_item : {introducer letter : ℕ} {text : List ℕ} {amount : Amount} {item : Entry} {mode : Mode} (rest : List ℕ) → IsField text amount → IsUngrouped introducer amount letter item mode →
       HeadUnit (escape ∷ introducer ∷ (text ++ letter ∷ rest)) item (length text + 3) (between mode)
   control_code : {code : ℕ} {rest : List ℕ} {item : Entry} → control_at code ≡ Some item → HeadUnit (code ∷ rest) item 1 Pcl
   two_characters : {character : ℕ} {rest : List ℕ} {item : Entry} → sequence_at character ≡ Some item → HeadUnit (escape ∷ character ∷ rest) item 2 Pcl
@@ -249,50 +249,50 @@ after_introducer_told i (c ∷ bytes) = cond_both (is_group_or_parameter c) _ _ 
 
 -- a sequence without a group
 
-pub lone_field : (i : ℕ) (text : List ℕ) (a : Amount) (c : ℕ) (rest : List ℕ) (f : IsField text a) → EndsIn a.sign f.whole f.fraction (c ∷ rest) → without_group i (text ++ c ∷ rest) ≡ by_termination (Some a) i (length text) c
+pub ungrouped_field : (i : ℕ) (text : List ℕ) (a : Amount) (c : ℕ) (rest : List ℕ) (f : IsField text a) → EndsIn a.sign f.whole f.fraction (c ∷ rest) → without_group i (text ++ c ∷ rest) ≡ by_termination (Some a) i (length text) c
 unfolding without_group
-lone_field i text a c rest f end =
+ungrouped_field i text a c rest f end =
     let l : List ℕ = text ++ c ∷ rest in
     let r = field_read text a (c ∷ rest) f end in
     let fits : (field_at l).len ≤ 16 = omega (arith, r.len, f.short) in
     cond-false (nat_lt 16 (field_at l).len) _ _ (le-ltb 16 (field_at l).len fits)
-    ∙ ap (λ n. after_lone_field i (field_at l) (drop n l)) r.len
-    ∙ ap (after_lone_field i (field_at l)) (drop-append_seam text (c ∷ rest))
+    ∙ ap (λ n. after_ungrouped_field i (field_at l) (drop n l)) r.len
+    ∙ ap (after_ungrouped_field i (field_at l)) (drop-append_seam text (c ∷ rest))
     ∙ ap (λ o. by_termination o i (field_at l).len c) r.amount
     ∙ ap (λ n. by_termination (Some a) i n c) r.len
 
-pub lone_read : {i letter : ℕ} {a : Amount} {item : Entry} {mode : Mode} (text rest : List ℕ) → IsField text a → IsLone i a letter item mode → without_group i (text ++ letter ∷ rest) ≡ Begins item (length text + 3) (between mode)
-lone_read {i = i} {letter = c} {a = a} {item = item} text rest f h =
-    let t = lone_letter h in
-    lone_field i text a c rest f (ends_at_letter a.sign f.whole f.fraction c rest (omega (arith, t.0)))
+pub ungrouped_read : {i letter : ℕ} {a : Amount} {item : Entry} {mode : Mode} (text rest : List ℕ) → IsField text a → IsUngrouped i a letter item mode → without_group i (text ++ letter ∷ rest) ≡ Begins item (length text + 3) (between mode)
+ungrouped_read {i = i} {letter = c} {a = a} {item = item} text rest f h =
+    let t = ungrouped_letter h in
+    ungrouped_field i text a c rest f (ends_at_letter a.sign f.whole f.fraction c rest (omega (arith, t.0)))
     ∙ cond-true (is_termination c) _ _ (and_from (nat_le 64 c) (nat_le c 94) (le-leb 64 c t.0) (le-leb c 94 t.1))
-    ∙ ap (λ o. lone o i c (length text + 3)) (lone_known h)
-    ∙ ap (Begins item (length text + 3)) (lone_behind_is h)
+    ∙ ap (λ o. ungrouped o i c (length text + 3)) (ungrouped_known h)
+    ∙ ap (Begins item (length text + 3)) (ungrouped_behind_is h)
 
-lone_told : (o : Option Entry) (i : ℕ) (text : List ℕ) (a : Amount) (c : ℕ) (rest : List ℕ) → IsField text a → lone_at i a c ≡ o → TellsUnit (escape ∷ i ∷ (text ++ c ∷ rest)) (lone o i c (length text + 3))
-lone_told None i text a c rest f e = tt
-lone_told (Some item) i text a c rest f e =
-    let g = lone_found i a c item e in
-    subst (HeadUnit (escape ∷ i ∷ (text ++ c ∷ rest)) item (length text + 3)) (sym g.2) (lone_item rest f g.1)
+ungrouped_told : (o : Option Entry) (i : ℕ) (text : List ℕ) (a : Amount) (c : ℕ) (rest : List ℕ) → IsField text a → ungrouped_at i a c ≡ o → TellsUnit (escape ∷ i ∷ (text ++ c ∷ rest)) (ungrouped o i c (length text + 3))
+ungrouped_told None i text a c rest f e = tt
+ungrouped_told (Some item) i text a c rest f e =
+    let g = ungrouped_found i a c item e in
+    subst (HeadUnit (escape ∷ i ∷ (text ++ c ∷ rest)) item (length text + 3)) (sym g.2) (ungrouped_item rest f g.1)
 
-lone_amount_told : (o : Option Amount) (i : ℕ) (bytes : List ℕ) (c : ℕ) (rest : List ℕ) → (field_at bytes).len ≤ 16 → amount_of (field_at bytes) ≡ o → drop (field_at bytes).len bytes ≡ c ∷ rest → TellsUnit (escape ∷ i ∷ bytes) (by_termination o i (field_at bytes).len c)
-lone_amount_told None i bytes c rest short e d = tt
-lone_amount_told (Some a) i bytes c rest short e d =
+ungrouped_amount_told : (o : Option Amount) (i : ℕ) (bytes : List ℕ) (c : ℕ) (rest : List ℕ) → (field_at bytes).len ≤ 16 → amount_of (field_at bytes) ≡ o → drop (field_at bytes).len bytes ≡ c ∷ rest → TellsUnit (escape ∷ i ∷ bytes) (by_termination o i (field_at bytes).len c)
+ungrouped_amount_told None i bytes c rest short e d = tt
+ungrouped_amount_told (Some a) i bytes c rest short e d =
     let f = field_spelled bytes a short e in
     let whole : bytes ≡ f.0 ++ c ∷ rest = f.2 ∙ ap (λ t. f.0 ++ t) d in
     subst (λ (n : ℕ). TellsUnit (escape ∷ i ∷ bytes) (by_termination (Some a) i n c)) (sym f.3)
     (subst (λ (l : List ℕ). TellsUnit (escape ∷ i ∷ l) (by_termination (Some a) i (length f.0) c)) (sym whole)
-    (cond_both (is_termination c) _ _ (TellsUnit (escape ∷ i ∷ (f.0 ++ c ∷ rest))) (λ _. lone_told (lone_at i a c) i f.0 a c rest f.1 refl) (λ _. tt)))
+    (cond_both (is_termination c) _ _ (TellsUnit (escape ∷ i ∷ (f.0 ++ c ∷ rest))) (λ _. ungrouped_told (ungrouped_at i a c) i f.0 a c rest f.1 refl) (λ _. tt)))
 
-lone_rest_told : (i : ℕ) (bytes behind : List ℕ) → (field_at bytes).len ≤ 16 → drop (field_at bytes).len bytes ≡ behind → TellsUnit (escape ∷ i ∷ bytes) (after_lone_field i (field_at bytes) behind)
-lone_rest_told i bytes [] short d = tt
-lone_rest_told i bytes (c ∷ rest) short d = lone_amount_told (amount_of (field_at bytes)) i bytes c rest short refl d
+ungrouped_rest_told : (i : ℕ) (bytes behind : List ℕ) → (field_at bytes).len ≤ 16 → drop (field_at bytes).len bytes ≡ behind → TellsUnit (escape ∷ i ∷ bytes) (after_ungrouped_field i (field_at bytes) behind)
+ungrouped_rest_told i bytes [] short d = tt
+ungrouped_rest_told i bytes (c ∷ rest) short d = ungrouped_amount_told (amount_of (field_at bytes)) i bytes c rest short refl d
 
 without_group_told : (i : ℕ) (bytes : List ℕ) → TellsUnit (escape ∷ i ∷ bytes) (without_group i bytes)
 unfolding without_group
 without_group_told i bytes =
     cond_both (nat_lt 16 (field_at bytes).len) _ _ (TellsUnit (escape ∷ i ∷ bytes)) (λ _. tt)
-    (λ e. lone_rest_told i bytes (drop (field_at bytes).len bytes) (bools.ltb-false 16 (field_at bytes).len e) refl)
+    (λ e. ungrouped_rest_told i bytes (drop (field_at bytes).len bytes) (bools.ltb-false 16 (field_at bytes).len e) refl)
 
 exit_head : (bytes : List ℕ) → BeginsExit bytes → HeadUnit (escape ∷ 37 ∷ bytes) ExitLanguage 9 Pjl
 exit_head bytes h = subst (λ (l : List ℕ). HeadUnit (escape ∷ 37 ∷ l) ExitLanguage 9 Pjl) (sym h.1) (exits h.0)

@@ -11,7 +11,7 @@ use Rattle.std.proofs.lemmas.List.Sums.{take_while-cons}
 use Rattle.std.proofs.Math.Seq.{drop-append_seam, drop-length}
 use Rattle.pcl_items.specs.declared.number.Sign.{Sign}
 use Rattle.pcl_items.specs.declared.number.Sign.TheVariants.{Absent, Plus, Minus}
-use Rattle.pcl_items.specs.declared.fault.Cause.TheVariants.{BadNumber}
+use Rattle.pcl_items.specs.declared.fault.LexCause.TheVariants.{BadNumber}
 use Rattle.pcl_items.specs.Escapes.Value.{Amount, most}
 use Rattle.pcl_items.specs.Escapes.Field.{Field, field_at, amount_of, decimal, ten_thousandths_of}
 use Rattle.pcl_items.specs.Escapes.ValueField.{sign_text, decimals_of, IsWritten, IsShape}

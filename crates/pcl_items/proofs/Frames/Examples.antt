@@ -1,7 +1,7 @@
 -- What stands first in a frame, computed.
 use Rattle.std.specs.Prelude.{◌≡◌, pos, negsuc, codes, refl, true, false, Some, ◌∷◌, []}
 use Rattle.pcl_items.specs.declared.fault.Name.TheVariants as names
-use Rattle.pcl_items.specs.declared.fault.Cause.TheVariants.{Syntax, NotInProfile, BadNumber}
+use Rattle.pcl_items.specs.declared.fault.LexCause.TheVariants.{Syntax, NotInProfile, BadNumber}
 use Rattle.pcl_items.specs.declared.frame.Handover.TheVariants.{Current}
 use Rattle.pcl_items.specs.declared.frame.Motion.TheVariants.{Up, Down, Absolute}
 use Rattle.pcl_items.specs.declared.frame.Setting.TheVariants as settings

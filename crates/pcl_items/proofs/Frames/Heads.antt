@@ -14,9 +14,9 @@ use Rattle.pcl_items.specs.declared.frame.Mnemonic.{Mnemonic}
 use Rattle.pcl_items.specs.declared.frame.Mnemonic.TheVariants as mnemonics
 use Rattle.pcl_items.specs.declared.frame.Gap.{Gap}
 use Rattle.pcl_items.specs.declared.frame.Gap.TheVariants as gaps
-use Rattle.pcl_items.specs.declared.fault.Cause.{Cause}
-use Rattle.pcl_items.specs.declared.fault.Cause.TheVariants as causes
-use Rattle.pcl_items.specs.declared.fault.Cause.TheVariants.{Syntax, Truncated, BadNumber}
+use Rattle.pcl_items.specs.declared.fault.LexCause.{LexCause}
+use Rattle.pcl_items.specs.declared.fault.LexCause.TheVariants as causes
+use Rattle.pcl_items.specs.declared.fault.LexCause.TheVariants.{Syntax, Truncated, BadNumber}
 use Rattle.pcl_items.specs.Frames.Kinds.{is_white, is_letter, kind_of, capital}
 use Rattle.pcl_items.specs.Frames.Mnemonics.{mnemonic_at}
 use Rattle.pcl_items.specs.Frames.NumberText.{IsCoordinate, IsSetting}
@@ -83,7 +83,7 @@ Landing Q (Numbered x gap n) place bytes items =
     (start : Start) (begin from : ℕ) (text : List ℕ) → IsBegun start (Number x gap) from text bytes → Counts x n from text → begin + length text ≡ place → Q (In start) begin (text ++ bytes) items
 
 -- the fault that stands where the reader stands
-abbrev pub FaultIn : Context → List ℕ → Cause → Type 0
+abbrev pub FaultIn : Context → List ℕ → LexCause → Type 0
 FaultIn Pcl bytes cause = Unit {0}
 FaultIn (Sequence g) bytes cause = Unit {0}
 FaultIn Pjl bytes cause = Unit {0}
@@ -92,7 +92,7 @@ FaultIn (Letters m n) bytes cause = PartFault (Word m) bytes cause
 FaultIn (Numbered x gap n) bytes cause = PartFault (Number x gap) bytes cause
 
 abbrev pub Tells : Motive → Context → ℕ → List ℕ → First → Type 0
-Tells Q c place bytes Open = (cause : Cause) → end_cause c bytes ≡ Some cause → FaultIn c bytes cause
+Tells Q c place bytes Open = (cause : LexCause) → end_cause c bytes ≡ Some cause → FaultIn c bytes cause
 Tells Q c place bytes (Passes len next) = (items : List Placed) → Landing Q next (place + len) (drop len bytes) items → Landing Q c place bytes items
 Tells Q c place bytes (Begins entry len next) = (items : List Placed) → Landing Q next (place + len) (drop len bytes) items → Landing Q c place bytes (at (item_place c place) entry ∷ items)
 Tells Q c place bytes (Faulty cause) = FaultIn c bytes cause
@@ -159,7 +159,7 @@ finish_pairs Q closed motion gap place bytes items none ends h start begin from 
 single_told : (Q : Motive) (s : Setting) (n place b : ℕ) (rest : List ℕ) (r : Numeral ℕ) → BeginsNumber (Word (mnemonics.Sets s)) (kind_of b) → TellsNumeral IsSetting (b ∷ rest) r → Tells Q (Letters (mnemonics.Sets s) n) place (b ∷ rest) (single n (λ a. Single s a) r)
 single_told Q s n place b rest Cut k h = λ cause e. no_setting k (subst (NumeralFault IsSomeSetting (b ∷ rest)) (cause_is cause e) h)
   where
-    cause_is : (cause : Cause) → Some Truncated ≡ Some cause → Truncated ≡ cause
+    cause_is : (cause : LexCause) → Some Truncated ≡ Some cause → Truncated ≡ cause
     cause_is cause e = cc
 single_told Q s n place b rest (Wrong cause) k h = no_setting k h
 single_told Q s n place b rest (Read a len) k h = λ items q start begin from text begun count e.
@@ -185,7 +185,7 @@ begins_behind gaps.Straight _ rest l b e (led {b = d} number h) k =
     only_sign kinds.Figure h = absurd h
     only_sign kinds.Other h = absurd h
 
-pub cut_cause : (cause : Cause) → Some Truncated ≡ Some cause → Truncated ≡ cause
+pub cut_cause : (cause : LexCause) → Some Truncated ≡ Some cause → Truncated ≡ cause
 cut_cause cause e = cc
 
 first_told : (Q : Motive) (motion : Motion) (n place b : ℕ) (rest : List ℕ) (r : Numeral ℤ) → BeginsNumber (Word (mnemonics.Moves motion)) (kind_of b) → TellsNumeral IsCoordinate (b ∷ rest) r → Tells Q (Letters (mnemonics.Moves motion) n) place (b ∷ rest) (first_of_pair n motion r)
@@ -383,13 +383,13 @@ kind_told Q closed kinds.Other place b rest e = no_command (subst BeginsNone (sy
 
 -- ---- the end of all bytes
 
-end_cause_frame : (cause : Cause) → end_cause Frame [] ≡ Some cause → FrameFault AtLetters 0 [] cause
+end_cause_frame : (cause : LexCause) → end_cause Frame [] ≡ Some cause → FrameFault AtLetters 0 [] cause
 end_cause_frame cause e = subst (FrameFault AtLetters 0 []) (same cause e) frame_ends
   where
-    same : (cause : Cause) → end_cause Frame [] ≡ Some cause → causes.EndInFrame ≡ cause
+    same : (cause : LexCause) → end_cause Frame [] ≡ Some cause → causes.EndInFrame ≡ cause
     same cause e = cc
 
-cut_at : (x : Numbers) (gap : Gap) (cause : Cause) → faults.IsUnfinished (Number x gap) → Some Truncated ≡ Some cause → PartFault (Number x gap) [] cause
+cut_at : (x : Numbers) (gap : Gap) (cause : LexCause) → faults.IsUnfinished (Number x gap) → Some Truncated ≡ Some cause → PartFault (Number x gap) [] cause
 cut_at x gap cause h e = subst (PartFault (Number x gap) []) (cut_cause cause e) (cut_part h)
 
 ended_end : (Q : Motive) → Closed Q → (x : Numbers) (gap : Gap) (n place : ℕ) → Tells Q (Numbered x gap n) place [] (ended x gap)

@@ -7,8 +7,8 @@ use Rattle.pcl_items.specs.declared.frame.Motion.{Motion}
 use Rattle.pcl_items.specs.declared.frame.Motion.TheVariants.{Up, Down, Absolute, Relative}
 use Rattle.pcl_items.specs.declared.frame.Setting.TheVariants as settings
 use Rattle.pcl_items.specs.declared.fault.Name.TheVariants as names
-use Rattle.pcl_items.specs.declared.fault.Cause.{Cause}
-use Rattle.pcl_items.specs.declared.fault.Cause.TheVariants.{Syntax, Truncated, NotInProfile, BadNumber, EndInFrame}
+use Rattle.pcl_items.specs.declared.fault.LexCause.{LexCause}
+use Rattle.pcl_items.specs.declared.fault.LexCause.TheVariants.{Syntax, Truncated, NotInProfile, BadNumber, EndInFrame}
 use Rattle.pcl_items.specs.Escapes.Value.{Amount}
 use Rattle.pcl_items.specs.Items.{Entry, Placed, Reset, Parameterized, EnterFrame, LeaveFrame, Initialize, Set, Move, at}
 use Rattle.pcl_items.specs.Escapes.Field.{field_at, amount_of}
@@ -32,7 +32,7 @@ abbrev entered : Placed
 entered = at 0 (EnterFrame Previous)
 
 -- a fault behind that
-abbrev faulty : ℕ → Cause → Reading
+abbrev faulty : ℕ → LexCause → Reading
 faulty place cause = Stopped (entered ∷ []) place cause
 
 abbrev draw : Motion → ℕ → ℕ → Entry

@@ -5,15 +5,15 @@ use Rattle.std.proofs.lemmas.Bool.{eqb-true, eqb-false, cond_both, cond-true, co
 use Rattle.std.proofs.Math.Seq.{drop-append_seam}
 use Rattle.pcl_items.specs.declared.frame.Handover.{Handover}
 use Rattle.pcl_items.specs.declared.fault.Name.TheVariants as names
-use Rattle.pcl_items.specs.declared.fault.Cause.{Cause}
-use Rattle.pcl_items.specs.declared.fault.Cause.TheVariants.{Syntax, Truncated, NotInProfile, BadNumber}
+use Rattle.pcl_items.specs.declared.fault.LexCause.{LexCause}
+use Rattle.pcl_items.specs.declared.fault.LexCause.TheVariants.{Syntax, Truncated, NotInProfile, BadNumber}
 use Rattle.pcl_items.specs.Escapes.Value.{Amount}
 use Rattle.pcl_items.specs.Escapes.Field.{field_at, amount_of}
 use Rattle.pcl_items.specs.Escapes.ValueField.{IsField}
 use Rattle.pcl_items.specs.Items.{Entry, LeaveFrame}
 use Rattle.pcl_items.specs.Lexing.Contexts.{Context, Pcl}
 use Rattle.pcl_items.specs.Lexing.Firsts.{First, Open, Passes, Begins, Faulty, is_termination}
-use Rattle.pcl_items.specs.Escapes.Lone.{handover_of, leaving, leave_at}
+use Rattle.pcl_items.specs.Escapes.Ungrouped.{handover_of, leaving, leave_at}
 use Rattle.pcl_items.specs.Escapes.FieldFaults.{IsCapital}
 use Rattle.pcl_items.specs.Frames.Reader.{left_by, by_language, after_language_field, language_in}
 use Rattle.pcl_items.specs.Frames.Grammar.{HandsOver}
@@ -22,7 +22,7 @@ use Rattle.pcl_items.proofs.Escapes.Tables.{by_test}
 use Rattle.pcl_items.proofs.Reading.Causes.{Causes, causes_fault, causes_open}
 use Rattle.pcl_items.proofs.Escapes.Fields.{EndsIn, ends_at_letter, field_read}
 use Rattle.pcl_items.proofs.Escapes.Shapes.{ends_in, long_fault, range_fault, cut_shape, number_fault, cut_read}
-use Rattle.pcl_items.proofs.Escapes.Lones.{IsHandedOver, hands_over, handed_over}
+use Rattle.pcl_items.proofs.Escapes.Ungrouped.{IsHandedOver, hands_over, handed_over}
 use Rattle.pcl_items.proofs.Escapes.FaultHeads.{capital_is, is_capital, front}
 
 -- ---- what is read has its rule
@@ -96,7 +96,7 @@ none_leaves a c h =
     none_left None k h = refl
     none_left (Some handover) k h = absurd (h handover k)
 
-pub leave_causes : (bytes : List ℕ) (cause : Cause) → LeaveFault bytes cause → Causes (language_in bytes) cause
+pub leave_causes : (bytes : List ℕ) (cause : LexCause) → LeaveFault bytes cause → Causes (language_in bytes) cause
 unfolding language_in
 leave_causes _ _ (leave_number {bytes = bytes} h) =
     causes_fault (language_in bytes) BadNumber (number_fault after_language_field bytes (λ f c rest e. ap (λ o. by_language o f.len c) e) h)

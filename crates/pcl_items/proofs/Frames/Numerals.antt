@@ -7,11 +7,11 @@ use Rattle.std.proofs.lemmas.List.{append-nil}
 use Rattle.std.proofs.Math.Seq.{drop-append_seam}
 use Rattle.pcl_items.specs.declared.number.Sign.{Sign}
 use Rattle.pcl_items.specs.declared.number.Sign.TheVariants.{Absent, Plus, Minus}
-use Rattle.pcl_items.specs.declared.fault.Cause.{Cause}
-use Rattle.pcl_items.specs.declared.fault.Cause.TheVariants.{Syntax, Truncated, BadNumber}
+use Rattle.pcl_items.specs.declared.fault.LexCause.{LexCause}
+use Rattle.pcl_items.specs.declared.fault.LexCause.TheVariants.{Syntax, Truncated, BadNumber}
 use Rattle.pcl_items.specs.Escapes.Value.{Amount, most, most_units, signed}
 use Rattle.pcl_items.specs.Escapes.Field.{Field, field_at, amount_of, decimal}
-use Rattle.pcl_items.specs.Escapes.Lone.{is_minus}
+use Rattle.pcl_items.specs.Escapes.Ungrouped.{is_minus}
 use Rattle.pcl_items.specs.Escapes.ValueField.{decimals_of, IsShape}
 use Rattle.pcl_items.specs.Frames.NumberText.{Ends, EndsBefore, IsNumeral, IsCoordinate, IsSetting}
 use Rattle.pcl_items.specs.Frames.Number.{coordinate_of, unsigned, setting_of, Numeral, Cut, Wrong, Read, has_digit, read_or, number_end, numeral_at}
@@ -177,17 +177,17 @@ numeral_read whole value Is k text x rest d h ends =
     ∙ value_read whole x (length text) rest d
 
 -- a fault, or the end of the bytes in a number
-abbrev pub CausesNumeral : {A : Type 0} → Numeral A → Cause → Type 0
+abbrev pub CausesNumeral : {A : Type 0} → Numeral A → LexCause → Type 0
 CausesNumeral Cut cause = cause ≡ Truncated
 CausesNumeral (Wrong c) cause = cause ≡ c
 CausesNumeral (Read x len) cause = ⊥
 
-no_value_read : {A : Type 0} (value : Field → Option A) (Is : List ℕ → A → Type 0) (k : Kinds value Is) (text : List ℕ) (s : Sign) (w : List ℕ) (o : Option (List ℕ)) (r : Numeral A) (x : Option A) (cause : Cause) →
+no_value_read : {A : Type 0} (value : Field → Option A) (Is : List ℕ → A → Type 0) (k : Kinds value Is) (text : List ℕ) (s : Sign) (w : List ℕ) (o : Option (List ℕ)) (r : Numeral A) (x : Option A) (cause : LexCause) →
     IsNumeral text s w o → (Good Is text → ⊥) → value (of_parts s w o) ≡ x → CausesNumeral r cause → CausesNumeral (read_or r x (length text)) cause
 no_value_read value Is k text s w o r None cause n g e c = c
 no_value_read value Is k text s w o r (Some x) cause n g e c = absurd (g (x, k.from_value text s w o x n e))
 
-pub numeral_faulty : {A : Type 0} (value : Field → Option A) (Is : List ℕ → A → Type 0) (k : Kinds value Is) (bytes : List ℕ) (cause : Cause) → NumeralFault (Good Is) bytes cause → CausesNumeral (numeral_at value true bytes) cause
+pub numeral_faulty : {A : Type 0} (value : Field → Option A) (Is : List ℕ → A → Type 0) (k : Kinds value Is) (bytes : List ℕ) (cause : LexCause) → NumeralFault (Good Is) bytes cause → CausesNumeral (numeral_at value true bytes) cause
 unfolding numeral_at
 numeral_faulty value Is k _ _ (long {text = text} {whole = w} {sign = s} {fraction = o} rest h many) =
     let len : 16 < (field_at (text ++ rest)).len = omega (arith, shape_len text s w o rest h) in

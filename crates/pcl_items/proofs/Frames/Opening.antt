@@ -14,8 +14,8 @@ use Rattle.pcl_items.specs.declared.frame.Mnemonic.TheVariants as mnemonics
 use Rattle.pcl_items.specs.declared.frame.Gap.{Gap}
 use Rattle.pcl_items.specs.declared.frame.Gap.TheVariants as gaps
 use Rattle.pcl_items.specs.declared.fault.Name.TheVariants as names
-use Rattle.pcl_items.specs.declared.fault.Cause.{Cause}
-use Rattle.pcl_items.specs.declared.fault.Cause.TheVariants.{Syntax, NotInProfile, BadNumber}
+use Rattle.pcl_items.specs.declared.fault.LexCause.{LexCause}
+use Rattle.pcl_items.specs.declared.fault.LexCause.TheVariants.{Syntax, NotInProfile, BadNumber}
 use Rattle.pcl_items.specs.Frames.Kinds.{kind_of, capital}
 use Rattle.pcl_items.specs.Frames.Mnemonics.{mnemonic_at}
 use Rattle.pcl_items.specs.Escapes.Value.{Amount}
@@ -25,7 +25,7 @@ use Rattle.pcl_items.specs.Items.{Entry, Reset, ExitLanguage}
 use Rattle.pcl_items.specs.PjlLines.Exit.{exit_field, begins_with}
 use Rattle.pcl_items.specs.Lexing.Contexts.{Context, Pcl, Sequence, Frame, Letters, Numbered, Pjl, Numbers, Single, Odd, Even}
 use Rattle.pcl_items.specs.Frames.Number.{coordinate_of, setting_of, Numeral, Cut, Wrong, Read, has_digit, read_or, number_end, numeral_at}
-use Rattle.pcl_items.specs.Escapes.Lone.{leave_at}
+use Rattle.pcl_items.specs.Escapes.Ungrouped.{leave_at}
 use Rattle.pcl_items.specs.Frames.Reader.{by_language, after_language_field, language_in, left_by, in_command, second_letter, after_letter, after_frame_escape, by_kind, at_frame, single, first_of_pair, second_of_pair, first_number, letters_by, after_letters, further, ended_by, ended, with_comma, by_figure, numbers_by, after_numbers}
 use Rattle.pcl_items.specs.Reader.{First, Open, Passes, Begins, Faulty, is_termination, command_in, exit_or, first_of}
 use Rattle.pcl_items.specs.Faults.{IsCut, cut}
@@ -38,11 +38,11 @@ use Rattle.pcl_items.proofs.Lexing.Opening.{on, IsAtEnd, Decided, by_item, by_fa
 
 -- a fault other than those of the end
 pub record Refuses (f : First) : Type 0 where
-  pub cause : Cause
+  pub cause : LexCause
   pub is : f ≡ Faulty cause
   pub other : IsAtEnd cause → ⊥
 
-refused : (f : First) (cause : Cause) → f ≡ Faulty cause → (IsAtEnd cause → ⊥) → Refuses f
+refused : (f : First) (cause : LexCause) → f ≡ Faulty cause → (IsAtEnd cause → ⊥) → Refuses f
 refused f cause e h = record { cause = cause; is = e; other = h }
 
 -- what the end of all bytes makes of what is open: it ends there

@@ -6,7 +6,7 @@ use Rattle.std.proofs.lemmas.Bool.{cond-true, cond-false, le-ltb, eqb-true}
 use Rattle.std.proofs.lemmas.List.{at_drop_more, get_or-drop, get_or-take, length-drop}
 use Rattle.std.proofs.lemmas.List.Sums.{take_while-cons}
 use Rattle.pcl_items.specs.declared.pcl.field.Digits.{Digits}
-use Rattle.pcl_items.specs.declared.frame.Coordinate.{Coordinate}
+use Rattle.pcl_items.specs.declared.frame.PlotterCoordinate.{PlotterCoordinate}
 use Rattle.pcl_items.specs.declared.number.Sign.{Sign}
 use Rattle.pcl_items.specs.declared.number.Sign.TheVariants.{Absent, Plus, Minus}
 use Rattle.pcl_items.specs.declared.frame.Kind.TheVariants as kinds
@@ -82,7 +82,7 @@ short_sign Plus = omega arith
 short_sign Minus = omega arith
 
 -- it stands among the first n bytes behind its sign, with this byte behind it
-pub coordinate_in_front : (n : ℕ) (bytes : List ℕ) (s : Sign) (start : ℕ) (found : Digits) (last : ℕ) (x : Coordinate) → n ≤ 15 → s ≡ sign_at bytes → start ≡ sign_len (sign_at bytes) → n ≤ length (rest_from bytes start) →
+pub coordinate_in_front : (n : ℕ) (bytes : List ℕ) (s : Sign) (start : ℕ) (found : Digits) (last : ℕ) (x : PlotterCoordinate) → n ≤ 15 → s ≡ sign_at bytes → start ≡ sign_len (sign_at bytes) → n ≤ length (rest_from bytes start) →
     found.len ≡ length (digits (take n (rest_from bytes start))) → found.number ≡ limited 8388608 (decimal (digits (take n (rest_from bytes start)))) → 0 < found.len → found.len < n →
     last ≡ get_or (take n (rest_from bytes start)) found.len 0 → (last ≡ 46 → ⊥) → coordinate_by s found.number true ≡ Some x.units →
     IsCoordinateAhead (record { coordinate = x; len = start + found.len; last = last }) bytes

@@ -13,8 +13,8 @@ use Rattle.pcl_items.specs.declared.frame.Mnemonic.TheVariants as mnemonics
 use Rattle.pcl_items.specs.declared.frame.Gap.{Gap}
 use Rattle.pcl_items.specs.declared.frame.Gap.TheVariants as gaps
 use Rattle.pcl_items.specs.declared.fault.Name.TheVariants as names
-use Rattle.pcl_items.specs.declared.fault.Cause.{Cause}
-use Rattle.pcl_items.specs.declared.fault.Cause.TheVariants.{Syntax, Truncated, NotInProfile, BadNumber}
+use Rattle.pcl_items.specs.declared.fault.LexCause.{LexCause}
+use Rattle.pcl_items.specs.declared.fault.LexCause.TheVariants.{Syntax, Truncated, NotInProfile, BadNumber}
 use Rattle.pcl_items.specs.Frames.Kinds.{kind_of, capital}
 use Rattle.pcl_items.specs.Frames.Mnemonics.{mnemonic_at}
 use Rattle.pcl_items.specs.Frames.NumberText.{EndsBefore, IsCoordinate, IsSetting}
@@ -313,7 +313,7 @@ leaves_reads whole rest (leave_frame {place = place} {field = field} {amount = a
 
 -- ---- faults
 
-causes_at : (c : Context) (rest : List ℕ) (f : First) (cause : Cause) → f ≡ Faulty cause → IsFault true f c rest cause
+causes_at : (c : Context) (rest : List ℕ) (f : First) (cause : LexCause) → f ≡ Faulty cause → IsFault true f c rest cause
 causes_at c rest f cause e = subst (λ (g : First). IsFault true g c rest cause) (sym e) refl
 
 letters_wrong : (k : Kind) (m : Mnemonic) (n : ℕ) (l : List ℕ) → IsWrong (Word m) k → letters_by k true m n l ≡ Faulty Syntax
@@ -398,18 +398,18 @@ full_due (Number (Even motion) gap) n l h = absurd h
 
 -- a number's fault is the command's
 abbrev IsMaker : {A : Type 0} → (Numeral A → First) → Type 0
-IsMaker make = (make Cut ≡ Open) × ((cause : Cause) → make (Wrong cause) ≡ Faulty cause)
+IsMaker make = (make Cut ≡ Open) × ((cause : LexCause) → make (Wrong cause) ≡ Faulty cause)
 
-made_fault : {A : Type 0} (make : Numeral A → First) (part : Part) (n b : ℕ) (rest : List ℕ) (r : Numeral A) (cause : Cause) → IsMaker make → CausesNumeral r cause → IsFault true (make r) (context_of part n) (b ∷ rest) cause
+made_fault : {A : Type 0} (make : Numeral A → First) (part : Part) (n b : ℕ) (rest : List ℕ) (r : Numeral A) (cause : LexCause) → IsMaker make → CausesNumeral r cause → IsFault true (make r) (context_of part n) (b ∷ rest) cause
 made_fault make part n b rest Cut cause m h = subst (λ (f : First). IsFault true f (context_of part n) (b ∷ rest) cause) (sym m.0) (cut part cause h)
   where
-    cut : (part : Part) (cause : Cause) → cause ≡ Truncated → IsFault true Open (context_of part n) (b ∷ rest) cause
+    cut : (part : Part) (cause : LexCause) → cause ≡ Truncated → IsFault true Open (context_of part n) (b ∷ rest) cause
     cut (Word w) cause h = ap Some (sym h)
     cut (Number x gap) cause h = ap Some (sym h)
 made_fault make part n b rest (Wrong c) cause m h = subst (λ (f : First). IsFault true f (context_of part n) (b ∷ rest) cause) (sym (m.1 c)) h
 made_fault make part n b rest (Read x len) cause m h = absurd h
 
-coordinate_fault : (part : Part) (n b : ℕ) (rest : List ℕ) (cause : Cause) → TakesCoordinate part → CausesNumeral (numeral_at coordinate_of true (b ∷ rest)) cause → IsFault true (due part n (b ∷ rest)) (context_of part n) (b ∷ rest) cause
+coordinate_fault : (part : Part) (n b : ℕ) (rest : List ℕ) (cause : LexCause) → TakesCoordinate part → CausesNumeral (numeral_at coordinate_of true (b ∷ rest)) cause → IsFault true (due part n (b ∷ rest)) (context_of part n) (b ∷ rest) cause
 coordinate_fault (Word mnemonics.Initialize) n b rest cause h c = absurd h
 coordinate_fault (Word (mnemonics.Sets s)) n b rest cause h c = absurd h
 coordinate_fault (Word (mnemonics.Moves motion)) n b rest cause h c = made_fault (first_of_pair n motion) (Word (mnemonics.Moves motion)) n b rest (numeral_at coordinate_of true (b ∷ rest)) cause (refl, λ _. refl) c
@@ -437,7 +437,7 @@ unfinished_read (Number (Single s a) gaps.Spaced) n h = absurd h
 unfinished_read (Number (Even motion) gaps.Straight) n h = absurd h
 unfinished_read (Number (Even motion) gaps.Spaced) n h = absurd h
 
-pub part_fault : (part : Part) (n : ℕ) (bytes : List ℕ) (cause : Cause) → PartFault part bytes cause → IsFault true (first_of true (context_of part n) bytes) (context_of part n) bytes cause
+pub part_fault : (part : Part) (n : ℕ) (bytes : List ℕ) (cause : LexCause) → PartFault part bytes cause → IsFault true (first_of true (context_of part n) bytes) (context_of part n) bytes cause
 part_fault _ n _ _ (wrong_byte {part = part} {b = b} {rest = rest} h) = causes_at (context_of part n) (b ∷ rest) _ Syntax (wrong_read part n b rest h)
 part_fault _ n _ _ (too_many {part = part} {b = b} {rest = rest} h full) = causes_at (context_of part n) (b ∷ rest) _ BadNumber (due_read part n b rest h ∙ full_due part n (b ∷ rest) full)
 part_fault _ n _ _ (odd {motion = motion} {x = x} {gap = gap} {b = b} {rest = rest} h ends) = causes_at (Numbered (Odd motion x) gap n) (b ∷ rest) _ BadNumber (odd_read motion x gap n b rest h ends)
@@ -450,7 +450,7 @@ part_fault _ n _ _ (no_coordinate {part = part} {b = b} {rest = rest} {cause = c
     (coordinate_fault part n b rest cause takes (numeral_faulty coordinate_of IsCoordinate coordinates (b ∷ rest) cause f))
 
 -- where a fault of a frame is read
-pub record FaultRead (s : Start) (place from : ℕ) (bytes : List ℕ) (cause : Cause) : Type 0 where
+pub record FaultRead (s : Start) (place from : ℕ) (bytes : List ℕ) (cause : LexCause) : Type 0 where
   pub context : Context
   pub end : ℕ
   pub rest : List ℕ
@@ -464,7 +464,7 @@ part_place (Number (Single s a) gap) n from start text count = omega (arith, cou
 part_place (Number (Odd motion x) gap) n from start text count = omega (arith, count)
 part_place (Number (Even motion) gap) n from start text count = omega (arith, count)
 
-at_once : (place : ℕ) (bytes : List ℕ) (cause : Cause) → IsFault true (first_of true Frame bytes) Frame bytes cause → FaultRead AtLetters place 0 bytes cause
+at_once : (place : ℕ) (bytes : List ℕ) (cause : LexCause) → IsFault true (first_of true Frame bytes) Frame bytes cause → FaultRead AtLetters place 0 bytes cause
 at_once place bytes cause h = record { context = Frame; end = place; rest = bytes; reads = here; stands = omega arith; fault = h }
 
 none_read : (k : Kind) (b : ℕ) (rest : List ℕ) → BeginsNone k → by_kind k b rest ≡ Faulty Syntax
@@ -487,13 +487,13 @@ no_second kinds.Sign a b h = refl
 no_second kinds.Figure a b h = refl
 no_second kinds.Other a b h = refl
 
-leave_fault : (bytes : List ℕ) (f : First) (cause : Cause) → Causes f cause → IsFault true f Frame (escape ∷ 37 ∷ bytes) cause
+leave_fault : (bytes : List ℕ) (f : First) (cause : LexCause) → Causes f cause → IsFault true f Frame (escape ∷ 37 ∷ bytes) cause
 leave_fault bytes Open cause h = ap Some (sym h)
 leave_fault bytes (Passes len next) cause h = absurd h
 leave_fault bytes (Begins item len next) cause h = absurd h
 leave_fault bytes (Faulty c) cause h = h
 
-pub fault_read : {s : Start} {from : ℕ} {bytes : List ℕ} {cause : Cause} (place : ℕ) → FrameFault s from bytes cause → FaultRead s place from bytes cause
+pub fault_read : {s : Start} {from : ℕ} {bytes : List ℕ} {cause : LexCause} (place : ℕ) → FrameFault s from bytes cause → FaultRead s place from bytes cause
 unfolding first_of at_frame kind_of
 fault_read place frame_ends = at_once place [] _ refl
 fault_read place (no_command {b = b} {rest = rest} h) = at_once place (b ∷ rest) Syntax (causes_at Frame (b ∷ rest) _ Syntax (none_read (kind_of b) b rest h))

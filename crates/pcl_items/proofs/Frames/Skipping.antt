@@ -7,7 +7,7 @@ use Rattle.pcl_items.specs.declared.lexer.first.First.TheVariants as firsts
 use Rattle.pcl_items.specs.declared.lexer.first.Context as code_context
 use Rattle.pcl_items.specs.Lexing.Contexts.{Context, counted}
 use Rattle.pcl_items.specs.Reader.{Passes, first_of}
-use Rattle.pcl_items.specs.Lexing.FirstView.{context_view, first_view, Within, FirstHasLine, len_of, counted_after}
+use Rattle.pcl_items.specs.Lexing.FirstView.{context_view, first_view, Within, FirstHasPjl, len_of, counted_after}
 use Rattle.pcl_items.specs.Reading.{ReadsTo, here, passes, left}
 use Rattle.pcl_items.specs.Lexing.Ahead.{StandsAhead}
 use Rattle.pcl_items.proofs.Reading.ReadsTo.{ReadsTo-at, ReadsTo-append}
@@ -68,7 +68,7 @@ no_pass bytes (firsts.Faulty cause) h len next e = absurd cc
 pub stands_ahead : (whole : Bool) (context : Context) (start : ℕ) (window : List ℕ) (ahead : Ahead) → PassesTo whole context start window (context_view ahead.context) ahead.start →
     first_view (drop ahead.start window) ahead.first ≡ first_of whole (context_view ahead.context) (drop ahead.start window) →
     Within (length (drop ahead.start window)) ahead.first →
-    FirstHasLine (drop ahead.start window) ahead.first →
+    FirstHasPjl (drop ahead.start window) ahead.first →
     counted_after (first_view (drop ahead.start window) ahead.first) ≤ counted (context_view ahead.context) + len_of (first_view (drop ahead.start window) ahead.first) →
     ((len : ℕ) (next : code_context.Context) → ahead.first ≡ firsts.Passes len next → ⊥) →
     StandsAhead whole context start window ahead

@@ -20,17 +20,17 @@ use Rattle.pcl_items.specs.Lexing.Contexts.{Context, Pcl, Sequence, Frame, Lette
 use Rattle.pcl_items.specs.Frames.Kinds.{kind_of}
 use Rattle.pcl_items.specs.Frames.Number.{coordinate_of, setting_of, Numeral, Cut, Wrong, Read, has_digit, number_end, numeral_at}
 use Rattle.pcl_items.specs.Frames.Reader.{after_language_field, language_in, after_letter, after_frame_escape, by_kind, at_frame, single, first_of_pair, second_of_pair, first_number, letters_by, after_letters, further, by_figure, numbers_by, after_numbers}
-use Rattle.pcl_items.specs.declared.fault.Cause.TheVariants.{BadNumber}
+use Rattle.pcl_items.specs.declared.fault.LexCause.TheVariants.{BadNumber}
 use Rattle.pcl_items.specs.Escapes.Commands.{group_at, data_command_at}
 use Rattle.pcl_items.specs.Escapes.Value.{Amount}
 use Rattle.pcl_items.specs.Items.{Entry, WithData, ExitLanguage}
-use Rattle.pcl_items.specs.Escapes.Lone.{count_of}
+use Rattle.pcl_items.specs.Escapes.Ungrouped.{count_of}
 use Rattle.pcl_items.specs.Escapes.Codes.{control_at, sequence_at}
 use Rattle.pcl_items.specs.Escapes.Field.{Field, field_at, amount_of, digits, sign_at, sign_len, has_point}
-use Rattle.pcl_items.specs.Reader.{First, Open, Passes, Begins, Faulty, behind, with_data, by_last_letter, by_last_byte, after_field, command_in, is_group_or_parameter, is_termination, after_lone_field, without_group, in_group, after_introducer, after_parenthesis, by_character, after_escape, by_code, between_units, by_line, exit_or, first_of}
+use Rattle.pcl_items.specs.Reader.{First, Open, Passes, Begins, Faulty, behind, with_data, by_last_letter, by_last_byte, after_field, command_in, is_group_or_parameter, is_termination, after_ungrouped_field, without_group, in_group, after_introducer, after_parenthesis, by_character, after_escape, by_code, between_units, by_pjl, exit_or, first_of}
 use Rattle.pcl_items.specs.Laws.{StaysDecided}
 use Rattle.pcl_items.specs.PjlLines.Exit.{exit_field, begins_with}
-use Rattle.pcl_items.specs.PjlLines.First.{at_line}
+use Rattle.pcl_items.specs.PjlLines.First.{at_pjl}
 use Rattle.pcl_items.proofs.PjlLines.Exits.{begins_more, exit_waits, frame_exit_waits}
 use Rattle.pcl_items.proofs.PjlLines.Units.{line_stays}
 
@@ -201,9 +201,9 @@ keeps_after_field : (g : Group) (f : Field) (xs ys : List ℕ) → Keeps (after_
 keeps_after_field g f [] ys h = absurd (h refl)
 keeps_after_field g f (x ∷ xs) ys h = keeps_by_last_byte (amount_of f) g f.len x xs ys h
 
-keeps_after_lone_field : (i : ℕ) (f : Field) (xs ys : List ℕ) → Keeps (after_lone_field i f xs) (after_lone_field i f (xs ++ ys))
-keeps_after_lone_field i f [] ys h = absurd (h refl)
-keeps_after_lone_field i f (x ∷ xs) ys h = refl
+keeps_after_ungrouped_field : (i : ℕ) (f : Field) (xs ys : List ℕ) → Keeps (after_ungrouped_field i f xs) (after_ungrouped_field i f (xs ++ ys))
+keeps_after_ungrouped_field i f [] ys h = absurd (h refl)
+keeps_after_ungrouped_field i f (x ∷ xs) ys h = refl
 
 -- a field that ends before the bytes do stays as it is; one that goes to their end may grow
 keeps_field : (next : Field → List ℕ → First) (xs ys : List ℕ) → ((f : Field) (us vs : List ℕ) → Keeps (next f us) (next f (us ++ vs))) → ((f : Field) → next f [] ≡ Open) → Keeps (cond (nat_lt 16 (field_at xs).len) (Faulty BadNumber) (next (field_at xs) (drop (field_at xs).len xs))) (cond (nat_lt 16 (field_at (xs ++ ys)).len) (Faulty BadNumber) (next (field_at (xs ++ ys)) (drop (field_at (xs ++ ys)).len (xs ++ ys))))
@@ -230,7 +230,7 @@ keeps_command_in g xs ys = keeps_field (after_field g) xs ys (λ f us vs. keeps_
 
 keeps_without_group : (i : ℕ) (xs ys : List ℕ) → Keeps (without_group i xs) (without_group i (xs ++ ys))
 unfolding without_group
-keeps_without_group i xs ys = keeps_field (after_lone_field i) xs ys (λ f us vs. keeps_after_lone_field i f us vs) (λ f. refl)
+keeps_without_group i xs ys = keeps_field (after_ungrouped_field i) xs ys (λ f us vs. keeps_after_ungrouped_field i f us vs) (λ f. refl)
 
 -- the universal exit, whose fronts decide nothing
 keeps_exit : (other : List ℕ → First) (xs ys : List ℕ) → (begins_with exit_field xs ≡ false → begins_with exit_field (xs ++ ys) ≡ true → other xs ≡ Open) → Keeps (other xs) (other (xs ++ ys)) → Keeps (exit_or (other xs) xs) (exit_or (other (xs ++ ys)) (xs ++ ys))
@@ -381,8 +381,8 @@ keeps_numbers kinds.Other whole x gap n xs ys = keeps_same _
 keeps_between : (b : ℕ) (xs ys : List ℕ) → Keeps (between_units b xs) (between_units b (xs ++ ys))
 keeps_between b xs ys = keeps_cond (nat_le 32 b) _ _ _ _ (keeps_same _) (keeps_by_code (control_at b) b xs ys)
 
-keeps_line : (xs ys : List ℕ) → Keeps (by_line (at_line xs)) (by_line (at_line (xs ++ ys)))
-keeps_line xs ys h = ap by_line (line_stays xs ys (λ e. h (ap by_line e)))
+keeps_line : (xs ys : List ℕ) → Keeps (by_pjl (at_pjl xs)) (by_pjl (at_pjl (xs ++ ys)))
+keeps_line xs ys h = ap by_pjl (line_stays xs ys (λ e. h (ap by_pjl e)))
 
 pub stays_decided : (c : Context) (bytes : List ℕ) → StaysDecided c bytes
 unfolding first_of at_frame after_letters after_numbers

@@ -18,8 +18,8 @@ use Rattle.pcl_items.specs.declared.frame.Mnemonic.TheVariants as mnemonics
 use Rattle.pcl_items.specs.declared.frame.Gap.{Gap}
 use Rattle.pcl_items.specs.declared.frame.Gap.TheVariants as gaps
 use Rattle.pcl_items.specs.Lexing.Contexts.{Context, Pcl, Sequence, Frame, Letters, Numbered, Pjl, Numbers, Single, Odd, Even}
-use Rattle.pcl_items.specs.Modes.{follows, mode_of, between, behind_line}
-use Rattle.pcl_items.specs.PjlLines.Text.{Line, Bare, Remark, JobBegins, JobEnds, EnterPcl}
+use Rattle.pcl_items.specs.Modes.{follows, mode_of, between, behind_pjl}
+use Rattle.pcl_items.specs.PjlLines.Text.{PjlCommand, Bare, Remark, JobBegins, JobEnds, EnterPcl}
 use Rattle.pcl_items.specs.PjlLines.First as lines
 use Rattle.pcl_items.specs.PjlLines.Exit.{exit_field, begins_with}
 use Rattle.pcl_items.specs.Frames.Kinds.{kind_of, capital}
@@ -30,10 +30,10 @@ use Rattle.pcl_items.specs.Escapes.Value.{Amount}
 use Rattle.pcl_items.specs.Escapes.Field.{Field, field_at, amount_of}
 use Rattle.pcl_items.specs.Items.{Entry, bare}
 use Rattle.pcl_items.specs.Escapes.SetLetters.{is_set_letter}
-use Rattle.pcl_items.specs.Escapes.Lone.{is_three, font_at, handover_of, leaving, entering, leave_at, language_at, lone_at, count_of}
+use Rattle.pcl_items.specs.Escapes.Ungrouped.{is_three, font_at, handover_of, leaving, entering, leave_at, language_at, ungrouped_at, count_of}
 use Rattle.pcl_items.specs.Frames.Number.{coordinate_of, setting_of, Numeral, Cut, Wrong, Read, numeral_at}
 use Rattle.pcl_items.specs.Frames.Reader.{left_by, by_language, after_language_field, language_in, in_command, second_letter, after_letter, after_frame_escape, by_kind, at_frame, single, first_of_pair, second_of_pair, first_number, letters_by, after_letters, further, ended_by, ended, with_comma, by_figure, numbers_by, after_numbers}
-use Rattle.pcl_items.specs.Reader.{First, Open, Passes, Begins, Faulty, behind, named, with_data, by_last_letter, by_other_letter, by_last_byte, after_field, command_in, is_group_or_parameter, is_termination, behind_lone, lone, by_termination, after_lone_field, without_group, in_group, after_introducer, after_parenthesis, by_character, after_escape, by_code, between_units, by_line, exit_or, first_of}
+use Rattle.pcl_items.specs.Reader.{First, Open, Passes, Begins, Faulty, behind, named, with_data, by_last_letter, by_other_letter, by_last_byte, after_field, command_in, is_group_or_parameter, is_termination, behind_ungrouped, ungrouped, by_termination, after_ungrouped_field, without_group, in_group, after_introducer, after_parenthesis, by_character, after_escape, by_code, between_units, by_pjl, exit_or, first_of}
 
 -- what may stand first in a mode
 abbrev IsIn : Mode → First → Type 0
@@ -94,45 +94,45 @@ unfolding command_in
 command_in_pcl g bytes = cond_both (nat_lt 16 (field_at bytes).len) _ _ InPcl (λ _. tt) (λ _. field_in g (field_at bytes) (drop (field_at bytes).len bytes))
 
 -- the items without a group
-abbrev IsLoneIn : Option Entry → Type 0
-IsLoneIn None = Unit {0}
-IsLoneIn (Some item) = (follows modes.Pcl item ≡ Some (mode_of (behind_lone item))) × (follows modes.Pjl item ≡ Some (mode_of (behind_lone item)))
+abbrev IsUngroupedIn : Option Entry → Type 0
+IsUngroupedIn None = Unit {0}
+IsUngroupedIn (Some item) = (follows modes.Pcl item ≡ Some (mode_of (behind_ungrouped item))) × (follows modes.Pjl item ≡ Some (mode_of (behind_ungrouped item)))
 
-font_in : (a : Amount) (c : ℕ) → IsLoneIn (font_at a c)
-font_in a c = cond_both (is_set_letter c) _ _ IsLoneIn (λ _. (refl, refl)) (λ _. cond_both ((c == 64) && is_three a) _ _ IsLoneIn (λ _. (refl, refl)) (λ _. tt))
+font_in : (a : Amount) (c : ℕ) → IsUngroupedIn (font_at a c)
+font_in a c = cond_both (is_set_letter c) _ _ IsUngroupedIn (λ _. (refl, refl)) (λ _. cond_both ((c == 64) && is_three a) _ _ IsUngroupedIn (λ _. (refl, refl)) (λ _. tt))
 
-leaving_in : (o : Option Handover) → IsLoneIn (leaving o)
+leaving_in : (o : Option Handover) → IsUngroupedIn (leaving o)
 leaving_in None = tt
 leaving_in (Some handover) = (refl, refl)
 
-entering_in : (o : Option Handover) → IsLoneIn (entering o)
+entering_in : (o : Option Handover) → IsUngroupedIn (entering o)
 entering_in None = tt
 entering_in (Some handover) = (refl, refl)
 
-leave_in : (a : Amount) (c : ℕ) → IsLoneIn (leave_at a c)
-leave_in a c = cond_both (c == 65) _ _ IsLoneIn (λ _. leaving_in (handover_of a)) (λ _. tt)
+leave_in : (a : Amount) (c : ℕ) → IsUngroupedIn (leave_at a c)
+leave_in a c = cond_both (c == 65) _ _ IsUngroupedIn (λ _. leaving_in (handover_of a)) (λ _. tt)
 
-language_in_pcl : (a : Amount) (c : ℕ) → IsLoneIn (language_at a c)
-language_in_pcl a c = cond_both (c == 66) _ _ IsLoneIn (λ _. entering_in (handover_of a)) (λ _. leave_in a c)
+language_in_pcl : (a : Amount) (c : ℕ) → IsUngroupedIn (language_at a c)
+language_in_pcl a c = cond_both (c == 66) _ _ IsUngroupedIn (λ _. entering_in (handover_of a)) (λ _. leave_in a c)
 
-lone_known : (i : ℕ) (a : Amount) (c : ℕ) → IsLoneIn (lone_at i a c)
-lone_known i a c = cond_both (i == 40) _ _ IsLoneIn (λ _. font_in a c) (λ _. cond_both (i == 37) _ _ IsLoneIn (λ _. language_in_pcl a c) (λ _. tt))
+ungrouped_known : (i : ℕ) (a : Amount) (c : ℕ) → IsUngroupedIn (ungrouped_at i a c)
+ungrouped_known i a c = cond_both (i == 40) _ _ IsUngroupedIn (λ _. font_in a c) (λ _. cond_both (i == 37) _ _ IsUngroupedIn (λ _. language_in_pcl a c) (λ _. tt))
 
-lone_in : (o : Option Entry) (i c len : ℕ) → IsLoneIn o → InPcl (lone o i c len)
-lone_in None i c len h = tt
-lone_in (Some item) i c len h = h
+ungrouped_in : (o : Option Entry) (i c len : ℕ) → IsUngroupedIn o → InPcl (ungrouped o i c len)
+ungrouped_in None i c len h = tt
+ungrouped_in (Some item) i c len h = h
 
 termination_in : (o : Option Amount) (i len c : ℕ) → InPcl (by_termination o i len c)
 termination_in None i len c = tt
-termination_in (Some a) i len c = cond_both (is_termination c) _ _ InPcl (λ _. lone_in (lone_at i a c) i c (len + 3) (lone_known i a c)) (λ _. tt)
+termination_in (Some a) i len c = cond_both (is_termination c) _ _ InPcl (λ _. ungrouped_in (ungrouped_at i a c) i c (len + 3) (ungrouped_known i a c)) (λ _. tt)
 
-lone_field_in : (i : ℕ) (f : Field) (bytes : List ℕ) → InPcl (after_lone_field i f bytes)
-lone_field_in i f [] = tt
-lone_field_in i f (c ∷ bytes) = termination_in (amount_of f) i f.len c
+ungrouped_field_in : (i : ℕ) (f : Field) (bytes : List ℕ) → InPcl (after_ungrouped_field i f bytes)
+ungrouped_field_in i f [] = tt
+ungrouped_field_in i f (c ∷ bytes) = termination_in (amount_of f) i f.len c
 
 without_group_in : (i : ℕ) (bytes : List ℕ) → InPcl (without_group i bytes)
 unfolding without_group
-without_group_in i bytes = cond_both (nat_lt 16 (field_at bytes).len) _ _ InPcl (λ _. tt) (λ _. lone_field_in i (field_at bytes) (drop (field_at bytes).len bytes))
+without_group_in i bytes = cond_both (nat_lt 16 (field_at bytes).len) _ _ InPcl (λ _. tt) (λ _. ungrouped_field_in i (field_at bytes) (drop (field_at bytes).len bytes))
 
 behind_in : (n : ℕ) (f : First) → InPcl f → InPcl (behind n f)
 behind_in n Open h = tt
@@ -194,17 +194,17 @@ code_in None b bytes h = cond_both (b == 27) _ _ InPcl (λ _. escape_in bytes) (
 
 -- ---- mode PJL
 
-line_behind : (line : Line) → mode_of (between (behind_line line)) ≡ behind_line line
+line_behind : (line : PjlCommand) → mode_of (between (behind_pjl line)) ≡ behind_pjl line
 line_behind Bare = refl
 line_behind (Remark text) = refl
 line_behind (JobBegins text) = refl
 line_behind (JobEnds text) = refl
 line_behind EnterPcl = refl
 
-line_in : (f : lines.FirstLine) → IsIn modes.Pjl (by_line f)
-line_in lines.Open = tt
-line_in (lines.Begins line len) = ap Some (sym (line_behind line))
-line_in (lines.Faulty cause) = tt
+first_pjl : (f : lines.FirstPjl) → IsIn modes.Pjl (by_pjl f)
+first_pjl lines.Open = tt
+first_pjl (lines.Begins line len) = ap Some (sym (line_behind line))
+first_pjl (lines.Faulty cause) = tt
 
 otherwise_in : (b : ℕ) (bytes : List ℕ) → (b == 64) ≡ false → IsIn modes.Pjl (between_units b bytes)
 otherwise_in b bytes e =
@@ -367,7 +367,7 @@ first_in_mode whole (Letters m n) (b ∷ bytes) = letters_in (kind_of b) whole m
 first_in_mode whole (Numbered x gap n) [] = cond_both whole _ _ InFrame (λ _. ended_in x gap) (λ _. tt)
 first_in_mode whole (Numbered x gap n) (b ∷ bytes) = numbers_in (kind_of b) whole x gap n (b ∷ bytes)
 first_in_mode whole Pjl [] = tt
-first_in_mode whole Pjl (b ∷ bytes) = cond_both (b == 64) _ _ (IsIn modes.Pjl) (λ _. line_in (lines.at_line (b ∷ bytes))) (λ e. otherwise_in b bytes e)
+first_in_mode whole Pjl (b ∷ bytes) = cond_both (b == 64) _ _ (IsIn modes.Pjl) (λ _. first_pjl (lines.at_pjl (b ∷ bytes))) (λ e. otherwise_in b bytes e)
 
 pub begins_in_mode : (whole : Bool) (c : Context) (bytes : List ℕ) (item : Entry) (len : ℕ) (next : Context) → first_of whole c bytes ≡ Begins item len next → follows (mode_of c) item ≡ Some (mode_of next)
 begins_in_mode whole c bytes item len next e = subst (IsIn (mode_of c)) e (first_in_mode whole c bytes)

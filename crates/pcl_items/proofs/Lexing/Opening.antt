@@ -7,8 +7,8 @@ use Rattle.std.proofs.lemmas.List.{append_assoc, length-append, length-replicate
 use Rattle.pcl_items.specs.declared.pcl.command.DataCommand.{DataCommand}
 use Rattle.pcl_items.specs.declared.pcl.command.Group.{Group}
 use Rattle.pcl_items.specs.declared.fault.Name.TheVariants as names
-use Rattle.pcl_items.specs.declared.fault.Cause.{Cause}
-use Rattle.pcl_items.specs.declared.fault.Cause.TheVariants.{Syntax, Truncated, NotInProfile, BadNumber, Pjl, EndInFrame}
+use Rattle.pcl_items.specs.declared.fault.LexCause.{LexCause}
+use Rattle.pcl_items.specs.declared.fault.LexCause.TheVariants.{Syntax, Truncated, NotInProfile, BadNumber, Pjl, EndInFrame}
 use Rattle.pcl_items.specs.Lexing.Contexts.{Context, Pcl, Sequence}
 use Rattle.pcl_items.specs.Lexing.Contexts as contexts
 use Rattle.pcl_items.specs.declared.item.Mode.TheVariants as modes
@@ -19,9 +19,9 @@ use Rattle.pcl_items.specs.Items.{Entry, Text, WithData, ExitLanguage}
 use Rattle.pcl_items.specs.PjlLines.Exit.{exit_field, begins_with}
 use Rattle.pcl_items.specs.Escapes.Field.{field_at, amount_of}
 use Rattle.pcl_items.specs.Grammar.{escape}
-use Rattle.pcl_items.specs.Reader.{First, Open, Begins, Faulty, behind, with_data, by_last_byte, after_field, command_in, by_termination, after_lone_field, without_group, after_introducer, after_parenthesis, after_escape, exit_or, first_of}
+use Rattle.pcl_items.specs.Reader.{First, Open, Begins, Faulty, behind, with_data, by_last_byte, after_field, command_in, by_termination, after_ungrouped_field, without_group, after_introducer, after_parenthesis, after_escape, exit_or, first_of}
 use Rattle.pcl_items.specs.Faults as rules
-use Rattle.pcl_items.specs.Faults.{CommandFault, number, no_letter, unknown_last, unknown_more, no_count, cut_data, cut_command, LoneFault, lone_number, no_end, unknown_end, cut_lone, HasGroups, BeginsSmall, UnitFault, no_byte, cut_escape, no_sequence, no_character, cut_introducer, no_group, unknown_group, font, language}
+use Rattle.pcl_items.specs.Faults.{CommandFault, number, no_letter, unknown_last, unknown_more, no_count, cut_data, cut_command, UngroupedFault, ungrouped_number, no_end, unknown_end, cut_ungrouped, HasGroups, BeginsSmall, UnitFault, no_byte, cut_escape, no_sequence, no_character, cut_introducer, no_group, unknown_group, font, language}
 use Rattle.pcl_items.proofs.Escapes.Shapes.{cut_goes_on}
 use Rattle.pcl_items.proofs.Escapes.FaultHeads.{TellsCommand, command_told, TellsUnit, unit_told}
 use Rattle.pcl_items.proofs.Reading.ReadsTo.{same_between}
@@ -34,7 +34,7 @@ abbrev pub on : List ℕ → List ℕ
 on bytes = bytes ++ 95 ∷ []
 
 -- a fault of the end of all bytes
-abbrev pub IsAtEnd : Cause → Type 0
+abbrev pub IsAtEnd : LexCause → Type 0
 IsAtEnd Syntax = ⊥
 IsAtEnd Truncated = Unit {0}
 IsAtEnd (NotInProfile name) = ⊥
@@ -45,7 +45,7 @@ IsAtEnd EndInFrame = Unit {0}
 -- an item, or a fault other than those of the end
 pub data Decided : First → Type 0 where
   by_item : {f : First} (entry : Entry) (len : ℕ) (next : Context) → f ≡ Begins entry len next → Decided f
-  by_fault : {f : First} (cause : Cause) → f ≡ Faulty cause → (IsAtEnd cause → ⊥) → Decided f
+  by_fault : {f : First} (cause : LexCause) → f ≡ Faulty cause → (IsAtEnd cause → ⊥) → Decided f
 
 pub same : (f g : First) → f ≡ g → Decided g → Decided f
 same f g e (by_item entry len next h) = by_item entry len next (e ∙ h)
@@ -74,7 +74,7 @@ data_goes_on d text a n bytes f h short =
           ∙ cond-false (nat_lt (length (bytes ++ more)) n) _ _ (le-ltb (length (bytes ++ more)) n all));
     }
 
-command_goes_on : (g : Group) (bytes : List ℕ) (cause : Cause) → CommandFault g bytes cause → cause ≡ Truncated → CommandGoesOn g bytes
+command_goes_on : (g : Group) (bytes : List ℕ) (cause : LexCause) → CommandFault g bytes cause → cause ≡ Truncated → CommandGoesOn g bytes
 unfolding command_in
 command_goes_on _ _ _ (number h) e = absurd cc
 command_goes_on _ _ _ (no_letter rest f ends no_capital no_small) e = absurd cc
@@ -91,13 +91,13 @@ end_refuses : (o : Option Amount) (i len : ℕ) → Decided (by_termination o i 
 end_refuses None i len = by_fault BadNumber refl (λ h. h)
 end_refuses (Some a) i len = by_fault Syntax refl (λ h. h)
 
-lone_refuses : (i : ℕ) (bytes : List ℕ) (cause : Cause) → LoneFault i bytes cause → cause ≡ Truncated → Decided (without_group i (on bytes))
+ungrouped_refuses : (i : ℕ) (bytes : List ℕ) (cause : LexCause) → UngroupedFault i bytes cause → cause ≡ Truncated → Decided (without_group i (on bytes))
 unfolding without_group
-lone_refuses _ _ _ (lone_number h) e = absurd cc
-lone_refuses _ _ _ (no_end rest f ends no_capital) e = absurd cc
-lone_refuses _ _ _ (unknown_end rest f capital none) e = absurd cc
-lone_refuses _ _ _ (cut_lone {introducer = i} {bytes = bytes} h) e =
-    let c = cut_goes_on (after_lone_field i) bytes 95 [] (omega arith) h in
+ungrouped_refuses _ _ _ (ungrouped_number h) e = absurd cc
+ungrouped_refuses _ _ _ (no_end rest f ends no_capital) e = absurd cc
+ungrouped_refuses _ _ _ (unknown_end rest f capital none) e = absurd cc
+ungrouped_refuses _ _ _ (cut_ungrouped {introducer = i} {bytes = bytes} h) e =
+    let c = cut_goes_on (after_ungrouped_field i) bytes 95 [] (omega arith) h in
     same (without_group i (on bytes)) (by_termination (amount_of c.0) i c.0.len 95) c.1 (end_refuses (amount_of c.0) i c.0.len)
 
 escape_refuses : Decided (first_of true Pcl (escape ∷ 95 ∷ []))
@@ -129,7 +129,7 @@ pub record GoesOn (c : Context) (rest : List ℕ) : Type 0 where
 by_byte : (c : Context) (rest : List ℕ) → Decided (first_of true c (on rest)) → GoesOn c rest
 by_byte c rest d = record { more = 95 ∷ []; decided = d }
 
-unit_goes_on : (bytes : List ℕ) (cause : Cause) → UnitFault modes.Pcl bytes cause → cause ≡ Truncated → GoesOn Pcl bytes
+unit_goes_on : (bytes : List ℕ) (cause : LexCause) → UnitFault modes.Pcl bytes cause → cause ≡ Truncated → GoesOn Pcl bytes
 unit_goes_on _ _ (no_byte low h k) e = absurd cc
 unit_goes_on _ _ cut_escape e = by_byte Pcl (escape ∷ []) escape_refuses
 unit_goes_on _ _ (no_sequence l h none e37 g) e = absurd cc
@@ -144,9 +144,9 @@ unit_goes_on _ _ (rules.in_group {group = g} {bytes = bytes} {cause = cause} h) 
       decided = same (first_of true Pcl (escape ∷ introducer_of g ∷ character_of g ∷ (bytes ++ c.more))) (behind 3 (command_in g (bytes ++ c.more))) (group_read g (bytes ++ c.more)) (behind_decided 3 (command_in g (bytes ++ c.more)) c.decided);
     }
 unit_goes_on _ _ (font {bytes = bytes} {cause = cause} k h) e =
-    by_byte Pcl (escape ∷ 40 ∷ bytes) (same (first_of true Pcl (on (escape ∷ 40 ∷ bytes))) (without_group 40 (on bytes)) (font_read (on bytes) (not_small bytes k)) (lone_refuses 40 bytes cause h e))
+    by_byte Pcl (escape ∷ 40 ∷ bytes) (same (first_of true Pcl (on (escape ∷ 40 ∷ bytes))) (without_group 40 (on bytes)) (font_read (on bytes) (not_small bytes k)) (ungrouped_refuses 40 bytes cause h e))
 unit_goes_on _ _ (language {bytes = bytes} {cause = cause} k h) e =
-    by_byte Pcl (escape ∷ 37 ∷ bytes) (same (first_of true Pcl (on (escape ∷ 37 ∷ bytes))) (exit_or (without_group 37 (on bytes)) (on bytes)) (percent_read (on bytes)) (exit_decided (on bytes) (lone_refuses 37 bytes cause h e)))
+    by_byte Pcl (escape ∷ 37 ∷ bytes) (same (first_of true Pcl (on (escape ∷ 37 ∷ bytes))) (exit_or (without_group 37 (on bytes)) (on bytes)) (percent_read (on bytes)) (exit_decided (on bytes) (ungrouped_refuses 37 bytes cause h e)))
 
 text_decides : Decided (first_of true Pcl (95 ∷ []))
 unfolding first_of

@@ -9,7 +9,7 @@ use Rattle.pcl_items.specs.Items.{at, Text}
 use Rattle.pcl_items.specs.Reader.{first_of, Begins}
 use Rattle.pcl_items.specs.Reading.{ReadsTo, here, begins}
 use Rattle.pcl_items.specs.Lexing.State.{LexerState}
-use Rattle.pcl_items.specs.Lexing.Passing.{ahead_of, AreText, text_items, Passes}
+use Rattle.pcl_items.specs.Lexing.Passing.{ahead_of, AreText, text_items, ReadsText}
 use Rattle.pcl_items.proofs.Reading.ReadsTo.{ReadsTo-at, ReadsTo-append}
 use Rattle.pcl_items.proofs.Lexing.Steps.{decides}
 use Rattle.pcl_items.proofs.Lexing.Stepped.{standing}
@@ -30,7 +30,7 @@ front_reads w place n rest short h =
 
 -- that the first n bytes ahead may be passed
 abbrev pub Passing : ℕ → LexerState → LexerState → Type 0
-Passing n old new = 1 ≤ n → n ≤ length (ahead_of old) → AreText (take n (ahead_of old)) → Passes old (take n (ahead_of old)) new
+Passing n old new = 1 ≤ n → n ≤ length (ahead_of old) → AreText (take n (ahead_of old)) → ReadsText old (take n (ahead_of old)) new
 
 pub passed : (window : List ℕ) (at dropped : ℕ) (context : Context) (ended : Bool) (held n : ℕ) →
     Passing n (standing window at dropped context ended held) (standing window (at + n) dropped context ended held)

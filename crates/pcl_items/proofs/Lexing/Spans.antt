@@ -17,7 +17,7 @@ use Rattle.pcl_items.specs.declared.frame.Gap.{Gap}
 use Rattle.pcl_items.specs.declared.frame.Gap.TheVariants as gaps
 use Rattle.pcl_items.specs.declared.lexer.first.Context as code_context
 use Rattle.pcl_items.specs.declared.lexer.first.First as code_first
-use Rattle.pcl_items.specs.declared.fault.Cause.TheVariants.{BadNumber}
+use Rattle.pcl_items.specs.declared.fault.LexCause.TheVariants.{BadNumber}
 use Rattle.pcl_items.specs.Lexing.Contexts.{Context, Pcl, Sequence, Frame, Letters, Numbered, Pjl, Numbers, Single, Odd, Even, counted, pending}
 use Rattle.pcl_items.specs.Frames.Kinds.{kind_of, capital}
 use Rattle.pcl_items.specs.Frames.Mnemonics.{mnemonic_at}
@@ -27,18 +27,18 @@ use Rattle.pcl_items.specs.Escapes.ValueField.{fraction_text, decimals_of}
 use Rattle.pcl_items.specs.Escapes.Field.{Field, field_at, amount_of}
 use Rattle.pcl_items.specs.Items.{Entry, Text, CarriageReturn, LineFeed, FormFeed, Reset, ClearMargins, HalfLineFeed, Parameterized, SymbolSet, DefaultFont, EnterFrame, LeaveFrame, Initialize, Set, Move, WithData, ExitLanguage, PjlLine}
 use Rattle.pcl_items.specs.Escapes.Codes.{control_at, sequence_at}
-use Rattle.pcl_items.specs.Escapes.Lone.{lone_at, leave_at, count_of}
+use Rattle.pcl_items.specs.Escapes.Ungrouped.{ungrouped_at, leave_at, count_of}
 use Rattle.pcl_items.specs.Frames.Number.{coordinate_of, setting_of, Numeral, Cut, Wrong, Read, has_digit, read_or, number_end, numeral_at}
 use Rattle.pcl_items.specs.Frames.Reader.{left_by, by_language, after_language_field, language_in, in_command, second_letter, after_letter, after_frame_escape, by_kind, at_frame, single, first_of_pair, second_of_pair, first_number, letters_by, after_letters, further, ended_by, ended, with_comma, by_figure, numbers_by, after_numbers}
 use Rattle.pcl_items.specs.Lexing.FirstView.{context_view, first_view, len_of, counted_after}
 use Rattle.pcl_items.specs.Reading.{left}
-use Rattle.pcl_items.specs.Reader.{First, Open, Passes, Begins, Faulty, behind, named, with_data, by_last_letter, by_other_letter, by_last_byte, after_field, command_in, is_group_or_parameter, is_termination, behind_lone, lone, by_termination, after_lone_field, without_group, in_group, after_introducer, after_parenthesis, by_character, after_escape, by_code, between_units, by_line, exit_or, first_of}
+use Rattle.pcl_items.specs.Reader.{First, Open, Passes, Begins, Faulty, behind, named, with_data, by_last_letter, by_other_letter, by_last_byte, after_field, command_in, is_group_or_parameter, is_termination, behind_ungrouped, ungrouped, by_termination, after_ungrouped_field, without_group, in_group, after_introducer, after_parenthesis, by_character, after_escape, by_code, between_units, by_pjl, exit_or, first_of}
 use Rattle.pcl_items.specs.PjlLines.Exit.{exit_field, begins_with}
-use Rattle.pcl_items.specs.Modes.{between, behind_line}
-use Rattle.pcl_items.specs.PjlLines.Text.{Line}
+use Rattle.pcl_items.specs.Modes.{between, behind_pjl}
+use Rattle.pcl_items.specs.PjlLines.Text.{PjlCommand}
 use Rattle.pcl_items.specs.PjlLines.Text.{Bare, Remark, JobBegins, JobEnds, EnterPcl}
 use Rattle.pcl_items.specs.PjlLines.First as lines
-use Rattle.pcl_items.specs.PjlLines.Units.{IsLineUnit, whole_line}
+use Rattle.pcl_items.specs.PjlLines.Units.{IsPjlUnit, whole_line}
 use Rattle.pcl_items.proofs.PjlLines.Units.{lines_by_rules}
 use Rattle.pcl_items.proofs.PjlLines.Exits.{exit_there}
 use Rattle.pcl_items.proofs.Escapes.Tables.{both_true}
@@ -84,7 +84,7 @@ command_in-span g bytes =
     (λ _. after_field-span g (field_at bytes) (drop (field_at bytes).len bytes) (length bytes) (λ h. omega (arith, length-drop (field_at bytes).len bytes)))
 
 -- between units
-counted_behind : (item : Entry) → counted (behind_lone item) ≡ 0
+counted_behind : (item : Entry) → counted (behind_ungrouped item) ≡ 0
 counted_behind (Text c) = refl
 counted_behind CarriageReturn = refl
 counted_behind LineFeed = refl
@@ -104,7 +104,7 @@ counted_behind (WithData command bytes) = refl
 counted_behind ExitLanguage = refl
 counted_behind (PjlLine line) = refl
 
-pending_behind : (item : Entry) → pending (behind_lone item) ≡ 0
+pending_behind : (item : Entry) → pending (behind_ungrouped item) ≡ 0
 pending_behind (Text c) = refl
 pending_behind CarriageReturn = refl
 pending_behind LineFeed = refl
@@ -124,23 +124,23 @@ pending_behind (WithData command bytes) = refl
 pending_behind ExitLanguage = refl
 pending_behind (PjlLine line) = refl
 
-lone-span : (o : Option Entry) (i c len n : ℕ) → 0 < len → len ≤ n → IsSpan n (lone o i c len)
-lone-span None i c len n h k = tt
-lone-span (Some item) i c len n h k = (h, k, counted_behind item, pending_behind item)
+ungrouped-span : (o : Option Entry) (i c len n : ℕ) → 0 < len → len ≤ n → IsSpan n (ungrouped o i c len)
+ungrouped-span None i c len n h k = tt
+ungrouped-span (Some item) i c len n h k = (h, k, counted_behind item, pending_behind item)
 
 by_termination-span : (o : Option Amount) (i len c n : ℕ) → len + 3 ≤ n → IsSpan n (by_termination o i len c)
 by_termination-span None i len c n h = tt
-by_termination-span (Some a) i len c n h = cond_both (is_termination c) _ _ (IsSpan n) (λ _. lone-span (lone_at i a c) i c (len + 3) n (omega arith) h) (λ _. tt)
+by_termination-span (Some a) i len c n h = cond_both (is_termination c) _ _ (IsSpan n) (λ _. ungrouped-span (ungrouped_at i a c) i c (len + 3) n (omega arith) h) (λ _. tt)
 
-after_lone_field-span : (i : ℕ) (f : Field) (bytes : List ℕ) (n : ℕ) → (0 < length bytes → f.len + 3 ≤ n) → IsSpan n (after_lone_field i f bytes)
-after_lone_field-span i f [] n h = tt
-after_lone_field-span i f (c ∷ bytes) n h = by_termination-span (amount_of f) i f.len c n (h (omega arith))
+after_ungrouped_field-span : (i : ℕ) (f : Field) (bytes : List ℕ) (n : ℕ) → (0 < length bytes → f.len + 3 ≤ n) → IsSpan n (after_ungrouped_field i f bytes)
+after_ungrouped_field-span i f [] n h = tt
+after_ungrouped_field-span i f (c ∷ bytes) n h = by_termination-span (amount_of f) i f.len c n (h (omega arith))
 
 without_group-span : (i : ℕ) (bytes : List ℕ) (n : ℕ) → 2 + length bytes ≤ n → IsSpan n (without_group i bytes)
 unfolding without_group
 without_group-span i bytes n k =
     cond_both (nat_lt 16 (field_at bytes).len) _ _ (IsSpan n) (λ _. tt)
-    (λ _. after_lone_field-span i (field_at bytes) (drop (field_at bytes).len bytes) n (λ h. omega (arith, k, length-drop (field_at bytes).len bytes)))
+    (λ _. after_ungrouped_field-span i (field_at bytes) (drop (field_at bytes).len bytes) n (λ h. omega (arith, k, length-drop (field_at bytes).len bytes)))
 
 -- the universal exit
 exit_or-span : (f : First) (bytes : List ℕ) (n : ℕ) → 2 + length bytes ≤ n → IsSpan n f → IsSpan n (exit_or f bytes)
@@ -212,32 +212,32 @@ between-span : (b : ℕ) (bytes : List ℕ) → IsSpan (length (b ∷ bytes)) (b
 between-span b bytes = cond_both (nat_le 32 b) _ _ (IsSpan (length (b ∷ bytes))) (λ _. (omega arith, omega arith, refl, refl)) (λ _. by_code-span (control_at b) b bytes)
 
 -- a line has its newline at least
-line-counted : (line : Line) → counted (between (behind_line line)) ≡ 0
+line-counted : (line : PjlCommand) → counted (between (behind_pjl line)) ≡ 0
 line-counted Bare = refl
 line-counted (Remark text) = refl
 line-counted (JobBegins text) = refl
 line-counted (JobEnds text) = refl
 line-counted EnterPcl = refl
 
-line-pending : (line : Line) → pending (between (behind_line line)) ≡ 0
+line-pending : (line : PjlCommand) → pending (between (behind_pjl line)) ≡ 0
 line-pending Bare = refl
 line-pending (Remark text) = refl
 line-pending (JobBegins text) = refl
 line-pending (JobEnds text) = refl
 line-pending EnterPcl = refl
 
-line-length : {text : List ℕ} {line : Line} → IsLineUnit text line → 0 < length text
+line-length : {text : List ℕ} {line : PjlCommand} → IsPjlUnit text line → 0 < length text
 line-length (whole_line words h e short) = omega (arith, length-append words (10 ∷ []))
 
-by_line-span : (bytes : List ℕ) (f : lines.FirstLine) → lines.at_line bytes ≡ f → IsSpan (length bytes) (by_line f)
-by_line-span bytes lines.Open e = tt
-by_line-span bytes (lines.Begins line len) e =
+by_pjl-span : (bytes : List ℕ) (f : lines.FirstPjl) → lines.at_pjl bytes ≡ f → IsSpan (length bytes) (by_pjl f)
+by_pjl-span bytes lines.Open e = tt
+by_pjl-span bytes (lines.Begins line len) e =
     let b = (lines_by_rules bytes).line line len e in
     (omega (arith, b.size, line-length b.unit), omega (arith, b.size, ap length b.all, length-append b.text b.rest), line-counted line, line-pending line)
-by_line-span bytes (lines.Faulty cause) e = tt
+by_pjl-span bytes (lines.Faulty cause) e = tt
 
-pjl-span : (b : ℕ) (bytes : List ℕ) → IsSpan (length (b ∷ bytes)) (cond (b == 64) (by_line (lines.at_line (b ∷ bytes))) (between_units b bytes))
-pjl-span b bytes = cond_both (b == 64) _ _ (IsSpan (length (b ∷ bytes))) (λ _. by_line-span (b ∷ bytes) (lines.at_line (b ∷ bytes)) refl) (λ _. between-span b bytes)
+pjl-span : (b : ℕ) (bytes : List ℕ) → IsSpan (length (b ∷ bytes)) (cond (b == 64) (by_pjl (lines.at_pjl (b ∷ bytes))) (between_units b bytes))
+pjl-span b bytes = cond_both (b == 64) _ _ (IsSpan (length (b ∷ bytes))) (λ _. by_pjl-span (b ∷ bytes) (lines.at_pjl (b ∷ bytes)) refl) (λ _. between-span b bytes)
 
 -- ---- a number of a frame
 

@@ -22,9 +22,9 @@ use Rattle.pcl_items.specs.Reader.{First, Open, Begins, Faulty, first_of}
 use Rattle.pcl_items.specs.Fault.{IsFault}
 use Rattle.pcl_items.specs.Lexing.FirstView.{context_view, first_view}
 use Rattle.pcl_items.specs.Reading.{ReadsTo, here, begins}
-use Rattle.pcl_items.specs.Lexing.Ahead.{IsByte, StandsAhead, IsUndecided}
+use Rattle.pcl_items.specs.Lexing.Ahead.{StandsFirst, StandsAhead, IsUndecided}
 use Rattle.pcl_items.specs.Lexing.State.{LexerState}
-use Rattle.pcl_items.specs.Lexing.Answers.{GoesOn, Answers}
+use Rattle.pcl_items.specs.Lexing.Answers.{AdvancesOver, Answers}
 use Rattle.pcl_items.specs.Escapes.ReadCommands.{IsAhead}
 use Rattle.pcl_items.specs.Frames.Pairs.{IsPairAhead}
 use Rattle.pcl_items.proofs.Reading.ReadsTo.{ReadsTo-at, ReadsTo-append}
@@ -44,11 +44,11 @@ one_item ended c next window start dropped len entry e =
     subst (λ (l : List ℕ). ReadsTo ended c (dropped + start) (drop start window) (entries.at (item_place c (dropped + start)) entry ∷ []) next (dropped + (start + len)) l) (drop-drop len start window)
     (begins entry len next e (ReadsTo-at refl refl place here))
 
--- the answer to an item of one byte
-pub byte_is_answer : (window : List ℕ) (start dropped : ℕ) (ended : Bool) (held : ℕ) (item : Item) → IsByte item (drop start window) →
-    Answers (standing window start dropped Pcl ended held) (Ok (answers.Item (dropped + start) item)) (standing window (start + 1) dropped Pcl ended held)
-byte_is_answer window start dropped ended held item t =
-    record { reads = one_item ended Pcl Pcl window start dropped 1 (view item) (t.0 ended); ended = refl; held = refl }
+-- the answer to an item of so many bytes between units
+pub unit_is_answer : (window : List ℕ) (start dropped len : ℕ) (ended : Bool) (held : ℕ) (item : Item) → StandsFirst item len (drop start window) →
+    Answers (standing window start dropped Pcl ended held) (Ok (answers.Item (dropped + start) item)) (standing window (start + len) dropped Pcl ended held)
+unit_is_answer window start dropped len ended held item t =
+    record { reads = one_item ended Pcl Pcl window start dropped len (view item) (t.0 ended); ended = refl; held = refl }
 
 -- no parameterized command is read of a frame
 command_place : (c : Context) (place : ℕ) (command : Command) (a : Amount) (m : Mode) → follows (mode_of c) (Parameterized command a) ≡ Some m → item_place c place ≡ place
@@ -66,7 +66,7 @@ command_is_answer window start dropped context ended held read t =
     let entry : Entry = Parameterized read.command (amount read.number) in
     let new : LexerState = standing window (start + read.len) dropped (context_view read.next) ended held in
     let there : item_place context (dropped + start) ≡ dropped + start = command_place context (dropped + start) read.command (amount read.number) (mode_of (context_view read.next)) (begins_in_mode ended context (drop start window) entry read.len (context_view read.next) (t.0 ended)) in
-    subst (λ (place : ℕ). GoesOn (standing window start dropped context ended held) (entries.at place entry ∷ []) new) there
+    subst (λ (place : ℕ). AdvancesOver (standing window start dropped context ended held) (entries.at place entry ∷ []) new) there
     (record { reads = one_item ended context (context_view read.next) window start dropped read.len entry (t.0 ended); ended = refl; held = refl })
 
 -- the answer to a pair of coordinates
@@ -96,13 +96,13 @@ module _ (window : List ℕ) (start dropped : ℕ) (context : Context) (ended : 
   abbrev there : LexerState
   there = standing window ahead.start dropped (context_view ahead.context) ended held
 
-  passed_over : GoesOn old [] there
+  passed_over : AdvancesOver old [] there
   passed_over = record { reads = h.reads dropped; ended = refl; held = refl }
 
   pub item_ahead : (entry : Entry) (len : ℕ) (next : Context) (place : ℕ) → place ≡ item_place (context_view ahead.context) (dropped + ahead.start) → first_view (drop ahead.start window) ahead.first ≡ Begins entry len next →
-      GoesOn old (entries.at place entry ∷ []) (standing window (ahead.start + len) dropped next ended held)
+      AdvancesOver old (entries.at place entry ∷ []) (standing window (ahead.start + len) dropped next ended held)
   item_ahead entry len next place p e =
-      subst (λ (n : ℕ). GoesOn old (entries.at n entry ∷ []) (standing window (ahead.start + len) dropped next ended held)) (sym p)
+      subst (λ (n : ℕ). AdvancesOver old (entries.at n entry ∷ []) (standing window (ahead.start + len) dropped next ended held)) (sym p)
       (record { reads = ReadsTo-append (h.reads dropped) (one_item ended (context_view ahead.context) next window ahead.start dropped len entry (sym h.first_is ∙ e)); ended = refl; held = refl })
 
   pub fault_ahead : (fault : LexFault) → fault.place ≡ item_place (context_view ahead.context) (dropped + ahead.start) → first_view (drop ahead.start window) ahead.first ≡ Faulty fault.cause → Answers old (Err fault) there

@@ -1,7 +1,7 @@
 -- What one call of a lexer does to what it has read.
 use Rattle.std.proofs.Common.{◌≡◌, ℕ, zero, suc, ◌+◌, ◌<◌, ◌≤◌, Option, None, Some, List, [], ◌∷◌, ◌++◌, length, drop, arith, Bool, true, false, Result, Ok, Err, refl, sym, ap, subst, ◌∙◌}
 use Rattle.std.proofs.lemmas.List.{append-nil, length-append}
-use Rattle.pcl_items.specs.declared.fault.Cause.{Cause}
+use Rattle.pcl_items.specs.declared.fault.LexCause.{LexCause}
 use Rattle.pcl_items.specs.declared.fault.LexFault.{LexFault}
 use Rattle.pcl_items.specs.Lexing.Contexts.{Context, Pcl, Sequence, Frame, Letters, Numbered, Pjl, item_place}
 use Rattle.pcl_items.specs.declared.lexer.Lexed.{Lexed}
@@ -14,8 +14,8 @@ use Rattle.pcl_items.specs.Fault.{end_cause, IsFault}
 use Rattle.pcl_items.specs.Reading.{ReadsTo, here, passes, begins, Reading, Whole, Stopped, IsReadFrom, items_of, left, ends_so, end_of, with_item}
 use Rattle.pcl_items.specs.Spellings.Spelled.{mode_after, entries}
 use Rattle.pcl_items.specs.Lexing.State.{LexerState, at_start, WantsMore}
-use Rattle.pcl_items.specs.Lexing.Answers.{Answers, GoesOn}
-use Rattle.pcl_items.specs.Lexing.Meaning.{MayBe, Decides, Settles, HasRead, given, Undecided, Tells, Advances, Admits, Allows, IsNext}
+use Rattle.pcl_items.specs.Lexing.Answers.{Answers, AdvancesOver}
+use Rattle.pcl_items.specs.Lexing.Meaning.{MayBe, Decides, Settles, HasRead, given, Undecided, Tells, Advances, KeepsMode, Allows, IsNext}
 use Rattle.pcl_items.proofs.Lexing.Spans.{begins-taken, passes-taken}
 use Rattle.pcl_items.proofs.Lexing.Decided.{stays_decided}
 use Rattle.pcl_items.proofs.Reading.ReadsTo.{ReadsTo-at, ReadsTo-append, ReadsTo-place, grows, closes, behind_front}
@@ -68,7 +68,7 @@ decides w bytes xs c p rest h job reading may is =
 
 -- ---- a fault
 
-faulty_stays : (c : Context) (rest more : List ℕ) (cause : Cause) (f : First) → first_of false c rest ≡ f → IsFault false f c rest cause → IsFault true (first_of true c (rest ++ more)) c (rest ++ more) cause
+faulty_stays : (c : Context) (rest more : List ℕ) (cause : LexCause) (f : First) → first_of false c rest ≡ f → IsFault false f c rest cause → IsFault true (first_of true c (rest ++ more)) c (rest ++ more) cause
 faulty_stays c rest more cause (Faulty other) e h =
     let read : first_of true c (rest ++ more) ≡ Faulty other = stays_decided c rest true more (λ o. let both : Open ≡ Faulty other = sym o ∙ e in absurd cc) ∙ e in
     subst (λ (g : First). IsFault true g c (rest ++ more) cause) (sym read) h
@@ -76,13 +76,13 @@ faulty_stays c rest more cause (Passes len next) e h = absurd h
 faulty_stays c rest more cause (Begins item len next) e h = absurd h
 faulty_stays c rest more cause Open e h = absurd h
 
-fault_stays : (w : Bool) (c : Context) (rest more : List ℕ) (cause : Cause) → (w ≡ true → more ≡ []) → IsFault w (first_of w c rest) c rest cause → IsFault true (first_of true c (rest ++ more)) c (rest ++ more) cause
+fault_stays : (w : Bool) (c : Context) (rest more : List ℕ) (cause : LexCause) → (w ≡ true → more ≡ []) → IsFault w (first_of w c rest) c rest cause → IsFault true (first_of true c (rest ++ more)) c (rest ++ more) cause
 fault_stays true c rest more cause none h =
     let same : rest ≡ rest ++ more = sym (append-nil rest) ∙ ap (λ l. rest ++ l) (sym (none refl)) in
     subst (λ (l : List ℕ). IsFault true (first_of true c l) c l cause) same h
 fault_stays false c rest more cause none h = faulty_stays c rest more cause (first_of false c rest) refl h
 
-settles : (w : Bool) (bytes : List ℕ) (xs : List Placed) (c : Context) (p : ℕ) (rest : List ℕ) (place : ℕ) (cause : Cause) → ReadsTo w Pcl 0 bytes xs c p rest → place ≡ item_place c p → IsFault w (first_of w c rest) c rest cause → Settles w bytes (Stopped xs place cause)
+settles : (w : Bool) (bytes : List ℕ) (xs : List Placed) (c : Context) (p : ℕ) (rest : List ℕ) (place : ℕ) (cause : LexCause) → ReadsTo w Pcl 0 bytes xs c p rest → place ≡ item_place c p → IsFault w (first_of w c rest) c rest cause → Settles w bytes (Stopped xs place cause)
 settles w bytes xs c p rest place cause h e k job may =
     let j = in_job w bytes job xs c p rest h may in
     (read_by_rules job (Stopped xs place cause)).sound (record { last = c; end = p; rest = rest ++ j.more; reads = j.reads; at_end = e; fault = fault_stays w c rest j.more cause j.none k })
@@ -93,9 +93,9 @@ settles w bytes xs c p rest place cause h e k job may =
 pub record OpenEnd (c : Context) (p : ℕ) (rest : List ℕ) : Type 0 where
   pub reading : Reading
   pub read : IsReadFrom c p rest reading
-  pub at_end : (ys : List Placed) (q : ℕ) (cause : Cause) → reading ≡ Stopped ys q cause → IsAtEnd cause
+  pub at_end : (ys : List Placed) (q : ℕ) (cause : LexCause) → reading ≡ Stopped ys q cause → IsAtEnd cause
 
-abbrev IsEndCause : Option Cause → Type 0
+abbrev IsEndCause : Option LexCause → Type 0
 IsEndCause None = Unit {0}
 IsEndCause (Some cause) = IsAtEnd cause
 
@@ -116,7 +116,7 @@ nothing_left c p rest e = record { reading = end_of c p rest; read = end_read c 
     causes (Numbered x gap n) [] = tt
     causes (Numbered x gap n) (b ∷ rest) = tt
 
-    go : (o : Option Cause) → IsEndCause o → (ys : List Placed) (q : ℕ) (cause : Cause) → ends_so o c p ≡ Stopped ys q cause → IsAtEnd cause
+    go : (o : Option LexCause) → IsEndCause o → (ys : List Placed) (q : ℕ) (cause : LexCause) → ends_so o c p ≡ Stopped ys q cause → IsAtEnd cause
     go None h ys q cause k = absurd cc
     go (Some d) h ys q cause k = let same : d ≡ cause = cc in subst IsAtEnd same h
 
@@ -129,7 +129,7 @@ one_step c p rest (Begins entry len next) e h more =
     let r = more next len h (begins-taken true c rest entry len next e).less in
     record { reading = with_item (at (item_place c p) entry) r.reading; read = item_read c p rest entry len next r.reading e r.read; at_end = λ ys q cause k. with_end r.reading r.at_end ys q cause k }
   where
-    with_end : (r : Reading) → ((ys : List Placed) (q : ℕ) (cause : Cause) → r ≡ Stopped ys q cause → IsAtEnd cause) → (ys : List Placed) (q : ℕ) (cause : Cause) → with_item (at (item_place c p) entry) r ≡ Stopped ys q cause → IsAtEnd cause
+    with_end : (r : Reading) → ((ys : List Placed) (q : ℕ) (cause : LexCause) → r ≡ Stopped ys q cause → IsAtEnd cause) → (ys : List Placed) (q : ℕ) (cause : LexCause) → with_item (at (item_place c p) entry) r ≡ Stopped ys q cause → IsAtEnd cause
     with_end (Whole items place) h ys q cause k = absurd cc
     with_end (Stopped items place d) h ys q cause k = let same : d ≡ cause = cc in subst IsAtEnd same (h items place d refl)
 one_step c p rest (Faulty cause) e h more = absurd h
@@ -151,7 +151,7 @@ pub read_behind : {c d : Context} {p q : ℕ} {bytes rest : List ℕ} {xs : List
 read_behind (Whole items place) h k = (k.0, k.1, ReadsTo-append h k.2)
 read_behind (Stopped items place cause) h k = record { last = k.last; end = k.end; rest = k.rest; reads = ReadsTo-append h k.reads; at_end = k.at_end; fault = k.fault }
 
-pub behind_end : (xs : List Placed) (r : Reading) → ((ys : List Placed) (q : ℕ) (cause : Cause) → r ≡ Stopped ys q cause → IsAtEnd cause) → (ys : List Placed) (q : ℕ) (cause : Cause) → with_items xs r ≡ Stopped ys q cause → IsAtEnd cause
+pub behind_end : (xs : List Placed) (r : Reading) → ((ys : List Placed) (q : ℕ) (cause : LexCause) → r ≡ Stopped ys q cause → IsAtEnd cause) → (ys : List Placed) (q : ℕ) (cause : LexCause) → with_items xs r ≡ Stopped ys q cause → IsAtEnd cause
 behind_end xs (Whole items place) h ys q cause k = absurd cc
 behind_end xs (Stopped items place d) h ys q cause k = let same : d ≡ cause = cc in subst IsAtEnd same (h items place d refl)
 
@@ -167,7 +167,7 @@ no_more xs others x e =
     absurd (omega (arith, length-append (xs ++ x ∷ []) others, length-append xs (x ∷ []), long))
 
 -- what bytes that decide nothing at the end spell
-items_end : (xs : List Placed) (o : Option Cause) (c : Context) (p : ℕ) → items_of (with_items xs (ends_so o c p)) ≡ xs
+items_end : (xs : List Placed) (o : Option LexCause) (c : Context) (p : ℕ) → items_of (with_items xs (ends_so o c p)) ≡ xs
 items_end xs None c p = append-nil xs
 items_end xs (Some cause) c p = append-nil xs
 
@@ -222,17 +222,17 @@ undecided bytes xs c p rest h e = go (opened c rest e)
 
 -- ---- one answer
 
-went_on : (old new : LexerState) (bytes : List ℕ) (items ys : List Placed) → GoesOn old ys new → HasRead old bytes items → HasRead new bytes (items ++ ys)
+went_on : (old new : LexerState) (bytes : List ℕ) (items ys : List Placed) → AdvancesOver old ys new → HasRead old bytes items → HasRead new bytes (items ++ ys)
 went_on old new bytes items ys g r = record { reads = subst (λ (w : Bool). ReadsTo w Pcl 0 bytes (items ++ ys) new.context new.place new.rest) (sym g.ended) (ReadsTo-append r.reads g.reads) }
 
 -- how the lexer went on
-goes : (old : LexerState) (result : Result Lexed LexFault) (new : LexerState) → Answers old result new → GoesOn old (given result) new
+goes : (old : LexerState) (result : Result Lexed LexFault) (new : LexerState) → Answers old result new → AdvancesOver old (given result) new
 goes old (Ok (answers.Item place item)) new a = a
 goes old (Ok answers.NeedMore) new a = a.0
 goes old (Ok answers.End) new a = a.0
 goes old (Err fault) new a = a.0
 
-here_read : (old new : LexerState) (bytes : List ℕ) (items : List Placed) → GoesOn old [] new → HasRead old bytes items → HasRead new bytes items
+here_read : (old new : LexerState) (bytes : List ℕ) (items : List Placed) → AdvancesOver old [] new → HasRead old bytes items → HasRead new bytes items
 here_read old new bytes items g r = subst (λ (xs : List Placed). HasRead new bytes xs) (append-nil items) (went_on old new bytes items [] g r)
 
 tells : (old : LexerState) (result : Result Lexed LexFault) (new : LexerState) → Answers old result new → (bytes : List ℕ) (items : List Placed) → HasRead old bytes items → Tells old.ended bytes items result
@@ -285,7 +285,7 @@ after_none (Some mode) = refl
 same_mode : (m n : Mode) → Some m ≡ Some n → n ≡ m
 same_mode m n e = cc
 
-admits : (old : LexerState) (result : Result Lexed LexFault) (new : LexerState) → Answers old result new → Admits old result new
+admits : (old : LexerState) (result : Result Lexed LexFault) (new : LexerState) → Answers old result new → KeepsMode old result new
 admits old (Ok (answers.Item place item)) new a = sym (after_none (follows (mode_of old.context) (view item))) ∙ reads_mode a.reads
 admits old (Ok answers.NeedMore) new a = same_mode (mode_of old.context) (mode_of new.context) (reads_mode a.0.reads)
 admits old (Ok answers.End) new a = same_mode (mode_of old.context) (mode_of new.context) (reads_mode a.0.reads)

@@ -5,18 +5,18 @@ use Rattle.std.proofs.lemmas.List.{append-nil, length-append}
 use Rattle.pcl_items.specs.declared.pjl.Word.{Word}
 use Rattle.pcl_items.specs.declared.pjl.Word.TheVariants as words
 use Rattle.pcl_items.specs.Frames.Kinds.{capital}
-use Rattle.pcl_items.specs.PjlLines.Text.{is_inside, Line, prefix, language, pcl, spelling}
+use Rattle.pcl_items.specs.PjlLines.Text.{is_inside, PjlCommand, prefix, language, pcl, spelling}
 use Rattle.pcl_items.specs.PjlLines.Syntax as rules
-use Rattle.pcl_items.specs.PjlLines.Syntax.{Each, AreBlanks, IsWord, BeginsSolid, EndsSolid, IsEquals, IsText, AreWords, IsLine}
+use Rattle.pcl_items.specs.PjlLines.Syntax.{Each, AreBlanks, IsWord, BeginsSolid, EndsSolid, IsEquals, IsText, AreWords, IsPjlCommand}
 use Rattle.pcl_items.specs.PjlLines.Units as units
-use Rattle.pcl_items.specs.PjlLines.Units.{IsLineUnit}
+use Rattle.pcl_items.specs.PjlLines.Units.{IsPjlUnit}
 use Rattle.pcl_items.specs.PjlLines.First as lines
-use Rattle.pcl_items.specs.PjlLines.First.{FirstLine, line_in, at_line}
-use Rattle.pcl_items.specs.PjlLines.Canon.{behind_space, parts_of, words_text, by_parts, canon_line, IsSpelledLine}
+use Rattle.pcl_items.specs.PjlLines.First.{FirstPjl, first_pjl, at_pjl}
+use Rattle.pcl_items.specs.PjlLines.Canon.{behind_space, parts_of, words_text, by_parts, canon_pjl, IsSpelledPjl}
 use Rattle.pcl_items.proofs.PjlLines.Laws.{LineCanonIsRead}
 use Rattle.pcl_items.proofs.PjlLines.Agreement.{ends_behind, ends_front, line_told}
 use Rattle.pcl_items.proofs.PjlLines.Spans.{each_front}
-use Rattle.pcl_items.specs.PjlLines.Reader.{front, line_of}
+use Rattle.pcl_items.specs.PjlLines.Reader.{front, pjl_command_of}
 use Rattle.std.specs.List.{prefix_len}
 use Rattle.std.proofs.lemmas.List.Folds.{length-prefix_len}
 use Rattle.pcl_items.proofs.PjlLines.Units.{unit_read, lines_by_rules}
@@ -56,7 +56,7 @@ tidy : (text : List ℕ) → BeginsSolid text → EndsSolid text → Tidy text
 tidy [] b e = tt
 tidy (c ∷ text) b e = (b, e)
 
-record Spelling (word : Word) (old : List ℕ) (line : Line) : Type 0 where
+record Spelling (word : Word) (old : List ℕ) (line : PjlCommand) : Type 0 where
   text : List ℕ
   parts : parts_of line ≡ Some (word, text)
   is_text : IsText word text line
@@ -64,10 +64,10 @@ record Spelling (word : Word) (old : List ℕ) (line : Line) : Type 0 where
   inside : Each is_inside old → Each is_inside text
   short : length text ≤ length old
 
-same_text : (word : Word) (text : List ℕ) (line : Line) → parts_of line ≡ Some (word, text) → IsText word text line → Spelling word text line
+same_text : (word : Word) (text : List ℕ) (line : PjlCommand) → parts_of line ≡ Some (word, text) → IsText word text line → Spelling word text line
 same_text word text line e h = record { text = text; parts = e; is_text = h; is_tidy = λ t. t; inside = λ t. t; short = omega arith }
 
-spelling_of : (word : Word) (text : List ℕ) (line : Line) → IsText word text line → Spelling word text line
+spelling_of : (word : Word) (text : List ℕ) (line : PjlCommand) → IsText word text line → Spelling word text line
 spelling_of word text line rules.remark = same_text word text line refl rules.remark
 spelling_of word text line rules.job = same_text word text line refl rules.job
 spelling_of word text line (rules.named_job h) = same_text word text line refl (rules.named_job h)
@@ -94,7 +94,7 @@ itself words.Job = refl
 itself words.EndOfJob = refl
 itself words.Enter = refl
 
-made : (word : Word) (text : List ℕ) (line : Line) → IsText word text line → Tidy text → AreWords (words_text word text) line
+made : (word : Word) (text : List ℕ) (line : PjlCommand) → IsText word text line → Tidy text → AreWords (words_text word text) line
 made word [] line h t = subst (λ l. AreWords l line) (sym (append-nil (spelling word))) (rules.alone word (itself word) h)
 made word (b ∷ text) line h t = rules.followed word (spelling word) 32 [] (b ∷ text) (itself word) refl tt t.0 h
 
@@ -128,24 +128,24 @@ len_none (b ∷ text) h = absurd (omega (arith, h))
 
 -- ---- a line
 
-record Canonical (line : Line) (n : ℕ) : Type 0 where
-  is_line : IsLine (by_parts (parts_of line)) line
+record Canonical (line : PjlCommand) (n : ℕ) : Type 0 where
+  is_line : IsPjlCommand (by_parts (parts_of line)) line
   inside : Each is_inside (by_parts (parts_of line))
   short : length (by_parts (parts_of line)) ≤ n
 
-from_words : (word : Word) (old : List ℕ) (line : Line) (n : ℕ) → Spelling word old line → Tidy old → Each is_inside old →
+from_words : (word : Word) (old : List ℕ) (line : PjlCommand) (n : ℕ) → Spelling word old line → Tidy old → Each is_inside old →
     ((text : List ℕ) → length text ≤ length old → length (words_text word text) + 5 ≤ n) → Canonical line n
 from_words word old line n s t e l =
     let c = words_text word s.text in
     let q : by_parts (parts_of line) ≡ prefix ++ 32 ∷ c = ap by_parts s.parts in
-    let is : IsLine (prefix ++ 32 ∷ (c ++ [])) line = rules.worded 32 [] [] refl tt (made word s.text line s.is_text (s.is_tidy t)) (ends word s.text (s.is_tidy t)) tt in
+    let is : IsPjlCommand (prefix ++ 32 ∷ (c ++ [])) line = rules.worded 32 [] [] refl tt (made word s.text line s.is_text (s.is_tidy t)) (ends word s.text (s.is_tidy t)) tt in
     record {
-      is_line = subst (λ b. IsLine b line) (ap (λ b. prefix ++ 32 ∷ b) (append-nil c) ∙ sym q) is;
+      is_line = subst (λ b. IsPjlCommand b line) (ap (λ b. prefix ++ 32 ∷ b) (append-nil c) ∙ sym q) is;
       inside = subst (Each is_inside) (sym q) (refl, (refl, (refl, (refl, (refl, each_append is_inside (spelling word) (behind_space s.text) (spelled_inside word) (behind_inside s.text (s.inside e)))))));
       short = subst (λ b. length b ≤ n) (sym q) (omega (arith, l s.text s.short));
     }
 
-by_words : (text : List ℕ) (line : Line) (n : ℕ) → AreWords text line → EndsSolid text → Each is_inside text → length text + 5 ≤ n → Canonical line n
+by_words : (text : List ℕ) (line : PjlCommand) (n : ℕ) → AreWords text line → EndsSolid text → Each is_inside text → length text + 5 ≤ n → Canonical line n
 by_words text line n (rules.alone word h t) e i l =
     from_words word [] line n (spelling_of word [] line t) tt tt
     (λ more m. omega (arith, m, l, len_word (spelling word) text h, length-append (spelling word) (behind_space more), len_none more m))
@@ -154,7 +154,7 @@ by_words text line n (rules.followed word title b blanks rest h f hb s t) e i l 
     from_words word rest line n (spelling_of word rest line t) (tidy rest s last) (each_back is_inside blanks rest (each_back is_inside title (b ∷ (blanks ++ rest)) i).1)
     (λ more m. omega (arith, m, l, len_word (spelling word) title h, length-append (spelling word) (behind_space more), len_behind more, length-append title (b ∷ (blanks ++ rest)), length-append blanks rest))
 
-canonical : (text : List ℕ) (line : Line) → IsLine text line → Each is_inside text → Canonical line (length text)
+canonical : (text : List ℕ) (line : PjlCommand) → IsPjlCommand text line → Each is_inside text → Canonical line (length text)
 canonical text line (rules.bare blanks h) i = record {
   is_line = rules.bare [] tt;
   inside = (refl, (refl, (refl, (refl, tt))));
@@ -164,43 +164,43 @@ canonical text line (rules.worded {words = title} b before after h hb hw he ha) 
     by_words title line (length text) hw he (each_fore is_inside title after (each_back is_inside before (title ++ after) (each_back is_inside (64 ∷ 80 ∷ 74 ∷ 76 ∷ b ∷ []) (before ++ (title ++ after)) i)))
     (omega (arith, length-append before (title ++ after), length-append title after))
 
-pub line_canon : (text : List ℕ) (line : Line) → LineCanonIsRead text line
+pub line_canon : (text : List ℕ) (line : PjlCommand) → LineCanonIsRead text line
 line_canon text line (units.whole_line whole h e l) =
     let c = canonical whole line h e in
-    let unit : IsLineUnit (canon_line line) line = units.whole_line (by_parts (parts_of line)) c.is_line c.inside (omega (arith, l, c.short)) in
-    record { spelled = unit; read = λ rest. unit_read (canon_line line) rest line unit }
+    let unit : IsPjlUnit (canon_pjl line) line = units.whole_line (by_parts (parts_of line)) c.is_line c.inside (omega (arith, l, c.short)) in
+    record { spelled = unit; read = λ rest. unit_read (canon_pjl line) rest line unit }
 
 -- a line that a text spells is read of its one spelling, and so it is one by the rules
-pub spelled_line : {text : List ℕ} {line : Line} → IsLineUnit text line → IsSpelledLine line
-spelled_line {text = text} {line = line} u = ap (λ l. line_in (at_line l)) (sym (append-nil (canon_line line))) ∙ ap line_in ((line_canon text line u).read [])
+pub spelled_line : {text : List ℕ} {line : PjlCommand} → IsPjlUnit text line → IsSpelledPjl line
+spelled_line {text = text} {line = line} u = ap (λ l. first_pjl (at_pjl l)) (sym (append-nil (canon_pjl line))) ∙ ap first_pjl ((line_canon text line u).read [])
 
-only_begins : (f : FirstLine) (line : Line) → line_in f ≡ Some line → (len : ℕ) × (f ≡ lines.Begins line len)
+only_begins : (f : FirstPjl) (line : PjlCommand) → first_pjl f ≡ Some line → (len : ℕ) × (f ≡ lines.Begins line len)
 only_begins lines.Open line e = absurd cc
 only_begins (lines.Begins other len) line e = let same : other ≡ line = cc in (len, ap (λ l. lines.Begins l len) same)
 only_begins (lines.Faulty cause) line e = absurd cc
 
-pub canon_unit : (line : Line) → IsSpelledLine line → IsLineUnit (canon_line line) line
+pub canon_unit : (line : PjlCommand) → IsSpelledPjl line → IsPjlUnit (canon_pjl line) line
 canon_unit line h =
-    let f = only_begins (at_line (canon_line line)) line h in
-    let b = (lines_by_rules (canon_line line)).line line f.0 f.1 in
+    let f = only_begins (at_pjl (canon_pjl line)) line h in
+    let b = (lines_by_rules (canon_pjl line)).line line f.0 f.1 in
     (line_canon b.text line b.unit).spelled
 
-unit_short : {text : List ℕ} {line : Line} → IsLineUnit text line → length text ≤ 1024
+unit_short : {text : List ℕ} {line : PjlCommand} → IsPjlUnit text line → length text ≤ 1024
 unit_short (units.whole_line whole h e l) = omega (arith, l, length-append whole (10 ∷ []))
 
-pub canon_is_short : (line : Line) → IsSpelledLine line → length (canon_line line) ≤ 1024
+pub canon_is_short : (line : PjlCommand) → IsSpelledPjl line → length (canon_pjl line) ≤ 1024
 canon_is_short line h = unit_short (canon_unit line h)
 
 -- the bytes in front of a newline that are read as a line
-line_front : (bytes : List ℕ) (line : Line) → prefix_len is_inside bytes ≤ 1023 → line_of (front is_inside bytes) ≡ Some line → IsSpelledLine line
+line_front : (bytes : List ℕ) (line : PjlCommand) → prefix_len is_inside bytes ≤ 1023 → pjl_command_of (front is_inside bytes) ≡ Some line → IsSpelledPjl line
 line_front bytes line l e =
     spelled_line (units.whole_line (front is_inside bytes) (line_told (front is_inside bytes) line e) (each_front is_inside bytes) (omega (arith, l, length-prefix_len is_inside bytes)))
 
-pub line_here : (bytes : List ℕ) (n : ℕ) (line : Line) → n ≡ prefix_len is_inside bytes → n ≤ 1023 → line_of (take n bytes) ≡ Some line → IsSpelledLine line
-line_here bytes n line e l k = line_front bytes line (omega (arith, e, l)) (subst (λ (m : ℕ). line_of (take m bytes) ≡ Some line) e k)
+pub line_here : (bytes : List ℕ) (n : ℕ) (line : PjlCommand) → n ≡ prefix_len is_inside bytes → n ≤ 1023 → pjl_command_of (take n bytes) ≡ Some line → IsSpelledPjl line
+line_here bytes n line e l k = line_front bytes line (omega (arith, e, l)) (subst (λ (m : ℕ). pjl_command_of (take m bytes) ≡ Some line) e k)
 
 -- how long what stands in front and the text of a line are
-pub room : (fore text : List ℕ) (line : Line) → IsSpelledLine line → canon_line line ≡ fore ++ (behind_space text ++ 10 ∷ []) → length fore ≤ 23 → length fore + length text + 2 ≤ 1024
+pub room : (fore text : List ℕ) (line : PjlCommand) → IsSpelledPjl line → canon_pjl line ≡ fore ++ (behind_space text ++ 10 ∷ []) → length fore ≤ 23 → length fore + length text + 2 ≤ 1024
 room fore [] line h e l = omega (arith, l)
 room fore (b ∷ text) line h e l =
     omega (arith, canon_is_short line h, ap length e, length-append fore (behind_space (b ∷ text) ++ 10 ∷ []), length-append (behind_space (b ∷ text)) (10 ∷ []))

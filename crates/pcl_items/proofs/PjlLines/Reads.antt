@@ -6,10 +6,10 @@ use Rattle.std.proofs.lemmas.Bool.{and_from, cond_both, cond-true}
 use Rattle.std.proofs.lemmas.List.{append-nil, append_assoc, length-append}
 use Rattle.pcl_items.specs.declared.pjl.Word.{Word}
 use Rattle.pcl_items.specs.declared.pjl.Word.TheVariants as words
-use Rattle.pcl_items.specs.PjlLines.Text.{is_blank, is_name_byte, is_quotable, Line, JobBegins, JobEnds, EnterPcl, name, display, language, pcl}
+use Rattle.pcl_items.specs.PjlLines.Text.{is_blank, is_name_byte, is_quotable, PjlCommand, JobBegins, JobEnds, EnterPcl, name, display, language, pcl}
 use Rattle.pcl_items.specs.PjlLines.Reader.{front, past, is_word, past_byte, past_blanks, past_equals, past_text, past_value, is_name, past_part, parts_behind, are_parts, is_pcl, is_language, with_text}
 use Rattle.pcl_items.specs.PjlLines.Syntax as rules
-use Rattle.pcl_items.specs.PjlLines.Syntax.{Each, AreBlanks, IsWord, BeginsSolid, EndsSolid, IsEquals, IsName, IsPart, AreParts, IsText, AreWords, IsLine}
+use Rattle.pcl_items.specs.PjlLines.Syntax.{Each, AreBlanks, IsWord, BeginsSolid, EndsSolid, IsEquals, IsName, IsPart, AreParts, IsText, AreWords, IsPjlCommand}
 use Rattle.pcl_items.proofs.PjlLines.Spans.{both_true, Stops, front_is, past_is, front_past, each_front, stops_past, value_of, byte_there, word_told, word_read, is_upper, letters}
 
 -- ---- an equals sign
@@ -246,7 +246,7 @@ unfolding parts_behind
 end_read [] h = refl
 end_read (b ∷ text) h = ap (parts_behind false 0) (ap (past_part false) (sym (append-nil (b ∷ text))) ∙ part_read false (b ∷ text) [] h)
 
-pub text_read : (word : Word) (text : List ℕ) (line : Line) → IsText word text line → with_text (Some word) text ≡ Some line
+pub text_read : (word : Word) (text : List ℕ) (line : PjlCommand) → IsText word text line → with_text (Some word) text ≡ Some line
 text_read word text line rules.remark = refl
 text_read word text line rules.job = refl
 text_read word text line (rules.named_job h) = cond-true (are_parts true (length text) text) (Some (JobBegins text)) None (job_read text h)
@@ -255,7 +255,7 @@ text_read word text line (rules.named_end h) = cond-true (are_parts false 0 text
 text_read word text line (rules.enter {sign = sign} title value ht hs hv) = cond-true (is_language (title ++ (sign ++ value))) (Some EnterPcl) None (language_read sign title value ht hs hv)
 
 -- a line that is read, by the line that it is
-abbrev pub Told : Word → List ℕ → Option Line → Type 0
+abbrev pub Told : Word → List ℕ → Option PjlCommand → Type 0
 Told word text None = Unit {0}
 Told word text (Some line) = IsText word text line
 

@@ -19,10 +19,10 @@ use Rattle.pcl_items.specs.declared.item.Mode.{Mode}
 use Rattle.pcl_items.specs.declared.item.Mode.TheVariants as modes
 use Rattle.pcl_items.specs.Items.{Entry, Text, Parameterized, WithData, Move, ExitLanguage, PjlLine, Placed, at}
 use Rattle.pcl_items.specs.Grammar as grammar
-use Rattle.pcl_items.specs.Grammar.{Commands, last, with_data, more, IsLone, symbol_set, default_font, leave_frame, enter_frame, IsUnit, text_byte, control_code, two_characters, lone, combined, in_frame, out_of_frame, exit, line, otherwise, behind_line, Spells, escape, small}
+use Rattle.pcl_items.specs.Grammar.{Commands, last, with_data, more, IsUngrouped, symbol_set, default_font, leave_frame, enter_frame, IsUnit, text_byte, control_code, two_characters, ungrouped, combined, in_frame, out_of_frame, exit, line, otherwise, behind_pjl, Spells, escape, small}
 use Rattle.pcl_items.specs.Frames.Grammar as frames
 use Rattle.pcl_items.specs.Frames.Grammar.{Start, AtLetters, BehindPair, EndsPair, IsCommand, separator}
-use Rattle.pcl_items.specs.Reader.{Begins, behind, command_in, without_group, by_character, after_escape, by_code, by_line, first_of}
+use Rattle.pcl_items.specs.Reader.{Begins, behind, command_in, without_group, by_character, after_escape, by_code, by_pjl, first_of}
 use Rattle.pcl_items.specs.Reading.{ReadsTo, here, passes, begins, between}
 use Rattle.pcl_items.specs.Faults.{BeginsSmall}
 use Rattle.pcl_items.specs.PjlLines.Text.{at_sign}
@@ -31,20 +31,20 @@ use Rattle.pcl_items.proofs.Lexing.Spans.{no_passing, no_passing_in, no_passing_
 use Rattle.pcl_items.proofs.PjlLines.Exits.{no_exit_field}
 use Rattle.pcl_items.proofs.PjlLines.Heads.{HeadPjl, head_line, head_other, pjl_spelled, otherwise_read}
 use Rattle.pcl_items.proofs.PjlLines.Units as lines
-use Rattle.pcl_items.specs.PjlLines.Text.{Line}
+use Rattle.pcl_items.specs.PjlLines.Text.{PjlCommand}
 use Rattle.pcl_items.specs.PjlLines.Syntax as syntax
-use Rattle.pcl_items.specs.PjlLines.Syntax.{IsLine}
-use Rattle.pcl_items.specs.PjlLines.First.{at_line}
-use Rattle.pcl_items.specs.PjlLines.Units.{IsLineUnit, whole_line}
+use Rattle.pcl_items.specs.PjlLines.Syntax.{IsPjlCommand}
+use Rattle.pcl_items.specs.PjlLines.First.{at_pjl}
+use Rattle.pcl_items.specs.PjlLines.Units.{IsPjlUnit, whole_line}
 use Rattle.pcl_items.proofs.Escapes.Tables.{control_is_low}
-use Rattle.pcl_items.proofs.Escapes.Lones.{lone_letter}
+use Rattle.pcl_items.proofs.Escapes.Ungrouped.{ungrouped_letter}
 use Rattle.pcl_items.proofs.Reading.FaultRules.{font_read, language_read}
 use Rattle.pcl_items.proofs.Reading.ReadsTo.{same_between, ReadsTo-at, ReadsTo-append}
 use Rattle.pcl_items.proofs.Frames.Numerals.{IsDecided}
 use Rattle.pcl_items.proofs.Frames.Heads.{InPcl, InPjl, In, Motive, Closed, Landing, passed, begun_item, frame_told, letters_tell, numbers_tell}
 use Rattle.pcl_items.proofs.Frames.Reads.{frame_unit_reads, leaves_reads, exit_reads}
 use Rattle.pcl_items.proofs.Escapes.Heads as heads
-use Rattle.pcl_items.proofs.Escapes.Heads.{HeadCommand, HeadUnit, last_read, more_read, data_read, lone_read, group_read, drop_behind, data_behind, lone_behind, command_spelled, unit_spelled}
+use Rattle.pcl_items.proofs.Escapes.Heads.{HeadCommand, HeadUnit, last_read, more_read, data_read, ungrouped_read, group_read, drop_behind, data_behind, ungrouped_behind, command_spelled, unit_spelled}
 
 -- all of the bytes spell the items, in a mode in which a job may end
 abbrev pub SpellsAll : Mode → ℕ → List ℕ → List Placed → Type 0
@@ -176,11 +176,11 @@ one_unit place items (heads.control_code e) h = unit (control_code e) h
 one_unit place items (heads.two_characters e) h = unit (two_characters e) h
 one_unit place items (heads.text_byte e) h = unit (text_byte e) h
 one_unit place items (heads.exits rest) h = unit exit h
-one_unit place items (heads.lone_item {introducer = i} {letter = c} {text = text} {item = item} {mode = mode} rest f k) h =
+one_unit place items (heads.ungrouped_item {introducer = i} {letter = c} {text = text} {item = item} {mode = mode} rest f k) h =
     let size : place + (length text + 3) ≡ place + length (escape ∷ i ∷ (text ++ c ∷ [])) = omega (arith, length-append text (c ∷ [])) in
     let left : SpellsAll mode (place + (length text + 3)) rest items =
-    spelled_between mode (place + (length text + 3)) rest items (subst (λ (l : List ℕ). Spelled (between mode) (place + (length text + 3)) l items) (lone_behind escape i text c rest) h) in
-    subst (λ (l : List ℕ). SpellsAll modes.Pcl place (escape ∷ i ∷ l) (at place item ∷ items)) (append_assoc text (c ∷ []) rest) (unit (lone f k) (Spells-at size left))
+    spelled_between mode (place + (length text + 3)) rest items (subst (λ (l : List ℕ). Spelled (between mode) (place + (length text + 3)) l items) (ungrouped_behind escape i text c rest) h) in
+    subst (λ (l : List ℕ). SpellsAll modes.Pcl place (escape ∷ i ∷ l) (at place item ∷ items)) (append_assoc text (c ∷ []) rest) (unit (ungrouped f k) (Spells-at size left))
 one_unit place items (heads.combined {group = group} {rest = rest} {item = item} {len = len} {next = next} head) h =
     let behind_three : drop (3 + len) (escape ∷ introducer_of group ∷ character_of group ∷ rest) ≡ drop len rest = drop_three escape (introducer_of group) (character_of group) len rest in
     let moved : Spelled next (place + 3 + len) (drop len rest) items = subst (λ (n : ℕ). Spelled next n (drop len rest) items) (omega arith) (subst (λ (l : List ℕ). Spelled next (place + (3 + len)) l items) behind_three h) in
@@ -193,7 +193,7 @@ unit_some : {mode : Mode} {place : ℕ} {text rest : List ℕ} {items : List Pla
 unit_some (text_byte h) e = omega arith
 unit_some (control_code h) e = omega arith
 unit_some (two_characters h) e = omega arith
-unit_some (lone f k) e = omega arith
+unit_some (ungrouped f k) e = omega arith
 unit_some (combined commands) e = omega arith
 unit_some (in_frame u) e = absurd cc
 unit_some (out_of_frame l) e = absurd cc
@@ -221,9 +221,9 @@ one_in_pjl : {bytes : List ℕ} {item : Entry} {len : ℕ} {next : Context} (pla
 one_in_pjl place items (head_line {line = l} {len = len} b) h =
     let size : place + len ≡ place + length b.text = ap (λ n. place + n) b.size in
     let left : drop len (b.text ++ b.rest) ≡ b.rest = ap (λ n. drop n (b.text ++ b.rest)) b.size ∙ drop-append_seam b.text b.rest in
-    let behind : Spelled (between (behind_line l)) (place + len) b.rest items = subst (λ (t : List ℕ). Spelled (between (behind_line l)) (place + len) t items) (ap (drop len) b.all ∙ left) h in
+    let behind : Spelled (between (behind_pjl l)) (place + len) b.rest items = subst (λ (t : List ℕ). Spelled (between (behind_pjl l)) (place + len) t items) (ap (drop len) b.all ∙ left) h in
     subst (λ (t : List ℕ). SpellsAll modes.Pjl place t (at place (PjlLine l) ∷ items)) (sym b.all)
-    (unit (line b.unit) (Spells-at size (spelled_between (behind_line l) (place + len) b.rest items behind)))
+    (unit (line b.unit) (Spells-at size (spelled_between (behind_pjl l) (place + len) b.rest items behind)))
 one_in_pjl place items (head_other {b = b} {bytes = bytes} {item = item} {len = len} {next = next} k f) h =
     otherwise_all k (one_unit place items (unit_spelled (b ∷ bytes) item len next f) h)
 
@@ -312,14 +312,14 @@ field_low : (text : List ℕ) (a : Amount) (c : ℕ) (rest : List ℕ) → IsFie
 field_low text a c rest f k b = begins_low a.sign f.whole f.fraction c rest f.shape.digits.0 k (subst (λ (t : List ℕ). BeginsSmall (t ++ c ∷ rest)) f.shape.spelled b)
 
 -- behind each introducer of a sequence without a group
-lone_begins : {i c : ℕ} {a : Amount} {item : Entry} {mode : Mode} (text rest : List ℕ) → IsField text a → IsLone i a c item mode → first_of true Pcl (escape ∷ i ∷ (text ++ c ∷ rest)) ≡ without_group i (text ++ c ∷ rest)
-lone_begins {c = c} {a = a} text rest f (symbol_set h) = font_read (text ++ c ∷ rest) (field_low text a c rest f (lone_letter (symbol_set {amount = a} h)).1)
-lone_begins {a = a} text rest f (default_font three sign) = font_read (text ++ 64 ∷ rest) (field_low text a 64 rest f (omega arith))
-lone_begins {a = a} text rest f (leave_frame h) = language_read (text ++ 65 ∷ rest) (no_exit_field text a 65 rest f (omega arith) (λ e. absurd (omega (arith, e))))
-lone_begins {a = a} text rest f (enter_frame h) = language_read (text ++ 66 ∷ rest) (no_exit_field text a 66 rest f (omega arith) (λ e. absurd (omega (arith, e))))
+ungrouped_begins : {i c : ℕ} {a : Amount} {item : Entry} {mode : Mode} (text rest : List ℕ) → IsField text a → IsUngrouped i a c item mode → first_of true Pcl (escape ∷ i ∷ (text ++ c ∷ rest)) ≡ without_group i (text ++ c ∷ rest)
+ungrouped_begins {c = c} {a = a} text rest f (symbol_set h) = font_read (text ++ c ∷ rest) (field_low text a c rest f (ungrouped_letter (symbol_set {amount = a} h)).1)
+ungrouped_begins {a = a} text rest f (default_font three sign) = font_read (text ++ 64 ∷ rest) (field_low text a 64 rest f (omega arith))
+ungrouped_begins {a = a} text rest f (leave_frame h) = language_read (text ++ 65 ∷ rest) (no_exit_field text a 65 rest f (omega arith) (λ e. absurd (omega (arith, e))))
+ungrouped_begins {a = a} text rest f (enter_frame h) = language_read (text ++ 66 ∷ rest) (no_exit_field text a 66 rest f (omega arith) (λ e. absurd (omega (arith, e))))
 
-pub lone_first : {i c : ℕ} {a : Amount} {item : Entry} {mode : Mode} (whole : Bool) (text rest : List ℕ) → IsField text a → IsLone i a c item mode → first_of whole Pcl (escape ∷ i ∷ (text ++ c ∷ rest)) ≡ Begins item (length text + 3) (between mode)
-lone_first {i = i} {c = c} whole text rest f k = same_between whole (escape ∷ i ∷ (text ++ c ∷ rest)) ∙ lone_begins text rest f k ∙ lone_read text rest f k
+pub ungrouped_first : {i c : ℕ} {a : Amount} {item : Entry} {mode : Mode} (whole : Bool) (text rest : List ℕ) → IsField text a → IsUngrouped i a c item mode → first_of whole Pcl (escape ∷ i ∷ (text ++ c ∷ rest)) ≡ Begins item (length text + 3) (between mode)
+ungrouped_first {i = i} {c = c} whole text rest f k = same_between whole (escape ∷ i ∷ (text ++ c ∷ rest)) ∙ ungrouped_begins text rest f k ∙ ungrouped_read text rest f k
 
 -- the bytes behind a unit, where more may come or not, decide it: outside frames any do
 abbrev pub IsDecidedIn : Mode → Bool → List ℕ → Type 0
@@ -338,19 +338,19 @@ exit_read modes.Frame whole rest = exit_reads whole rest
 exit_read modes.Pjl whole rest = begins ExitLanguage 9 Pjl (otherwise_read whole 27 (37 ∷ 45 ∷ 49 ∷ 50 ∷ 51 ∷ 52 ∷ 53 ∷ 88 ∷ rest) (λ e. absurd (omega (arith, e))) ∙ exit_begins whole rest) here
 
 -- a line begins with `@`
-line_words : (whole : Bool) (words others : List ℕ) (l : Line) → IsLine words l → first_of whole Pjl (words ++ others) ≡ by_line (at_line (words ++ others))
+line_words : (whole : Bool) (words others : List ℕ) (l : PjlCommand) → IsPjlCommand words l → first_of whole Pjl (words ++ others) ≡ by_pjl (at_pjl (words ++ others))
 unfolding first_of
 line_words whole _ others l (syntax.bare blanks h) = refl
 line_words whole _ others l (syntax.worded b before after h hb hw he ha) = refl
 
-line_first : (whole : Bool) (text rest : List ℕ) (l : Line) → IsLineUnit text l → first_of whole Pjl (text ++ rest) ≡ by_line (at_line (text ++ rest))
+line_first : (whole : Bool) (text rest : List ℕ) (l : PjlCommand) → IsPjlUnit text l → first_of whole Pjl (text ++ rest) ≡ by_pjl (at_pjl (text ++ rest))
 line_first whole _ rest l (whole_line words h e short) =
     let same : (words ++ 10 ∷ []) ++ rest ≡ words ++ 10 ∷ rest = append_assoc words (10 ∷ []) rest in
-    ap (first_of whole Pjl) same ∙ line_words whole words (10 ∷ rest) l h ∙ sym (ap (λ t. by_line (at_line t)) same)
+    ap (first_of whole Pjl) same ∙ line_words whole words (10 ∷ rest) l h ∙ sym (ap (λ t. by_pjl (at_pjl t)) same)
 
-line_reads : (whole : Bool) (place : ℕ) (text rest : List ℕ) (l : Line) → IsLineUnit text l → ReadsTo whole Pjl place (text ++ rest) (at place (PjlLine l) ∷ []) (between (behind_line l)) (place + length text) rest
+line_reads : (whole : Bool) (place : ℕ) (text rest : List ℕ) (l : PjlCommand) → IsPjlUnit text l → ReadsTo whole Pjl place (text ++ rest) (at place (PjlLine l) ∷ []) (between (behind_pjl l)) (place + length text) rest
 line_reads whole place text rest l u =
-    begins (PjlLine l) (length text) (between (behind_line l)) (line_first whole text rest l u ∙ ap by_line (lines.unit_read text rest l u))
+    begins (PjlLine l) (length text) (between (behind_pjl l)) (line_first whole text rest l u ∙ ap by_pjl (lines.unit_read text rest l u))
     (ReadsTo-at refl (sym (drop-append_seam text rest)) refl here)
 
 -- at least a step was read
@@ -383,11 +383,11 @@ unit_read whole d (text_byte {code = code} h) = begins (Text code) 1 Pcl (cond-t
 unit_read whole d (control_code {code = code} {item = item} {rest = rest} e) =
     begins item 1 Pcl (cond-false (nat_le 32 code) _ _ (lt-leb 32 code (control_is_low code item e)) ∙ ap (λ o. by_code o code rest) e) here
 unit_read whole d (two_characters {character = character} {item = item} {rest = rest} e) = begins item 2 Pcl (ap (λ o. by_character o character rest) e) here
-unit_read whole d (lone {place = place} {introducer = i} {letter = c} {field = field} {rest = rest} {item = item} {mode = mode} f k) =
+unit_read whole d (ungrouped {place = place} {introducer = i} {letter = c} {field = field} {rest = rest} {item = item} {mode = mode} f k) =
     let same : (field ++ c ∷ []) ++ rest ≡ field ++ c ∷ rest = append_assoc field (c ∷ []) rest in
     let size : place + (length field + 3) ≡ place + length (escape ∷ i ∷ (field ++ c ∷ [])) = omega (arith, length-append field (c ∷ [])) in
-    let left : drop (length field + 3) (escape ∷ i ∷ ((field ++ c ∷ []) ++ rest)) ≡ rest = ap (λ l. drop (length field + 3) (escape ∷ i ∷ l)) same ∙ lone_behind escape i field c rest in
-    begins item (length field + 3) (between mode) (ap (λ l. first_of whole Pcl (escape ∷ i ∷ l)) same ∙ lone_first whole field rest f k) (ReadsTo-at refl (sym left) size here)
+    let left : drop (length field + 3) (escape ∷ i ∷ ((field ++ c ∷ []) ++ rest)) ≡ rest = ap (λ l. drop (length field + 3) (escape ∷ i ∷ l)) same ∙ ungrouped_behind escape i field c rest in
+    begins item (length field + 3) (between mode) (ap (λ l. first_of whole Pcl (escape ∷ i ∷ l)) same ∙ ungrouped_first whole field rest f k) (ReadsTo-at refl (sym left) size here)
 unit_read whole d (combined {place = place} {group = group} {text = text} {rest = rest} {first = first} {others = others} commands) =
     let e : place + 3 + length text ≡ place + length (escape ∷ introducer_of group ∷ character_of group ∷ text) = omega arith in
     ReadsTo-at refl refl e (combined_read (commands_read whole rest commands) refl refl refl)

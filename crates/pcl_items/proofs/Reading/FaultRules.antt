@@ -8,29 +8,29 @@ use Rattle.pcl_items.specs.declared.pcl.command.Command.{Command}
 use Rattle.pcl_items.specs.declared.pcl.command.DataCommand.{DataCommand}
 use Rattle.pcl_items.specs.Lexing.Contexts.{Pcl, Sequence}
 use Rattle.pcl_items.specs.declared.fault.Name.TheVariants as names
-use Rattle.pcl_items.specs.declared.fault.Cause.{Cause}
-use Rattle.pcl_items.specs.declared.fault.Cause.TheVariants.{Syntax, Truncated, NotInProfile, BadNumber}
+use Rattle.pcl_items.specs.declared.fault.LexCause.{LexCause}
+use Rattle.pcl_items.specs.declared.fault.LexCause.TheVariants.{Syntax, Truncated, NotInProfile, BadNumber}
 use Rattle.pcl_items.specs.declared.item.Mode.TheVariants as modes
 use Rattle.pcl_items.specs.Escapes.Commands.{introducer_of, character_of, group_at, command_at, data_group_of, data_letter_of, data_command_at}
 use Rattle.pcl_items.specs.Escapes.Value.{Amount, Counts}
 use Rattle.pcl_items.specs.Escapes.Field.{field_at}
 use Rattle.pcl_items.specs.Escapes.ValueField.{IsField}
 use Rattle.pcl_items.specs.Grammar.{escape, small}
-use Rattle.pcl_items.specs.Reader.{First, Open, Passes, Begins, Faulty, behind, named, with_data, by_last_letter, by_other_letter, by_last_byte, after_field, command_in, is_group_or_parameter, is_termination, lone, by_termination, after_lone_field, without_group, in_group, after_introducer, after_parenthesis, by_character, after_escape, by_code, exit_or, first_of}
+use Rattle.pcl_items.specs.Reader.{First, Open, Passes, Begins, Faulty, behind, named, with_data, by_last_letter, by_other_letter, by_last_byte, after_field, command_in, is_group_or_parameter, is_termination, ungrouped, by_termination, after_ungrouped_field, without_group, in_group, after_introducer, after_parenthesis, by_character, after_escape, by_code, exit_or, first_of}
 use Rattle.pcl_items.specs.Escapes.Codes.{control_at, sequence_at}
-use Rattle.pcl_items.specs.Escapes.Lone.{lone_at, count_of}
+use Rattle.pcl_items.specs.Escapes.Ungrouped.{ungrouped_at, count_of}
 use Rattle.pcl_items.specs.Faults as rules
-use Rattle.pcl_items.specs.Faults.{Ends, NumberFault, IsCut, IsCapital, IsSmall, IsUnknown, CommandFault, number, no_letter, unknown_last, unknown_more, data_goes_on, no_count, cut_data, cut_command, LoneFault, lone_number, no_end, unknown_end, cut_lone, HasGroups, BeginsSmall, UnitFault, no_byte, cut_escape, no_sequence, no_character, cut_introducer, no_group, unknown_group, font, language}
+use Rattle.pcl_items.specs.Faults.{Ends, NumberFault, IsCut, IsCapital, IsSmall, IsUnknown, CommandFault, number, no_letter, unknown_last, unknown_more, data_goes_on, no_count, cut_data, cut_command, UngroupedFault, ungrouped_number, no_end, unknown_end, cut_ungrouped, HasGroups, BeginsSmall, UnitFault, no_byte, cut_escape, no_sequence, no_character, cut_introducer, no_group, unknown_group, font, language}
 use Rattle.pcl_items.specs.PjlLines.Exit.{exit_field, BeginsExit, begins_with}
 use Rattle.pcl_items.proofs.PjlLines.Exits.{no_exit}
 use Rattle.pcl_items.proofs.Escapes.Tables.{both_true, by_test, command_found, group_found, no_sequence_outside, data_command_known, data_command_found, data_capital_letter}
 use Rattle.pcl_items.proofs.Escapes.Counted.{counted, counts_of}
-use Rattle.pcl_items.proofs.Escapes.Lones.{lone_none}
+use Rattle.pcl_items.proofs.Escapes.Ungrouped.{ungrouped_none}
 use Rattle.pcl_items.proofs.Escapes.Fields.{EndsIn, ends_at_letter}
 use Rattle.pcl_items.proofs.Escapes.Shapes.{ends_in, number_fault, cut_read}
 use Rattle.pcl_items.proofs.Escapes.FaultHeads.{small_is, is_small, capital_is, is_capital}
 use Rattle.pcl_items.proofs.Reading.Causes.{Causes, causes_fault, causes_open}
-use Rattle.pcl_items.proofs.Escapes.Heads.{by_field, by_capital, by_small, by_count, lone_field, group_read}
+use Rattle.pcl_items.proofs.Escapes.Heads.{by_field, by_capital, by_small, by_count, ungrouped_field, group_read}
 use Rattle.std.proofs.lemmas.Bool.{lt-ltb, lt-leb}
 
 not_byte : (b n : ℕ) → (b ≡ n → ⊥) → (b == n) ≡ false
@@ -53,7 +53,7 @@ no_count_at a (Some n) h e = absurd (h n (counts_of a n e))
 field_ends : (text : List ℕ) (a : Amount) (c : ℕ) (rest : List ℕ) (f : IsField text a) → Ends text c → EndsIn a.sign f.whole f.fraction (c ∷ rest)
 field_ends text a c rest f e = ends_in text a.sign f.whole f.fraction c rest f.shape e
 
-pub command_causes : (g : Group) (bytes : List ℕ) (cause : Cause) → CommandFault g bytes cause → Causes (command_in g bytes) cause
+pub command_causes : (g : Group) (bytes : List ℕ) (cause : LexCause) → CommandFault g bytes cause → Causes (command_in g bytes) cause
 unfolding command_in
 command_causes _ _ _ (number {group = g} {bytes = bytes} h) =
     causes_fault (command_in g bytes) BadNumber (number_fault (after_field g) bytes (λ f c rest e. ap (λ o. by_last_byte o g f.len c rest) e) h)
@@ -86,18 +86,18 @@ command_causes _ _ _ (cut_command {group = g} {bytes = bytes} h) = causes_open (
 
 -- ---- a sequence without a group
 
-lone_causes : (i : ℕ) (bytes : List ℕ) (cause : Cause) → LoneFault i bytes cause → Causes (without_group i bytes) cause
+ungrouped_causes : (i : ℕ) (bytes : List ℕ) (cause : LexCause) → UngroupedFault i bytes cause → Causes (without_group i bytes) cause
 unfolding without_group
-lone_causes _ _ _ (lone_number {introducer = i} {bytes = bytes} h) =
-    causes_fault (without_group i bytes) BadNumber (number_fault (after_lone_field i) bytes (λ f c rest e. ap (λ o. by_termination o i f.len c) e) h)
-lone_causes _ _ _ (no_end {introducer = i} {text = text} {amount = a} {byte = c} rest f ends no_capital) =
-    causes_fault (without_group i (text ++ c ∷ rest)) Syntax (lone_field i text a c rest f (field_ends text a c rest f ends)
+ungrouped_causes _ _ _ (ungrouped_number {introducer = i} {bytes = bytes} h) =
+    causes_fault (without_group i bytes) BadNumber (number_fault (after_ungrouped_field i) bytes (λ f c rest e. ap (λ o. by_termination o i f.len c) e) h)
+ungrouped_causes _ _ _ (no_end {introducer = i} {text = text} {amount = a} {byte = c} rest f ends no_capital) =
+    causes_fault (without_group i (text ++ c ∷ rest)) Syntax (ungrouped_field i text a c rest f (field_ends text a c rest f ends)
     ∙ cond-false (is_termination c) _ _ (by_test (is_termination c) (λ e. no_capital (capital_is c e))))
-lone_causes _ _ _ (unknown_end {introducer = i} {text = text} {amount = a} {letter = c} rest f capital none) =
-    causes_fault (without_group i (text ++ c ∷ rest)) (NotInProfile (names.Pair i c)) (lone_field i text a c rest f (ends_at_letter a.sign f.whole f.fraction c rest (omega (arith, capital.0)))
+ungrouped_causes _ _ _ (unknown_end {introducer = i} {text = text} {amount = a} {letter = c} rest f capital none) =
+    causes_fault (without_group i (text ++ c ∷ rest)) (NotInProfile (names.Pair i c)) (ungrouped_field i text a c rest f (ends_at_letter a.sign f.whole f.fraction c rest (omega (arith, capital.0)))
     ∙ cond-true (is_termination c) _ _ (is_capital c capital)
-    ∙ ap (λ o. lone o i c (length text + 3)) (lone_none i a c (lone_at i a c) none refl))
-lone_causes _ _ _ (cut_lone {introducer = i} {bytes = bytes} h) = causes_open (without_group i bytes) (cut_read (after_lone_field i) bytes h).1
+    ∙ ap (λ o. ungrouped o i c (length text + 3)) (ungrouped_none i a c (ungrouped_at i a c) none refl))
+ungrouped_causes _ _ _ (cut_ungrouped {introducer = i} {bytes = bytes} h) = causes_open (without_group i bytes) (cut_read (after_ungrouped_field i) bytes h).1
 
 -- ---- a unit
 
@@ -105,7 +105,7 @@ no_group_at : (i c : ℕ) (o : Option Group) → ((g : Group) → introducer_of 
 no_group_at i c None h e = refl
 no_group_at i c (Some g) h e = let t = group_found i c g e in absurd (h g (sym t.0) (sym t.1))
 
-behind_causes : (n : ℕ) (f : First) (cause : Cause) → Causes f cause → Causes (behind n f) cause
+behind_causes : (n : ℕ) (f : First) (cause : LexCause) → Causes f cause → Causes (behind n f) cause
 behind_causes n Open cause h = h
 behind_causes n (Passes len next) cause h = h
 behind_causes n (Begins item len next) cause h = h
@@ -174,7 +174,7 @@ escape_end : Causes (first_of true Pcl (escape ∷ [])) Truncated
 unfolding first_of after_escape
 escape_end = refl
 
-pub unit_causes : (bytes : List ℕ) (cause : Cause) → UnitFault modes.Pcl bytes cause → Causes (first_of true Pcl bytes) cause
+pub unit_causes : (bytes : List ℕ) (cause : LexCause) → UnitFault modes.Pcl bytes cause → Causes (first_of true Pcl bytes) cause
 unit_causes _ _ (no_byte {b = b} {rest = rest} low h k) = causes_fault _ _ (no_byte_read b rest low h k)
 unit_causes _ _ cut_escape = escape_end
 unit_causes _ _ (no_sequence {b = b} {rest = rest} l h none e37 g) =
@@ -188,11 +188,11 @@ unit_causes _ _ (unknown_group {b = b} {c = c} {rest = rest} h s none) =
     causes_fault _ _ (small_introducer b c rest h s ∙ ap (λ o. in_group o b c rest) (no_group_at b c (group_at b c) none refl))
 unit_causes _ _ (rules.in_group {group = g} {bytes = rest} {cause = cause} h) =
     subst (λ (f : First). Causes f cause) (sym (group_read g rest)) (behind_causes 3 (command_in g rest) cause (command_causes g rest cause h))
-unit_causes _ _ (font {bytes = rest} {cause = cause} k h) = subst (λ (f : First). Causes f cause) (sym (font_read rest k)) (lone_causes 40 rest cause h)
-unit_causes _ _ (language {bytes = rest} {cause = cause} k h) = subst (λ (f : First). Causes f cause) (sym (language_read rest k)) (lone_causes 37 rest cause h)
+unit_causes _ _ (font {bytes = rest} {cause = cause} k h) = subst (λ (f : First). Causes f cause) (sym (font_read rest k)) (ungrouped_causes 40 rest cause h)
+unit_causes _ _ (language {bytes = rest} {cause = cause} k h) = subst (λ (f : First). Causes f cause) (sym (language_read rest k)) (ungrouped_causes 37 rest cause h)
 
 -- no unit begins with no byte
-pub unit_byte : (bytes : List ℕ) (cause : Cause) → UnitFault modes.Pcl bytes cause → (bytes ≡ [] → ⊥)
+pub unit_byte : (bytes : List ℕ) (cause : LexCause) → UnitFault modes.Pcl bytes cause → (bytes ≡ [] → ⊥)
 unit_byte bytes cause (no_byte low h k) e = absurd cc
 unit_byte bytes cause cut_escape e = absurd cc
 unit_byte bytes cause (no_sequence l h none e37 g) e = absurd cc

@@ -2,7 +2,7 @@
 use Rattle.std.proofs.Common.{◌≡◌, ℕ, zero, suc, ◌+◌, ◌<◌, List, [], ◌∷◌, ◌++◌, drop, Option, None, Some, refl, sym, ap, subst, ◌∙◌, arith}
 use Rattle.std.specs.Prelude.{Bool, true}
 use Rattle.std.proofs.lemmas.List.{append-nil}
-use Rattle.pcl_items.specs.declared.fault.Cause.{Cause}
+use Rattle.pcl_items.specs.declared.fault.LexCause.{LexCause}
 use Rattle.pcl_items.specs.Lexing.Contexts.{Context, Pcl, Sequence, Frame, Letters, Numbered, Pjl, MayEndAt, item_place}
 use Rattle.pcl_items.specs.Items.{Entry, Placed, at}
 use Rattle.pcl_items.specs.Reader.{First, Open, Passes, Begins, Faulty, first_of}
@@ -32,7 +32,7 @@ whole_end (Numbered x gap n) (b ∷ bytes) e = absurd cc
 pub end_read : (c : Context) (p : ℕ) (bytes : List ℕ) → first_of true c bytes ≡ Open → IsReadFrom c p bytes (end_of c p bytes)
 end_read c p bytes e = go (end_cause c bytes) refl
   where
-    go : (o : Option Cause) → end_cause c bytes ≡ o → IsReadFrom c p bytes (ends_so o c p)
+    go : (o : Option LexCause) → end_cause c bytes ≡ o → IsReadFrom c p bytes (ends_so o c p)
     go None k =
         let w = whole_end c bytes k in
         (c, w.0, subst (λ (l : List ℕ). ReadsTo true c p bytes [] c p l) w.1 here)
@@ -74,7 +74,7 @@ end_last Frame h = absurd h
 end_last (Letters m n) h = absurd h
 end_last (Numbered x gap n) h = absurd h
 
-pub fault_last : (c : Context) (rest : List ℕ) (cause : Cause) → IsFault true (first_of true c rest) c rest cause → IsLast true c rest
+pub fault_last : (c : Context) (rest : List ℕ) (cause : LexCause) → IsFault true (first_of true c rest) c rest cause → IsLast true c rest
 fault_last c rest cause h = record { last = go (first_of true c rest) h }
   where
     go : (f : First) → IsFault true f c rest cause → GoesOn f → ⊥
@@ -108,17 +108,17 @@ same_end {xs = xs} h hl k kl =
     let s = stays b.reads hl in
     record { items = b.items ∙ ap (λ zs. xs ++ zs) s.none ∙ append-nil xs; context = s.context; place = s.place; rest = s.rest_is }
 
-some_same : (a b : Cause) (o : Option Cause) → o ≡ Some a → o ≡ Some b → a ≡ b
+some_same : (a b : LexCause) (o : Option LexCause) → o ≡ Some a → o ≡ Some b → a ≡ b
 some_same a b o h k = let both : Some a ≡ Some b = sym h ∙ k in cc
 
-same_fault : (f : First) (c : Context) (rest : List ℕ) (a b : Cause) → IsFault true f c rest a → IsFault true f c rest b → a ≡ b
+same_fault : (f : First) (c : Context) (rest : List ℕ) (a b : LexCause) → IsFault true f c rest a → IsFault true f c rest b → a ≡ b
 same_fault (Faulty cause) c rest a b h k = h ∙ sym k
 same_fault (Passes len next) c rest a b h k = absurd h
 same_fault (Begins item len next) c rest a b h k = absurd h
 same_fault Open c rest a b h k = some_same a b (end_cause c rest) h k
 
 -- no fault at the end
-no_fault : (c : Context) → MayEndAt c → (cause : Cause) → IsFault true (first_of true c []) c [] cause → ⊥
+no_fault : (c : Context) → MayEndAt c → (cause : LexCause) → IsFault true (first_of true c []) c [] cause → ⊥
 unfolding first_of
 no_fault Pcl m cause h = absurd cc
 no_fault Pjl m cause h = absurd cc
@@ -127,13 +127,13 @@ no_fault Frame m cause h = absurd m
 no_fault (Letters m n) e cause h = absurd e
 no_fault (Numbered x gap n) m cause h = absurd m
 
-moved_fault : (c d : Context) (l r : List ℕ) (cause : Cause) → d ≡ c → r ≡ l → IsFault true (first_of true d r) d r cause → IsFault true (first_of true c l) c l cause
+moved_fault : (c d : Context) (l r : List ℕ) (cause : LexCause) → d ≡ c → r ≡ l → IsFault true (first_of true d r) d r cause → IsFault true (first_of true c l) c l cause
 moved_fault c d l r cause e f h = subst (λ (b : List ℕ). IsFault true (first_of true c b) c b cause) f (subst (λ (x : Context). IsFault true (first_of true x r) x r cause) e h)
 
 whole_same : (xs ys : List Placed) (p q : ℕ) → ys ≡ xs → q ≡ p → Whole xs p ≡ Whole ys q
 whole_same xs ys p q e f = λ i. Whole (sym e i) (sym f i)
 
-stopped_same : (xs ys : List Placed) (p q : ℕ) (a b : Cause) → ys ≡ xs → q ≡ p → a ≡ b → Stopped xs p a ≡ Stopped ys q b
+stopped_same : (xs ys : List Placed) (p q : ℕ) (a b : LexCause) → ys ≡ xs → q ≡ p → a ≡ b → Stopped xs p a ≡ Stopped ys q b
 stopped_same xs ys p q a b e f g = λ i. Stopped (sym e i) (sym f i) (g i)
 
 pub one_only : (bytes : List ℕ) (r s : Reading) → IsReadFrom Pcl 0 bytes r → IsReadFrom Pcl 0 bytes s → r ≡ s

@@ -15,7 +15,7 @@ use Rattle.pcl_items.specs.Escapes.Value.{Amount, Counts, most, most_data}
 use Rattle.pcl_items.specs.Escapes.ValueField.{sign_text, fraction_text, decimals_of, IsWritten, IsField}
 use Rattle.pcl_items.specs.Frames.NumberText.{IsSetting}
 use Rattle.pcl_items.specs.Items.{Entry, Text, CarriageReturn, LineFeed, FormFeed, Reset, ClearMargins, HalfLineFeed, Parameterized, SymbolSet, DefaultFont, EnterFrame, LeaveFrame, Initialize, Set, Move, WithData, ExitLanguage, PjlLine, at}
-use Rattle.pcl_items.specs.Grammar.{follows, last, with_data, symbol_set, default_font, leave_frame, previous, current, IsUnit, text_byte, control_code, two_characters, lone, combined}
+use Rattle.pcl_items.specs.Grammar.{follows, last, with_data, symbol_set, default_font, leave_frame, previous, current, IsUnit, text_byte, control_code, two_characters, ungrouped, combined}
 use Rattle.pcl_items.specs.Spellings.Canon.{four_decimals, before, without_zeros, with_point, magnitude_text, amount_text, canon, IsItem}
 use Rattle.pcl_items.proofs.Escapes.Values.{after-append, ten_more}
 
@@ -176,11 +176,11 @@ between_unit Reset h e place rest = two_characters refl
 between_unit ClearMargins h e place rest = two_characters refl
 between_unit HalfLineFeed h e place rest = two_characters refl
 between_unit (Parameterized command amount) h e place rest = combined (last command (amount_spelled amount h))
-between_unit (SymbolSet amount letter) h e place rest = lone (amount_spelled amount h.0) (symbol_set h.1)
-between_unit DefaultFont h e place rest = lone three_spelled (default_font refl (λ e. absurd cc))
+between_unit (SymbolSet amount letter) h e place rest = ungrouped (amount_spelled amount h.0) (symbol_set h.1)
+between_unit DefaultFont h e place rest = ungrouped three_spelled (default_font refl (λ e. absurd cc))
 between_unit (EnterFrame handover) h e place rest = absurd cc
-between_unit (LeaveFrame Previous) h e place rest = lone zero_spelled (leave_frame (previous refl))
-between_unit (LeaveFrame Current) h e place rest = lone one_spelled (leave_frame (current refl (λ e. absurd cc)))
+between_unit (LeaveFrame Previous) h e place rest = ungrouped zero_spelled (leave_frame (previous refl))
+between_unit (LeaveFrame Current) h e place rest = ungrouped one_spelled (leave_frame (current refl (λ e. absurd cc)))
 between_unit Initialize h e place rest = absurd cc
 between_unit (Set setting ten_thousandths) h e place rest = absurd cc
 between_unit (Move motion to) h e place rest = absurd cc

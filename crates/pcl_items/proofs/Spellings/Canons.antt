@@ -7,14 +7,14 @@ use Rattle.pcl_items.specs.declared.frame.Handover.TheVariants.{Previous, Curren
 use Rattle.pcl_items.specs.declared.item.Mode.{Mode}
 use Rattle.pcl_items.specs.declared.item.Mode.TheVariants as modes
 use Rattle.pcl_items.specs.Items.{Entry, Placed, Text, CarriageReturn, LineFeed, FormFeed, Reset, ClearMargins, HalfLineFeed, Parameterized, SymbolSet, DefaultFont, EnterFrame, LeaveFrame, Initialize, Set, Move, WithData, ExitLanguage, PjlLine, at}
-use Rattle.pcl_items.specs.PjlLines.Text.{at_sign, Line}
+use Rattle.pcl_items.specs.PjlLines.Text.{at_sign, PjlCommand}
 use Rattle.pcl_items.specs.Lexing.Contexts.{Frame}
 use Rattle.pcl_items.specs.Grammar as grammar
-use Rattle.pcl_items.specs.Grammar.{follows, previous, current, enter_frame, IsUnit, lone, in_frame, out_of_frame, exit, line, behind_line}
+use Rattle.pcl_items.specs.Grammar.{follows, previous, current, enter_frame, IsUnit, ungrouped, in_frame, out_of_frame, exit, line, behind_pjl}
 use Rattle.pcl_items.specs.Frames.Grammar.{IsFrameUnit, ended_command}
-use Rattle.pcl_items.specs.Spellings.Canon.{canon, IsItem, IsNoLine, HasCanon}
+use Rattle.pcl_items.specs.Spellings.Canon.{canon, IsItem, IsNoPjl, HasCanon}
 use Rattle.pcl_items.specs.Reading.{ReadsTo, between}
-use Rattle.pcl_items.specs.PjlLines.Canon.{IsSpelledLine}
+use Rattle.pcl_items.specs.PjlLines.Canon.{IsSpelledPjl}
 use Rattle.pcl_items.proofs.PjlLines.Canonical.{canon_unit}
 use Rattle.pcl_items.proofs.Reading.Agreement.{exit_read, unit_otherwise, unit_read}
 use Rattle.pcl_items.proofs.Frames.Reads.{ended_reads, leaves_reads}
@@ -31,8 +31,8 @@ between_canon : (mode2 : Mode) (item : Entry) → ((place : ℕ) (rest : List �
 between_canon mode2 item unit = made modes.Pcl mode2 item unit (λ whole place rest. unit_read whole tt (unit place rest))
 
 enter_unit : (handover : Handover) (place : ℕ) (rest : List ℕ) → IsUnit modes.Pcl place (canon (EnterFrame handover)) rest (at place (EnterFrame handover) ∷ []) modes.Frame
-enter_unit Previous place rest = lone zero_spelled (enter_frame (previous refl))
-enter_unit Current place rest = lone one_spelled (enter_frame (current refl (λ e. absurd cc)))
+enter_unit Previous place rest = ungrouped zero_spelled (enter_frame (previous refl))
+enter_unit Current place rest = ungrouped one_spelled (enter_frame (current refl (λ e. absurd cc)))
 
 enters : (item : Entry) → follows modes.Pcl item ≡ Some modes.Frame → HasCanon modes.Pcl item modes.Frame
 enters (EnterFrame handover) e = between_canon modes.Frame (EnterFrame handover) (enter_unit handover)
@@ -78,7 +78,7 @@ only_exit modes.Pjl item h e = absurd (h refl)
 into_pjl : (mode : Mode) (item : Entry) → (mode ≡ modes.Pjl → ⊥) → follows mode item ≡ Some modes.Pjl → HasCanon mode item modes.Pjl
 into_pjl mode item h e = subst (λ (x : Entry). HasCanon mode x modes.Pjl) (sym (only_exit mode item h e)) (exits mode)
 
-line_unit : (l : Line) → IsSpelledLine l → (place : ℕ) (rest : List ℕ) → IsUnit modes.Pjl place (canon (PjlLine l)) rest (at place (PjlLine l) ∷ []) (behind_line l)
+line_unit : (l : PjlCommand) → IsSpelledPjl l → (place : ℕ) (rest : List ℕ) → IsUnit modes.Pjl place (canon (PjlLine l)) rest (at place (PjlLine l) ∷ []) (behind_pjl l)
 line_unit l h place rest = line (canon_unit l h)
 
 in_pjl : (mode2 : Mode) (item : Entry) → ((place : ℕ) (rest : List ℕ) → IsUnit modes.Pjl place (canon item) rest (at place item ∷ []) mode2) → HasCanon modes.Pjl item mode2
@@ -105,7 +105,7 @@ text_otherwise : (mode2 : Mode) (code : ℕ) (c : Bool) → (code == 64) ≡ c �
 text_otherwise mode2 code true k e = absurd cc
 text_otherwise mode2 code false k e = record { admitted = e; first = code; others = []; spelled = refl; other = eqb-false code 64 k }
 
-pub otherwise_item : (mode2 : Mode) (item : Entry) → IsNoLine item → follows modes.Pjl item ≡ Some mode2 → Otherwise mode2 item
+pub otherwise_item : (mode2 : Mode) (item : Entry) → IsNoPjl item → follows modes.Pjl item ≡ Some mode2 → Otherwise mode2 item
 otherwise_item mode2 (Text code) n e = text_otherwise mode2 code (code == 64) refl e
 otherwise_item mode2 CarriageReturn n e = record { admitted = e; first = 13; others = []; spelled = refl; other = λ k. absurd (omega (arith, k)) }
 otherwise_item mode2 LineFeed n e = record { admitted = e; first = 10; others = []; spelled = refl; other = λ k. absurd (omega (arith, k)) }
@@ -131,8 +131,8 @@ otherwise_canon mode2 item h o =
 
 pjl_canon : (mode2 : Mode) (item : Entry) → IsItem item → follows modes.Pjl item ≡ Some mode2 → HasCanon modes.Pjl item mode2
 pjl_canon mode2 (PjlLine l) h e =
-    let same : behind_line l ≡ mode2 = cc in
-    subst (λ (mode : Mode). HasCanon modes.Pjl (PjlLine l) mode) same (in_pjl (behind_line l) (PjlLine l) (line_unit l h))
+    let same : behind_pjl l ≡ mode2 = cc in
+    subst (λ (mode : Mode). HasCanon modes.Pjl (PjlLine l) mode) same (in_pjl (behind_pjl l) (PjlLine l) (line_unit l h))
 pjl_canon mode2 item h e = otherwise_canon mode2 item h (otherwise_item mode2 item tt e)
 
 -- in each mode that admits the item

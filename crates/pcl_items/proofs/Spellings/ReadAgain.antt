@@ -2,7 +2,7 @@
 use Rattle.std.proofs.Common.{◌≡◌, ℕ, suc, ◌+◌, ◌-◌, ◌≤◌, Bool, true, List, [], ◌∷◌, ◌++◌, length, take, drop, Option, None, Some, refl, sym, ap, subst, ◌∙◌, append_assoc, arith}
 use Rattle.std.proofs.Math.Seq.{take-append_seam}
 use Rattle.std.proofs.lemmas.List.{length-append, length-take-le, take-append-drop, append_cancel_right}
-use Rattle.pcl_items.specs.declared.fault.Cause.{Cause}
+use Rattle.pcl_items.specs.declared.fault.LexCause.{LexCause}
 use Rattle.pcl_items.specs.declared.frame.Handover.TheVariants.{Previous, Current}
 use Rattle.pcl_items.specs.declared.lexer.first.First.TheVariants as codes
 use Rattle.pcl_items.specs.declared.lexer.first.Context as code_context
@@ -29,7 +29,7 @@ use Rattle.pcl_items.proofs.Lexing.Spans.{no_passing, no_passing_in}
 use Rattle.pcl_items.proofs.Lexing.FirstModes.{begins_in_mode, passes_in_mode}
 use Rattle.pcl_items.proofs.Reading.ReadsTo.{IsLast, ReadsTo-append, same_pass, same_begin, not_both, moved}
 use Rattle.pcl_items.proofs.Reading.Readings.{read_from, end_last, fault_last, same_end}
-use Rattle.pcl_items.proofs.Reading.Agreement.{all_decided, unit_read, lone_first}
+use Rattle.pcl_items.proofs.Reading.Agreement.{all_decided, unit_read, ungrouped_first}
 use Rattle.pcl_items.proofs.Spellings.Canonical.{zero_spelled, one_spelled}
 use Rattle.pcl_items.proofs.Spellings.Canons.{has_canon}
 
@@ -176,8 +176,8 @@ stays_first item h e rest =
     read.first ∙ ap (λ len. Begins item len Pcl) (omega (arith, read.span))
 
 enters_first : (item : Entry) → follows modes.Pcl item ≡ Some modes.Frame → (rest : List ℕ) → first_of true Pcl (canon item ++ rest) ≡ Begins item (length (canon item)) Frame
-enters_first (EnterFrame Previous) e rest = lone_first true (48 ∷ []) rest zero_spelled (enter_frame (previous refl))
-enters_first (EnterFrame Current) e rest = lone_first true (49 ∷ []) rest one_spelled (enter_frame (current refl (λ e. absurd cc)))
+enters_first (EnterFrame Previous) e rest = ungrouped_first true (48 ∷ []) rest zero_spelled (enter_frame (previous refl))
+enters_first (EnterFrame Current) e rest = ungrouped_first true (49 ∷ []) rest one_spelled (enter_frame (current refl (λ e. absurd cc)))
 enters_first _ e rest = absurd cc
 
 exits_first : (item : Entry) → follows modes.Pcl item ≡ Some modes.Pjl → (rest : List ℕ) → first_of true Pcl (canon item ++ rest) ≡ Begins item (length (canon item)) Pjl
@@ -316,7 +316,7 @@ open_begins item len next e = absurd cc
 passes_begins : (n : ℕ) (c : Context) (item : Entry) (len : ℕ) (next : Context) → Passes n c ≡ Begins item len next → ⊥
 passes_begins n c item len next e = absurd cc
 
-faulty_begins : (cause : Cause) (item : Entry) (len : ℕ) (next : Context) → Faulty cause ≡ Begins item len next → ⊥
+faulty_begins : (cause : LexCause) (item : Entry) (len : ℕ) (next : Context) → Faulty cause ≡ Begins item len next → ⊥
 faulty_begins cause item len next e = absurd cc
 
 -- where no item is read, no spelling stands

@@ -9,8 +9,8 @@ use Rattle.pcl_items.specs.declared.frame.Mnemonic.TheVariants.{Initialize, Sets
 use Rattle.pcl_items.specs.declared.frame.Gap.{Gap}
 use Rattle.pcl_items.specs.declared.frame.Gap.TheVariants.{Straight, Spaced, Comma}
 use Rattle.pcl_items.specs.declared.fault.Name.TheVariants as names
-use Rattle.pcl_items.specs.declared.fault.Cause.{Cause}
-use Rattle.pcl_items.specs.declared.fault.Cause.TheVariants.{Syntax, Truncated, NotInProfile, BadNumber, EndInFrame}
+use Rattle.pcl_items.specs.declared.fault.LexCause.{LexCause}
+use Rattle.pcl_items.specs.declared.fault.LexCause.TheVariants.{Syntax, Truncated, NotInProfile, BadNumber, EndInFrame}
 use Rattle.pcl_items.specs.Frames.Kinds.{kind_of, capital}
 use Rattle.pcl_items.specs.Frames.Mnemonics.{mnemonic_at}
 use Rattle.pcl_items.specs.Escapes.Value.{Amount}
@@ -72,19 +72,19 @@ IsUnfinished (Number (Odd motion x) Straight) = Unit {0}
 IsUnfinished (Number (Odd motion x) Spaced) = Unit {0}
 IsUnfinished part = ⊥
 
-pub data PartFault : Part → List ℕ → Cause → Type 0 where
+pub data PartFault : Part → List ℕ → LexCause → Type 0 where
   wrong_byte : {part : Part} {b : ℕ} {rest : List ℕ} → IsWrong part (kind_of b) → PartFault part (b ∷ rest) Syntax
   too_many : {part : Part} {b : ℕ} {rest : List ℕ} → BeginsNumber part (kind_of b) → IsFull part → PartFault part (b ∷ rest) BadNumber
   odd : {motion : Motion} {x : ℤ} {gap : Gap} {b : ℕ} {rest : List ℕ} → HasNoComma gap → IsEnd (kind_of b) → PartFault (Number (Odd motion x) gap) (b ∷ rest) BadNumber
   cut_part : {part : Part} → IsUnfinished part → PartFault part [] Truncated
-  no_setting : {setting : Setting} {b : ℕ} {rest : List ℕ} {cause : Cause} →
+  no_setting : {setting : Setting} {b : ℕ} {rest : List ℕ} {cause : LexCause} →
       BeginsNumber (Word (Sets setting)) (kind_of b) → NumeralFault IsSomeSetting (b ∷ rest) cause → PartFault (Word (Sets setting)) (b ∷ rest) cause
-  no_coordinate : {part : Part} {b : ℕ} {rest : List ℕ} {cause : Cause} →
+  no_coordinate : {part : Part} {b : ℕ} {rest : List ℕ} {cause : LexCause} →
       BeginsNumber part (kind_of b) → TakesCoordinate part → NumeralFault IsSomeCoordinate (b ∷ rest) cause → PartFault part (b ∷ rest) cause
 
 -- ---- enter PCL mode
 
-pub data LeaveFault : List ℕ → Cause → Type 0 where
+pub data LeaveFault : List ℕ → LexCause → Type 0 where
   leave_number : {bytes : List ℕ} → NumberFault bytes → LeaveFault bytes BadNumber
   no_letter : {text : List ℕ} {amount : Amount} {byte : ℕ} (rest : List ℕ) →
       IsField text amount → Ends text byte → (IsCapital byte → ⊥) → LeaveFault (text ++ byte ∷ rest) Syntax
@@ -106,7 +106,7 @@ BeginsNone kinds.Figure = Unit {0}
 BeginsNone kinds.Other = Unit {0}
 
 -- a fault in a unit's stead, which stands behind so many bytes
-pub data FrameFault : Start → ℕ → List ℕ → Cause → Type 0 where
+pub data FrameFault : Start → ℕ → List ℕ → LexCause → Type 0 where
   frame_ends : FrameFault AtLetters 0 [] EndInFrame
   no_command : {b : ℕ} {rest : List ℕ} → BeginsNone (kind_of b) → FrameFault AtLetters 0 (b ∷ rest) Syntax
   cut_letter : {a : ℕ} → kind_of a ≡ kinds.Letter → FrameFault AtLetters 0 (a ∷ []) Truncated
@@ -115,15 +115,15 @@ pub data FrameFault : Start → ℕ → List ℕ → Cause → Type 0 where
       FrameFault AtLetters 0 (a ∷ b ∷ rest) (NotInProfile (names.Pair (capital a) (capital b)))
   cut_frame_escape : FrameFault AtLetters 0 (escape ∷ []) Truncated
   other_sequence : {b : ℕ} {rest : List ℕ} → b ≢ 69 → b ≢ 37 → FrameFault AtLetters 0 (escape ∷ b ∷ rest) (NotInProfile (names.Byte b))
-  in_language : {bytes : List ℕ} {cause : Cause} → (BeginsExit bytes → ⊥) → LeaveFault bytes cause → FrameFault AtLetters 0 (escape ∷ 37 ∷ bytes) cause
-  in_command : {start : Start} {part : Part} {from : ℕ} {text bytes : List ℕ} {cause : Cause} →
+  in_language : {bytes : List ℕ} {cause : LexCause} → (BeginsExit bytes → ⊥) → LeaveFault bytes cause → FrameFault AtLetters 0 (escape ∷ 37 ∷ bytes) cause
+  in_command : {start : Start} {part : Part} {from : ℕ} {text bytes : List ℕ} {cause : LexCause} →
       IsBegun start part from text bytes → PartFault part bytes cause → FrameFault start from (text ++ bytes) cause
 
 -- A command that stops at a fault: pairs, and then the fault.
-pub data FrameStops : Start → ℕ → List ℕ → List Placed → ℕ → Cause → Type 0 where
-  at_fault : {start : Start} {place from : ℕ} {bytes : List ℕ} {cause : Cause} →
+pub data FrameStops : Start → ℕ → List ℕ → List Placed → ℕ → LexCause → Type 0 where
+  at_fault : {start : Start} {place from : ℕ} {bytes : List ℕ} {cause : LexCause} →
       FrameFault start from bytes cause → FrameStops start place bytes [] (place + from) cause
-  behind_pair : {start : Start} {motion : Motion} {to : ℤ × ℤ} {place place1 from : ℕ} {text bytes : List ℕ} {items : List Placed} {cause : Cause} →
+  behind_pair : {start : Start} {motion : Motion} {to : ℤ × ℤ} {place place1 from : ℕ} {text bytes : List ℕ} {items : List Placed} {cause : LexCause} →
       EndsPair start motion to from text bytes →
       FrameStops (BehindPair motion) (place + length text) bytes items place1 cause →
       FrameStops start place (text ++ bytes) (at (place + from) (Move motion (Some to)) ∷ items) place1 cause

@@ -2,11 +2,11 @@
 use Rattle.std.specs.Prelude.{ℕ, ℤ, ◌+◌, ◌==◌, nat_lt, nat_le, List, [], ◌∷◌, length, drop, Bool, not, ◌&&◌, Option, None, Some, if◌then◌else◌}
 use Rattle.std.specs.List.{list_all}
 use Rattle.pcl_items.specs.declared.number.Sign.{Sign}
-use Rattle.pcl_items.specs.declared.fault.Cause.{Cause}
-use Rattle.pcl_items.specs.declared.fault.Cause.TheVariants.{Syntax, BadNumber}
+use Rattle.pcl_items.specs.declared.fault.LexCause.{LexCause}
+use Rattle.pcl_items.specs.declared.fault.LexCause.TheVariants.{Syntax, BadNumber}
 use Rattle.pcl_items.specs.Escapes.Value.{Amount, most_units, signed}
 use Rattle.pcl_items.specs.Escapes.Field.{Field, field_at, amount_of, decimal}
-use Rattle.pcl_items.specs.Escapes.Lone.{is_minus}
+use Rattle.pcl_items.specs.Escapes.Ungrouped.{is_minus}
 
 -- of a sign and a magnitude, unless that is past the limit or not whole
 abbrev pub coordinate_by : Sign → ℕ → Bool → Option ℤ
@@ -26,7 +26,7 @@ setting_of f = unsigned (amount_of f)
 -- The bytes decide no number yet, or no number stands there, or one of so many characters.
 pub data Numeral (A : Type 0) : Type 0 where
   Cut : Numeral A
-  Wrong : (cause : Cause) → Numeral A
+  Wrong : (cause : LexCause) → Numeral A
   Read : (value : A) (len : ℕ) → Numeral A
 
 abbrev pub has_digit : Field → Bool

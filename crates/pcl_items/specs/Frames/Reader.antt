@@ -8,10 +8,10 @@ use Rattle.pcl_items.specs.declared.frame.Mnemonic.TheVariants as mnemonics
 use Rattle.pcl_items.specs.declared.frame.Gap.{Gap}
 use Rattle.pcl_items.specs.declared.frame.Gap.TheVariants.{Straight, Comma}
 use Rattle.pcl_items.specs.declared.fault.Name.TheVariants as names
-use Rattle.pcl_items.specs.declared.fault.Cause.TheVariants.{Syntax, NotInProfile, BadNumber}
+use Rattle.pcl_items.specs.declared.fault.LexCause.TheVariants.{Syntax, NotInProfile, BadNumber}
 use Rattle.pcl_items.specs.Frames.Kinds.{kind_of, capital}
 use Rattle.pcl_items.specs.Frames.Mnemonics.{mnemonic_at}
-use Rattle.pcl_items.specs.Escapes.Lone.{leave_at}
+use Rattle.pcl_items.specs.Escapes.Ungrouped.{leave_at}
 use Rattle.pcl_items.specs.Lexing.Contexts.{Pcl, Frame, Letters, Numbered, Numbers, Single, Odd, Even, spaced}
 use Rattle.pcl_items.specs.Lexing.Firsts.{First, Open, Passes, Begins, Faulty, is_termination, exit_or}
 use Rattle.pcl_items.specs.Escapes.Value.{Amount}

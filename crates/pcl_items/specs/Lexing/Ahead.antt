@@ -3,7 +3,7 @@ use Rattle.std.specs.Prelude.{◌≡◌, ℕ, ◌+◌, ◌≤◌, List, [], leng
 use Rattle.pcl_items.specs.declared.fault.LexFault.{LexFault}
 use Rattle.pcl_items.specs.declared.lexer.ahead.Ahead.{Ahead}
 use Rattle.pcl_items.specs.Lexing.Contexts.{Context, Pcl, counted}
-use Rattle.pcl_items.specs.Lexing.FirstView.{context_view, first_view, Within, FirstHasLine, len_of, counted_after}
+use Rattle.pcl_items.specs.Lexing.FirstView.{context_view, first_view, Within, FirstHasPjl, len_of, counted_after}
 use Rattle.pcl_items.specs.Reading.{ReadsTo}
 use Rattle.pcl_items.specs.declared.item.Item.{Item}
 use Rattle.pcl_items.specs.declared.lexer.Lexed.{Lexed}
@@ -12,9 +12,9 @@ use Rattle.pcl_items.specs.Items.{view}
 use Rattle.pcl_items.specs.Reader.{Open, Passes, Begins, first_of}
 use Rattle.pcl_items.specs.Fault.{end_cause, IsFault}
 
--- an item of one byte stands first, between units
-abbrev pub IsByte : Item → List ℕ → Type 0
-IsByte item bytes = ((whole : Bool) → first_of whole Pcl bytes ≡ Begins (view item) 1 Pcl) × (1 ≤ length bytes)
+-- an item of so many bytes stands first, between units
+abbrev pub StandsFirst : Item → ℕ → List ℕ → Type 0
+StandsFirst item len bytes = ((whole : Bool) → first_of whole Pcl bytes ≡ Begins (view item) len Pcl) × (len ≤ length bytes)
 
 -- what stands first in a window from a place on, behind bytes that end no item
 pub record StandsAhead (whole : Bool) (context : Context) (start : ℕ) (window : List ℕ) (ahead : Ahead) : Type 0 where
@@ -24,7 +24,7 @@ pub record StandsAhead (whole : Bool) (context : Context) (start : ℕ) (window 
   pub first_is : first_view (drop ahead.start window) ahead.first ≡ first_of whole (context_view ahead.context) (drop ahead.start window)
   pub stops : (len : ℕ) (next : Context) → first_view (drop ahead.start window) ahead.first ≡ Passes len next → ⊥
   pub within : Within (length (drop ahead.start window)) ahead.first
-  pub line : FirstHasLine (drop ahead.start window) ahead.first
+  pub line : FirstHasPjl (drop ahead.start window) ahead.first
   pub after : counted_after (first_view (drop ahead.start window) ahead.first) ≤ counted (context_view ahead.context) + len_of (first_view (drop ahead.start window) ahead.first)
 
 -- the answer where the bytes that are left decide nothing

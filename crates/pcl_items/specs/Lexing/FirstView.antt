@@ -10,9 +10,9 @@ use Rattle.pcl_items.specs.declared.lexer.first.Numbers as code_numbers
 use Rattle.pcl_items.specs.declared.lexer.first.Numbers.TheVariants as numbers
 use Rattle.pcl_items.specs.Lexing.Contexts.{Context, Pcl, Sequence, Frame, Letters, Numbered, Pjl, Numbers, Single, Odd, Even, counted}
 use Rattle.pcl_items.specs.Items.{Entry, Text, simple_view, WithData, PjlLine}
-use Rattle.pcl_items.specs.PjlLines.Text.{Line, Bare}
-use Rattle.pcl_items.specs.PjlLines.Reader.{line_of}
-use Rattle.pcl_items.specs.PjlLines.Canon.{IsSpelledLine}
+use Rattle.pcl_items.specs.PjlLines.Text.{PjlCommand, Bare}
+use Rattle.pcl_items.specs.PjlLines.Reader.{pjl_command_of}
+use Rattle.pcl_items.specs.PjlLines.Canon.{IsSpelledPjl}
 use Rattle.pcl_items.specs.Lexing.Firsts.{First, Open, Passes, Begins, Faulty}
 
 abbrev pub numbers_view : code_numbers.Numbers → Numbers
@@ -33,26 +33,26 @@ abbrev pub data_len : Head → ℕ
 data_len (heads.Text byte) = 0
 data_len (heads.Simple item) = 0
 data_len (heads.WithData command count) = count.bytes
-data_len heads.Line = 1
+data_len heads.PjlLine = 1
 
 -- a line that was read, where one was
-abbrev pub line_read : Option Line → Line
-line_read None = Bare
-line_read (Some line) = line
+abbrev pub pjl_read : Option PjlCommand → PjlCommand
+pjl_read None = Bare
+pjl_read (Some line) = line
 
 -- the item of so many bytes in front
 abbrev pub head_view : Head → ℕ → List ℕ → Entry
 head_view (heads.Text byte) len bytes = Text byte.code
 head_view (heads.Simple item) len bytes = simple_view item
 head_view (heads.WithData command count) len bytes = WithData command (take count.bytes (drop (len - count.bytes) bytes))
-head_view heads.Line len bytes = PjlLine (line_read (line_of (take (len - 1) bytes)))
+head_view heads.PjlLine len bytes = PjlLine (pjl_read (pjl_command_of (take (len - 1) bytes)))
 
 -- where the item is a line, so many bytes in front spell one
-abbrev pub HasLine : Head → ℕ → List ℕ → Type 0
-HasLine (heads.Text byte) len bytes = Unit {0}
-HasLine (heads.Simple item) len bytes = Unit {0}
-HasLine (heads.WithData command count) len bytes = Unit {0}
-HasLine heads.Line len bytes = (line : Line) × (line_of (take (len - 1) bytes) ≡ Some line) × IsSpelledLine line
+abbrev pub HasPjl : Head → ℕ → List ℕ → Type 0
+HasPjl (heads.Text byte) len bytes = Unit {0}
+HasPjl (heads.Simple item) len bytes = Unit {0}
+HasPjl (heads.WithData command count) len bytes = Unit {0}
+HasPjl heads.PjlLine len bytes = (line : PjlCommand) × (pjl_command_of (take (len - 1) bytes) ≡ Some line) × IsSpelledPjl line
 
 abbrev pub first_view : List ℕ → code.First → First
 first_view bytes firsts.Open = Open
@@ -68,11 +68,11 @@ Within n (firsts.Begins len head next) = (len ≤ n) × (data_len head ≤ len)
 Within n (firsts.Faulty cause) = Unit {0}
 
 -- so where it is an item
-abbrev pub FirstHasLine : List ℕ → code.First → Type 0
-FirstHasLine bytes firsts.Open = Unit {0}
-FirstHasLine bytes (firsts.Passes len next) = Unit {0}
-FirstHasLine bytes (firsts.Begins len head next) = HasLine head len bytes
-FirstHasLine bytes (firsts.Faulty cause) = Unit {0}
+abbrev pub FirstHasPjl : List ℕ → code.First → Type 0
+FirstHasPjl bytes firsts.Open = Unit {0}
+FirstHasPjl bytes (firsts.Passes len next) = Unit {0}
+FirstHasPjl bytes (firsts.Begins len head next) = HasPjl head len bytes
+FirstHasPjl bytes (firsts.Faulty cause) = Unit {0}
 
 -- how many bytes it takes
 abbrev pub len_of : First → ℕ

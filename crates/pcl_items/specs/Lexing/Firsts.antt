@@ -1,7 +1,7 @@
 -- What may stand first in bytes.
 use Rattle.std.specs.Prelude.{ℕ, ◌+◌, List, Bool, if◌then◌else◌}
 use Rattle.std.specs.Int.{is_in_range}
-use Rattle.pcl_items.specs.declared.fault.Cause.{Cause}
+use Rattle.pcl_items.specs.declared.fault.LexCause.{LexCause}
 use Rattle.pcl_items.specs.Lexing.Contexts.{Context, Pjl}
 use Rattle.pcl_items.specs.Items.{Entry, ExitLanguage}
 use Rattle.pcl_items.specs.PjlLines.Exit.{exit_field, begins_with}
@@ -12,7 +12,7 @@ pub data First : Type 0 where
   Open : First
   Passes : (len : ℕ) (next : Context) → First
   Begins : (item : Entry) (len : ℕ) (next : Context) → First
-  Faulty : (cause : Cause) → First
+  Faulty : (cause : LexCause) → First
 
 -- with n bytes before it
 abbrev pub behind : ℕ → First → First

@@ -1,6 +1,6 @@
 -- What a lexer answers, and what that says of the job.
 use Rattle.std.specs.Prelude.{◌≡◌, ℕ, ◌+◌, ◌<◌, ◌≤◌, List, [], ◌∷◌, ◌++◌, length, Bool, true, false, Some, Result, Ok, Err}
-use Rattle.pcl_items.specs.declared.fault.Cause.{Cause}
+use Rattle.pcl_items.specs.declared.fault.LexCause.{LexCause}
 use Rattle.pcl_items.specs.declared.fault.LexFault.{LexFault}
 use Rattle.pcl_items.specs.Lexing.Contexts.{Pcl, item_place, MayEndAt}
 use Rattle.pcl_items.specs.Modes.{follows, mode_of}
@@ -45,7 +45,7 @@ given (Err fault) = []
 -- the bytes decide no item behind these, and no fault
 pub record Undecided (bytes : List ℕ) (items : List Placed) : Type 0 where
   pub no_item : (x : Placed) → Decides false bytes (items ++ x ∷ []) → ⊥
-  pub no_fault : (place : ℕ) (cause : Cause) → Settles false bytes (Stopped items place cause) → ⊥
+  pub no_fault : (place : ℕ) (cause : LexCause) → Settles false bytes (Stopped items place cause) → ⊥
 
 -- what an answer says of the bytes that were fed, where these items were read of them before
 abbrev pub Tells : Bool → List ℕ → List Placed → Result Lexed LexFault → Type 0
@@ -62,11 +62,11 @@ Advances old (Ok answers.End) new = left new.context new.rest ≤ left old.conte
 Advances old (Err fault) new = left new.context new.rest ≤ left old.context old.rest
 
 -- the mode before an item admits it, with the other mode behind; all else keeps the mode
-abbrev pub Admits : LexerState → Result Lexed LexFault → LexerState → Type 0
-Admits old (Ok (answers.Item place item)) new = follows (mode_of old.context) (view item) ≡ Some (mode_of new.context)
-Admits old (Ok answers.NeedMore) new = mode_of new.context ≡ mode_of old.context
-Admits old (Ok answers.End) new = mode_of new.context ≡ mode_of old.context
-Admits old (Err fault) new = mode_of new.context ≡ mode_of old.context
+abbrev pub KeepsMode : LexerState → Result Lexed LexFault → LexerState → Type 0
+KeepsMode old (Ok (answers.Item place item)) new = follows (mode_of old.context) (view item) ≡ Some (mode_of new.context)
+KeepsMode old (Ok answers.NeedMore) new = mode_of new.context ≡ mode_of old.context
+KeepsMode old (Ok answers.End) new = mode_of new.context ≡ mode_of old.context
+KeepsMode old (Err fault) new = mode_of new.context ≡ mode_of old.context
 
 -- More bytes are wanted only while more may come, and a piece may then be fed; the end is told only where none may come,
 -- and a fault where it stands first. So a second call answers the same.
@@ -83,6 +83,6 @@ pub record IsNext (old : LexerState) (result : Result Lexed LexFault) (new : Lex
   pub total : new.place + length new.rest ≡ old.place + length old.rest
   pub ended : new.ended ≡ old.ended
   pub held : new.held ≡ old.held
-  pub admits : Admits old result new
+  pub admits : KeepsMode old result new
   pub allows : Allows result new
   pub tells : (bytes : List ℕ) (items : List Placed) → HasRead old bytes items → Tells old.ended bytes items result

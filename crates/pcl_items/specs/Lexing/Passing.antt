@@ -24,7 +24,7 @@ text_items place [] = []
 text_items place (code ∷ codes) = at place (Text code) ∷ text_items (place + 1) codes
 
 -- these bytes were read, each as an item of its own
-pub record Passes (old : LexerState) (codes : List ℕ) (new : LexerState) : Type 0 where
+pub record ReadsText (old : LexerState) (codes : List ℕ) (new : LexerState) : Type 0 where
   pub reads : (bytes : List ℕ) (items : List Placed) → HasRead old bytes items → HasRead new bytes (items ++ text_items old.place codes)
   pub decides : (bytes : List ℕ) (items : List Placed) → HasRead old bytes items → Decides old.ended bytes (items ++ text_items old.place codes)
   pub place : new.place ≡ old.place + length codes

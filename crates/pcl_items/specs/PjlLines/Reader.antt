@@ -4,7 +4,7 @@ use Rattle.std.specs.List.{prefix_len}
 use Rattle.pcl_items.specs.Frames.Kinds.{capital}
 use Rattle.pcl_items.specs.declared.pjl.Word.{Word}
 use Rattle.pcl_items.specs.declared.pjl.Word.TheVariants.{Comment, Job, EndOfJob, Enter}
-use Rattle.pcl_items.specs.PjlLines.Text.{is_blank, is_solid, is_name_byte, is_quotable, Line, Bare, Remark, JobBegins, JobEnds, EnterPcl, name, display, language, pcl, spelling}
+use Rattle.pcl_items.specs.PjlLines.Text.{is_blank, is_solid, is_name_byte, is_quotable, PjlCommand, Bare, Remark, JobBegins, JobEnds, EnterPcl, name, display, language, pcl, spelling}
 
 -- the bytes in front that pass a test, and what stands behind them
 abbrev pub front : (ℕ → Bool) → List ℕ → List ℕ
@@ -84,25 +84,25 @@ word_at text =
     if is_word text (spelling Comment) then Some Comment else if is_word text (spelling Job) then Some Job else if is_word text (spelling EndOfJob) then Some EndOfJob else if is_word text (spelling Enter) then Some Enter else None
 
 -- a word, and the text behind it without blanks at both ends
-abbrev pub with_text : Option Word → List ℕ → Option Line
+abbrev pub with_text : Option Word → List ℕ → Option PjlCommand
 with_text None text = None
 with_text (Some Comment) text = Some (Remark text)
 with_text (Some Job) text = if are_parts true (length text) text then Some (JobBegins text) else None
 with_text (Some EndOfJob) text = if are_parts false 0 text then Some (JobEnds text) else None
 with_text (Some Enter) text = if is_language text then Some EnterPcl else None
 
-unfoldable pub in_words : List ℕ → Option Line
+unfoldable pub in_words : List ℕ → Option PjlCommand
 in_words words = with_text (word_at (front is_solid words)) (past is_blank (past is_solid words))
 
 -- behind `@PJL`, without blanks at the end
-abbrev pub behind_prefix : List ℕ → Option Line
+abbrev pub behind_prefix : List ℕ → Option PjlCommand
 behind_prefix [] = Some Bare
 behind_prefix (b ∷ bytes) = if is_blank b then in_words (past is_blank bytes) else None
 
 -- the line without its newline
-unfoldable pub line_of : List ℕ → Option Line
-line_of [] = None
-line_of (a ∷ []) = None
-line_of (a ∷ b ∷ []) = None
-line_of (a ∷ b ∷ c ∷ []) = None
-line_of (a ∷ b ∷ c ∷ d ∷ bytes) = if (a == 64) && ((b == 80) && ((c == 74) && (d == 76))) then behind_prefix (trimmed bytes) else None
+unfoldable pub pjl_command_of : List ℕ → Option PjlCommand
+pjl_command_of [] = None
+pjl_command_of (a ∷ []) = None
+pjl_command_of (a ∷ b ∷ []) = None
+pjl_command_of (a ∷ b ∷ c ∷ []) = None
+pjl_command_of (a ∷ b ∷ c ∷ d ∷ bytes) = if (a == 64) && ((b == 80) && ((c == 74) && (d == 76))) then behind_prefix (trimmed bytes) else None

@@ -3,7 +3,7 @@ use Rattle.std.specs.Prelude.{◌≡◌, ◌⊎◌, ℕ, List, [], ◌∷◌, �
 use Rattle.pcl_items.specs.Frames.Kinds.{capital}
 use Rattle.pcl_items.specs.declared.pjl.Word.{Word}
 use Rattle.pcl_items.specs.declared.pjl.Word.TheVariants as words
-use Rattle.pcl_items.specs.PjlLines.Text.{is_blank, is_quotable, Line, Bare, Remark, JobBegins, JobEnds, EnterPcl, prefix, name, display, language, pcl, spelling}
+use Rattle.pcl_items.specs.PjlLines.Text.{is_blank, is_quotable, PjlCommand, Bare, Remark, JobBegins, JobEnds, EnterPcl, prefix, name, display, language, pcl, spelling}
 
 -- each byte is of a class
 abbrev pub Each : (ℕ → Bool) → List ℕ → Type 0
@@ -49,7 +49,7 @@ pub data AreParts : Word → List ℕ → Type 0 where
       AreParts word (part ++ b ∷ (blanks ++ parts))
 
 -- what may stand behind a word, and the line that it then is
-pub data IsText : Word → List ℕ → Line → Type 0 where
+pub data IsText : Word → List ℕ → PjlCommand → Type 0 where
   remark : {text : List ℕ} → IsText words.Comment text (Remark text)
   job : IsText words.Job [] (JobBegins [])
   named_job : {text : List ℕ} → AreParts words.Job text → IsText words.Job text (JobBegins text)
@@ -58,13 +58,13 @@ pub data IsText : Word → List ℕ → Line → Type 0 where
   enter : {sign : List ℕ} (title value : List ℕ) → IsWord language title → IsEquals sign → IsWord pcl value → IsText words.Enter (title ++ (sign ++ value)) EnterPcl
 
 -- a word, alone or with a text behind at least a blank
-pub data AreWords : List ℕ → Line → Type 0 where
-  alone : {text : List ℕ} {line : Line} (word : Word) → IsWord (spelling word) text → IsText word [] line → AreWords text line
-  followed : {line : Line} (word : Word) (title : List ℕ) (b : ℕ) (blanks text : List ℕ) → IsWord (spelling word) title → is_blank b ≡ true → AreBlanks blanks → BeginsSolid text →
+pub data AreWords : List ℕ → PjlCommand → Type 0 where
+  alone : {text : List ℕ} {line : PjlCommand} (word : Word) → IsWord (spelling word) text → IsText word [] line → AreWords text line
+  followed : {line : PjlCommand} (word : Word) (title : List ℕ) (b : ℕ) (blanks text : List ℕ) → IsWord (spelling word) title → is_blank b ≡ true → AreBlanks blanks → BeginsSolid text →
       IsText word text line → AreWords (title ++ b ∷ (blanks ++ text)) line
 
 -- a line without its newline
-pub data IsLine : List ℕ → Line → Type 0 where
-  bare : (blanks : List ℕ) → AreBlanks blanks → IsLine (prefix ++ blanks) Bare
-  worded : {words : List ℕ} {line : Line} (b : ℕ) (before after : List ℕ) → is_blank b ≡ true → AreBlanks before → AreWords words line → EndsSolid words → AreBlanks after →
-      IsLine (prefix ++ b ∷ (before ++ (words ++ after))) line
+pub data IsPjlCommand : List ℕ → PjlCommand → Type 0 where
+  bare : (blanks : List ℕ) → AreBlanks blanks → IsPjlCommand (prefix ++ blanks) Bare
+  worded : {words : List ℕ} {line : PjlCommand} (b : ℕ) (before after : List ℕ) → is_blank b ≡ true → AreBlanks before → AreWords words line → EndsSolid words → AreBlanks after →
+      IsPjlCommand (prefix ++ b ∷ (before ++ (words ++ after))) line

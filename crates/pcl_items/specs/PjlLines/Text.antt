@@ -21,20 +21,20 @@ abbrev pub is_inside : ℕ → Bool
 is_inside b = not (b == 10)
 
 -- a line without where its text lies in memory
-pub data Line : Type 0 where
-  Bare : Line
-  Remark : (text : List ℕ) → Line
-  JobBegins : (text : List ℕ) → Line
-  JobEnds : (text : List ℕ) → Line
-  EnterPcl : Line
+pub data PjlCommand : Type 0 where
+  Bare : PjlCommand
+  Remark : (text : List ℕ) → PjlCommand
+  JobBegins : (text : List ℕ) → PjlCommand
+  JobEnds : (text : List ℕ) → PjlCommand
+  EnterPcl : PjlCommand
 
 -- the byte with which a line begins
 abbrev pub at_sign : ℕ
 at_sign = 64
 
-abbrev pub BeginsLine : List ℕ → Type 0
-BeginsLine [] = ⊥
-BeginsLine (b ∷ bytes) = b ≡ at_sign
+abbrev pub BeginsPjl : List ℕ → Type 0
+BeginsPjl [] = ⊥
+BeginsPjl (b ∷ bytes) = b ≡ at_sign
 
 -- `@PJL`
 abbrev pub prefix : List ℕ

@@ -12,7 +12,7 @@ use Rattle.pcl_items.specs.Escapes.Value.{Amount, most, most_data, most_units}
 use Rattle.pcl_items.specs.Escapes.ValueField.{sign_text}
 use Rattle.pcl_items.specs.Items.{Entry, Text, CarriageReturn, LineFeed, FormFeed, Reset, ClearMargins, HalfLineFeed, Parameterized, SymbolSet, DefaultFont, EnterFrame, LeaveFrame, Initialize, Set, Move, WithData, ExitLanguage, PjlLine, at}
 use Rattle.pcl_items.specs.Escapes.SetLetters.{IsSetLetter}
-use Rattle.pcl_items.specs.PjlLines.Canon.{canon_line, IsSpelledLine}
+use Rattle.pcl_items.specs.PjlLines.Canon.{canon_pjl, IsSpelledPjl}
 use Rattle.pcl_items.specs.Grammar.{escape, exit_text, IsUnit, SpellsTo}
 use Rattle.pcl_items.specs.Reading.{ReadsTo, between}
 
@@ -72,7 +72,7 @@ canon (Set setting ten_thousandths) = command_text (mnemonics.Sets setting) (mag
 canon (Move motion to) = command_text (mnemonics.Moves motion) (pair_text to)
 canon (WithData command bytes) = escape ∷ introducer_of (data_group_of command) ∷ character_of (data_group_of command) ∷ (decimal (length bytes) ++ data_letter_of command ∷ bytes)
 canon ExitLanguage = exit_text
-canon (PjlLine line) = canon_line line
+canon (PjlLine line) = canon_pjl line
 
 -- the bytes behind a command that counts them, which end its spelling
 abbrev pub data_of : Entry → List ℕ
@@ -103,12 +103,12 @@ IsItem (Set setting ten_thousandths) = ten_thousandths ≤ most
 IsItem (Move motion to) = IsPair to
 IsItem (WithData command bytes) = length bytes ≤ most_data
 IsItem ExitLanguage = Unit {0}
-IsItem (PjlLine line) = IsSpelledLine line
+IsItem (PjlLine line) = IsSpelledPjl line
 
 -- an item that is no line
-abbrev pub IsNoLine : Entry → Type 0
-IsNoLine (PjlLine line) = ⊥
-IsNoLine item = Unit {0}
+abbrev pub IsNoPjl : Entry → Type 0
+IsNoPjl (PjlLine line) = ⊥
+IsNoPjl item = Unit {0}
 
 -- In a mode its spelling is one unit, which leaves another mode behind it. Whatever bytes follow, that unit is spelled
 -- first and the item is read first, over all of the spelling.

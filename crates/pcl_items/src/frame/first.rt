@@ -6,12 +6,12 @@ ghost use Rattle.pcl_items.specs.Lexing.Contexts.{Single, spaced};
 ghost use Rattle.pcl_items.specs.Lexing.FirstView.{first_view, numbers_view, Within};
 ghost use Rattle.pcl_items.specs.Frames.Reader.{language_in, by_language, after_letter, after_frame_escape, at_frame, single, first_number, first_of_pair, second_of_pair, after_letters, further, ended_by, ended, after_numbers};
 ghost use Rattle.pcl_items.specs.Items.{amount, bare, default_of, simple_view};
-ghost use Rattle.pcl_items.specs.Escapes.Lone.{leave_at};
+ghost use Rattle.pcl_items.specs.Escapes.Ungrouped.{leave_at};
 ghost use Rattle.pcl_items.specs.Frames.NumeralView.{numeral_view, numeral_len};
 
-use crate::fault::{Cause, Name};
+use crate::fault::{LexCause, Name};
 use crate::frame::number::{Numeral, coordinate_in, setting_in};
-use crate::frame::{Coordinate, Coordinates, Gap, Kind, Mnemonic, Motion, Setting, capital};
+use crate::frame::{Coordinates, Gap, Kind, Mnemonic, Motion, PlotterCoordinate, Setting, capital};
 use crate::item::SimpleItem;
 use crate::lexer::first::{Context, EXIT, First, Head, Numbers, begins_exit};
 use crate::number::{Magnitude, Number};
@@ -33,7 +33,7 @@ pub fn at_frame(bytes: &[u8]) -> First
         Kind::White | Kind::Semicolon => First::Passes(1, Context::Frame),
         Kind::Letter => after_letter(*byte, rest),
         Kind::Escape => escaped_in_frame(rest),
-        _ => First::Faulty(Cause::Syntax),
+        _ => First::Faulty(LexCause::Syntax),
     }
 }
 
@@ -45,12 +45,12 @@ fn after_letter(first: u8, bytes: &[u8]) -> First
         return First::Open;
     };
     if Kind::of(*second) != Kind::Letter {
-        return First::Faulty(Cause::Syntax);
+        return First::Faulty(LexCause::Syntax);
     }
     let (a, b) = (capital(first), capital(*second));
     match Mnemonic::of(a, b) {
         Some(mnemonic) => First::Passes(2, Context::Letters(mnemonic, 2)),
-        None => First::Faulty(Cause::NotInProfile(Name::Pair(a, b))),
+        None => First::Faulty(LexCause::NotInProfile(Name::Pair(a, b))),
     }
 }
 
@@ -63,7 +63,7 @@ fn escaped_in_frame(bytes: &[u8]) -> First
         [b'E', ..] => First::Begins(2, Head::Simple(SimpleItem::Reset), Context::Pcl),
         [b'%', rest @ ..] if begins_exit(rest) => EXIT,
         [b'%', rest @ ..] => language(rest),
-        [byte, ..] => First::Faulty(Cause::NotInProfile(Name::Byte(*byte))),
+        [byte, ..] => First::Faulty(LexCause::NotInProfile(Name::Byte(*byte))),
     }
 }
 
@@ -74,7 +74,7 @@ fn language(bytes: &[u8]) -> First
 {
     match field_end(bytes) {
         FieldEnd::Open => First::Open,
-        FieldEnd::BadNumber => First::Faulty(Cause::BadNumber),
+        FieldEnd::BadNumber => First::Faulty(LexCause::BadNumber),
         FieldEnd::Ended(field) => ended_language(field),
     }
 }
@@ -82,15 +82,16 @@ fn language(bytes: &[u8]) -> First
 /// The sequence that a byte ends behind its field.
 fn ended_language(field: EndedField) -> First
     requires { field.len ≤ 16 }
-    ensures first { (all : List ℕ) → first_view all result ≡ by_language (Some (amount field.number)) field.len field.last }
+    ensures first { (all : List ℕ) → first_view all result ≡
+        by_language (Some (amount field.number)) field.len field.last }
     ensures within { Within (field.len + 3) result }
 {
     match field.last {
         64..=94 => match leave_at(field.number, field.last) {
             Some(item) => First::Begins(field.len + 3, Head::Simple(item), Context::Pcl),
-            None => First::Faulty(Cause::NotInProfile(Name::Pair(b'%', field.last))),
+            None => First::Faulty(LexCause::NotInProfile(Name::Pair(b'%', field.last))),
         },
-        _ => First::Faulty(Cause::Syntax),
+        _ => First::Faulty(LexCause::Syntax),
     }
 }
 
@@ -132,7 +133,8 @@ fn default_of(setting: Setting) -> Magnitude
 #[tactic(auto, unfolding(crate::specs::Frames::Reader::after_letters))]
 pub fn after_letters(whole: bool, mnemonic: Mnemonic, begun: u64, bytes: &[u8]) -> First
     requires { begun + length bytes.now ≤ 2 ^ 62 }
-    ensures first { (all : List ℕ) → first_view all result ≡ after_letters whole mnemonic begun bytes.now }
+    ensures first { (all : List ℕ) → first_view all result ≡
+        after_letters whole mnemonic begun bytes.now }
     ensures within { Within (length bytes.now) result }
 {
     let Some(byte) = bytes.first() else {
@@ -148,17 +150,18 @@ pub fn after_letters(whole: bool, mnemonic: Mnemonic, begun: u64, bytes: &[u8]) 
             First::Begins(0, Head::Simple(bare(mnemonic)), Context::Frame)
         }
         Kind::Sign | Kind::Figure => first_number(whole, mnemonic, begun, bytes),
-        Kind::Comma | Kind::Other => First::Faulty(Cause::Syntax),
+        Kind::Comma | Kind::Other => First::Faulty(LexCause::Syntax),
     }
 }
 
 fn first_number(whole: bool, mnemonic: Mnemonic, begun: u64, bytes: &[u8]) -> First
     requires { begun + length bytes.now ≤ 2 ^ 62 }
-    ensures first { (all : List ℕ) → first_view all result ≡ first_number whole mnemonic begun bytes.now }
+    ensures first { (all : List ℕ) → first_view all result ≡
+        first_number whole mnemonic begun bytes.now }
     ensures within { Within (length bytes.now) result }
 {
     match mnemonic {
-        Mnemonic::Initialize => First::Faulty(Cause::BadNumber),
+        Mnemonic::Initialize => First::Faulty(LexCause::BadNumber),
         Mnemonic::Moves(motion) => first_of_pair(begun, motion, coordinate_in(whole, bytes)),
         Mnemonic::Sets(setting) => single(begun, setting, setting_in(whole, bytes)),
     }
@@ -167,7 +170,8 @@ fn first_number(whole: bool, mnemonic: Mnemonic, begun: u64, bytes: &[u8]) -> Fi
 /// The number of a setting.
 fn single(begun: u64, setting: Setting, numeral: Numeral<Magnitude>) -> First
     requires { begun + numeral_len (numeral_view (λ m. m.ten_thousandths) numeral) ≤ 2 ^ 62 }
-    ensures first { (all : List ℕ) → first_view all result ≡ single begun (λ n. Single setting n) (numeral_view (λ m. m.ten_thousandths) numeral) }
+    ensures first { (all : List ℕ) → first_view all result ≡
+        single begun (λ n. Single setting n) (numeral_view (λ m. m.ten_thousandths) numeral) }
     ensures within { Within (numeral_len (numeral_view (λ m. m.ten_thousandths) numeral)) result }
 {
     match numeral {
@@ -184,9 +188,10 @@ fn single(begun: u64, setting: Setting, numeral: Numeral<Magnitude>) -> First
 }
 
 /// The first coordinate of a pair.
-fn first_of_pair(begun: u64, motion: Motion, numeral: Numeral<Coordinate>) -> First
+fn first_of_pair(begun: u64, motion: Motion, numeral: Numeral<PlotterCoordinate>) -> First
     requires { begun + numeral_len (numeral_view (λ x. x.units) numeral) ≤ 2 ^ 62 }
-    ensures first { (all : List ℕ) → first_view all result ≡ first_of_pair begun motion (numeral_view (λ x. x.units) numeral) }
+    ensures first { (all : List ℕ) → first_view all result ≡
+        first_of_pair begun motion (numeral_view (λ x. x.units) numeral) }
     ensures within { Within (numeral_len (numeral_view (λ x. x.units) numeral)) result }
 {
     match numeral {
@@ -203,8 +208,13 @@ fn first_of_pair(begun: u64, motion: Motion, numeral: Numeral<Coordinate>) -> Fi
 }
 
 /// The second one, with which the pair is an item.
-fn second_of_pair(motion: Motion, x: Coordinate, numeral: Numeral<Coordinate>) -> First
-    ensures first { (all : List ℕ) → first_view all result ≡ second_of_pair motion x.units (numeral_view (λ y. y.units) numeral) }
+fn second_of_pair(
+    motion: Motion,
+    x: PlotterCoordinate,
+    numeral: Numeral<PlotterCoordinate>,
+) -> First
+    ensures first { (all : List ℕ) → first_view all result ≡
+        second_of_pair motion x.units (numeral_view (λ y. y.units) numeral) }
     ensures within { Within (numeral_len (numeral_view (λ y. y.units) numeral)) result }
 {
     match numeral {
@@ -227,7 +237,8 @@ fn second_of_pair(motion: Motion, x: Coordinate, numeral: Numeral<Coordinate>) -
 #[tactic(auto, unfolding(crate::specs::Frames::Reader::after_numbers))]
 pub fn after_numbers(whole: bool, numbers: Numbers, gap: Gap, begun: u64, bytes: &[u8]) -> First
     requires { begun + length bytes.now ≤ 2 ^ 62 }
-    ensures first { (all : List ℕ) → first_view all result ≡ after_numbers whole (numbers_view numbers) gap begun bytes.now }
+    ensures first { (all : List ℕ) → first_view all result ≡
+        after_numbers whole (numbers_view numbers) gap begun bytes.now }
     ensures within { Within (length bytes.now) result }
 {
     let Some(byte) = bytes.first() else {
@@ -239,12 +250,12 @@ pub fn after_numbers(whole: bool, numbers: Numbers, gap: Gap, begun: u64, bytes:
     };
     match (Kind::of(*byte), gap) {
         (Kind::White, _) => First::Passes(1, Context::Numbered(numbers, spaced(gap), begun + 1)),
-        (Kind::Comma, Gap::Comma) => First::Faulty(Cause::Syntax),
+        (Kind::Comma, Gap::Comma) => First::Faulty(LexCause::Syntax),
         (Kind::Comma, _) => First::Passes(1, Context::Numbered(numbers, Gap::Comma, begun + 1)),
         (Kind::Semicolon | Kind::Letter | Kind::Escape, _) => ended_by(numbers, gap),
-        (Kind::Figure, Gap::Straight) => First::Faulty(Cause::Syntax),
+        (Kind::Figure, Gap::Straight) => First::Faulty(LexCause::Syntax),
         (Kind::Sign | Kind::Figure, _) => further(whole, numbers, bytes),
-        (Kind::Other, _) => First::Faulty(Cause::Syntax),
+        (Kind::Other, _) => First::Faulty(LexCause::Syntax),
     }
 }
 
@@ -261,11 +272,12 @@ fn spaced(gap: Gap) -> Gap
 /// A further number.
 fn further(whole: bool, numbers: Numbers, bytes: &[u8]) -> First
     requires { length bytes.now ≤ 2 ^ 62 }
-    ensures first { (all : List ℕ) → first_view all result ≡ further whole (numbers_view numbers) bytes.now }
+    ensures first { (all : List ℕ) → first_view all result ≡
+        further whole (numbers_view numbers) bytes.now }
     ensures within { Within (length bytes.now) result }
 {
     match numbers {
-        Numbers::Single(_, _) => First::Faulty(Cause::BadNumber),
+        Numbers::Single(_, _) => First::Faulty(LexCause::BadNumber),
         Numbers::Even(motion) => first_of_pair(0, motion, coordinate_in(whole, bytes)),
         Numbers::Odd(motion, x) => second_of_pair(motion, x, coordinate_in(whole, bytes)),
     }
@@ -277,7 +289,7 @@ fn ended_by(numbers: Numbers, gap: Gap) -> First
     ensures within { Within 0 result }
 {
     match (numbers, gap) {
-        (_, Gap::Comma) => First::Faulty(Cause::Syntax),
+        (_, Gap::Comma) => First::Faulty(LexCause::Syntax),
         (Numbers::Single(setting, number), _) => {
             First::Begins(
                 0,
@@ -285,7 +297,7 @@ fn ended_by(numbers: Numbers, gap: Gap) -> First
                 Context::Frame,
             )
         }
-        (Numbers::Odd(_, _), _) => First::Faulty(Cause::BadNumber),
+        (Numbers::Odd(_, _), _) => First::Faulty(LexCause::BadNumber),
         (Numbers::Even(_), _) => First::Passes(0, Context::Frame),
     }
 }

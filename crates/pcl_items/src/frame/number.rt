@@ -8,8 +8,8 @@ ghost use Rattle.pcl_items.specs.Frames.Number.{numeral_at, has_digit, coordinat
 ghost use Rattle.pcl_items.specs.Frames.NumeralView.{numeral_view, numeral_len};
 ghost use Rattle.pcl_items.specs.Items.{amount};
 
-use crate::fault::Cause;
-use crate::frame::Coordinate;
+use crate::fault::LexCause;
+use crate::frame::PlotterCoordinate;
 use crate::number::{Magnitude, Number, Sign};
 use crate::pcl::field::{
     MOST_CHARACTERS, is_point_at, leading_digits, leading_sign, longest_field,
@@ -18,8 +18,9 @@ use crate::pcl::field::{
 /// A number past the limit of a coordinate, which stands for every such number.
 pub const PAST_COORDINATES: u32 = 8_388_608;
 
-/// A field by what a coordinate needs of it: how many characters it has, its sign, its whole part, past the limit for one
-/// that is past it, whether it has a digit, and whether its decimals are all 0.
+/// A field by what a coordinate needs of it: how many characters it has, its sign, its whole part,
+/// past the limit for one that is past it, whether it has a digit, and whether its decimals are all
+/// 0.
 #[derive(Clone, Copy)]
 pub struct Figures {
     pub len: usize,
@@ -33,7 +34,8 @@ pub struct Figures {
 pub fn longest_figures(bytes: &[u8]) -> Figures
     ensures len { result.len ≡ (field_at bytes.now).len }
     ensures within { result.len ≤ length bytes.now }
-    ensures coordinate { coordinate_by result.sign result.units result.is_whole ≡ coordinate_of (field_at bytes.now) }
+    ensures coordinate { coordinate_by result.sign result.units result.is_whole ≡
+        coordinate_of (field_at bytes.now) }
     ensures digit { result.has_digit ≡ has_digit (field_at bytes.now) }
 {
     let (sign, start) = leading_sign(bytes);
@@ -67,16 +69,17 @@ fn are_zeros(digits: &[u8]) -> bool
 
 impl Figures {
     /// The coordinate that the field stands for, where it is whole and within the limit.
-    pub fn coordinate(self) -> Option<Coordinate>
-        ensures { option_map (λ x. x.units) result ≡ coordinate_by self.sign self.units self.is_whole }
+    pub fn coordinate(self) -> Option<PlotterCoordinate>
+        ensures { option_map (λ x. x.units) result ≡
+            coordinate_by self.sign self.units self.is_whole }
     {
         if self.units >= PAST_COORDINATES || !self.is_whole {
             return None;
         }
         let units = self.units as i32;
         match self.sign {
-            Sign::Minus => Some(Coordinate { units: -units }),
-            Sign::Absent | Sign::Plus => Some(Coordinate { units }),
+            Sign::Minus => Some(PlotterCoordinate { units: -units }),
+            Sign::Absent | Sign::Plus => Some(PlotterCoordinate { units }),
         }
     }
 }
@@ -86,47 +89,48 @@ pub enum Numeral<T> {
     /// The bytes decide no number yet.
     Cut,
     /// No number.
-    Wrong(Cause),
+    Wrong(LexCause),
     /// A number of so many characters.
     Read(T, usize),
 }
 
 /// The coordinate in front.
 #[tactic(auto, unfolding(crate::specs::Frames::Number::numeral_at))]
-pub fn coordinate_in(whole: bool, bytes: &[u8]) -> Numeral<Coordinate>
+pub fn coordinate_in(whole: bool, bytes: &[u8]) -> Numeral<PlotterCoordinate>
     ensures value { numeral_view (λ x. x.units) result ≡ numeral_at coordinate_of whole bytes.now }
     ensures within { numeral_len (numeral_view (λ x. x.units) result) ≤ length bytes.now }
 {
     let figures = longest_figures(bytes);
     if figures.len > MOST_CHARACTERS {
-        return Numeral::Wrong(Cause::BadNumber);
+        return Numeral::Wrong(LexCause::BadNumber);
     }
     match (&bytes[figures.len..], figures.coordinate()) {
         ([], Some(x)) if whole && figures.has_digit => Numeral::Read(x, figures.len),
         ([], _) => Numeral::Cut,
-        _ if !figures.has_digit => Numeral::Wrong(Cause::Syntax),
+        _ if !figures.has_digit => Numeral::Wrong(LexCause::Syntax),
         (_, Some(x)) => Numeral::Read(x, figures.len),
-        (_, None) => Numeral::Wrong(Cause::BadNumber),
+        (_, None) => Numeral::Wrong(LexCause::BadNumber),
     }
 }
 
 /// The number of a setting in front.
 #[tactic(auto, unfolding(crate::specs::Frames::Number::numeral_at))]
 pub fn setting_in(whole: bool, bytes: &[u8]) -> Numeral<Magnitude>
-    ensures value { numeral_view (λ m. m.ten_thousandths) result ≡ numeral_at setting_of whole bytes.now }
+    ensures value { numeral_view (λ m. m.ten_thousandths) result ≡
+        numeral_at setting_of whole bytes.now }
     ensures within { numeral_len (numeral_view (λ m. m.ten_thousandths) result) ≤ length bytes.now }
 {
     let field = longest_field(bytes);
     let digit = longest_figures(bytes).has_digit;
     if field.len > MOST_CHARACTERS {
-        return Numeral::Wrong(Cause::BadNumber);
+        return Numeral::Wrong(LexCause::BadNumber);
     }
     match (&bytes[field.len..], unsigned(field.number())) {
         ([], Some(number)) if whole && digit => Numeral::Read(number, field.len),
         ([], _) => Numeral::Cut,
-        _ if !digit => Numeral::Wrong(Cause::Syntax),
+        _ if !digit => Numeral::Wrong(LexCause::Syntax),
         (_, Some(number)) => Numeral::Read(number, field.len),
-        (_, None) => Numeral::Wrong(Cause::BadNumber),
+        (_, None) => Numeral::Wrong(LexCause::BadNumber),
     }
 }
 

@@ -1,7 +1,8 @@
 //! A pair of coordinates that stands first in a frame.
 //!
-//! A plot is mostly these. What `first_in` answers of one by steps, over its comma or its command's letters and over each
-//! coordinate, is answered here at once. Whatever is written in another way than plots mostly are is left to those steps.
+//! A plot is mostly these. What `first_in` answers of one by steps, over its comma or its command's
+//! letters and over each coordinate, is answered here at once. Whatever is written in another way
+//! than plots mostly are is left to those steps.
 
 ghost use Rattle.std.specs.Prelude.{◌≤◌, ◌+◌, ◌^◌, ℕ, length, IfSome};
 ghost use Rattle.pcl_items.specs.declared.frame.Gap.TheVariants.{Straight};
@@ -10,12 +11,13 @@ ghost use Rattle.pcl_items.specs.Lexing.FirstView.{context_view, numbers_view};
 ghost use Rattle.pcl_items.specs.Frames.Pairs.{IsPairAhead, Leads, LeadsCommand, NamesMotion, HasLetters, IsCoordinateAhead};
 
 use crate::frame::number::{Figures, PAST_COORDINATES};
-use crate::frame::{Coordinate, Coordinates, Gap, Motion};
+use crate::frame::{Coordinates, Gap, Motion, PlotterCoordinate};
 use crate::item::Place;
 use crate::lexer::first::{Context, Numbers};
 use crate::pcl::field::{leading_digits, leading_sign};
 
-/// So many bytes decide a coordinate behind its sign, unless it has more digits than the limit or a point.
+/// So many bytes decide a coordinate behind its sign, unless it has more digits than the limit or a
+/// point.
 const DECIDING: usize = 8;
 
 /// A pair with its motion, where its item stands, and how many bytes there are up to its end.
@@ -27,7 +29,8 @@ pub struct ReadPair {
     pub to: Coordinates,
 }
 
-/// What stands before a pair: its motion, where its item stands, and how many bytes there are up to its first coordinate.
+/// What stands before a pair: its motion, where its item stands, and how many bytes there are up to
+/// its first coordinate.
 #[derive(Clone, Copy)]
 pub struct Lead {
     pub len: usize,
@@ -38,7 +41,7 @@ pub struct Lead {
 /// A coordinate, how many characters it has, and the byte behind it.
 #[derive(Clone, Copy)]
 pub struct ReadCoordinate {
-    pub coordinate: Coordinate,
+    pub coordinate: PlotterCoordinate,
     pub len: usize,
     pub last: u8,
 }
@@ -84,7 +87,8 @@ fn pair_lead(context: Context, place: Place, bytes: &[u8]) -> Option<Lead>
 #[inline(always)]
 fn further_lead(numbers: Numbers, gap: Gap, place: Place, bytes: &[u8]) -> Option<Lead>
     requires { place + length bytes.now ≤ 2 ^ 62 }
-    ensures { (n : ℕ) → IfSome result (λ lead. Leads lead (Numbered (numbers_view numbers) gap n) place bytes.now) }
+    ensures { (n : ℕ) → IfSome result (λ lead.
+        Leads lead (Numbered (numbers_view numbers) gap n) place bytes.now) }
 {
     match (numbers, gap) {
         (Numbers::Even(motion), Gap::Straight) => lead_behind_pair(motion, place, bytes),
@@ -96,7 +100,8 @@ fn further_lead(numbers: Numbers, gap: Gap, place: Place, bytes: &[u8]) -> Optio
 #[inline(always)]
 fn lead_behind_pair(motion: Motion, place: Place, bytes: &[u8]) -> Option<Lead>
     requires { place + length bytes.now ≤ 2 ^ 62 }
-    ensures { (n : ℕ) → IfSome result (λ lead. Leads lead (Numbered (Even motion) Straight n) place bytes.now) }
+    ensures { (n : ℕ) → IfSome result (λ lead.
+        Leads lead (Numbered (Even motion) Straight n) place bytes.now) }
 {
     match bytes {
         [b',', ..] => Some(Lead {

@@ -5,26 +5,25 @@ ghost use Rattle.pcl_items.specs.declared.item.Item.TheVariants.{Text, Simple};
 ghost use Rattle.pcl_items.specs.Items.{Entry, view};
 ghost use Rattle.pcl_items.specs.Spellings.Canon.{canon, data_of};
 ghost use Rattle.pcl_items.specs.Lexing.Contexts.{counted};
-ghost use Rattle.pcl_items.specs.Lexing.FirstView.{context_view, data_len, head_view, HasLine, first_view, Within};
+ghost use Rattle.pcl_items.specs.Lexing.FirstView.{context_view, data_len, head_view, HasPjl, first_view, Within};
 ghost use Rattle.pcl_items.specs.Reader.{first_of};
-ghost use Rattle.pcl_items.specs.declared.lexer.first.Head.TheVariants.{Line};
-ghost use Rattle.pcl_items.specs.PjlLines.View.{line_view};
-ghost use Rattle.pcl_items.specs.Lexing.Ahead.{IsByte, StandsAhead, IsUndecided};
+ghost use Rattle.pcl_items.specs.PjlLines.View.{pjl_view};
+ghost use Rattle.pcl_items.specs.Lexing.Ahead.{StandsFirst, StandsAhead, IsUndecided};
 
 use crate::fault::LexFault;
 use crate::item::{Data, Item, PjlLine, Place, SimpleItem, TextByte};
 use crate::lexer::Lexed;
 use crate::lexer::first::{Context, First, Head, first_in};
 use crate::number::DataCount;
-use crate::pcl::code::control_at;
+use crate::pcl::code::{control_at, sequence_at};
 use crate::pcl::command_with_data::with_data_in;
-use crate::pjl::line_of;
+use crate::pjl::pjl_command_of;
 
 /// The byte of text in front, unless another byte stands there.
 #[inline(always)]
 #[tactic(auto, unfolding(crate::specs::Reader::first_of))]
 pub fn text_in(bytes: &[u8]) -> Option<TextByte>
-    ensures { IfSome result (λ byte. IsByte (Text byte) bytes.now) }
+    ensures { IfSome result (λ byte. StandsFirst (Text byte) 1 bytes.now) }
 {
     match bytes {
         [code @ 32..=255, ..] => Some(TextByte { code: *code }),
@@ -36,11 +35,23 @@ pub fn text_in(bytes: &[u8]) -> Option<TextByte>
 #[inline(always)]
 #[tactic(auto, unfolding(crate::specs::Reader::first_of))]
 pub fn control_in(bytes: &[u8]) -> Option<SimpleItem>
-    ensures { IfSome result (λ item. IsByte (Simple item) bytes.now) }
+    ensures { IfSome result (λ item. StandsFirst (Simple item) 1 bytes.now) }
 {
     match bytes {
-        [32..=255, ..] | [] => None,
+        [b'\x1b' | 32..=255, ..] | [] => None,
         [code, ..] => control_at(*code),
+    }
+}
+
+/// The item of the first two bytes, where these are ESC and the character of a sequence of two.
+#[inline(always)]
+#[tactic(auto, unfolding(crate::specs::Reader::first_of, crate::specs::Reader::after_escape))]
+pub fn sequence_in(bytes: &[u8]) -> Option<SimpleItem>
+    ensures { IfSome result (λ item. StandsFirst (Simple item) 2 bytes.now) }
+{
+    match bytes {
+        [b'\x1b', character, ..] => sequence_at(*character),
+        _ => None,
     }
 }
 
@@ -48,7 +59,7 @@ pub fn control_in(bytes: &[u8]) -> Option<SimpleItem>
 #[inline(always)]
 #[tactic(auto, unfolding(crate::specs::Reader::first_of))]
 pub fn byte_in(bytes: &[u8]) -> Option<Item<'static>>
-    ensures first { IfSome result (λ item. IsByte item bytes.now) }
+    ensures first { IfSome result (λ item. StandsFirst item 1 bytes.now) }
     ensures spelled { IfSome result (λ item. canon (view item) ≡ take 1 bytes.now) }
 {
     match bytes {
@@ -69,7 +80,8 @@ pub struct Ahead {
     pub first: First,
 }
 
-/// What stands first from `start` of the window on, behind white space, letters and numbers of a frame that end no item.
+/// What stands first from `start` of the window on, behind white space, letters and numbers of a
+/// frame that end no item.
 // It is asked where no usual item stands, and is not to crowd the code of those that do.
 #[inline(never)]
 pub fn next_ahead(whole: bool, context: Context, start: usize, window: &[u8]) -> Ahead
@@ -123,17 +135,17 @@ pub fn data_before(count: DataCount, end: usize, window: &[u8]) -> Data<'_>
     }
 }
 
-/// The line that so many bytes in front spell with their newline.
-pub fn line_before(len: usize, bytes: &[u8]) -> PjlLine<'_>
+/// The line of mode PJL that so many bytes in front spell with their newline.
+pub fn pjl_before(len: usize, bytes: &[u8]) -> PjlLine<'_>
     requires inside { len ≤ length bytes.now }
     requires newline { 1 ≤ len }
-    requires line { HasLine Line len bytes.now }
-    ensures { Entry.PjlLine (line_view result.line) ≡ head_view Line len bytes.now }
+    requires line { HasPjl Head.PjlLine len bytes.now }
+    ensures { Entry.PjlLine (pjl_view result.command) ≡ head_view Head.PjlLine len bytes.now }
 {
-    let Some(line) = line_of(&bytes[..len - 1]) else {
+    let Some(command) = pjl_command_of(&bytes[..len - 1]) else {
         unreachable!()
     };
-    PjlLine { line }
+    PjlLine { command }
 }
 
 /// The item of so many bytes in front.
@@ -141,16 +153,17 @@ pub fn line_before(len: usize, bytes: &[u8]) -> PjlLine<'_>
 pub fn with_its_data(head: Head, len: usize, bytes: &[u8]) -> Item<'_>
     requires inside { len ≤ length bytes.now }
     requires there { data_len head ≤ len }
-    requires line { HasLine head len bytes.now }
+    requires line { HasPjl head len bytes.now }
     ensures item { view result ≡ head_view head len bytes.now }
     ensures within { length (data_of (view result)) ≤ len }
-    ensures last { take (len - length (data_of (view result))) bytes.now ++ data_of (view result) ≡ take len bytes.now }
+    ensures last { take (len - length (data_of (view result))) bytes.now ++ data_of (view result) ≡
+        take len bytes.now }
 {
     match head {
         Head::Text(byte) => Item::Text(byte),
         Head::Simple(item) => Item::Simple(item),
         Head::WithData(command, count) => Item::WithData(command, data_before(count, len, bytes)),
-        Head::Line => Item::PjlLine(line_before(len, bytes)),
+        Head::PjlLine => Item::PjlLine(pjl_before(len, bytes)),
     }
 }
 

@@ -2,29 +2,26 @@
 
 ghost use Rattle.std.specs.Prelude.{◌≡◌, ◌≤◌, ◌<◌, ◌+◌, ◌^◌, ◌∷◌, [], List, ℕ, length, drop, Bool, Some};
 ghost use Rattle.std.specs.Option.{option_map};
-ghost use Rattle.pcl_items.specs.Reader.{command_in, behind_lone, without_group, in_group, after_introducer, after_parenthesis, after_escape, by_line, first_of, behind, by_last_byte, by_last_letter, by_other_letter, by_termination, with_data};
+ghost use Rattle.pcl_items.specs.Reader.{command_in, behind_ungrouped, without_group, in_group, after_introducer, after_parenthesis, after_escape, first_of, behind, by_last_byte, by_last_letter, by_other_letter, by_termination, with_data};
 ghost use Rattle.pcl_items.specs.Escapes.Commands.{group_at, data_command_at};
 ghost use Rattle.pcl_items.specs.Items.{amount, simple_view};
-ghost use Rattle.pcl_items.specs.Escapes.Lone.{lone_at};
+ghost use Rattle.pcl_items.specs.Escapes.Ungrouped.{ungrouped_at};
 ghost use Rattle.pcl_items.specs.PjlLines.Exit.{exit_field, begins_with};
-ghost use Rattle.pcl_items.specs.PjlLines.View.{line_view};
-ghost use Rattle.pcl_items.specs.PjlLines.Text.{at_sign};
-ghost use Rattle.pcl_items.specs.PjlLines.First.{at_line};
-ghost use Rattle.pcl_items.specs.Lexing.Contexts.{Pcl, Pjl, counted, item_place};
+ghost use Rattle.pcl_items.specs.Lexing.Contexts.{Pcl, counted, item_place};
 ghost use Rattle.pcl_items.specs.Fault.{cause_at_end};
-ghost use Rattle.pcl_items.specs.Modes.{mode_of, between, behind_line};
+ghost use Rattle.pcl_items.specs.Modes.{mode_of};
 ghost use Rattle.pcl_items.specs.Lexing.FirstView.{context_view, first_view, Within};
 
-use crate::fault::{Cause, Name};
+use crate::fault::{LexCause, Name};
 use crate::frame::first::{after_letters, after_numbers, at_frame};
-use crate::frame::{Coordinate, Gap, Mnemonic, Motion, Setting};
+use crate::frame::{Gap, Mnemonic, Motion, PlotterCoordinate, Setting};
 use crate::item::{Mode, Place, SetLetter, SimpleItem, TextByte};
 use crate::number::{DataCount, Magnitude, Number};
 use crate::pcl::code::{control_at, sequence_at};
 use crate::pcl::command::{Command, DataCommand, Group};
 use crate::pcl::counting::{count_of, handover_of, is_three};
 use crate::pcl::field::{EndedField, FieldEnd, field_end};
-use crate::pjl::{FirstLine, Line, first_line};
+use crate::pjl::first::in_pjl;
 
 /// The numbers of a command of a frame so far.
 #[derive(Clone, Copy)]
@@ -32,7 +29,7 @@ pub enum Numbers {
     /// The one of a setting.
     Single(Setting, Magnitude),
     /// A first coordinate, whose second is due.
-    Odd(Motion, Coordinate),
+    Odd(Motion, PlotterCoordinate),
     /// Whole pairs, which are items already.
     Even(Motion),
 }
@@ -55,7 +52,8 @@ pub enum Context {
 }
 
 impl Context {
-    /// Where the item stands that begins from here, or has begun before: behind whole pairs none has begun.
+    /// Where the item stands that begins from here, or has begun before: behind whole pairs none
+    /// has begun.
     pub fn item_place(self, place: Place) -> Place
         requires { counted (context_view self) ≤ place }
         ensures { result ≡ item_place (context_view self) place }
@@ -80,13 +78,13 @@ impl Context {
     }
 
     /// What the end of all bytes is, where they decide nothing: no bytes are left, or some.
-    pub fn cause_at_end(self, none_left: bool) -> Option<Cause>
+    pub fn cause_at_end(self, none_left: bool) -> Option<LexCause>
         ensures { result ≡ cause_at_end (context_view self) none_left }
     {
         match self {
             Context::Pcl | Context::Pjl if none_left => None,
-            Context::Frame if none_left => Some(Cause::EndInFrame),
-            _ => Some(Cause::Truncated),
+            Context::Frame if none_left => Some(LexCause::EndInFrame),
+            _ => Some(LexCause::Truncated),
         }
     }
 }
@@ -101,7 +99,7 @@ pub enum Head {
     /// A command with so many bytes of data, which end the item.
     WithData(DataCommand, DataCount),
     /// A line of mode PJL. It is read again where its text is lent.
-    Line,
+    PjlLine,
 }
 
 /// The universal exit, of nine bytes.
@@ -109,7 +107,8 @@ pub const EXIT: First = First::Begins(9, Head::Simple(SimpleItem::ExitLanguage),
 
 /// What stands first in bytes.
 ///
-/// The length stands before the item, so that no byte of an item lies where a fault has one, and both stay in registers.
+/// The length stands before the item, so that no byte of an item lies where a fault has one, and
+/// both stay in registers.
 #[derive(Clone, Copy)]
 pub enum First {
     /// No whole item and no fault.
@@ -119,7 +118,7 @@ pub enum First {
     /// So many bytes spell an item, and what stands before the bytes after them.
     Begins(usize, Head, Context),
     /// A fault, in the stead of an item.
-    Faulty(Cause),
+    Faulty(LexCause),
 }
 
 /// What stands first in the bytes, which are all that come or not.
@@ -135,50 +134,7 @@ pub fn first_in(whole: bool, context: Context, bytes: &[u8]) -> First
         Context::Frame => at_frame(bytes),
         Context::Letters(mnemonic, begun) => after_letters(whole, mnemonic, begun, bytes),
         Context::Numbered(numbers, gap, begun) => after_numbers(whole, numbers, gap, begun, bytes),
-        Context::Pjl => between_lines(bytes),
-    }
-}
-
-/// What stands first in mode PJL: a line, or what stands first between the units of mode PCL.
-fn between_lines(bytes: &[u8]) -> First
-    ensures first { (whole : Bool) → first_view bytes.now result ≡ first_of whole Pjl bytes.now }
-    ensures within { Within (length bytes.now) result }
-{
-    if begins_line(bytes) {
-        line_ahead(bytes)
-    } else {
-        first_between(bytes)
-    }
-}
-
-/// What stands first where a line begins.
-fn line_ahead(bytes: &[u8]) -> First
-    ensures first { first_view bytes.now result ≡ by_line (at_line bytes.now) }
-    ensures within { Within (length bytes.now) result }
-{
-    match first_line(bytes) {
-        FirstLine::Open => First::Open,
-        FirstLine::Begins(spelled, len) => {
-            First::Begins(len, Head::Line, behind_line(spelled.line))
-        }
-        FirstLine::Faulty(cause) => First::Faulty(cause),
-    }
-}
-
-/// Whether the bytes begin with `@`.
-pub fn begins_line(bytes: &[u8]) -> bool
-    ensures { result ≡ begins_with (at_sign ∷ []) bytes.now }
-{
-    bytes.starts_with(b"@")
-}
-
-/// What stands before the bytes behind a line.
-fn behind_line(line: Line<'_>) -> Context
-    ensures { context_view result ≡ between (behind_line (line_view line.entry)) }
-{
-    match line {
-        Line::EnterPcl => Context::Pcl,
-        _ => Context::Pjl,
+        Context::Pjl => in_pjl(bytes),
     }
 }
 
@@ -198,7 +154,7 @@ pub fn first_between(bytes: &[u8]) -> First
         [b'\x1b', rest @ ..] => escaped(rest),
         [byte, ..] => match control_at(*byte) {
             Some(item) => First::Begins(1, Head::Simple(item), Context::Pcl),
-            None => First::Faulty(Cause::NotInProfile(Name::Byte(*byte))),
+            None => First::Faulty(LexCause::NotInProfile(Name::Byte(*byte))),
         },
     }
 }
@@ -215,13 +171,13 @@ fn escaped(bytes: &[u8]) -> First
         b'&' | b'*' => introduced(*byte, rest),
         b'(' => parenthesized(rest),
         b'%' if begins_exit(rest) => EXIT,
-        b'%' => lone(b'%', rest),
+        b'%' => ungrouped(b'%', rest),
         character => match sequence_at(character) {
             Some(item) => First::Begins(2, Head::Simple(item), Context::Pcl),
             None if (33..=126).contains(&character) => {
-                First::Faulty(Cause::NotInProfile(Name::Byte(character)))
+                First::Faulty(LexCause::NotInProfile(Name::Byte(character)))
             }
-            None => First::Faulty(Cause::Syntax),
+            None => First::Faulty(LexCause::Syntax),
         },
     }
 }
@@ -235,13 +191,14 @@ pub fn begins_exit(bytes: &[u8]) -> bool
 
 #[tactic(auto, unfolding(crate::specs::Reader::after_introducer))]
 fn introduced(introducer: u8, bytes: &[u8]) -> First
-    ensures first { first_view (27 ∷ introducer ∷ bytes.now) result ≡ after_introducer introducer bytes.now }
+    ensures first { first_view (27 ∷ introducer ∷ bytes.now) result ≡
+        after_introducer introducer bytes.now }
     ensures within { Within (2 + length bytes.now) result }
 {
     match bytes {
         [] => First::Open,
         [character @ 96..=126, rest @ ..] => grouped(introducer, *character, rest),
-        [_, ..] => First::Faulty(Cause::Syntax),
+        [_, ..] => First::Faulty(LexCause::Syntax),
     }
 }
 
@@ -253,17 +210,18 @@ fn parenthesized(bytes: &[u8]) -> First
     match bytes {
         [] => First::Open,
         [character @ 96..=126, rest @ ..] => grouped(b'(', *character, rest),
-        [_, ..] => lone(b'(', bytes),
+        [_, ..] => ungrouped(b'(', bytes),
     }
 }
 
 #[inline(always)]
 fn grouped(introducer: u8, character: u8, bytes: &[u8]) -> First
-    ensures first { first_view (27 ∷ introducer ∷ character ∷ bytes.now) result ≡ in_group (group_at introducer character) introducer character bytes.now }
+    ensures first { first_view (27 ∷ introducer ∷ character ∷ bytes.now) result ≡
+        in_group (group_at introducer character) introducer character bytes.now }
     ensures within { Within (3 + length bytes.now) result }
 {
     match Group::of(introducer, character) {
-        None => First::Faulty(Cause::NotInProfile(Name::Pair(introducer, character))),
+        None => First::Faulty(LexCause::NotInProfile(Name::Pair(introducer, character))),
         Some(group) => match command(group, bytes) {
             First::Begins(len, item, next) => First::Begins(3 + len, item, next),
             First::Passes(len, next) => First::Passes(3 + len, next),
@@ -272,7 +230,8 @@ fn grouped(introducer: u8, character: u8, bytes: &[u8]) -> First
     }
 }
 
-/// The command of a group that stands first behind the group's characters, or behind a command of the group.
+/// The command of a group that stands first behind the group's characters, or behind a command of
+/// the group.
 // Inlined with all that it calls: a raster is mostly these.
 #[inline(always)]
 pub fn command(group: Group, bytes: &[u8]) -> First
@@ -281,7 +240,7 @@ pub fn command(group: Group, bytes: &[u8]) -> First
 {
     match field_end(bytes) {
         FieldEnd::Open => First::Open,
-        FieldEnd::BadNumber => First::Faulty(Cause::BadNumber),
+        FieldEnd::BadNumber => First::Faulty(LexCause::BadNumber),
         FieldEnd::Ended(field) => ended_command(group, field, bytes),
     }
 }
@@ -291,26 +250,29 @@ pub fn command(group: Group, bytes: &[u8]) -> First
 fn ended_command(group: Group, field: EndedField, bytes: &[u8]) -> First
     requires short { field.len ≤ 16 }
     requires within { field.len < length bytes.now }
-    ensures first { first_view bytes.now result ≡ by_last_byte (Some (amount field.number)) group field.len field.last (drop (field.len + 1) bytes.now) }
+    ensures first { first_view bytes.now result ≡
+        by_last_byte (Some (amount field.number)) group field.len field.last
+        (drop (field.len + 1) bytes.now) }
     ensures within { Within (length bytes.now) result }
 {
     let len = field.len + 1;
     match field.last {
         96..=126 => other_command(group, field.last - 32, field.number, len),
         64..=94 => last_command(group, field.last, field.number, len, bytes),
-        _ => First::Faulty(Cause::Syntax),
+        _ => First::Faulty(LexCause::Syntax),
     }
 }
 
 /// A command that a parameter character ends: one with data may not.
 #[inline(always)]
 fn other_command(group: Group, letter: u8, number: Number, len: usize) -> First
-    ensures first { (bytes : List ℕ) → first_view bytes result ≡ by_other_letter (data_command_at group letter) group letter (amount number) len }
+    ensures first { (bytes : List ℕ) → first_view bytes result ≡
+        by_other_letter (data_command_at group letter) group letter (amount number) len }
     ensures within { Within len result }
 {
     match (DataCommand::of(group, letter), Command::of(group, letter)) {
-        (Some(_), _) => First::Faulty(Cause::Syntax),
-        (None, None) => First::Faulty(Cause::NotInProfile(Name::Command(group, letter))),
+        (Some(_), _) => First::Faulty(LexCause::Syntax),
+        (None, None) => First::Faulty(LexCause::NotInProfile(Name::Command(group, letter))),
         (None, Some(command)) => First::Begins(
             len,
             Head::Simple(SimpleItem::Parameterized(command, number)),
@@ -323,12 +285,14 @@ fn other_command(group: Group, letter: u8, number: Number, len: usize) -> First
 #[inline(always)]
 fn last_command(group: Group, letter: u8, number: Number, len: usize, bytes: &[u8]) -> First
     requires { len ≤ length bytes.now }
-    ensures first { first_view bytes.now result ≡ by_last_letter (data_command_at group letter) group letter (amount number) len (drop len bytes.now) }
+    ensures first { first_view bytes.now result ≡
+        by_last_letter (data_command_at group letter) group letter (amount number) len
+        (drop len bytes.now) }
     ensures within { Within (length bytes.now) result }
 {
     match (DataCommand::of(group, letter), Command::of(group, letter)) {
         (Some(command), _) => with_data(command, count_of(number), len, bytes),
-        (None, None) => First::Faulty(Cause::NotInProfile(Name::Command(group, letter))),
+        (None, None) => First::Faulty(LexCause::NotInProfile(Name::Command(group, letter))),
         (None, Some(command)) => First::Begins(
             len,
             Head::Simple(SimpleItem::Parameterized(command, number)),
@@ -340,11 +304,12 @@ fn last_command(group: Group, letter: u8, number: Number, len: usize, bytes: &[u
 /// A command of `len` bytes, with its data behind it.
 fn with_data(command: DataCommand, count: Option<DataCount>, len: usize, bytes: &[u8]) -> First
     requires { len ≤ length bytes.now }
-    ensures first { first_view bytes.now result ≡ with_data command (option_map (λ c. c.bytes) count) len (drop len bytes.now) }
+    ensures first { first_view bytes.now result ≡
+        with_data command (option_map (λ c. c.bytes) count) len (drop len bytes.now) }
     ensures within { Within (length bytes.now) result }
 {
     match count {
-        None => First::Faulty(Cause::BadNumber),
+        None => First::Faulty(LexCause::BadNumber),
         Some(count) if bytes.len() - len < usize::from(count.bytes) => First::Open,
         Some(count) => First::Begins(
             len + usize::from(count.bytes),
@@ -355,35 +320,36 @@ fn with_data(command: DataCommand, count: Option<DataCount>, len: usize, bytes: 
 }
 
 /// The sequence without a group that stands first behind its introducer.
-fn lone(introducer: u8, bytes: &[u8]) -> First
+fn ungrouped(introducer: u8, bytes: &[u8]) -> First
     ensures first { (all : List ℕ) → first_view all result ≡ without_group introducer bytes.now }
     ensures within { Within (2 + length bytes.now) result }
 {
     match field_end(bytes) {
         FieldEnd::Open => First::Open,
-        FieldEnd::BadNumber => First::Faulty(Cause::BadNumber),
-        FieldEnd::Ended(field) => ended_lone(introducer, field),
+        FieldEnd::BadNumber => First::Faulty(LexCause::BadNumber),
+        FieldEnd::Ended(field) => ended_ungrouped(introducer, field),
     }
 }
 
 /// The sequence without a group that a byte ends behind its field.
-fn ended_lone(introducer: u8, field: EndedField) -> First
+fn ended_ungrouped(introducer: u8, field: EndedField) -> First
     requires { field.len ≤ 16 }
-    ensures first { (all : List ℕ) → first_view all result ≡ by_termination (Some (amount field.number)) introducer field.len field.last }
+    ensures first { (all : List ℕ) → first_view all result ≡
+        by_termination (Some (amount field.number)) introducer field.len field.last }
     ensures within { Within (field.len + 3) result }
 {
     match field.last {
-        64..=94 => match lone_at(introducer, field.number, field.last) {
-            Some(item) => First::Begins(field.len + 3, Head::Simple(item), behind_lone(item)),
-            None => First::Faulty(Cause::NotInProfile(Name::Pair(introducer, field.last))),
+        64..=94 => match ungrouped_at(introducer, field.number, field.last) {
+            Some(item) => First::Begins(field.len + 3, Head::Simple(item), behind_ungrouped(item)),
+            None => First::Faulty(LexCause::NotInProfile(Name::Pair(introducer, field.last))),
         },
-        _ => First::Faulty(Cause::Syntax),
+        _ => First::Faulty(LexCause::Syntax),
     }
 }
 
 /// The item of an introducer, a number and a termination character.
-fn lone_at(introducer: u8, number: Number, letter: u8) -> Option<SimpleItem>
-    ensures { option_map simple_view result ≡ lone_at introducer (amount number) letter }
+fn ungrouped_at(introducer: u8, number: Number, letter: u8) -> Option<SimpleItem>
+    ensures { option_map simple_view result ≡ ungrouped_at introducer (amount number) letter }
 {
     match (introducer, letter) {
         (b'(', b'A'..=b'W' | b'Y' | b'Z') => {
@@ -397,8 +363,8 @@ fn lone_at(introducer: u8, number: Number, letter: u8) -> Option<SimpleItem>
 }
 
 /// What stands before the bytes behind such an item.
-fn behind_lone(item: SimpleItem) -> Context
-    ensures { context_view result ≡ behind_lone (simple_view item) }
+fn behind_ungrouped(item: SimpleItem) -> Context
+    ensures { context_view result ≡ behind_ungrouped (simple_view item) }
 {
     match item {
         SimpleItem::EnterFrame(_) => Context::Frame,

@@ -21,6 +21,7 @@ pub fn control_at(code: u8) -> Option<SimpleItem>
 }
 
 /// The item of ESC and a character.
+#[inline(always)]
 pub fn sequence_at(character: u8) -> Option<SimpleItem>
     ensures { option_map simple_view result ≡ sequence_at character }
 {

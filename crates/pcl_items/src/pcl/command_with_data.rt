@@ -11,7 +11,8 @@ use crate::lexer::first::{Context, First, Head, command};
 use crate::number::DataCount;
 use crate::pcl::command::{DataCommand, Group};
 
-/// A command and how many bytes of data it has, how many bytes spell both, and what stands before the bytes after them.
+/// A command and how many bytes of data it has, how many bytes spell both, and what stands before
+/// the bytes after them.
 #[derive(Clone, Copy)]
 pub struct ReadWithData {
     pub len: usize,
@@ -54,7 +55,8 @@ fn escaped(bytes: &[u8]) -> Option<ReadWithData>
     }
 }
 
-/// The command with data that stands first behind the characters of its group, or behind a command of the group.
+/// The command with data that stands first behind the characters of its group, or behind a command
+/// of the group.
 #[inline(always)]
 fn in_group(group: Group, bytes: &[u8]) -> Option<ReadWithData>
     ensures { IfSome result (λ read. IsInGroupWithData read group bytes.now) }

@@ -3,7 +3,7 @@
 ghost use Rattle.std.specs.Prelude.{◌≡◌, ◌≤◌};
 ghost use Rattle.std.specs.Option.{option_map};
 ghost use Rattle.pcl_items.specs.Items.{amount};
-ghost use Rattle.pcl_items.specs.Escapes.Lone.{is_minus, is_three, handover_of, count_of};
+ghost use Rattle.pcl_items.specs.Escapes.Ungrouped.{is_minus, is_three, handover_of, count_of};
 
 use crate::frame::Handover;
 use crate::number::{DataCount, Number, Sign};

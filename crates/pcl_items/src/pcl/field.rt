@@ -18,8 +18,8 @@ const PAST_LIMIT: u32 = 65_536;
 /// The most ten-thousandths of a number.
 pub const MOST_TEN_THOUSANDTHS: u32 = 655_350_000;
 
-/// A value field: how many characters it has, its sign, and its magnitude in ten-thousandths, past the limit for one that has
-/// no number.
+/// A value field: how many characters it has, its sign, and its magnitude in ten-thousandths, past
+/// the limit for one that has no number.
 ///
 /// An `Option<Number>` in their place would be put together and taken apart again for each command.
 #[derive(Clone, Copy)]
@@ -81,7 +81,8 @@ struct Decimals {
 }
 
 /// How the longest field in front ends.
-// Inlined with all that it calls, so that its answer is never put together: a job is mostly commands.
+// Inlined with all that it calls, so that its answer is never put together: a job is mostly
+// commands.
 #[inline(always)]
 #[tactic(auto, unfolding(crate::specs::Escapes::FieldEnd::field_end))]
 pub fn field_end(bytes: &[u8]) -> FieldEnd
@@ -113,7 +114,8 @@ pub fn field_end(bytes: &[u8]) -> FieldEnd
 #[inline(always)]
 pub fn longest_field(bytes: &[u8]) -> Field
     ensures len { result.len ≡ (field_at bytes.now).len }
-    ensures number { within_limit result.sign result.ten_thousandths ≡ amount_of (field_at bytes.now) }
+    ensures number { within_limit result.sign result.ten_thousandths ≡
+        amount_of (field_at bytes.now) }
     ensures within { result.len ≤ length bytes.now }
 {
     let (sign, start) = leading_sign(bytes);
@@ -129,7 +131,8 @@ pub fn longest_field(bytes: &[u8]) -> Field
     }
 }
 
-/// The field of a sign, a whole number and a point, so many characters together, and of the decimals in front of the bytes.
+/// The field of a sign, a whole number and a point, so many characters together, and of the
+/// decimals in front of the bytes.
 // Inlined, with the room for the answer of the call: so fields without a point clear none.
 #[inline(always)]
 fn with_decimals(sign: Sign, whole: u32, len: usize, bytes: &[u8]) -> Field
@@ -197,7 +200,8 @@ pub fn leading_digits(bytes: &[u8], past: u32) -> Digits
     }
 }
 
-// The decimals in front, behind a whole number: each is worth a tenth of the one before, and the fifth nothing.
+// The decimals in front, behind a whole number: each is worth a tenth of the one before, and the
+// fifth nothing.
 #[inline(never)]
 fn leading_decimals(whole: u32, bytes: &[u8]) -> Decimals
     requires { whole ≤ 65_536 }

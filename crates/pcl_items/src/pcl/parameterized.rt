@@ -1,7 +1,7 @@
 //! A parameterized command that stands first.
 //!
-//! A job is mostly these. What `first_in` answers of them is answered here in a shape of its own, which stays in registers
-//! where an answer of several shapes goes through memory.
+//! A job is mostly these. What `first_in` answers of them is answered here in a shape of its own,
+//! which stays in registers where an answer of several shapes goes through memory.
 
 ghost use Rattle.std.specs.Prelude.{◌≤◌, ◌∷◌, length, IfSome};
 ghost use Rattle.pcl_items.specs.Lexing.Contexts.{Pcl};
@@ -60,7 +60,8 @@ fn escaped(bytes: &[u8]) -> Option<ReadCommand>
     }
 }
 
-/// The command of a group that stands first behind the group's characters, or behind a command of the group.
+/// The command of a group that stands first behind the group's characters, or behind a command of
+/// the group.
 #[inline(always)]
 fn command(group: Group, bytes: &[u8]) -> Option<ReadCommand>
     ensures { IfSome result (λ read. IsInGroup read group bytes.now) }

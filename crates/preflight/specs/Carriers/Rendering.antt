@@ -1,6 +1,6 @@
 -- How the items of a job are rendered one after another: what was put of the text that is due, and what is still due.
 use Rattle.std.specs.Prelude.{◌≡◌, ℕ, List, [], ◌∷◌, ◌++◌, Bool, Option, None, Some, IsSome, Result, Ok, Err}
-use Rattle.pcl_items.specs.declared.fault.Cause.{Cause}
+use Rattle.pcl_items.specs.declared.fault.LexCause.{LexCause}
 use Rattle.pcl_items.specs.declared.item.Mode.{Mode}
 use Rattle.pcl_items.specs.Grammar.{follows}
 use Rattle.pcl_items.specs.Items.{Entry, Placed}
@@ -32,7 +32,7 @@ PutsKept old new kept kept' (Err e) = AddsFront old new kept
 pub record RestGoesOn (old new : Rendering) (x : Placed) (text : List ℕ) : Type 0 where
   pub due : (rest : Reading) → old.text (with_item x rest) ≡ text ++ new.text rest
   pub outcome : (rest : Reading) → old.outcome (with_item x rest) ≡ new.outcome rest
-  pub fault : (rest : List Placed) (place : ℕ) (cause : Cause) → old.at_fault (x ∷ rest) place cause ≡ new.at_fault rest place cause
+  pub fault : (rest : List Placed) (place : ℕ) (cause : LexCause) → old.at_fault (x ∷ rest) place cause ≡ new.at_fault rest place cause
 
 -- on each of these readings the text is all that is due, and this comes of it
 pub record EndsWith (rendering : Rendering) (Is : Reading → Type 0) (text : List ℕ) (outcome : Outcome) : Type 0 where
@@ -83,7 +83,7 @@ pub record HasRendered (first : Rendering) (start : OutletState) (bytes : List �
   pub puts : Puts start written [] kept text
   pub due : (rest : Reading) → first.text (behind items rest) ≡ text ++ rendering.text rest
   pub outcome : (rest : Reading) → first.outcome (behind items rest) ≡ rendering.outcome rest
-  pub fault : (rest : List Placed) (place : ℕ) (cause : Cause) → first.at_fault (items ++ rest) place cause ≡ rendering.at_fault rest place cause
+  pub fault : (rest : List Placed) (place : ℕ) (cause : LexCause) → first.at_fault (items ++ rest) place cause ≡ rendering.at_fault rest place cause
 
 -- what was put is due for every job that the bytes may be
 abbrev pub HasEnded : Rendering → OutletState → Bool → List ℕ → OutletState → List ℕ → Outcome → Type 0

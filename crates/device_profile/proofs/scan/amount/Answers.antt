@@ -1,6 +1,6 @@
 use Rattle.std.proofs.Common.{◌≡◌, ◌<◌, ◌+◌, ◌-◌, ◌*◌, Some, None, option_map, length, take, drop, ap, sym, ◌∙◌, rules, arith}
 use Rattle.device_profile.specs.Words.{number_of, decimals_of, amount_of}
-use Rattle.device_profile.proofs.AmountLemmas.{amount-none, amount-of_number, amount-of_decimals}
+use Rattle.device_profile.proofs.Amounts.{amount-none, amount-of_number, amount-of_decimals}
 use Rattle.device_profile.proofs.scan.amount.Goals as goal
 
 pub returns-in_err-number : goal.returns-in_err-number

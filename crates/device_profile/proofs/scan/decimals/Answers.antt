@@ -1,6 +1,6 @@
 use Rattle.std.proofs.Common.{◌≡◌, ◌≤◌, ◌-◌, ◌^◌, None, length, rules, arith}
 use Rattle.device_profile.specs.Words.{number_of, decimals_of}
-use Rattle.device_profile.proofs.AmountLemmas.{last_place, some_decimals, none_decimals}
+use Rattle.device_profile.proofs.Amounts.{last_place, some_decimals, none_decimals}
 use Rattle.device_profile.proofs.scan.decimals.Goals as goal
 use Rattle.device_profile.proofs.scan.decimals.Goals.{in-1, in-2, in-3, in-4}
 

@@ -1,7 +1,7 @@
 use Rattle.std.proofs.Common.{◌+◌, ◌-◌, ◌<◌, ap, sym, ◌∙◌, ◌∷◌, take, drop, length, rules, arith, subst}
 use Rattle.std.proofs.lemmas.List.{take_all}
 use Rattle.std.specs.Str.Lines.{lines}
-use Rattle.device_profile.proofs.ScanLemmas.{Lacks, lines-cut, lines-whole}
+use Rattle.device_profile.proofs.ScanFacts.{Lacks, lines-cut, lines-whole}
 use Rattle.device_profile.proofs.scan.next_line.Goals as goal
 
 pub returns-then-end-text-clause-line : goal.returns-then-end-text-clause-line

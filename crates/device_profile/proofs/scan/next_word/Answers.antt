@@ -1,5 +1,5 @@
 use Rattle.std.proofs.Common.{◌<◌, ◌∙◌, sym, rules}
-use Rattle.device_profile.proofs.ScanLemmas.{place-positive, words-cut}
+use Rattle.device_profile.proofs.ScanFacts.{place-positive, words-cut}
 use Rattle.device_profile.proofs.scan.next_word.Goals as goal
 
 pub returns-clause-word : goal.returns-clause-word

@@ -1,13 +1,15 @@
 use Rattle.std.proofs.Common.{[], None, Some, ap, sym, ◌∙◌, refl, cond, is_some, ◌<◌, suc, arith}
 use Rattle.device_profile.specs.declared.panel.Panel.{Panel}
-use Rattle.pcl_items.specs.Items.{view, amount}
+use Rattle.pcl_items.specs.Items.{view, amount, simple_view}
 use Rattle.page_env.specs.declared.finding.Finding.TheVariants.{InMacro}
-use Rattle.page_env.specs.Answers.{Changes, Marks, changed, effect_at}
+use Rattle.page_env.specs.Action.{page_view}
+use Rattle.page_env.specs.Answers.{CarriesOut, Changes, Marks, changed, effect_at}
 use Rattle.page_env.specs.Settings.{State, settings_at, state_at}
 use Rattle.page_machine.specs.declared.nesting.Nesting.TheVariants.{Overlaid}
 use Rattle.page_machine.specs.Run.{Run, followed_by, just, Done, Halts, goes, peaks_of, marked_close, close_and_change, effect_run, item_run, entries_run}
 use Rattle.page_machine.specs.Macros.{put_back, give_up, refused, at_level, raster_ended, ended, overlay_run, body_run, macro_item_run, control_body, close_in}
 use Rattle.page_machine.specs.Machine.{context_with, conditions_with}
+use Rattle.page_machine.proofs.AtOnce.{item_run-begun, page_run}
 use Rattle.page_machine.proofs.Cases.{page_close-deep, page_close-unset, page_close-passes, overlay_run-unknown, overlay_run-found, marked_close-marked, marked_close-unmarked, control_run-found, control_run-goes, execute-is, call-is, no_body, executed_body, called_body, body_run-none, body_run-some, entries_run-end, entries_run-next}
 use Rattle.page_machine.proofs.Composed.{Follows-handed, TakesUpTo-none, TakesUpTo-is, TakesUpTo-rest, TakesUpTo-first, TakesUpTo-after, TakesUpTo-done, Follows-done, Follows-found, Follows-is, Follows-step, Follows-stepped, Follows-onward, Follows-overlay_stopped, Follows-stopped, Follows-took, Follows-after, Follows-put_back, Follows-call_stopped, Follows-give_up}
 use Rattle.page_machine.proofs.carrying.+run.Goals as goal
@@ -100,24 +102,38 @@ run_body-returns g t c = λ level.
 pub run_items-loop-item-init : goal.run_items-loop-item-init
 run_items-loop-item-init g t c = λ level. TakesUpTo-none _ g.S.MarkSink.refuses _ _ _ (λ panel. refl)
 
-pub run_items-returns-in_default : goal.run_items-returns-in_default
-run_items-returns-in_default g t c = λ level.
+pub run_items-returns-in_default-next : goal.run_items-returns-in_default-next
+run_items-returns-in_default-next g t c = λ level.
     Follows-took _ _ _ _ _ c.loop-item.page _ _
-    (TakesUpTo-rest _ g.S.MarkSink.refuses _ _ _ _ _ (λ panel. entries_run-end (macro_item_run c.args.around.now.profile.now (conditions_with c.args.around.now level panel)) c.loop-item.body (state_at panel c.loop-item.page) c.in_default.ensures.0) (c.loop-item.invariant level))
+    (TakesUpTo-rest _ g.S.MarkSink.refuses _ _ _ _ _ (λ panel. entries_run-end (macro_item_run c.args.around.now.profile.now (conditions_with c.args.around.now level panel)) c.loop-item.body (state_at panel c.loop-item.page) (sym c.in_default.ensures.none ∙ c.in_default-next.ensures.0)) (c.loop-item.invariant level))
+
+pub run_items-loop-item-preserved-in-Some : goal.run_items-loop-item-preserved-in-Some
+run_items-loop-item-preserved-in-Some g t c = λ level.
+    TakesUpTo-after _ g.S.MarkSink.refuses _ _ _ _ _ _ (c.loop-item.invariant level)
+    (TakesUpTo-is _ g.S.MarkSink.refuses _ _ _ _ _ (λ panel. entries_run-next (macro_item_run c.args.around.now.profile.now (conditions_with c.args.around.now level panel)) c.loop-item.body c.next_command.new.self (simple_view c.in-Some.item) (state_at panel c.loop-item.page) (c.in-Some.ensures.some))
+    (TakesUpTo-first _ g.S.MarkSink.refuses _ _ (λ panel. macro_item_run c.args.around.now.profile.now (conditions_with c.args.around.now level panel) (simple_view c.in-Some.item) (state_at panel c.loop-item.page)) (λ panel. state_at panel c.run_macro_item.new.page) (λ panel. entries_run (macro_item_run c.args.around.now.profile.now (conditions_with c.args.around.now level panel)) c.next_command.new.self)
+    (TakesUpTo-done _ g.S.MarkSink.refuses _ _ _ c.run_macro_item.new.page _ _ (c.in_ok-run_macro_item.ensures level))))
 
 pub run_items-loop-item-preserved : goal.run_items-loop-item-preserved
 run_items-loop-item-preserved g t c = λ level.
     TakesUpTo-after _ g.S.MarkSink.refuses _ _ _ _ _ _ (c.loop-item.invariant level)
-    (TakesUpTo-is _ g.S.MarkSink.refuses _ _ _ _ _ (λ panel. entries_run-next (macro_item_run c.args.around.now.profile.now (conditions_with c.args.around.now level panel)) c.loop-item.body c.next.new.self (view c.in-Some.item) (state_at panel c.loop-item.page) c.in-Some.ensures)
-    (TakesUpTo-first _ g.S.MarkSink.refuses _ _ (λ panel. macro_item_run c.args.around.now.profile.now (conditions_with c.args.around.now level panel) (view c.in-Some.item) (state_at panel c.loop-item.page)) (λ panel. state_at panel c.run_macro_item.new.page) (λ panel. entries_run (macro_item_run c.args.around.now.profile.now (conditions_with c.args.around.now level panel)) c.next.new.self)
-    (TakesUpTo-done _ g.S.MarkSink.refuses _ _ _ c.run_macro_item.new.page _ _ (c.in_ok-run_macro_item.ensures level))))
+    (TakesUpTo-is _ g.S.MarkSink.refuses _ _ _ _ _ (λ panel. entries_run-next (macro_item_run c.args.around.now.profile.now (conditions_with c.args.around.now level panel)) c.loop-item.body c.next.new.self (view c.in-Some-next.item) (state_at panel c.loop-item.page) (sym c.in_default.ensures.none ∙ c.in-Some-next.ensures))
+    (TakesUpTo-first _ g.S.MarkSink.refuses _ _ (λ panel. macro_item_run c.args.around.now.profile.now (conditions_with c.args.around.now level panel) (view c.in-Some-next.item) (state_at panel c.loop-item.page)) (λ panel. state_at panel c.run_macro_item-in-loop-item.new.page) (λ panel. entries_run (macro_item_run c.args.around.now.profile.now (conditions_with c.args.around.now level panel)) c.next.new.self)
+    (TakesUpTo-done _ g.S.MarkSink.refuses _ _ _ c.run_macro_item-in-loop-item.new.page _ _ (c.in_ok-run_macro_item-2.ensures level))))
 
 pub run_items-returns-in_err-run_macro_item : goal.run_items-returns-in_err-run_macro_item
 run_items-returns-in_err-run_macro_item g t c = λ level.
     Follows-handed _ _ _ _ _ _ _ c.in_err-run_macro_item.field-0.0 c.from_residual.result c.from_residual.ensures.1
     (Follows-after _ _ _ _ _ _ c.run_macro_item.new.page _ _ _ (c.loop-item.invariant level)
-    (Follows-is _ _ _ _ _ _ _ _ _ (λ panel. entries_run-next (macro_item_run c.args.around.now.profile.now (conditions_with c.args.around.now level panel)) c.loop-item.body c.next.new.self (view c.in-Some.item) (state_at panel c.loop-item.page) c.in-Some.ensures)
-    (Follows-stopped _ _ _ _ _ c.run_macro_item.new.page _ (λ panel. macro_item_run c.args.around.now.profile.now (conditions_with c.args.around.now level panel) (view c.in-Some.item) (state_at panel c.loop-item.page)) (λ panel. entries_run (macro_item_run c.args.around.now.profile.now (conditions_with c.args.around.now level panel)) c.next.new.self) _ (c.in_err-run_macro_item.ensures level))))
+    (Follows-is _ _ _ _ _ _ _ _ _ (λ panel. entries_run-next (macro_item_run c.args.around.now.profile.now (conditions_with c.args.around.now level panel)) c.loop-item.body c.next_command.new.self (simple_view c.in-Some.item) (state_at panel c.loop-item.page) (c.in-Some.ensures.some))
+    (Follows-stopped _ _ _ _ _ c.run_macro_item.new.page _ (λ panel. macro_item_run c.args.around.now.profile.now (conditions_with c.args.around.now level panel) (simple_view c.in-Some.item) (state_at panel c.loop-item.page)) (λ panel. entries_run (macro_item_run c.args.around.now.profile.now (conditions_with c.args.around.now level panel)) c.next_command.new.self) _ (c.in_err-run_macro_item.ensures level))))
+
+pub run_items-returns-in_err-run_macro_item-2 : goal.run_items-returns-in_err-run_macro_item-2
+run_items-returns-in_err-run_macro_item-2 g t c = λ level.
+    Follows-handed _ _ _ _ _ _ _ c.in_err-run_macro_item-2.field-0.0 c.from_residual-in_err-run_macro_item-2.result c.from_residual-in_err-run_macro_item-2.ensures.1
+    (Follows-after _ _ _ _ _ _ c.run_macro_item-in-loop-item.new.page _ _ _ (c.loop-item.invariant level)
+    (Follows-is _ _ _ _ _ _ _ _ _ (λ panel. entries_run-next (macro_item_run c.args.around.now.profile.now (conditions_with c.args.around.now level panel)) c.loop-item.body c.next.new.self (view c.in-Some-next.item) (state_at panel c.loop-item.page) (sym c.in_default.ensures.none ∙ c.in-Some-next.ensures))
+    (Follows-stopped _ _ _ _ _ c.run_macro_item-in-loop-item.new.page _ (λ panel. macro_item_run c.args.around.now.profile.now (conditions_with c.args.around.now level panel) (view c.in-Some-next.item) (state_at panel c.loop-item.page)) (λ panel. entries_run (macro_item_run c.args.around.now.profile.now (conditions_with c.args.around.now level panel)) c.next.new.self) _ (c.in_err-run_macro_item-2.ensures level))))
 
 pub run_macro_item-returns-in-Err : goal.run_macro_item-returns-in-Err
 unfolding Marks
@@ -226,16 +242,22 @@ close_and_change-returns g t c = λ level.
 
 -- ---- items
 
-pub run_other-returns : goal.run_other-returns
-run_other-returns g t c = λ level.
-    Follows-is _ _ _ _ _ _ _ _ _ (λ panel. c.run_own_step-carried.ensures.runs (conditions_with c.args.around.now level panel) panel)
-    (c.go_on.ensures level (λ panel. effect_at panel (settings_at panel c.args.around.now.defaults.now) c.run_own_step-carried.new.page c.run_own_step-carried.result) (λ panel. refl))
+pub run_page_item-returns : goal.run_page_item-returns
+unfolding CarriesOut
+run_page_item-returns g t c = λ level.
+    Follows-is _ _ _ _ _ _ _ _ _
+    (λ panel. page_run c.args.around.now.profile.now (conditions_with c.args.around.now level panel) c.args.item (state_at panel c.args.page.now)
+    ∙ ap (effect_run (conditions_with c.args.around.now level panel)) (c.carry_out_page_item-carried.ensures panel (settings_at panel c.args.around.now.defaults.now)))
+    (c.go_on.ensures level (λ panel. effect_at panel (settings_at panel c.args.around.now.defaults.now) c.carry_out_page_item-carried.new.page c.carry_out_page_item-carried.result) (λ panel. refl))
 
-pub run_next-returns-in-Some : goal.run_next-returns-in-Some
-run_next-returns-in-Some g t c = λ level. c.in-Some.ensures.1 (conditions_with c.args.around.now level)
+pub run_next-returns-in-Ended : goal.run_next-returns-in-Ended
+run_next-returns-in-Ended g t c = λ level. c.in-Ended.ensures.1 (conditions_with c.args.around.now level)
 
-pub run_next-returns-in-None : goal.run_next-returns-in-None
-run_next-returns-in-None g t c = λ level. rw (c.in-None.ensures.0, c.in-None.ensures.1) at c.run_other.ensures level
+pub run_next-returns-in-Left : goal.run_next-returns-in-Left
+run_next-returns-in-Left g t c = λ level.
+    Follows-is _ _ _ _ _ _ _ _ _
+    (λ panel. item_run-begun (view c.args.item.now) c.args.page.now c.run_at_once.new.page c.in-Left.ensures.2 c.args.around.now.profile.now (conditions_with c.args.around.now level panel) panel (page_view c.in-Left.item) c.run_at_once.new.page c.in-Left.ensures.0 refl)
+    (rw c.in-Left.ensures.1 at c.run_page_item.ensures level)
 
 pub run_overlay-returns-in_default-clause-runs : goal.run_overlay-returns-in_default-clause-runs
 run_overlay-returns-in_default-clause-runs g t c = λ begins.

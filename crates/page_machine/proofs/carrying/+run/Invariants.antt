@@ -16,8 +16,8 @@ decreases-run_macro_item g l = 16 * (levels_left l.around.now.profile.now.depth 
 abbrev pub decreases-run_next : goal.decreases-run_next
 decreases-run_next g l = 16 * (levels_left l.around.now.profile.now.depth l.around.now.left l.around.now.nesting) + 13
 
-abbrev pub decreases-run_other : goal.decreases-run_other
-decreases-run_other g l = 16 * (levels_left l.around.now.profile.now.depth l.around.now.left l.around.now.nesting) + 12
+abbrev pub decreases-run_page_item : goal.decreases-run_page_item
+decreases-run_page_item g l = 16 * (levels_left l.around.now.profile.now.depth l.around.now.left l.around.now.nesting) + 12
 
 abbrev pub decreases-go_on : goal.decreases-go_on
 decreases-go_on g l = 16 * (levels_left l.around.now.profile.now.depth l.around.now.left l.around.now.nesting) + 10

@@ -2,17 +2,23 @@ use Rattle.std.proofs.Common.{ap}
 use Rattle.pcl_items.specs.Items.{WithData}
 use Rattle.page_env.specs.Settings.{state_at}
 use Rattle.page_machine.specs.Run.{begun_run}
-use Rattle.page_machine.proofs.Composed.{Follows-is}
+use Rattle.page_machine.proofs.Composed.{Follows-handed, Follows-is}
 use Rattle.page_machine.proofs.steps.run_data.Goals as goal
 
-pub returns-in-TransparentText : goal.returns-in-TransparentText
-returns-in-TransparentText g c = λ conditions.
-    Follows-is _ _ _ _ _ _ _ _ _
-    (λ panel. ap (λ command. begun_run c.args.profile.now (conditions panel) (WithData command c.args.item_data.now.bytes.now) (state_at panel c.args.page.now)) c.in-TransparentText.is)
-    (c.run_bytes.ensures conditions)
+pub returns-in_err-run_bytes-in-TransparentText : goal.returns-in_err-run_bytes-in-TransparentText
+returns-in_err-run_bytes-in-TransparentText g c = λ conditions.
+    Follows-handed _ _ _ _ _ _ _ c.in_err-run_bytes-in-TransparentText.field-0.0 c.from_residual.result c.from_residual.ensures.1
+    (Follows-is _ _ _ _ _ _ _ _ _ (λ panel. ap (λ command. begun_run c.args.profile.now (conditions panel) (WithData command c.args.lent.bytes.now) (state_at panel c.args.page.now)) c.in-TransparentText.is) (c.in_err-run_bytes-in-TransparentText.ensures conditions))
 
-pub returns-in-RasterRow : goal.returns-in-RasterRow
-returns-in-RasterRow g c = λ conditions.
-    Follows-is _ _ _ _ _ _ _ _ _
-    (λ panel. ap (λ command. begun_run c.args.profile.now (conditions panel) (WithData command c.args.item_data.now.bytes.now) (state_at panel c.args.page.now)) c.in-RasterRow.is)
-    (c.run_row.ensures conditions)
+pub returns-in_ok-run_bytes-in-TransparentText : goal.returns-in_ok-run_bytes-in-TransparentText
+returns-in_ok-run_bytes-in-TransparentText g c = λ conditions.
+    Follows-is _ _ _ _ _ _ _ _ _ (λ panel. ap (λ command. begun_run c.args.profile.now (conditions panel) (WithData command c.args.lent.bytes.now) (state_at panel c.args.page.now)) c.in-TransparentText.is) (c.in_ok-run_bytes-in-TransparentText.ensures conditions)
+
+pub returns-in_err-run_row-in-RasterRow : goal.returns-in_err-run_row-in-RasterRow
+returns-in_err-run_row-in-RasterRow g c = λ conditions.
+    Follows-handed _ _ _ _ _ _ _ c.in_err-run_row-in-RasterRow.field-0.0 c.from_residual-in_err-run_row-in-RasterRow.result c.from_residual-in_err-run_row-in-RasterRow.ensures.1
+    (Follows-is _ _ _ _ _ _ _ _ _ (λ panel. ap (λ command. begun_run c.args.profile.now (conditions panel) (WithData command c.args.lent.bytes.now) (state_at panel c.args.page.now)) c.in-RasterRow.is) (c.in_err-run_row-in-RasterRow.ensures conditions))
+
+pub returns-in_ok-run_row-in-RasterRow : goal.returns-in_ok-run_row-in-RasterRow
+returns-in_ok-run_row-in-RasterRow g c = λ conditions.
+    Follows-is _ _ _ _ _ _ _ _ _ (λ panel. ap (λ command. begun_run c.args.profile.now (conditions panel) (WithData command c.args.lent.bytes.now) (state_at panel c.args.page.now)) c.in-RasterRow.is) (c.in_ok-run_row-in-RasterRow.ensures conditions)

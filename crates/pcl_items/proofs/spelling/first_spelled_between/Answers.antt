@@ -1,4 +1,4 @@
-use Rattle.std.proofs.Common.{true, refl, sym, ap, subst, ◌∙◌}
+use Rattle.std.proofs.Common.{true, sym, ap, subst, ◌∙◌}
 use Rattle.pcl_items.specs.declared.item.Mode.{Mode}
 use Rattle.pcl_items.specs.declared.item.Mode.TheVariants.{Pcl}
 use Rattle.pcl_items.specs.declared.lexer.first.First.TheVariants as firsts
@@ -7,15 +7,14 @@ use Rattle.pcl_items.specs.Lexing.FirstView.{context_view, first_view}
 use Rattle.pcl_items.specs.Reader.{Begins}
 use Rattle.pcl_items.specs.Spellings.Spelled.{StandsAt}
 use Rattle.pcl_items.proofs.PjlLines.Heads.{pcl_has_line}
-use Rattle.pcl_items.proofs.Spellings.ReadAgain.{byte_stands, no_item, spelled_stands, stands_as}
+use Rattle.pcl_items.proofs.Spellings.ReadAgain.{byte_stands, no_item, spelled_stands}
 use Rattle.pcl_items.proofs.spelling.first_spelled_between.Goals as goal
 
 pub returns-in-Some : goal.returns-in-Some
 returns-in-Some c = byte_stands c.args.bytes.now c.in-Some.item c.in-Some.ensures.first.1 (c.in-Some.ensures.first.0 true) c.in-Some.ensures.spelled
 
-pub returns-in-Some-parameterized_in : goal.returns-in-Some-parameterized_in
-returns-in-Some-parameterized_in c =
-    stands_as Pcl c.args.bytes.now 0 _ _ (spelled_stands c.args.bytes.now c.requires _ _ _ (c.in-Some-parameterized_in.ensures.0 true)) refl
+pub returns-in-Some-first_spelled_command : goal.returns-in-Some-first_spelled_command
+returns-in-Some-first_spelled_command c = c.in-Some-first_spelled_command.ensures
 
 pub returns-in_default-first_between : goal.returns-in_default-first_between
 returns-in_default-first_between c = no_item c.args.bytes.now c.first_between.result (c.first_between.ensures.first true) c.in_default-first_between.not-Begins

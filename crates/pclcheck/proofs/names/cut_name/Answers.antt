@@ -1,7 +1,7 @@
 use Rattle.std.proofs.Common.{◌<◌, length, arith, add-one, length-drop}
 use Rattle.std.proofs.lemmas.Bool.Decides.{nat_tests}
 use Rattle.std.proofs.lemmas.List.{take_rest}
-use Rattle.pclcheck.proofs.NameLemmas.{names_in-cut, names_in-whole}
+use Rattle.pclcheck.proofs.NameFacts.{names_in-cut, names_in-whole}
 use Rattle.pclcheck.proofs.names.cut_name.Goals as goal
 
 pub returns-then-byte-eq0 : goal.returns-then-byte-eq0

@@ -2,140 +2,313 @@ use Rattle.verdict.specs.Failing.{failing}
 use Rattle.preflight.specs.Verdict.{IsExact}
 use Rattle.preflight.specs.Culprit.{IsTold}
 use Rattle.std.proofs.Common.{◌≡◌, Bool, true, false, sym, ap, subst, ◌∙◌, refl, Ok, arith}
-use Rattle.pcl_items.specs.Lexing.Meaning.{given}
-use Rattle.pcl_items.specs.Items.{view}
-use Rattle.preflight.specs.Carriers.Lockstep.{Execute}
-use Rattle.preflight.proofs.Answered.{item_takes, item_admitted, item_done, item_fails_by, fails_behind, nothing_read, same_mode, wants_more, ends, bytes_whole, bytes_fail, all_admit, alike_open, in_next, running_on, through_open}
-use Rattle.preflight.proofs.Standings.{failed_by, open_by, open_is}
+use Rattle.pcl_items.specs.Lexing.Meaning.{IsNext, answer_of, given}
+use Rattle.pcl_items.specs.Modes.{mode_of}
+use Rattle.pcl_items.specs.Reading.{left}
+use Rattle.preflight.specs.Carriers.Lockstep.{AreIn, machines_of}
+use Rattle.preflight.specs.Standing.{is_open}
+use Rattle.preflight.proofs.Answered.{all_admit_next, bytes_fail, bytes_whole, came_closed, comes_on, ends, further, further_by_text, item_takes, not_further, nothing_read, same_mode, text_through, through_open, wants_more}
+use Rattle.preflight.proofs.Standings.{closed_on, failed_by, open_by, open_is}
 use Rattle.preflight.proofs.check.execute_decided.Goals as goal
 
 both : {b : Bool} → b ≡ true → b ≡ false → ⊥
 both is other = let same : true ≡ false = sym is ∙ other in absurd cc
 
-pub loop-lexer-init : goal.loop-lexer-init
-loop-lexer-init g c = record {
-  stands_open = c.requires.open;
-  untold = refl;
-  through = record { running = c.requires.running; modes = c.requires.modes; executed = λ fleet bytes h. h };
-  ended = refl;
-  place = refl;
+pub loop-is_open-init : goal.loop-is_open-init
+loop-is_open-init g c = record {
+  tells = sym (ap is_open c.requires.open);
+  further = not_further c.args.lexer.now;
+  untold = λ is. refl;
+  came = open_by _ _ c.requires.open record { running = c.requires.running; modes = c.requires.modes; executed = λ fleet bytes h. h };
 }
 
-pub loop-lexer-preserved : goal.loop-lexer-preserved
-loop-lexer-preserved g c =
-    let next = c.next_other.follows.holds-at-none in
-    let so_far = c.loop-lexer.invariant in
-    let commands = c.execute_commands.ensures in
-    let through = through_open _ _ _ _ _ _ _ _ (sym c.execute_commands.ensures.open ∙ c.loop-lexer-test.true) c.execute_commands.ensures.came in
-    let text = c.execute_text.ensures in
-    let action = Execute (view c.in-Ok-Item.item) in
-    let went = sym c.execute.ensures.open ∙ c.if-not-execute.false in
-    let done = alike_open action c.in-Ok-Item.place _ _ _ _ _ went c.execute.ensures.came in
-    let is = c.in-Ok-Item.is ∙ ap Ok c.in-Ok-Item.field-0-is in
+-- ---- a command, a control code, a pair of coordinates
+
+pub step-is_open-requires-clause-admitted : goal.step-is_open-requires-clause-admitted
+step-is_open-requires-clause-admitted g c =
+    let so_far = c.loop-is_open.invariant in
+    let through = through_open _ _ _ _ _ _ _ _ (sym so_far.tells ∙ c.loop-is_open-test.true) so_far.came in
+    let next = c.in-Some.ensures.command in
+    all_admit_next _ _ _ next _ _ refl _ through.modes
+
+pub loop-is_open-preserved-in-Some : goal.loop-is_open-preserved-in-Some
+loop-is_open-preserved-in-Some g c =
+    let so_far = c.loop-is_open.invariant in
+    let through = through_open _ _ _ _ _ _ _ _ (sym so_far.tells ∙ c.loop-is_open-test.true) so_far.came in
+    let next = c.in-Some.ensures.command in
+    let step = c.step-is_open.ensures in
     record {
-      stands_open = open_is c.execute.new.standing went;
-      untold = commands.untold c.loop-lexer-test.true ∙ so_far.untold;
-      through = record {
-        running = running_on action done.0 _ _ refl done.1;
-        modes = in_next _ _ (view c.in-Ok-Item.item) done.0 _ _ (item_admitted _ _ _ next _ _ is) done.1 text.modes;
-        executed = λ fleet bytes executed. item_done _ _ _ next _ _ is action (λ m. refl) fleet bytes _ _ _ _ done.0 done.1 done.2 (text.executed fleet bytes (through.executed fleet bytes (so_far.through.executed fleet bytes executed)));
-      };
-      ended = next.ended ∙ text.ended ∙ commands.ended ∙ so_far.ended;
-      place = next.total ∙ text.place ∙ commands.place ∙ so_far.place;
+      tells = step.open;
+      untold = λ is. step.untold is ∙ so_far.untold c.loop-is_open-test.true;
+      further = further _ _ _ _ _ _ refl next so_far.further;
+      came = comes_on _ _ _ _ _ _ _ _ _ c.one_reading.ensures c.watched_runs_are_alike.ensures _ _ _ _ _ refl next through so_far.further.ended (λ closed. step.told (step.open ∙ closed)) step.came;
     }
 
-pub loop-lexer-smaller : goal.loop-lexer-smaller
-loop-lexer-smaller g c =
-    let is = c.in-Ok-Item.is ∙ ap Ok c.in-Ok-Item.field-0-is in
-    omega (arith, item_takes _ _ _ c.next_other.follows.holds-at-none _ _ is, c.execute_text.ensures.no_more, c.execute_commands.ensures.no_more)
+pub step-requires-clause-admitted : goal.step-requires-clause-admitted
+step-requires-clause-admitted g c =
+    let so_far = c.loop-is_open.invariant in
+    let through = through_open _ _ _ _ _ _ _ _ (sym so_far.tells ∙ c.loop-is_open-test.true) so_far.came in
+    let next = subst (λ old. IsNext old (answer_of c.in-Some-next_control.read) c.next_control.new.self) c.in_default.ensures.none c.in-Some-next_control.ensures.control in
+    all_admit_next _ _ _ next _ _ refl _ through.modes
 
-pub execute_commands-requires-clause-modes : goal.execute_commands-requires-clause-modes
-execute_commands-requires-clause-modes g c = c.loop-lexer.invariant.through.modes
+pub loop-is_open-preserved-in-Some-next_control : goal.loop-is_open-preserved-in-Some-next_control
+loop-is_open-preserved-in-Some-next_control g c =
+    let so_far = c.loop-is_open.invariant in
+    let through = through_open _ _ _ _ _ _ _ _ (sym so_far.tells ∙ c.loop-is_open-test.true) so_far.came in
+    let next = subst (λ old. IsNext old (answer_of c.in-Some-next_control.read) c.next_control.new.self) c.in_default.ensures.none c.in-Some-next_control.ensures.control in
+    let step = c.step.ensures in
+    record {
+      tells = step.open;
+      untold = λ is. step.untold is ∙ so_far.untold c.loop-is_open-test.true;
+      further = further _ _ _ _ _ _ refl next so_far.further;
+      came = comes_on _ _ _ _ _ _ _ _ _ c.one_reading.ensures c.watched_runs_are_alike.ensures _ _ _ _ _ refl next through so_far.further.ended (λ closed. step.told (step.open ∙ closed)) step.came;
+    }
+
+pub step-requires-in-Some-next_pair-clause-admitted : goal.step-requires-in-Some-next_pair-clause-admitted
+step-requires-in-Some-next_pair-clause-admitted g c =
+    let so_far = c.loop-is_open.invariant in
+    let through = through_open _ _ _ _ _ _ _ _ (sym so_far.tells ∙ c.loop-is_open-test.true) so_far.came in
+    let next = subst (λ old. IsNext old (answer_of c.in-Some-next_pair.read) c.next_pair.new.self) (c.in_default-next_control.ensures.none ∙ c.in_default.ensures.none) c.in-Some-next_pair.ensures.pair in
+    all_admit_next _ _ _ next _ _ refl _ through.modes
+
+pub loop-is_open-preserved-in-Some-next_pair : goal.loop-is_open-preserved-in-Some-next_pair
+loop-is_open-preserved-in-Some-next_pair g c =
+    let so_far = c.loop-is_open.invariant in
+    let through = through_open _ _ _ _ _ _ _ _ (sym so_far.tells ∙ c.loop-is_open-test.true) so_far.came in
+    let next = subst (λ old. IsNext old (answer_of c.in-Some-next_pair.read) c.next_pair.new.self) (c.in_default-next_control.ensures.none ∙ c.in_default.ensures.none) c.in-Some-next_pair.ensures.pair in
+    let step = c.step-in-Some-next_pair.ensures in
+    record {
+      tells = step.open;
+      untold = λ is. step.untold is ∙ so_far.untold c.loop-is_open-test.true;
+      further = further _ _ _ _ _ _ refl next so_far.further;
+      came = comes_on _ _ _ _ _ _ _ _ _ c.one_reading.ensures c.watched_runs_are_alike.ensures _ _ _ _ _ refl next through so_far.further.ended (λ closed. step.told (step.open ∙ closed)) step.came;
+    }
+
+-- ---- text
 
 pub execute_text-requires-clause-modes : goal.execute_text-requires-clause-modes
 execute_text-requires-clause-modes g c =
-    let through = through_open _ _ _ _ _ _ _ _ (sym c.execute_commands.ensures.open ∙ c.loop-lexer-test.true) c.execute_commands.ensures.came in
-    through.modes
+    let so_far = c.loop-is_open.invariant in
+    let through = through_open _ _ _ _ _ _ _ _ (sym so_far.tells ∙ c.loop-is_open-test.true) so_far.came in
+    let here = c.in_default-next_pair.ensures.none ∙ (c.in_default-next_control.ensures.none ∙ c.in_default.ensures.none) in
+    subst (λ lexer. AreIn (mode_of lexer.context) (machines_of c.loop-is_open.machines)) (sym here) through.modes
 
-pub execute-requires-clause-admitted : goal.execute-requires-clause-admitted
-execute-requires-clause-admitted g c =
-    let is = c.in-Ok-Item.is ∙ ap Ok c.in-Ok-Item.field-0-is in
-    all_admit _ _ (view c.in-Ok-Item.item) _ (item_admitted _ _ _ c.next_other.follows.holds-at-none _ _ is) c.execute_text.ensures.modes
-
-pub loop-lexer-preserved-then-execute_text : goal.loop-lexer-preserved-then-execute_text
-loop-lexer-preserved-then-execute_text g c =
-    let so_far = c.loop-lexer.invariant in
-    let commands = c.execute_commands.ensures in
-    let is = sym commands.open ∙ c.loop-lexer-test.true in
-    let through = through_open _ _ _ _ _ _ _ _ is commands.came in
+pub loop-is_open-preserved-then-execute_text : goal.loop-is_open-preserved-then-execute_text
+loop-is_open-preserved-then-execute_text g c =
+    let so_far = c.loop-is_open.invariant in
+    let through = through_open _ _ _ _ _ _ _ _ (sym so_far.tells ∙ c.loop-is_open-test.true) so_far.came in
+    let here = c.in_default-next_pair.ensures.none ∙ (c.in_default-next_control.ensures.none ∙ c.in_default.ensures.none) in
     let text = c.execute_text.ensures in
+    let behind = text_through _ _ _ _ _ _ _ _ _ _ here through record { running = text.running; modes = text.modes; executed = text.executed } in
+    let on = further_by_text _ _ _ c.execute_text.new.lexer here so_far.further record { ended = text.ended; place = text.place; no_more = text.no_more } in
+    let is = sym so_far.tells ∙ c.loop-is_open-test.true in
     record {
-      stands_open = open_is c.execute_commands.new.standing is;
-      untold = commands.untold c.loop-lexer-test.true ∙ so_far.untold;
-      through = record {
-        running = text.running;
-        modes = text.modes;
-        executed = λ fleet bytes executed. text.executed fleet bytes (through.executed fleet bytes (so_far.through.executed fleet bytes executed));
-      };
-      ended = text.ended ∙ commands.ended ∙ so_far.ended;
-      place = text.place ∙ commands.place ∙ so_far.place;
+      tells = sym is;
+      untold = λ _. so_far.untold c.loop-is_open-test.true;
+      further = on;
+      came = open_by _ _ (open_is _ is) behind;
     }
 
-pub returns-clause-came : goal.returns-clause-came
-returns-clause-came g c =
-    let so_far = c.loop-lexer.invariant in
-    let commands = c.execute_commands.ensures in
-    fails_behind c.one_reading.ensures c.watched_runs_are_alike.ensures _ _ _ _ _ _ _ _ _ _ _ (sym commands.open ∙ c.loop-lexer-test.false) so_far.through so_far.ended commands.came
+-- ---- all else
 
-pub returns-then-not-execute-clause-came : goal.returns-then-not-execute-clause-came
-returns-then-not-execute-clause-came g c =
-    let so_far = c.loop-lexer.invariant in
-    let commands = c.execute_commands.ensures in
-    let through = through_open _ _ _ _ _ _ _ _ (sym commands.open ∙ c.loop-lexer-test.true) commands.came in
+pub step_other-requires-clause-admitted : goal.step_other-requires-clause-admitted
+step_other-requires-clause-admitted g c =
+    all_admit_next _ _ _ c.next_other.follows.holds-at-none _ _ (c.in-Ok-Item.is ∙ ap Ok c.in-Ok-Item.field-0-is) _ c.execute_text.ensures.modes
+
+pub loop-is_open-preserved : goal.loop-is_open-preserved
+loop-is_open-preserved g c =
+    let so_far = c.loop-is_open.invariant in
+    let through = through_open _ _ _ _ _ _ _ _ (sym so_far.tells ∙ c.loop-is_open-test.true) so_far.came in
+    let here = c.in_default-next_pair.ensures.none ∙ (c.in_default-next_control.ensures.none ∙ c.in_default.ensures.none) in
     let text = c.execute_text.ensures in
-    item_fails_by _ _ _ c.next_other.follows.holds-at-none _ _ (c.in-Ok-Item.is ∙ ap Ok c.in-Ok-Item.field-0-is) (Execute (view c.in-Ok-Item.item)) (λ m. refl) c.one_reading.ensures c.watched_runs_are_alike.ensures _ _ _ _ _ _ _ _ _
-    (text.ended ∙ commands.ended ∙ so_far.ended) (sym c.execute.ensures.open ∙ c.if-not-execute.true) c.tell.ensures
-    (λ fleet bytes executed. text.executed fleet bytes (through.executed fleet bytes (so_far.through.executed fleet bytes executed))) c.execute.ensures.came
+    let behind = text_through _ _ _ _ _ _ _ _ _ _ here through record { running = text.running; modes = text.modes; executed = text.executed } in
+    let on = further_by_text _ _ _ c.execute_text.new.lexer here so_far.further record { ended = text.ended; place = text.place; no_more = text.no_more } in
+    let next = c.next_other.follows.holds-at-none in
+    let item = c.in-Ok-Item.is ∙ ap Ok c.in-Ok-Item.field-0-is in
+    let step = c.step_other.ensures in
+    let went = c.if-not-step_other.false in
+    record {
+      tells = sym went ∙ step.open;
+      untold = λ is. so_far.untold c.loop-is_open-test.true;
+      further = further _ _ _ _ _ _ item next on;
+      came = comes_on _ _ _ _ _ _ _ _ _ c.one_reading.ensures c.watched_runs_are_alike.ensures _ _ _ _ _ item next behind on.ended (λ closed. absurd (both (sym step.open ∙ went) closed)) step.came;
+    }
+
+pub returns-then-not-step_other-clause-came : goal.returns-then-not-step_other-clause-came
+returns-then-not-step_other-clause-came g c =
+    let so_far = c.loop-is_open.invariant in
+    let through = through_open _ _ _ _ _ _ _ _ (sym so_far.tells ∙ c.loop-is_open-test.true) so_far.came in
+    let here = c.in_default-next_pair.ensures.none ∙ (c.in_default-next_control.ensures.none ∙ c.in_default.ensures.none) in
+    let text = c.execute_text.ensures in
+    let behind = text_through _ _ _ _ _ _ _ _ _ _ here through record { running = text.running; modes = text.modes; executed = text.executed } in
+    let on = further_by_text _ _ _ c.execute_text.new.lexer here so_far.further record { ended = text.ended; place = text.place; no_more = text.no_more } in
+    let next = c.next_other.follows.holds-at-none in
+    let item = c.in-Ok-Item.is ∙ ap Ok c.in-Ok-Item.field-0-is in
+    let step = c.step_other.ensures in
+    came_closed _ _ _ _ _ _ _ _ (sym step.open ∙ c.if-not-step_other.true)
+    (comes_on _ _ _ _ _ _ _ _ _ c.one_reading.ensures c.watched_runs_are_alike.ensures _ _ _ _ _ item next behind on.ended (λ closed. c.tell.ensures) step.came)
+
+pub returns-then-not-step_other-clause-goes_on : goal.returns-then-not-step_other-clause-goes_on
+returns-then-not-step_other-clause-goes_on g c =
+    closed_on _ _ _ (sym c.step_other.ensures.open ∙ c.if-not-step_other.true) (λ failure h. tt) c.step_other.ensures.came
+
+pub returns-then-not-step_other-clause-ended : goal.returns-then-not-step_other-clause-ended
+returns-then-not-step_other-clause-ended g c =
+    let so_far = c.loop-is_open.invariant in
+    let here = c.in_default-next_pair.ensures.none ∙ (c.in_default-next_control.ensures.none ∙ c.in_default.ensures.none) in
+    let text = c.execute_text.ensures in
+    let on = further_by_text _ _ _ c.execute_text.new.lexer here so_far.further record { ended = text.ended; place = text.place; no_more = text.no_more } in
+    c.next_other.follows.holds-at-none.ended ∙ on.ended
+
+pub returns-then-not-step_other-clause-place : goal.returns-then-not-step_other-clause-place
+returns-then-not-step_other-clause-place g c =
+    let so_far = c.loop-is_open.invariant in
+    let here = c.in_default-next_pair.ensures.none ∙ (c.in_default-next_control.ensures.none ∙ c.in_default.ensures.none) in
+    let text = c.execute_text.ensures in
+    let on = further_by_text _ _ _ c.execute_text.new.lexer here so_far.further record { ended = text.ended; place = text.place; no_more = text.no_more } in
+    c.next_other.follows.holds-at-none.total ∙ on.place
+
+pub loop-is_open-smaller : goal.loop-is_open-smaller
+loop-is_open-smaller g c =
+    let so_far = c.loop-is_open.invariant in
+    let through = through_open _ _ _ _ _ _ _ _ (sym so_far.tells ∙ c.loop-is_open-test.true) so_far.came in
+    let here = c.in_default-next_pair.ensures.none ∙ (c.in_default-next_control.ensures.none ∙ c.in_default.ensures.none) in
+    let text = c.execute_text.ensures in
+    let item = c.in-Ok-Item.is ∙ ap Ok c.in-Ok-Item.field-0-is in
+    omega (arith, item_takes _ _ _ c.next_other.follows.holds-at-none _ _ item, text.no_more, ap (λ lexer. left lexer.context lexer.rest) here)
+
+-- ---- the end
 
 pub returns-in-Ok-NeedMore-clause-came : goal.returns-in-Ok-NeedMore-clause-came
 returns-in-Ok-NeedMore-clause-came g c =
-    open_by _ _ (open_is c.execute_commands.new.standing (sym c.execute_commands.ensures.open ∙ c.loop-lexer-test.true)) (λ fleet bytes executed.
-    let through = through_open _ _ _ _ _ _ _ _ (sym c.execute_commands.ensures.open ∙ c.loop-lexer-test.true) c.execute_commands.ensures.came in
-    let wanted = wants_more _ _ _ c.next_other.follows.holds-at-none (c.in-Ok-NeedMore.is ∙ ap Ok c.in-Ok-NeedMore.field-0-is) in
-    let not_ended : c.args.lexer.now.ended ≡ false = sym (c.next_other.follows.holds-at-none.ended ∙ c.execute_text.ensures.ended ∙ c.execute_commands.ensures.ended ∙ c.loop-lexer.invariant.ended) ∙ wanted.0 in (
-      nothing_read _ _ _ c.next_other.follows.holds-at-none (ap given (c.in-Ok-NeedMore.is ∙ ap Ok c.in-Ok-NeedMore.field-0-is)) fleet bytes _ _ (c.execute_text.ensures.executed fleet bytes (through.executed fleet bytes (c.loop-lexer.invariant.through.executed fleet bytes executed))),
+    let so_far = c.loop-is_open.invariant in
+    let through = through_open _ _ _ _ _ _ _ _ (sym so_far.tells ∙ c.loop-is_open-test.true) so_far.came in
+    let here = c.in_default-next_pair.ensures.none ∙ (c.in_default-next_control.ensures.none ∙ c.in_default.ensures.none) in
+    let text = c.execute_text.ensures in
+    let behind = text_through _ _ _ _ _ _ _ _ _ _ here through record { running = text.running; modes = text.modes; executed = text.executed } in
+    let on = further_by_text _ _ _ c.execute_text.new.lexer here so_far.further record { ended = text.ended; place = text.place; no_more = text.no_more } in
+    let next = c.next_other.follows.holds-at-none in
+    let more = c.in-Ok-NeedMore.is ∙ ap Ok c.in-Ok-NeedMore.field-0-is in
+    let not_ended : c.args.lexer.now.ended ≡ false = sym (next.ended ∙ on.ended) ∙ (wants_more _ _ _ next more).0 in
+    open_by _ _ (open_is _ (sym so_far.tells ∙ c.loop-is_open-test.true)) (λ fleet bytes executed. (
+      nothing_read _ _ _ next (ap given more) fleet bytes _ _ (behind.executed fleet bytes executed),
       λ ended. absurd (both ended not_ended),
     ))
 
 pub returns-in-Ok-NeedMore-clause-goes_on : goal.returns-in-Ok-NeedMore-clause-goes_on
 returns-in-Ok-NeedMore-clause-goes_on g c =
-    let wanted = wants_more _ _ _ c.next_other.follows.holds-at-none (c.in-Ok-NeedMore.is ∙ ap Ok c.in-Ok-NeedMore.field-0-is) in
-    open_by _ _ (open_is c.execute_commands.new.standing (sym c.execute_commands.ensures.open ∙ c.loop-lexer-test.true))
-    (c.execute_text.ensures.running, λ e. (wanted.1, same_mode _ _ _ c.next_other.follows.holds-at-none (c.in-Ok-NeedMore.is ∙ ap Ok c.in-Ok-NeedMore.field-0-is) _ c.execute_text.ensures.modes))
+    let so_far = c.loop-is_open.invariant in
+    let next = c.next_other.follows.holds-at-none in
+    let more = c.in-Ok-NeedMore.is ∙ ap Ok c.in-Ok-NeedMore.field-0-is in
+    open_by _ _ (open_is _ (sym so_far.tells ∙ c.loop-is_open-test.true))
+    (c.execute_text.ensures.running, λ e. ((wants_more _ _ _ next more).1, same_mode _ _ _ next more _ c.execute_text.ensures.modes))
 
 pub returns-in-Ok-End-clause-came : goal.returns-in-Ok-End-clause-came
 returns-in-Ok-End-clause-came g c =
-    open_by _ _ (open_is c.execute_commands.new.standing (sym c.execute_commands.ensures.open ∙ c.loop-lexer-test.true)) (λ fleet bytes executed.
-    let through = through_open _ _ _ _ _ _ _ _ (sym c.execute_commands.ensures.open ∙ c.loop-lexer-test.true) c.execute_commands.ensures.came in
-    let whole = bytes_whole _ _ _ c.next_other.follows.holds-at-none (c.in-Ok-End.is ∙ ap Ok c.in-Ok-End.field-0-is) fleet bytes _ _ (c.execute_text.ensures.executed fleet bytes (through.executed fleet bytes (c.loop-lexer.invariant.through.executed fleet bytes executed))) in
+    let so_far = c.loop-is_open.invariant in
+    let through = through_open _ _ _ _ _ _ _ _ (sym so_far.tells ∙ c.loop-is_open-test.true) so_far.came in
+    let here = c.in_default-next_pair.ensures.none ∙ (c.in_default-next_control.ensures.none ∙ c.in_default.ensures.none) in
+    let text = c.execute_text.ensures in
+    let behind = text_through _ _ _ _ _ _ _ _ _ _ here through record { running = text.running; modes = text.modes; executed = text.executed } in
+    let end = c.in-Ok-End.is ∙ ap Ok c.in-Ok-End.field-0-is in
+    open_by _ _ (open_is _ (sym so_far.tells ∙ c.loop-is_open-test.true)) (λ fleet bytes executed.
+    let whole = bytes_whole _ _ _ c.next_other.follows.holds-at-none end fleet bytes _ _ (behind.executed fleet bytes executed) in
     (whole.0, λ e. whole.1))
 
 pub returns-in-Ok-End-clause-goes_on : goal.returns-in-Ok-End-clause-goes_on
 returns-in-Ok-End-clause-goes_on g c =
-    let ended = sym (c.next_other.follows.holds-at-none.ended ∙ c.execute_text.ensures.ended ∙ c.execute_commands.ensures.ended ∙ c.loop-lexer.invariant.ended) ∙ ends _ _ _ c.next_other.follows.holds-at-none (c.in-Ok-End.is ∙ ap Ok c.in-Ok-End.field-0-is) in
-    open_by _ _ (open_is c.execute_commands.new.standing (sym c.execute_commands.ensures.open ∙ c.loop-lexer-test.true))
-    (c.execute_text.ensures.running, λ wants. absurd (both ended wants))
+    let so_far = c.loop-is_open.invariant in
+    let through = through_open _ _ _ _ _ _ _ _ (sym so_far.tells ∙ c.loop-is_open-test.true) so_far.came in
+    let here = c.in_default-next_pair.ensures.none ∙ (c.in_default-next_control.ensures.none ∙ c.in_default.ensures.none) in
+    let text = c.execute_text.ensures in
+    let on = further_by_text _ _ _ c.execute_text.new.lexer here so_far.further record { ended = text.ended; place = text.place; no_more = text.no_more } in
+    let next = c.next_other.follows.holds-at-none in
+    let end = c.in-Ok-End.is ∙ ap Ok c.in-Ok-End.field-0-is in
+    let ended = sym (next.ended ∙ on.ended) ∙ ends _ _ _ next end in
+    open_by _ _ (open_is _ (sym so_far.tells ∙ c.loop-is_open-test.true)) (text.running, λ wants. absurd (both ended wants))
 
 pub returns-in-Err-clause-came : goal.returns-in-Err-clause-came
 returns-in-Err-clause-came g c =
+    let so_far = c.loop-is_open.invariant in
+    let through = through_open _ _ _ _ _ _ _ _ (sym so_far.tells ∙ c.loop-is_open-test.true) so_far.came in
+    let here = c.in_default-next_pair.ensures.none ∙ (c.in_default-next_control.ensures.none ∙ c.in_default.ensures.none) in
+    let text = c.execute_text.ensures in
+    let behind = text_through _ _ _ _ _ _ _ _ _ _ here through record { running = text.running; modes = text.modes; executed = text.executed } in
+    let on = further_by_text _ _ _ c.execute_text.new.lexer here so_far.further record { ended = text.ended; place = text.place; no_more = text.no_more } in
+    let untold = so_far.untold c.loop-is_open-test.true ∙ c.requires.untold in
     failed_by _ _ _ c.fail.ensures.standing (λ fleet bytes executed job may_be.
-    let through = through_open _ _ _ _ _ _ _ _ (sym c.execute_commands.ensures.open ∙ c.loop-lexer-test.true) c.execute_commands.ensures.came in
-    let untold = c.execute_commands.ensures.untold c.loop-lexer-test.true ∙ c.loop-lexer.invariant.untold ∙ c.requires.untold in
-    subst (λ failure. IsExact fleet job (failing failure) × IsTold job (failing failure) c.execute_commands.new.culprit) (sym c.of_fault.ensures)
-    (bytes_fail _ _ _ c.next_other.follows.holds-at-none c.in-Err.fault c.in-Err.is c.watched_runs_are_alike.ensures fleet bytes _ _ _ (c.execute_text.ensures.ended ∙ c.execute_commands.ensures.ended ∙ c.loop-lexer.invariant.ended) (c.execute_text.ensures.executed fleet bytes (through.executed fleet bytes (c.loop-lexer.invariant.through.executed fleet bytes executed))) job may_be, untold))
+    subst (λ failure. IsExact fleet job (failing failure) × IsTold job (failing failure) c.loop-is_open.culprit) (sym c.of_fault.ensures)
+    (bytes_fail _ _ _ c.next_other.follows.holds-at-none c.in-Err.fault c.in-Err.is c.watched_runs_are_alike.ensures fleet bytes _ _ _ on.ended (behind.executed fleet bytes executed) job may_be, untold))
 
 pub returns-in-Ok-NeedMore-clause-untold : goal.returns-in-Ok-NeedMore-clause-untold
-returns-in-Ok-NeedMore-clause-untold g c = λ is. c.execute_commands.ensures.untold c.loop-lexer-test.true ∙ c.loop-lexer.invariant.untold ∙ c.requires.untold
+returns-in-Ok-NeedMore-clause-untold g c = λ is. c.loop-is_open.invariant.untold c.loop-is_open-test.true ∙ c.requires.untold
 
 pub returns-in-Ok-End-clause-untold : goal.returns-in-Ok-End-clause-untold
-returns-in-Ok-End-clause-untold g c = λ is. c.execute_commands.ensures.untold c.loop-lexer-test.true ∙ c.loop-lexer.invariant.untold ∙ c.requires.untold
+returns-in-Ok-End-clause-untold g c = λ is. c.loop-is_open.invariant.untold c.loop-is_open-test.true ∙ c.requires.untold
+
+pub returns-clause-came : goal.returns-clause-came
+returns-clause-came g c =
+    let so_far = c.loop-is_open.invariant in
+    came_closed _ _ _ _ _ _ _ _ (sym so_far.tells ∙ c.loop-is_open-test.false) so_far.came
+
+pub returns-in-Ok-NeedMore-clause-ended : goal.returns-in-Ok-NeedMore-clause-ended
+returns-in-Ok-NeedMore-clause-ended g c =
+    let so_far = c.loop-is_open.invariant in
+    let here = c.in_default-next_pair.ensures.none ∙ (c.in_default-next_control.ensures.none ∙ c.in_default.ensures.none) in
+    let text = c.execute_text.ensures in
+    let on = further_by_text _ _ _ c.execute_text.new.lexer here so_far.further record { ended = text.ended; place = text.place; no_more = text.no_more } in
+    c.next_other.follows.holds-at-none.ended ∙ on.ended
+
+pub returns-in-Ok-NeedMore-clause-place : goal.returns-in-Ok-NeedMore-clause-place
+returns-in-Ok-NeedMore-clause-place g c =
+    let so_far = c.loop-is_open.invariant in
+    let here = c.in_default-next_pair.ensures.none ∙ (c.in_default-next_control.ensures.none ∙ c.in_default.ensures.none) in
+    let text = c.execute_text.ensures in
+    let on = further_by_text _ _ _ c.execute_text.new.lexer here so_far.further record { ended = text.ended; place = text.place; no_more = text.no_more } in
+    c.next_other.follows.holds-at-none.total ∙ on.place
+
+pub returns-in-Ok-End-clause-ended : goal.returns-in-Ok-End-clause-ended
+returns-in-Ok-End-clause-ended g c =
+    let so_far = c.loop-is_open.invariant in
+    let here = c.in_default-next_pair.ensures.none ∙ (c.in_default-next_control.ensures.none ∙ c.in_default.ensures.none) in
+    let text = c.execute_text.ensures in
+    let on = further_by_text _ _ _ c.execute_text.new.lexer here so_far.further record { ended = text.ended; place = text.place; no_more = text.no_more } in
+    c.next_other.follows.holds-at-none.ended ∙ on.ended
+
+pub returns-in-Ok-End-clause-place : goal.returns-in-Ok-End-clause-place
+returns-in-Ok-End-clause-place g c =
+    let so_far = c.loop-is_open.invariant in
+    let here = c.in_default-next_pair.ensures.none ∙ (c.in_default-next_control.ensures.none ∙ c.in_default.ensures.none) in
+    let text = c.execute_text.ensures in
+    let on = further_by_text _ _ _ c.execute_text.new.lexer here so_far.further record { ended = text.ended; place = text.place; no_more = text.no_more } in
+    c.next_other.follows.holds-at-none.total ∙ on.place
+
+pub returns-in-Err-clause-ended : goal.returns-in-Err-clause-ended
+returns-in-Err-clause-ended g c =
+    let so_far = c.loop-is_open.invariant in
+    let here = c.in_default-next_pair.ensures.none ∙ (c.in_default-next_control.ensures.none ∙ c.in_default.ensures.none) in
+    let text = c.execute_text.ensures in
+    let on = further_by_text _ _ _ c.execute_text.new.lexer here so_far.further record { ended = text.ended; place = text.place; no_more = text.no_more } in
+    c.next_other.follows.holds-at-none.ended ∙ on.ended
+
+pub returns-in-Err-clause-place : goal.returns-in-Err-clause-place
+returns-in-Err-clause-place g c =
+    let so_far = c.loop-is_open.invariant in
+    let here = c.in_default-next_pair.ensures.none ∙ (c.in_default-next_control.ensures.none ∙ c.in_default.ensures.none) in
+    let text = c.execute_text.ensures in
+    let on = further_by_text _ _ _ c.execute_text.new.lexer here so_far.further record { ended = text.ended; place = text.place; no_more = text.no_more } in
+    c.next_other.follows.holds-at-none.total ∙ on.place
+
+pub returns-clause-goes_on : goal.returns-clause-goes_on
+returns-clause-goes_on g c =
+    let so_far = c.loop-is_open.invariant in
+    closed_on _ _ _ (sym so_far.tells ∙ c.loop-is_open-test.false) (λ failure h. tt) so_far.came
+
+pub returns-clause-ended : goal.returns-clause-ended
+returns-clause-ended g c = c.loop-is_open.invariant.further.ended
+
+pub returns-clause-place : goal.returns-clause-place
+returns-clause-place g c = c.loop-is_open.invariant.further.place
+
+pub returns-clause-untold : goal.returns-clause-untold
+returns-clause-untold g c = λ is. absurd cc

@@ -1,5 +1,5 @@
 use Rattle.std.proofs.Common.{rules}
-use Rattle.streams.proofs.OutletLemmas.{AddsBefore-more}
+use Rattle.streams.proofs.OutletFacts.{AddsBefore-more}
 use Rattle.preflight.proofs.writing.write_text.Goals as goal
 
 pub loop-rest-preserved : goal.loop-rest-preserved

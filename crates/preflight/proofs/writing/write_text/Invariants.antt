@@ -1,5 +1,5 @@
 use Rattle.std.proofs.Common.{IsFalse, length}
-use Rattle.streams.proofs.OutletLemmas.{AddsBefore}
+use Rattle.streams.proofs.OutletFacts.{AddsBefore}
 use Rattle.preflight.proofs.writing.write_text.Given as goal
 
 abbrev pub invariant-loop-rest : goal.invariant-loop-rest

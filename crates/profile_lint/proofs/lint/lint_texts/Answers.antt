@@ -2,7 +2,7 @@ use Rattle.std.proofs.Common.{◌≡◌, ◌∙◌, ◌++◌, ℕ, List, ap, fla
 use Rattle.std.proofs.lemmas.List.{take_all}
 use Rattle.device_profile.specs.Printer.{Printer}
 use Rattle.profile_lint.specs.Lint.{findings_text, sound_printers, sound_words}
-use Rattle.profile_lint.proofs.LintLemmas.{flat_more, with_difference}
+use Rattle.profile_lint.proofs.LintFacts.{flat_more, with_difference}
 use Rattle.profile_lint.proofs.lint.lint_texts.Goals as goal
 
 pub loop-named-preserved : goal.loop-named-preserved

@@ -1,5 +1,5 @@
 use Rattle.std.proofs.Common.{◌∙◌, sym}
-use Rattle.subcommands.proofs.ChoiceLemmas.{chosen_next, choice_allowed}
+use Rattle.subcommands.proofs.ChoiceFacts.{chosen_next, choice_allowed}
 use Rattle.subcommands.proofs.choices.chosen_panel.Goals as goal
 
 pub loop-choice-preserved : goal.loop-choice-preserved

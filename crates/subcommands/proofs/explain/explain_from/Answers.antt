@@ -1,4 +1,4 @@
-use Rattle.subcommands.proofs.ExplainLemmas.{told_unknown}
+use Rattle.subcommands.proofs.ExplainFacts.{told_unknown}
 use Rattle.subcommands.proofs.explain.explain_from.Goals as goal
 
 pub returns-then-not-is_known-clause-complaint : goal.returns-then-not-is_known-clause-complaint

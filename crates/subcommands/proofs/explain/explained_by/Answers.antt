@@ -1,5 +1,5 @@
 use Rattle.std.proofs.Common.{decimal, sym, ◌∙◌}
-use Rattle.subcommands.proofs.ExplainLemmas.{explained_at, explained_behind, explained_past}
+use Rattle.subcommands.proofs.ExplainFacts.{explained_at, explained_behind, explained_past}
 use Rattle.subcommands.proofs.explain.explained_by.Goals as goal
 
 pub returns-then-is_about : goal.returns-then-is_about

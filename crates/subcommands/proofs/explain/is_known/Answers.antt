@@ -1,6 +1,6 @@
 use Rattle.std.proofs.Common.{rules, sym, ◌∙◌}
 use Rattle.std.proofs.lemmas.List.Folds.{list_any_at}
-use Rattle.subcommands.proofs.ExplainLemmas.{any_of_map, none_more, none_at_all}
+use Rattle.subcommands.proofs.ExplainFacts.{any_of_map, none_more, none_at_all}
 use Rattle.subcommands.specs.Explanations.{is_about}
 use Rattle.subcommands.proofs.explain.is_known.Goals as goal
 

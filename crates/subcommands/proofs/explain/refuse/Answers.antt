@@ -1,5 +1,5 @@
 use Rattle.std.proofs.Common.{rules}
-use Rattle.subcommands.proofs.ExplainLemmas.{Writes-unknown}
+use Rattle.subcommands.proofs.ExplainFacts.{Writes-unknown}
 use Rattle.subcommands.proofs.explain.refuse.Goals as goal
 
 pub returns-clause-line : goal.returns-clause-line

@@ -1,6 +1,6 @@
 use Rattle.std.proofs.Common.{rules, option_map, sym, ◌∙◌}
-use Rattle.streams.proofs.OutletLemmas.{Adds-none}
-use Rattle.subcommands.proofs.ExplainLemmas.{told_cut, told_more, told_past, told_to_the_end}
+use Rattle.streams.proofs.OutletFacts.{Adds-none}
+use Rattle.subcommands.proofs.ExplainFacts.{told_cut, told_more, told_past, told_to_the_end}
 use Rattle.subcommands.specs.Explanations.{is_asked}
 use Rattle.subcommands.proofs.explain.write_asked.Goals.{then-is_asked+in_ok-write_text, else-is_asked}
 use Rattle.subcommands.proofs.explain.write_asked.Goals as goal

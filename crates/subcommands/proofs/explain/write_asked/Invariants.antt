@@ -1,7 +1,7 @@
 use Rattle.std.proofs.Common.{IsFalse, map, option_map, take}
 use Rattle.std.specs.List.{concat}
 use Rattle.streams.specs.Outlet.{Adds}
-use Rattle.subcommands.proofs.ExplainLemmas.{told}
+use Rattle.subcommands.proofs.ExplainFacts.{told}
 use Rattle.subcommands.specs.Explanations.{is_asked}
 use Rattle.subcommands.proofs.explain.write_asked.Given as goal
 

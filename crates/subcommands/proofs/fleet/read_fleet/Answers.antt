@@ -1,6 +1,6 @@
 use Rattle.std.proofs.Common.{map, rules}
 use Rattle.subcommands.specs.Fleet.{IsEndOfFleet, RefusesBy}
-use Rattle.subcommands.proofs.FleetLemmas.{DescribeBy-more, DescribeFleet-all, DescribeFleet-next, fleet_ends, refused_behind}
+use Rattle.subcommands.proofs.FleetFacts.{DescribeBy-more, DescribeFleet-all, DescribeFleet-next, fleet_ends, refused_behind}
 use Rattle.subcommands.proofs.fleet.read_fleet.Goals as goal
 
 pub returns-in_err-profile-clause-fleet : goal.returns-in_err-profile-clause-fleet

@@ -1,7 +1,7 @@
 use Rattle.std.proofs.Common.{rules, Ok, subst}
 use Rattle.device_profile.specs.Text.{IsErrorOfText}
-use Rattle.subcommands.proofs.FleetLemmas.{read_is_refused}
-use Rattle.subcommands.proofs.TextLemmas.{read_judged, read_refused}
+use Rattle.subcommands.proofs.FleetFacts.{read_is_refused}
+use Rattle.subcommands.proofs.TextFacts.{read_judged, read_refused}
 use Rattle.subcommands.proofs.fleet.read_profile.Goals as goal
 
 pub returns-in-Ok-clause-profile : goal.returns-in-Ok-clause-profile

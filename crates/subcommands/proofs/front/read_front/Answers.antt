@@ -2,7 +2,7 @@ use Rattle.std.proofs.Common.{◌≡◌, ◌++◌, ◌≤◌, rules, arith, leng
 use Rattle.std.proofs.KnownBytes.{Consumes-trans}
 use Rattle.std.proofs.lemmas.List.{take-append-le}
 use Rattle.std.specs.Io.KnownBytes.{Consumes}
-use Rattle.subcommands.proofs.FrontLemmas.{HasGiven, HasGiven-none, HasGiven-more, Consumes-nothing, front_by_length}
+use Rattle.subcommands.proofs.FrontFacts.{HasGiven, HasGiven-none, HasGiven-more, Consumes-nothing, front_by_length}
 use Rattle.subcommands.proofs.front.read_front.Goals as goal
 
 pub loop-piece-init : goal.loop-piece-init

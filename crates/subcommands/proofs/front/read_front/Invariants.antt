@@ -1,6 +1,6 @@
 use Rattle.std.proofs.Common.{◌-◌, ◌≤◌, IsFalse, vec_len}
 use Rattle.std.specs.Io.KnownBytes.{Consumes}
-use Rattle.subcommands.proofs.FrontLemmas.{HasGiven}
+use Rattle.subcommands.proofs.FrontFacts.{HasGiven}
 use Rattle.subcommands.proofs.front.read_front.Given as goal
 
 abbrev pub invariant-loop-piece : goal.invariant-loop-piece

@@ -3,7 +3,7 @@ use Rattle.std.proofs.Math.Bool.{or-false}
 use Rattle.subcommands.specs.Fleet.{IsEndOfProfile}
 use Rattle.subcommands.specs.JobTexts.{IsNamed}
 use Rattle.subcommands.specs.Status.{is_err_at_read}
-use Rattle.subcommands.proofs.FleetLemmas.{no_write_before}
+use Rattle.subcommands.proofs.FleetFacts.{no_write_before}
 use Rattle.subcommands.proofs.JobNotes.{never_refused, no_notes, noted_of, notes_left, refuses_no_read, refuses_none, stop_state}
 use Rattle.subcommands.proofs.job_notes.tell_notes.Goals as goal
 

@@ -1,6 +1,6 @@
 use Rattle.std.proofs.Common.{flat_map, ap, ◌∙◌}
 use Rattle.std.proofs.lemmas.Result.{IfOk-weaker}
-use Rattle.subcommands.proofs.JsonTextLemmas.{text_of_utf8, text_of_others}
+use Rattle.subcommands.proofs.JsonTextFacts.{text_of_utf8, text_of_others}
 use Rattle.subcommands.specs.JsonTexts.{backslash_doubled}
 use Rattle.subcommands.proofs.json_texts.name_text.Goals as goal
 

@@ -1,5 +1,5 @@
 use Rattle.std.proofs.Common.{arith}
-use Rattle.subcommands.proofs.JsonTextLemmas.{IsAscii-shown_name}
+use Rattle.subcommands.proofs.JsonTextFacts.{IsAscii-shown_name}
 use Rattle.subcommands.proofs.json_texts.shown_text.Goals as goal
 
 pub text_of-requires : goal.text_of-requires

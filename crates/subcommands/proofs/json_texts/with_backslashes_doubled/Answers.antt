@@ -1,5 +1,5 @@
 use Rattle.std.proofs.Common.{string_bytes}
-use Rattle.subcommands.proofs.JsonTextLemmas.{more_plain, more_doubled}
+use Rattle.subcommands.proofs.JsonTextFacts.{more_plain, more_doubled}
 use Rattle.subcommands.proofs.json_texts.with_backslashes_doubled.Goals.{then-character-eq92+in_ok-push, else-character-eq92}
 use Rattle.subcommands.proofs.json_texts.with_backslashes_doubled.Goals as goal
 

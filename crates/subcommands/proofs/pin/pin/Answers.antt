@@ -7,7 +7,7 @@ use Rattle.subcommands.specs.JobTexts.{IsNamed}
 use Rattle.subcommands.specs.Status.{is_err_at_read, is_err_at_write, IsEndOfOpening}
 use Rattle.subcommands.proofs.JobTexts.{choice_refused, choice_told, ended, ended_write_beside, no_pinned, opening_left, out_left, pinned_left, rendered_from, sound_beside}
 use Rattle.subcommands.specs.Fleet.{IsEndOfProfile}
-use Rattle.subcommands.proofs.FleetLemmas.{no_write_before}
+use Rattle.subcommands.proofs.FleetFacts.{no_write_before}
 use Rattle.subcommands.proofs.pin.pin.Goals as goal
 
 pub end_by-requires : goal.end_by-requires

@@ -1,5 +1,5 @@
 use Rattle.std.proofs.lemmas.Result.{IfOk-weaker}
-use Rattle.subcommands.proofs.FrontLemmas.{text_by}
+use Rattle.subcommands.proofs.FrontFacts.{text_by}
 use Rattle.subcommands.proofs.texts.read_text_from.Goals as goal
 
 pub returns-clause-reads : goal.returns-clause-reads

@@ -6,9 +6,9 @@ use Rattle.preflight.specs.declared.outcome.Outcome.TheVariants.{Fail}
 use Rattle.verdict.specs.declared.reason.Reason.TheVariants.{Finding as FindingOfRun}
 use Rattle.preflight.specs.Carriers.Rendering.{Ended, StartsWith}
 use Rattle.notes.specs.Notes.{long_run, noted_outcome}
-use Rattle.notes.specs.Carriers.Rest.{Tells, notes_from}
+use Rattle.notes.specs.Carriers.Rest.{WritesNotes, notes_from}
 use Rattle.notes.proofs.Rests.{none_written, refuses, takes, tells_finding, tells_item}
-use Rattle.notes.proofs.ToldNotes.{Tells-then}
+use Rattle.notes.proofs.ToldNotes.{WritesNotes-then}
 use Rattle.notes.proofs.job_notes.NotesRenderer.item.Goals as goal
 
 pub returns-in_err-tell_behind-in-Ok-clause-rendered : goal.returns-in_err-tell_behind-in-Ok-clause-rendered
@@ -21,8 +21,8 @@ pub returns-in_ok-tell_behind-in-Ok-clause-rendered : goal.returns-in_ok-tell_be
 returns-in_ok-tell_behind-in-Ok-clause-rendered g c =
     let notes = c.args.self.now in
     tells_item (g.N.NoteText.note_text notes.form.now) notes.machine notes.panel notes.past notes.closing notes.told.items (g.W.Outlet.state c.args._outlet.now) c.args.kept.now.items c.tell_behind.new.text.items
-    (at c.args.place (view c.args.item.now)) c.step.new.self c.step.new.sink c.behind-self.result c.standing_at-standing.result c.page-page.result.now c.tell_item.new.told.items c.tell_behind.new.told.items c.tell_item.new.text.items
-    c.in-Ok.ensures.1 c.in-Ok.ensures.2 c.in_ok-tell_item.ensures c.standing_at-standing.ensures c.page-page.ensures c.in_ok-tell_behind-in-Ok.ensures c.behind-self.ensures
+    (at c.args.place (view c.args.item.now)) c.step.new.self c.step.new.sink c.behind-self.result c.state_before_at-before.result c.page-page.result.now c.tell_item.new.told.items c.tell_behind.new.told.items c.tell_item.new.text.items
+    c.in-Ok.ensures.1 c.in-Ok.ensures.2 c.in_ok-tell_item.ensures c.state_before_at-before.ensures c.page-page.ensures c.in_ok-tell_behind-in-Ok.ensures c.behind-self.ensures
 
 pub returns-in_err-end_at-in-Err-Found-clause-rendered : goal.returns-in_err-end_at-in-Err-Found-clause-rendered
 returns-in_err-end_at-in-Err-Found-clause-rendered g c =
@@ -41,9 +41,9 @@ returns-in_ok-end_at-in-Err-Found-clause-rendered g c =
     let ended = c.in_ok-end_at-in-Err-Found.ensures in
     let found = c.in-Err-Found.finding-is in
     let outcome_is = subst (λ finding. c.in_ok-end_at-in-Err-Found.field-0 ≡ noted_outcome (Fail c.args.place 1 (FindingOfRun finding))) found ended.outcome in
-    let tells = subst (λ finding. Tells (g.N.NoteText.note_text notes.form.now) c.tell_item.new.told.items c.end_at.new.told.items c.tell_item.new.text.items c.end_at.new.text.items (long_run (Fail c.args.place 1 (FindingOfRun finding)))) found ended.tells in
+    let tells = subst (λ finding. WritesNotes (g.N.NoteText.note_text notes.form.now) c.tell_item.new.told.items c.end_at.new.told.items c.tell_item.new.text.items c.end_at.new.text.items (long_run (Fail c.args.place 1 (FindingOfRun finding)))) found ended.tells in
     subst (λ outcome. Ended (notes_from (g.N.NoteText.note_text notes.form.now) notes.machine notes.panel notes.past notes.closing.closed notes.told.items) (StartsWith x) outlet outlet kept c.end_at.new.text.items (Ok outcome)) (sym outcome_is)
-    (tells_finding (g.N.NoteText.note_text notes.form.now) notes.machine notes.panel notes.past notes.closing notes.told.items outlet kept c.end_at.new.text.items x c.step.new.sink c.end_at.new.told.items c.in-Err-Found.finding executed.2 (Tells-then c.in_ok-tell_item.ensures tells))
+    (tells_finding (g.N.NoteText.note_text notes.form.now) notes.machine notes.panel notes.past notes.closing notes.told.items outlet kept c.end_at.new.text.items x c.step.new.sink c.end_at.new.told.items c.in-Err-Found.finding executed.2 (WritesNotes-then c.in_ok-tell_item.ensures tells))
 
 pub returns-in-Err-Memory-clause-rendered : goal.returns-in-Err-Memory-clause-rendered
 returns-in-Err-Memory-clause-rendered g c =

@@ -4,7 +4,7 @@ use Rattle.pcl_items.specs.contracts.frame.Kind.{the_type}
 use Rattle.pcl_items.specs.declared.frame.Kind.{Kind}
 use Rattle.pcl_items.specs.declared.frame.Kind.TheVariants as kinds
 use Rattle.pcl_items.specs.declared.frame.Mnemonic.{Mnemonic}
-use Rattle.pcl_items.specs.declared.fault.Cause.TheVariants.{Syntax}
+use Rattle.pcl_items.specs.declared.fault.LexCause.TheVariants.{Syntax}
 use Rattle.pcl_items.specs.Frames.Kinds.{kind_of, capital}
 use Rattle.pcl_items.specs.Frames.Mnemonics.{mnemonic_at}
 use Rattle.pcl_items.specs.Lexing.Firsts.{Open, Faulty}

@@ -3,7 +3,7 @@ use Rattle.std.specs.Prelude.{◌==◌}
 use Rattle.std.proofs.lemmas.Bool.{cond-true, cond-false, eqb-true}
 use Rattle.std.proofs.lemmas.List.{take_all}
 use Rattle.pcl_items.specs.declared.fault.Name.TheVariants as names
-use Rattle.pcl_items.specs.declared.fault.Cause.TheVariants.{NotInProfile}
+use Rattle.pcl_items.specs.declared.fault.LexCause.TheVariants.{NotInProfile}
 use Rattle.pcl_items.specs.Lexing.Contexts.{Pcl}
 use Rattle.pcl_items.specs.Items.{Reset}
 use Rattle.pcl_items.specs.PjlLines.Exit.{exit_field, begins_with}

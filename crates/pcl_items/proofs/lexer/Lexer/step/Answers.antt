@@ -7,7 +7,7 @@ use Rattle.pcl_items.specs.Reader.{Begins}
 use Rattle.pcl_items.specs.Lexing.FirstView.{context_view, head_view, first_view}
 use Rattle.pcl_items.specs.Lexing.Ahead.{StandsAhead}
 use Rattle.pcl_items.specs.Lexing.State.{LexerState}
-use Rattle.pcl_items.specs.Lexing.Answers.{GoesOn}
+use Rattle.pcl_items.specs.Lexing.Answers.{AdvancesOver}
 use Rattle.pcl_items.proofs.Lexing.Stepped.{standing, item_ahead}
 use Rattle.pcl_items.proofs.lexer.Lexer.step.Goals as goal
 
@@ -23,7 +23,7 @@ returns-in-Begins g c =
     let entry_is : entry ≡ head_view w.head w.len (drop ahead.start window) = c.with_its_data-item.ensures.item ∙ ap (head_view w.head w.len) (take_rest _ ahead.start ∙ ap (drop ahead.start) c.deref-in-Begins.ensures.value) in
     let first : first_view (drop ahead.start window) ahead.first ≡ Begins entry w.len (context_view w.next) =
     ap (first_view (drop ahead.start window)) w.is ∙ ap (λ (e : Entry). Begins e w.len (context_view w.next)) (sym entry_is) in
-    let exact : GoesOn c.args.self.now (entries.at c.item_place-place.result entry ∷ []) (standing window (ahead.start + w.len) l.dropped (context_view w.next) l.ended held) =
-    subst (λ (old : LexerState). GoesOn old (entries.at c.item_place-place.result entry ∷ []) (standing window (ahead.start + w.len) l.dropped (context_view w.next) l.ended held)) c.self.view_is
+    let exact : AdvancesOver c.args.self.now (entries.at c.item_place-place.result entry ∷ []) (standing window (ahead.start + w.len) l.dropped (context_view w.next) l.ended held) =
+    subst (λ (old : LexerState). AdvancesOver old (entries.at c.item_place-place.result entry ∷ []) (standing window (ahead.start + w.len) l.dropped (context_view w.next) l.ended held)) c.self.view_is
     (item_ahead window l.at l.dropped (context_view l.context) l.ended held ahead h entry w.len (context_view w.next) c.item_place-place.result c.item_place-place.ensures first) in
     ((refl, λ _. tt, exact), tt)

@@ -1,7 +1,7 @@
 use Rattle.std.proofs.Common.{◌≡◌, ℕ, ◌+◌, ◌-◌, ◌≤◌, List, drop, Some, sym, ◌∙◌, arith}
 use Rattle.std.proofs.lemmas.Bool.{cond-true, cond-false}
 use Rattle.pcl_items.specs.declared.pcl.command.Group.{Group}
-use Rattle.pcl_items.specs.declared.fault.Cause.TheVariants.{Syntax}
+use Rattle.pcl_items.specs.declared.fault.LexCause.TheVariants.{Syntax}
 use Rattle.pcl_items.specs.Escapes.Commands.{data_command_at}
 use Rattle.pcl_items.specs.Escapes.Value.{Amount}
 use Rattle.pcl_items.specs.Items.{amount}

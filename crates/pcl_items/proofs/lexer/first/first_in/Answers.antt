@@ -10,4 +10,4 @@ returns-in-Pcl-clause-first c =
 
 pub returns-in-Pjl-clause-first : goal.returns-in-Pjl-clause-first
 returns-in-Pjl-clause-first c =
-    subst (λ (context : Context). first_view c.args.bytes.now c.between_lines.result ≡ first_of c.args.whole (context_view context) c.args.bytes.now) (sym c.in-Pjl.is) (c.between_lines.ensures.first c.args.whole)
+    subst (λ (context : Context). first_view c.args.bytes.now c.in_pjl.result ≡ first_of c.args.whole (context_view context) c.args.bytes.now) (sym c.in-Pjl.is) (c.in_pjl.ensures.first c.args.whole)

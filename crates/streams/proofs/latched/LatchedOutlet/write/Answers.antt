@@ -1,7 +1,7 @@
 use Rattle.std.proofs.Common.{rules, refl}
 use Rattle.std.specs.List.{concat}
 use Rattle.streams.specs.Outlet.{OutletState}
-use Rattle.streams.proofs.OutletLemmas.{takes_ok, takes_none}
+use Rattle.streams.proofs.OutletFacts.{takes_ok, takes_none}
 use Rattle.streams.proofs.latched.LatchedOutlet.write.Goals.{in-Ok+then-count-eq0, in-Ok+else-count-eq0, in-Err}
 use Rattle.streams.proofs.latched.LatchedOutlet.write.Goals as goal
 

@@ -1,4 +1,4 @@
-use Rattle.subcommands.proofs.JsonObjectLemmas.{no_float-put}
+use Rattle.subcommands.proofs.JsonObjectFacts.{no_float-put}
 use Rattle.subcommands.proofs.json_object.Object.put.Goals as goal
 
 pub invariant_of-self : goal.invariant_of-self

@@ -1,0 +1,166 @@
+//! Sinks that count, record and compare events.
+
+use crate::machine::{character, rectangle};
+use crate::recording::Event::{Character, Letter, Line, Rect, Square};
+use page_env::{Area, Bounds, Fill, Mark, PenLine};
+use page_machine::MarkSink;
+use sinks::{Comparer, Counts, Recorder};
+use std::alloc::{AllocError, Global};
+use std::process::Abort;
+use std::test::Fail;
+use testing_events::letter;
+use testing_failures::Refusing;
+use tick_length::Length;
+
+/// An event of a row.
+#[derive(Clone, Copy, Debug)]
+enum Event {
+    /// A square at the corner of the page, with sides of so many 7200ths of an inch.
+    Square(u32),
+    /// A black area with these edges, in 7200ths of an inch.
+    Rect((u32, u32, u32, u32)),
+    /// A character by its code.
+    Character(u8),
+    /// A line of the pen: its width, and where it begins and ends, in 7200ths of an inch.
+    Line((u32, u32, u32, u32, u32)),
+    /// So many copies of a page of letter paper in portrait.
+    Letter(u32),
+}
+
+fn square(side: u32) -> Mark<'static> {
+    Mark::Rect(Area {
+        fill: Fill::Solid,
+        bounds: Bounds {
+            left: Length::ZERO,
+            top: Length::ZERO,
+            right: Length::of_7200ths(side),
+            bottom: Length::of_7200ths(side),
+        },
+    })
+}
+
+/// A line of this width, from the first place to the second, in 7200ths of an inch.
+fn line((width, x0, y0, x1, y1): (u32, u32, u32, u32, u32)) -> PenLine {
+    PenLine {
+        width: Length::of_7200ths(width),
+        x0: Length::of_7200ths(x0),
+        y0: Length::of_7200ths(y0),
+        x1: Length::of_7200ths(x1),
+        y1: Length::of_7200ths(y1),
+    }
+}
+
+/// Hands events to a sink, up to the first that it refuses.
+fn hand<S: MarkSink>(events: &[Event], sink: &mut S) -> Result<(), S::Fault> {
+    for event in events {
+        let taken = match *event {
+            Square(side) => sink.mark(&square(side)),
+            Rect(edges) => sink.mark(&Mark::Rect(rectangle(edges))),
+            Character(code) => sink.mark(&Mark::Glyph(character(code))),
+            Line(words) => sink.mark(&Mark::Line(line(words))),
+            Letter(copies) => sink.page(letter(copies)),
+        };
+        match taken {
+            Ok(()) => {}
+            Err(fault) => return Err(fault),
+        }
+    }
+    Ok(())
+}
+
+const PAGE: &[Event] = &[Square(1), Letter(1), Letter(1)];
+
+/// Recorded events, others, and whether these differ from them.
+const ROWS: &[(&[Event], &[Event], bool)] = &[
+    (PAGE, PAGE, false),
+    (&[Square(1), Square(2)], &[Square(1), Square(2)], false),
+    (&[], &[], false),
+    (&[], &[Square(1)], true),
+    (PAGE, &[], true),
+    (PAGE, &[Square(1), Letter(1)], true),
+    (PAGE, &[Square(1), Letter(1), Letter(1), Letter(1)], true),
+    (PAGE, &[Square(2), Letter(1), Letter(1)], true),
+    (PAGE, &[Square(1), Letter(2), Letter(1)], true),
+    (PAGE, &[Letter(1), Square(1), Letter(1)], true),
+    (PAGE, &[Square(2), Square(1), Letter(1), Letter(1)], true),
+    (&[Rect((1, 2, 3, 4))], &[Rect((1, 2, 3, 4))], false),
+    (&[Rect((1, 2, 3, 4))], &[Rect((0, 2, 3, 4))], true),
+    (&[Rect((1, 2, 3, 4))], &[Rect((1, 0, 3, 4))], true),
+    (&[Rect((1, 2, 3, 4))], &[Rect((1, 2, 0, 4))], true),
+    (&[Rect((1, 2, 3, 4))], &[Rect((1, 2, 3, 0))], true),
+    (&[Rect((1, 2, 3, 4))], &[Rect((1, 2, 3, 5))], true),
+    (&[Character(b'A')], &[Character(b'A')], false),
+    (&[Character(b'A')], &[Character(b'B')], true),
+    (&[Character(b'A')], &[Rect((1800, 3600, 2520, 4800))], true),
+    (&[Line((9, 1, 2, 3, 4))], &[Line((9, 1, 2, 3, 4))], false),
+    (&[Line((9, 1, 2, 3, 4))], &[Line((8, 1, 2, 3, 4))], true),
+    (&[Line((9, 1, 2, 3, 4))], &[Line((9, 0, 2, 3, 4))], true),
+    (&[Line((9, 1, 2, 3, 4))], &[Line((9, 1, 0, 3, 4))], true),
+    (&[Line((9, 1, 2, 3, 4))], &[Line((9, 1, 2, 0, 4))], true),
+    (&[Line((9, 1, 2, 3, 4))], &[Line((9, 1, 2, 3, 0))], true),
+    // A line from the one end to the other is not that from the other to the one, nor the area
+    // between them.
+    (&[Line((9, 1, 2, 3, 4))], &[Line((9, 3, 4, 1, 2))], true),
+    (&[Line((9, 1, 2, 3, 4))], &[Rect((1, 2, 3, 4))], true),
+    (&[Rect((1, 2, 3, 4))], &[Line((9, 1, 2, 3, 4))], true),
+];
+
+/// Whether events differ from others that were recorded.
+fn differs(alloc: Global, recorded: &[Event], events: &[Event]) -> Result<bool, AllocError> {
+    let mut recorder = Recorder::new(alloc);
+    hand(recorded, &mut recorder)?;
+    let mut comparer = Comparer::new(recorder.events());
+    match hand(events, &mut comparer) {
+        Ok(()) => Ok(comparer.differs()),
+        Err(never) => match never {},
+    }
+}
+
+fn check_differences(
+    rt: &impl Abort,
+    alloc: Global,
+    rows: &[(&[Event], &[Event], bool)],
+) -> Result<(), Fail> {
+    for (recorded, events, differ) in rows {
+        let answer = differs(alloc, recorded, events)?;
+        assert_eq!(rt; answer, *differ, "{recorded:?} and {events:?}");
+    }
+    Ok(())
+}
+
+#[test]
+fn events_are_compared_in_order(rt: HostRuntime) -> Result<(), Fail> {
+    check_differences(&rt, rt.alloc(), ROWS)
+}
+
+#[test]
+fn a_recorder_is_cleared_and_counts_on(rt: HostRuntime) -> Result<(), Fail> {
+    let mut recorder = Recorder::new(rt.alloc());
+    hand(&[Square(1), Square(2), Letter(1)], &mut recorder)?;
+    let kept = recorder.events().len();
+    recorder.clear();
+    let cleared = recorder.events().len();
+    hand(&[Square(3)], &mut recorder)?;
+    let lengths = (kept, cleared, recorder.events().len());
+    let counts = Counts { pages: 1, marks: 3 };
+    assert_eq!(rt; (lengths, recorder.counts()), ((3, 0, 1), counts));
+    Ok(())
+}
+
+/// What is recorded of a square and a page where so many requests for memory are granted, and
+/// whether an event was refused.
+fn record_with(alloc: Global, requests: u64) -> (usize, Counts, bool) {
+    let heap = Refusing::new(alloc, requests);
+    let mut recorder = Recorder::new(&heap);
+    let is_refused = hand(&[Square(1), Letter(1)], &mut recorder).is_err();
+    (recorder.events().len(), recorder.counts(), is_refused)
+}
+
+#[test]
+fn a_refused_event_is_not_kept(rt: HostRuntime) {
+    let none = Counts { pages: 0, marks: 0 };
+    let both = Counts { pages: 1, marks: 1 };
+    for (requests, recorded) in [(0, (0, none, true)), (1, (2, both, false))] {
+        assert_eq!(rt; record_with(rt.alloc(), requests), recorded);
+    }
+}

@@ -1,0 +1,255 @@
+//! Runs of `check` on many jobs, and what comes of them.
+
+use device_profile::Sample;
+use std::alloc::{Allocator, Global};
+use std::process::Abort;
+use std::test::Fail;
+use subcommands::check_jobs::{ManyJobs, check_many};
+use subcommands::{EXPLANATIONS, Format, Telling, tell};
+use testing_failures::FailingOutlet;
+use testing_files::{Change, KeptJobs, KeptTexts, Named, NamedJob};
+use testing_items::RECTANGLE;
+
+/// All reads succeed.
+pub const SOUND: u64 = u64::MAX;
+
+/// The jobs of the rows. No job is named `gone`.
+const JOBS: &[NamedJob] = &[
+    (b"empty", b"", SOUND),
+    (b"move", b"\x1bE\x1b*p300X", SOUND),
+    (b"in/note 4711.pcl", RECTANGLE, SOUND),
+    (b"plex", b"\x1b&l1S\x1b&l2H", SOUND),
+    (b"fault", b"\x1b&l66P", SOUND),
+    // A read that is not reached fails, and one that is.
+    (b"early", b"\x1b)", 2),
+    (b"cut", RECTANGLE, 5),
+    (b"-a\n\\\xff '\xc3\xa4'", b"", SOUND),
+    (b"", b"", SOUND),
+    (b"macros", TWO_OF_THREE, SOUND),
+    (b"nested", TWO_WITH_THREE, SOUND),
+    (b"overlaid", TWO_PAGES_OF_THREE, SOUND),
+    // A page between two resets leaves nothing to the printer.
+    (b"whole", b"\x1bE\x1b&l0O\x0c\x1bE", SOUND),
+    // A page without a reset.
+    (b"in/x y\\.pcl", b"\x0c", SOUND),
+    // The orientation that a printer may have already, where the HMI is set.
+    (b"turned", b"\x1bE\x1b&k12H\x1b&l0O\x0c\x1bE", SOUND),
+    // What is noted of these is not told, since they do not pass.
+    (b"noted fault", b"\x1b&k12H\x1b&l66P", SOUND),
+    (b"noted cut", b"\x1b&k12H\x0c", 6),
+];
+
+/// A macro of three items, which is executed and called.
+const TWO_OF_THREE: &[u8] = b"\x1b&f1Y\x1b&f0X\r\r\r\x1b&f1X\x1b&f2X\x1b&f3X";
+
+/// A macro of three items, and one of two that executes it and is called.
+const TWO_WITH_THREE: &[u8] = b"\x1b&f1Y\x1b&f0X\r\r\r\x1b&f1X\
+    \x1b&f2Y\x1b&f0X\x1b&f1Y\x1b&f2X\x1b&f1X\x1b&f3X";
+
+/// A macro of three items, which is the overlay of two pages.
+const TWO_PAGES_OF_THREE: &[u8] = b"\x1b&f1Y\x1b&f0X\r\r\r\x1b&f1X\x1b&f4X\x0c\x0c";
+
+/// Texts of printers, and one that is refused. No text is named `none`.
+fn texts() -> [Named<'static>; 6] {
+    [
+        ("a", Sample::A.text()),
+        ("b", Sample::B.text()),
+        ("moved", MOVED),
+        ("export", EXPORT),
+        ("wide", WIDE),
+        ("in/un known", b"pclprofile 1\ncolour 1\n"),
+    ]
+}
+
+/// A printer named as sample B, with a logical page that begins 1/120 inch further right.
+const MOVED: &[u8] = b"\
+pclprofile 1
+name B
+size 2
+orientation 0
+vmi 8
+font 1
+copies 1
+sides 0
+tray 1
+trays 1 2
+duplex 1
+depth 2
+memory 100
+geometry 2 0 61200 79200 1860 0 57600 79200 1200 1200 60000 78000
+face 1 10U 10 12 0 0 3 720 900 300 33-126
+";
+
+/// A printer without duplex, with one tray and one face.
+const EXPORT: &[u8] = b"\
+pclprofile 1
+name export-desk
+size 2
+orientation 0
+vmi 8
+font 1
+copies 1
+sides 0
+tray 1
+trays 1
+duplex 0
+depth 2
+memory 100
+geometry 2 0 61200 79200 1800 0 57600 79200 1200 1200 60000 78000
+face 1 10U 10 12 0 0 3 720 900 300 33-126
+";
+
+/// A printer in landscape.
+const WIDE: &[u8] = b"\
+pclprofile 1
+name wide
+size 2
+orientation 1
+vmi 8
+font 1
+copies 1
+sides 0
+tray 1
+trays 1
+duplex 0
+depth 2
+memory 100
+geometry 2 0 61200 79200 1800 0 57600 79200 1200 1200 60000 78000
+geometry 2 1 79200 61200 1440 0 76320 61200 1200 1200 78000 60000
+face 1 10U 10 12 0 0 3 720 900 300 33-126
+";
+
+/// The form of what is told.
+#[derive(Clone, Copy)]
+pub enum Form {
+    Line,
+    Words,
+    Json,
+}
+
+/// How jobs are checked, and how it is told what came of them.
+#[derive(Clone, Copy)]
+pub struct Manner {
+    pub form: Form,
+    /// Each printer has lines of its own.
+    pub is_each: bool,
+    /// A FAIL counts as a PASS.
+    pub exit_zero: bool,
+    /// A FAIL and a note get their explanations.
+    pub explains: bool,
+    /// The notes of a job that passes are told.
+    pub tells_notes: bool,
+    /// How many items macros may carry out in a job, where that is limited.
+    pub most_items: Option<u64>,
+    /// A job that is read otherwise than its name says.
+    pub change: Option<Change>,
+}
+
+/// For all printers together, in lines.
+pub const TOGETHER: Manner = Manner {
+    form: Form::Line,
+    is_each: false,
+    exit_zero: false,
+    explains: false,
+    tells_notes: false,
+    most_items: None,
+    change: None,
+};
+
+/// For each printer by itself, in lines.
+pub const EACH: Manner = Manner {
+    is_each: true,
+    ..TOGETHER
+};
+
+/// The words of printers, the names of jobs, and how these are checked.
+pub type Run = (&'static [&'static str], &'static [&'static [u8]], Manner);
+
+/// An exit status, and what is written on standard output and on standard error.
+pub type Answer<'a> = (u8, &'a [u8], &'a [u8]);
+
+/// What came of a run.
+#[derive(Drop)]
+pub struct Ended {
+    code: u8,
+    stdout: FailingOutlet,
+    stderr: FailingOutlet,
+}
+
+impl Ended {
+    pub fn told(&self) -> Answer<'_> {
+        (self.code, self.stdout.taken(), self.stderr.taken())
+    }
+}
+
+impl Manner {
+    fn telling(&self, alloc: Global) -> Telling<'static> {
+        let format = match self.form {
+            Form::Line => Format::Line,
+            Form::Words => Format::Words,
+            Form::Json => Format::Json(alloc),
+        };
+        Telling {
+            format,
+            explanations: if self.explains { &EXPLANATIONS } else { &[] },
+            exit_zero: self.exit_zero,
+        }
+    }
+}
+
+/// Does a run with this memory, where so many writes of standard output succeed.
+pub fn run_of<H: Allocator + Copy>(
+    alloc: Global,
+    heap: H,
+    (printers, jobs, manner): Run,
+    writes: u64,
+) -> Result<Ended, Fail> {
+    if printers.is_empty() {
+        return Err(Fail::new("no printers"));
+    }
+    let named = texts();
+    let mut texts = KeptTexts::new(&named);
+    let mut kept = KeptJobs::with_change(JOBS, manner.change);
+    let asked = ManyJobs {
+        jobs,
+        printers,
+        most_items: manner.most_items,
+        is_each: manner.is_each,
+        tells_notes: manner.tells_notes,
+        telling: manner.telling(alloc),
+    };
+    let mut stdout = FailingOutlet::new(alloc, writes);
+    let mut stderr = FailingOutlet::new(alloc, u64::MAX);
+    let status = check_many(
+        heap,
+        &mut kept,
+        &mut texts,
+        &asked,
+        &mut stdout,
+        &mut stderr,
+    );
+    tell(status, &mut stderr);
+    Ok(Ended {
+        code: status.code(),
+        stdout,
+        stderr,
+    })
+}
+
+/// A text, for a message.
+pub fn shown(text: &[u8]) -> &str {
+    str::from_utf8(text).unwrap_or("not UTF-8")
+}
+
+/// Does what each row asks for, and compares what came of it.
+pub fn check_runs(
+    rt: &(impl Abort + AllocGlobal),
+    rows: &[(Run, Answer<'static>)],
+) -> Result<(), Fail> {
+    for (run, answer) in rows {
+        let ended = run_of(rt.alloc(), rt.alloc(), *run, u64::MAX)?;
+        let told = ended.told();
+        assert!(rt; told == *answer, "{}{}", shown(told.1), shown(told.2));
+    }
+    Ok(())
+}
