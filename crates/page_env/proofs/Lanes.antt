@@ -9,7 +9,7 @@ use lib.Lanes.{mask_l, top}
 use Rattle.device_profile.specs.declared.font.CodeRange.{CodeRange}
 use Rattle.device_profile.specs.Faces.{is_text_of}
 use Rattle.page_env.specs.Lanes.{first_set}
-use Rattle.page_env.specs.TextRun.{CanGoIn}
+use Rattle.page_env.specs.TextLines.{CanGoIn}
 use Rattle.page_env.proofs.TextGoes.{space_or_in}
 
 -- a lane where one of two tests is met, and a third

@@ -1,34 +1,31 @@
--- A byte of text where the measure is known.
-use Rattle.std.proofs.Common.{◌≡◌, ℕ, ℤ, pos, zero, suc, ◌+◌, ◌-◌, ◌*◌, ◌≤◌, ◌<◌, ◌==◌, List, [], ◌∷◌, ◌++◌, length, take, drop, get_or, Bool, true, false, not, ◌&&◌, ◌||◌, cond, Option, None, Some, refl, sym, ap, subst, ◌∙◌, arith}
-use Rattle.std.specs.Prelude.{◌+ℤ◌, int_lt, nat_le, is_none, unwrap_or}
+-- A byte of lines of text, where the measure is known.
+use Rattle.std.proofs.Common.{◌≡◌, ℕ, ℤ, pos, zero, suc, ◌+◌, ◌-◌, ◌<◌, ◌≤◌, ◌==◌, length, take, drop, get_or, List, [], ◌∷◌, ◌++◌, Bool, true, false, not, ◌&&◌, ◌||◌, cond, Option, None, Some, refl, sym, ap, subst, ◌∙◌, arith}
+use Rattle.std.specs.Prelude.{◌+ℤ◌, ◌-ℤ◌, ◌≤ℤ◌, int_lt, nat_le, is_none, unwrap_or}
 use Rattle.std.specs.Option.{option_map_or}
-use Rattle.std.proofs.Math.Nat.{suc-mul}
 use Rattle.std.proofs.Math.Seq.{take-add}
 use Rattle.std.proofs.lemmas.Int.{ints}
-use Rattle.std.proofs.lemmas.Bool.{and_parts, leb-true}
+use Rattle.std.proofs.lemmas.List.{take_more, take_rest}
+use Rattle.std.proofs.lemmas.Bool.{and_parts, cond-false, leb-true}
 use Rattle.std.proofs.lemmas.Bool.Decides.{nat_tests}
-use Rattle.std.proofs.lemmas.List.{take_more, take_rest, length-take-le}
-use Rattle.tick_length.specs.Length.{IsInRange}
 use Rattle.device_profile.specs.declared.field.Field.{Field}
-use Rattle.device_profile.specs.declared.panel.Panel.{Panel}
 use Rattle.device_profile.specs.declared.font.CodeRange.{CodeRange}
-use Rattle.device_profile.specs.Faces.{Face, has_code, is_text_of}
+use Rattle.device_profile.specs.Faces.{has_code, is_text_of}
 use Rattle.device_profile.specs.Printer.{Printer}
 use Rattle.page_env.specs.declared.finding.Finding.{Finding}
-use Rattle.page_env.specs.declared.finding.Finding.TheVariants.{NoFont, NoGlyph, OffPage, PastRightMargin, NotPrintable}
-use Rattle.page_env.specs.declared.page.Page.{Page}
-use Rattle.page_env.specs.declared.text_run.Look.{Look}
-use Rattle.page_env.specs.declared.text_run.TextRun.{TextRun}
-use Rattle.page_env.specs.Settings.{Settings, State, state_at}
+use Rattle.page_env.specs.declared.finding.Finding.TheVariants.{NoFont, NoGlyph, NotPrintable, OffPage, PastRightMargin}
+use Rattle.page_env.specs.declared.motion.Feed.TheVariants.{Line as WholeLine}
+use Rattle.page_env.specs.declared.text_lines.TextPlace.{TextPlace}
+use Rattle.page_env.specs.Settings.{Settings, State}
 use Rattle.page_env.specs.FontInForce.{font_reads}
 use Rattle.page_env.specs.Mark.{Character, characters_of, is_inside}
-use Rattle.page_env.specs.Places.{column_from, column_of, column_reads, home_of, right_of, vertical_place, vertical_reads}
-use Rattle.page_env.specs.Effect.{check, first_finding, first_unset, is_unset, effect_of, Step, Goes}
-use Rattle.page_env.specs.Text.{edge_checks, character_checks, character_box, text_reads, behind_of, advanced, space, character, print_byte}
-use Rattle.page_env.specs.Answers.{Marks}
-use Rattle.page_env.specs.TextRun as run
-use Rattle.page_env.specs.TextRun.{glyph_in, look_behind, page_behind, AllGo, CanGoIn, GoFirst, IsRun, page_behind_all, glyph_count}
-use Rattle.page_env.specs.TextMeasure.{TextMeasure, IsMeasured, HasMeasure, HasColumn, HasColumns, box_at, look_at, GoLike, IsMeasuredRun}
+use Rattle.page_env.specs.Motion.{before_feed, carriage_return, fed_to, feed_by, feed_down, is_past_bottom, return_with}
+use Rattle.page_env.specs.Places.{bottom_of, column_from, column_of, column_reads, geometry_of, origin_of, page_and_line_reads}
+use Rattle.page_env.specs.Effect.{check, first_finding, first_unset, is_unset, unset_or, effect_of, moving, Step, Goes}
+use Rattle.page_env.specs.Table.{transition_of}
+use Rattle.page_env.specs.Text.{edge_checks, character_box, text_reads, behind_of, space, character}
+use Rattle.pcl_items.specs.Items.{CarriageReturn, LineFeed, Text}
+use Rattle.page_env.specs.TextLines.{CanGoIn, a_line_down, at_left, box_at}
+use Rattle.page_env.specs.TextMeasure.{TextMeasure, IsMeasured, EndsLines, HasColumn, HasLine, HasRoomFor, lies_in}
 use Rattle.page_env.proofs.Lines.{goes_line}
 use Rattle.page_env.proofs.TextJudging.{column_of_face}
 
@@ -42,6 +39,12 @@ fewer_read settings (x ∷ xs) ys e = by (is_unset settings x) (first_unset sett
     by true u v h e = absurd cc
     by false u v h e = h e
 
+-- what a feed reads, of which the first two are read by text, too
+read_both : (a b : Bool) (x y : Field) (u v : Option Field) → cond a (Some x) (cond b (Some y) u) ≡ None → v ≡ None → cond a (Some x) (cond b (Some y) v) ≡ None
+read_both true b x y u v e h = absurd cc
+read_both false true x y u v e h = absurd cc
+read_both false false x y u v e h = h
+
 none_of_four : (has off past inside : Bool) (e f g k : Finding) → has ≡ true → cond off (Some f) (cond past (Some g) None) ≡ None → inside ≡ true → cond (not has) (Some e) (cond off (Some f) (cond past (Some g) (cond (not inside) (Some k) None))) ≡ None
 none_of_four true true past inside e f g k has none is = absurd cc
 none_of_four true false true inside e f g k has none is = absurd cc
@@ -49,156 +52,145 @@ none_of_four true false false true e f g k has none is = refl
 none_of_four true false false false e f g k has none is = absurd cc
 none_of_four false off past inside e f g k has none is = absurd cc
 
-text_of_face : (face : Face) (code : ℕ) → is_text_of face.codes code ≡ true → 32 ≤ code
-text_of_face face code h = leb-true 32 code (and_parts (nat_le 32 code) (code == 32 || has_code face.codes code) h).0
+pub text_of_codes : (codes : List CodeRange) (code : ℕ) → is_text_of codes code ≡ true → 32 ≤ code
+text_of_codes codes code h = leb-true 32 code (and_parts (nat_le 32 code) (code == 32 || has_code codes code) h).0
 
-known_code : (face : Face) (code : ℕ) → is_text_of face.codes code ≡ true → (code == 32) ≡ false → has_code face.codes code ≡ true
-known_code face code h other = by (code == 32) (has_code face.codes code) other (and_parts (nat_le 32 code) (code == 32 || has_code face.codes code) h).1
+known_code : (codes : List CodeRange) (code : ℕ) → is_text_of codes code ≡ true → (code == 32) ≡ false → has_code codes code ≡ true
+known_code codes code h other = by (code == 32) (has_code codes code) other (and_parts (nat_le 32 code) (code == 32 || has_code codes code) h).1
   where
     by : (a b : Bool) → a ≡ false → (a || b) ≡ true → b ≡ true
     by true b e h = absurd cc
     by false b e h = h
 
+-- a place up to the foot lies past neither bottom
+not_past : (skips : Bool) (bottom height foot y : ℤ) → cond skips bottom height ≡ foot → y ≤ℤ foot → ((skips && int_lt bottom y) ≡ false) × ((not skips && int_lt height y) ≡ false)
+not_past true bottom height foot y e h = (is_less bottom foot y e h, refl)
+  where
+    is_less : (b f z : ℤ) → b ≡ f → z ≤ℤ f → int_lt b z ≡ false
+    is_less b f z e h = by (int_lt b z) refl
+      where
+        by : (t : Bool) → int_lt b z ≡ t → t ≡ false
+        by true q = absurd (omega (arith, ints, q, e, h))
+        by false q = refl
+not_past false bottom height foot y e h = (refl, is_less height foot y e h)
+  where
+    is_less : (b f z : ℤ) → b ≡ f → z ≤ℤ f → int_lt b z ≡ false
+    is_less b f z e h = by (int_lt b z) refl
+      where
+        by : (t : Bool) → int_lt b z ≡ t → t ≡ false
+        by true q = absurd (omega (arith, ints, q, e, h))
+        by false q = refl
+
 -- ---- one byte
 
+-- the cursor stands at a place
+abbrev pub stand : TextPlace → State → State
+stand place s = record s { cursor = record { x = place.x; y = Some place.y } }
+
 module _ (printer : Printer) (s : State) (m : TextMeasure) (h : IsMeasured printer s m) where
-  column_is : column_of printer s ≡ Some m.column
-  column_is = ap (column_from s.settings.job.hmi) h.face ∙ column_of_face s.settings.job.hmi m.face ∙ ap Some (sym h.column)
+  column_is : column_of printer s ≡ Some m.look.column
+  column_is = ap (column_from s.settings.job.hmi) h.face_is ∙ column_of_face s.settings.job.hmi h.face ∙ ap Some h.column
 
-  right_is : right_of printer s ≡ m.right
-  right_is = ap (λ q. unwrap_or s.settings.job.right_margin q.logical_width) h.geometry ∙ sym h.right
+  module _ (place : TextPlace) where
+    abbrev here : State
+    here = stand place s
 
-  place_is : vertical_place s ≡ m.y
-  place_is = ap (λ o. unwrap_or o (home_of s)) h.y
+    abbrev on : TextPlace
+    on = record place { x = place.x +ℤ pos m.look.column }
 
-  behind_is : behind_of printer s ≡ s.cursor.x +ℤ pos m.column
-  behind_is = ap (λ o. s.cursor.x +ℤ pos (unwrap_or o 0)) column_is
+    behind_is : behind_of printer here ≡ on.x
+    behind_is = ap (λ o. place.x +ℤ pos (unwrap_or o 0)) column_is
 
-  abbrev on : State
-  on = record s { cursor = record s.cursor { x = s.cursor.x +ℤ pos m.column } }
-
-  advanced_is : advanced printer s ≡ on
-  advanced_is = let y : Some (vertical_place s) ≡ s.cursor.y = ap Some place_is ∙ sym h.y in λ i. record s { cursor = record { x = behind_is i; y = y i } }
-
-  space_read : first_unset s.settings (text_reads s.cursor.y (column_reads s.settings.job)) ≡ None
-  unfolding text_reads
-  space_read = by s.settings.job.hmi
-    where
-      by : (hmi : Option ℕ) → first_unset s.settings (text_reads s.cursor.y (cond (is_none hmi) (font_reads s.settings.job.font) [])) ≡ None
-      by None = h.read
-      by (Some hmi) = fewer_read s.settings (Field.Size ∷ Field.Orientation ∷ vertical_reads s.cursor.y) (font_reads s.settings.job.font) h.read
-
-  module _ (k : HasColumn m s.cursor.x) where
-    space_goes : effect_of s.settings (Step (space printer s)) ≡ Goes on []
-    space_goes =
-        let none : first_finding (space printer s).after ≡ None =
-        (λ i. first_finding (check (is_none (column_is i)) NoFont ∷ edge_checks (right_is i) (h.geometry i).logical_width s.cursor.x (behind_is i))) ∙ k.ends in
-        goes_line s.settings (space printer s) (Goes (advanced printer s) []) refl space_read none ∙ ap (λ t. Goes t []) advanced_is
-
-    character_goes : (code : ℕ) → has_code m.face.codes code ≡ true → effect_of s.settings (Step (character printer s code)) ≡ Goes (record on { marked = true }) (Character (record { code = code; request = m.request; y = m.origin.y +ℤ m.y; bounds = box_at m s.cursor.x }) ∷ [])
-    character_goes code has =
-        let x = s.cursor.x in
-        let none : first_finding (character printer s code).after ≡ None =
-        (λ i. first_finding (option_map_or (λ face. character_checks (h.geometry i) face code (right_is i) x (behind_is i) (character_box face ((h.origin i).x +ℤ x) ((h.origin i).y +ℤ place_is i))) (h.face i) (check true NoFont ∷ [])))
-        ∙ none_of_four (has_code m.face.codes code) (not (int_lt x m.right) && int_lt m.geometry.logical_width (x +ℤ pos m.column)) (int_lt x m.right && int_lt m.right (x +ℤ pos m.column)) (is_inside m.geometry (box_at m x)) NoGlyph OffPage PastRightMargin NotPrintable has k.ends k.inside in
-        goes_line s.settings (character printer s code) (Goes (character printer s code).state (character printer s code).marks) refl h.read none
-        ∙ (λ i. Goes (record (advanced_is i) { marked = true }) (option_map_or (λ face. Character (record { code = code; request = h.request i; y = (h.origin i).y +ℤ place_is i; bounds = character_box face ((h.origin i).x +ℤ x) ((h.origin i).y +ℤ place_is i) }) ∷ []) (h.face i) []))
-
-    byte_goes : (code : ℕ) → is_text_of m.face.codes code ≡ true → effect_of s.settings (Step (print_byte printer s code)) ≡ Goes (record on { marked = not (code == 32) || s.marked }) (characters_of (glyph_in (look_at m s.cursor.x) code))
-    byte_goes code known = by (code == 32) refl
-      where
-        by : (b : Bool) → (code == 32) ≡ b → effect_of s.settings (Step (cond b (space printer s) (character printer s code))) ≡ Goes (record on { marked = not b || s.marked }) (characters_of (cond b None (Some (record { code = code; request = m.request; y = m.origin.y +ℤ m.y; bounds = box_at m s.cursor.x }))))
-        by true e = space_goes
-        by false e = character_goes code (known_code m.face code known e)
-
--- ---- bytes one after another
-
--- that no raster is started is so under whatever panel
-some_panel : Panel
-some_panel = record { size = 0; orientation = 0; vmi = 0; font = 0; copies = 0; sides = 0; tray = 0; line_termination = 0 }
-
-module _ (printer : Printer) (m : TextMeasure) where
-  measure_stays : (look : Look) (code : ℕ) (page : Page) → HasMeasure printer page m → HasMeasure printer (page_behind look code page) m
-  measure_stays look code page h = λ panel.
-      let k = h panel in
-      record { read = k.read; request = k.request; face = k.face; geometry = k.geometry; origin = k.origin; y = k.y; column = k.column; right = k.right; no_raster = k.no_raster }
-
-  goes : (page : Page) (code : ℕ) → HasMeasure printer page m → HasColumn m page.cursor.x → is_text_of m.face.codes code ≡ true → run.Goes printer (look_at m page.cursor.x) page code
-  unfolding Marks
-  goes page code h k known = record {
-    text = text_of_face m.face code known;
-    no_raster = (h some_panel).no_raster;
-    within = k.within;
-    prints = λ panel. byte_goes printer (state_at panel page) m (h panel) k code known;
-  }
-
-  next_look : (x : ℤ) → look_at m (x +ℤ pos m.column) ≡ look_behind (look_at m x)
-  next_look x =
-      let begin = m.origin.x in
-      let left : begin +ℤ (x +ℤ pos m.column) ≡ (begin +ℤ x) +ℤ pos m.column = omega (arith, ints) in
-      let right : (begin +ℤ (x +ℤ pos m.column)) +ℤ m.face.advance ≡ ((begin +ℤ x) +ℤ m.face.advance) +ℤ pos m.column = omega (arith, ints) in
-      λ i. record (look_at m x) { bounds = record (box_at m x) { left = left i; right = right i } }
-
-  pub all_go : (codes : List ℕ) (page : Page) → HasMeasure printer page m → HasColumns m page.cursor.x (length codes) → CanGoIn m.face.codes codes → AllGo printer (look_at m page.cursor.x) page codes
-  all_go [] page h k known = tt
-  all_go (code ∷ codes) page h k known =
-      let x = page.cursor.x in
-      let behind = page_behind (look_at m x) code page in
-      (goes page code h k.0 known.0, subst (λ look. AllGo printer look behind codes) (next_look x) (all_go codes behind (measure_stays (look_at m x) code page h) k.1 known.1))
-
--- bytes that begin where the cursor stands
-pub go_first : (printer : Printer) (m : TextMeasure) (page : Page) (look : Look) (bytes : List ℕ) (count : ℕ) → HasMeasure printer page m → GoLike m page.cursor.x look bytes count → GoFirst printer look page bytes count
-go_first printer m page look bytes count h g =
-    let text = take count bytes in
-    let len : count ≡ length text = sym (length-take-le count bytes g.short) in
-    record {
-      some = g.some;
-      short = g.short;
-      go = subst (λ l. AllGo printer l page text) (sym g.looks) (all_go printer m text page h (subst (λ n. HasColumns m page.cursor.x n) len g.columns) g.in_face);
+    -- the box of a character of the face is that of the look
+    box_is : character_box h.face ((origin_of printer s).x +ℤ place.x) ((origin_of printer s).y +ℤ place.y) ≡ box_at m.look place
+    box_is = λ i. record {
+      left = (h.origin i).x +ℤ place.x;
+      top = ((h.origin i).y +ℤ place.y) -ℤ h.looks.ascent i;
+      right = ((h.origin i).x +ℤ place.x) +ℤ h.looks.advance i;
+      bottom = ((h.origin i).y +ℤ place.y) +ℤ h.looks.descent i;
     }
 
-pub run_goes : (printer : Printer) (m : TextMeasure) (page : Page) (bytes : List ℕ) → HasMeasure printer page m → (run : TextRun) → IsMeasuredRun m page.cursor.x bytes run → IsRun printer page bytes run
-run_goes printer m page bytes h run r = record {
-  few = r.few;
-  in_face = subst (λ codes. CanGoIn codes (take run.count bytes)) (sym r.codes) r.go.in_face;
-  go = go_first printer m page run.look bytes run.count h r.go;
-}
+    inside_is : is_inside (geometry_of printer s) (character_box h.face ((origin_of printer s).x +ℤ place.x) ((origin_of printer s).y +ℤ place.y)) ≡ lies_in m.bounds.area (box_at m.look place)
+    unfolding is_inside
+    inside_is = λ i. lies_in (h.area i) (box_is i)
 
--- ---- what is behind them
+    space_read : first_unset s.settings (text_reads (Some place.y) (column_reads s.settings.job)) ≡ None
+    unfolding text_reads
+    space_read = by s.settings.job.hmi
+      where
+        by : (hmi : Option ℕ) → first_unset s.settings (text_reads (Some place.y) (cond (is_none hmi) (font_reads s.settings.job.font) [])) ≡ None
+        by None = h.read place.y
+        by (Some hmi) = fewer_read s.settings (Field.Size ∷ Field.Orientation ∷ []) (font_reads s.settings.job.font) (h.read place.y)
 
-pub stays_in_range : (printer : Printer) (codes : List ℕ) (look : Look) (page : Page) → IsInRange page.cursor.x → AllGo printer look page codes → IsInRange (page.cursor.x +ℤ pos (length codes * look.column))
-stays_in_range printer [] look page here h = omega (arith, ints, here)
-stays_in_range printer (code ∷ codes) look page here h =
-    let further = stays_in_range printer codes (look_behind look) (page_behind look code page) h.0.within h.1 in
-    let more = suc-mul (length codes) look.column in
-    omega (arith, ints, further, more)
+    module _ (k : HasColumn m place) where
+      space_goes : effect_of s.settings (Step (space printer here)) ≡ Goes (stand on s) []
+      space_goes =
+          let none : first_finding (space printer here).after ≡ None =
+          (λ i. first_finding (check (is_none (column_is i)) NoFont ∷ edge_checks (h.right i) (h.width i) place.x (behind_is i))) ∙ k.ends in
+          goes_line s.settings (space printer here) (Goes (space printer here).state []) refl space_read none
+          ∙ (λ i. Goes (record s { cursor = record { x = behind_is i; y = Some place.y } }) [])
 
-pub behind_all : (codes : List ℕ) (look : Look) (page : Page) → page_behind_all look codes page ≡ record page { cursor = record page.cursor { x = page.cursor.x +ℤ pos (length codes * look.column) }; marked = not (glyph_count codes == 0) || page.marked }
-behind_all [] look page =
-    let same : page.cursor.x ≡ page.cursor.x +ℤ pos (0 * look.column) = omega (arith, ints) in
-    λ i. record page { cursor = record page.cursor { x = same i } }
-behind_all (code ∷ codes) look page =
-    let more = suc-mul (length codes) look.column in
-    let same : (page.cursor.x +ℤ pos look.column) +ℤ pos (length codes * look.column) ≡ page.cursor.x +ℤ pos (suc (length codes) * look.column) = omega (arith, ints, more) in
-    behind_all codes (look_behind look) (page_behind look code page)
-    ∙ (λ i. record page { cursor = record page.cursor { x = same i }; marked = by (code == 32) (glyph_count codes) page.marked i })
-  where
-    marked_by : (b marked : Bool) → (not b || (true || marked)) ≡ true
-    marked_by true marked = refl
-    marked_by false marked = refl
+      character_goes : (code : ℕ) → has_code m.codes code ≡ true → effect_of s.settings (Step (character printer here code)) ≡ Goes (record (stand on s) { marked = true }) (Character (record { code = code; request = m.look.request; y = m.look.origin.y +ℤ place.y; bounds = box_at m.look place }) ∷ [])
+      character_goes code has =
+          let x = place.x in
+          let none : first_finding (character printer here code).after ≡ None =
+          (λ i. first_finding (option_map_or (λ face. check (not (has_code face.codes code)) NoGlyph ∷ edge_checks (h.right i) (h.width i) x (behind_is i) ++ check (not (is_inside (geometry_of printer s) (character_box face ((origin_of printer s).x +ℤ x) ((origin_of printer s).y +ℤ place.y)))) NotPrintable ∷ []) (h.face_is i) (check true NoFont ∷ [])))
+          ∙ (λ i. first_finding (check (not (has_code (h.looks.codes_are i) code)) NoGlyph ∷ edge_checks m.bounds.right m.bounds.width x on.x ++ check (not (inside_is i)) NotPrintable ∷ []))
+          ∙ none_of_four (has_code m.codes code) (not (int_lt x m.bounds.right) && int_lt m.bounds.width on.x) (int_lt x m.bounds.right && int_lt m.bounds.right on.x) (lies_in m.bounds.area (box_at m.look place)) NoGlyph OffPage PastRightMargin NotPrintable has k.ends k.inside in
+          goes_line s.settings (character printer here code) (Goes (character printer here code).state (character printer here code).marks) refl (h.read place.y) none
+          ∙ (λ i. Goes (record s { cursor = record { x = behind_is i; y = Some place.y }; marked = true }) (option_map_or (λ face. Character (record { code = code; request = h.request i; y = (h.origin i).y +ℤ place.y; bounds = character_box face ((origin_of printer s).x +ℤ x) ((origin_of printer s).y +ℤ place.y) }) ∷ []) (h.face_is i) []))
+          ∙ (λ i. Goes (record (stand on s) { marked = true }) (Character (record { code = code; request = m.look.request; y = m.look.origin.y +ℤ place.y; bounds = box_is i }) ∷ []))
 
-    by : (b : Bool) (n : ℕ) (marked : Bool) → (not (n == 0) || (not b || marked)) ≡ (not (cond b 0 1 + n == 0) || marked)
-    by true n marked = let same : n ≡ 0 + n = omega arith in ap (λ k. not (k == 0) || marked) same
-    by false n marked =
-        let some : (1 + n == 0) ≡ false = grind (arith, nat_tests) in
-        marked_by (n == 0) marked ∙ sym (ap (λ b. not b || marked) some)
+    -- a line further down, which is not past the foot
+    feed_goes : EndsLines s m → HasLine m place → effect_of s.settings (feed_by printer here WholeLine) ≡ Goes (stand (a_line_down m.look place) s) []
+    unfolding page_and_line_reads text_reads
+    feed_goes ends line =
+        let fed : fed_to here WholeLine ≡ (a_line_down m.look place).y = λ i. place.y +ℤ ends.line i in
+        let within = not_past s.settings.job.skips_perforation (bottom_of printer s) (geometry_of printer s).logical_height m.bounds.foot (a_line_down m.look place).y h.foot line in
+        let y = fed_to here WholeLine in
+        let step = feed_down printer here y in
+        let past : is_past_bottom printer here y ≡ false = (λ i. s.settings.job.skips_perforation && int_lt (bottom_of printer s) (fed i)) ∙ within.0 in
+        let off : (not s.settings.job.skips_perforation && int_lt (geometry_of printer s).logical_height y) ≡ false = (λ i. not s.settings.job.skips_perforation && int_lt (geometry_of printer s).logical_height (fed i)) ∙ within.1 in
+        let read : first_unset s.settings page_and_line_reads ≡ None =
+        read_both (is_unset s.settings Field.Size) (is_unset s.settings Field.Orientation) Field.Size Field.Orientation (first_unset s.settings (font_reads s.settings.job.font)) (first_unset s.settings (Field.Vmi ∷ [])) (h.read place.y) ends.line_read in
+        ap (effect_of s.settings) (cond-false (is_past_bottom printer here y) _ (Step step) past)
+        ∙ goes_line s.settings step (Goes step.state []) refl read (λ i. first_finding (check (off i) OffPage ∷ []))
+        ∙ (λ i. Goes (stand (record place { y = fed i }) s) [])
 
-count_snoc : (codes : List ℕ) (code : ℕ) → glyph_count (codes ++ code ∷ []) ≡ glyph_count codes + cond (code == 32) 0 1
-count_snoc [] code = omega arith
-count_snoc (c ∷ codes) code = omega (arith, count_snoc codes code)
+  module _ (defaults : Settings) (place : TextPlace) where
+    -- what is behind a return or a feed, from where the left margin is
+    left_goes : (b : Bool) → effect_of s.settings (feed_by printer (cond b (carriage_return (here place)) (here place)) WholeLine) ≡ effect_of s.settings (feed_by printer (stand (cond b (at_left m.look place) place) s) WholeLine)
+    left_goes true = λ i. effect_of s.settings (feed_by printer (stand (record place { x = h.left i }) s) WholeLine)
+    left_goes false = refl
 
-pub count_more : (codes : List ℕ) (i d : ℕ) → i < length codes → glyph_count (take (i + 1) codes) ≡ glyph_count (take i codes) + cond (get_or codes i d == 32) 0 1
-count_more codes i d inside = ap glyph_count (take_more codes i d inside) ∙ count_snoc (take i codes) (get_or codes i d)
+    return_goes : (b : Bool) → EndsLines s m → (b ≡ true → HasLine m place) → effect_of s.settings (cond b (feed_by printer (carriage_return (here place)) WholeLine) (Step (moving (carriage_return (here place))))) ≡ Goes (stand (cond b (a_line_down m.look (at_left m.look place)) (at_left m.look place)) s) []
+    return_goes true ends line = left_goes true ∙ feed_goes (at_left m.look place) ends (line refl)
+    return_goes false ends line = λ i. Goes (stand (record place { x = h.left i }) s) []
+
+    fed_goes : (b : Bool) → EndsLines s m → HasLine m place → effect_of s.settings (feed_by printer (cond b (carriage_return (here place)) (here place)) WholeLine) ≡ Goes (stand (a_line_down m.look (cond b (at_left m.look place) place)) s) []
+    fed_goes true ends line = left_goes true ∙ feed_goes (at_left m.look place) ends line
+    fed_goes false ends line = feed_goes place ends line
+
+    -- a byte that has room, told by whether it is CR, and whether LF
+    pub byte_goes : (code : ℕ) (returns feeds : Bool) → HasRoomFor m place code returns feeds →
+        effect_of s.settings (transition_of printer defaults (here place) (cond returns CarriageReturn (cond feeds LineFeed (Text code)))) ≡
+        Goes (record (stand (cond returns (cond m.look.termination.feeds_at_return (a_line_down m.look (at_left m.look place)) (at_left m.look place))
+        (cond feeds (a_line_down m.look (cond m.look.termination.returns_at_feed (at_left m.look place) place)) (on place))) s)
+        { marked = not (returns || (feeds || (code == 32))) || s.marked })
+        (characters_of (cond (returns || (feeds || (code == 32))) None (Some (record { code = code; request = m.look.request; y = m.look.origin.y +ℤ place.y; bounds = box_at m.look place }))))
+    byte_goes code true feeds room =
+        let ends = h.ends room.0 in
+        (λ i. unset_or (ends.read i) (effect_of s.settings (return_with printer (ends.termination i) (here place))))
+        ∙ return_goes m.look.termination.feeds_at_return ends room.1
+    byte_goes code false true room =
+        let ends = h.ends room.0 in
+        (λ i. unset_or (ends.read i) (effect_of s.settings (feed_by printer (before_feed (ends.termination i) (here place)) WholeLine)))
+        ∙ fed_goes m.look.termination.returns_at_feed ends room.1
+    byte_goes code false false room = by (code == 32) refl
+      where
+        by : (b : Bool) → (code == 32) ≡ b → effect_of s.settings (Step (cond b (space printer (here place)) (character printer (here place) code))) ≡ Goes (record (stand (on place) s) { marked = not b || s.marked }) (characters_of (cond b None (Some (record { code = code; request = m.look.request; y = m.look.origin.y +ℤ place.y; bounds = box_at m.look place }))))
+        by true e = space_goes place room.0
+        by false e = character_goes place room.0 code (known_code m.codes code room.1 e)
 
 -- ---- bytes that the face has, and those that its first range has, or that are spaces
 

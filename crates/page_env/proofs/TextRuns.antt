@@ -7,10 +7,11 @@ use Rattle.std.proofs.lemmas.Bool.{and_parts, cond_both}
 use Rattle.tick_length.specs.Length.{IsInRange}
 use Rattle.page_env.specs.declared.finding.Finding.TheVariants.{OffPage, PastRightMargin}
 use Rattle.page_env.specs.Places.{is_between}
-use Rattle.page_env.specs.Mark.{is_inside}
 use Rattle.page_env.specs.Effect.{first_finding}
 use Rattle.page_env.specs.Text.{edge_checks}
-use Rattle.page_env.specs.TextMeasure.{TextMeasure, HasColumn, HasColumns, box_at, edge_from}
+use Rattle.page_env.specs.declared.text_lines.TextPlace.{TextPlace}
+use Rattle.page_env.specs.TextLines.{box_at}
+use Rattle.page_env.specs.TextMeasure.{TextMeasure, HasColumn, HaveColumns, edge_from, lies_in}
 
 -- ---- between two bounds
 
@@ -43,64 +44,66 @@ is_between-of low high z l h = by (int_lt z low) (int_lt high z) refl refl
 -- ---- columns
 
 module _ (m : TextMeasure) where
+  abbrev pub column_on : TextPlace → TextPlace
+  column_on place = record place { x = place.x +ℤ pos m.look.column }
+
   -- a box that is inside, and the one so far to the right of it that ends before the printable area does
-  box_inside : (x : ℤ) → is_inside m.geometry (box_at m x) ≡ true → pos 0 ≤ℤ m.face.advance → (((x +ℤ pos m.column) +ℤ m.origin.x) +ℤ m.face.advance) ≤ℤ m.geometry.printable_right → is_inside m.geometry (box_at m (x +ℤ pos m.column)) ≡ true
-  unfolding is_inside
-  box_inside x h ahead ends =
-      let g = m.geometry in
-      let here = box_at m x in
-      let next = box_at m (x +ℤ pos m.column) in
-      let parts = and_parts (is_between g.printable_left g.printable_right here.left && is_between g.printable_left g.printable_right here.right) _ h in
-      let across = and_parts (is_between g.printable_left g.printable_right here.left) (is_between g.printable_left g.printable_right here.right) parts.0 in
-      let low = between_low g.printable_left g.printable_right here.left across.0 in
-      let left = is_between-of g.printable_left g.printable_right next.left (omega (arith, ints, low)) (omega (arith, ints, ahead, ends)) in
-      let right = is_between-of g.printable_left g.printable_right next.right (omega (arith, ints, low, ahead)) (omega (arith, ints, ends)) in
+  box_inside : (p : TextPlace) → lies_in m.bounds.area (box_at m.look p) ≡ true → pos 0 ≤ℤ m.look.advance → (((p.x +ℤ pos m.look.column) +ℤ m.look.origin.x) +ℤ m.look.advance) ≤ℤ m.bounds.area.right → lies_in m.bounds.area (box_at m.look (column_on p)) ≡ true
+  box_inside p h ahead ends =
+      let area = m.bounds.area in
+      let here = box_at m.look p in
+      let next = box_at m.look (column_on p) in
+      let parts = and_parts (is_between area.left area.right here.left && is_between area.left area.right here.right) _ h in
+      let across = and_parts (is_between area.left area.right here.left) (is_between area.left area.right here.right) parts.0 in
+      let low = between_low area.left area.right here.left across.0 in
+      let left = is_between-of area.left area.right next.left (omega (arith, ints, low)) (omega (arith, ints, ahead, ends)) in
+      let right = is_between-of area.left area.right next.right (omega (arith, ints, low, ahead)) (omega (arith, ints, ends)) in
       λ i. (left (i) && right (i)) && parts.1 i
 
-  ends_at : (x : ℤ) → (x +ℤ pos m.column) ≤ℤ edge_from m x → first_finding (edge_checks m.right m.geometry.logical_width x (x +ℤ pos m.column)) ≡ None
-  ends_at x h = by (int_lt x m.right) (int_lt m.geometry.logical_width (x +ℤ pos m.column)) (int_lt m.right (x +ℤ pos m.column)) refl refl h
+  ends_at : (x : ℤ) → (x +ℤ pos m.look.column) ≤ℤ edge_from m x → first_finding (edge_checks m.bounds.right m.bounds.width x (x +ℤ pos m.look.column)) ≡ None
+  ends_at x h = by (int_lt x m.bounds.right) (int_lt m.bounds.width (x +ℤ pos m.look.column)) (int_lt m.bounds.right (x +ℤ pos m.look.column)) refl refl h
     where
-      by : (left off past : Bool) → int_lt m.geometry.logical_width (x +ℤ pos m.column) ≡ off → int_lt m.right (x +ℤ pos m.column) ≡ past → (x +ℤ pos m.column) ≤ℤ cond left m.right m.geometry.logical_width → cond (not left && off) (Some OffPage) (cond (left && past) (Some PastRightMargin) None) ≡ None
+      by : (left off past : Bool) → int_lt m.bounds.width (x +ℤ pos m.look.column) ≡ off → int_lt m.bounds.right (x +ℤ pos m.look.column) ≡ past → (x +ℤ pos m.look.column) ≤ℤ cond left m.bounds.right m.bounds.width → cond (not left && off) (Some OffPage) (cond (left && past) (Some PastRightMargin) None) ≡ None
       by true off true e f h = absurd (omega (arith, ints))
       by true off false e f h = refl
       by false true past e f h = absurd (omega (arith, ints))
       by false false past e f h = refl
 
-  module _ (edge : ℤ) (edge_small : IsInRange edge) (ahead : pos 0 ≤ℤ m.face.advance) where
-    within_edge : (x : ℤ) → IsInRange x → (x +ℤ pos m.column) ≤ℤ edge → IsInRange (x +ℤ pos m.column)
+  module _ (edge : ℤ) (edge_small : IsInRange edge) (ahead : pos 0 ≤ℤ m.look.advance) where
+    within_edge : (x : ℤ) → IsInRange x → (x +ℤ pos m.look.column) ≤ℤ edge → IsInRange (x +ℤ pos m.look.column)
     within_edge x here h = omega (arith, ints, here, h, edge_small)
 
     -- what ends at an edge has the same edge one column further on
-    edge_stays : (x : ℤ) (j : ℕ) → edge_from m x ≡ edge → (x +ℤ pos (suc (suc j) * m.column)) ≤ℤ edge → edge_from m (x +ℤ pos m.column) ≡ edge
+    edge_stays : (x : ℤ) (j : ℕ) → edge_from m x ≡ edge → (x +ℤ pos (suc (suc j) * m.look.column)) ≤ℤ edge → edge_from m (x +ℤ pos m.look.column) ≡ edge
     edge_stays x j is h =
-        let c = m.column in
+        let c = m.look.column in
         let two = suc-mul (suc j) c in
         let one = suc-mul j c in
-        cond_both (int_lt x m.right) m.right m.geometry.logical_width (λ e. e ≡ edge → edge_from m (x +ℤ pos c) ≡ edge)
-        (λ t g. cond_both (int_lt (x +ℤ pos c) m.right) m.right m.geometry.logical_width (λ e. e ≡ edge) (λ u. g) (λ u. absurd (omega (arith, ints, t, u, g, h, two, one))))
-        (λ t g. cond_both (int_lt (x +ℤ pos c) m.right) m.right m.geometry.logical_width (λ e. e ≡ edge) (λ u. absurd (omega (arith, ints, t, u))) (λ u. g))
+        cond_both (int_lt x m.bounds.right) m.bounds.right m.bounds.width (λ e. e ≡ edge → edge_from m (x +ℤ pos c) ≡ edge)
+        (λ t g. cond_both (int_lt (x +ℤ pos c) m.bounds.right) m.bounds.right m.bounds.width (λ e. e ≡ edge) (λ u. g) (λ u. absurd (omega (arith, ints, t, u, g, h, two, one))))
+        (λ t g. cond_both (int_lt (x +ℤ pos c) m.bounds.right) m.bounds.right m.bounds.width (λ e. e ≡ edge) (λ u. absurd (omega (arith, ints, t, u))) (λ u. g))
         is
 
-    one_column : (x : ℤ) → IsInRange x → edge_from m x ≡ edge → (x +ℤ pos m.column) ≤ℤ edge → is_inside m.geometry (box_at m x) ≡ true → HasColumn m x
-    one_column x here is ends inside = record { within = within_edge x here ends; ends = ends_at x (subst (λ e. (x +ℤ pos m.column) ≤ℤ e) (sym is) ends); inside = inside }
+    one_column : (p : TextPlace) → IsInRange p.x → edge_from m p.x ≡ edge → (p.x +ℤ pos m.look.column) ≤ℤ edge → lies_in m.bounds.area (box_at m.look p) ≡ true → HasColumn m p
+    one_column p here is ends inside = record { within = within_edge p.x here ends; ends = ends_at p.x (subst (λ e. (p.x +ℤ pos m.look.column) ≤ℤ e) (sym is) ends); inside = inside }
 
     -- as many as end at the edge, and whose last character ends in the printable area
-    pub columns : (x : ℤ) (n : ℕ) → IsInRange x → edge_from m x ≡ edge → is_inside m.geometry (box_at m x) ≡ true → (1 ≤ n → ((x +ℤ pos (n * m.column)) ≤ℤ edge) × ((x +ℤ pos (n * m.column)) ≤ℤ (((m.geometry.printable_right -ℤ m.origin.x) -ℤ m.face.advance) +ℤ pos m.column))) → HasColumns m x n
-    columns x zero here is inside ends = tt
-    columns x (suc zero) here is inside ends =
+    pub columns : (p : TextPlace) (n : ℕ) → IsInRange p.x → edge_from m p.x ≡ edge → lies_in m.bounds.area (box_at m.look p) ≡ true → (1 ≤ n → ((p.x +ℤ pos (n * m.look.column)) ≤ℤ edge) × ((p.x +ℤ pos (n * m.look.column)) ≤ℤ (((m.bounds.area.right -ℤ m.look.origin.x) -ℤ m.look.advance) +ℤ pos m.look.column))) → HaveColumns m p n
+    columns p zero here is inside ends = tt
+    columns p (suc zero) here is inside ends =
         let e = (ends (omega arith)).0 in
-        (one_column x here is (omega (arith, ints, e)) inside, tt)
-    columns x (suc (suc j)) here is inside ends =
-        let c = m.column in
+        (one_column p here is (omega (arith, ints, e)) inside, tt)
+    columns p (suc (suc j)) here is inside ends =
+        let c = m.look.column in
         let both = ends (omega arith) in
         let e = both.0 in
-        let p = both.1 in
+        let f = both.1 in
         let two = suc-mul (suc j) c in
         let one = suc-mul j c in
-        let first : (x +ℤ pos c) ≤ℤ edge = omega (arith, ints, e, two) in
-        let next = one_column x here is first inside in
-        let further = box_inside x inside ahead (omega (arith, ints, p, two, one)) in
-        (next, columns (x +ℤ pos c) (suc j) next.within (edge_stays x j is e) further (λ some. (omega (arith, ints, e, two), omega (arith, ints, p, two))))
+        let first : (p.x +ℤ pos c) ≤ℤ edge = omega (arith, ints, e, two) in
+        let next = one_column p here is first inside in
+        let further = box_inside p inside ahead (omega (arith, ints, f, two, one)) in
+        (next, columns (column_on p) (suc j) next.within (edge_stays p.x j is e) further (λ some. (omega (arith, ints, e, two), omega (arith, ints, f, two))))
 
 -- one column more than end up to a place begin there
 pub begin_up_to : (x last : ℤ) (c r : ℕ) → x ≤ℤ last → ((k : ℕ) → 1 ≤ k → k ≤ r → (x +ℤ pos (k * c)) ≤ℤ last) → (n : ℕ) → 1 ≤ n → n ≤ r + 1 → (x +ℤ pos (n * c)) ≤ℤ (last +ℤ pos c)
@@ -112,12 +115,11 @@ begin_up_to x last c r here h (suc (suc k)) some less =
     omega (arith, ints, one, before)
 
 -- a character that is inside begins no later than the last that is
-pub begins_inside : (m : TextMeasure) (x : ℤ) → is_inside m.geometry (box_at m x) ≡ true → x ≤ℤ ((m.geometry.printable_right -ℤ m.origin.x) -ℤ m.face.advance)
-unfolding is_inside
-begins_inside m x h =
-    let g = m.geometry in
-    let here = box_at m x in
-    let parts = and_parts (is_between g.printable_left g.printable_right here.left && is_between g.printable_left g.printable_right here.right) _ h in
-    let across = and_parts (is_between g.printable_left g.printable_right here.left) (is_between g.printable_left g.printable_right here.right) parts.0 in
-    let high = between_high g.printable_left g.printable_right here.right across.1 in
+pub begins_inside : (m : TextMeasure) (p : TextPlace) → lies_in m.bounds.area (box_at m.look p) ≡ true → p.x ≤ℤ ((m.bounds.area.right -ℤ m.look.origin.x) -ℤ m.look.advance)
+begins_inside m p h =
+    let area = m.bounds.area in
+    let here = box_at m.look p in
+    let parts = and_parts (is_between area.left area.right here.left && is_between area.left area.right here.right) _ h in
+    let across = and_parts (is_between area.left area.right here.left) (is_between area.left area.right here.right) parts.0 in
+    let high = between_high area.left area.right here.right across.1 in
     omega (arith, ints, high)

@@ -1,5 +1,5 @@
 //! Cursor positioning and the cursor stack (the manual's "Cursor Positioning").
-#![tactic(auto, unfolding(crate::specs::Answers::Marks))]
+#![tactic(auto, unfolding(crate::specs::Answers::Marks, crate::specs::Answers::Leads))]
 
 ghost use Rattle.std.specs.Prelude.{cond, Some, []};
 ghost use Rattle.pcl_items.specs.Items.{amount};
@@ -8,7 +8,7 @@ ghost use Rattle.page_env.specs.Effect.{ReadsFields};
 ghost use Rattle.page_env.specs.Numbers.{is_absent};
 ghost use Rattle.page_env.specs.Places.{ticks_in, vertical_place, geometry_of, page_reads};
 ghost use Rattle.page_env.specs.CursorPositioning.{push_cursor, pop_cursor, use_stack, move_across, move_from_top, relative_reads, move_x, move_y, move_x_decipoints, move_y_decipoints, move_columns, move_rows};
-ghost use Rattle.page_env.specs.Answers.{CarriesOut, Steps};
+ghost use Rattle.page_env.specs.Answers.{CarriesOut, Leads, Steps};
 
 use crate::finding::Finding;
 use crate::number::{is_whole_between, whole_of};
@@ -20,28 +20,25 @@ use crate::places::{
 use device_profile::{Field, Geometry, Profile};
 use pcl_items::{Number, Sign};
 use std::alloc::Allocator;
-use tick_length::Unit;
+use tick_length::{Length, Unit};
 
-/// Moves the cursor to the left or right by so many of a unit.
-fn move_across<A: Allocator>(
+/// The place to which a move of so many of a unit leads, to the left or right.
+fn place_across<A: Allocator>(
     profile: &Profile<A>,
-    page: &mut Page,
+    page: &Page,
     unit: Unit,
     n: Number,
-) -> Result<(), Finding>
+) -> Result<Length, Finding>
     ensures { let by = ticks_in unit n.ten_thousandths in
-        Steps (λ s. move_across profile.now s page_reads [] n.sign (Some by)) page.old page.new
-        result }
+        Leads (λ x. record page.now { cursor = record page.now.cursor { x = x } })
+        (λ s. move_across profile.now s page_reads [] n.sign (Some by)) page.now result }
 {
     let geometry = geometry(profile, page)?;
     let here = page.cursor.x.ticks();
     let by = u128::from(ticks_in(unit, n.ten_thousandths));
     match target(n.sign, 0, here, by, geometry.logical_width) {
         None => Err(Finding::OffPage),
-        Some(x) => {
-            page.cursor.x = x;
-            Ok(())
-        }
+        Some(x) => Ok(x),
     }
 }
 
@@ -54,7 +51,8 @@ pub(crate) fn move_x<A: Allocator>(
     ensures { Steps (λ s. move_x profile.now s (amount n)) page.old page.new result }
 {
     let unit = Unit::PclUnit(page.env.job.units_per_inch);
-    move_across(profile, page, unit, n)
+    page.cursor.x = place_across(profile, page, unit, n)?;
+    Ok(())
 }
 
 /// `&a#H`: moves the cursor to the left or right, in decipoints.
@@ -65,7 +63,8 @@ pub(crate) fn move_x_decipoints<A: Allocator>(
 ) -> Result<(), Finding>
     ensures { Steps (λ s. move_x_decipoints profile.now s (amount n)) page.old page.new result }
 {
-    move_across(profile, page, Unit::Decipoint, n)
+    page.cursor.x = place_across(profile, page, Unit::Decipoint, n)?;
+    Ok(())
 }
 
 /// `&a#C`: moves the cursor to the left or right, in columns.
@@ -121,24 +120,22 @@ fn geometry_and_start<A: Allocator>(
     }
 }
 
-/// Moves the cursor up or down by so many of a unit.
-fn move_from_top<A: Allocator>(
+/// The place to which a move of so many of a unit leads, up or down.
+fn place_down<A: Allocator>(
     profile: &Profile<A>,
-    page: &mut Page,
+    page: &Page,
     unit: Unit,
     n: Number,
-) -> Result<(), Finding>
+) -> Result<Coordinate, Finding>
     ensures { let by = ticks_in unit n.ten_thousandths in
-        Steps (λ s. move_from_top profile.now s n.sign by) page.old page.new result }
+        Leads (λ y. record page.now { cursor = record page.now.cursor { y = Some y } })
+        (λ s. move_from_top profile.now s n.sign by) page.now result }
 {
     let (geometry, from) = geometry_and_start(profile, page, n.sign)?;
     let by = u128::from(ticks_in(unit, n.ten_thousandths));
     match target_down(n.sign, from, from, by, geometry.logical_height) {
         None => Err(Finding::OffPage),
-        Some(y) => {
-            page.cursor.y = Some(y);
-            Ok(())
-        }
+        Some(y) => Ok(y),
     }
 }
 
@@ -151,7 +148,8 @@ pub(crate) fn move_y<A: Allocator>(
     ensures { Steps (λ s. move_y profile.now s (amount n)) page.old page.new result }
 {
     let unit = Unit::PclUnit(page.env.job.units_per_inch);
-    move_from_top(profile, page, unit, n)
+    page.cursor.y = Some(place_down(profile, page, unit, n)?);
+    Ok(())
 }
 
 /// `&a#V`: moves the cursor up or down, in decipoints.
@@ -162,7 +160,8 @@ pub(crate) fn move_y_decipoints<A: Allocator>(
 ) -> Result<(), Finding>
     ensures { Steps (λ s. move_y_decipoints profile.now s (amount n)) page.old page.new result }
 {
-    move_from_top(profile, page, Unit::Decipoint, n)
+    page.cursor.y = Some(place_down(profile, page, Unit::Decipoint, n)?);
+    Ok(())
 }
 
 /// `&a#R`: moves the cursor up or down, in rows.

@@ -109,8 +109,9 @@ fn distance_of(feed: Feed, line: u64) -> u64
 
 /// How far down a feed may lead, in ticks: to the bottom margin, or to the foot of the page where
 /// the perforation is not skipped.
-fn feed_limit(page: &Page, geometry: &Geometry) -> i64
-    ensures near { result ≤ℤ pos (2 ^ 60) }
+pub(crate) fn feed_limit(page: &Page, geometry: &Geometry) -> i64
+    ensures high { result ≤ℤ pos (2 ^ 60) }
+    ensures low { neg_ℤ (pos (2 ^ 60 + 2 ^ 50)) ≤ℤ result }
     ensures value { result ≡ cond page.now.env.job.skips_perforation
         (unwrap_or page.now.env.job.bottom_margin (geometry.now.logical_height -ℤ half_inch))
         geometry.now.logical_height }
@@ -199,16 +200,16 @@ pub(crate) fn set_line_termination(page: &mut Page, n: Number) -> Result<(), Fin
 }
 
 /// What CR, LF and FF do beside what they stand for (the manual's "Line Termination").
-#[derive(Clone, Copy)]
-struct LineTermination {
+#[derive(Clone, Copy, PartialEq, Eq)]
+pub struct LineTermination {
     /// CR feeds a line, too.
-    feeds_at_return: bool,
+    pub feeds_at_return: bool,
     /// LF and FF return to the left margin first.
-    returns_at_feed: bool,
+    pub returns_at_feed: bool,
 }
 
 /// The line termination in force. CR, LF and FF read it as a step of their own, before all else.
-fn line_termination(page: &Page) -> Result<LineTermination, Field>
+pub(crate) fn line_termination(page: &Page) -> Result<LineTermination, Field>
     ensures { ReadsFields page.now.env line_termination_reads
         (λ panel. termination_of (fields_at panel page.now.env.fields).line_termination) result }
 {

@@ -1,34 +1,41 @@
--- Bytes of text on the machines of a fleet, which go in step.
-use Rattle.std.proofs.Common.{◌≡◌, ℕ, zero, suc, ◌+◌, ◌<◌, ◌≤◌, ◌==◌, Bool, true, false, cond, List, [], ◌∷◌, ◌++◌, length, take, drop, set, get_or, map, Option, None, Some, unwrap_or, refl, ap, sym, ◌∙◌, subst, append_assoc, append-nil, arith}
+-- Lines of text on the machines of a fleet, which go in step.
+use Rattle.std.proofs.Common.{◌≡◌, ℕ, zero, suc, ◌+◌, ◌<◌, ◌≤◌, ◌==◌, Bool, true, false, not, cond, List, [], ◌∷◌, ◌++◌, length, take, drop, set, get_or, map, Option, None, Some, unwrap_or, refl, ap, sym, ◌∙◌, subst, append_assoc, append-nil, arith}
+use Rattle.std.specs.Prelude.{◌+ℤ◌, ◌&&◌}
 use Rattle.std.specs.List.{AllByRecursion}
-use Rattle.std.proofs.lemmas.List.{take_more, take_more_set, drop_more, drop-set-lt, drop-drop, take_all, take-take, length-set}
+use Rattle.std.specs.Ordering.{int_eq}
+use Rattle.std.proofs.lemmas.Bool.{and_parts}
+use Rattle.std.proofs.lemmas.Bool.Decides.{Decides-int_eq}
+use Rattle.std.proofs.lemmas.List.{take_more, take_more_set, drop_more, drop-set-lt, drop-drop, length-take-le, take_all, take-take, length-set}
 use Rattle.pcl_items.specs.declared.item.Mode.{Mode}
 use Rattle.pcl_items.specs.declared.item.Mode.TheVariants as modes
 use Rattle.pcl_items.specs.Lexing.Contexts.{Context, Pcl, Sequence, Frame, Letters, Numbered, Pjl, pending}
 use Rattle.pcl_items.specs.Grammar.{follows}
-use Rattle.pcl_items.specs.Items.{Text, at, Placed}
+use Rattle.pcl_items.specs.Items.{CarriageReturn, LineFeed, Text, at, Placed}
 use Rattle.pcl_items.specs.Modes.{mode_of}
 use Rattle.pcl_items.specs.Reading.{left}
 use Rattle.pcl_items.specs.Lexing.State.{LexerState}
-use Rattle.pcl_items.specs.Lexing.Passing.{ahead_in, ahead_of, AreText, text_items, ReadsText}
-use Rattle.device_profile.specs.declared.font.CodeRange.{CodeRange}
+use Rattle.pcl_items.specs.Lexing.Passing.{ahead_in, ahead_of, AreLines, line_item, line_items, ReadsLines}
 use Rattle.device_profile.specs.Printer.{Printer}
 use Rattle.page_env.specs.declared.mark.Glyph.{Glyph}
 use Rattle.page_env.specs.declared.page.Page.{Page}
-use Rattle.page_env.specs.declared.text_run.Look.{Look}
+use Rattle.page_env.specs.declared.text_lines.Look.{Look}
+use Rattle.page_env.specs.declared.text_lines.TextLines.{TextLines}
+use Rattle.page_env.specs.declared.text_lines.TextPlace.{TextPlace}
 use Rattle.page_env.specs.Mark.{Shape, characters_of}
 use Rattle.page_env.specs.Settings.{state_at}
-use Rattle.page_env.specs.TextRun.{AllGo, CanGoIn, glyph_in, look_behind, page_behind, glyph_count}
+use Rattle.page_env.specs.TextLines.{AllGo, behind, box_at, glyph_at, glyph_count, is_blank, page_behind, place_behind}
+use Rattle.page_env.specs.TextMeasure.{AllHaveRoom, AreLinesFrom, TextMeasure}
+use Rattle.page_env.proofs.TextRooms.{room_goes}
 use Rattle.page_machine.specs.Event.{Marked}
 use Rattle.page_machine.specs.Run.{peaks_of}
 use Rattle.page_machine.specs.Job.{ItemRun, events_of}
 use Rattle.page_machine.specs.MachineState.{MachineState}
-use Rattle.page_machine.specs.TextRun.{machine_behind, glyph_events, PrintsText}
+use Rattle.page_machine.specs.TextLines.{IsMeasuredAt, machine_behind, glyph_events, PrintsLines}
 use Rattle.sinks.specs.declared.counts.Counts.{Counts}
 use Rattle.sinks.specs.Counts.{counts_after, no_counts}
 use Rattle.preflight.specs.Carriers.Each.{Each}
 use Rattle.preflight.specs.Carriers.Lockstep.{Execute, AreRunning, AreIn, Does, GoesAlike}
-use Rattle.preflight.specs.Carriers.TextInStep.{GoOnAll, PrintInStep}
+use Rattle.preflight.specs.Carriers.TextInStep.{GoOn, GoOnAll, PrintInStep}
 use Rattle.preflight.specs.Carriers.Checking.{Along, HasExecuted}
 use Rattle.preflight.proofs.Answered.{running_on, in_next}
 use Rattle.preflight.proofs.Printers.{done_item, along_more}
@@ -36,13 +43,14 @@ use Rattle.preflight.proofs.Fleets.{each_along, each_push, agreed_more, counts_m
 
 -- ---- the marks of bytes
 
-abbrev pub shapes_of : Look → List ℕ → List Shape
-shapes_of look [] = []
-shapes_of look (code ∷ codes) = characters_of (glyph_in look code) ++ shapes_of (look_behind look) codes
+abbrev pub shapes_of : Look → TextPlace → List ℕ → List Shape
+shapes_of look place [] = []
+shapes_of look place (code ∷ codes) = characters_of (glyph_at look place code) ++ shapes_of look (behind look code place) codes
 
-pub shape_count : (codes : List ℕ) (look : Look) → length (shapes_of look codes) ≡ glyph_count codes
-shape_count [] look = refl
-shape_count (code ∷ codes) look = by (code == 32) (record { code = code; request = look.request; y = look.y; bounds = look.bounds }) (shapes_of (look_behind look) codes) (shape_count codes (look_behind look))
+pub shape_count : (codes : List ℕ) (look : Look) (place : TextPlace) → length (shapes_of look place codes) ≡ glyph_count codes
+shape_count [] look place = refl
+shape_count (code ∷ codes) look place =
+    by (is_blank code) (record { code = code; request = look.request; y = look.origin.y +ℤ place.y; bounds = box_at look place }) (shapes_of look (behind look code place) codes) (shape_count codes look (behind look code place))
   where
     by : (b : Bool) (glyph : Glyph) (rest : List Shape) → length rest ≡ glyph_count codes → length (characters_of (cond b None (Some glyph)) ++ rest) ≡ cond b 0 1 + glyph_count codes
     by true glyph rest e = omega (arith, e)
@@ -55,98 +63,136 @@ count_one (Some glyph) rest counts = refl
 
 -- ---- machines that print bytes print them in step
 
-nothing_done : (look : Look) (old new : List MachineState) → Each (PrintsText look []) old new → new ≡ old
-nothing_done look [] [] h = refl
-nothing_done look [] (m ∷ new) h = absurd h
-nothing_done look (m ∷ old) [] h = absurd h
-nothing_done look (m ∷ old) (n ∷ new) h = λ i. h.0 i ∷ nothing_done look old new h.1 i
+nothing_done : (look : Look) (place : TextPlace) (old new : List MachineState) → Each (PrintsLines look place []) old new → new ≡ old
+nothing_done look place [] [] h = refl
+nothing_done look place [] (m ∷ new) h = absurd h
+nothing_done look place (m ∷ old) [] h = absurd h
+nothing_done look place (m ∷ old) (n ∷ new) h = λ i. h.0 i ∷ nothing_done look place old new h.1 i
 
--- text leaves mode PCL
-text_mode : (mode : Mode) (code : ℕ) → mode ≡ modes.Pcl → unwrap_or (follows mode (Text code)) mode ≡ mode
-text_mode mode code e = subst (λ m. unwrap_or (follows m (Text code)) m ≡ m) (sym e) refl
+-- lines of text leave mode PCL
+lines_follow : (code : ℕ) → follows modes.Pcl (line_item code) ≡ Some modes.Pcl
+lines_follow code = by (code == 13) (code == 10)
+  where
+    by : (returns feeds : Bool) → follows modes.Pcl (cond returns CarriageReturn (cond feeds LineFeed (Text code))) ≡ Some modes.Pcl
+    by true feeds = refl
+    by false true = refl
+    by false false = refl
 
-each_does : (look : Look) (code : ℕ) (codes : List ℕ) (old new : List MachineState) → AreRunning old → AreIn modes.Pcl old → Each (PrintsText look (code ∷ codes)) old new → Each (Does (Execute (Text code)) (glyph_events look code)) old (map (machine_behind look code) old)
-each_does look code codes [] new running in_pcl h = tt
-each_does look code codes (m ∷ old) [] running in_pcl h = absurd h
-each_does look code codes (m ∷ old) (n ∷ new) running in_pcl h = (
+line_mode : (mode : Mode) (code : ℕ) → mode ≡ modes.Pcl → unwrap_or (follows mode (line_item code)) mode ≡ mode
+line_mode mode code e = subst (λ m. unwrap_or (follows m (line_item code)) m ≡ m) (sym e) (ap (λ o. unwrap_or o modes.Pcl) (lines_follow code))
+
+each_does : (look : Look) (place : TextPlace) (code : ℕ) (codes : List ℕ) (old new : List MachineState) → AreRunning old → AreIn modes.Pcl old → Each (PrintsLines look place (code ∷ codes)) old new → Each (Does (Execute (line_item code)) (glyph_events look place code)) old (map (machine_behind look place code) old)
+each_does look place code codes [] new running in_pcl h = tt
+each_does look place code codes (m ∷ old) [] running in_pcl h = absurd h
+each_does look place code codes (m ∷ old) (n ∷ new) running in_pcl h = (
   record {
-    is = λ i. record m { page = page_behind look code m.page; macros = sym h.0.1 i; mode = sym (text_mode m.mode code in_pcl.0) i; stopped = running.0 i };
-    peaks = λ panel. peaks_of (state_at panel (page_behind look code m.page));
+    is = λ i. record m { page = page_behind look place code m.page; macros = sym h.0.1 i; mode = sym (line_mode m.mode code in_pcl.0) i; stopped = running.0 i };
+    peaks = λ panel. peaks_of (state_at panel (page_behind look place code m.page));
     run = h.0.0;
   },
-  each_does look code codes old new running.1 in_pcl.1 h.1,
+  each_does look place code codes old new running.1 in_pcl.1 h.1,
 )
 
-each_prints : (look : Look) (code : ℕ) (codes : List ℕ) (old new : List MachineState) → Each (PrintsText look (code ∷ codes)) old new → Each (PrintsText (look_behind look) codes) (map (machine_behind look code) old) new
-each_prints look code codes [] [] h = tt
-each_prints look code codes [] (n ∷ new) h = absurd h
-each_prints look code codes (m ∷ old) [] h = absurd h
-each_prints look code codes (m ∷ old) (n ∷ new) h = (h.0.2, each_prints look code codes old new h.1)
+each_prints : (look : Look) (place : TextPlace) (code : ℕ) (codes : List ℕ) (old new : List MachineState) → Each (PrintsLines look place (code ∷ codes)) old new → Each (PrintsLines look (behind look code place) codes) (map (machine_behind look place code) old) new
+each_prints look place code codes [] [] h = tt
+each_prints look place code codes [] (n ∷ new) h = absurd h
+each_prints look place code codes (m ∷ old) [] h = absurd h
+each_prints look place code codes (m ∷ old) (n ∷ new) h = (h.0.2, each_prints look place code codes old new h.1)
 
-still_running : (look : Look) (code : ℕ) (old : List MachineState) → AreRunning old → AreRunning (map (machine_behind look code) old)
-still_running look code [] running = tt
-still_running look code (m ∷ old) running = (running.0, still_running look code old running.1)
+still_running : (look : Look) (place : TextPlace) (code : ℕ) (old : List MachineState) → AreRunning old → AreRunning (map (machine_behind look place code) old)
+still_running look place code [] running = tt
+still_running look place code (m ∷ old) running = (running.0, still_running look place code old running.1)
 
-still_in_pcl : (look : Look) (code : ℕ) (old : List MachineState) → AreIn modes.Pcl old → AreIn modes.Pcl (map (machine_behind look code) old)
-still_in_pcl look code [] in_pcl = tt
-still_in_pcl look code (m ∷ old) in_pcl = (in_pcl.0, still_in_pcl look code old in_pcl.1)
+still_in_pcl : (look : Look) (place : TextPlace) (code : ℕ) (old : List MachineState) → AreIn modes.Pcl old → AreIn modes.Pcl (map (machine_behind look place code) old)
+still_in_pcl look place code [] in_pcl = tt
+still_in_pcl look place code (m ∷ old) in_pcl = (in_pcl.0, still_in_pcl look place code old in_pcl.1)
 
-pub print_in_step : (codes : List ℕ) (look : Look) (old new : List MachineState) (counts : Counts) → AreRunning old → AreIn modes.Pcl old → Each (PrintsText look codes) old new → PrintInStep codes old new counts (counts_after (map Marked (shapes_of look codes)) counts)
-print_in_step [] look old new counts running in_pcl h = (nothing_done look old new h, refl)
-print_in_step (code ∷ codes) look old new counts running in_pcl h =
-    let mid = map (machine_behind look code) old in
-    let between = counts_after (glyph_events look code) counts in (
+pub print_in_step : (codes : List ℕ) (look : Look) (place : TextPlace) (old new : List MachineState) (counts : Counts) → AreRunning old → AreIn modes.Pcl old → Each (PrintsLines look place codes) old new → PrintInStep codes old new counts (counts_after (map Marked (shapes_of look place codes)) counts)
+print_in_step [] look place old new counts running in_pcl h = (nothing_done look place old new h, refl)
+print_in_step (code ∷ codes) look place old new counts running in_pcl h =
+    let next = behind look code place in
+    let mid = map (machine_behind look place code) old in
+    let between = counts_after (glyph_events look place code) counts in (
       mid,
       between,
-      (glyph_events look code, each_does look code codes old new running in_pcl h, refl),
-      subst (λ c. PrintInStep codes mid new between c) (count_one (glyph_in look code) (shapes_of (look_behind look) codes) counts)
-          (print_in_step codes (look_behind look) mid new between (still_running look code old running) (still_in_pcl look code old in_pcl) (each_prints look code codes old new h)),
+      (glyph_events look place code, each_does look place code codes old new running in_pcl h, refl),
+      subst (λ c. PrintInStep codes mid new between c) (count_one (glyph_at look place code) (shapes_of look next codes) counts)
+          (print_in_step codes look next mid new between (still_running look place code old running) (still_in_pcl look place code old in_pcl) (each_prints look place code codes old new h)),
     )
 
-pub text_of : (printer : Printer) (codes : List ℕ) (look : Look) (page : Page) → AllGo printer look page codes → AreText codes
-text_of printer [] look page h = tt
-text_of printer (code ∷ codes) look page h = (h.0.text, text_of printer codes (look_behind look) (page_behind look code page) h.1)
+pub lines_of : (printer : Printer) (codes : List ℕ) (look : Look) (place : TextPlace) (page : Page) → AllGo printer look place page codes → AreLines codes
+lines_of printer [] look place page h = tt
+lines_of printer (code ∷ codes) look place page h = (h.0.byte, lines_of printer codes look (behind look code place) (page_behind look place code page) h.1)
 
 -- ---- bytes that go on all machines
 
--- fewer bytes go too
-front_goes : (printer : Printer) (k : ℕ) (codes : List ℕ) (look : Look) (page : Page) → AllGo printer look page codes → AllGo printer look page (take k codes)
-front_goes printer zero codes look page h = tt
-front_goes printer (suc k) [] look page h = tt
-front_goes printer (suc k) (code ∷ codes) look page h = (h.0, front_goes printer k codes (look_behind look) (page_behind look code page) h.1)
+-- fewer bytes have room, and go, too
+pub fewer_have_room : (m : TextMeasure) (k : ℕ) (codes : List ℕ) (place : TextPlace) → AllHaveRoom m place codes → AllHaveRoom m place (take k codes)
+fewer_have_room m zero codes place h = tt
+fewer_have_room m (suc k) [] place h = tt
+fewer_have_room m (suc k) (code ∷ codes) place h = (h.0, fewer_have_room m k codes (behind m.look code place) h.1)
 
-pub fewer_can_go : (ranges : List CodeRange) (k : ℕ) (codes : List ℕ) → CanGoIn ranges codes → CanGoIn ranges (take k codes)
-fewer_can_go ranges zero codes h = tt
-fewer_can_go ranges (suc k) [] h = tt
-fewer_can_go ranges (suc k) (code ∷ codes) h = (h.0, fewer_can_go ranges k codes h.1)
+front_goes : (printer : Printer) (k : ℕ) (codes : List ℕ) (look : Look) (place : TextPlace) (page : Page) → AllGo printer look place page codes → AllGo printer look place page (take k codes)
+front_goes printer zero codes look place page h = tt
+front_goes printer (suc k) [] look place page h = tt
+front_goes printer (suc k) (code ∷ codes) look place page h = (h.0, front_goes printer k codes look (behind look code place) (page_behind look place code page) h.1)
 
-fewer_go : (look : Look) (k : ℕ) (codes : List ℕ) (machines : List MachineState) → GoOnAll look codes machines → GoOnAll look (take k codes) machines
-fewer_go look k codes [] h = tt
-fewer_go look k codes (m ∷ machines) h = ((front_goes m.printer k codes look m.page h.0.0, h.0.1), fewer_go look k codes machines h.1)
+pub fewer_go : (look : Look) (from : TextPlace) (k : ℕ) (codes : List ℕ) (machines : List MachineState) → GoOnAll look from codes machines → GoOnAll look from (take k codes) machines
+fewer_go look from k codes [] h = tt
+fewer_go look from k codes (m ∷ machines) h =
+    (record { stands = h.0.stands; go = front_goes m.printer k codes look from m.page h.0.go; no_definition = h.0.no_definition }, fewer_go look from k codes machines h.1)
 
-one_more : (look : Look) (codes : List ℕ) (machines : List MachineState) (m : MachineState) → GoOnAll look codes machines → AllGo m.printer look m.page codes × (m.macros.definition ≡ None) → GoOnAll look codes (machines ++ m ∷ [])
-one_more look codes [] m h go = (go, tt)
-one_more look codes (n ∷ machines) m h go = (h.0, one_more look codes machines m h.1 go)
+one_more : (look : Look) (from : TextPlace) (codes : List ℕ) (machines : List MachineState) (m : MachineState) → GoOnAll look from codes machines → GoOn look from codes m → GoOnAll look from codes (machines ++ m ∷ [])
+one_more look from codes [] m h go = (go, tt)
+one_more look from codes (n ∷ machines) m h go = (h.0, one_more look from codes machines m h.1 go)
+
+-- what has room from where a machine stands goes on it
+pub measured_goes : (machine : MachineState) (m : TextMeasure) (look : Look) (from : TextPlace) (codes : List ℕ) → IsMeasuredAt machine m from → m.look ≡ look → AllHaveRoom m from codes → GoOn look from codes machine
+measured_goes machine m look from codes is same room = record {
+  stands = is.stands;
+  go = subst (λ l. AllGo machine.printer l from machine.page codes) same (room_goes machine.printer m codes from machine.page is.measure is.stands room);
+  no_definition = is.no_definition;
+}
+
+-- places that `==` does not tell apart
+pub same_place : (a b : TextPlace) → not (int_eq a.x b.x && int_eq a.y b.y) ≡ false → a ≡ b
+same_place a b h =
+    let parts = and_parts (int_eq a.x b.x) (int_eq a.y b.y) (is (int_eq a.x b.x && int_eq a.y b.y) h) in
+    let x = (Decides-int_eq a.x b.x).0 parts.0 in
+    let y = (Decides-int_eq a.y b.y).0 parts.1 in
+    λ i. record { x = x i; y = y i }
+  where
+    is : (b : Bool) → not b ≡ false → b ≡ true
+    is true e = refl
+    is false e = absurd cc
+
+-- lines of the first of the bytes are lines of all
+pub lines_of_more : (m : TextMeasure) (from : TextPlace) (bytes : List ℕ) (k : ℕ) (lines : TextLines) → AreLinesFrom m from (take k bytes) lines → k ≤ length bytes → AreLinesFrom m from bytes lines
+lines_of_more m from bytes k lines h few =
+    let len = length-take-le k bytes few in
+    let short : lines.count ≤ k = omega (arith, h.short, len) in
+    let same : take lines.count (take k bytes) ≡ take lines.count bytes = take-take lines.count k bytes short in
+    record {
+      short = omega (arith, short, few);
+      room = subst (λ codes. AllHaveRoom m from codes) same h.room;
+      end = h.end ∙ ap (λ codes. place_behind m.look codes from) same;
+      glyphs = h.glyphs ∙ ap glyph_count same;
+    }
 
 -- as many as go on one machine more
-pub more_go : (look : Look) (k count : ℕ) (bytes : List ℕ) (machines : List MachineState) (i : ℕ) (m : MachineState) → i < length machines → k ≤ count →
-    m ≡ get_or machines i m → GoOnAll look (take count bytes) (take i machines) → AllGo m.printer look m.page (take k (take count bytes)) × (m.macros.definition ≡ None) → GoOnAll look (take k bytes) (take (i + 1) machines)
-more_go look k count bytes machines i m inside most is h go =
+pub more_go : (look : Look) (from : TextPlace) (k count : ℕ) (bytes : List ℕ) (machines : List MachineState) (i : ℕ) (m : MachineState) → i < length machines → k ≤ count →
+    m ≡ get_or machines i m → GoOnAll look from (take count bytes) (take i machines) → GoOn look from (take k (take count bytes)) m → GoOnAll look from (take k bytes) (take (i + 1) machines)
+more_go look from k count bytes machines i m inside most is h go =
     let same : take k (take count bytes) ≡ take k bytes = take-take k count bytes most in
     let front : take (i + 1) machines ≡ take i machines ++ m ∷ [] = take_more machines i m inside ∙ ap (λ (n : MachineState). take i machines ++ n ∷ []) (sym is) in
-    subst (λ (ms : List MachineState). GoOnAll look (take k bytes) ms) (sym front)
-    (subst (λ (codes : List ℕ). GoOnAll look codes (take i machines ++ m ∷ [])) same
-    (one_more look (take k (take count bytes)) (take i machines) m (fewer_go look k (take count bytes) (take i machines) h) go))
+    subst (λ (ms : List MachineState). GoOnAll look from (take k bytes) ms) (sym front)
+    (subst (λ (codes : List ℕ). GoOnAll look from codes (take i machines ++ m ∷ [])) same
+    (one_more look from (take k (take count bytes)) (take i machines) m (fewer_go look from k (take count bytes) (take i machines) h) go))
 
--- as many as go on the others go on the first
-pub first_goes : (printer : Printer) (look : Look) (page : Page) (k count : ℕ) (bytes : List ℕ) → k ≤ count → AllGo printer look page (take count bytes) → AllGo printer look page (take k bytes)
-first_goes printer look page k count bytes most h =
-    subst (λ (codes : List ℕ). AllGo printer look page codes) (take-take k count bytes most) (front_goes printer k (take count bytes) look page h)
-
-pub goes_at : (look : Look) (codes : List ℕ) (machines : List MachineState) (i : ℕ) (d : MachineState) → i < length machines → GoOnAll look codes machines → AllGo (get_or machines i d).printer look (get_or machines i d).page codes × ((get_or machines i d).macros.definition ≡ None)
-goes_at look codes [] i d inside h = absurd (omega (arith, inside))
-goes_at look codes (m ∷ machines) zero d inside h = h.0
-goes_at look codes (m ∷ machines) (suc i) d inside h = goes_at look codes machines i d (omega (arith, inside)) h.1
+pub goes_at : (look : Look) (from : TextPlace) (codes : List ℕ) (machines : List MachineState) (i : ℕ) (d : MachineState) → i < length machines → GoOnAll look from codes machines → GoOn look from codes (get_or machines i d)
+goes_at look from codes [] i d inside h = absurd (omega (arith, inside))
+goes_at look from codes (m ∷ machines) zero d inside h = h.0
+goes_at look from codes (m ∷ machines) (suc i) d inside h = goes_at look from codes machines i d (omega (arith, inside)) h.1
 
 -- ---- a loop that changes each element
 
@@ -175,7 +221,7 @@ pub changed_all : {X : Type 0} (P : X → X → Type 0) (i : ℕ) (old new : Lis
 changed_all P i old new h end =
     subst (λ (l : List _). Each P l new) (take_all i old (omega (arith, end, h.0))) (subst (λ (l : List _). Each P (take i old) l) (take_all i new end) h.2)
 
--- ---- what was executed behind bytes of text
+-- ---- what was executed behind them
 
 -- items that were executed on each printer of a fleet, wherever they were read
 record CarriedItems (fleet : List Printer) (items : List Placed) (machines : List MachineState) (counts : Counts) : Type 0 where
@@ -185,30 +231,30 @@ record CarriedItems (fleet : List Printer) (items : List Placed) (machines : Lis
   along : Each (Along items done) fleet machines
 
 module _ (fleet : List Printer) where
-  item_on : (items : List Placed) (place code : ℕ) (machines mid : List MachineState) (counts between : Counts) → CarriedItems fleet items machines counts → GoesAlike (Execute (Text code)) machines mid counts between → CarriedItems fleet (items ++ at place (Text code) ∷ []) mid between
+  item_on : (items : List Placed) (place code : ℕ) (machines mid : List MachineState) (counts between : Counts) → CarriedItems fleet items machines counts → GoesAlike (Execute (line_item code)) machines mid counts between → CarriedItems fleet (items ++ at place (line_item code) ∷ []) mid between
   item_on items place code machines mid counts between h step = record {
     done = h.done ++ done_item place step.0 ∷ [];
     agreed = agreed_more h.done place step.0 h.agreed;
     counts_are = counts_more h.done place step.0 counts between h.counts_are step.2;
-    along = each_along (Along items h.done) (Does (Execute (Text code)) step.0) (Along (items ++ at place (Text code) ∷ []) (h.done ++ done_item place step.0 ∷ []))
-        (λ printer machine machine' along does. along_more items h.done printer machine along (Execute (Text code)) (at place (Text code)) (λ m. refl) step.0 machine' does) fleet machines mid h.along step.1;
+    along = each_along (Along items h.done) (Does (Execute (line_item code)) step.0) (Along (items ++ at place (line_item code) ∷ []) (h.done ++ done_item place step.0 ∷ []))
+        (λ printer machine machine' along does. along_more items h.done printer machine along (Execute (line_item code)) (at place (line_item code)) (λ m. refl) step.0 machine' does) fleet machines mid h.along step.1;
   }
 
-  items_on : (codes : List ℕ) (items : List Placed) (place : ℕ) (machines machines' : List MachineState) (counts counts' : Counts) → CarriedItems fleet items machines counts → PrintInStep codes machines machines' counts counts' → CarriedItems fleet (items ++ text_items place codes) machines' counts'
+  items_on : (codes : List ℕ) (items : List Placed) (place : ℕ) (machines machines' : List MachineState) (counts counts' : Counts) → CarriedItems fleet items machines counts → PrintInStep codes machines machines' counts counts' → CarriedItems fleet (items ++ line_items place codes) machines' counts'
   items_on [] items place machines machines' counts counts' h step =
       let whole : items ≡ items ++ [] = sym (append-nil items) in
       subst (λ l. CarriedItems fleet l machines' counts') whole (subst (λ ms. CarriedItems fleet items ms counts') (sym step.0) (subst (λ c. CarriedItems fleet items machines c) (sym step.1) h))
   items_on (code ∷ codes) items place machines machines' counts counts' h step =
-      subst (λ l. CarriedItems fleet l machines' counts') (append_assoc items (at place (Text code) ∷ []) (text_items (place + 1) codes))
-      (items_on codes (items ++ at place (Text code) ∷ []) (place + 1) step.0 machines' step.1 counts' (item_on items place code machines step.0 counts step.1 h step.2) step.3)
+      subst (λ l. CarriedItems fleet l machines' counts') (append_assoc items (at place (line_item code) ∷ []) (line_items (place + 1) codes))
+      (items_on codes (items ++ at place (line_item code) ∷ []) (place + 1) step.0 machines' step.1 counts' (item_on items place code machines step.0 counts step.1 h step.2) step.3)
 
-  pub text_done : (bytes codes : List ℕ) (old new : LexerState) (machines machines' : List MachineState) (counts counts' : Counts) → ReadsText old codes new → PrintInStep codes machines machines' counts counts' → HasExecuted fleet bytes old machines counts → HasExecuted fleet bytes new machines' counts'
-  text_done bytes codes old new machines machines' counts counts' passes step executed =
-      let h : CarriedItems fleet (executed.items ++ text_items old.place codes) machines' counts' =
+  pub lines_done : (bytes codes : List ℕ) (old new : LexerState) (machines machines' : List MachineState) (counts counts' : Counts) → ReadsLines old codes new → PrintInStep codes machines machines' counts counts' → HasExecuted fleet bytes old machines counts → HasExecuted fleet bytes new machines' counts'
+  lines_done bytes codes old new machines machines' counts counts' passes step executed =
+      let h : CarriedItems fleet (executed.items ++ line_items old.place codes) machines' counts' =
       items_on codes executed.items old.place machines machines' counts counts' (record { done = executed.done; agreed = executed.agreed; counts_are = executed.counts_are; along = executed.along }) step in
       record {
         some = executed.some;
-        items = executed.items ++ text_items old.place codes;
+        items = executed.items ++ line_items old.place codes;
         reads = passes.reads bytes executed.items executed.reads;
         done = h.done;
         agreed = h.agreed;
@@ -219,15 +265,15 @@ module _ (fleet : List Printer) where
 pub still_run : (codes : List ℕ) (machines machines' : List MachineState) (counts counts' : Counts) → PrintInStep codes machines machines' counts counts' → AreRunning machines → AreRunning machines'
 still_run [] machines machines' counts counts' step running = subst AreRunning (sym step.0) running
 still_run (code ∷ codes) machines machines' counts counts' step running =
-    still_run codes step.0 machines' step.1 counts' step.3 (running_on (Execute (Text code)) step.2.0 machines step.0 refl step.2.1)
+    still_run codes step.0 machines' step.1 counts' step.3 (running_on (Execute (line_item code)) step.2.0 machines step.0 refl step.2.1)
 
--- text is in mode PCL, and leaves it
-text_in_pcl : (codes : List ℕ) (machines machines' : List MachineState) (counts counts' : Counts) → PrintInStep codes machines machines' counts counts' → AreIn modes.Pcl machines → AreIn modes.Pcl machines'
-text_in_pcl [] machines machines' counts counts' step in_pcl = subst (AreIn modes.Pcl) (sym step.0) in_pcl
-text_in_pcl (code ∷ codes) machines machines' counts counts' step in_pcl =
-    text_in_pcl codes step.0 machines' step.1 counts' step.3 (in_next modes.Pcl modes.Pcl (Text code) step.2.0 machines step.0 refl step.2.1 in_pcl)
+-- they are in mode PCL, and leave it
+lines_in_pcl : (codes : List ℕ) (machines machines' : List MachineState) (counts counts' : Counts) → PrintInStep codes machines machines' counts counts' → AreIn modes.Pcl machines → AreIn modes.Pcl machines'
+lines_in_pcl [] machines machines' counts counts' step in_pcl = subst (AreIn modes.Pcl) (sym step.0) in_pcl
+lines_in_pcl (code ∷ codes) machines machines' counts counts' step in_pcl =
+    lines_in_pcl codes step.0 machines' step.1 counts' step.3 (in_next modes.Pcl modes.Pcl (line_item code) step.2.0 machines step.0 (lines_follow code) step.2.1 in_pcl)
 
--- text stands ahead in mode PCL alone
+-- they stand ahead in mode PCL alone
 ahead_in_pcl : (c : Context) (rest : List ℕ) (machines : List MachineState) → AreIn (mode_of c) machines → 0 < length (ahead_in c rest) → AreIn modes.Pcl machines
 ahead_in_pcl Pcl rest machines in_mode some = in_mode
 ahead_in_pcl (Sequence g) rest machines in_mode some = in_mode
@@ -236,15 +282,15 @@ ahead_in_pcl (Letters m n) rest machines in_mode some = absurd (omega (arith, so
 ahead_in_pcl (Numbered x gap n) rest machines in_mode some = absurd (omega (arith, some))
 ahead_in_pcl Pjl rest machines in_mode some = absurd (omega (arith, some))
 
-pub text_ahead_in_pcl : (lexer : LexerState) (machines : List MachineState) → AreIn (mode_of lexer.context) machines → 0 < length (ahead_of lexer) → AreIn modes.Pcl machines
-text_ahead_in_pcl lexer machines in_mode some = ahead_in_pcl lexer.context lexer.rest machines in_mode some
+pub lines_ahead_in_pcl : (lexer : LexerState) (machines : List MachineState) → AreIn (mode_of lexer.context) machines → 0 < length (ahead_of lexer) → AreIn modes.Pcl machines
+lines_ahead_in_pcl lexer machines in_mode some = ahead_in_pcl lexer.context lexer.rest machines in_mode some
 
-module _ (codes : List ℕ) (old new : LexerState) (passes : ReadsText old codes new) where
-  pub text_modes : (machines machines' : List MachineState) (counts counts' : Counts) → PrintInStep codes machines machines' counts counts' → AreIn (mode_of old.context) machines → AreIn (mode_of new.context) machines'
-  text_modes machines machines' counts counts' step in_mode =
+module _ (codes : List ℕ) (old new : LexerState) (passes : ReadsLines old codes new) where
+  pub line_modes : (machines machines' : List MachineState) (counts counts' : Counts) → PrintInStep codes machines machines' counts counts' → AreIn (mode_of old.context) machines → AreIn (mode_of new.context) machines'
+  line_modes machines machines' counts counts' step in_mode =
       subst (λ c. AreIn (mode_of c) machines') (sym passes.behind)
-      (text_in_pcl codes machines machines' counts counts' step (subst (λ c. AreIn (mode_of c) machines) passes.before in_mode))
+      (lines_in_pcl codes machines machines' counts counts' step (subst (λ c. AreIn (mode_of c) machines) passes.before in_mode))
 
   -- bytes of it leave less to be read
-  pub text_less : 1 ≤ length codes → left new.context new.rest < left old.context old.rest
-  text_less some = omega (arith, passes.total, passes.place, ap pending passes.before, ap pending passes.behind)
+  pub lines_less : 1 ≤ length codes → left new.context new.rest < left old.context old.rest
+  lines_less some = omega (arith, passes.total, passes.place, ap pending passes.before, ap pending passes.behind)

@@ -2,10 +2,10 @@
 #![tactic(auto)]
 
 #[cfg(test)]
+mod lines;
+#[cfg(test)]
 mod machine;
 #[cfg(test)]
 mod page;
 #[cfg(test)]
 mod recording;
-#[cfg(test)]
-mod runs;

@@ -1,20 +1,26 @@
--- Bytes of text on the machines of a fleet, which go in step.
+-- Lines of text on the machines of a fleet, which go in step.
 use Rattle.std.specs.Prelude.{◌≡◌, ℕ, None, List, [], ◌∷◌}
 use Rattle.std.specs.List.{AllByRecursion}
-use Rattle.pcl_items.specs.Items.{Text}
-use Rattle.page_env.specs.declared.text_run.Look.{Look}
-use Rattle.page_env.specs.TextRun.{AllGo}
+use Rattle.pcl_items.specs.Lexing.Passing.{line_item}
+use Rattle.page_env.specs.declared.text_lines.Look.{Look}
+use Rattle.page_env.specs.declared.text_lines.TextPlace.{TextPlace}
+use Rattle.page_env.specs.TextLines.{AllGo, StandsAt}
 use Rattle.page_machine.specs.MachineState.{MachineState}
 use Rattle.sinks.specs.declared.counts.Counts.{Counts}
 use Rattle.preflight.specs.Carriers.Lockstep.{Execute, GoesAlike}
 
--- the bytes go on each of the machines, as characters of one look, and no definition is open
-abbrev pub GoOnAll : Look → List ℕ → List MachineState → Type 0
-GoOnAll look codes machines =
-    AllByRecursion (λ machine. AllGo machine.printer look machine.page codes × (machine.macros.definition ≡ None)) machines
+-- the bytes go on a machine from a place, and no definition is open
+pub record GoOn (look : Look) (from : TextPlace) (codes : List ℕ) (machine : MachineState) : Type 0 where
+  pub stands : StandsAt machine.page from
+  pub go : AllGo machine.printer look from machine.page codes
+  pub no_definition : machine.macros.definition ≡ None
+
+-- so they do on each of the machines, as characters of one look
+abbrev pub GoOnAll : Look → TextPlace → List ℕ → List MachineState → Type 0
+GoOnAll look from codes machines = AllByRecursion (GoOn look from codes) machines
 
 -- each of the bytes is an item that all machines execute with the same events, which are counted
 abbrev pub PrintInStep : List ℕ → List MachineState → List MachineState → Counts → Counts → Type 0
 PrintInStep [] old new counts counts' = (new ≡ old) × (counts' ≡ counts)
 PrintInStep (code ∷ codes) old new counts counts' =
-    (mid : List MachineState) × (between : Counts) × GoesAlike (Execute (Text code)) old mid counts between × PrintInStep codes mid new between counts'
+    (mid : List MachineState) × (between : Counts) × GoesAlike (Execute (line_item code)) old mid counts between × PrintInStep codes mid new between counts'

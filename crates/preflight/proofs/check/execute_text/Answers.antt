@@ -3,12 +3,12 @@ use Rattle.std.proofs.lemmas.List.{length-take-le}
 use Rattle.pcl_items.specs.Lexing.Passing.{ahead_of}
 use Rattle.preflight.specs.Carriers.Lockstep.{machines_of, counts_of}
 use Rattle.preflight.specs.Carriers.TextInStep.{PrintInStep}
-use Rattle.preflight.proofs.TextInStep.{text_ahead_in_pcl, text_done, text_less, text_modes, still_run}
+use Rattle.preflight.proofs.TextInStep.{lines_ahead_in_pcl, lines_done, lines_less, line_modes, still_run}
 use Rattle.preflight.proofs.check.execute_text.Goals as goal
 
 pub execute_text-passed-requires-clause-modes : goal.execute_text-passed-requires-clause-modes
 execute_text-passed-requires-clause-modes g c = λ some.
-    text_ahead_in_pcl c.args.lexer.now (machines_of c.args.machines.now) c.requires.modes (subst (λ ahead. 0 < length ahead) c.ahead.ensures some)
+    lines_ahead_in_pcl c.args.lexer.now (machines_of c.args.machines.now) c.requires.modes (subst (λ ahead. 0 < length ahead) c.ahead.ensures some)
 
 pub returns-clause-running : goal.returns-clause-running
 returns-clause-running g c = still_run _ _ _ _ _ c.execute_text-passed.ensures.step c.requires.running
@@ -18,24 +18,24 @@ returns-clause-modes g c =
     let before = c.args.machines.now in
     let after = c.execute_text-passed.new.self in
     let step = subst (λ ahead. PrintInStep (take c.execute_text-passed.result ahead) (machines_of before) (machines_of after) (counts_of before) (counts_of after)) c.ahead.ensures c.execute_text-passed.ensures.step in
-    text_modes _ _ _ c.pass_text.ensures _ _ _ _ step c.requires.modes
+    line_modes _ _ _ c.pass_lines.ensures _ _ _ _ step c.requires.modes
 
 pub returns-clause-executed : goal.returns-clause-executed
 returns-clause-executed g c = λ fleet bytes executed.
     let before = c.args.machines.now in
     let after = c.execute_text-passed.new.self in
     let step = subst (λ ahead. PrintInStep (take c.execute_text-passed.result ahead) (machines_of before) (machines_of after) (counts_of before) (counts_of after)) c.ahead.ensures c.execute_text-passed.ensures.step in
-    text_done fleet bytes _ _ _ _ _ _ _ c.pass_text.ensures step executed
+    lines_done fleet bytes _ _ _ _ _ _ _ c.pass_lines.ensures step executed
 
 pub returns-clause-no_more : goal.returns-clause-no_more
 returns-clause-no_more g c =
     let ahead = ahead_of c.args.lexer.now in
     let some : length (take c.execute_text-passed.result ahead) ≡ c.execute_text-passed.result = length-take-le c.execute_text-passed.result ahead (omega (arith, c.execute_text-passed.ensures.short, ap length c.ahead.ensures)) in
-    let less = text_less _ _ _ c.pass_text.ensures (omega (arith, some)) in
+    let less = lines_less _ _ _ c.pass_lines.ensures (omega (arith, some)) in
     omega (arith, less)
 
 pub returns-clause-less : goal.returns-clause-less
 returns-clause-less g c = λ is.
     let ahead = ahead_of c.args.lexer.now in
     let some : length (take c.execute_text-passed.result ahead) ≡ c.execute_text-passed.result = length-take-le c.execute_text-passed.result ahead (omega (arith, c.execute_text-passed.ensures.short, ap length c.ahead.ensures)) in
-    text_less _ _ _ c.pass_text.ensures (omega (arith, some))
+    lines_less _ _ _ c.pass_lines.ensures (omega (arith, some))

@@ -1,6 +1,0 @@
-use Rattle.std.proofs.Common.{take}
-use Rattle.page_env.specs.TextRun.{CanGoIn}
-use Rattle.page_env.proofs.text_run.text_by_code.Given as goal
-
-abbrev pub invariant-loop-count : goal.invariant-loop-count
-invariant-loop-count g l = CanGoIn l.face.codes (take l.count l.bytes)
