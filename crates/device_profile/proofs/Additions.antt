@@ -4,7 +4,7 @@ use Rattle.std.specs.Option.{option_map, option_map_or, option_and_then}
 use Rattle.std.proofs.lemmas.Bool.{and_parts, and_from, not-true, not-false, not_from_true, not_from_false}
 use Rattle.device_profile.specs.declared.field.Field.{Field}
 use Rattle.device_profile.specs.declared.format.Format.{Format}
-use Rattle.device_profile.specs.declared.field.Field.TheVariants.{Size, Orientation, Vmi, Font, Copies, Sides, Tray, LineTerm}
+use Rattle.device_profile.specs.declared.field.Field.TheVariants.{Tray}
 use Rattle.device_profile.specs.declared.geometry.Geometry.{Geometry}
 use Rattle.device_profile.specs.declared.key.Key.{Key}
 use Rattle.device_profile.specs.declared.key.Key.TheVariants.{Name, Choice, Trays, Duplex, Depth, Memory, Page, Face as FaceRow}
@@ -14,13 +14,14 @@ use Rattle.device_profile.specs.Faces.{Face}
 use Rattle.device_profile.specs.Values.{are_choices, values_on_line, number_on_line, is_name}
 use Rattle.device_profile.specs.GeometryLine.{row_of_words, geometry_on_line}
 use Rattle.device_profile.specs.FaceLine.{face_of_words, face_on_line}
-use Rattle.device_profile.specs.Draft.{Draft, or_range, or_cause, once, draft_after_key, draft_after, with_choice, key_of}
+use Rattle.device_profile.specs.Draft.{Draft, choice_of, or_range, or_cause, once, draft_after_key, draft_after, with_choice, key_of}
 use Rattle.device_profile.proofs.LineParts.{passed, unrepeated, of_mapped, are_choices-on_line, at_most-on_line, room_for_row, row_on_line, line_of_row, room_for_face, face_of_line, line_of_face}
 
 -- what a line gives, whatever was given before it
 pub data Addition : Type 0 where
   nothing new_name : Addition
-  new_sizes new_orientations new_vmis new_fonts new_copies new_sides new_trays new_line_terminations new_device_trays : List ℕ → Addition
+  new_choice : Field → List ℕ → Addition
+  new_device_trays : List ℕ → Addition
   new_duplex new_depth new_memory : ℕ → Addition
   new_page : Geometry → Addition
   new_face : Face → Addition
@@ -31,14 +32,7 @@ or_none new (Err cause) = None
 
 abbrev pub addition_of_key : Key → List (List ℕ) → Option Addition
 addition_of_key Name words = if is_name words then Some new_name else None
-addition_of_key (Choice Size) words = or_none new_sizes (values_on_line Size words)
-addition_of_key (Choice Orientation) words = or_none new_orientations (values_on_line Orientation words)
-addition_of_key (Choice Vmi) words = or_none new_vmis (values_on_line Vmi words)
-addition_of_key (Choice Font) words = or_none new_fonts (values_on_line Font words)
-addition_of_key (Choice Copies) words = or_none new_copies (values_on_line Copies words)
-addition_of_key (Choice Sides) words = or_none new_sides (values_on_line Sides words)
-addition_of_key (Choice Tray) words = or_none new_trays (values_on_line Tray words)
-addition_of_key (Choice LineTerm) words = or_none new_line_terminations (values_on_line LineTerm words)
+addition_of_key (Choice field) words = or_none (new_choice field) (values_on_line field words)
 addition_of_key Trays words = or_none new_device_trays (values_on_line Tray words)
 addition_of_key Duplex words = option_map new_duplex (number_on_line 1 words)
 addition_of_key Depth words = option_map new_depth (number_on_line 8 words)
@@ -61,14 +55,7 @@ takes_number most held n = not (is_some held) && nat_le n most
 abbrev pub takes : Draft → Addition → Bool
 takes draft nothing = true
 takes draft new_name = not draft.is_named
-takes draft (new_sizes values) = takes_list Size draft.sizes values
-takes draft (new_orientations values) = takes_list Orientation draft.orientations values
-takes draft (new_vmis values) = takes_list Vmi draft.vmis values
-takes draft (new_fonts values) = takes_list Font draft.fonts values
-takes draft (new_copies values) = takes_list Copies draft.copies values
-takes draft (new_sides values) = takes_list Sides draft.sides values
-takes draft (new_trays values) = takes_list Tray draft.trays values
-takes draft (new_line_terminations values) = takes_list LineTerm draft.line_terminations values
+takes draft (new_choice field values) = takes_list field (choice_of draft field) values
 takes draft (new_device_trays values) = takes_list Tray draft.device_trays values
 takes draft (new_duplex n) = takes_number 1 draft.duplex n
 takes draft (new_depth n) = takes_number 8 draft.depth n
@@ -80,14 +67,7 @@ takes draft (new_face face) = room_for_face draft.faces face
 abbrev pub added : Draft → Addition → Draft
 added draft nothing = draft
 added draft new_name = record draft { is_named = true }
-added draft (new_sizes values) = record draft { sizes = values }
-added draft (new_orientations values) = record draft { orientations = values }
-added draft (new_vmis values) = record draft { vmis = values }
-added draft (new_fonts values) = record draft { fonts = values }
-added draft (new_copies values) = record draft { copies = values }
-added draft (new_sides values) = record draft { sides = values }
-added draft (new_trays values) = record draft { trays = values }
-added draft (new_line_terminations values) = record draft { line_terminations = values }
+added draft (new_choice field values) = with_choice draft field values
 added draft (new_device_trays values) = record draft { device_trays = values }
 added draft (new_duplex n) = record draft { duplex = Some n }
 added draft (new_depth n) = record draft { depth = Some n }
@@ -134,30 +114,9 @@ adds_key draft Name words next is =
     let single = unrepeated draft.is_named (if is_name words then Ok named else Err Range) next is in
     let kept = passed (is_name words) named next Range single.1 in
     record { addition = new_name; told = ap (λ b. if b then Some new_name else None) kept.0; taken = not_from_false draft.is_named single.0; is = kept.1 }
-adds_key draft (Choice Size) words next is =
-    let l = list_taken Size words draft.sizes new_sizes (with_choice draft Size) next is in
-    record { addition = new_sizes l.0; told = l.1; taken = l.2; is = l.3 }
-adds_key draft (Choice Orientation) words next is =
-    let l = list_taken Orientation words draft.orientations new_orientations (with_choice draft Orientation) next is in
-    record { addition = new_orientations l.0; told = l.1; taken = l.2; is = l.3 }
-adds_key draft (Choice Vmi) words next is =
-    let l = list_taken Vmi words draft.vmis new_vmis (with_choice draft Vmi) next is in
-    record { addition = new_vmis l.0; told = l.1; taken = l.2; is = l.3 }
-adds_key draft (Choice Font) words next is =
-    let l = list_taken Font words draft.fonts new_fonts (with_choice draft Font) next is in
-    record { addition = new_fonts l.0; told = l.1; taken = l.2; is = l.3 }
-adds_key draft (Choice Copies) words next is =
-    let l = list_taken Copies words draft.copies new_copies (with_choice draft Copies) next is in
-    record { addition = new_copies l.0; told = l.1; taken = l.2; is = l.3 }
-adds_key draft (Choice Sides) words next is =
-    let l = list_taken Sides words draft.sides new_sides (with_choice draft Sides) next is in
-    record { addition = new_sides l.0; told = l.1; taken = l.2; is = l.3 }
-adds_key draft (Choice Tray) words next is =
-    let l = list_taken Tray words draft.trays new_trays (with_choice draft Tray) next is in
-    record { addition = new_trays l.0; told = l.1; taken = l.2; is = l.3 }
-adds_key draft (Choice LineTerm) words next is =
-    let l = list_taken LineTerm words draft.line_terminations new_line_terminations (with_choice draft LineTerm) next is in
-    record { addition = new_line_terminations l.0; told = l.1; taken = l.2; is = l.3 }
+adds_key draft (Choice field) words next is =
+    let l = list_taken field words (choice_of draft field) (new_choice field) (with_choice draft field) next is in
+    record { addition = new_choice field l.0; told = l.1; taken = l.2; is = l.3 }
 adds_key draft Trays words next is =
     let l = list_taken Tray words draft.device_trays new_device_trays (λ trays. record draft { device_trays = trays }) next is in
     record { addition = new_device_trays l.0; told = l.1; taken = l.2; is = l.3 }
@@ -224,22 +183,8 @@ name_added draft false addition told taken = cc
 added_key : (draft : Draft) (key : Key) (words : List (List ℕ)) (addition : Addition) → addition_of_key key words ≡ Some addition → IsTrue (takes draft addition)
     → draft_after_key draft key words ≡ Ok (added draft addition)
 added_key draft Name words addition told taken = name_added draft (is_name words) addition told taken
-added_key draft (Choice Size) words addition told taken =
-    list_added draft Size draft.sizes new_sizes (with_choice draft Size) (values_on_line Size words) addition (λ v. refl) (λ v. refl) told taken
-added_key draft (Choice Orientation) words addition told taken =
-    list_added draft Orientation draft.orientations new_orientations (with_choice draft Orientation) (values_on_line Orientation words) addition (λ v. refl) (λ v. refl) told taken
-added_key draft (Choice Vmi) words addition told taken =
-    list_added draft Vmi draft.vmis new_vmis (with_choice draft Vmi) (values_on_line Vmi words) addition (λ v. refl) (λ v. refl) told taken
-added_key draft (Choice Font) words addition told taken =
-    list_added draft Font draft.fonts new_fonts (with_choice draft Font) (values_on_line Font words) addition (λ v. refl) (λ v. refl) told taken
-added_key draft (Choice Copies) words addition told taken =
-    list_added draft Copies draft.copies new_copies (with_choice draft Copies) (values_on_line Copies words) addition (λ v. refl) (λ v. refl) told taken
-added_key draft (Choice Sides) words addition told taken =
-    list_added draft Sides draft.sides new_sides (with_choice draft Sides) (values_on_line Sides words) addition (λ v. refl) (λ v. refl) told taken
-added_key draft (Choice Tray) words addition told taken =
-    list_added draft Tray draft.trays new_trays (with_choice draft Tray) (values_on_line Tray words) addition (λ v. refl) (λ v. refl) told taken
-added_key draft (Choice LineTerm) words addition told taken =
-    list_added draft LineTerm draft.line_terminations new_line_terminations (with_choice draft LineTerm) (values_on_line LineTerm words) addition (λ v. refl) (λ v. refl) told taken
+added_key draft (Choice field) words addition told taken =
+    list_added draft field (choice_of draft field) (new_choice field) (with_choice draft field) (values_on_line field words) addition (λ v. refl) (λ v. refl) told taken
 added_key draft Trays words addition told taken =
     list_added draft Tray draft.device_trays new_device_trays (λ trays. record draft { device_trays = trays }) (values_on_line Tray words) addition (λ v. refl) (λ v. refl) told taken
 added_key draft Duplex words addition told taken =

@@ -2,9 +2,12 @@ mod RowExamples
 mod WordExamples
 pub mod Additions
 pub mod Amounts
+pub mod ChoiceFacts
 pub mod CodeRanges
 pub mod Examples
 pub mod Finished
+pub mod GivenKeys
+mod LikePrinters
 pub mod LineParts
 pub mod Order
 pub mod Parts
@@ -17,4 +20,5 @@ pub mod Sound
 pub mod TextLaws
 pub mod Valid
 pub mod ValueFacts
+mod SamePages
 mod SameRanges

@@ -1,5 +1,5 @@
 -- The lines of an accepted text may stand in any order.
-use Rattle.std.proofs.Common.{◌≡◌, ℕ, zero, suc, ◌+◌, ◌<◌, ◌==◌, ◌&&◌, ◌||◌, Bool, false, not, List, [], ◌∷◌, ◌++◌, length, get_or, set, swap, append_assoc, length-append, IsTrue, Some, Ok, nat_lt, nat_le, arith, refl, sym, subst, ap, ◌∙◌}
+use Rattle.std.proofs.Common.{◌≡◌, ℕ, zero, suc, ◌+◌, ◌<◌, ◌==◌, ◌&&◌, ◌||◌, Bool, false, not, List, [], ◌∷◌, ◌++◌, length, get_or, set, swap, append_assoc, length-append, IsTrue, Some, Ok, inl, inr, nat_lt, nat_le, arith, refl, sym, subst, ap, ◌∙◌}
 use Rattle.std.specs.List.{list_any}
 use Rattle.std.specs.List.Sorted.{IsPermutation}
 use Rattle.std.proofs.lemmas.Bool.{and_parts, or_parts, or_from, and_from, not-true, not_from_false, false≢true, eqb-true}
@@ -9,15 +9,17 @@ use Rattle.std.proofs.lemmas.List.Folds.{list_any-append}
 use Rattle.std.proofs.lemmas.List.Sorted.{IsPermutation-refl, IsPermutation-trans, IsPermutation-append_left, IsPermutation-append_right, IsPermutation-append_comm, IsPermutation-keeps, length_permutation, list_any-IsPermutation}
 use Rattle.device_profile.specs.declared.field.Field.{Field}
 use Rattle.device_profile.specs.declared.format.Format.{Format}
-use Rattle.device_profile.specs.declared.field.Field.TheVariants.{Size, Orientation, Vmi, Font, Copies, Sides, Tray, LineTerm}
+use Rattle.device_profile.specs.declared.field.Field.TheVariants.{Tray}
 use Rattle.device_profile.specs.declared.font.FontRequest.{FontRequest}
 use Rattle.device_profile.specs.declared.geometry.Geometry.{Geometry}
 use Rattle.device_profile.specs.Faces.{Face, has_face, has_request, is_face, is_same_request}
 use Rattle.device_profile.specs.Printer.{has_row, is_page, is_same_page}
 use Rattle.device_profile.specs.Values.{are_choices}
-use Rattle.device_profile.specs.Draft.{Draft, draft_after}
+use Rattle.device_profile.specs.Choices.{Choices}
+use Rattle.device_profile.specs.Draft.{Draft, choice_of, draft_after}
 use Rattle.device_profile.specs.Text.{words_of_line, draft_of_lines}
-use Rattle.device_profile.proofs.Additions.{Addition, nothing, new_name, new_sizes, new_orientations, new_vmis, new_fonts, new_copies, new_sides, new_trays, new_line_terminations, new_device_trays, new_duplex, new_depth, new_memory, new_page, new_face, addition_of, takes_list, takes_number, takes, added, adds, added_after}
+use Rattle.device_profile.proofs.ChoiceFacts.{same_or_apart}
+use Rattle.device_profile.proofs.Additions.{Addition, nothing, new_name, new_choice, new_device_trays, new_duplex, new_depth, new_memory, new_page, new_face, addition_of, takes_list, takes_number, takes, added, adds, added_after}
 use Rattle.device_profile.proofs.Sound.{or_fault, line_given}
 use Rattle.device_profile.proofs.Singles.{some_values}
 
@@ -110,11 +112,11 @@ same_request_symmetric a b = rw (
 ) refl
 
 -- a list is not given twice, nor is a number
-list_twice : (field : Field) (held first second : List ℕ) → IsTrue (takes_list field held first) → IsTrue (takes_list field first second) → ⊥
-list_twice field held first second once twice =
-    let parts = and_parts (length held == 0) (are_choices field first) once in
-    let some = some_values field first parts.1 in
-    let none : length first ≡ 0 = eqb-true (length first) 0 ((and_parts (length first == 0) (are_choices field second) twice).0) in
+list_twice : (one two : Field) (held first second : List ℕ) → IsTrue (takes_list one held first) → IsTrue (takes_list two first second) → ⊥
+list_twice one two held first second once twice =
+    let parts = and_parts (length held == 0) (are_choices one first) once in
+    let some = some_values one first parts.1 in
+    let none : length first ≡ 0 = eqb-true (length first) 0 ((and_parts (length first == 0) (are_choices two second) twice).0) in
     omega arith
 
 number_twice : (most first second : ℕ) → IsTrue (takes_number most (Some first) second) → ⊥
@@ -126,18 +128,27 @@ record BothWays (draft : Draft) (x y : Addition) : Type 0 where
   second : IsTrue (takes (added draft y) x)
   similar : IsSimilar (added (added draft x) y) (added (added draft y) x)
 
+choices_both_ways : (draft : Draft) (f g : Field) (v w : List ℕ) → IsTrue (takes draft (new_choice f v)) → IsTrue (takes (added draft (new_choice f v)) (new_choice g w))
+    → BothWays draft (new_choice f v) (new_choice g w)
+choices_both_ways draft f g v w one two =
+    elim (same_or_apart f g) [
+      | inl are ↦ absurd (list_twice f g (choice_of draft f) v w one (subst (λ (held : List ℕ). IsTrue (takes_list g held w)) (are.set draft.choices v) two))
+      | inr are ↦ record {
+        first = subst (λ (held : List ℕ). IsTrue (takes_list g held w)) (are.second_kept draft.choices v) two;
+        second = subst (λ (held : List ℕ). IsTrue (takes_list f held v)) (sym (are.first_kept draft.choices w)) one;
+        similar = record {
+          geometries = IsPermutation-refl draft.geometries;
+          faces = IsPermutation-refl draft.faces;
+          others = ap (λ (choices : Choices). record draft { choices = choices; geometries = []; faces = [] }) (are.either_order draft.choices v w);
+        };
+      }
+    ]
+
 both_orders : (draft : Draft) (x y : Addition) → IsTrue (takes draft x) → IsTrue (takes (added draft x) y) → BothWays draft x y
 unfolding has_face has_request
 both_orders draft new_name new_name one two = absurd (false≢true two)
-both_orders draft (new_sizes v) (new_sizes w) one two = absurd (list_twice Size draft.sizes v w one two)
-both_orders draft (new_orientations v) (new_orientations w) one two = absurd (list_twice Orientation draft.orientations v w one two)
-both_orders draft (new_vmis v) (new_vmis w) one two = absurd (list_twice Vmi draft.vmis v w one two)
-both_orders draft (new_fonts v) (new_fonts w) one two = absurd (list_twice Font draft.fonts v w one two)
-both_orders draft (new_copies v) (new_copies w) one two = absurd (list_twice Copies draft.copies v w one two)
-both_orders draft (new_sides v) (new_sides w) one two = absurd (list_twice Sides draft.sides v w one two)
-both_orders draft (new_trays v) (new_trays w) one two = absurd (list_twice Tray draft.trays v w one two)
-both_orders draft (new_line_terminations v) (new_line_terminations w) one two = absurd (list_twice LineTerm draft.line_terminations v w one two)
-both_orders draft (new_device_trays v) (new_device_trays w) one two = absurd (list_twice Tray draft.device_trays v w one two)
+both_orders draft (new_choice f v) (new_choice g w) one two = choices_both_ways draft f g v w one two
+both_orders draft (new_device_trays v) (new_device_trays w) one two = absurd (list_twice Tray Tray draft.device_trays v w one two)
 both_orders draft (new_duplex n) (new_duplex m) one two = absurd (number_twice 1 n m two)
 both_orders draft (new_depth n) (new_depth m) one two = absurd (number_twice 8 n m two)
 both_orders draft (new_memory n) (new_memory m) one two = absurd (number_twice 1_048_576 n m two)

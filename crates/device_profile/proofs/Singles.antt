@@ -1,9 +1,10 @@
 -- Keys that come once stand on one line of an accepted text.
-use Rattle.std.proofs.Common.{◌≡◌, ℕ, suc, ◌+◌, ◌≤◌, ◌==◌, ◌&&◌, Bool, true, false, not, cond, List, [], ◌∷◌, length, get_or, filter, codes, All, IsTrue, MatchBool, Option, None, Some, is_some, find, Result, Ok, Err, nat_lt, nat_le, if◌then◌else◌, arith, refl, sym, subst, ap, ◌∙◌}
+use Rattle.std.proofs.Common.{◌≡◌, ℕ, ◌+◌, ◌≤◌, ◌==◌, ◌&&◌, Bool, true, false, not, cond, List, [], ◌∷◌, length, get_or, map, filter, codes, All, IsTrue, MatchBool, Option, None, Some, is_some, find, Result, Ok, Err, nat_lt, nat_le, if◌then◌else◌, arith, refl, sym, subst, ap, ◌∙◌}
 use Rattle.std.specs.Option.{option_map, option_and_then}
 use Rattle.std.specs.Str.{bytes_eq}
 use Rattle.std.specs.List.{list_all, AllByRecursion}
-use Rattle.std.proofs.lemmas.Bool.{and_parts, cond_both, not-true, not_from_true, not_from_false, false≢true, leb-true, ne_eqb}
+use Rattle.std.proofs.lemmas.Bool.{and_parts, cond_both, not-true, false≢true, leb-true, eqb-true}
+use Rattle.std.proofs.lemmas.Bool.Decides.{nat_tests}
 use Rattle.std.proofs.lemmas.List.Elements.{All-from_recursion}
 use Rattle.std.proofs.lemmas.Slice.Eq.{bytes_eq-Decides}
 use Rattle.device_profile.specs.declared.field.Field.{Field}
@@ -18,10 +19,11 @@ use Rattle.device_profile.specs.GeometryLine.{row_of_words}
 use Rattle.device_profile.specs.FaceLine.{face_of_words}
 use Rattle.device_profile.specs.Draft.{Draft, no_draft, keys, is_key_in, key_of, draft_after}
 use Rattle.device_profile.specs.Words.{words_of}
-use Rattle.device_profile.specs.Text.{version_of, format_of, words_of_line, draft_of_lines, draft_of, is_complete}
-use Rattle.device_profile.specs.Laws.{has_key, common_keys, single_keys}
+use Rattle.device_profile.specs.Text.{version_of, format_of, words_of_line, draft_of_lines, draft_of, is_given, is_complete}
+use Rattle.device_profile.specs.Laws.{has_key, single_keys}
 use Rattle.device_profile.proofs.LineParts.{of_value, of_mapped}
-use Rattle.device_profile.proofs.Additions.{Addition, nothing, new_name, new_sizes, new_orientations, new_vmis, new_fonts, new_copies, new_sides, new_trays, new_line_terminations, new_device_trays, new_duplex, new_depth, new_memory, new_page, new_face, or_none, addition_of_key, addition_of, takes_list, takes, added, adds}
+use Rattle.device_profile.proofs.Additions.{Addition, nothing, new_name, new_choice, new_device_trays, new_duplex, new_depth, new_memory, new_page, new_face, or_none, addition_of_key, addition_of, takes_list, takes, added, adds}
+use Rattle.device_profile.proofs.GivenKeys.{each_given}
 use Rattle.device_profile.proofs.Sound.{line_given, version_given}
 
 abbrev word_of : Key → List ℕ
@@ -45,14 +47,7 @@ word_of FaceRow = codes "face"
 abbrev word_of_addition : Addition → List ℕ
 word_of_addition nothing = []
 word_of_addition new_name = codes "name"
-word_of_addition (new_sizes values) = codes "size"
-word_of_addition (new_orientations values) = codes "orientation"
-word_of_addition (new_vmis values) = codes "vmi"
-word_of_addition (new_fonts values) = codes "font"
-word_of_addition (new_copies values) = codes "copies"
-word_of_addition (new_sides values) = codes "sides"
-word_of_addition (new_trays values) = codes "tray"
-word_of_addition (new_line_terminations values) = codes "lineterm"
+word_of_addition (new_choice field values) = word_of (Choice field)
 word_of_addition (new_device_trays values) = codes "trays"
 word_of_addition (new_duplex n) = codes "duplex"
 word_of_addition (new_depth n) = codes "depth"
@@ -102,14 +97,7 @@ word_of_name false addition told = cc
 
 word_of_told : (key : Key) (words : List (List ℕ)) (addition : Addition) → addition_of_key key words ≡ Some addition → word_of_addition addition ≡ word_of key
 word_of_told Name words addition told = word_of_name (is_name words) addition told
-word_of_told (Choice Size) words addition told = word_of_list (codes "size") new_sizes (values_on_line Size words) addition (λ v. refl) told
-word_of_told (Choice Orientation) words addition told = word_of_list (codes "orientation") new_orientations (values_on_line Orientation words) addition (λ v. refl) told
-word_of_told (Choice Vmi) words addition told = word_of_list (codes "vmi") new_vmis (values_on_line Vmi words) addition (λ v. refl) told
-word_of_told (Choice Font) words addition told = word_of_list (codes "font") new_fonts (values_on_line Font words) addition (λ v. refl) told
-word_of_told (Choice Copies) words addition told = word_of_list (codes "copies") new_copies (values_on_line Copies words) addition (λ v. refl) told
-word_of_told (Choice Sides) words addition told = word_of_list (codes "sides") new_sides (values_on_line Sides words) addition (λ v. refl) told
-word_of_told (Choice Tray) words addition told = word_of_list (codes "tray") new_trays (values_on_line Tray words) addition (λ v. refl) told
-word_of_told (Choice LineTerm) words addition told = word_of_list (codes "lineterm") new_line_terminations (values_on_line LineTerm words) addition (λ v. refl) told
+word_of_told (Choice field) words addition told = word_of_list (word_of (Choice field)) (new_choice field) (values_on_line field words) addition (λ v. refl) told
 word_of_told Trays words addition told = word_of_list (codes "trays") new_device_trays (values_on_line Tray words) addition (λ v. refl) told
 word_of_told Duplex words addition told = word_of_mapped (codes "duplex") new_duplex (number_on_line 1 words) addition (λ n. refl) told
 word_of_told Depth words addition told = word_of_mapped (codes "depth") new_depth (number_on_line 8 words) addition (λ n. refl) told
@@ -126,24 +114,7 @@ first_word format (word ∷ words) addition told =
     let given = of_value (λ k. addition_of_key k words) (key_of format word) addition told in
     sym (word_of_key format word given.0 given.1) ∙ sym (word_of_told given.0 words addition given.2)
 
--- whether a key that comes once was given
-abbrev is_given : Key → Draft → Bool
-is_given Name draft = draft.is_named
-is_given (Choice Size) draft = not (length draft.sizes == 0)
-is_given (Choice Orientation) draft = not (length draft.orientations == 0)
-is_given (Choice Vmi) draft = not (length draft.vmis == 0)
-is_given (Choice Font) draft = not (length draft.fonts == 0)
-is_given (Choice Copies) draft = not (length draft.copies == 0)
-is_given (Choice Sides) draft = not (length draft.sides == 0)
-is_given (Choice Tray) draft = not (length draft.trays == 0)
-is_given (Choice LineTerm) draft = not (length draft.line_terminations == 0)
-is_given Trays draft = not (length draft.device_trays == 0)
-is_given Duplex draft = is_some draft.duplex
-is_given Depth draft = is_some draft.depth
-is_given Memory draft = is_some draft.memory
-is_given Page draft = false
-is_given FaceRow draft = false
-
+-- whether a key comes once
 abbrev is_single : Key → Bool
 is_single Name = true
 is_single (Choice field) = true
@@ -164,32 +135,39 @@ some_values field values are =
     let counted = and_parts (is_between 1 16 (length values)) (list_all (is_value field) values) fit.0 in
     leb-true 1 (length values) ((and_parts (nat_le 1 (length values)) (nat_le (length values) 16) counted.0).0)
 
-list_counts : (field : Field) (held values : List ℕ) → IsTrue (takes_list field held values) → (not (length held == 0) ≡ false) × (not (length values == 0) ≡ true)
+list_counts : (field : Field) (held values : List ℕ) → IsTrue (takes_list field held values) → (nat_lt 0 (length held) ≡ false) × (nat_lt 0 (length values) ≡ true)
 list_counts field held values taken =
     let parts = and_parts (length held == 0) (are_choices field values) taken in
+    let none : length held ≡ 0 = eqb-true (length held) 0 parts.0 in
     let some : 1 ≤ length values = some_values field values parts.1 in
-    (not_from_true (length held == 0) parts.0, not_from_false (length values == 0) (ne_eqb (length values) 0 (λ e. omega arith)))
+    (ap (nat_lt 0) none, grind (arith, nat_tests))
 
 number_counts : (is_held fits : Bool) → IsTrue (not is_held && fits) → (is_held ≡ false) × (true ≡ true)
 number_counts is_held fits taken = (not-true is_held ((and_parts (not is_held) fits taken).0), refl)
 
+-- (beside the keys of no field, a case with Size has all fields told apart)
 counts : (key : Key) (draft : Draft) (addition : Addition) → IsTrue (is_single key) → IsTrue (takes draft addition)
-    → Counts (bytes_eq (word_of key) (word_of_addition addition)) (is_given key draft) (is_given key (added draft addition))
+    → Counts (bytes_eq (word_of key) (word_of_addition addition)) (is_given draft key) (is_given (added draft addition) key)
 counts Page draft addition single taken = absurd (false≢true single)
 counts FaceRow draft addition single taken = absurd (false≢true single)
 counts Name draft new_name single taken = (not-true draft.is_named taken, refl)
-counts (Choice Size) draft (new_sizes values) single taken = list_counts Size draft.sizes values taken
-counts (Choice Orientation) draft (new_orientations values) single taken = list_counts Orientation draft.orientations values taken
-counts (Choice Vmi) draft (new_vmis values) single taken = list_counts Vmi draft.vmis values taken
-counts (Choice Font) draft (new_fonts values) single taken = list_counts Font draft.fonts values taken
-counts (Choice Copies) draft (new_copies values) single taken = list_counts Copies draft.copies values taken
-counts (Choice Sides) draft (new_sides values) single taken = list_counts Sides draft.sides values taken
-counts (Choice Tray) draft (new_trays values) single taken = list_counts Tray draft.trays values taken
-counts (Choice LineTerm) draft (new_line_terminations values) single taken = list_counts LineTerm draft.line_terminations values taken
+counts Name draft (new_choice Size values) single taken = refl
+counts (Choice Size) draft (new_choice Size values) single taken = list_counts Size draft.choices.sizes values taken
+counts (Choice Orientation) draft (new_choice Orientation values) single taken = list_counts Orientation draft.choices.orientations values taken
+counts (Choice Vmi) draft (new_choice Vmi values) single taken = list_counts Vmi draft.choices.vmis values taken
+counts (Choice Font) draft (new_choice Font values) single taken = list_counts Font draft.choices.fonts values taken
+counts (Choice Copies) draft (new_choice Copies values) single taken = list_counts Copies draft.choices.copies values taken
+counts (Choice Sides) draft (new_choice Sides values) single taken = list_counts Sides draft.choices.sides values taken
+counts (Choice Tray) draft (new_choice Tray values) single taken = list_counts Tray draft.choices.trays values taken
+counts (Choice LineTerm) draft (new_choice LineTerm values) single taken = list_counts LineTerm draft.choices.line_terminations values taken
 counts Trays draft (new_device_trays values) single taken = list_counts Tray draft.device_trays values taken
+counts Trays draft (new_choice Size values) single taken = refl
 counts Duplex draft (new_duplex n) single taken = number_counts (is_some draft.duplex) (nat_le n 1) taken
+counts Duplex draft (new_choice Size values) single taken = refl
 counts Depth draft (new_depth n) single taken = number_counts (is_some draft.depth) (nat_le n 8) taken
+counts Depth draft (new_choice Size values) single taken = refl
 counts Memory draft (new_memory n) single taken = number_counts (is_some draft.memory) (nat_le n 1_048_576) taken
+counts Memory draft (new_choice Size values) single taken = refl
 counts key draft addition single taken = refl
 
 abbrev bit : Bool → ℕ
@@ -210,20 +188,20 @@ one_line false was now line rest total counted is =
     omega arith
 
 count_lines : (format : Format) (key : Key) → IsTrue (is_single key) → (lines : List (List ℕ)) (draft : Draft) (number : ℕ) (last : Draft) → draft_of_lines format draft number lines ≡ Ok last
-    → bit (is_given key draft) + length (with_key key lines) ≡ bit (is_given key last)
+    → bit (is_given draft key) + length (with_key key lines) ≡ bit (is_given last key)
 count_lines format key single [] draft number last is =
     let same : draft ≡ last = cc in
-    let bits : bit (is_given key draft) ≡ bit (is_given key last) = ap (λ d. bit (is_given key d)) same in
+    let bits : bit (is_given draft key) ≡ bit (is_given last key) = ap (λ d. bit (is_given d key)) same in
     omega arith
 count_lines format key single (line ∷ lines) draft number last is =
     let given = line_given (draft_after format draft (words_of_line line)) (λ next. draft_of_lines format next (number + 1) lines) number last is in
     let step = adds format draft (words_of_line line) given.0 given.1 in
-    let here : Counts (has_key (word_of key) line) (is_given key draft) (is_given key (added draft step.addition)) =
-    subst (λ (word : List ℕ). Counts (bytes_eq (word_of key) word) (is_given key draft) (is_given key (added draft step.addition))) (sym (first_word format (words_of_line line) step.addition step.told))
+    let here : Counts (has_key (word_of key) line) (is_given draft key) (is_given (added draft step.addition) key) =
+    subst (λ (word : List ℕ). Counts (bytes_eq (word_of key) word) (is_given draft key) (is_given (added draft step.addition) key)) (sym (first_word format (words_of_line line) step.addition step.told))
     (counts key draft step.addition single step.taken) in
-    let counted : Counts (has_key (word_of key) line) (is_given key draft) (is_given key given.0) =
-    subst (λ (d : Draft). Counts (has_key (word_of key) line) (is_given key draft) (is_given key d)) step.is here in
-    one_line (has_key (word_of key) line) (is_given key draft) (is_given key given.0) line (with_key key lines) (bit (is_given key last)) counted
+    let counted : Counts (has_key (word_of key) line) (is_given draft key) (is_given given.0 key) =
+    subst (λ (d : Draft). Counts (has_key (word_of key) line) (is_given draft key) (is_given d key)) step.is here in
+    one_line (has_key (word_of key) line) (is_given draft key) (is_given given.0 key) line (with_key key lines) (bit (is_given last key)) counted
     (count_lines format key single lines given.0 (number + 1) last given.2)
 
 no_key : (key : Key) → (bytes_eq (word_of key) [] ≡ false) × (bytes_eq (word_of key) (codes "pclprofile") ≡ false)
@@ -261,92 +239,47 @@ first_line key first format version =
     (λ line. ap (bytes_eq (word_of key)) (named (words_of first) format version) ∙ (no_key key).1)
 
 -- a key that was given stands on one of all lines, where nothing gave it before the lines
-stands_once : (key : Key) → IsTrue (is_single key) → (format : Format) → is_given key (no_draft format) ≡ false → (first : List ℕ) (later : List (List ℕ)) (draft : Draft)
-    → format_of (words_of first) ≡ Some format → draft_of_lines format (no_draft format) 2 later ≡ Ok draft → is_given key draft ≡ true → length (with_key key (first ∷ later)) ≡ 1
+stands_once : (key : Key) → IsTrue (is_single key) → (format : Format) → is_given (no_draft format) key ≡ false → (first : List ℕ) (later : List (List ℕ)) (draft : Draft)
+    → format_of (words_of first) ≡ Some format → draft_of_lines format (no_draft format) 2 later ≡ Ok draft → is_given draft key ≡ true → length (with_key key (first ∷ later)) ≡ 1
 stands_once key single format none first later draft version is given =
-    let total : bit (is_given key (no_draft format)) + length (with_key key later) ≡ bit (is_given key draft) = count_lines format key single later (no_draft format) 2 draft is in
-    let before : bit (is_given key (no_draft format)) ≡ 0 = ap bit none in
-    let after : bit (is_given key draft) ≡ 1 = ap bit given in
+    let total : bit (is_given (no_draft format) key) + length (with_key key later) ≡ bit (is_given draft key) = count_lines format key single later (no_draft format) 2 draft is in
+    let before : bit (is_given (no_draft format) key) ≡ 0 = ap bit none in
+    let after : bit (is_given draft key) ≡ 1 = ap bit given in
     let rest : length (with_key key later) ≡ 1 = omega arith in
     ap (λ has. length (cond has (first ∷ with_key key later) (with_key key later))) (first_line key first format version) ∙ rest
-
-some_given : (values : List ℕ) → IsTrue (nat_lt 0 (length values)) → not (length values == 0) ≡ true
-some_given [] some = absurd (false≢true some)
-some_given (value ∷ values) some = not_from_false (suc (length values) == 0) (ne_eqb (suc (length values)) 0 (λ e. omega arith))
 
 abbrev StandsOnce : List (List ℕ) → List ℕ → Type 0
 StandsOnce all key = length (filter (has_key key) all) ≡ 1
 
-line_terminations_given : (draft : Draft) → IsTrue (is_complete draft) → IsTrue (nat_lt 0 (length draft.line_terminations))
-line_terminations_given draft complete =
-    let c14 = and_parts _ _ complete in
-    let c13 = and_parts _ _ c14.0 in
-    let c12 = and_parts _ _ c13.0 in
-    let c11 = and_parts _ _ c12.0 in
-    let c10 = and_parts _ _ c11.0 in
-    let c9 = and_parts _ _ c10.0 in
-    let c8 = and_parts _ _ c9.0 in
-    c8.1
+-- whether a key comes once, and nothing gives it before the lines
+abbrev is_awaited : Format → Key → Bool
+is_awaited format key = is_single key && not (is_given (no_draft format) key)
 
-singles_once : (format : Format) (first : List ℕ) (later : List (List ℕ)) (draft : Draft) → format_of (words_of first) ≡ Some format
-    → draft_of_lines format (no_draft format) 2 later ≡ Ok draft → IsTrue (is_complete draft) → AllByRecursion (StandsOnce (first ∷ later)) common_keys
-singles_once format first later draft version is complete =
-    let c14 = and_parts _ _ complete in
-    let c13 = and_parts _ _ c14.0 in
-    let c12 = and_parts _ _ c13.0 in
-    let c11 = and_parts _ _ c12.0 in
-    let c10 = and_parts _ _ c11.0 in
-    let c9 = and_parts _ _ c10.0 in
-    let c8 = and_parts _ _ c9.0 in
-    let c7 = and_parts _ _ c8.0 in
-    let c6 = and_parts _ _ c7.0 in
-    let c5 = and_parts _ _ c6.0 in
-    let c4 = and_parts _ _ c5.0 in
-    let c3 = and_parts _ _ c4.0 in
-    let c2 = and_parts _ _ c3.0 in
-    let c1 = and_parts _ _ c2.0 in (
-      stands_once Name refl format refl first later draft version is c1.0,
-      (
-        stands_once (Choice Size) refl format refl first later draft version is (some_given draft.sizes c1.1),
-        (
-          stands_once (Choice Orientation) refl format refl first later draft version is (some_given draft.orientations c2.1),
-          (
-            stands_once (Choice Vmi) refl format refl first later draft version is (some_given draft.vmis c3.1),
-            (
-              stands_once (Choice Font) refl format refl first later draft version is (some_given draft.fonts c4.1),
-              (
-                stands_once (Choice Copies) refl format refl first later draft version is (some_given draft.copies c5.1),
-                (
-                  stands_once (Choice Sides) refl format refl first later draft version is (some_given draft.sides c6.1),
-                  (
-                    stands_once (Choice Tray) refl format refl first later draft version is (some_given draft.trays c7.1),
-                    (
-                      stands_once Trays refl format refl first later draft version is (some_given draft.device_trays c9.1),
-                      (
-                        stands_once Duplex refl format refl first later draft version is c10.1,
-                        (
-                          stands_once Depth refl format refl first later draft version is c11.1,
-                          (stands_once Memory refl format refl first later draft version is c12.1, tt),
-                        ),
-                      ),
-                    ),
-                  ),
-                ),
-              ),
-            ),
-          ),
-        ),
-      ),
-    )
+-- the keys that come once in texts of every version
+abbrev common_singles : List Key
+common_singles =
+    Name ∷ Choice Size ∷ Choice Orientation ∷ Choice Vmi ∷ Choice Font ∷ Choice Copies ∷ Choice Sides ∷ Choice Tray
+    ∷ Trays ∷ Duplex ∷ Depth ∷ Memory ∷ []
+
+all_words : (P : List ℕ → Type 0) (format : Format) → ((key : Key) → IsTrue (is_awaited format key) → P (word_of key))
+    → (singles : List Key) → IsTrue (list_all (is_awaited format) singles) → AllByRecursion P (map word_of singles)
+all_words P format holds [] awaited = tt
+all_words P format holds (key ∷ singles) awaited =
+    let parts = and_parts (is_awaited format key) (list_all (is_awaited format) singles) awaited in
+    (holds key parts.0, all_words P format holds singles parts.1)
+
+all_singles : (P : List ℕ → Type 0) (format : Format) → ((key : Key) → IsTrue (is_awaited format key) → P (word_of key)) → AllByRecursion P (single_keys format)
+all_singles P One holds = all_words P One holds common_singles refl
+all_singles P Two holds = all_words P Two holds (Choice LineTerm ∷ common_singles) refl
 
 -- where each key was given, each that comes once stands on one line
 all_once_of : (format : Format) (first : List ℕ) (later : List (List ℕ)) (draft : Draft) → format_of (words_of first) ≡ Some format
     → draft_of_lines format (no_draft format) 2 later ≡ Ok draft → IsTrue (is_complete draft) → AllByRecursion (StandsOnce (first ∷ later)) (single_keys format)
-all_once_of One first later draft version is complete = singles_once One first later draft version is complete
-all_once_of Two first later draft version is complete = (
-  stands_once (Choice LineTerm) refl Two refl first later draft version is (some_given draft.line_terminations (line_terminations_given draft complete)),
-  singles_once Two first later draft version is complete,
-)
+all_once_of format first later draft version is complete =
+    all_singles (StandsOnce (first ∷ later)) format
+    (λ key awaited.
+    let parts = and_parts (is_single key) (not (is_given (no_draft format) key)) awaited in
+    stands_once key parts.0 format (not-true (is_given (no_draft format) key) parts.1) first later draft version is (each_given draft complete key))
 
 pub all_once : (all : List (List ℕ)) (draft : Draft) (format : Format) → draft_of all ≡ Ok draft → format_of (words_of (get_or all 0 [])) ≡ Some format → IsTrue (is_complete draft)
     → All (λ key. length (filter (has_key key) all) ≡ 1) (single_keys format)

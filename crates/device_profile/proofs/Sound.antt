@@ -1,5 +1,5 @@
 -- What lines gave is as a valid printer has it.
-use Rattle.std.proofs.Common.{◌≡◌, ℕ, ◌+◌, ◌==◌, ◌&&◌, Bool, false, not, List, [], ◌∷◌, ◌++◌, length, IsTrue, Option, None, Some, Result, Ok, Err, nat_lt, nat_le, arith, refl, subst}
+use Rattle.std.proofs.Common.{◌≡◌, ℕ, ◌+◌, ◌==◌, ◌&&◌, Bool, false, not, List, [], ◌∷◌, ◌++◌, length, IsTrue, Option, None, Some, Result, Ok, Err, nat_lt, nat_le, arith, refl, sym, subst, inl, inr}
 use Rattle.std.specs.Prelude.{unwrap_or}
 use Rattle.std.specs.List.{list_all, list_any}
 use Rattle.std.specs.Option.{option_map_or}
@@ -10,7 +10,7 @@ use Rattle.std.proofs.lemmas.List.Folds.{list_all-append, list_any-append}
 use Rattle.device_profile.specs.declared.field.Field.{Field}
 use Rattle.device_profile.specs.declared.format.Format.{Format}
 use Rattle.device_profile.specs.declared.format.Format.TheVariants.{One, Two}
-use Rattle.device_profile.specs.declared.field.Field.TheVariants.{Size, Orientation, Vmi, Font, Copies, Sides, Tray, LineTerm}
+use Rattle.device_profile.specs.declared.field.Field.TheVariants.{Tray, LineTerm}
 use Rattle.device_profile.specs.declared.fault.Cause.{Cause}
 use Rattle.device_profile.specs.declared.fault.Cause.TheVariants.{Version}
 use Rattle.device_profile.specs.declared.fault.ProfileFault.{ProfileFault}
@@ -20,9 +20,11 @@ use Rattle.device_profile.specs.Printer.{has_row, is_page, is_same_page}
 use Rattle.device_profile.specs.Rows.{has_alike}
 use Rattle.device_profile.specs.Words.{words_of}
 use Rattle.device_profile.specs.Values.{are_choices}
-use Rattle.device_profile.specs.Draft.{Draft, line_terminations_of, no_draft, draft_after}
+use Rattle.device_profile.specs.Choices.{Choices, values_in, with_values}
+use Rattle.device_profile.specs.Draft.{Draft, no_draft, choice_of, with_choice, draft_after}
 use Rattle.device_profile.specs.Text.{format_of, words_of_line, draft_of_lines, draft_of}
-use Rattle.device_profile.proofs.Additions.{Addition, nothing, new_name, new_sizes, new_orientations, new_vmis, new_fonts, new_copies, new_sides, new_trays, new_line_terminations, new_device_trays, new_duplex, new_depth, new_memory, new_page, new_face, takes, added, adds}
+use Rattle.device_profile.proofs.ChoiceFacts.{same_or_apart}
+use Rattle.device_profile.proofs.Additions.{Addition, nothing, new_name, new_choice, new_device_trays, new_duplex, new_depth, new_memory, new_page, new_face, takes, added, adds}
 
 -- one more row fits where there is room
 one_more : {X : Type 0} (xs : List X) (x : X) → IsTrue (nat_lt (length xs) 64) → IsTrue (nat_le (length (xs ++ x ∷ [])) 64)
@@ -53,14 +55,7 @@ Fits field values = IsTrue (nat_lt 0 (length values)) → IsTrue (are_choices fi
 
 -- what was given is as its keys allow
 pub record Sound (draft : Draft) : Type 0 where
-  pub sizes : Fits Size draft.sizes
-  pub orientations : Fits Orientation draft.orientations
-  pub vmis : Fits Vmi draft.vmis
-  pub fonts : Fits Font draft.fonts
-  pub copies : Fits Copies draft.copies
-  pub sides : Fits Sides draft.sides
-  pub trays : Fits Tray draft.trays
-  pub line_terminations : Fits LineTerm draft.line_terminations
+  pub choices : (field : Field) → Fits field (choice_of draft field)
   pub device_trays : Fits Tray draft.device_trays
   pub depth : IsTrue (nat_le (unwrap_or draft.depth 0) 8)
   pub memory : IsTrue (nat_le (unwrap_or draft.memory 0) 1_048_576)
@@ -72,20 +67,14 @@ pub record Sound (draft : Draft) : Type 0 where
   pub new_requests : IsTrue (not (has_alike (λ a b. is_same_request a.request b.request) draft.faces))
   pub faces : IsTrue (list_all is_face draft.faces)
 
-Fits-before : (format : Format) → Fits LineTerm (line_terminations_of format)
-Fits-before One some = refl
-Fits-before Two some = absurd (false≢true some)
+Fits-before : (format : Format) (field : Field) → Fits field (choice_of (no_draft format) field)
+Fits-before One LineTerm some = refl
+Fits-before Two LineTerm some = absurd (false≢true some)
+Fits-before format field some = absurd (false≢true some)
 
 Sound-none : (format : Format) → Sound (no_draft format)
 Sound-none format = record {
-  sizes = λ some. absurd (false≢true some);
-  orientations = λ some. absurd (false≢true some);
-  vmis = λ some. absurd (false≢true some);
-  fonts = λ some. absurd (false≢true some);
-  copies = λ some. absurd (false≢true some);
-  sides = λ some. absurd (false≢true some);
-  trays = λ some. absurd (false≢true some);
-  line_terminations = Fits-before format;
+  choices = Fits-before format;
   device_trays = λ some. absurd (false≢true some);
   depth = refl;
   memory = refl;
@@ -98,6 +87,15 @@ Sound-none format = record {
   faces = refl;
 }
 
+-- where new values fit their field, and the others fitted theirs
+Fits-with : (choices : Choices) (field : Field) (values : List ℕ) → Fits field values → ((other : Field) → Fits other (values_in choices other))
+    → (other : Field) → Fits other (values_in (with_values choices field values) other)
+Fits-with choices field values new before other =
+    elim (same_or_apart field other) [
+      | inl are ↦ subst (λ (held : List ℕ). Fits other held) (sym (are.set choices values)) (subst (λ (f : Field). Fits f values) are.same new)
+      | inr are ↦ subst (λ (held : List ℕ). Fits other held) (sym (are.second_kept choices values)) (before other)
+    ]
+
 with_list : (field : Field) (held values : List ℕ) → IsTrue ((length held == 0) && are_choices field values) → Fits field values
 with_list field held values taken some = (and_parts (length held == 0) (are_choices field values) taken).1
 
@@ -106,14 +104,10 @@ Sound-added : (draft : Draft) (addition : Addition) → IsTrue (takes draft addi
 unfolding has_face has_request
 Sound-added draft nothing taken s = s
 Sound-added draft new_name taken s = assumption s
-Sound-added draft (new_sizes values) taken s = let new : Fits Size values = with_list Size draft.sizes values taken in assumption new
-Sound-added draft (new_orientations values) taken s = let new : Fits Orientation values = with_list Orientation draft.orientations values taken in assumption new
-Sound-added draft (new_vmis values) taken s = let new : Fits Vmi values = with_list Vmi draft.vmis values taken in assumption new
-Sound-added draft (new_fonts values) taken s = let new : Fits Font values = with_list Font draft.fonts values taken in assumption new
-Sound-added draft (new_copies values) taken s = let new : Fits Copies values = with_list Copies draft.copies values taken in assumption new
-Sound-added draft (new_sides values) taken s = let new : Fits Sides values = with_list Sides draft.sides values taken in assumption new
-Sound-added draft (new_trays values) taken s = let new : Fits Tray values = with_list Tray draft.trays values taken in assumption new
-Sound-added draft (new_line_terminations values) taken s = let new : Fits LineTerm values = with_list LineTerm draft.line_terminations values taken in assumption new
+Sound-added draft (new_choice field values) taken s =
+    let all : (other : Field) → Fits other (choice_of (with_choice draft field values) other) =
+    Fits-with draft.choices field values (with_list field (choice_of draft field) values taken) s.choices in
+    assumption all
 Sound-added draft (new_device_trays values) taken s = let new : Fits Tray values = with_list Tray draft.device_trays values taken in assumption new
 Sound-added draft (new_duplex n) taken s = assumption s
 Sound-added draft (new_depth n) taken s = let new : IsTrue (nat_le n 8) = (and_parts _ (nat_le n 8) taken).1 in assumption new

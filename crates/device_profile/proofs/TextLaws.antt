@@ -1,5 +1,5 @@
 -- Laws of accepted texts.
-use Rattle.std.proofs.Common.{◌≡◌, ℕ, ◌==◌, ◌&&◌, Bool, true, false, not, List, [], ◌∷◌, length, IsTrue, Some, Result, Ok, Err, is_some, nat_lt, if◌then◌else◌, refl, sym, subst, ap, ◌∙◌}
+use Rattle.std.proofs.Common.{◌≡◌, ℕ, ◌==◌, ◌&&◌, Bool, true, false, not, List, [], ◌∷◌, length, IsTrue, Some, Result, Ok, Err, nat_lt, if◌then◌else◌, refl, sym, subst, ap, ◌∙◌}
 use Rattle.std.specs.List.{list_all, list_any}
 use Rattle.std.specs.List.Sorted.{IsPermutation}
 use Rattle.std.specs.Str.Lines.{lines}
@@ -7,6 +7,8 @@ use Rattle.std.proofs.lemmas.Bool.{and_parts, and_from}
 use Rattle.std.proofs.lemmas.List.Sorted.{All-permutation, length_permutation, list_any-IsPermutation}
 use Rattle.std.proofs.lemmas.List.Sums.{AllPass-from_list_all, list_all-from_AllPass}
 use Rattle.device_profile.specs.declared.geometry.Geometry.{Geometry}
+use Rattle.device_profile.specs.declared.key.Key.{Key}
+use Rattle.device_profile.specs.declared.key.Key.TheVariants.{Page, Face as FaceRow}
 use Rattle.device_profile.specs.declared.fault.Cause.{Cause}
 use Rattle.device_profile.specs.declared.fault.Cause.TheVariants.{Range, Missing, NoGeometry}
 use Rattle.device_profile.specs.declared.fault.ProfileFault.{ProfileFault}
@@ -14,9 +16,9 @@ use Rattle.device_profile.specs.declared.fault.ProfileFault.TheVariants.{Fault}
 use Rattle.device_profile.specs.Faces.{Face, has_face}
 use Rattle.device_profile.specs.Printer.{Printer, is_valid, has_size, has_orientation, has_row, has_every_pair, are_sides}
 use Rattle.device_profile.specs.Words.{words_of}
-use Rattle.device_profile.specs.Draft.{Draft, no_draft}
+use Rattle.device_profile.specs.Draft.{Draft, keys, no_draft}
 use Rattle.device_profile.specs.declared.format.Format.{Format}
-use Rattle.device_profile.specs.Text.{format_of, draft_of_lines, draft_of, has_its_lists, is_complete, has_its_pages, is_duplex, has_its_choices, printer_of_draft, printer_of, printer_of_text}
+use Rattle.device_profile.specs.Text.{format_of, draft_of_lines, draft_of, is_given, is_complete, has_its_pages, is_duplex, has_its_choices, printer_of_draft, printer_of, printer_of_text}
 use Rattle.device_profile.specs.Laws.{IsSamePrinter, GivesValid, HasEachKeyOnce, OrderIsFree}
 use Rattle.device_profile.proofs.Reading.{of_draft}
 use Rattle.device_profile.proofs.Finished.{is_valid-given}
@@ -104,45 +106,43 @@ pairs_moved a b moved pairs =
     pairs)
 
 -- of similar drafts either is complete, has its pages and its choices
+given_too : (a b : Draft) → IsSimilar a b → (key : Key) → is_given a key ≡ is_given b key
+given_too a b s Page = ap (nat_lt 0) (sym (length_permutation a.geometries b.geometries s.geometries))
+given_too a b s FaceRow = ap (nat_lt 0) (sym (length_permutation a.faces b.faces s.faces))
+given_too a b s key = ap (λ d. is_given d key) s.others
+
 complete_too : (a b : Draft) → IsSimilar a b → is_complete a ≡ is_complete b
-complete_too a b s =
-    let rest : Draft → Bool = λ d. has_its_lists d && is_some d.duplex && is_some d.depth && is_some d.memory in
-    let same : rest a ≡ rest b = ap rest s.others in
-    let pages : length a.geometries ≡ length b.geometries = sym (length_permutation a.geometries b.geometries s.geometries) in
-    let faces : length a.faces ≡ length b.faces = sym (length_permutation a.faces b.faces s.faces) in
-    ap (λ t. t && nat_lt 0 (length a.geometries) && nat_lt 0 (length a.faces)) same
-    ∙ (ap (λ n. rest b && nat_lt 0 n && nat_lt 0 (length a.faces)) pages
-    ∙ ap (λ n. rest b && nat_lt 0 (length b.geometries) && nat_lt 0 n) faces)
+complete_too a b s = agree (λ (row : List ℕ × Key). is_given a row.1) (λ (row : List ℕ × Key). is_given b row.1) keys (λ row. given_too a b s row.1)
 
 pages_too : (a b : Draft) → IsSimilar a b → IsTrue (has_its_pages a) → IsTrue (has_its_pages b)
 unfolding has_size has_orientation
 pages_too a b s pages =
-    let sized : Bool = list_all (λ size. has_size a.geometries size) a.sizes in
-    let turned : Bool = list_all (λ orientation. has_orientation a.geometries orientation) a.orientations in
+    let sized : Bool = list_all (λ size. has_size a.geometries size) a.choices.sizes in
+    let turned : Bool = list_all (λ orientation. has_orientation a.geometries orientation) a.choices.orientations in
     let p = and_parts (sized && turned) (has_every_pair a.geometries) pages in
     let q = and_parts sized turned p.0 in
-    let sizes : a.sizes ≡ b.sizes = ap (λ d. d.sizes) s.others in
-    let orientations : a.orientations ≡ b.orientations = ap (λ d. d.orientations) s.others in
-    let sized_too : IsTrue (list_all (λ size. has_size b.geometries size) b.sizes) =
+    let sizes : a.choices.sizes ≡ b.choices.sizes = ap (λ d. d.choices.sizes) s.others in
+    let orientations : a.choices.orientations ≡ b.choices.orientations = ap (λ d. d.choices.orientations) s.others in
+    let sized_too : IsTrue (list_all (λ size. has_size b.geometries size) b.choices.sizes) =
     subst (λ (l : List ℕ). IsTrue (list_all (λ size. has_size b.geometries size) l)) sizes
-    (sym (agree (λ size. has_size a.geometries size) (λ size. has_size b.geometries size) a.sizes (λ size. list_any-IsPermutation (λ (row : Geometry). row.size == size) a.geometries b.geometries s.geometries)) ∙ q.0) in
-    let turned_too : IsTrue (list_all (λ orientation. has_orientation b.geometries orientation) b.orientations) =
+    (sym (agree (λ size. has_size a.geometries size) (λ size. has_size b.geometries size) a.choices.sizes (λ size. list_any-IsPermutation (λ (row : Geometry). row.size == size) a.geometries b.geometries s.geometries)) ∙ q.0) in
+    let turned_too : IsTrue (list_all (λ orientation. has_orientation b.geometries orientation) b.choices.orientations) =
     subst (λ (l : List ℕ). IsTrue (list_all (λ orientation. has_orientation b.geometries orientation) l)) orientations
-    (sym (agree (λ orientation. has_orientation a.geometries orientation) (λ orientation. has_orientation b.geometries orientation) a.orientations (λ orientation. list_any-IsPermutation (λ (row : Geometry). row.orientation == orientation) a.geometries b.geometries s.geometries)) ∙ q.1) in
+    (sym (agree (λ orientation. has_orientation a.geometries orientation) (λ orientation. has_orientation b.geometries orientation) a.choices.orientations (λ orientation. list_any-IsPermutation (λ (row : Geometry). row.orientation == orientation) a.geometries b.geometries s.geometries)) ∙ q.1) in
     and_from _ _ (and_from _ _ sized_too turned_too) (pairs_moved a.geometries b.geometries s.geometries p.1)
 
 choices_too : (a b : Draft) → IsSimilar a b → IsTrue (has_its_choices a) → IsTrue (has_its_choices b)
 unfolding has_face
 choices_too a b s choices =
-    let rest : Draft → Bool = λ d. list_all (λ tray. list_any (λ held. held == tray) d.device_trays) d.trays in
-    let sided : Draft → Bool = λ d. list_all (are_sides (is_duplex d)) d.sides in
-    let faced : Bool = list_all (λ font. has_face a.faces font) a.fonts in
+    let rest : Draft → Bool = λ d. list_all (λ tray. list_any (λ held. held == tray) d.device_trays) d.choices.trays in
+    let sided : Draft → Bool = λ d. list_all (are_sides (is_duplex d)) d.choices.sides in
+    let faced : Bool = list_all (λ font. has_face a.faces font) a.choices.fonts in
     let p = and_parts (faced && rest a) (sided a) choices in
     let q = and_parts faced (rest a) p.0 in
-    let fonts : a.fonts ≡ b.fonts = ap (λ d. d.fonts) s.others in
-    let faced_too : IsTrue (list_all (λ font. has_face b.faces font) b.fonts) =
+    let fonts : a.choices.fonts ≡ b.choices.fonts = ap (λ d. d.choices.fonts) s.others in
+    let faced_too : IsTrue (list_all (λ font. has_face b.faces font) b.choices.fonts) =
     subst (λ (l : List ℕ). IsTrue (list_all (λ font. has_face b.faces font) l)) fonts
-    (sym (agree (λ font. has_face a.faces font) (λ font. has_face b.faces font) a.fonts (λ font. list_any-IsPermutation (λ (face : Face). face.id == font) a.faces b.faces s.faces)) ∙ q.0) in
+    (sym (agree (λ font. has_face a.faces font) (λ font. has_face b.faces font) a.choices.fonts (λ font. list_any-IsPermutation (λ (face : Face). face.id == font) a.faces b.faces s.faces)) ∙ q.0) in
     and_from _ _ (and_from _ _ faced_too (sym (ap rest s.others) ∙ q.1)) (sym (ap sided s.others) ∙ p.1)
 
 -- similar drafts are the same printer

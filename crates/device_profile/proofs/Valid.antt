@@ -1,9 +1,8 @@
 -- What a valid printer has.
-use Rattle.std.proofs.Common.{◌≡◌, ℕ, ◌==◌, ◌<◌, ◌&&◌, Bool, not, List, [], ◌∷◌, length, get_or, IsTrue, IsSome, IsSomeAnd, Contains, Any, find, IfSome, Option, None, Some, inl, inr, nat_le, rules, arith, refl, sym, ap, ◌∙◌}
+use Rattle.std.proofs.Common.{◌≡◌, ℕ, ◌==◌, ◌<◌, ◌&&◌, Bool, not, List, [], ◌∷◌, length, get_or, IsTrue, IsSome, IsSomeAnd, Contains, Any, find, IfSome, Option, None, Some, inl, inr, nat_le, rules, arith, refl}
 use Rattle.std.specs.List.{list_all, list_any}
 use Rattle.std.proofs.lemmas.Bool.{and_parts, or_cases, both_ways, false≢true, leb-true, cond_both, eqb-true}
-use Rattle.std.proofs.lemmas.List.{get_or_read}
-use Rattle.std.proofs.lemmas.List.Elements.{All-contains}
+use Rattle.std.proofs.lemmas.List.Elements.{All-contains, Contains-get_or}
 use Rattle.std.proofs.lemmas.List.Folds.{Any-from_list_any}
 use Rattle.std.proofs.lemmas.List.Sums.{AllPass-from_list_all}
 use Rattle.device_profile.specs.declared.geometry.Geometry.{Geometry}
@@ -13,7 +12,7 @@ use Rattle.device_profile.specs.declared.field.Field.TheVariants.{Size, Orientat
 use Rattle.device_profile.specs.Faces.{Face, face_at, face_for, has_face, has_metrics, is_request, is_face, are_ranges_from, is_same_request}
 use Rattle.device_profile.specs.declared.font.FontRequest.{FontRequest}
 use Rattle.device_profile.specs.Values.{is_between, is_value, are_values, are_choices, has_repeat}
-use Rattle.device_profile.specs.Printer.{Printer, is_valid, values_of, has_row, has_every_pair, has_size, has_orientation, has_tray, are_sides, row_at, fits_page, is_page, first_panel, IsAllowed, HasPages, HasFaces, HasTrays, HasItsValues, CanBeSet}
+use Rattle.device_profile.specs.Printer.{Printer, is_valid, has_choices, values_of, has_row, has_every_pair, has_size, has_orientation, has_tray, are_sides, row_at, fits_page, is_page, first_panel, IsAllowed, HasPages, HasFaces, HasTrays, HasItsValues, CanBeSet}
 
 -- an element of a list whose elements all pass
 passes-at : {X : Type 0} (p : X → Bool) (xs : List X) (x : X) → IsTrue (list_all p xs) → Contains xs x → IsTrue (p x)
@@ -49,14 +48,7 @@ row_of_pair rows size orientation pairs sized turned =
 
 -- what a valid printer's test says
 pub record Valid (printer : Printer) : Type 0 where
-  pub size : IsTrue (are_values Size printer.sizes)
-  pub orientation : IsTrue (are_values Orientation printer.orientations)
-  pub vmi : IsTrue (are_values Vmi printer.vmis)
-  pub font : IsTrue (are_values Font printer.fonts)
-  pub copies : IsTrue (are_values Copies printer.copies)
-  pub sides : IsTrue (are_values Sides printer.sides)
-  pub tray : IsTrue (are_values Tray printer.trays)
-  pub line_termination : IsTrue (are_values LineTerm printer.line_terminations)
+  pub values : (field : Field) → IsTrue (are_values field (values_of printer field))
   pub sized : IsTrue (list_all (λ size. has_size printer.geometries size) printer.sizes)
   pub turned : IsTrue (list_all (λ orientation. has_orientation printer.geometries orientation) printer.orientations)
   pub faced : IsTrue (list_all (λ font. has_face printer.faces font) printer.fonts)
@@ -68,6 +60,28 @@ pub record Valid (printer : Printer) : Type 0 where
 
 listed : (field : Field) (values : List ℕ) → IsTrue (are_choices field values) → IsTrue (are_values field values)
 listed field values are = (and_parts (are_values field values) (not (has_repeat values)) are).0
+
+-- the values of each field
+all_listed : (printer : Printer) → IsTrue (has_choices printer) → (field : Field) → IsTrue (are_values field (values_of printer field))
+all_listed printer choices field =
+    let c8 = and_parts _ _ choices in
+    let c7 = and_parts _ _ c8.0 in
+    let c6 = and_parts _ _ c7.0 in
+    let c5 = and_parts _ _ c6.0 in
+    let c4 = and_parts _ _ c5.0 in
+    let c3 = and_parts _ _ c4.0 in
+    let c2 = and_parts _ _ c3.0 in
+    let c1 = and_parts _ _ c2.0 in
+    elim field as (λ f. IsTrue (are_values f (values_of printer f))) [
+      | Size ↦ listed Size printer.sizes c1.0
+      | Orientation ↦ listed Orientation printer.orientations c1.1
+      | Vmi ↦ listed Vmi printer.vmis c2.1
+      | Font ↦ listed Font printer.fonts c3.1
+      | Copies ↦ listed Copies printer.copies c4.1
+      | Sides ↦ listed Sides printer.sides c5.1
+      | Tray ↦ listed Tray printer.trays c6.1
+      | LineTerm ↦ listed LineTerm printer.line_terminations c7.1
+    ]
 
 pub valid_parts : (printer : Printer) → IsTrue (is_valid printer) → Valid printer
 valid_parts printer valid =
@@ -81,25 +95,10 @@ valid_parts printer valid =
     let offers = and_parts _ _ choices.1 in
     let fonts = and_parts _ _ offers.0 in
     let turned = and_parts _ _ fonts.0 in
-    let c8 = and_parts _ _ choices.0 in
-    let c7 = and_parts _ _ c8.0 in
-    let c6 = and_parts _ _ c7.0 in
-    let c5 = and_parts _ _ c6.0 in
-    let c4 = and_parts _ _ c5.0 in
-    let c3 = and_parts _ _ c4.0 in
-    let c2 = and_parts _ _ c3.0 in
-    let c1 = and_parts _ _ c2.0 in
     let fits = and_parts _ _ pages.1 in
     let pairs = and_parts _ _ fits.0 in
     record {
-      size = listed Size printer.sizes c1.0;
-      orientation = listed Orientation printer.orientations c1.1;
-      vmi = listed Vmi printer.vmis c2.1;
-      font = listed Font printer.fonts c3.1;
-      copies = listed Copies printer.copies c4.1;
-      sides = listed Sides printer.sides c5.1;
-      tray = listed Tray printer.trays c6.1;
-      line_termination = listed LineTerm printer.line_terminations c7.1;
+      values = all_listed printer choices.0;
       sized = turned.0;
       turned = turned.1;
       faced = fonts.1;
@@ -118,90 +117,25 @@ some_values field values are =
 
 -- a valid printer's panel has some value in each field
 pub some_allowed : (printer : Printer) (field : Field) → IsTrue (is_valid printer) → 0 < length (values_of printer field)
-some_allowed printer Size valid = some_values Size printer.sizes ((valid_parts printer valid).size)
-some_allowed printer Orientation valid = some_values Orientation printer.orientations ((valid_parts printer valid).orientation)
-some_allowed printer Vmi valid = some_values Vmi printer.vmis ((valid_parts printer valid).vmi)
-some_allowed printer Font valid = some_values Font printer.fonts ((valid_parts printer valid).font)
-some_allowed printer Copies valid = some_values Copies printer.copies ((valid_parts printer valid).copies)
-some_allowed printer Sides valid = some_values Sides printer.sides ((valid_parts printer valid).sides)
-some_allowed printer Tray valid = some_values Tray printer.trays ((valid_parts printer valid).tray)
-some_allowed printer LineTerm valid = some_values LineTerm printer.line_terminations ((valid_parts printer valid).line_termination)
+some_allowed printer field valid = some_values field (values_of printer field) ((valid_parts printer valid).values field)
 
-first-Contains : (field : Field) (values : List ℕ) (value : ℕ) → IsTrue (are_values field values) → value ≡ get_or values 0 value → Contains values value
-first-Contains field values value are is_first = (0, some_values field values are, sym is_first)
-
-first-is : (field : Field) (values : List ℕ) (value : ℕ) → IsTrue (are_values field values) → value ≡ get_or values 0 value → value ≡ get_or values 0 0
-first-is field values value are is_first = get_or_read values 0 value (some_values field values are) is_first 0
+first-Contains : (field : Field) (values : List ℕ) → IsTrue (are_values field values) → Contains values (get_or values 0 0)
+first-Contains field values are = Contains-get_or values 0 0 (some_values field values are)
 
 -- the panel of the first values is one that the printer may have
-pub IsAllowed-firsts : (printer : Printer) (panel : Panel) → IsTrue (is_valid printer)
-    → panel.size ≡ get_or printer.sizes 0 panel.size
-    → panel.orientation ≡ get_or printer.orientations 0 panel.orientation
-    → panel.vmi ≡ get_or printer.vmis 0 panel.vmi
-    → panel.font ≡ get_or printer.fonts 0 panel.font
-    → panel.copies ≡ get_or printer.copies 0 panel.copies
-    → panel.sides ≡ get_or printer.sides 0 panel.sides
-    → panel.tray ≡ get_or printer.trays 0 panel.tray
-    → panel.line_termination ≡ get_or printer.line_terminations 0 panel.line_termination
-    → IsAllowed printer panel
-IsAllowed-firsts printer panel valid size orientation vmi font copies sides tray line_termination =
+pub IsAllowed-first_panel : (printer : Printer) → IsTrue (is_valid printer) → IsAllowed printer (first_panel printer)
+IsAllowed-first_panel printer valid =
     let parts : Valid printer = valid_parts printer valid in
     record {
-      size = first-Contains Size printer.sizes panel.size parts.size size;
-      orientation = first-Contains Orientation printer.orientations panel.orientation parts.orientation orientation;
-      vmi = first-Contains Vmi printer.vmis panel.vmi parts.vmi vmi;
-      font = first-Contains Font printer.fonts panel.font parts.font font;
-      copies = first-Contains Copies printer.copies panel.copies parts.copies copies;
-      sides = first-Contains Sides printer.sides panel.sides parts.sides sides;
-      tray = first-Contains Tray printer.trays panel.tray parts.tray tray;
-      line_termination = first-Contains LineTerm printer.line_terminations panel.line_termination parts.line_termination line_termination;
+      size = first-Contains Size printer.sizes (parts.values Size);
+      orientation = first-Contains Orientation printer.orientations (parts.values Orientation);
+      vmi = first-Contains Vmi printer.vmis (parts.values Vmi);
+      font = first-Contains Font printer.fonts (parts.values Font);
+      copies = first-Contains Copies printer.copies (parts.values Copies);
+      sides = first-Contains Sides printer.sides (parts.values Sides);
+      tray = first-Contains Tray printer.trays (parts.values Tray);
+      line_termination = first-Contains LineTerm printer.line_terminations (parts.values LineTerm);
     }
-
-abbrev panel_of : (size orientation vmi font copies sides tray line_termination : ℕ) → Panel
-panel_of size orientation vmi font copies sides tray line_termination = record {
-  size = size;
-  orientation = orientation;
-  vmi = vmi;
-  font = font;
-  copies = copies;
-  sides = sides;
-  tray = tray;
-  line_termination = line_termination;
-}
-
-panels-same : (a b : Panel) → a.size ≡ b.size → a.orientation ≡ b.orientation → a.vmi ≡ b.vmi → a.font ≡ b.font → a.copies ≡ b.copies → a.sides ≡ b.sides → a.tray ≡ b.tray → a.line_termination ≡ b.line_termination → a ≡ b
-panels-same a b size orientation vmi font copies sides tray line_termination =
-    ap (λ n. panel_of n a.orientation a.vmi a.font a.copies a.sides a.tray a.line_termination) size
-    ∙ (ap (λ n. panel_of b.size n a.vmi a.font a.copies a.sides a.tray a.line_termination) orientation
-    ∙ (ap (λ n. panel_of b.size b.orientation n a.font a.copies a.sides a.tray a.line_termination) vmi
-    ∙ (ap (λ n. panel_of b.size b.orientation b.vmi n a.copies a.sides a.tray a.line_termination) font
-    ∙ (ap (λ n. panel_of b.size b.orientation b.vmi b.font n a.sides a.tray a.line_termination) copies
-    ∙ (ap (λ n. panel_of b.size b.orientation b.vmi b.font b.copies n a.tray a.line_termination) sides
-    ∙ (ap (λ n. panel_of b.size b.orientation b.vmi b.font b.copies b.sides n a.line_termination) tray
-    ∙ ap (λ n. panel_of b.size b.orientation b.vmi b.font b.copies b.sides b.tray n) line_termination))))))
-
--- the panel of the first values is the first panel
-pub first_panel-firsts : (printer : Printer) (panel : Panel) → IsTrue (is_valid printer)
-    → panel.size ≡ get_or printer.sizes 0 panel.size
-    → panel.orientation ≡ get_or printer.orientations 0 panel.orientation
-    → panel.vmi ≡ get_or printer.vmis 0 panel.vmi
-    → panel.font ≡ get_or printer.fonts 0 panel.font
-    → panel.copies ≡ get_or printer.copies 0 panel.copies
-    → panel.sides ≡ get_or printer.sides 0 panel.sides
-    → panel.tray ≡ get_or printer.trays 0 panel.tray
-    → panel.line_termination ≡ get_or printer.line_terminations 0 panel.line_termination
-    → panel ≡ first_panel printer
-first_panel-firsts printer panel valid size orientation vmi font copies sides tray line_termination =
-    let parts : Valid printer = valid_parts printer valid in
-    panels-same panel (first_panel printer)
-    (first-is Size printer.sizes panel.size parts.size size)
-    (first-is Orientation printer.orientations panel.orientation parts.orientation orientation)
-    (first-is Vmi printer.vmis panel.vmi parts.vmi vmi)
-    (first-is Font printer.fonts panel.font parts.font font)
-    (first-is Copies printer.copies panel.copies parts.copies copies)
-    (first-is Sides printer.sides panel.sides parts.sides sides)
-    (first-is Tray printer.trays panel.tray parts.tray tray)
-    (first-is LineTerm printer.line_terminations panel.line_termination parts.line_termination line_termination)
 
 value-listed : (field : Field) (values : List ℕ) (value : ℕ) → IsTrue (are_values field values) → Contains values value → IsTrue (is_value field value)
 value-listed field values value are is_in = passes-at (is_value field) values value ((and_parts (is_between 1 16 (length values)) (list_all (is_value field) values) are).1) is_in
@@ -211,13 +145,13 @@ has_its_values : (printer : Printer) (panel : Panel) → IsTrue (is_valid printe
 has_its_values printer panel valid allowed =
     let parts : Valid printer = valid_parts printer valid in
     record {
-      size = value-listed Size printer.sizes panel.size parts.size allowed.size;
-      orientation = value-listed Orientation printer.orientations panel.orientation parts.orientation allowed.orientation;
-      vmi = value-listed Vmi printer.vmis panel.vmi parts.vmi allowed.vmi;
-      copies = value-listed Copies printer.copies panel.copies parts.copies allowed.copies;
-      sides = value-listed Sides printer.sides panel.sides parts.sides allowed.sides;
-      tray = value-listed Tray printer.trays panel.tray parts.tray allowed.tray;
-      line_termination = value-listed LineTerm printer.line_terminations panel.line_termination parts.line_termination allowed.line_termination;
+      size = value-listed Size printer.sizes panel.size (parts.values Size) allowed.size;
+      orientation = value-listed Orientation printer.orientations panel.orientation (parts.values Orientation) allowed.orientation;
+      vmi = value-listed Vmi printer.vmis panel.vmi (parts.values Vmi) allowed.vmi;
+      copies = value-listed Copies printer.copies panel.copies (parts.values Copies) allowed.copies;
+      sides = value-listed Sides printer.sides panel.sides (parts.values Sides) allowed.sides;
+      tray = value-listed Tray printer.trays panel.tray (parts.values Tray) allowed.tray;
+      line_termination = value-listed LineTerm printer.line_terminations panel.line_termination (parts.values LineTerm) allowed.line_termination;
     }
 
 -- each panel that a valid printer may have has a page

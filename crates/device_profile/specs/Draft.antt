@@ -11,6 +11,7 @@ use Rattle.device_profile.specs.declared.key.Key.{Key}
 use Rattle.device_profile.specs.declared.key.Key.TheVariants.{Name, Choice, Trays, Duplex, Depth, Memory, Page, Face as FaceRow}
 use Rattle.device_profile.specs.declared.fault.Cause.{Cause}
 use Rattle.device_profile.specs.declared.fault.Cause.TheVariants.{Unknown, Repeated, Range}
+use Rattle.device_profile.specs.Choices.{Choices, no_choices, values_in, with_values}
 use Rattle.device_profile.specs.Faces.{Face}
 use Rattle.device_profile.specs.Values.{values_on_line, number_on_line, is_name}
 use Rattle.device_profile.specs.GeometryLine.{geometry_on_line}
@@ -50,14 +51,7 @@ key_of format word =
 -- What the lines gave so far. A list that is empty was not given.
 pub record Draft : Type 0 where
   pub is_named : Bool
-  pub sizes : List ℕ
-  pub orientations : List ℕ
-  pub vmis : List ℕ
-  pub fonts : List ℕ
-  pub copies : List ℕ
-  pub sides : List ℕ
-  pub trays : List ℕ
-  pub line_terminations : List ℕ
+  pub choices : Choices
   pub device_trays : List ℕ
   pub duplex : Option ℕ
   pub depth : Option ℕ
@@ -74,14 +68,7 @@ line_terminations_of Two = []
 abbrev pub no_draft : Format → Draft
 no_draft format = record {
   is_named = false;
-  sizes = [];
-  orientations = [];
-  vmis = [];
-  fonts = [];
-  copies = [];
-  sides = [];
-  trays = [];
-  line_terminations = line_terminations_of format;
+  choices = with_values no_choices LineTerm (line_terminations_of format);
   device_trays = [];
   duplex = None;
   depth = None;
@@ -92,25 +79,11 @@ no_draft format = record {
 
 -- the values that were given for a field
 abbrev pub choice_of : Draft → Field → List ℕ
-choice_of draft Size = draft.sizes
-choice_of draft Orientation = draft.orientations
-choice_of draft Vmi = draft.vmis
-choice_of draft Font = draft.fonts
-choice_of draft Copies = draft.copies
-choice_of draft Sides = draft.sides
-choice_of draft Tray = draft.trays
-choice_of draft LineTerm = draft.line_terminations
+choice_of draft field = values_in draft.choices field
 
 -- these values are given for a field
 abbrev pub with_choice : Draft → Field → List ℕ → Draft
-with_choice draft Size values = record draft { sizes = values }
-with_choice draft Orientation values = record draft { orientations = values }
-with_choice draft Vmi values = record draft { vmis = values }
-with_choice draft Font values = record draft { fonts = values }
-with_choice draft Copies values = record draft { copies = values }
-with_choice draft Sides values = record draft { sides = values }
-with_choice draft Tray values = record draft { trays = values }
-with_choice draft LineTerm values = record draft { line_terminations = values }
+with_choice draft field values = record draft { choices = with_values draft.choices field values }
 
 -- what a value gives, or Range where there is none
 abbrev pub or_range : {X : Type 0} → (X → Draft) → Option X → Result Draft Cause

@@ -5,14 +5,7 @@ use Rattle.device_profile.specs.declared.draft.Draft.TheInside.{Inside}
 abbrev pub draft_of_fields : {A : Type 0} → Inside A → Draft
 draft_of_fields d = record {
   is_named = d.is_named;
-  sizes = d.sizes.items;
-  orientations = d.orientations.items;
-  vmis = d.vmis.items;
-  fonts = d.fonts.items;
-  copies = d.copies.items;
-  sides = d.sides.items;
-  trays = d.trays.items;
-  line_terminations = d.line_terminations.items;
+  choices = d.choices;
   device_trays = d.device_trays.items;
   duplex = d.duplex;
   depth = d.depth;

@@ -5,14 +5,14 @@ use Rattle.device_profile.specs.declared.profile.Profile.TheInside.{Inside}
 
 abbrev pub printer_of : {A : Type 0} → Inside A → Printer
 printer_of p = record {
-  sizes = p.sizes.items;
-  orientations = p.orientations.items;
-  vmis = p.vmis.items;
-  fonts = p.fonts.items;
-  copies = p.copies.items;
-  sides = p.sides.items;
-  trays = p.trays.items;
-  line_terminations = p.line_terminations.items;
+  sizes = p.choices.sizes;
+  orientations = p.choices.orientations;
+  vmis = p.choices.vmis;
+  fonts = p.choices.fonts;
+  copies = p.choices.copies;
+  sides = p.choices.sides;
+  trays = p.choices.trays;
+  line_terminations = p.choices.line_terminations;
   device_trays = p.device_trays.items;
   has_duplex = p.has_duplex;
   depth = p.depth;

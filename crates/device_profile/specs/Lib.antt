@@ -1,3 +1,5 @@
+pub mod Choices
+pub mod ChoiceFields
 pub mod Printer
 pub mod Rows
 pub mod Fields
@@ -8,6 +10,7 @@ pub mod Faces
 pub mod LineFault
 pub mod GeometryLine
 pub mod Laws
+pub mod Likeness
 pub mod Name
 pub mod FaceFields
 pub mod FaceLine

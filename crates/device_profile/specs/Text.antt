@@ -14,7 +14,7 @@ use Rattle.device_profile.specs.Faces.{has_face}
 use Rattle.device_profile.specs.Words.{words_of}
 use Rattle.device_profile.specs.declared.key.Key.{Key}
 use Rattle.device_profile.specs.declared.key.Key.TheVariants.{Name, Choice, Trays, Duplex, Depth, Memory as MemoryKey, Page, Face as FaceRow}
-use Rattle.device_profile.specs.Draft.{Draft, no_draft, choice_of, draft_after}
+use Rattle.device_profile.specs.Draft.{Draft, keys, no_draft, choice_of, draft_after}
 
 -- the version that a word names
 abbrev pub version_of : List ℕ → Option Format
@@ -54,24 +54,15 @@ is_given draft MemoryKey = is_some draft.memory
 is_given draft Page = nat_lt 0 (length draft.geometries)
 is_given draft FaceRow = nat_lt 0 (length draft.faces)
 
--- whether the name and each list of values were given
-abbrev pub has_its_lists : Draft → Bool
-has_its_lists draft =
-    draft.is_named && nat_lt 0 (length draft.sizes) && nat_lt 0 (length draft.orientations) && nat_lt 0 (length draft.vmis)
-    && nat_lt 0 (length draft.fonts) && nat_lt 0 (length draft.copies) && nat_lt 0 (length draft.sides)
-    && nat_lt 0 (length draft.trays) && nat_lt 0 (length draft.line_terminations) && nat_lt 0 (length draft.device_trays)
-
 -- whether each key was given, and a page and a face
 abbrev pub is_complete : Draft → Bool
-is_complete draft =
-    has_its_lists draft && is_some draft.duplex && is_some draft.depth && is_some draft.memory
-    && nat_lt 0 (length draft.geometries) && nat_lt 0 (length draft.faces)
+is_complete draft = list_all (λ row. is_given draft row.1) keys
 
 -- whether each size and each orientation of the panel has a row, and each size of a row has one with each orientation of a row
 abbrev pub has_its_pages : Draft → Bool
 has_its_pages draft =
-    list_all (λ size. has_size draft.geometries size) draft.sizes
-    && list_all (λ orientation. has_orientation draft.geometries orientation) draft.orientations
+    list_all (λ size. has_size draft.geometries size) draft.choices.sizes
+    && list_all (λ orientation. has_orientation draft.geometries orientation) draft.choices.orientations
     && has_every_pair draft.geometries
 
 -- whether the device prints on both sides
@@ -81,21 +72,21 @@ is_duplex draft = unwrap_or draft.duplex 0 == 1
 -- whether the device has each face, each tray and the sides that the panel may have
 abbrev pub has_its_choices : Draft → Bool
 has_its_choices draft =
-    list_all (λ font. has_face draft.faces font) draft.fonts
-    && list_all (λ tray. list_any (λ held. held == tray) draft.device_trays) draft.trays
-    && list_all (are_sides (is_duplex draft)) draft.sides
+    list_all (λ font. has_face draft.faces font) draft.choices.fonts
+    && list_all (λ tray. list_any (λ held. held == tray) draft.device_trays) draft.choices.trays
+    && list_all (are_sides (is_duplex draft)) draft.choices.sides
 
 -- the printer of what was given
 abbrev pub printer_of_draft : Draft → Printer
 printer_of_draft draft = record {
-  sizes = draft.sizes;
-  orientations = draft.orientations;
-  vmis = draft.vmis;
-  fonts = draft.fonts;
-  copies = draft.copies;
-  sides = draft.sides;
-  trays = draft.trays;
-  line_terminations = draft.line_terminations;
+  sizes = draft.choices.sizes;
+  orientations = draft.choices.orientations;
+  vmis = draft.choices.vmis;
+  fonts = draft.choices.fonts;
+  copies = draft.choices.copies;
+  sides = draft.choices.sides;
+  trays = draft.choices.trays;
+  line_terminations = draft.choices.line_terminations;
   device_trays = draft.device_trays;
   has_duplex = is_duplex draft;
   depth = unwrap_or draft.depth 0;

@@ -2,6 +2,7 @@
 ghost use Rattle.std.specs.Prelude.{◌≡◌, IfOk};
 ghost use Rattle.device_profile.specs.Draft.{line_terminations_of};
 
+use crate::choices::Choices;
 use crate::face_line::face_on_line;
 use crate::fault::{Cause, LineFault};
 use crate::field::Field;
@@ -19,14 +20,7 @@ use std::marker::Model;
 #[derive(Drop)]
 pub struct Draft<A: Allocator> {
     pub(crate) is_named: bool,
-    pub(crate) sizes: Vec<u32, A>,
-    pub(crate) orientations: Vec<u32, A>,
-    pub(crate) vmis: Vec<u32, A>,
-    pub(crate) fonts: Vec<u32, A>,
-    pub(crate) copies: Vec<u32, A>,
-    pub(crate) sides: Vec<u32, A>,
-    pub(crate) trays: Vec<u32, A>,
-    pub(crate) line_terminations: Vec<u32, A>,
+    pub(crate) choices: Choices<A>,
     pub(crate) device_trays: Vec<u32, A>,
     pub(crate) duplex: Option<u32>,
     pub(crate) depth: Option<u32>,
@@ -65,7 +59,7 @@ const MOST_MEMORY: u32 = 1_048_576;
 impl<A: Allocator + Copy> Draft<A> {
     ghost use Rattle.std.specs.Prelude.{◌≡◌, IfOk};
     ghost use Rattle.device_profile.specs.declared.key.Key.TheVariants as keys;
-    ghost use Rattle.device_profile.specs.Draft.{no_draft, choice_of, with_choice, draft_after_key, draft_after};
+    ghost use Rattle.device_profile.specs.Draft.{no_draft, draft_after_key, draft_after};
     ghost use Rattle.device_profile.specs.Words.{words_of};
     ghost use Rattle.device_profile.specs.Given.{Gives};
 
@@ -75,16 +69,12 @@ impl<A: Allocator + Copy> Draft<A> {
     pub fn new(alloc: A, format: Format) -> Result<Self, AllocError>
         ensures { IfOk result (λ draft. draft ≡ no_draft format) }
     {
+        let line_terminations = line_terminations_of(alloc, format)?;
+        let mut choices = Choices::empty(alloc);
+        choices.set(Field::LineTerm, line_terminations);
         Ok(Draft {
             is_named: false,
-            sizes: Vec::new(alloc),
-            orientations: Vec::new(alloc),
-            vmis: Vec::new(alloc),
-            fonts: Vec::new(alloc),
-            copies: Vec::new(alloc),
-            sides: Vec::new(alloc),
-            trays: Vec::new(alloc),
-            line_terminations: line_terminations_of(alloc, format)?,
+            choices,
             device_trays: Vec::new(alloc),
             duplex: None,
             depth: None,
@@ -140,48 +130,16 @@ impl<A: Allocator + Copy> Draft<A> {
         Ok(())
     }
 
-    /// The values that were given for a field; the VMI is in ten-thousandths of 1/48 inch.
-    pub fn choice(&self, field: Field) -> &[u32]
-        ensures { result.now ≡ choice_of self.now field }
-    {
-        match field {
-            Field::Size => self.sizes.as_slice(),
-            Field::Orientation => self.orientations.as_slice(),
-            Field::Vmi => self.vmis.as_slice(),
-            Field::Font => self.fonts.as_slice(),
-            Field::Copies => self.copies.as_slice(),
-            Field::Sides => self.sides.as_slice(),
-            Field::Tray => self.trays.as_slice(),
-            Field::LineTerm => self.line_terminations.as_slice(),
-        }
-    }
-
-    /// Gives these values for a field.
-    fn set_choice(&mut self, field: Field, values: Vec<u32, A>)
-        ensures { self.new ≡ with_choice self.old field values.items }
-    {
-        match field {
-            Field::Size => self.sizes = values,
-            Field::Orientation => self.orientations = values,
-            Field::Vmi => self.vmis = values,
-            Field::Font => self.fonts = values,
-            Field::Copies => self.copies = values,
-            Field::Sides => self.sides = values,
-            Field::Tray => self.trays = values,
-            Field::LineTerm => self.line_terminations = values,
-        }
-    }
-
     /// Takes the values that the panel may have in a field.
     fn take_choice(&mut self, alloc: A, field: Field, words: &[u8]) -> Result<(), LineFault>
         ensures { Gives (draft_after_key self.old (keys.Choice field) (words_of words.now))
             self.old result self.new }
     {
-        if !self.choice(field).is_empty() {
+        if !self.choices.of(field).is_empty() {
             return Err(LineFault::Wrong(Cause::Repeated));
         }
         let values = values_on_line(alloc, field, words)?;
-        self.set_choice(field, values);
+        self.choices.set(field, values);
         Ok(())
     }
 

@@ -2,12 +2,14 @@
 ghost use Rattle.std.specs.Prelude.{◌≡◌};
 
 use crate::draft::Draft;
+use crate::field::Field;
 use crate::font::FontRow;
 use crate::geometry::Geometry;
 use crate::key::Key;
 use std::alloc::Allocator;
 
-impl<A: Allocator + Copy> Draft<A> {
+impl<A: Allocator> Draft<A> {
+    ghost use Rattle.device_profile.specs.Draft.{choice_of};
     ghost use Rattle.device_profile.specs.Text.{is_given};
 
     /// Whether a key was given: a list has values, and there is a page or a face.
@@ -24,6 +26,13 @@ impl<A: Allocator + Copy> Draft<A> {
             Key::Page => !self.geometries.is_empty(),
             Key::Face => !self.faces.is_empty(),
         }
+    }
+
+    /// The values that were given for a field; the VMI is in ten-thousandths of 1/48 inch.
+    pub fn choice(&self, field: Field) -> &[u32]
+        ensures { result.now ≡ choice_of self.now field }
+    {
+        self.choices.of(field)
     }
 
     /// The trays of the device, in the order of their line.

@@ -28,7 +28,7 @@ pub enum Key {
 }
 
 /// The keys and their words.
-const KEYS: &[(&[u8], Key)] = &[
+pub(crate) const KEYS: &[(&[u8], Key)] = &[
     (b"name", Key::Name),
     (b"size", Key::Choice(Field::Size)),
     (b"orientation", Key::Choice(Field::Orientation)),

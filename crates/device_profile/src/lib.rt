@@ -2,6 +2,7 @@
 //! its pages and its faces.
 #![tactic(auto)]
 
+mod choices;
 mod code_ranges;
 mod draft;
 mod draft_parts;
@@ -14,6 +15,7 @@ mod geometry;
 mod geometry_line;
 mod key;
 pub mod laws;
+mod likeness;
 mod name;
 mod panel;
 mod profile;

@@ -3,6 +3,7 @@ ghost use Rattle.std.specs.Prelude.{◌≡◌};
 ghost use Rattle.std.specs.Option.{option_copied};
 ghost use Rattle.device_profile.specs.Printer.{row_at};
 
+use crate::choices::Choices;
 use crate::field::Field;
 use crate::font::{FontRequest, FontRow, is_same_request};
 use crate::geometry::Geometry;
@@ -18,14 +19,7 @@ use tick_length::Length;
 /// Clauses see a profile as a `Printer`, which is valid.
 #[derive(Drop)]
 pub struct Profile<A: Allocator = Global> {
-    pub(crate) sizes: Vec<u32, A>,
-    pub(crate) orientations: Vec<u32, A>,
-    pub(crate) vmis: Vec<u32, A>,
-    pub(crate) fonts: Vec<u32, A>,
-    pub(crate) copies: Vec<u32, A>,
-    pub(crate) sides: Vec<u32, A>,
-    pub(crate) trays: Vec<u32, A>,
-    pub(crate) line_terminations: Vec<u32, A>,
+    pub(crate) choices: Choices<A>,
     pub(crate) device_trays: Vec<u32, A>,
     pub(crate) has_duplex: bool,
     pub(crate) depth: u32,
@@ -122,16 +116,7 @@ impl<A: Allocator> Profile<A> {
     pub fn allowed(&self, field: Field) -> &[u32]
         ensures { result.now ≡ values_of self.now field }
     {
-        match field {
-            Field::Size => self.sizes.as_slice(),
-            Field::Orientation => self.orientations.as_slice(),
-            Field::Vmi => self.vmis.as_slice(),
-            Field::Font => self.fonts.as_slice(),
-            Field::Copies => self.copies.as_slice(),
-            Field::Sides => self.sides.as_slice(),
-            Field::Tray => self.trays.as_slice(),
-            Field::LineTerm => self.line_terminations.as_slice(),
-        }
+        self.choices.of(field)
     }
 
     /// The panel with the first value in each field.
@@ -144,14 +129,14 @@ impl<A: Allocator> Profile<A> {
         ensures pairs { IsTrue (has_every_pair self.now.geometries) }
     {
         Panel {
-            size: self.sizes[0],
-            orientation: self.orientations[0],
-            vmi: self.vmis[0],
-            font: self.fonts[0],
-            copies: self.copies[0],
-            sides: self.sides[0],
-            tray: self.trays[0],
-            line_termination: self.line_terminations[0],
+            size: self.choices.first(Field::Size),
+            orientation: self.choices.first(Field::Orientation),
+            vmi: self.choices.first(Field::Vmi),
+            font: self.choices.first(Field::Font),
+            copies: self.choices.first(Field::Copies),
+            sides: self.choices.first(Field::Sides),
+            tray: self.choices.first(Field::Tray),
+            line_termination: self.choices.first(Field::LineTerm),
         }
     }
 

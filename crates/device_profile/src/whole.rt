@@ -7,14 +7,16 @@ ghost use Rattle.device_profile.specs.Faces.{has_face};
 
 use crate::draft::Draft;
 use crate::fault::{Cause, ProfileFault};
+use crate::field::Field;
 use crate::font::FontRow;
 use crate::geometry::Geometry;
+use crate::key::KEYS;
 use crate::profile::Profile;
 use crate::rows::{has_face, has_orientation, has_row, has_size};
 use std::alloc::Allocator;
 
 impl<A: Allocator> Draft<A> {
-    ghost use Rattle.device_profile.specs.Text.{has_its_lists, is_complete, has_its_pages, is_duplex, has_its_choices, printer_of_draft, printer_of};
+    ghost use Rattle.device_profile.specs.Text.{is_complete, has_its_pages, is_duplex, has_its_choices, printer_of_draft, printer_of};
     ghost use Rattle.device_profile.specs.Given.{IsGiven};
 
     /// The profile that all lines give, or what is wrong with the whole.
@@ -34,32 +36,11 @@ impl<A: Allocator> Draft<A> {
         Ok(self.into_profile())
     }
 
-    /// Whether the name and each list of values were given.
-    fn has_its_lists(&self) -> bool
-        ensures { result ≡ has_its_lists self.now }
-    {
-        self.is_named
-            && !self.sizes.is_empty()
-            && !self.orientations.is_empty()
-            && !self.vmis.is_empty()
-            && !self.fonts.is_empty()
-            && !self.copies.is_empty()
-            && !self.sides.is_empty()
-            && !self.trays.is_empty()
-            && !self.line_terminations.is_empty()
-            && !self.device_trays.is_empty()
-    }
-
     /// Whether each key was given, and a page and a face.
     fn is_complete(&self) -> bool
         ensures { result ≡ is_complete self.now }
     {
-        self.has_its_lists()
-            && self.duplex.is_some()
-            && self.depth.is_some()
-            && self.memory.is_some()
-            && !self.geometries.is_empty()
-            && !self.faces.is_empty()
+        KEYS.iter().all(|(_, key)| self.has(*key))
     }
 
     /// Whether each size and each orientation of the panel has a page, and each size of a page has
@@ -68,8 +49,8 @@ impl<A: Allocator> Draft<A> {
         ensures { result ≡ has_its_pages self.now }
     {
         let rows = self.geometries.as_slice();
-        has_each_size(rows, self.sizes.as_slice())
-            && has_each_orientation(rows, self.orientations.as_slice())
+        has_each_size(rows, self.choices.of(Field::Size))
+            && has_each_orientation(rows, self.choices.of(Field::Orientation))
             && has_every_pair(rows)
     }
 
@@ -84,9 +65,9 @@ impl<A: Allocator> Draft<A> {
     fn has_its_choices(&self) -> bool
         ensures { result ≡ has_its_choices self.now }
     {
-        has_each_face(self.faces.as_slice(), self.fonts.as_slice())
-            && has_each_tray(self.device_trays.as_slice(), self.trays.as_slice())
-            && has_each_sides(self.is_duplex(), self.sides.as_slice())
+        has_each_face(self.faces.as_slice(), self.choices.of(Field::Font))
+            && has_each_tray(self.device_trays.as_slice(), self.choices.of(Field::Tray))
+            && has_each_sides(self.is_duplex(), self.choices.of(Field::Sides))
     }
 
     /// The profile of what was given.
@@ -99,14 +80,7 @@ impl<A: Allocator> Draft<A> {
     {
         let has_duplex = self.is_duplex();
         Profile {
-            sizes: self.sizes,
-            orientations: self.orientations,
-            vmis: self.vmis,
-            fonts: self.fonts,
-            copies: self.copies,
-            sides: self.sides,
-            trays: self.trays,
-            line_terminations: self.line_terminations,
+            choices: self.choices,
             device_trays: self.device_trays,
             has_duplex,
             depth: self.depth.unwrap_or(0),

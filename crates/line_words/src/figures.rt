@@ -1,11 +1,9 @@
 //! Numbers and bytes as they stand in lines of text.
 ghost use Rattle.std.specs.Prelude.{◌≡◌, ◌++◌, ◌+◌, ◌%◌, ◌<◌, OnOk, decimal, flat_map};
-ghost use Rattle.pcl_items.specs.Spellings.Canon.{amount_text, four_decimals, magnitude_text, with_point, without_zeros};
-ghost use Rattle.pcl_items.specs.Items.{amount};
 ghost use Rattle.line_words.specs.Figures.{escaped_byte, hex_byte, hex_digit, length_word, named, number_word, signed_word, value_word};
 
 use itoa::Buffer;
-use pcl_items::{Number, Sign, point_and_decimals, shown};
+use pcl_items::spell_magnitude;
 use std::alloc::{AllocError, Allocator};
 use tick_length::Length;
 
@@ -56,47 +54,13 @@ pub fn push_length_word<A: Allocator>(
     push_ticks_word(text, length.ticks())
 }
 
-/// Appends a whole number.
-#[tactic(auto, using(std::proofs::lemmas::Fmt::decimal_digit))]
-fn push_whole<A: Allocator>(text: &mut Vec<u8, A>, n: u32) -> Result<(), AllocError>
-    ensures { OnOk result (text.new.items ≡ text.old.items ++ decimal n) }
-{
-    // A number of one digit, as most are, needs no division.
-    if n < 10 {
-        text.push(b'0' + n as u8)?;
-        return Ok(());
-    }
-    push_number(text, u64::from(n))
-}
-
-/// Appends the point and the decimals of a value of so many ten-thousandths, where it has some.
-#[tactic(auto, using(pcl_items::proofs::Escapes::WholeNumbers::no_decimals))]
-fn push_decimals<A: Allocator>(text: &mut Vec<u8, A>, n: u32) -> Result<(), AllocError>
-    ensures { OnOk result
-        (text.new.items ≡ text.old.items ++ with_point (without_zeros (four_decimals n))) }
-{
-    // Most numbers are whole.
-    if n % 10_000 == 0 {
-        return Ok(());
-    }
-    text.extend_from_slice(shown(&point_and_decimals(n)))
-}
-
-/// Appends a value of so many ten-thousandths.
-fn push_value<A: Allocator>(text: &mut Vec<u8, A>, n: u32) -> Result<(), AllocError>
-    ensures { OnOk result (text.new.items ≡ text.old.items ++ magnitude_text n) }
-{
-    push_whole(text, n / 10_000)?;
-    push_decimals(text, n)
-}
-
 /// Appends a space and a value of so many ten-thousandths.
 #[tactic(auto, unfolding(crate::specs::Figures::value_word))]
 pub fn push_value_word<A: Allocator>(text: &mut Vec<u8, A>, n: u32) -> Result<(), AllocError>
     ensures { OnOk result (text.new.items ≡ text.old.items ++ value_word n) }
 {
     text.push(b' ')?;
-    push_value(text, n)
+    spell_magnitude(n, text)
 }
 
 /// Appends a space and a value of so many ten-thousandths, which may be less than 0.
@@ -108,19 +72,7 @@ pub fn push_signed_word<A: Allocator>(text: &mut Vec<u8, A>, n: i32) -> Result<(
     if n < 0 {
         text.push(b'-')?;
     }
-    push_value(text, n.unsigned_abs())
-}
-
-/// Appends a number of an item: its sign, and its value.
-pub fn push_amount<A: Allocator>(text: &mut Vec<u8, A>, number: Number) -> Result<(), AllocError>
-    ensures { OnOk result (text.new.items ≡ text.old.items ++ amount_text (amount number)) }
-{
-    match number.sign {
-        Sign::Absent => {}
-        Sign::Plus => text.push(b'+')?,
-        Sign::Minus => text.push(b'-')?,
-    }
-    push_value(text, number.ten_thousandths)
+    spell_magnitude(n.unsigned_abs(), text)
 }
 
 /// A digit to base 16, in small letters.

@@ -4,10 +4,10 @@ ghost use Rattle.pcl_items.specs.Escapes.Commands.{introducer_of, character_of};
 ghost use Rattle.pcl_items.specs.Items.{Entry, amount, at, view};
 ghost use Rattle.line_words.specs.ItemLines.{item_line, fault_line};
 
-use crate::figures::{push_amount, push_escaped, push_number};
+use crate::figures::{push_escaped, push_number};
 use crate::words::push_reason;
 use itoa::write_digits;
-use pcl_items::{Command, Group, Item, LexFault, Number, Place, SimpleItem, spell};
+use pcl_items::{Command, Group, Item, LexFault, Number, Place, SimpleItem, spell, spell_amount};
 use std::alloc::{AllocError, Allocator};
 use verdict::Reason;
 
@@ -46,7 +46,7 @@ fn push_command<A: Allocator>(
         text.old.items ++ item_line (at place (Entry.Parameterized command (amount number)))) }
 {
     push_front(text, place, command.group())?;
-    push_amount(text, number)?;
+    spell_amount(number, text)?;
     text.extend_from_slice(&[command.letter(), b'\n'])
 }
 

@@ -1,8 +1,9 @@
 //! Rows of rasters, and rows that are skipped (the manual's "Raster Graphics").
 #![tactic(auto, unfolding(crate::specs::Answers::Marks))]
 
-ghost use Rattle.std.specs.Prelude.{◌≡◌, ◌≤◌, ◌<◌, ◌+◌, ◌*◌, ◌^◌, length, reverse, cond, is_some, IfSome, pos, neg_ℤ, ◌+ℤ◌, ◌≤ℤ◌, ◌&&◌, int_lt, Some, None, MatchResult};
-ghost use Rattle.std.specs.List.{position};
+ghost use Rattle.std.specs.Prelude.{◌≡◌, ◌≤◌, ◌<◌, ◌+◌, ◌*◌, ◌^◌, length, reverse, take, cond, is_some, IfSome, pos, neg_ℤ, ◌+ℤ◌, ◌≤ℤ◌, ◌&&◌, int_lt, Some, None, MatchResult};
+ghost use Rattle.std.specs.Int.{leading_zeros, w16};
+ghost use Rattle.std.specs.List.{position, position_or_len};
 ghost use Rattle.std.specs.Option.{option_map};
 ghost use Rattle.pcl_items.specs.Items.{amount};
 ghost use Rattle.page_env.specs.Numbers.{IsWithin};
@@ -14,6 +15,7 @@ ghost use Rattle.page_env.specs.Answers.{Steps, Marks};
 
 use crate::finding::Finding;
 use crate::mark::{Mark, RasterRow};
+use crate::mask::first_set;
 use crate::motion::up_to;
 use crate::number::{is_whole_between, whole_of};
 use crate::page::{Coordinate, Page, RasterSettings, Resolution, StartedRaster};
@@ -24,6 +26,7 @@ use crate::places::{
 use device_profile::{Geometry, Profile};
 use pcl_items::Number;
 use std::alloc::Allocator;
+use std::simd::prelude::*;
 use tick_length::Length;
 
 /// How far a pixel goes, in ticks.
@@ -104,15 +107,70 @@ pub(crate) fn skip_rows<A: Allocator>(
     }
 }
 
-/// How many bytes come behind the last one with a black pixel, if there is one.
-fn blank_behind(bytes: &[u8]) -> Option<usize>
+/// So many bytes are looked at at once.
+const LANES: usize = 16;
+
+/// How many of the first lanes of bytes come before the first with a black pixel.
+#[inline(always)]
+fn blank_lanes(bytes: &[u8]) -> usize
+    requires { LANES ≤ length bytes.now }
+    ensures value { result ≡ position_or_len is_black (take LANES bytes.now) }
+    ensures short { result ≤ LANES }
+{
+    let black = u8x16::from_slice(bytes).simd_ne(u8x16::splat(0));
+    first_set(black.to_bitmask(), LANES)
+}
+
+/// How many lanes come behind the highest bit that is set.
+#[inline(always)]
+fn lanes_behind(mask: u64) -> usize
+    requires { mask < 2 ^ LANES }
+    ensures { result ≡ leading_zeros w16 mask }
+{
+    (mask as u16).leading_zeros() as usize
+}
+
+/// How many of the first lanes of bytes come behind the last of them with a black pixel.
+#[inline(always)]
+fn blank_lanes_behind(bytes: &[u8]) -> usize
+    requires { LANES ≤ length bytes.now }
+    ensures value { result ≡ position_or_len is_black (reverse (take LANES bytes.now)) }
+    ensures short { result ≤ LANES }
+{
+    let black = u8x16::from_slice(bytes).simd_ne(u8x16::splat(0));
+    lanes_behind(black.to_bitmask())
+}
+
+/// How many of a few bytes come behind the last one with a black pixel, if there is one.
+fn few_blank_behind(bytes: &[u8]) -> Option<usize>
     ensures value { result ≡ position is_black (reverse bytes.now) }
     ensures short { IfSome result (λ behind. behind < length bytes.now) }
 {
     bytes.iter().rev().position(|byte| *byte != 0)
 }
 
+/// How many bytes come behind the last one with a black pixel, if there is one.
+#[inline(always)]
+fn blank_behind(bytes: &[u8]) -> Option<usize>
+    ensures value { result ≡ position is_black (reverse bytes.now) }
+    ensures short { IfSome result (λ behind. behind < length bytes.now) }
+{
+    let mut behind = 0;
+    while bytes.len() - behind >= LANES {
+        let blank = blank_lanes_behind(&bytes[bytes.len() - behind - LANES..]);
+        behind += blank;
+        if blank < LANES {
+            return Some(behind);
+        }
+    }
+    match few_blank_behind(&bytes[..bytes.len() - behind]) {
+        None => None,
+        Some(few) => Some(behind + few),
+    }
+}
+
 /// The bytes of a row up to its last one with a black pixel.
+#[inline(always)]
 #[tactic(auto, unfolding(crate::specs::Rasters::up_to_black))]
 fn up_to_black(bytes: &[u8]) -> &[u8]
     ensures value { result.now ≡ up_to_black bytes.now }
@@ -124,12 +182,31 @@ fn up_to_black(bytes: &[u8]) -> &[u8]
     }
 }
 
+/// How many of a few bytes come before the first one with a black pixel, if there is one.
+fn few_blank_ahead(bytes: &[u8]) -> Option<usize>
+    ensures value { result ≡ position is_black bytes.now }
+    ensures short { IfSome result (λ ahead. ahead < length bytes.now) }
+{
+    bytes.iter().position(|byte| *byte != 0)
+}
+
 /// How many bytes come before the first one with a black pixel, if there is one.
-#[tactic(auto, unfolding(crate::specs::Rasters::blank_ahead))]
+#[inline(always)]
 fn blank_ahead(bytes: &[u8]) -> Option<usize>
     ensures { result ≡ cond (has_black bytes.now) (Some (blank_ahead bytes.now)) None }
 {
-    bytes.iter().position(|byte| *byte != 0)
+    let mut ahead = 0;
+    while bytes.len() - ahead >= LANES {
+        let blank = blank_lanes(&bytes[ahead..]);
+        ahead += blank;
+        if blank < LANES {
+            return Some(ahead);
+        }
+    }
+    match few_blank_ahead(&bytes[ahead..]) {
+        None => None,
+        Some(few) => Some(ahead + few),
+    }
 }
 
 /// How many pixels there are up to the last black one, where the last byte has one.
@@ -330,6 +407,8 @@ fn judged<'a>(
 
 /// `*b#W`: one row of a raster at the cursor, which moves a pixel down. A row without a black pixel
 /// makes no mark.
+// Inlined, so that the mark is put together for nobody who only counts it.
+#[inline(always)]
 pub fn print_row<'a, A: Allocator>(
     profile: &Profile<A>,
     page: &mut Page,

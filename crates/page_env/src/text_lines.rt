@@ -10,7 +10,6 @@ ghost use Rattle.device_profile.specs.declared.panel.Panel.{Panel};
 ghost use Rattle.page_env.specs.Settings.{half_inch, state_at};
 ghost use Rattle.page_env.specs.Effect.{first_unset};
 ghost use Rattle.page_env.specs.FontInForce.{font_reads, request_of};
-ghost use Rattle.page_env.specs.Lanes.{first_set};
 ghost use Rattle.page_env.specs.Motion.{line_termination, line_termination_reads};
 ghost use Rattle.page_env.specs.Numbers.{IsWithin};
 ghost use Rattle.page_env.specs.Places.{geometry_of, is_between, line_of, origin_of};
@@ -19,6 +18,7 @@ ghost use Rattle.page_env.specs.TextMeasure.{AllHaveRoom, AreLinesFrom, HasLine,
 
 use crate::font_in_force::font_request;
 use crate::mark::Bounds;
+use crate::mask::first_set;
 use crate::motion::{LineTermination, feed_limit, line_termination};
 use crate::page::{Coordinate, Cursor, Page};
 use crate::places::{
@@ -347,18 +347,6 @@ const MOST_AT_ONCE: usize = 255;
 /// So many bytes are looked at at once.
 const LANES: usize = 32;
 
-/// Where the lowest bit that is set stands, or how many lanes there are where none is.
-#[inline(always)]
-fn first_set(mask: u64) -> usize
-    ensures { result ≡ first_set mask LANES }
-{
-    if mask == 0 {
-        LANES
-    } else {
-        mask.trailing_zeros() as usize
-    }
-}
-
 /// How many of the first 32 bytes come before the first that is neither a space nor in a range.
 #[inline(always)]
 fn text_of_range(range: CodeRange, bytes: &[u8]) -> usize
@@ -371,7 +359,7 @@ fn text_of_range(range: CodeRange, bytes: &[u8]) -> usize
     let outside = lanes.simd_lt(u8x32::splat(range.first))
         | lanes.simd_gt(u8x32::splat(range.last));
     let others = outside & lanes.simd_ne(u8x32::splat(b' '));
-    first_set(others.to_bitmask())
+    first_set(others.to_bitmask(), LANES)
 }
 
 /// How many of the first bytes are spaces or in the first range of a face's codes, as most text is,

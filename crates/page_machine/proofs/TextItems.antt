@@ -19,7 +19,7 @@ use Rattle.page_machine.specs.Machine.{context_of, item_of}
 use Rattle.page_machine.specs.TextLines.{machine_behind, glyph_events, PrintsLines}
 
 -- a step with these events, by itself and with nothing behind it
-step_ends : (events : List Event) (s : State) → after [] (peaks_of s) (just events (Done s)) ≡ after events (peaks_of s) (just [] (Done s))
+pub step_ends : (events : List Event) (s : State) → after [] (peaks_of s) (just events (Done s)) ≡ after events (peaks_of s) (just [] (Done s))
 step_ends events s = let whole = append-nil events in λ i. record { events = sym whole i; peaks = higher (peaks_of s) no_peaks; ending = Done s }
 
 -- an item of lines is its own step, where no raster is started

@@ -1,6 +1,7 @@
 -- Of the commands of frames.
 mod Examples
 mod Jobs
+pub mod Languages
 pub mod Leaving
 pub mod NumberStarts
 pub mod Heads

@@ -13,7 +13,7 @@ ghost use Rattle.pcl_items.specs.Frames.Mnemonics.{letters_of};
 ghost use Rattle.pcl_items.specs.Escapes.ValueField.{sign_text};
 ghost use Rattle.pcl_items.specs.Spellings.Spelled.{StandsAt, NothingStands, IsSpelled};
 
-pub(crate) mod decimals;
+mod decimals;
 
 use crate::frame::{Coordinates, Handover, Mnemonic, Motion, PlotterCoordinate, Setting};
 use crate::item::{Item, Mode, PjlLine, SetLetter, SimpleItem};
@@ -43,8 +43,8 @@ type HeadText = ArrayVec<u8, LONGEST>;
 type PjlText = ArrayVec<u8, MOST_IN_PJL_LINE>;
 
 /// Appends bytes that have room.
-fn append(text: &mut HeadText, bytes: &[u8])
-    requires { array_vec_len text.old + length bytes.now ≤ 26 }
+fn append<const ROOM: usize>(text: &mut ArrayVec<u8, ROOM>, bytes: &[u8])
+    requires { array_vec_len text.old + length bytes.now ≤ ROOM }
     ensures text { text.new.items ≡ text.old.items ++ bytes.now }
     ensures len { array_vec_len text.new ≡ array_vec_len text.old + length bytes.now }
 {
@@ -56,7 +56,7 @@ fn append(text: &mut HeadText, bytes: &[u8])
 /// Appends a point and the decimals of a number, where it has some.
 #[tactic(auto, using(crate::proofs::Escapes::WholeNumbers::no_decimals))]
 fn append_decimals(text: &mut HeadText, n: u32)
-    requires { array_vec_len text.old ≤ 10 }
+    requires { array_vec_len text.old ≤ 21 }
     ensures text { text.new.items ≡ text.old.items ++ with_point (without_zeros (four_decimals n)) }
     ensures len { array_vec_len text.new ≤ array_vec_len text.old + 5 }
 {
@@ -69,10 +69,10 @@ fn append_decimals(text: &mut HeadText, n: u32)
 
 /// Appends a whole number.
 #[tactic(auto, using(std::proofs::lemmas::Fmt::decimal_digit))]
-fn append_whole(text: &mut HeadText, n: u16)
-    requires { array_vec_len text.old ≤ 10 }
+fn append_whole(text: &mut HeadText, n: u32)
+    requires { array_vec_len text.old ≤ 16 }
     ensures text { text.new.items ≡ text.old.items ++ decimal n }
-    ensures len { array_vec_len text.new ≤ array_vec_len text.old + 5 }
+    ensures len { array_vec_len text.new ≤ array_vec_len text.old + 10 }
 {
     // A number of one digit, as most are, needs no division.
     if n < 10 {
@@ -100,7 +100,7 @@ fn append_sign(text: &mut HeadText, sign: Sign)
 fn append_number(text: &mut HeadText, n: Number)
     requires { array_vec_len text.old ≤ 3 }
     ensures text { text.new.items ≡ text.old.items ++ amount_text (amount n) }
-    ensures len { array_vec_len text.new ≤ array_vec_len text.old + 11 }
+    ensures len { array_vec_len text.new ≤ array_vec_len text.old + 16 }
 {
     append_sign(text, n.sign);
     append_magnitude(text, n.ten_thousandths);
@@ -108,12 +108,11 @@ fn append_number(text: &mut HeadText, n: Number)
 
 /// Appends a number that has no sign: its whole part, and its decimals.
 fn append_magnitude(text: &mut HeadText, n: u32)
-    requires room { array_vec_len text.old ≤ 4 }
-    requires limited { n ≤ 655_350_000 }
+    requires { array_vec_len text.old ≤ 4 }
     ensures text { text.new.items ≡ text.old.items ++ magnitude_text n }
-    ensures len { array_vec_len text.new ≤ array_vec_len text.old + 10 }
+    ensures len { array_vec_len text.new ≤ array_vec_len text.old + 15 }
 {
-    append_whole(text, (n / 10_000) as u16);
+    append_whole(text, n / 10_000);
     append_decimals(text, n);
 }
 
@@ -227,7 +226,7 @@ fn counting_text(command: DataCommand, count: u16) -> HeadText
     let group = command.group();
     let mut text = ArrayVec::new();
     append(&mut text, &[b'\x1b', group.introducer(), group.character()]);
-    append_whole(&mut text, count);
+    append_whole(&mut text, u32::from(count));
     text.push(command.letter());
     text
 }
@@ -282,27 +281,16 @@ fn pjl_parts<'a>(spelled: &PjlLine<'a>) -> (&'static [u8], &'a [u8])
     }
 }
 
-/// Appends bytes that have room.
-fn append_to_pjl(line: &mut PjlText, bytes: &[u8])
-    requires { array_vec_len line.old + length bytes.now ≤ 1024 }
-    ensures text { line.new.items ≡ line.old.items ++ bytes.now }
-    ensures len { array_vec_len line.new ≡ array_vec_len line.old + length bytes.now }
-{
-    let Ok(()) = line.try_extend_from_slice(bytes) else {
-        unreachable!()
-    };
-}
-
 /// The spelling of a line.
 fn pjl_text(spelled: &PjlLine<'_>) -> PjlText
     ensures { result.items ≡ canon_pjl (pjl_view spelled.now.command) }
 {
     let (front, text) = pjl_parts(spelled);
     let mut all = ArrayVec::new();
-    append_to_pjl(&mut all, front);
+    append(&mut all, front);
     if !text.is_empty() {
         all.push(b' ');
-        append_to_pjl(&mut all, text);
+        append(&mut all, text);
     }
     all.push(b'\n');
     all
@@ -343,6 +331,30 @@ pub fn spell<A: Allocator>(item: &Item<'_>, bytes: &mut Vec<u8, A>) -> Result<()
         Item::WithData(command, data) => spell_with_data(*command, data.bytes, bytes),
         Item::PjlLine(spelled) => bytes.extend_from_slice(&pjl_text(spelled)),
     }
+}
+
+/// Appends a number: its sign, its whole part, and its decimals.
+///
+/// An error means that memory was refused; the bytes then stand as before.
+pub fn spell_amount<A: Allocator>(n: Number, bytes: &mut Vec<u8, A>) -> Result<(), AllocError>
+    ensures ok { OnOk result (bytes.new.items ≡ bytes.old.items ++ amount_text (amount n)) }
+    ensures err { OnErr result (bytes.new.items ≡ bytes.old.items) }
+{
+    let mut text = ArrayVec::new();
+    append_number(&mut text, n);
+    bytes.extend_from_slice(&text)
+}
+
+/// Appends so many ten-thousandths, as a number that has no sign.
+///
+/// An error means that memory was refused; the bytes then stand as before.
+pub fn spell_magnitude<A: Allocator>(n: u32, bytes: &mut Vec<u8, A>) -> Result<(), AllocError>
+    ensures ok { OnOk result (bytes.new.items ≡ bytes.old.items ++ magnitude_text n) }
+    ensures err { OnErr result (bytes.new.items ≡ bytes.old.items) }
+{
+    let mut text = ArrayVec::new();
+    append_magnitude(&mut text, n);
+    bytes.extend_from_slice(&text)
 }
 
 /// The number of bytes of the spelling of an item.

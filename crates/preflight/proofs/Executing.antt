@@ -4,6 +4,7 @@ use Rattle.std.specs.Option.{option_or}
 use Rattle.std.specs.Bool.{then_some}
 use Rattle.std.specs.List.{AllByRecursion}
 use Rattle.std.proofs.lemmas.List.{take_more_set, drop_more, drop-set-lt, drop-drop, take_all, drop_all}
+use Rattle.pcl_items.specs.Items.{Entry}
 use Rattle.page_env.specs.declared.finding.Finding.{Finding}
 use Rattle.page_machine.specs.declared.machine.Stop.{Stop}
 use Rattle.page_machine.specs.declared.machine.Stop.TheVariants as stops
@@ -12,6 +13,7 @@ use Rattle.page_machine.specs.Run.{just, Done}
 use Rattle.page_machine.specs.Follows.{TakesUpTo}
 use Rattle.page_env.specs.Settings.{state_at}
 use Rattle.page_machine.specs.MachineState.{MachineState}
+use Rattle.page_machine.specs.Likeness.{RunsOnLike}
 use Rattle.page_machine.specs.Machine.{CarriesOn}
 use Rattle.sinks.specs.declared.counts.Counts.{Counts}
 use Rattle.verdict.specs.declared.failure.Failure.{Failure}
@@ -23,8 +25,11 @@ use Rattle.sinks.proofs.Recording.{recorder_takes, TakesAll-recorded}
 use Rattle.preflight.specs.Standing.{StandsAfter, StandsBy, found_at, is_open}
 use Rattle.preflight.specs.declared.standing.Standing.{Standing}
 use Rattle.preflight.specs.Carriers.Each.{Each}
-use Rattle.preflight.specs.Carriers.Lockstep.{Action, carrying_of, is_last, Does, IsDone, Finds, FoundFrom, DiffersFrom, WrongFrom, IsWrong, Compared, GoesInStep}
+use Rattle.preflight.specs.declared.lockstep.Formation.{Formation}
+use Rattle.preflight.specs.Carriers.Formation.{others_in, IsFormed, GoesAsOne}
+use Rattle.preflight.specs.Carriers.Lockstep.{Action, Execute, carrying_of, is_last, Does, IsDone, Finds, FoundFrom, DiffersFrom, WrongFrom, IsWrong, Compared, GoesInStep}
 use Rattle.preflight.proofs.Counting.{counter_takes, counter_refuses, TakesAll-counts}
+use Rattle.preflight.proofs.Formations.{all_do, still_formed}
 use Rattle.preflight.proofs.Standings.{failed_by, open_by, refused_by}
 
 -- ---- one machine
@@ -63,21 +68,32 @@ module _ {S F : Type 0} (takes refuses : S → Event → S → Type 0) (action :
   fails_by P place number (Err (stops.Memory error)) standing stands is h wrong = refused_by P standing stands
   fails_by P place number (Err stops.Stopped) standing stands is h wrong = absurd stands
 
--- a machine that is alone
-module _ (action : Action) (place : ℕ) (counts counts' : Counts) (machine machine' : MachineState) where
+-- the first machine, with which the others stand
+module _ (law : (item : Entry) → RunsOnLike item) (item : Entry) (place : ℕ) (formation : Formation) (counts counts' : Counts) (first first' : MachineState) (others : List MachineState) (formed : IsFormed formation first others) (goes : GoesAsOne formation first others item) where
   abbrev came : Option Failure → Type 0
-  came failed = GoesInStep action place (machine ∷ []) (machine' ∷ []) counts counts' failed
+  came failed = GoesInStep (Execute item) place (first ∷ others_in formation first others) (first' ∷ others_in formation first' others) counts counts' failed
 
-  pub alone_in_step : {F : Type 0} (answer : Result Unit (Stop F)) (standing : Standing) → StandsAfter place 1 answer standing
-      → CarriesOn counter_takes counter_refuses (carrying_of machine action) (is_last action) counts counts' machine machine' answer
-      → StandsBy standing (λ failed. GoesInStep action place (machine ∷ []) (machine' ∷ []) counts counts' failed)
-  alone_in_step (Ok done) standing stands h =
-      open_by came standing stands (h.2.events, (does_of counter_takes action counts counts' machine machine' h.1 h.2, tt), TakesAll-counts counts counts' h.2.events h.2.leads)
-  alone_in_step (Err (stops.Found finding)) standing stands h =
+  pub as_one_in_step : {F : Type 0} (answer : Result Unit (Stop F)) (standing : Standing) → StandsAfter place 1 answer standing
+      → CarriesOn counter_takes counter_refuses (carrying_of first (Execute item)) false counts counts' first first' answer
+      → StandsBy standing (λ failed. GoesInStep (Execute item) place (first ∷ others_in formation first others) (first' ∷ others_in formation first' others) counts counts' failed)
+  as_one_in_step (Ok done) standing stands h =
+      open_by came standing stands
+      (h.2.events, all_do law item h.2.events first first' (does_of counter_takes (Execute item) counts counts' first first' h.1 h.2) formation others formed goes, TakesAll-counts counts counts' h.2.events h.2.leads)
+  as_one_in_step (Err (stops.Found finding)) standing stands h =
       failed_by came standing (found_at place 1 finding) stands (refl, inl (refl, record { events = h.2.events; peaks = h.2.peaks; run = h.2.is }))
-  alone_in_step (Err (stops.Refused fault)) standing stands h = refused_by came standing stands
-  alone_in_step (Err (stops.Memory error)) standing stands h = refused_by came standing stands
-  alone_in_step (Err stops.Stopped) standing stands h = absurd stands
+  as_one_in_step (Err (stops.Refused fault)) standing stands h = refused_by came standing stands
+  as_one_in_step (Err (stops.Memory error)) standing stands h = refused_by came standing stands
+  as_one_in_step (Err stops.Stopped) standing stands h = absurd stands
+
+  -- where it goes on they stand so again
+  pub as_one_formed : {F : Type 0} (answer : Result Unit (Stop F)) → first.stopped ≡ false → first'.stopped ≡ false
+      → CarriesOn counter_takes counter_refuses (carrying_of first (Execute item)) false counts counts' first first' answer → IsFormed formation first' others
+  as_one_formed (Ok done) running runs h =
+      still_formed law item h.2.events first first' (does_of counter_takes (Execute item) counts counts' first first' h.1 h.2) formation others formed goes
+  as_one_formed (Err (stops.Found finding)) running runs h = let both : true ≡ false = sym h.1 ∙ runs in absurd cc
+  as_one_formed (Err (stops.Refused fault)) running runs h = let both : true ≡ false = sym h.1 ∙ runs in absurd cc
+  as_one_formed (Err (stops.Memory error)) running runs h = let both : true ≡ false = sym h.1 ∙ runs in absurd cc
+  as_one_formed (Err stops.Stopped) running runs h = let both : true ≡ false = sym h.0 ∙ running in absurd cc
 
 pub done_of : (action : Action) (events : List Event) (machine machine' : MachineState) → Does action events machine machine' → IsDone action machine
 done_of action events machine machine' does = record { events = events; emits = record { new = machine'; does = does } }
@@ -107,6 +123,12 @@ pub written_back : {X : Type 0} (n : ℕ) (old new : List X) → length new ≡ 
 written_back n old new new_len old_len =
     ap (λ xs. take n (new ++ xs)) (drop_all (length new) old (omega (arith, new_len, old_len)))
     ∙ (ap (take n) (append-nil new) ∙ take_all n new (omega (arith, new_len)))
+
+-- the others where they stand, written back
+pub parted : (formation : Formation) (first : MachineState) (n : ℕ) (items lent stood now : List MachineState) → now ≡ take n (stood ++ drop (length stood) items) → stood ≡ others_in formation first lent → lent ≡ items → length stood ≡ n → length items ≡ n
+    → now ≡ others_in formation first items
+parted formation first n items lent stood now is stand same stood_len len =
+    is ∙ (written_back n items stood stood_len len ∙ (stand ∙ ap (others_in formation first) same))
 
 -- what a comparer tells of the events that it took
 pub differ_of : (given events : List Event) (differs : Bool) → IsFalse differs ↔ (given ≡ events) → differs ≡ true → given ≢ events

@@ -10,11 +10,13 @@ use Rattle.pcl_items.specs.declared.item.Mode.{Mode}
 use Rattle.pcl_items.specs.declared.item.Mode.TheVariants as modes
 use Rattle.pcl_items.specs.Lexing.Contexts.{Context, Pcl, Sequence, Frame, Letters, Numbered, Pjl, pending}
 use Rattle.pcl_items.specs.Grammar.{follows}
-use Rattle.pcl_items.specs.Items.{CarriageReturn, LineFeed, Text, at, Placed}
+use Rattle.pcl_items.specs.Items.{CarriageReturn, Entry, LineFeed, Text, at, Placed}
 use Rattle.pcl_items.specs.Modes.{mode_of}
 use Rattle.pcl_items.specs.Reading.{left}
 use Rattle.pcl_items.specs.Lexing.State.{LexerState}
 use Rattle.pcl_items.specs.Lexing.Passing.{ahead_in, ahead_of, AreLines, line_item, line_items, ReadsLines}
+use Rattle.macro_store.specs.Store.{Store}
+use Rattle.device_profile.specs.Likeness.{IsLike}
 use Rattle.device_profile.specs.Printer.{Printer}
 use Rattle.page_env.specs.declared.mark.Glyph.{Glyph}
 use Rattle.page_env.specs.declared.page.Page.{Page}
@@ -22,18 +24,25 @@ use Rattle.page_env.specs.declared.text_lines.Look.{Look}
 use Rattle.page_env.specs.declared.text_lines.TextLines.{TextLines}
 use Rattle.page_env.specs.declared.text_lines.TextPlace.{TextPlace}
 use Rattle.page_env.specs.Mark.{Shape, characters_of}
-use Rattle.page_env.specs.Settings.{state_at}
-use Rattle.page_env.specs.TextLines.{AllGo, behind, box_at, glyph_at, glyph_count, is_blank, page_behind, place_behind}
+use Rattle.page_env.specs.Effect.{effect_of}
+use Rattle.page_env.specs.Likeness.{asks_alike, GoesOnLike}
+use Rattle.page_env.specs.Settings.{settings_at, state_at}
+use Rattle.page_env.specs.TextLines.{AllGo, behind, box_at, glyph_at, glyph_count, is_blank, page_behind, page_behind_all, place_behind}
 use Rattle.page_env.specs.TextMeasure.{AllHaveRoom, AreLinesFrom, TextMeasure}
 use Rattle.page_env.proofs.TextRooms.{room_goes}
 use Rattle.page_machine.specs.Event.{Marked}
 use Rattle.page_machine.specs.Run.{peaks_of}
 use Rattle.page_machine.specs.Job.{ItemRun, events_of}
 use Rattle.page_machine.specs.MachineState.{MachineState}
+use Rattle.page_machine.specs.Likeness.{standing_as}
 use Rattle.page_machine.specs.TextLines.{IsMeasuredAt, machine_behind, glyph_events, PrintsLines}
+use Rattle.page_machine.proofs.TextItems.{prints_lines}
 use Rattle.sinks.specs.declared.counts.Counts.{Counts}
 use Rattle.sinks.specs.Counts.{counts_after, no_counts}
 use Rattle.preflight.specs.Carriers.Each.{Each}
+use Rattle.preflight.specs.declared.lockstep.Formation.{Formation}
+use Rattle.preflight.specs.declared.lockstep.Formation.TheVariants.{Alone, Together, Apart}
+use Rattle.preflight.specs.Carriers.Formation.{others_in, KnowsNoMacro, Follows, IsFormed}
 use Rattle.preflight.specs.Carriers.Lockstep.{Execute, AreRunning, AreIn, Does, GoesAlike}
 use Rattle.preflight.specs.Carriers.TextInStep.{GoOn, GoOnAll, PrintInStep}
 use Rattle.preflight.specs.Carriers.Checking.{Along, HasExecuted}
@@ -119,6 +128,63 @@ print_in_step (code ∷ codes) look place old new counts running in_pcl h =
       subst (λ c. PrintInStep codes mid new between c) (count_one (glyph_at look place code) (shapes_of look next codes) counts)
           (print_in_step codes look next mid new between (still_running look place code old running) (still_in_pcl look place code old in_pcl) (each_prints look place code codes old new h)),
     )
+
+-- ---- machines that stand together
+
+-- lines of text ask nothing of the device
+line_asks : (p q : Printer) (code : ℕ) → asks_alike p q (line_item code) ≡ true
+line_asks p q code = by (code == 13) (code == 10)
+  where
+    by : (returns feeds : Bool) → asks_alike p q (cond returns CarriageReturn (cond feeds LineFeed (Text code))) ≡ true
+    by true feeds = refl
+    by false true = refl
+    by false false = refl
+
+-- where a machine is that printed lines
+printed_is : (codes : List ℕ) (look : Look) (place : TextPlace) (old new : MachineState) → PrintsLines look place codes old new → new ≡ record old { page = page_behind_all look place codes old.page }
+printed_is [] look place old new h = h
+printed_is (code ∷ codes) look place old new h = printed_is codes look (behind look code place) (machine_behind look place code old) new h.2
+
+module _ (law : (item : Entry) → GoesOnLike item) (look : Look) where
+  goes_on_like : (p q : Printer) → IsLike p q → (codes : List ℕ) (place : TextPlace) (page : Page) → AllGo p look place page codes → AllGo q look place page codes
+  goes_on_like p q like [] place page h = tt
+  goes_on_like p q like (code ∷ codes) place page h = (
+    record {
+      byte = h.0.byte;
+      no_raster = h.0.no_raster;
+      goes = λ panel defaults.
+          ap (effect_of (settings_at panel page.env)) ((law (line_item code) p q defaults like (line_asks p q code)).same (state_at panel page)) ∙ h.0.goes panel defaults;
+    },
+    goes_on_like p q like codes (behind look code place) (page_behind look place code page) h.1,
+  )
+
+  module _ (place : TextPlace) (codes : List ℕ) (first first' : MachineState) (go : AllGo first.printer look place first.page codes) (prints : PrintsLines look place codes first first') where
+    follower_prints : (m : MachineState) → Follows first m → PrintsLines look place codes (standing_as first m) (standing_as first' m)
+    follower_prints m follows =
+        subst (λ f. PrintsLines look place codes (standing_as first m) (standing_as f m)) (sym (printed_is codes look place first first' prints))
+        (prints_lines codes look place (standing_as first m) (ap (λ (s : Store). s.definition) follows.1) (goes_on_like first.printer m.printer follows.0 codes place first.page go))
+
+    followers_print : (others : List MachineState) → AllByRecursion (Follows first) others → Each (PrintsLines look place codes) (map (standing_as first) others) (map (standing_as first') others)
+    followers_print [] follow = tt
+    followers_print (m ∷ others) follow = (follower_prints m follow.0, followers_print others follow.1)
+
+    still_follow : (others : List MachineState) → AllByRecursion (Follows first) others → AllByRecursion (Follows first') others
+    still_follow others follow = subst (λ f. AllByRecursion (Follows f) others) (sym (printed_is codes look place first first' prints)) follow
+
+    -- what the first prints the others print, and all stand so again
+    pub all_print : (formation : Formation) (others others' : List MachineState) → IsFormed formation first others → (formation ≡ Apart → Each (PrintsLines look place codes) others others') → ((formation ≡ Apart → ⊥) → others' ≡ others) →
+        Each (PrintsLines look place codes) (first ∷ others_in formation first others) (first' ∷ others_in formation first' others')
+    all_print Alone others others' formed apart same = (prints, tt)
+    all_print Together others others' formed apart same =
+        (prints, subst (λ (ms : List MachineState). Each (PrintsLines look place codes) (map (standing_as first) others) (map (standing_as first') ms)) (sym (same (λ e. cc))) (followers_print others formed.1))
+    all_print Apart others others' formed apart same = (prints, apart refl)
+
+    pub stay_formed : (formation : Formation) (others others' : List MachineState) → IsFormed formation first others → ((formation ≡ Apart → ⊥) → others' ≡ others) → IsFormed formation first' others'
+    stay_formed Alone others others' formed same = same (λ e. cc) ∙ formed
+    stay_formed Together others others' formed same =
+        subst (λ ms. IsFormed Together first' ms) (sym (same (λ e. cc)))
+        (subst KnowsNoMacro (sym (printed_is codes look place first first' prints)) formed.0, still_follow others formed.1, formed.2)
+    stay_formed Apart others others' formed same = tt
 
 pub lines_of : (printer : Printer) (codes : List ℕ) (look : Look) (place : TextPlace) (page : Page) → AllGo printer look place page codes → AreLines codes
 lines_of printer [] look place page h = tt

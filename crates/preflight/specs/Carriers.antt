@@ -2,6 +2,7 @@
 -- none of it.
 pub mod Each
 pub mod Lockstep
+pub mod Formation
 pub mod TextInStep
 pub mod Checking
 pub mod Driving

@@ -1,6 +1,6 @@
 //! The item that a job fails at.
 
-ghost use Rattle.pcl_items.specs.Items.{simple_view, view};
+ghost use Rattle.pcl_items.specs.Items.{view};
 ghost use Rattle.preflight.specs.Culprit.{IsCulprit, Names};
 
 use pcl_items::{DataCommand, Item, SimpleItem};
@@ -49,14 +49,4 @@ pub(crate) fn tell(item: &Item<'_>, culprit: &mut Option<Culprit>)
     ensures { Names culprit.new (view item.now) }
 {
     *culprit = Some(Culprit::of(item));
-}
-
-/// Notes an item without data as the one that the job fails at.
-// The call is rare. It puts the item together itself, so that nobody keeps room for one who calls
-// it seldom.
-#[inline(never)]
-pub(crate) fn tell_simple(item: SimpleItem, culprit: &mut Option<Culprit>)
-    ensures { Names culprit.new (simple_view item) }
-{
-    tell(&Item::Simple(item), culprit);
 }

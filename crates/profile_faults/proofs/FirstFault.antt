@@ -1,10 +1,10 @@
 -- The first fault of a text is the one for which it is refused.
-use Rattle.std.proofs.Common.{◌≡◌, ℕ, ◌+◌, List, [], ◌∷◌, ◌++◌, map, filter, flat_map, nat_lt, length, Bool, true, false, not, ◌&&◌, ◌==◌, cond, if◌then◌else◌, None, Some, Result, Ok, Err, refl, sym, ap, ◌∙◌, subst, append_assoc}
-use Rattle.std.specs.List.{list_all, list_any}
+use Rattle.std.proofs.Common.{◌≡◌, ℕ, ◌+◌, List, [], ◌∷◌, ◌++◌, map, filter, flat_map, nat_lt, length, Bool, true, false, not, ◌&&◌, ◌==◌, cond, if◌then◌else◌, None, Some, Result, Ok, Err, arith, refl, sym, ap, ◌∙◌, subst, append_assoc}
+use Rattle.std.specs.List.{AllPass, list_all, list_any}
 use Rattle.std.specs.Option.{option_map_or}
 use Rattle.std.specs.Str.Lines.{lines}
-use Rattle.std.proofs.Math.Bool.{and_assoc, and-true}
-use Rattle.std.proofs.lemmas.Bool.{and_parts}
+use Rattle.std.proofs.Math.Bool.{and-true}
+use Rattle.std.proofs.lemmas.List.Sums.{AllPass-from_list_all}
 use Rattle.device_profile.specs.declared.fault.Cause.TheVariants.{Version, Range, Missing, NoGeometry}
 use Rattle.device_profile.specs.declared.fault.ProfileFault.{ProfileFault}
 use Rattle.device_profile.specs.declared.fault.ProfileFault.TheVariants.{Fault}
@@ -56,15 +56,11 @@ tells_flat p tell fault is (x ∷ xs) = tells_both (p x) (list_all p xs) fault (
 
 -- ---- the whole
 
-complete_by_keys : (draft : Draft) → list_all (is_given draft) every_key ≡ is_complete draft
-complete_by_keys draft = simp (and_assoc, and-true)
-
+-- the keys are those of the table, in its order
 tells_ungiven : (draft : Draft) → Tells (is_complete draft) (Fault 0 Missing) (ungiven_faults draft [])
 tells_ungiven draft =
-    let told : Tells (list_all (is_given draft) every_key) (Fault 0 Missing) (map Ungiven (filter (λ key. not (is_given draft key)) every_key)) =
-    tells_each (is_given draft) Ungiven (Fault 0 Missing) (λ key. refl) every_key in
     subst (λ (test : Key → Bool). Tells (is_complete draft) (Fault 0 Missing) (map Ungiven (filter test every_key))) (λ i key. sym (and-true (not (is_given draft key))) i)
-    (subst (λ b. Tells b (Fault 0 Missing) (map Ungiven (filter (λ key. not (is_given draft key)) every_key))) (complete_by_keys draft) told)
+    (tells_each (is_given draft) Ungiven (Fault 0 Missing) (λ key. refl) every_key)
 
 tells_pairs : (rows : List Geometry) → Tells (has_every_pair rows) (Fault 0 NoGeometry) (pair_faults rows)
 tells_pairs rows =
@@ -75,24 +71,24 @@ tells_pairs rows =
 
 tells_pages : (draft : Draft) → Tells (has_its_pages draft) (Fault 0 NoGeometry) (page_faults draft)
 tells_pages draft =
-    let sized : Bool = list_all (λ size. has_size draft.geometries size) draft.sizes in
-    let turned : Bool = list_all (λ orientation. has_orientation draft.geometries orientation) draft.orientations in
+    let sized : Bool = list_all (λ size. has_size draft.geometries size) draft.choices.sizes in
+    let turned : Bool = list_all (λ orientation. has_orientation draft.geometries orientation) draft.choices.orientations in
     tells_both (sized && turned) (has_every_pair draft.geometries) (Fault 0 NoGeometry) (size_faults draft ++ orientation_faults draft) (pair_faults draft.geometries)
     (tells_both sized turned (Fault 0 NoGeometry) (size_faults draft) (orientation_faults draft)
-    (tells_each (λ size. has_size draft.geometries size) NoPageOfSize (Fault 0 NoGeometry) (λ size. refl) draft.sizes)
-    (tells_each (λ orientation. has_orientation draft.geometries orientation) NoPageInOrientation (Fault 0 NoGeometry) (λ orientation. refl) draft.orientations))
+    (tells_each (λ size. has_size draft.geometries size) NoPageOfSize (Fault 0 NoGeometry) (λ size. refl) draft.choices.sizes)
+    (tells_each (λ orientation. has_orientation draft.geometries orientation) NoPageInOrientation (Fault 0 NoGeometry) (λ orientation. refl) draft.choices.orientations))
     (tells_pairs draft.geometries)
 
 tells_choices : (draft : Draft) → Tells (has_its_choices draft) (Fault 0 Range) (face_faults draft ++ tray_faults draft ++ sides_faults draft)
 tells_choices draft =
-    let faced : Bool = list_all (λ font. has_face draft.faces font) draft.fonts in
-    let held : Bool = list_all (λ tray. list_any (λ held. held == tray) draft.device_trays) draft.trays in
-    let sided : Bool = list_all (are_sides (is_duplex draft)) draft.sides in
+    let faced : Bool = list_all (λ font. has_face draft.faces font) draft.choices.fonts in
+    let held : Bool = list_all (λ tray. list_any (λ held. held == tray) draft.device_trays) draft.choices.trays in
+    let sided : Bool = list_all (are_sides (is_duplex draft)) draft.choices.sides in
     tells_both (faced && held) sided (Fault 0 Range) (face_faults draft ++ tray_faults draft) (sides_faults draft)
     (tells_both faced held (Fault 0 Range) (face_faults draft) (tray_faults draft)
-    (tells_each (λ font. has_face draft.faces font) NoFace (Fault 0 Range) (λ font. refl) draft.fonts)
-    (tells_each (λ tray. list_any (λ held. held == tray) draft.device_trays) NoTray (Fault 0 Range) (λ tray. refl) draft.trays))
-    (tells_each (are_sides (is_duplex draft)) NoSides (Fault 0 Range) (λ sides. refl) draft.sides)
+    (tells_each (λ font. has_face draft.faces font) NoFace (Fault 0 Range) (λ font. refl) draft.choices.fonts)
+    (tells_each (λ tray. list_any (λ held. held == tray) draft.device_trays) NoTray (Fault 0 Range) (λ tray. refl) draft.choices.trays))
+    (tells_each (are_sides (is_duplex draft)) NoSides (Fault 0 Range) (λ sides. refl) draft.choices.sides)
 
 -- a draft with each key, without faulty lines
 abbrev whole_faults : Draft → List TextFault
@@ -111,13 +107,8 @@ pub record HasRows (draft : Draft) : Type 0 where
 
 has_rows : (draft : Draft) → is_complete draft ≡ true → HasRows draft
 has_rows draft complete =
-    let faces = and_parts _ _ complete in
-    let pages = and_parts _ _ faces.0 in
-    let memory = and_parts _ _ pages.0 in
-    let depth = and_parts _ _ memory.0 in
-    let duplex = and_parts _ _ depth.0 in
-    let trays = and_parts _ _ duplex.0 in
-    record { page = pages.1; face = faces.1; trays = trays.1; duplex = duplex.1 }
+    let given : AllPass (is_given draft) every_key = AllPass-from_list_all (is_given draft) every_key complete in
+    record { page = given 13 Page (omega arith); face = given 14 Face (omega arith); trays = given 9 Trays (omega arith); duplex = given 10 Duplex (omega arith) }
 
 whole_where_complete : (draft : Draft) → HasRows draft → faults_of_whole draft [] ≡ whole_faults draft
 whole_where_complete draft has =

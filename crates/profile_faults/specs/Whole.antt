@@ -38,10 +38,10 @@ orientations_of rows = fold (λ orientations row. with_new orientations row.orie
 
 -- the sizes and the orientations of the panel that no page has
 abbrev pub size_faults : Draft → List TextFault
-size_faults draft = map NoPageOfSize (filter (λ size. not (has_size draft.geometries size)) draft.sizes)
+size_faults draft = map NoPageOfSize (filter (λ size. not (has_size draft.geometries size)) draft.choices.sizes)
 
 abbrev pub orientation_faults : Draft → List TextFault
-orientation_faults draft = map NoPageInOrientation (filter (λ turned. not (has_orientation draft.geometries turned)) draft.orientations)
+orientation_faults draft = map NoPageInOrientation (filter (λ turned. not (has_orientation draft.geometries turned)) draft.choices.orientations)
 
 -- the orientations of pages in which a size has no page
 abbrev pub faults_of_size : List Geometry → ℕ → List TextFault
@@ -56,13 +56,13 @@ page_faults draft = size_faults draft ++ orientation_faults draft ++ pair_faults
 
 -- what the panel may have and the device has not
 abbrev pub face_faults : Draft → List TextFault
-face_faults draft = map NoFace (filter (λ font. not (has_face draft.faces font)) draft.fonts)
+face_faults draft = map NoFace (filter (λ font. not (has_face draft.faces font)) draft.choices.fonts)
 
 abbrev pub tray_faults : Draft → List TextFault
-tray_faults draft = map NoTray (filter (λ tray. not (list_any (λ held. held == tray) draft.device_trays)) draft.trays)
+tray_faults draft = map NoTray (filter (λ tray. not (list_any (λ held. held == tray) draft.device_trays)) draft.choices.trays)
 
 abbrev pub sides_faults : Draft → List TextFault
-sides_faults draft = map NoSides (filter (λ sides. not (are_sides (is_duplex draft) sides)) draft.sides)
+sides_faults draft = map NoSides (filter (λ sides. not (are_sides (is_duplex draft) sides)) draft.choices.sides)
 
 -- what is wrong with the whole in what the lines of a key tell
 abbrev pub faults_in : Draft → Key → List TextFault

@@ -89,6 +89,15 @@ impl<A: Allocator + Copy> Recorder<A> {
         self.events.clear();
     }
 
+    /// Forgets the events, and counts on from these.
+    #[inline(always)]
+    pub fn restart(&mut self, counts: Counts)
+        ensures { self.new ≡ record self.old { events = []; counts = counts } }
+    {
+        self.clear();
+        self.counts = counts;
+    }
+
     /// Takes back the room of the last event, if that is a row.
     #[inline(never)]
     fn keep_room(&mut self)

@@ -1,5 +1,5 @@
 -- Digits read one behind another: the number that they give so far, and what is left of them.
-use Rattle.std.proofs.Common.{◌≡◌, ℕ, ◌+◌, ◌-◌, ◌*◌, ◌/◌, ◌<◌, ◌≤◌, List, [], ◌∷◌, length, get_or, drop, take, Bool, true, false, cond, Option, None, Some, refl, sym, ap, ◌∙◌, inl, inr, arith}
+use Rattle.std.proofs.Common.{◌≡◌, ℕ, zero, suc, ◌+◌, ◌-◌, ◌*◌, ◌/◌, ◌<◌, ◌≤◌, List, [], ◌∷◌, length, get_or, drop, take, Bool, true, false, cond, Option, None, Some, refl, sym, ap, ◌∙◌, inl, inr, arith}
 use Rattle.std.specs.Prelude.{◌==◌, ◌&&◌, ◌⊎◌, nat_le, min}
 use Rattle.std.specs.List.{fold, list_all}
 use Rattle.std.specs.Char.{is_ascii_digit}
@@ -27,6 +27,20 @@ digits_end bytes i b h is e =
 
 pub digits_all : (bytes : List ℕ) (i : ℕ) → length bytes ≤ i → digits (drop i bytes) ≡ []
 digits_all bytes i h = at_drop_all digits bytes i h
+
+-- the digits among the first n bytes are all, where something else stands behind them
+pub digits_in_front : (n : ℕ) (l : List ℕ) → length (digits (take n l)) < n → digits (take n l) ≡ digits l
+digits_in_front zero l h = absurd (omega (arith, h))
+digits_in_front (suc n) [] h = refl
+digits_in_front (suc n) (b ∷ l) h = go (is_ascii_digit b) refl (λ k. digits_in_front n l k)
+  where
+    go : (t : Bool) → is_ascii_digit b ≡ t → (length (digits (take n l)) < n → digits (take n l) ≡ digits l) → digits (b ∷ take n l) ≡ digits (b ∷ l)
+    go true e more =
+        let cut : digits (b ∷ take n l) ≡ b ∷ digits (take n l) = take_while-cons is_ascii_digit b (take n l) ∙ cond-true (is_ascii_digit b) _ _ e in
+        let whole : digits (b ∷ l) ≡ b ∷ digits l = take_while-cons is_ascii_digit b l ∙ cond-true (is_ascii_digit b) _ _ e in
+        let size : length (digits (b ∷ take n l)) ≡ length (b ∷ digits (take n l)) = ap length cut in
+        cut ∙ ap (λ ds. b ∷ ds) (more (omega (arith, h, size))) ∙ sym whole
+    go false e more = take_while-cons is_ascii_digit b (take n l) ∙ cond-false (is_ascii_digit b) _ _ e ∙ sym (take_while-cons is_ascii_digit b l ∙ cond-false (is_ascii_digit b) _ _ e)
 
 -- ---- a number up to a limit
 

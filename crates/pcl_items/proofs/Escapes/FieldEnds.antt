@@ -10,7 +10,6 @@ use Rattle.pcl_items.specs.declared.fault.LexCause.TheVariants as causes
 use Rattle.pcl_items.specs.Escapes.Value.{Amount}
 use Rattle.pcl_items.specs.Escapes.Field.{Field, field_at, amount_of}
 use Rattle.pcl_items.specs.Escapes.FieldEnd.{FieldEnd, Open, BadNumber, Ended, ended_by, with_byte, field_end}
-use Rattle.pcl_items.specs.Frames.Reader.{by_language, after_language_field, language_in}
 use Rattle.pcl_items.specs.Reader.{First, Faulty, by_last_byte, after_field, command_in, by_termination, after_ungrouped_field, without_group}
 use Rattle.pcl_items.specs.Reader as firsts
 use Rattle.pcl_items.proofs.Escapes.Tables.{both_true, by_test}
@@ -111,15 +110,3 @@ ungrouped_behind introducer f (last ∷ rest) = by_number (amount_of f)
 pub ungrouped_by : (introducer : ℕ) (bytes : List ℕ) (e : FieldEnd) → e ≡ field_end bytes → by_end e (λ amount len last. by_termination (Some amount) introducer len last) ≡ without_group introducer bytes
 unfolding without_group
 ungrouped_by introducer bytes e is = by_field_end bytes e _ _ is (ungrouped_behind introducer (field_at bytes) (drop (field_at bytes).len bytes))
-
-language_behind : (f : Field) (rest : List ℕ) → by_end (with_byte f rest) (λ amount len last. by_language (Some amount) len last) ≡ after_language_field f rest
-language_behind f [] = refl
-language_behind f (last ∷ rest) = by_number (amount_of f)
-  where
-    by_number : (o : Option Amount) → by_end (ended_by o f.len last) (λ amount len last. by_language (Some amount) len last) ≡ by_language o f.len last
-    by_number None = refl
-    by_number (Some amount) = refl
-
-pub language_by : (bytes : List ℕ) (e : FieldEnd) → e ≡ field_end bytes → by_end e (λ amount len last. by_language (Some amount) len last) ≡ language_in bytes
-unfolding language_in
-language_by bytes e is = by_field_end bytes e _ _ is (language_behind (field_at bytes) (drop (field_at bytes).len bytes))

@@ -3,6 +3,7 @@ use Rattle.std.proofs.Common.{◌≡◌, ℕ, ◌+◌, ◌≤◌, ◌<◌, ◌-�
 use Rattle.std.specs.Prelude.{nat_le, Option, IfSome}
 use Rattle.std.proofs.lemmas.Bool.{cond-true, cond-false, and_from, le-leb}
 use Rattle.pcl_items.specs.declared.pcl.command.Group.{Group}
+use Rattle.pcl_items.specs.declared.pcl.command.Group.TheVariants.{RasterData}
 use Rattle.pcl_items.specs.declared.pcl.command.Command.{Command}
 use Rattle.pcl_items.specs.declared.pcl.field.EndedField.{EndedField}
 use Rattle.pcl_items.specs.declared.pcl.parameterized.ReadCommand.{ReadCommand}
@@ -14,7 +15,7 @@ use Rattle.pcl_items.specs.Reader.{Begins, behind, named, by_last_letter, by_oth
 use Rattle.pcl_items.specs.Escapes.Value.{Amount}
 use Rattle.pcl_items.specs.Lexing.FirstView.{context_view}
 use Rattle.pcl_items.specs.declared.pcl.command_with_data.ReadWithData.{ReadWithData}
-use Rattle.pcl_items.specs.Escapes.ReadCommands.{IsInGroup, IsEndedBy, first_with_data}
+use Rattle.pcl_items.specs.Escapes.ReadCommands.{IsInGroup, IsEndedBy, IsAheadWithData, IsInGroupWithData, first_with_data}
 use Rattle.std.proofs.lemmas.List.{take_all, drop-drop}
 use Rattle.pcl_items.proofs.Escapes.FieldEnds.{command_by}
 use Rattle.pcl_items.proofs.Escapes.Heads.{group_read}
@@ -98,6 +99,26 @@ with_data_behind read (i ∷ c ∷ bytes) two h =
     let same : drop (read.len - n) bytes ≡ drop (3 + read.len - n) (27 ∷ i ∷ c ∷ bytes) = drop-drop (read.len - n) 3 (27 ∷ i ∷ c ∷ bytes) ∙ ap (λ m. drop m (27 ∷ i ∷ c ∷ bytes)) before in
     ap (λ l. behind 3 (first_with_data read l)) all
     ∙ ap (λ l. Begins (WithData read.command (take n l)) (3 + read.len) (context_view read.next)) same
+
+-- the row of a raster, where the three bytes before its field stand too
+pub row_behind : (read : ReadWithData) (bytes : List ℕ) → 3 ≤ length bytes → get_or bytes 0 0 ≡ 27 → get_or bytes 1 0 ≡ 42 → get_or bytes 2 0 ≡ 98 →
+    IsInGroupWithData read RasterData (take (length bytes - 3) (drop 3 bytes)) → IsAheadWithData (record read { len = 3 + read.len }) Pcl bytes
+row_behind read [] three e i c h = absurd (omega (arith, three))
+row_behind read (b0 ∷ []) three e i c h = absurd (omega (arith, three))
+row_behind read (b0 ∷ b1 ∷ []) three e i c h = absurd (omega (arith, three))
+row_behind read (b0 ∷ b1 ∷ b2 ∷ bytes) three e i c h =
+    let size : length (b0 ∷ b1 ∷ b2 ∷ bytes) - 3 ≡ length bytes = omega arith in
+    let all : take (length (b0 ∷ b1 ∷ b2 ∷ bytes) - 3) bytes ≡ bytes = ap (λ n. take n bytes) size ∙ take_all (length bytes) bytes (omega arith) in
+    let size2 : length (b1 ∷ b2 ∷ bytes) - 2 ≡ length bytes = omega arith in
+    let all2 : take (length (b1 ∷ b2 ∷ bytes) - 2) bytes ≡ bytes = ap (λ n. take n bytes) size2 ∙ take_all (length bytes) bytes (omega arith) in
+    let group : group_at b1 b2 ≡ Some RasterData = (λ k. group_at (i k) (c k)) in
+    let longer : ReadWithData = record read { len = 3 + read.len } in
+    let read_here : command_in RasterData bytes ≡ first_with_data read bytes = ap (command_in RasterData) (sym all) ∙ h.0 ∙ ap (first_with_data read) all in
+    let behind_three : behind 3 (first_with_data read bytes) ≡ first_with_data longer (27 ∷ b1 ∷ b2 ∷ bytes) =
+    ap (λ l. behind 3 (first_with_data read l)) (sym all2) ∙ with_data_behind read (b1 ∷ b2 ∷ bytes) (omega arith) h.1.1 in (
+      λ whole. ap (λ n. first_of whole Pcl (n ∷ b1 ∷ b2 ∷ bytes)) e ∙ behind_group whole b1 b2 RasterData bytes group ∙ ap (behind 3) read_here ∙ behind_three ∙ ap (λ n. first_with_data longer (n ∷ b1 ∷ b2 ∷ bytes)) (sym e),
+      (omega (arith, h.1.0, ap length all), omega (arith, h.1.1)),
+    )
 
 -- the command that ends a field is that of its group
 pub in_group : (result : Option ReadCommand) (g : Group) (field : EndedField) (bytes : List ℕ) → Ended (amount field.number) field.len field.last ≡ field_end bytes → field.len < length bytes →

@@ -29,7 +29,7 @@ use Rattle.pcl_items.specs.Reader.{Passes, first_of}
 use Rattle.pcl_items.specs.Reading.{ReadsTo, passes}
 use Rattle.pcl_items.specs.Frames.Pairs.{IsPairAhead, Leads, NamesMotion, HasLetters, LeadsCommand, IsCoordinateAhead, Stands}
 use Rattle.pcl_items.proofs.Escapes.Tables.{by_test}
-use Rattle.pcl_items.proofs.Escapes.Digits.{limited, rest_from, rest_is, parts_without_point}
+use Rattle.pcl_items.proofs.Escapes.Digits.{digits_in_front, limited, rest_from, rest_is, parts_without_point}
 use Rattle.pcl_items.proofs.Frames.Figures.{coordinate_known, digit_known}
 use Rattle.pcl_items.proofs.Frames.Numerals.{NumberRead, TellsNumeral, numeral_told, coordinates, positive_digit}
 use Rattle.pcl_items.proofs.Frames.NumberStarts.{IsLed, led, coordinate_led}
@@ -56,20 +56,6 @@ coordinate_stands bytes s start len n x is start_is len_is n_is none some short 
     ∙ ap (λ d. number_end whole d (coordinate_of (field_at bytes)) end (drop end bytes)) digit
     ∙ ap (λ o. number_end whole true o end (drop end bytes)) value
     ∙ at_drop_more (number_end whole true (Some x) end) bytes end 0 inside
-
--- the digits among the first n bytes are all, where something else stands behind them
-digits_in_front : (n : ℕ) (l : List ℕ) → length (digits (take n l)) < n → digits (take n l) ≡ digits l
-digits_in_front zero l h = absurd (omega (arith, h))
-digits_in_front (suc n) [] h = refl
-digits_in_front (suc n) (b ∷ l) h = go (is_ascii_digit b) refl (λ k. digits_in_front n l k)
-  where
-    go : (t : Bool) → is_ascii_digit b ≡ t → (length (digits (take n l)) < n → digits (take n l) ≡ digits l) → digits (b ∷ take n l) ≡ digits (b ∷ l)
-    go true e more =
-        let cut : digits (b ∷ take n l) ≡ b ∷ digits (take n l) = take_while-cons is_ascii_digit b (take n l) ∙ cond-true (is_ascii_digit b) _ _ e in
-        let whole : digits (b ∷ l) ≡ b ∷ digits l = take_while-cons is_ascii_digit b l ∙ cond-true (is_ascii_digit b) _ _ e in
-        let size : length (digits (b ∷ take n l)) ≡ length (b ∷ digits (take n l)) = ap length cut in
-        cut ∙ ap (λ ds. b ∷ ds) (more (omega (arith, h, size))) ∙ sym whole
-    go false e more = take_while-cons is_ascii_digit b (take n l) ∙ cond-false (is_ascii_digit b) _ _ e ∙ sym (take_while-cons is_ascii_digit b l ∙ cond-false (is_ascii_digit b) _ _ e)
 
 no_point : (bytes : List ℕ) (i b : ℕ) → i < length bytes → b ≡ get_or bytes i 0 → (b ≡ 46 → ⊥) → has_point (drop i bytes) ≡ false
 no_point bytes i b inside is h =

@@ -1,5 +1,5 @@
 -- The answers of a lexer, by what stands first in its window.
-use Rattle.std.proofs.Common.{◌≡◌, ◌+◌, ◌≤◌, ℕ, List, [], ◌∷◌, drop, Bool, true, Some, Result, Ok, Err, refl, sym, subst, ◌∙◌, arith}
+use Rattle.std.proofs.Common.{◌≡◌, ◌+◌, ◌-◌, ◌≤◌, ℕ, List, [], ◌∷◌, take, drop, Bool, true, Some, Result, Ok, Err, refl, sym, ap, subst, ◌∙◌, arith}
 use Rattle.std.proofs.lemmas.List.{drop-drop}
 use Rattle.pcl_items.specs.declared.lexer.ahead.Ahead.{Ahead}
 use Rattle.pcl_items.specs.declared.fault.LexFault.{LexFault}
@@ -12,11 +12,14 @@ use Rattle.pcl_items.specs.declared.item.SimpleItem.TheVariants as simple
 use Rattle.pcl_items.specs.declared.pcl.parameterized.ReadCommand.{ReadCommand}
 use Rattle.pcl_items.specs.declared.frame.pair.ReadPair.{ReadPair}
 use Rattle.pcl_items.specs.declared.pcl.command.Command.{Command}
+use Rattle.pcl_items.specs.declared.pcl.command.DataCommand.TheVariants.{RasterRow}
+use Rattle.pcl_items.specs.declared.pcl.command_with_data.ReadWithData.{ReadWithData}
+use Rattle.pcl_items.specs.declared.lexer.PlacedRow.{PlacedRow}
 use Rattle.pcl_items.specs.declared.frame.Gap.TheVariants.{Straight}
 use Rattle.pcl_items.specs.Escapes.Value.{Amount}
 use Rattle.pcl_items.specs.Lexing.Contexts.{Context, Pcl, Sequence, Frame, Letters, Numbered, Even, Pjl, counted, item_place}
 use Rattle.pcl_items.specs.Modes.{follows, mode_of}
-use Rattle.pcl_items.specs.Items.{Entry, Parameterized, view, amount}
+use Rattle.pcl_items.specs.Items.{Entry, Parameterized, WithData, view, amount}
 use Rattle.pcl_items.specs.Items as entries
 use Rattle.pcl_items.specs.Reader.{First, Open, Begins, Faulty, first_of}
 use Rattle.pcl_items.specs.Fault.{IsFault}
@@ -25,7 +28,8 @@ use Rattle.pcl_items.specs.Reading.{ReadsTo, here, begins}
 use Rattle.pcl_items.specs.Lexing.Ahead.{StandsFirst, StandsAhead, IsUndecided}
 use Rattle.pcl_items.specs.Lexing.State.{LexerState}
 use Rattle.pcl_items.specs.Lexing.Answers.{AdvancesOver, Answers}
-use Rattle.pcl_items.specs.Escapes.ReadCommands.{IsAhead}
+use Rattle.pcl_items.specs.Escapes.ReadCommands.{IsAhead, IsAheadWithData}
+use Rattle.pcl_items.specs.Lexing.Meaning.{answer_of_row}
 use Rattle.pcl_items.specs.Frames.Pairs.{IsPairAhead}
 use Rattle.pcl_items.proofs.Reading.ReadsTo.{ReadsTo-at, ReadsTo-append}
 use Rattle.pcl_items.proofs.Lexing.Spans.{begins-taken}
@@ -49,6 +53,27 @@ pub unit_is_answer : (window : List ℕ) (start dropped len : ℕ) (ended : Bool
     Answers (standing window start dropped Pcl ended held) (Ok (answers.Item (dropped + start) item)) (standing window (start + len) dropped Pcl ended held)
 unit_is_answer window start dropped len ended held item t =
     record { reads = one_item ended Pcl Pcl window start dropped len (view item) (t.0 ended); ended = refl; held = refl }
+
+-- the answer to a row of a raster
+pub row_is_answer : (window : List ℕ) (start dropped : ℕ) (ended : Bool) (held : ℕ) (read : ReadWithData) (row : PlacedRow) → read.command ≡ RasterRow → IsAheadWithData read Pcl (drop start window) → row.place ≡ dropped + start →
+    row.lent.bytes.now ≡ take read.count.bytes (drop (start + read.len - read.count.bytes) window) →
+    Answers (standing window start dropped Pcl ended held) (answer_of_row row) (standing window (start + read.len) dropped (context_view read.next) ended held)
+row_is_answer window start dropped ended held read row command ahead place is =
+    let n = read.count.bytes in
+    let entry : Entry = WithData RasterRow row.lent.bytes.now in
+    let next : Context = context_view read.next in
+    let new : LexerState = standing window (start + read.len) dropped next ended held in
+    let before : start + (read.len - n) ≡ start + read.len - n = omega (arith, ahead.1.1) in
+    let same : take n (drop (read.len - n) (drop start window)) ≡ row.lent.bytes.now =
+    ap (take n) (drop-drop (read.len - n) start window ∙ ap (λ m. drop m window) before) ∙ sym is in
+    let first : first_of ended Pcl (drop start window) ≡ Begins entry read.len next = ahead.0 ended ∙ (λ i. Begins (WithData (command i) (same i)) read.len next) in
+    subst (λ (p : ℕ). AdvancesOver (standing window start dropped Pcl ended held) (entries.at p entry ∷ []) new) (sym place)
+    (record { reads = one_item ended Pcl next window start dropped read.len entry first; ended = refl; held = refl })
+
+-- what is counted behind a row
+pub row_counts : (bytes : List ℕ) (read : ReadWithData) → IsAheadWithData read Pcl bytes → counted (context_view read.next) ≤ counted Pcl + read.len
+row_counts bytes read t =
+    (begins-taken true Pcl bytes (WithData read.command (take read.count.bytes (drop (read.len - read.count.bytes) bytes))) read.len (context_view read.next) (t.0 true)).counts
 
 -- no parameterized command is read of a frame
 command_place : (c : Context) (place : ℕ) (command : Command) (a : Amount) (m : Mode) → follows (mode_of c) (Parameterized command a) ≡ Some m → item_place c place ≡ place

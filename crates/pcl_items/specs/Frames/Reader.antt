@@ -1,5 +1,5 @@
 -- What stands first in the bytes of a frame.
-use Rattle.std.specs.Prelude.{ℕ, ℤ, ◌+◌, ◌==◌, nat_lt, List, [], ◌∷◌, drop, Bool, Option, None, Some, if◌then◌else◌}
+use Rattle.std.specs.Prelude.{ℕ, ℤ, ◌+◌, ◌==◌, nat_lt, List, [], ◌∷◌, drop, Bool, true, false, Option, None, Some, if◌then◌else◌}
 use Rattle.pcl_items.specs.declared.frame.Kind.{Kind}
 use Rattle.pcl_items.specs.declared.frame.Kind.TheVariants as kinds
 use Rattle.pcl_items.specs.declared.frame.Motion.{Motion}
@@ -36,6 +36,11 @@ after_language_field f (c ∷ bytes) = by_language (amount_of f) f.len c
 -- after ESC and `%`
 unfoldable pub language_in : List ℕ → First
 language_in bytes = if nat_lt 16 (field_at bytes).len then Faulty BadNumber else after_language_field (field_at bytes) (drop (field_at bytes).len bytes)
+
+-- a frame stands behind it
+abbrev pub enters_frame : First → Bool
+enters_frame (Begins item len Frame) = true
+enters_frame first = false
 
 -- ---- between commands
 

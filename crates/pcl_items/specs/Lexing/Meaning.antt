@@ -1,5 +1,5 @@
 -- What a lexer answers, and what that says of the job.
-use Rattle.std.specs.Prelude.{◌≡◌, ℕ, ◌+◌, ◌<◌, ◌≤◌, List, [], ◌∷◌, ◌++◌, length, Bool, true, false, Some, Result, Ok, Err}
+use Rattle.std.specs.Prelude.{◌≡◌, ℕ, ◌+◌, ◌<◌, ◌≤◌, List, [], ◌∷◌, ◌++◌, length, Bool, true, false, Option, Some, None, Result, Ok, Err}
 use Rattle.pcl_items.specs.declared.fault.LexCause.{LexCause}
 use Rattle.pcl_items.specs.declared.fault.LexFault.{LexFault}
 use Rattle.pcl_items.specs.Lexing.Contexts.{Pcl, item_place, MayEndAt}
@@ -10,6 +10,8 @@ use Rattle.pcl_items.specs.declared.item.Item.TheVariants as items
 use Rattle.pcl_items.specs.declared.lexer.Lexed.{Lexed}
 use Rattle.pcl_items.specs.declared.lexer.Lexed.TheVariants as answers
 use Rattle.pcl_items.specs.declared.lexer.PlacedItem.{PlacedItem}
+use Rattle.pcl_items.specs.declared.lexer.PlacedRow.{PlacedRow}
+use Rattle.pcl_items.specs.declared.pcl.command.DataCommand.TheVariants.{RasterRow}
 use Rattle.pcl_items.specs.Items.{Placed, view, at}
 use Rattle.pcl_items.specs.Reading.{Reading, Whole, Stopped, IsReading, items_of, ReadsTo, left}
 use Rattle.pcl_items.specs.Lexing.State.{LexerState, WantsMore}
@@ -86,3 +88,12 @@ pub record IsNext (old : LexerState) (result : Result Lexed LexFault) (new : Lex
   pub admits : KeepsMode old result new
   pub allows : Allows result new
   pub tells : (bytes : List ℕ) (items : List Placed) → HasRead old bytes items → Tells old.ended bytes items result
+
+-- the answer that gives this row of a raster
+abbrev pub answer_of_row : PlacedRow → Result Lexed LexFault
+answer_of_row row = Ok (answers.Item row.place (items.WithData RasterRow row.lent))
+
+-- one answer of a call for a row, which stands in mode PCL: where it gives none, the lexer stands as before
+abbrev pub IsNextRow : LexerState → Option PlacedRow → LexerState → Type 0
+IsNextRow old (Some row) new = IsNext old (answer_of_row row) new × (old.context ≡ Pcl)
+IsNextRow old None new = new ≡ old

@@ -1,22 +1,18 @@
 //! What stands first in the bytes of a frame.
 
-ghost use Rattle.std.specs.Prelude.{◌≡◌, ◌≤◌, ◌+◌, ◌^◌, List, ℕ, length, Some};
-ghost use Rattle.std.specs.Option.{option_map};
+ghost use Rattle.std.specs.Prelude.{◌≡◌, ◌≤◌, ◌+◌, ◌^◌, List, ℕ, length};
 ghost use Rattle.pcl_items.specs.Lexing.Contexts.{Single, spaced};
 ghost use Rattle.pcl_items.specs.Lexing.FirstView.{first_view, numbers_view, Within};
-ghost use Rattle.pcl_items.specs.Frames.Reader.{language_in, by_language, after_letter, after_frame_escape, at_frame, single, first_number, first_of_pair, second_of_pair, after_letters, further, ended_by, ended, after_numbers};
-ghost use Rattle.pcl_items.specs.Items.{amount, bare, default_of, simple_view};
-ghost use Rattle.pcl_items.specs.Escapes.Ungrouped.{leave_at};
+ghost use Rattle.pcl_items.specs.Frames.Reader.{language_in, enters_frame, after_letter, after_frame_escape, at_frame, single, first_number, first_of_pair, second_of_pair, after_letters, further, ended_by, ended, after_numbers};
+ghost use Rattle.pcl_items.specs.Items.{bare, default_of, simple_view};
 ghost use Rattle.pcl_items.specs.Frames.NumeralView.{numeral_view, numeral_len};
 
 use crate::fault::{LexCause, Name};
 use crate::frame::number::{Numeral, coordinate_in, setting_in};
 use crate::frame::{Coordinates, Gap, Kind, Mnemonic, Motion, PlotterCoordinate, Setting, capital};
 use crate::item::SimpleItem;
-use crate::lexer::first::{Context, EXIT, First, Head, Numbers, begins_exit};
-use crate::number::{Magnitude, Number};
-use crate::pcl::counting::handover_of;
-use crate::pcl::field::{EndedField, FieldEnd, field_end};
+use crate::lexer::first::{Context, EXIT, First, Head, Numbers, begins_exit, ungrouped};
+use crate::number::Magnitude;
 
 // ---- between commands
 
@@ -67,42 +63,28 @@ fn escaped_in_frame(bytes: &[u8]) -> First
     }
 }
 
-/// What stands first after ESC and `%`.
+/// What stands first after ESC and `%`: what would in mode PCL, but for the sequence that enters a
+/// frame.
 fn language(bytes: &[u8]) -> First
     ensures first { (all : List ℕ) → first_view all result ≡ language_in bytes.now }
     ensures within { Within (2 + length bytes.now) result }
 {
-    match field_end(bytes) {
-        FieldEnd::Open => First::Open,
-        FieldEnd::BadNumber => First::Faulty(LexCause::BadNumber),
-        FieldEnd::Ended(field) => ended_language(field),
+    let first = ungrouped(b'%', bytes);
+    if enters_frame(first) {
+        First::Faulty(LexCause::NotInProfile(Name::Pair(b'%', b'B')))
+    } else {
+        first
     }
 }
 
-/// The sequence that a byte ends behind its field.
-fn ended_language(field: EndedField) -> First
-    requires { field.len ≤ 16 }
-    ensures first { (all : List ℕ) → first_view all result ≡
-        by_language (Some (amount field.number)) field.len field.last }
-    ensures within { Within (field.len + 3) result }
+/// Whether a frame stands behind what stands first.
+fn enters_frame(first: First) -> bool
+    ensures { (all : List ℕ) → result ≡ enters_frame (first_view all first) }
 {
-    match field.last {
-        64..=94 => match leave_at(field.number, field.last) {
-            Some(item) => First::Begins(field.len + 3, Head::Simple(item), Context::Pcl),
-            None => First::Faulty(LexCause::NotInProfile(Name::Pair(b'%', field.last))),
-        },
-        _ => First::Faulty(LexCause::Syntax),
-    }
-}
-
-/// The item of a number and a termination character.
-fn leave_at(number: Number, letter: u8) -> Option<SimpleItem>
-    ensures { option_map simple_view result ≡ leave_at (amount number) letter }
-{
-    match letter {
-        b'A' => Some(SimpleItem::LeaveFrame(handover_of(number)?)),
-        _ => None,
-    }
+    let First::Begins(_, _, next) = first else {
+        return false;
+    };
+    matches!(next, Context::Frame)
 }
 
 // ---- behind the letters

@@ -320,7 +320,7 @@ fn with_data(command: DataCommand, count: Option<DataCount>, len: usize, bytes: 
 }
 
 /// The sequence without a group that stands first behind its introducer.
-fn ungrouped(introducer: u8, bytes: &[u8]) -> First
+pub fn ungrouped(introducer: u8, bytes: &[u8]) -> First
     ensures first { (all : List ℕ) → first_view all result ≡ without_group introducer bytes.now }
     ensures within { Within (2 + length bytes.now) result }
 {

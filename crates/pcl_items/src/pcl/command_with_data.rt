@@ -2,7 +2,8 @@
 //!
 //! A raster is mostly these. What `first_in` answers of them is answered here at once.
 
-ghost use Rattle.std.specs.Prelude.{◌≤◌, ◌∷◌, length, IfSome};
+ghost use Rattle.std.specs.Prelude.{◌≡◌, ◌≤◌, ◌∷◌, length, IfSome};
+ghost use Rattle.pcl_items.specs.declared.pcl.command.DataCommand.TheVariants.{RasterRow};
 ghost use Rattle.pcl_items.specs.Lexing.Contexts.{Pcl};
 ghost use Rattle.pcl_items.specs.Lexing.FirstView.{context_view};
 ghost use Rattle.pcl_items.specs.Escapes.ReadCommands.{IsAheadWithData, IsInGroupWithData};
@@ -35,6 +36,27 @@ pub fn with_data_in(context: Context, bytes: &[u8]) -> Option<ReadWithData>
         },
         _ => None,
     }
+}
+
+/// The row of a raster that stands first in the bytes in mode PCL, unless they begin with something
+/// else.
+// It does what `with_data_in` does, for one group alone.
+#[inline(always)]
+pub fn row_in(bytes: &[u8]) -> Option<ReadWithData>
+    ensures { IfSome result (λ read. (read.command ≡ RasterRow)
+        × IsAheadWithData read Pcl bytes.now) }
+{
+    let [b'\x1b', b'*', b'b', rest @ ..] = bytes else {
+        return None;
+    };
+    let read = in_group(Group::RasterData, rest)?;
+    let DataCommand::RasterRow = read.command else {
+        return None;
+    };
+    Some(ReadWithData {
+        len: 3 + read.len,
+        ..read
+    })
 }
 
 /// The command with data that stands first behind an escape character.

@@ -119,7 +119,7 @@ pub fn longest_field(bytes: &[u8]) -> Field
     ensures within { result.len ≤ length bytes.now }
 {
     let (sign, start) = leading_sign(bytes);
-    let whole = leading_digits(&bytes[start..], PAST_LIMIT);
+    let whole = leading_whole(&bytes[start..]);
     let end = start + whole.len;
     if is_point_at(bytes, end) {
         return with_decimals(sign, whole.number, end + 1, &bytes[end + 1..]);
@@ -198,6 +198,36 @@ pub fn leading_digits(bytes: &[u8], past: u32) -> Digits
         len: bytes.len(),
         number,
     }
+}
+
+/// So many bytes decide a whole number that has fewer digits, as nearly each has.
+const FEW: usize = 8;
+
+// The digits in front, and what they stand for, but for numbers past the limit of a field.
+#[inline(always)]
+fn leading_whole(bytes: &[u8]) -> Digits
+    ensures len { result.len ≡ length (digits bytes.now) }
+    ensures within { result.len ≤ length bytes.now }
+    ensures number { result.number ≡ min (decimal (digits bytes.now)) 65_536 }
+{
+    if bytes.len() >= FEW {
+        // The loop over the digits is unrolled, since there are always so many bytes.
+        let whole = leading_digits(&bytes[..FEW], PAST_LIMIT);
+        if whole.len < FEW {
+            return whole;
+        }
+    }
+    all_leading_digits(bytes)
+}
+
+// The same of any number of digits: a call of its own, since few fields have many.
+#[inline(never)]
+fn all_leading_digits(bytes: &[u8]) -> Digits
+    ensures len { result.len ≡ length (digits bytes.now) }
+    ensures within { result.len ≤ length bytes.now }
+    ensures number { result.number ≡ min (decimal (digits bytes.now)) 65_536 }
+{
+    leading_digits(bytes, PAST_LIMIT)
 }
 
 // The decimals in front, behind a whole number: each is worth a tenth of the one before, and the

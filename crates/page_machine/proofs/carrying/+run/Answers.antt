@@ -48,15 +48,16 @@ pub page_close-returns-in-Err : goal.page_close-returns-in-Err
 page_close-returns-in-Err g t c =
     Follows-found _ _ _ _ _ _ _ (λ panel. page_close-unset (context_with c.args.around.now panel) (state_at panel c.args.page.now) c.in-Err.field (c.is_too_deep.ensures panel ∙ c.if-is_too_deep.false) (c.in-Err.ensures panel))
 
-pub page_close-returns-in-Err-run_overlay : goal.page_close-returns-in-Err-run_overlay
-page_close-returns-in-Err-run_overlay g t c =
-    Follows-is _ _ _ _ _ _ _ _ _ (λ panel. page_close-passes (context_with c.args.around.now panel) (state_at panel c.args.page.now) (c.is_too_deep.ensures panel ∙ c.if-is_too_deep.false) (c.in-Ok.ensures panel).0)
-    (Follows-stopped _ _ _ _ _ c.run_overlay.new.page _ _ (λ panel. ended) _ (c.in-Err-run_overlay.ensures.runs (λ panel. c.overlay_page-overlaid.ensures panel)))
+pub page_close-returns-in_err-run_overlay-in-Ok : goal.page_close-returns-in_err-run_overlay-in-Ok
+page_close-returns-in_err-run_overlay-in-Ok g t c =
+    Follows-handed _ _ _ _ _ _ _ c.in_err-run_overlay-in-Ok.field-0.0 c.from_residual.result c.from_residual.ensures.1
+    (Follows-is _ _ _ _ _ _ _ _ _ (λ panel. page_close-passes (context_with c.args.around.now panel) (state_at panel c.args.page.now) (c.is_too_deep.ensures panel ∙ c.if-is_too_deep.false) (c.in-Ok.ensures panel).0)
+    (Follows-stopped _ _ _ _ _ c.run_overlay.new.page _ _ (λ panel. ended) _ (c.in_err-run_overlay-in-Ok.ensures.runs (λ panel. c.overlay_page-overlaid.ensures panel))))
 
-pub page_close-returns-in-Ok-run_overlay : goal.page_close-returns-in-Ok-run_overlay
-page_close-returns-in-Ok-run_overlay g t c =
+pub page_close-returns-in_ok-run_overlay-in-Ok : goal.page_close-returns-in_ok-run_overlay-in-Ok
+page_close-returns-in_ok-run_overlay-in-Ok g t c =
     Follows-is _ _ _ _ _ _ _ _ _ (λ panel. page_close-passes (context_with c.args.around.now panel) (state_at panel c.args.page.now) (c.is_too_deep.ensures panel ∙ c.if-is_too_deep.false) (c.in-Ok.ensures panel).0)
-    (Follows-onward _ _ _ _ _ _ c.run_overlay.new.page _ _ (λ panel. ended) _ _ (c.in-Ok-run_overlay.ensures.runs (λ panel. c.overlay_page-overlaid.ensures panel)) c.end_page.ensures)
+    (Follows-onward _ _ _ _ _ _ c.run_overlay.new.page _ _ (λ panel. ended) _ _ (c.in_ok-run_overlay-in-Ok.ensures.runs (λ panel. c.overlay_page-overlaid.ensures panel)) c.end_page.ensures)
 
 pub run_overlay-returns-in_default-body-clause-runs : goal.run_overlay-returns-in_default-body-clause-runs
 run_overlay-returns-in_default-body-clause-runs g t c = λ begins.

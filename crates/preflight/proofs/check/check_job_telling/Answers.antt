@@ -1,10 +1,16 @@
-use Rattle.std.proofs.Common.{Ok, Err, subst, sym}
+use Rattle.std.proofs.Common.{◌≡◌, Result, Ok, Err, refl, ap, subst, sym}
 use Rattle.std.proofs.lemmas.Result.{err_from_is_err_and}
 use Rattle.streams.specs.Pieces.{ByReads}
+use Rattle.preflight.specs.declared.culprit.Judgement.{Judgement}
+use Rattle.preflight.specs.declared.error.Error.{Error}
+use Rattle.preflight.specs.declared.error.Error.TheVariants.{Turns}
 use Rattle.preflight.specs.Culprit.{IsTold}
 use Rattle.preflight.specs.Verdict.{IsExact, KeepsPromise}
 use Rattle.preflight.proofs.Judging.{exact, headline, known_ok, needed, never_items, never_write, told}
 use Rattle.preflight.proofs.check.check_job_telling.Goals as goal
+
+same_error : (a b : Error) (x y : Result Judgement Error) → x ≡ Err a → y ≡ Err b → x ≡ y → a ≡ b
+same_error a b x y left right e = cc
 
 pub returns-in_err-verdict-clause-never_write : goal.returns-in_err-verdict-clause-never_write
 returns-in_err-verdict-clause-never_write g c =
@@ -41,3 +47,8 @@ returns-clause-known_told g c = known_ok _ _ (λ job verdict. IsTold job verdict
 pub returns-clause-needed : goal.returns-clause-needed
 returns-clause-needed g c =
     needed c.args.fleet.now (c.in_ok-session.session, tt) (c.read_job.new.consumer, tt) c.in_ok-session.ensures.none _ _ (Ok c.in_ok-verdict.verdict) c.in_ok-verdict.ensures.answered
+
+pub returns-in_err-verdict-clause-long : goal.returns-in_err-verdict-clause-long
+returns-in_err-verdict-clause-long g c =
+    let same = err_from_is_err_and c.from_residual-in_err-verdict.result c.from_residual-in_err-verdict.ensures.1 in
+    rw (same.1, same.2) (λ turns. c.in_err-verdict.ensures.long (ap Err (same_error c.in_err-verdict.field-0.0 Turns _ _ refl refl turns)))

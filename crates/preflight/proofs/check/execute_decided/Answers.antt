@@ -7,7 +7,7 @@ use Rattle.pcl_items.specs.Modes.{mode_of}
 use Rattle.pcl_items.specs.Reading.{left}
 use Rattle.preflight.specs.Carriers.Lockstep.{AreIn, machines_of}
 use Rattle.preflight.specs.Standing.{is_open}
-use Rattle.preflight.proofs.Answered.{all_admit_next, bytes_fail, bytes_whole, came_closed, comes_on, ends, further, further_by_text, item_takes, not_further, nothing_read, same_mode, text_through, through_open, wants_more}
+use Rattle.preflight.proofs.Answered.{all_admit_next, bytes_fail, bytes_whole, came_closed, comes_on, ends, further, further_by_text, item_takes, not_further, nothing_read, same_mode, stands_behind, text_through, through_open, wants_more}
 use Rattle.preflight.proofs.Standings.{closed_on, failed_by, open_by, open_is}
 use Rattle.preflight.proofs.check.execute_decided.Goals as goal
 
@@ -129,13 +129,13 @@ loop-is_open-preserved g c =
     let went = c.if-not-step_other.false in
     record {
       tells = sym went ∙ step.open;
-      untold = λ is. so_far.untold c.loop-is_open-test.true;
+      untold = λ is. step.untold went ∙ so_far.untold c.loop-is_open-test.true;
       further = further _ _ _ _ _ _ item next on;
       came = comes_on _ _ _ _ _ _ _ _ _ c.one_reading.ensures c.watched_runs_are_alike.ensures _ _ _ _ _ item next behind on.ended (λ closed. absurd (both (sym step.open ∙ went) closed)) step.came;
     }
 
-pub returns-then-not-step_other-clause-came : goal.returns-then-not-step_other-clause-came
-returns-then-not-step_other-clause-came g c =
+pub loop-is_open-preserved-then-not-step_other : goal.loop-is_open-preserved-then-not-step_other
+loop-is_open-preserved-then-not-step_other g c =
     let so_far = c.loop-is_open.invariant in
     let through = through_open _ _ _ _ _ _ _ _ (sym so_far.tells ∙ c.loop-is_open-test.true) so_far.came in
     let here = c.in_default-next_pair.ensures.none ∙ (c.in_default-next_control.ensures.none ∙ c.in_default.ensures.none) in
@@ -145,28 +145,71 @@ returns-then-not-step_other-clause-came g c =
     let next = c.next_other.follows.holds-at-none in
     let item = c.in-Ok-Item.is ∙ ap Ok c.in-Ok-Item.field-0-is in
     let step = c.step_other.ensures in
-    came_closed _ _ _ _ _ _ _ _ (sym step.open ∙ c.if-not-step_other.true)
-    (comes_on _ _ _ _ _ _ _ _ _ c.one_reading.ensures c.watched_runs_are_alike.ensures _ _ _ _ _ item next behind on.ended (λ closed. c.tell.ensures) step.came)
+    let closed = c.if-not-step_other.true in
+    record {
+      tells = sym closed ∙ step.open;
+      untold = λ is. absurd cc;
+      further = further _ _ _ _ _ _ item next on;
+      came = comes_on _ _ _ _ _ _ _ _ _ c.one_reading.ensures c.watched_runs_are_alike.ensures _ _ _ _ _ item next behind on.ended (λ _. step.told closed) step.came;
+    }
 
-pub returns-then-not-step_other-clause-goes_on : goal.returns-then-not-step_other-clause-goes_on
-returns-then-not-step_other-clause-goes_on g c =
-    closed_on _ _ _ (sym c.step_other.ensures.open ∙ c.if-not-step_other.true) (λ failure h. tt) c.step_other.ensures.came
+-- ---- rows behind a row
 
-pub returns-then-not-step_other-clause-ended : goal.returns-then-not-step_other-clause-ended
-returns-then-not-step_other-clause-ended g c =
+pub execute_rows-requires-clause-running : goal.execute_rows-requires-clause-running
+execute_rows-requires-clause-running g c =
     let so_far = c.loop-is_open.invariant in
+    let through = through_open _ _ _ _ _ _ _ _ (sym so_far.tells ∙ c.loop-is_open-test.true) so_far.came in
     let here = c.in_default-next_pair.ensures.none ∙ (c.in_default-next_control.ensures.none ∙ c.in_default.ensures.none) in
     let text = c.execute_text.ensures in
+    let behind = text_through _ _ _ _ _ _ _ _ _ _ here through record { running = text.running; modes = text.modes; executed = text.executed } in
     let on = further_by_text _ _ _ c.execute_text.new.lexer here so_far.further record { ended = text.ended; place = text.place; no_more = text.no_more } in
-    c.next_other.follows.holds-at-none.ended ∙ on.ended
+    let item = c.in-Ok-Item.is ∙ ap Ok c.in-Ok-Item.field-0-is in
+    let step = c.step_other.ensures in
+    let went = sym step.open ∙ c.if-not-step_other.false in
+    (through_open _ _ _ _ _ _ _ _ went (comes_on _ _ _ _ _ _ _ _ _ c.one_reading.ensures c.watched_runs_are_alike.ensures _ c.step_other.new.culprit _ _ _ item c.next_other.follows.holds-at-none behind on.ended (λ closed. absurd (both went closed)) step.came)).running
 
-pub returns-then-not-step_other-clause-place : goal.returns-then-not-step_other-clause-place
-returns-then-not-step_other-clause-place g c =
+pub execute_rows-requires-clause-modes : goal.execute_rows-requires-clause-modes
+execute_rows-requires-clause-modes g c =
     let so_far = c.loop-is_open.invariant in
+    let through = through_open _ _ _ _ _ _ _ _ (sym so_far.tells ∙ c.loop-is_open-test.true) so_far.came in
     let here = c.in_default-next_pair.ensures.none ∙ (c.in_default-next_control.ensures.none ∙ c.in_default.ensures.none) in
     let text = c.execute_text.ensures in
+    let behind = text_through _ _ _ _ _ _ _ _ _ _ here through record { running = text.running; modes = text.modes; executed = text.executed } in
     let on = further_by_text _ _ _ c.execute_text.new.lexer here so_far.further record { ended = text.ended; place = text.place; no_more = text.no_more } in
-    c.next_other.follows.holds-at-none.total ∙ on.place
+    let item = c.in-Ok-Item.is ∙ ap Ok c.in-Ok-Item.field-0-is in
+    let step = c.step_other.ensures in
+    let went = sym step.open ∙ c.if-not-step_other.false in
+    (through_open _ _ _ _ _ _ _ _ went (comes_on _ _ _ _ _ _ _ _ _ c.one_reading.ensures c.watched_runs_are_alike.ensures _ c.step_other.new.culprit _ _ _ item c.next_other.follows.holds-at-none behind on.ended (λ closed. absurd (both went closed)) step.came)).modes
+
+pub execute_rows-requires-clause-open : goal.execute_rows-requires-clause-open
+execute_rows-requires-clause-open g c = open_is _ (sym c.step_other.ensures.open ∙ c.if-not-step_other.false)
+
+pub loop-is_open-preserved-then-is_row : goal.loop-is_open-preserved-then-is_row
+loop-is_open-preserved-then-is_row g c =
+    let so_far = c.loop-is_open.invariant in
+    let through = through_open _ _ _ _ _ _ _ _ (sym so_far.tells ∙ c.loop-is_open-test.true) so_far.came in
+    let here = c.in_default-next_pair.ensures.none ∙ (c.in_default-next_control.ensures.none ∙ c.in_default.ensures.none) in
+    let text = c.execute_text.ensures in
+    let behind = text_through _ _ _ _ _ _ _ _ _ _ here through record { running = text.running; modes = text.modes; executed = text.executed } in
+    let on = further_by_text _ _ _ c.execute_text.new.lexer here so_far.further record { ended = text.ended; place = text.place; no_more = text.no_more } in
+    let item = c.in-Ok-Item.is ∙ ap Ok c.in-Ok-Item.field-0-is in
+    let step = c.step_other.ensures in
+    let went = sym step.open ∙ c.if-not-step_other.false in
+    let came = comes_on _ _ _ _ _ _ _ _ _ c.one_reading.ensures c.watched_runs_are_alike.ensures _ c.step_other.new.culprit _ _ _ item c.next_other.follows.holds-at-none behind on.ended (λ closed. absurd (both went closed)) step.came in
+    let there = further _ _ _ _ _ _ item c.next_other.follows.holds-at-none on in
+    let rows = c.execute_rows.ensures in
+    record {
+      tells = rows.open;
+      untold = λ is. rows.untold is ∙ step.untold c.if-not-step_other.false ∙ so_far.untold c.loop-is_open-test.true;
+      further = further_by_text _ _ _ _ refl there record { ended = rows.ended; place = rows.place; no_more = rows.no_more };
+      came = stands_behind _ _ _ _ _ _ _ _ _ c.execute_rows.new.standing c.execute_rows.new.culprit (through_open _ _ _ _ _ _ _ _ went came) there.ended rows.came;
+    }
+
+pub loop-is_open-smaller-then-is_row : goal.loop-is_open-smaller-then-is_row
+loop-is_open-smaller-then-is_row g c =
+    let here = c.in_default-next_pair.ensures.none ∙ (c.in_default-next_control.ensures.none ∙ c.in_default.ensures.none) in
+    let item = c.in-Ok-Item.is ∙ ap Ok c.in-Ok-Item.field-0-is in
+    omega (arith, item_takes _ _ _ c.next_other.follows.holds-at-none _ _ item, c.execute_text.ensures.no_more, c.execute_rows.ensures.no_more, ap (λ lexer. left lexer.context lexer.rest) here)
 
 pub loop-is_open-smaller : goal.loop-is_open-smaller
 loop-is_open-smaller g c =

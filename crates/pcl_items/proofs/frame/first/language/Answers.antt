@@ -1,16 +1,12 @@
-use Rattle.std.proofs.Common.{◌∙◌}
-use Rattle.pcl_items.specs.Escapes.FieldEnd.{Open, BadNumber, Ended}
-use Rattle.pcl_items.specs.Items.{amount}
-use Rattle.pcl_items.proofs.Escapes.FieldEnds.{language_by}
+use Rattle.std.proofs.Common.{sym, ◌∙◌}
+use Rattle.pcl_items.specs.Lexing.FirstView.{first_view}
+use Rattle.pcl_items.proofs.Frames.Languages.{entered, stays}
 use Rattle.pcl_items.proofs.frame.first.language.Goals as goal
 
-pub returns-in-Open-clause-first : goal.returns-in-Open-clause-first
-returns-in-Open-clause-first c = λ all. language_by c.args.bytes.now Open c.in-Open.ensures.end
+pub returns-then-enters_frame-clause-first : goal.returns-then-enters_frame-clause-first
+returns-then-enters_frame-clause-first c = λ all.
+    entered c.args.bytes.now (first_view all c.ungrouped-first.result) (c.ungrouped-first.ensures.first all) (sym (c.enters_frame.ensures all) ∙ c.if-enters_frame.true)
 
-pub returns-in-BadNumber-clause-first : goal.returns-in-BadNumber-clause-first
-returns-in-BadNumber-clause-first c = λ all. language_by c.args.bytes.now BadNumber c.in-BadNumber.ensures.end
-
-pub returns-in-Ended-clause-first : goal.returns-in-Ended-clause-first
-returns-in-Ended-clause-first c = λ all.
-    let field = c.in-Ended.field in
-    c.ended_language.ensures.first all ∙ language_by c.args.bytes.now (Ended (amount field.number) field.len field.last) c.in-Ended.ensures.end
+pub returns-else-enters_frame-clause-first : goal.returns-else-enters_frame-clause-first
+returns-else-enters_frame-clause-first c = λ all.
+    stays c.args.bytes.now (first_view all c.ungrouped-first.result) (c.ungrouped-first.ensures.first all) (sym (c.enters_frame.ensures all) ∙ c.if-enters_frame.false)

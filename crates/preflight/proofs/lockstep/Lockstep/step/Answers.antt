@@ -1,22 +1,63 @@
-use Rattle.pcl_items.specs.Items.{simple_view}
-use Rattle.preflight.specs.Carriers.Lockstep.{Execute}
+use Rattle.std.proofs.Common.{◌∷◌, sym, subst}
+use Rattle.pcl_items.specs.Items.{view}
+use Rattle.preflight.specs.Carriers.Formation.{GoesAsOne, others_in}
+use Rattle.preflight.specs.Carriers.Lockstep.{Execute, Fleet, AreRunning, AllAdmit, GoesInStep}
+use Rattle.preflight.specs.Standing.{StandsBy}
 use Rattle.preflight.proofs.Counting.{counter_takes, counter_refuses}
-use Rattle.preflight.proofs.Executing.{alone_in_step, was_running}
-use Rattle.preflight.proofs.lockstep.Lockstep.step.Goals.{in-One, in-Several}
+use Rattle.preflight.proofs.Executing.{as_one_formed, as_one_in_step, was_running}
+use Rattle.preflight.proofs.lockstep.Lockstep.step.Goals.{then-goes_as_one, else-goes_as_one}
 use Rattle.preflight.proofs.lockstep.Lockstep.step.Goals as goal
+
+pub step-answer-requires : goal.step-answer-requires
+step-answer-requires g c = λ _.
+    (subst (λ (f : Fleet). AllAdmit (Execute (view c.args.item.now)) f.machines) (sym c.self.view_is) c.requires.admitted).0
 
 pub judge-is_open-requires-clause-running : goal.judge-is_open-requires-clause-running
 judge-is_open-requires-clause-running g c =
-    was_running counter_takes counter_refuses (Execute (simple_view c.args.read.item)) _ _ c.in-One.alone.machine c.step-answer.new.self c.step-answer.result (rw c.in-One.is at c.requires.running).0 c.step-answer.ensures
+    was_running counter_takes counter_refuses (Execute (view c.args.item.now)) _ _ c.self.inside.first c.step-answer.new.self c.step-answer.result
+    (subst (λ (f : Fleet). AreRunning f.machines) (sym c.self.view_is) c.requires.running).0 c.step-answer.ensures
+
+pub invariant_of-self : goal.invariant_of-self
+invariant_of-self g c = λ runs.
+    let before = c.self.inside in
+    let item = view c.args.item.now in
+    let running = (subst (λ (f : Fleet). AreRunning f.machines) (sym c.self.view_is) c.requires.running).0 in
+    let goes = subst (λ ms. GoesAsOne before.formation before.first ms item) c.deref.ensures.value (c.goes_as_one.ensures c.if-goes_as_one.true) in
+    as_one_formed c.items_run_on_like_printers.ensures item c.args.place before.formation before.counts c.step-answer.new.sink before.first c.step-answer.new.self before.others.items (c.self.invariant running) goes
+    c.step-answer.result running runs c.step-answer.ensures
 
 pub returns-then-not-is_open-clause-came : goal.returns-then-not-is_open-clause-came
-returns-then-not-is_open-clause-came g c = elim c.match-self.branch [
-  | in-One w ↦ rw (w.in-One.is, w.self-is, w.standing-is) (alone_in_step (Execute (simple_view c.args.read.item)) c.args.read.place w.in-One.alone.counts w.step-answer.new.sink w.in-One.alone.machine w.step-answer.new.self w.step-answer.result w.judge-is_open.new.self w.judge-is_open.ensures.standing w.step-answer.ensures)
-  | in-Several w ↦ rw (w.in-Several.is, w.self-is, w.standing-is) w.execute-is_open.ensures.came
+returns-then-not-is_open-clause-came g c = elim c.if-goes_as_one.branch [
+  | then-goes_as_one w ↦
+      let before = c.self.inside in
+      let item = view c.args.item.now in
+      let first = w.step-answer.new.self in
+      let running = (subst (λ (f : Fleet). AreRunning f.machines) (sym c.self.view_is) c.requires.running).0 in
+      let goes = subst (λ ms. GoesAsOne before.formation before.first ms item) c.deref.ensures.value (c.goes_as_one.ensures w.if-goes_as_one.true) in
+      rw (w.self-is, w.standing-is)
+      (subst (λ (f : Fleet). StandsBy w.judge-is_open.new.self (λ failed. GoesInStep (Execute item) c.args.place f.machines (first ∷ others_in before.formation first before.others.items) f.counts w.step-answer.new.sink failed)) c.self.view_is
+      (as_one_in_step c.items_run_on_like_printers.ensures item c.args.place before.formation before.counts w.step-answer.new.sink before.first first before.others.items (c.self.invariant running) goes
+      w.step-answer.result w.judge-is_open.new.self w.judge-is_open.ensures.standing w.step-answer.ensures))
+  | else-goes_as_one w ↦ rw (w.self-is, w.standing-is) w.step_apart-is_open.ensures.came
 ]
 
 pub returns-else-not-is_open-clause-came : goal.returns-else-not-is_open-clause-came
-returns-else-not-is_open-clause-came g c = elim c.match-self.branch [
-  | in-One w ↦ rw (w.in-One.is, w.self-is, w.standing-is) (alone_in_step (Execute (simple_view c.args.read.item)) c.args.read.place w.in-One.alone.counts w.step-answer.new.sink w.in-One.alone.machine w.step-answer.new.self w.step-answer.result w.judge-is_open.new.self w.judge-is_open.ensures.standing w.step-answer.ensures)
-  | in-Several w ↦ rw (w.in-Several.is, w.self-is, w.standing-is) w.execute-is_open.ensures.came
+returns-else-not-is_open-clause-came g c = elim c.if-goes_as_one.branch [
+  | then-goes_as_one w ↦
+      let before = c.self.inside in
+      let item = view c.args.item.now in
+      let first = w.step-answer.new.self in
+      let running = (subst (λ (f : Fleet). AreRunning f.machines) (sym c.self.view_is) c.requires.running).0 in
+      let goes = subst (λ ms. GoesAsOne before.formation before.first ms item) c.deref.ensures.value (c.goes_as_one.ensures w.if-goes_as_one.true) in
+      rw (w.self-is, w.standing-is)
+      (subst (λ (f : Fleet). StandsBy w.judge-is_open.new.self (λ failed. GoesInStep (Execute item) c.args.place f.machines (first ∷ others_in before.formation first before.others.items) f.counts w.step-answer.new.sink failed)) c.self.view_is
+      (as_one_in_step c.items_run_on_like_printers.ensures item c.args.place before.formation before.counts w.step-answer.new.sink before.first first before.others.items (c.self.invariant running) goes
+      w.step-answer.result w.judge-is_open.new.self w.judge-is_open.ensures.standing w.step-answer.ensures))
+  | else-goes_as_one w ↦ rw (w.self-is, w.standing-is) w.step_apart-is_open.ensures.came
+]
+
+pub returns-else-not-is_open-clause-open : goal.returns-else-not-is_open-clause-open
+returns-else-not-is_open-clause-open g c = elim c.if-goes_as_one.branch [
+  | then-goes_as_one w ↦ rw (w.is_open-is, w.standing-is) w.judge-is_open.ensures.open
+  | else-goes_as_one w ↦ rw (w.is_open-is, w.standing-is) w.step_apart-is_open.ensures.open
 ]

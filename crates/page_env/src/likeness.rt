@@ -1,0 +1,54 @@
+//! Items on printers that are alike but for the device.
+
+ghost use Rattle.std.specs.Prelude.{◌≡◌, IsFalse, true};
+ghost use Rattle.device_profile.specs.Printer.{Printer};
+ghost use Rattle.pcl_items.specs.Items.{amount, view};
+ghost use Rattle.page_env.specs.Likeness.{asks_alike, command_asks_alike};
+
+use crate::number::whole_of;
+use device_profile::Profile;
+use pcl_items::{Command, Item, Number, SimpleItem};
+use std::alloc::Allocator;
+
+/// Whether an item asks what printers may differ in that are alike but for the device.
+#[inline(always)]
+pub fn asks_device(item: &Item<'_>) -> bool
+    ensures { IsFalse result → (p q : Printer) → asks_alike p q (view item.now) ≡ true }
+{
+    match item {
+        Item::Simple(SimpleItem::Parameterized(command, _)) => matches!(
+            command,
+            Command::Sides | Command::Source | Command::MacroControl
+        ),
+        _ => false,
+    }
+}
+
+/// Whether an item that asks the device of two printers has the same answer.
+pub fn asks_alike<A: Allocator>(a: &Profile<A>, b: &Profile<A>, item: &Item<'_>) -> bool
+    ensures { result ≡ asks_alike a.now b.now (view item.now) }
+{
+    match item {
+        Item::Simple(SimpleItem::Parameterized(command, n)) => {
+            command_asks_alike(a, b, *command, *n)
+        }
+        _ => true,
+    }
+}
+
+/// Whether a command that asks the device of two printers has the same answer.
+fn command_asks_alike<A: Allocator>(
+    a: &Profile<A>,
+    b: &Profile<A>,
+    command: Command,
+    n: Number,
+) -> bool
+    ensures { result ≡ command_asks_alike a.now b.now command (amount n) }
+{
+    match command {
+        Command::Sides => a.has_duplex() == b.has_duplex(),
+        Command::Source => a.has_tray(whole_of(n)) == b.has_tray(whole_of(n)),
+        Command::MacroControl => false,
+        _ => true,
+    }
+}
