@@ -74,6 +74,7 @@ fn refusal<W: Outlet>(outlet: &W) -> Error
 }
 
 /// Carries out an item, and draws what it marks. A finding ends the job.
+#[inline(always)]
 pub(crate) fn step_on<W: Outlet, A: Allocator, P: Allocator, B: Allocator + Copy>(
     machine: &mut Machine<'_, P, B>,
     sheet: &Sheet,

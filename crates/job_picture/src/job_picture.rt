@@ -143,6 +143,7 @@ impl<P: Allocator, B: Allocator + Copy> Renderer for JobPicture<'_, '_, P, B> {
     ghost is_in = { λ picture mode. (picture.machine.stopped ≡ false)
         × (picture.machine.mode ≡ mode) };
 
+    #[inline(always)]
     fn item<W: Outlet, A: Allocator>(
         &mut self,
         outlet: &mut W,

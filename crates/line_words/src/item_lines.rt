@@ -13,6 +13,7 @@ use verdict::Reason;
 
 /// Appends the line of an item. `spelling` is room for its spelling, so that none is asked for at
 /// each item.
+#[inline(always)]
 pub fn push_item<A: Allocator, B: Allocator>(
     text: &mut Vec<u8, A>,
     spelling: &mut Vec<u8, B>,

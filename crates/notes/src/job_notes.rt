@@ -86,6 +86,7 @@ impl<N: NoteText, P: Allocator, B: Allocator + Copy> Renderer for Notes<'_, N, P
 
     ghost is_in = { λ notes mode. (notes.machine.stopped ≡ false) × (notes.machine.mode ≡ mode) };
 
+    #[inline(always)]
     fn item<W: Outlet, A: Allocator>(
         &mut self,
         _outlet: &mut W,

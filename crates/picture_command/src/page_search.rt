@@ -35,6 +35,7 @@ pub(crate) struct Names<'n, B: Allocator> {
 /// Carries out an item, and counts its marks and pages. A finding ends the job.
 ///
 /// An error is `Memory`.
+#[inline(always)]
 fn step_on<P: Allocator, B: Allocator + Copy>(
     machine: &mut Machine<'_, P, B>,
     counts: &mut Counts,
@@ -239,6 +240,7 @@ impl<B: Allocator + Copy> Renderer for PageSearch<'_, '_, B> {
     ghost is_in = { λ search mode. (search.machine.stopped ≡ false)
         × (search.machine.mode ≡ mode) };
 
+    #[inline(always)]
     fn item<W: Outlet, A: Allocator>(
         &mut self,
         _outlet: &mut W,

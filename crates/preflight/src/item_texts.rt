@@ -36,6 +36,7 @@ impl<T: ItemText> Renderer for ItemByItem<T> {
 
     ghost is_in = { λ _ _. Unit {0} };
 
+    #[inline(always)]
     fn item<W: Outlet, A: Allocator>(
         &mut self,
         outlet: &mut W,

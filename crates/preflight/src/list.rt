@@ -32,6 +32,7 @@ impl<B: Allocator> Renderer for Listing<B> {
 
     ghost is_in = { λ _ _. Unit {0} };
 
+    #[inline(always)]
     fn item<W: Outlet, A: Allocator>(
         &mut self,
         outlet: &mut W,

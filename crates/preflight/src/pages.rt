@@ -100,6 +100,7 @@ impl<P: Allocator, B: Allocator + Copy> Renderer for Pages<'_, P, B> {
 
     ghost is_in = { λ pages mode. (pages.machine.stopped ≡ false) × (pages.machine.mode ≡ mode) };
 
+    #[inline(always)]
     fn item<W: Outlet, A: Allocator>(
         &mut self,
         outlet: &mut W,

@@ -230,6 +230,7 @@ impl Renderer for Pinning {
 
     ghost is_in = { λ _ _. Unit {0} };
 
+    #[inline(always)]
     fn item<W: Outlet, A: Allocator>(
         &mut self,
         outlet: &mut W,

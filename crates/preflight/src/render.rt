@@ -82,6 +82,28 @@ pub trait Renderer {
         ≡ (rendering renderer).at_fault [] place cause };
 }
 
+/// Renders an item of any kind.
+// A call of its own, which has all kinds of items.
+#[inline(never)]
+fn render_other<R: Renderer, W: Outlet, A: Allocator>(
+    renderer: &mut R,
+    outlet: &mut W,
+    kept: &mut Vec<u8, A>,
+    place: Place,
+    item: &Item<'_>,
+) -> Result<Option<Outcome>, Error>
+    requires working { IsFalse (W.state outlet.old).failed }
+    requires admitted { MayCome R.is_in renderer.old (view item.now) }
+    ensures rendered { RendersItem (R.rendering renderer.old) (R.rendering renderer.new)
+        (at place (view item.now))
+        (W.state outlet.old) (W.state outlet.new) kept.old.items kept.new.items result }
+    ensures mode { StaysIn R.is_in renderer.old renderer.new (view item.now) result }
+    ensures status { (W.state outlet.new).failed ≡ is_err_of_write result }
+    ensures err { IfErr result IsErrorOfRendering }
+{
+    renderer.item(outlet, kept, place, item)
+}
+
 /// Renders the items that the bytes fed so far decide, `total` in number. None: they decide no
 /// more.
 fn render_items<R: Renderer, W: Outlet, A: Allocator>(
@@ -107,9 +129,17 @@ fn render_items<R: Renderer, W: Outlet, A: Allocator>(
     ensures err { IfErr result IsErrorOfRendering }
 {
     loop {
+        // Most items are commands, and what renders one knows that it is.
+        if let Some(read) = lexer.next_command() {
+            let rendered = renderer.item(outlet, kept, read.place, &Item::Simple(read.item))?;
+            match rendered {
+                None => continue,
+                Some(outcome) => return Ok(Some(outcome)),
+            }
+        }
         match lexer.next() {
             Ok(Lexed::Item(place, item)) => {
-                let rendered = renderer.item(outlet, kept, place, &item)?;
+                let rendered = render_other(renderer, outlet, kept, place, &item)?;
                 match rendered {
                     None => {}
                     Some(outcome) => return Ok(Some(outcome)),

@@ -6,8 +6,8 @@ use Rattle.streams.specs.Outlet.{OutletState}
 use Rattle.preflight.specs.Carriers.Rendering.{HasRendered}
 use Rattle.preflight.proofs.render.render_items.Given as goal
 
-abbrev pub invariant-loop-place : goal.invariant-loop-place
-invariant-loop-place g l = record {
+abbrev pub invariant-loop-read : goal.invariant-loop-read
+invariant-loop-read g l = record {
   working : IsFalse (g.W.Outlet.state l.outlet).failed;
   ended : l.lexer.ended ≡ l.initial.lexer.ended;
   place : l.lexer.place + length l.lexer.rest ≡ l.initial.lexer.place + length l.initial.lexer.rest;
@@ -17,5 +17,5 @@ invariant-loop-place g l = record {
       HasRendered first start bytes l.lexer (g.R.Renderer.rendering l.renderer) (g.W.Outlet.state l.outlet) l.kept.items;
 }
 
-abbrev pub decreases-loop-place : goal.decreases-loop-place
-decreases-loop-place g l = left l.lexer.context l.lexer.rest
+abbrev pub decreases-loop-read : goal.decreases-loop-read
+decreases-loop-read g l = left l.lexer.context l.lexer.rest
