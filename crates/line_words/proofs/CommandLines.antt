@@ -1,10 +1,11 @@
 -- The line of a command in the list: of its spelling only the escape character shows nothing.
 use Rattle.std.proofs.Common.{◌≡◌, ◌+◌, ◌<◌, ◌≤◌, ◌/◌, ◌%◌, ◌^◌, ℕ, List, [], ◌∷◌, ◌++◌, refl, ap, sym, ◌∙◌, arith, append_assoc, not, ◌&&◌, ◌==◌, Result, Ok, Err, OnOk}
-use Rattle.std.specs.Prelude.{decimal, nat_le}
+use Rattle.std.specs.Prelude.{decimal, length, nat_le}
 use Rattle.std.specs.List.{flat_map}
 use Rattle.std.proofs.lemmas.Bool.{cond-true, cond_both, and_from, le-leb, ne_eqb}
 use Rattle.std.proofs.lemmas.Fmt.{decimal_by_steps}
 use Rattle.std.proofs.lemmas.Grind.{flat_map-append}
+use Rattle.std.proofs.lemmas.List.{append-nil}
 use Rattle.pcl_items.specs.declared.pcl.command.Command.{Command}
 use Rattle.pcl_items.specs.declared.pcl.command.Command.TheVariants.{LeftMargin}
 use Rattle.pcl_items.specs.declared.pcl.command.Group.{Group}
@@ -16,6 +17,7 @@ use Rattle.pcl_items.specs.Escapes.Commands.{introducer_of, character_of, group_
 use Rattle.pcl_items.specs.Items.{Parameterized, at}
 use Rattle.pcl_items.specs.Escapes.Value.{Amount, most}
 use Rattle.pcl_items.specs.Escapes.ValueField.{sign_text}
+use Rattle.pcl_items.proofs.Escapes.WholeNumbers.{no_decimals}
 use Rattle.line_words.specs.Figures.{escaped_byte}
 use Rattle.line_words.specs.ItemLines.{item_line}
 
@@ -114,3 +116,29 @@ pub line_is_pushed : {E : Type 0} (place : ℕ) (command : Command) (a : Amount)
     → OnOk result (new ≡ old ++ item_line (at place (Parameterized command a)))
 line_is_pushed place command a old new (Ok u) h pushed = pushed ∙ ap (λ (l : List ℕ). old ++ l) (sym (command_line place command a h))
 line_is_pushed place command a old new (Err e) h pushed = tt
+
+pub sign_is_short : (sign : Sign) → length (sign_text sign) ≤ 1
+sign_is_short Absent = omega arith
+sign_is_short Plus = omega arith
+sign_is_short Minus = omega arith
+
+-- a whole number has no decimals
+whole_amount : (a : Amount) → a.ten_thousandths % 10000 ≡ 0 → amount_text a ≡ sign_text a.sign ++ decimal (a.ten_thousandths / 10000)
+whole_amount a whole =
+    let w = decimal (a.ten_thousandths / 10000) in
+    ap (λ (l : List ℕ). sign_text a.sign ++ (w ++ l)) (no_decimals a.ten_thousandths whole) ∙ ap (λ (l : List ℕ). sign_text a.sign ++ l) (append-nil w)
+
+-- the line of a command whose number is whole
+pub whole_line_is_pushed : {E : Type 0} (place : ℕ) (command : Command) (a : Amount) (old new line : List ℕ) (result : Result Unit E) → a.ten_thousandths ≤ most → a.ten_thousandths % 10000 ≡ 0 →
+    line ≡ decimal place ++ (32 ∷ 92 ∷ 120 ∷ 49 ∷ 98 ∷ introducer_of (group_of command) ∷ character_of (group_of command) ∷ (sign_text a.sign ++ (decimal (a.ten_thousandths / 10000) ++ letter_of command ∷ 10 ∷ [])))
+    → OnOk result (new ≡ old ++ line)
+    → OnOk result (new ≡ old ++ item_line (at place (Parameterized command a)))
+whole_line_is_pushed place command a old new line (Ok u) h whole is pushed =
+    let end = letter_of command ∷ 10 ∷ [] in
+    let number : sign_text a.sign ++ (decimal (a.ten_thousandths / 10000) ++ end) ≡ amount_text a ++ end =
+    sym (append_assoc (sign_text a.sign) (decimal (a.ten_thousandths / 10000)) end) ∙ ap (λ (l : List ℕ). l ++ end) (sym (whole_amount a whole)) in
+    let line_is = is
+    ∙ ap (λ (l : List ℕ). decimal place ++ (32 ∷ 92 ∷ 120 ∷ 49 ∷ 98 ∷ introducer_of (group_of command) ∷ character_of (group_of command) ∷ l)) number
+    ∙ sym (command_line place command a h) in
+    pushed ∙ ap (λ (l : List ℕ). old ++ l) line_is
+whole_line_is_pushed place command a old new line (Err e) h whole is pushed = tt

@@ -1,13 +1,16 @@
 //! The lines of items and of faults.
-ghost use Rattle.std.specs.Prelude.{◌≡◌, ◌++◌, ◌∷◌, [], OnOk, decimal};
+ghost use Rattle.std.specs.Prelude.{◌≡◌, ◌≤◌, ◌<◌, ◌+◌, ◌%◌, ◌++◌, ◌∷◌, [], OnOk, decimal, drop, length};
 ghost use Rattle.pcl_items.specs.Escapes.Commands.{introducer_of, character_of};
+ghost use Rattle.pcl_items.specs.Escapes.ValueField.{sign_text};
 ghost use Rattle.pcl_items.specs.Items.{Entry, amount, at, view};
 ghost use Rattle.line_words.specs.ItemLines.{item_line, fault_line};
 
 use crate::figures::{push_escaped, push_number};
 use crate::words::push_reason;
 use itoa::write_digits;
-use pcl_items::{Command, Group, Item, LexFault, Number, Place, SimpleItem, spell, spell_amount};
+use pcl_items::{
+    Command, Group, Item, LexFault, Number, Place, Sign, SimpleItem, spell, spell_amount,
+};
 use std::alloc::{AllocError, Allocator};
 use verdict::Reason;
 
@@ -46,9 +49,66 @@ fn push_command<A: Allocator>(
     ensures { OnOk result (text.new.items ≡
         text.old.items ++ item_line (at place (Entry.Parameterized command (amount number)))) }
 {
+    if number.ten_thousandths % 10_000 == 0 {
+        return push_whole_command(text, place, command, number);
+    }
     push_front(text, place, command.group())?;
     spell_amount(number, text)?;
     text.extend_from_slice(&[command.letter(), b'\n'])
+}
+
+/// Appends the line of a command whose number is whole, as most are.
+fn push_whole_command<A: Allocator>(
+    text: &mut Vec<u8, A>,
+    place: Place,
+    command: Command,
+    number: Number,
+) -> Result<(), AllocError>
+    requires { number.ten_thousandths % 10000 ≡ 0 }
+    ensures { OnOk result (text.new.items ≡
+        text.old.items ++ item_line (at place (Entry.Parameterized command (amount number)))) }
+{
+    // In one piece, from its end to its front: a place has up to 20 digits, a number up to 5.
+    let mut line = [0; 40];
+    line[38] = command.letter();
+    line[39] = b'\n';
+    let start = write_digits(u64::from(number.ten_thousandths / 10_000), &mut line, 38);
+    let start = write_sign(number.sign, &mut line, start);
+    let group = command.group();
+    let (first, second) = (group.introducer(), group.character());
+    let front = [b' ', b'\\', b'x', b'1', b'b', first, second];
+    let start = write_before(&front, &mut line, start);
+    let start = write_digits(place, &mut line, start);
+    text.extend_from_slice(&line[start..])
+}
+
+/// Writes bytes that end where `end` is, and answers where they begin.
+#[inline(always)]
+fn write_before(bytes: &[u8], line: &mut [u8], end: usize) -> usize
+    requires { (length bytes.now ≤ end) × (end ≤ length line.old) }
+    ensures start { result + length bytes.now ≡ end }
+    ensures written { drop result line.new ≡ bytes.now ++ drop end line.old }
+    ensures len { length line.new ≡ length line.old }
+{
+    let start = end - bytes.len();
+    line[start..end].copy_from_slice(bytes);
+    start
+}
+
+/// Writes a sign, where there is one, so that it ends where `end` is, and answers where it begins.
+fn write_sign(sign: Sign, line: &mut [u8], end: usize) -> usize
+    requires { (0 < end) × (end ≤ length line.old) }
+    ensures start { result + length (sign_text sign) ≡ end }
+    ensures written { drop result line.new ≡ sign_text sign ++ drop end line.old }
+    ensures len { length line.new ≡ length line.old }
+{
+    let byte = match sign {
+        Sign::Absent => return end,
+        Sign::Plus => b'+',
+        Sign::Minus => b'-',
+    };
+    line[end - 1] = byte;
+    end - 1
 }
 
 /// Appends a place, and behind a space what begins a command of a group: the escape character by
