@@ -94,17 +94,19 @@ fn each_request_is_refused_in_turn(rt: HostRuntime) -> Result<(), Fail> {
     Ok(())
 }
 
-/// A macro of text, which is not run.
-const DEFINITION: &[u8] = b"\x1bE\x1b&f0XA\x1b&p2XBC\x1b&f1X";
+/// A macro of text, which is not run, and a character. The end of the bytes closes the page, and its
+/// events are recorded.
+const DEFINITION: &[u8] = b"\x1bE\x1b&f0XA\x1b&p2XBC\x1b&f1X\x1bEA";
 
-/// The same macro, which is then executed, called, run as an overlay on three pages, and deleted.
+/// The same macro, which is then executed, called, run as an overlay on three pages, and deleted,
+/// and the same end.
 const DEFINITION_AND_RUNS: &[u8] = b"\x1bE\x1b&f0XA\x1b&p2XBC\x1b&f1X\
 \x1b&f2x3x9x4XA\x0c\x1b%0BSP1PD5,5\x1b%0A\x1b&f5x8x6X\x1bEA";
 
 #[test]
 fn macros_run_without_memory(rt: HostRuntime) -> Result<(), Fail> {
     let fleet = fleet_of(rt.alloc(), &[Printer::B])?;
-    let defined = requests_of(&rt, rt.alloc(), &fleet, DEFINITION, Pass(0, 0));
+    let defined = requests_of(&rt, rt.alloc(), &fleet, DEFINITION, Pass(1, 1));
     // Three characters each run, and two characters and two lines of the job.
     let run = requests_of(&rt, rt.alloc(), &fleet, DEFINITION_AND_RUNS, Pass(3, 13));
     assert_eq!(rt; run, defined);
