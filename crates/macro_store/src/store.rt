@@ -7,12 +7,14 @@ ghost use Rattle.indexmap.specs.IndexMap.{spare};
 ghost use Rattle.pcl_items.specs.Items.{view as entry_of};
 ghost use Rattle.pcl_items.specs.Spellings.Canon.{canon};
 ghost use Rattle.macro_store.specs.Layout.{moved_down, down, bodies_in, IsLaidOut};
+ghost use Rattle.macro_store.specs.Commands.{AreStored};
 ghost use Rattle.macro_store.specs.Store.{no_macros, body_of, stored_bytes, Admits, began, appended, committed, deleted, cleared};
 
 use crate::body::Body;
+use crate::commands::{StoredCommand, commands_from, forget_from, spell_behind};
 use crate::span::{Definition, Span, moved_down, part};
 use indexmap::IndexMap;
-use pcl_items::{Item, Mode, spell, spelled_len};
+use pcl_items::{Item, Mode, spelled_len};
 use std::alloc::{AllocError, Allocator, Global};
 use std::hash::{BuildHasherDefault, FoldHasher};
 use std::marker::Model;
@@ -44,9 +46,16 @@ fn move_down<A: Allocator + Copy>(spans: &mut Spans<A>, place: usize, by: usize)
     );
 }
 
-/// Takes a body out of the pool.
-fn take_out<A: Allocator + Copy>(pool: &mut Vec<u8, A>, spans: &mut Spans<A>, id: u16)
-    requires { IsLaidOut pool.old.items spans.old.entries None }
+/// Takes a body out of the pool, and with it the commands that do not lie before it.
+fn take_out<A: Allocator + Copy>(
+    pool: &mut Vec<u8, A>,
+    spans: &mut Spans<A>,
+    commands: &mut Vec<StoredCommand, A>,
+    id: u16,
+)
+    requires laid { IsLaidOut pool.old.items spans.old.entries None }
+    requires stored { AreStored pool.old.items commands.old.items }
+    ensures stored { AreStored pool.new.items commands.new.items }
     ensures laid { IsLaidOut pool.new.items spans.new.entries None }
     ensures bodies { bodies_in pool.new.items spans.new.entries ≡
         remove_entry (nat_eq id) (bodies_in pool.old.items spans.old.entries) }
@@ -57,6 +66,7 @@ fn take_out<A: Allocator + Copy>(pool: &mut Vec<u8, A>, spans: &mut Spans<A>, id
     if let Some(span) = spans.shift_remove(&id) {
         cut(pool, span);
         move_down(spans, span.end, span.end - span.start);
+        forget_from(commands, span.start);
     }
 }
 
@@ -77,12 +87,15 @@ pub struct MacroStore<A: Allocator + Copy = Global> {
     pool: Vec<u8, A>,
     spans: Spans<A>,
     definition: Option<Definition>,
+    /// Commands of the pool, in the order of their places, that are not read again.
+    commands: Vec<StoredCommand, A>,
 }
 
 impl<A: Allocator + Copy> Model for MacroStore<A> {
     ghost use Rattle.std.specs.Prelude.{◌<◌, ◌≤◌, IsSome, length};
     ghost use Rattle.indexmap.specs.IndexMap.{spare};
     ghost use Rattle.macro_store.specs.Store.{Store};
+    ghost use Rattle.macro_store.specs.Commands.{AreStored};
     ghost use Rattle.macro_store.specs.Layout.{bodies_in, definition_in, IsLaidOut};
 
     ghost Value = { Store };
@@ -94,7 +107,8 @@ impl<A: Allocator + Copy> Model for MacroStore<A> {
     } };
 
     ghost invariant = { λ s. IsLaidOut s.pool.items s.spans.entries s.definition ×
-        (length s.pool.items ≤ s.limit) × (IsSome s.definition → 0 < spare s.spans) };
+        (length s.pool.items ≤ s.limit) × (IsSome s.definition → 0 < spare s.spans) ×
+        AreStored s.pool.items s.commands.items };
 }
 
 impl<A: Allocator + Copy> MacroStore<A> {
@@ -108,6 +122,7 @@ impl<A: Allocator + Copy> MacroStore<A> {
             pool: Vec::new(alloc),
             spans: IndexMap::new(alloc),
             definition: None,
+            commands: Vec::new(alloc),
         }
     }
 
@@ -137,7 +152,7 @@ impl<A: Allocator + Copy> MacroStore<A> {
         ensures err { OnErr result (self.new ≡ self.old) }
     {
         self.spans.reserve(1)?;
-        take_out(&mut self.pool, &mut self.spans, id);
+        take_out(&mut self.pool, &mut self.spans, &mut self.commands, id);
         self.definition = Some(Definition {
             id,
             start: self.pool.len(),
@@ -174,7 +189,7 @@ impl<A: Allocator + Copy> MacroStore<A> {
         ensures ok { OnOk result (self.new ≡ appended (entry_of item.now) self.old) }
         ensures err { OnErr result (self.new ≡ self.old) }
     {
-        spell(item, &mut self.pool)
+        spell_behind(&mut self.pool, &mut self.commands, item)
     }
 
     /// Ends the open definition: it is the body of its macro.
@@ -200,7 +215,7 @@ impl<A: Allocator + Copy> MacroStore<A> {
         ensures deleted { self.new ≡ deleted id self.old }
         ensures gone { body_of self.new id ≡ None }
     {
-        take_out(&mut self.pool, &mut self.spans, id);
+        take_out(&mut self.pool, &mut self.spans, &mut self.commands, id);
     }
 
     /// Takes all macros out of the store.
@@ -210,6 +225,7 @@ impl<A: Allocator + Copy> MacroStore<A> {
     {
         self.pool.clear();
         self.spans.clear();
+        self.commands.clear();
     }
 
     /// The body of a macro, unless it has none.
@@ -221,6 +237,8 @@ impl<A: Allocator + Copy> MacroStore<A> {
             Some(span) => Some(Body {
                 rest: part(&self.pool, *span),
                 mode: Mode::Pcl,
+                at: span.start,
+                commands: commands_from(&self.commands, span.start),
             }),
         }
     }

@@ -41,15 +41,15 @@ pub const WRAPPED: &[u8] =
 /// Printers, a job, what is expected of its check, and how many requests for memory the check makes
 /// at least: for the lexer's window, with several printers for the machines of the others and,
 /// where these do not all stand together, for the record of events, and on each printer with a
-/// macro for its entry and its items.
+/// macro for its entry, its items and the commands among them.
 const ROWS: &[(&[Printer], &[u8], Expected, u64)] = &[
     (&[Printer::A], PAGE, Pass(1, 1), 1),
     (&[Printer::B, Printer::B], RECTANGLE, Pass(1, 1), 2),
     (&[Printer::B, Printer::B], TWO_PAGES, Pass(2, 2), 2),
     (&[Printer::B, Printer::Moved], RECTANGLE, Differs(23, 2), 3),
     (&[Printer::A, Printer::B], EACH_COMMAND, Pass(1, 1), 3),
-    (&[Printer::B], MACRO, Pass(1, 2), 3),
-    (&[Printer::B, Printer::B], MACRO, Pass(1, 2), 7),
+    (&[Printer::B], MACRO, Pass(1, 2), 4),
+    (&[Printer::B, Printer::B], MACRO, Pass(1, 2), 9),
     (&[Printer::B], FRAME, Pass(1, 3), 1),
     (&[Printer::B, Printer::B], FRAME, Pass(1, 3), 2),
     (&[Printer::B, Printer::B], MACRO_OF_FRAME, Pass(1, 2), 7),
@@ -58,7 +58,7 @@ const ROWS: &[(&[Printer], &[u8], Expected, u64)] = &[
     (&[Printer::B], FIVE_JOBS, Pass(5, 7), 3),
     (&[Printer::B; 17], RECTANGLE, Pass(1, 1), 2),
     // However many panel settings there are, the job is run once.
-    (&[Printer::Many], CALLED_SPACING, Pass(0, 0), 3),
+    (&[Printer::Many], CALLED_SPACING, Pass(0, 0), 4),
 ];
 
 /// How many requests for memory the check makes, each of which was refused in turn.
@@ -94,19 +94,17 @@ fn each_request_is_refused_in_turn(rt: HostRuntime) -> Result<(), Fail> {
     Ok(())
 }
 
-/// A macro of text, which is not run, and a character. The end of the bytes closes the page, and its
-/// events are recorded.
-const DEFINITION: &[u8] = b"\x1bE\x1b&f0XA\x1b&p2XBC\x1b&f1X\x1bEA";
+/// A macro of text, which is not run.
+const DEFINITION: &[u8] = b"\x1bE\x1b&f0XA\x1b&p2XBC\x1b&f1X";
 
-/// The same macro, which is then executed, called, run as an overlay on three pages, and deleted,
-/// and the same end.
+/// The same macro, which is then executed, called, run as an overlay on three pages, and deleted.
 const DEFINITION_AND_RUNS: &[u8] = b"\x1bE\x1b&f0XA\x1b&p2XBC\x1b&f1X\
 \x1b&f2x3x9x4XA\x0c\x1b%0BSP1PD5,5\x1b%0A\x1b&f5x8x6X\x1bEA";
 
 #[test]
 fn macros_run_without_memory(rt: HostRuntime) -> Result<(), Fail> {
     let fleet = fleet_of(rt.alloc(), &[Printer::B])?;
-    let defined = requests_of(&rt, rt.alloc(), &fleet, DEFINITION, Pass(1, 1));
+    let defined = requests_of(&rt, rt.alloc(), &fleet, DEFINITION, Pass(0, 0));
     // Three characters each run, and two characters and two lines of the job.
     let run = requests_of(&rt, rt.alloc(), &fleet, DEFINITION_AND_RUNS, Pass(3, 13));
     assert_eq!(rt; run, defined);

@@ -1,9 +1,11 @@
-use Rattle.std.proofs.Common.{Some, sym, subst, ap, ◌∙◌}
+use Rattle.std.proofs.Common.{Some, sym, subst, ap, ◌∙◌, arith}
 use Rattle.std.specs.Option.{option_map, option_copied}
 use Rattle.pcl_items.specs.declared.item.Mode.TheVariants.{Pcl}
 use Rattle.pcl_items.specs.Spellings.Spelled.{IsSpelled, items_in}
 use Rattle.macro_store.specs.Store.{body_of}
 use Rattle.macro_store.specs.Layout.{bytes_at}
+use Rattle.macro_store.specs.Commands.{AreStored}
+use Rattle.macro_store.proofs.KeptCommands.{lies_at}
 use Rattle.macro_store.proofs.Laid.{found_in}
 use Rattle.macro_store.proofs.Calls.{body_found}
 use Rattle.macro_store.proofs.store.MacroStore.body.Goals as goal
@@ -19,8 +21,11 @@ part-requires-clause-within g c =
 
 pub invariant_of-result : goal.invariant_of-result
 invariant_of-result g c =
-    subst (IsSpelled Pcl) (sym (c.part.ensures ∙ ap (λ pool. bytes_at pool c.in-Some.span.now) c.deref.ensures.value))
-    ((found_in c.self.inside.pool.items c.self.inside.spans.entries c.self.inside.definition c.self.invariant.0 c.args.id c.in-Some.span.now (sym c.get.ensures.value ∙ ap option_copied c.in-Some.is)).spelled)
+    let found = found_in c.self.inside.pool.items c.self.inside.spans.entries c.self.inside.definition c.self.invariant.0 c.args.id c.in-Some.span.now (sym c.get.ensures.value ∙ ap option_copied c.in-Some.is) in
+    let part = c.part.ensures ∙ ap (λ pool. bytes_at pool c.in-Some.span.now) c.deref.ensures.value in (
+      subst (IsSpelled Pcl) (sym part) found.spelled,
+      lies_at c.self.inside.pool.items c.in-Some.span.now c.commands_from.result.now (omega (arith, c.self.inside.pool.ok, c.self.invariant.1)) found.forward found.within (c.commands_from.ensures c.self.inside.pool.items (subst (AreStored c.self.inside.pool.items) (sym c.deref-in-Some.ensures.value) c.self.invariant.3)) c.part.result.now part,
+    )
 
 pub returns-in-None : goal.returns-in-None
 returns-in-None g c =

@@ -11,6 +11,7 @@ invariant_of-self g c =
       rw c.take.ensures.after (ended_laid c.self.inside.limit c.self.inside.pool.items c.self.inside.spans.entries c.self.inside.definition c.self.invariant.0 c.in-Some.field-0 some c.insert.new.self.entries spans),
       c.self.invariant.1,
       none_opened c.take.new.self _ c.take.ensures.after,
+      c.self.invariant.3,
     )
 
 pub returns : goal.returns

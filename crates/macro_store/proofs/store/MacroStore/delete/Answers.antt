@@ -2,8 +2,8 @@ use Rattle.std.proofs.Common.{ap, ◌∙◌, arith}
 use Rattle.macro_store.proofs.Calls.{not_defined, undefined_laid, laid_undefined, deleted_store, body_gone, none_opened}
 use Rattle.macro_store.proofs.store.MacroStore.delete.Goals as goal
 
-pub take_out-requires : goal.take_out-requires
-take_out-requires g c =
+pub take_out-requires-clause-laid : goal.take_out-requires-clause-laid
+take_out-requires-clause-laid g c =
     undefined_laid c.self.inside.pool.items c.self.inside.spans.entries c.self.inside.definition
     (not_defined c.self.inside.pool.items c.self.inside.definition (ap (λ s. s.definition) c.self.view_is ∙ c.requires)) c.self.invariant.0
 
@@ -13,6 +13,7 @@ invariant_of-self g c =
       laid_undefined c.take_out.new.pool.items c.take_out.new.spans.entries c.self.inside.definition none c.take_out.ensures.laid,
       omega (arith, c.take_out.ensures.fewer, c.self.invariant.1),
       none_opened c.self.inside.definition _ none,
+      c.take_out.ensures.stored,
     )
 
 pub returns-clause-deleted : goal.returns-clause-deleted
