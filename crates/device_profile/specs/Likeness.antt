@@ -2,7 +2,7 @@
 use Rattle.std.specs.Prelude.{◌≡◌}
 use Rattle.device_profile.specs.Printer.{Printer}
 
--- a printer with the device of another: its trays, whether it prints on both sides, and what its macros may take
+-- a printer with the device of another: its trays, whether it prints on both sides, and the depth and memory of its macros
 abbrev pub with_device_of : Printer → Printer → Printer
 with_device_of device printer = record printer {
   device_trays = device.device_trays;
@@ -11,6 +11,6 @@ with_device_of device printer = record printer {
   memory = device.memory;
 }
 
--- A printer is another one with a device of its own: both have the same panels, pages and faces.
+-- A printer is another one with a device of its own: both have the same panels, pages, faces and limit of items.
 abbrev pub IsLike : Printer → Printer → Type 0
 IsLike printer other = other ≡ with_device_of other printer

@@ -13,8 +13,9 @@ impl<A: Allocator> Profile<A> {
     ghost use Rattle.std.specs.Prelude.{IsTrue};
     ghost use Rattle.device_profile.specs.Likeness.{IsLike};
 
-    /// Whether the panels, pages and faces of another profile are the same, in the same order. The
-    /// trays of its device, its duplex and what its macros may take are its own.
+    /// Whether the panels, pages, faces and limit of items of another profile are the same, in the
+    /// same order. The trays of its device, its duplex, and the depth and memory of its macros are
+    /// its own.
     pub fn is_like(&self, other: &Profile<A>) -> bool
         ensures { IsTrue result → IsLike self.now other.now }
     {

@@ -1,9 +1,9 @@
 -- On printers that are alike but for the device items go the same way.
 use Rattle.std.proofs.Common.{◌≡◌, ℕ, ℤ, Bool, true, false, not, ◌&&◌, cond, List, [], ◌∷◌, refl, ap, sym, ◌∙◌, subst}
-use Rattle.std.specs.Prelude.{nat_lt}
+use Rattle.std.specs.Prelude.{nat_lt, ◌==◌, ◌||◌}
 use Rattle.std.specs.Bool.{beq}
 use Rattle.std.specs.Cmp.{booleans_Decides}
-use Rattle.std.proofs.lemmas.Bool.{false≢true}
+use Rattle.std.proofs.lemmas.Bool.{eqb-true, false≢true}
 use Rattle.pcl_items.specs.declared.pcl.command.Command.{Command}
 use Rattle.pcl_items.specs.declared.pcl.command.Command.TheVariants.{Sides, Source, PageSize, Orientation, MacroControl}
 use Rattle.pcl_items.specs.declared.pcl.command.DataCommand.TheVariants.{TransparentText, RasterRow}
@@ -32,10 +32,15 @@ module _ (p device : Printer) (defaults : Settings) where
   abbrev other : Printer
   other = with_device_of device p
 
+  -- 0 asks nothing
+  sides_same : (n : Amount) (simplex : Bool) → (whole_of n == 0) ≡ simplex → (simplex || beq p.has_duplex device.has_duplex) ≡ true → sides_checks other n ≡ sides_checks p n
+  sides_same n true is e =
+      let passes : (duplex : Bool) → (nat_lt 0 (whole_of n) && not duplex) ≡ false = λ duplex. ap (λ w. nat_lt 0 w && not duplex) (eqb-true (whole_of n) 0 is) in
+      ap (λ refused. check (not (is_whole_between 0 2 n)) BadValue ∷ check refused NotOnDevice ∷ []) (passes device.has_duplex ∙ sym (passes p.has_duplex))
+  sides_same n false is e = ap (λ duplex. sides_checks (record p { has_duplex = duplex }) n) (sym ((booleans_Decides p.has_duplex device.has_duplex).0 e))
+
   command_same : (command : Command) (n : Amount) → command_asks_alike p other command n ≡ true → (s : State) → command_transition other defaults s command n ≡ command_transition p defaults s command n
-  command_same Sides n e s =
-      ap (λ duplex. Closes (checking s (sides_checks (record p { has_duplex = duplex }) n)) true (λ t. set_sides t n))
-      (sym ((booleans_Decides p.has_duplex device.has_duplex).0 e))
+  command_same Sides n e s = ap (λ checks. Closes (checking s checks) true (λ t. set_sides t n)) (sides_same n (whole_of n == 0) refl e)
   command_same Source n e s =
       ap (λ held. Closes (checking s (check (not (is_whole_between 0 255 n)) BadValue ∷ check (nat_lt 0 (whole_of n) && not held) NotOnDevice ∷ [])) true (λ t. set_source t n))
       (sym ((booleans_Decides (has_tray p (whole_of n)) (has_tray other (whole_of n))).0 e))

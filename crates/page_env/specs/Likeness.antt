@@ -1,5 +1,5 @@
 -- Items on printers that are alike but for the device.
-use Rattle.std.specs.Prelude.{◌≡◌, ℕ, ℤ, Bool, true, false, None}
+use Rattle.std.specs.Prelude.{◌≡◌, ◌==◌, ◌||◌, ℕ, ℤ, Bool, true, false, None}
 use Rattle.std.specs.Bool.{beq}
 use Rattle.pcl_items.specs.declared.pcl.command.Command.{Command}
 use Rattle.pcl_items.specs.declared.pcl.command.Command.TheVariants.{Sides, Source, MacroControl}
@@ -14,9 +14,10 @@ use Rattle.page_env.specs.Pens.{move_pen}
 use Rattle.page_env.specs.Table.{transition_of}
 use Rattle.page_env.specs.Text.{print_transparent}
 
--- Sides and the paper source ask the device, and a macro control what macros may take. Both printers answer the same.
+-- Duplex and the paper source ask the device, and both printers answer the same. A macro control asks what macros may take, and is
+-- never taken for alike.
 abbrev pub command_asks_alike : Printer → Printer → Command → Amount → Bool
-command_asks_alike p q Sides n = beq p.has_duplex q.has_duplex
+command_asks_alike p q Sides n = (whole_of n == 0) || beq p.has_duplex q.has_duplex
 command_asks_alike p q Source n = beq (has_tray p (whole_of n)) (has_tray q (whole_of n))
 command_asks_alike p q MacroControl n = false
 command_asks_alike p q _ n = true

@@ -24,7 +24,8 @@ pub fn asks_device(item: &Item<'_>) -> bool
     }
 }
 
-/// Whether an item that asks the device of two printers has the same answer.
+/// Whether an item asks nothing of the device, or two printers answer it the same. A macro control
+/// is never taken for that.
 pub fn asks_alike<A: Allocator>(a: &Profile<A>, b: &Profile<A>, item: &Item<'_>) -> bool
     ensures { result ≡ asks_alike a.now b.now (view item.now) }
 {
@@ -36,7 +37,7 @@ pub fn asks_alike<A: Allocator>(a: &Profile<A>, b: &Profile<A>, item: &Item<'_>)
     }
 }
 
-/// Whether a command that asks the device of two printers has the same answer.
+/// Whether a command asks nothing of the device, or two printers answer it the same.
 fn command_asks_alike<A: Allocator>(
     a: &Profile<A>,
     b: &Profile<A>,
@@ -46,7 +47,7 @@ fn command_asks_alike<A: Allocator>(
     ensures { result ≡ command_asks_alike a.now b.now command (amount n) }
 {
     match command {
-        Command::Sides => a.has_duplex() == b.has_duplex(),
+        Command::Sides => whole_of(n) == 0 || a.has_duplex() == b.has_duplex(),
         Command::Source => a.has_tray(whole_of(n)) == b.has_tray(whole_of(n)),
         Command::MacroControl => false,
         _ => true,

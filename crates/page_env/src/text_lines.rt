@@ -636,8 +636,8 @@ impl<A: Allocator> TextMeasure<'_, A> {
         lines
     }
 
-    /// How many of the first bytes that have room elsewhere have room here, too, and look the same,
-    /// if it is known that one does.
+    /// How many of the first bytes that have room elsewhere have room here, too, if all of them look
+    /// the same.
     pub fn alike<B: Allocator>(
         &self,
         other: &TextMeasure<'_, B>,

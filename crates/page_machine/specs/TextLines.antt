@@ -1,6 +1,7 @@
 -- Lines of text that a machine carries out one byte after another, without a finding.
-use Rattle.std.specs.Prelude.{◌≡◌, None, ℕ, map, List, [], ◌∷◌}
+use Rattle.std.specs.Prelude.{◌≡◌, None, ℕ, false, map, List, [], ◌∷◌}
 use Rattle.device_profile.specs.declared.panel.Panel.{Panel}
+use Rattle.pcl_items.specs.declared.item.Mode.TheVariants.{Pcl}
 use Rattle.pcl_items.specs.Lexing.Passing.{line_item}
 use Rattle.page_env.specs.declared.text_lines.Look.{Look}
 use Rattle.page_env.specs.declared.text_lines.TextPlace.{TextPlace}
@@ -13,11 +14,13 @@ use Rattle.page_machine.specs.Run.{just, after, Done, peaks_of}
 use Rattle.page_machine.specs.MachineState.{MachineState}
 use Rattle.page_machine.specs.Machine.{item_of}
 
--- what lines of text take from the machine, and where they begin; no definition is open
+-- what lines of text take from the machine, and where they begin; it may go on in mode PCL, and no definition is open
 pub record IsMeasuredAt (machine : MachineState) (m : TextMeasure) (from : TextPlace) : Type 0 where
   pub measure : HasMeasure machine.printer machine.page m
   pub stands : StandsAt machine.page from
   pub no_definition : machine.macros.definition ≡ None
+  pub mode : machine.mode ≡ Pcl
+  pub running : machine.stopped ≡ false
 
 -- the machine behind a byte that goes
 abbrev pub machine_behind : Look → TextPlace → ℕ → MachineState → MachineState

@@ -29,7 +29,7 @@ use Rattle.preflight.specs.declared.lockstep.Formation.{Formation}
 use Rattle.preflight.specs.Carriers.Formation.{others_in, IsFormed, GoesAsOne}
 use Rattle.preflight.specs.Carriers.Lockstep.{Action, Execute, carrying_of, is_last, Does, IsDone, Finds, FoundFrom, DiffersFrom, WrongFrom, IsWrong, Compared, GoesInStep}
 use Rattle.preflight.proofs.Counting.{counter_takes, counter_refuses, TakesAll-counts}
-use Rattle.preflight.proofs.Formations.{all_do, still_formed}
+use Rattle.preflight.proofs.Formations.{still_formed}
 use Rattle.preflight.proofs.Standings.{failed_by, open_by, refused_by}
 
 -- ---- one machine
@@ -68,24 +68,26 @@ module _ {S F : Type 0} (takes refuses : S → Event → S → Type 0) (action :
   fails_by P place number (Err (stops.Memory error)) standing stands is h wrong = refused_by P standing stands
   fails_by P place number (Err stops.Stopped) standing stands is h wrong = absurd stands
 
--- the first machine, with which the others stand
-module _ (law : (item : Entry) → RunsOnLike item) (item : Entry) (place : ℕ) (formation : Formation) (counts counts' : Counts) (first first' : MachineState) (others : List MachineState) (formed : IsFormed formation first others) (goes : GoesAsOne formation first others item) where
+-- the first machine, where all do what it does
+module _ (action : Action) (place : ℕ) (formation : Formation) (counts counts' : Counts) (first first' : MachineState) (others : List MachineState)
+    (all : (events : List Event) → Does action events first first' → Each (Does action events) (first ∷ others_in formation first others) (first' ∷ others_in formation first' others)) where
   abbrev came : Option Failure → Type 0
-  came failed = GoesInStep (Execute item) place (first ∷ others_in formation first others) (first' ∷ others_in formation first' others) counts counts' failed
+  came failed = GoesInStep action place (first ∷ others_in formation first others) (first' ∷ others_in formation first' others) counts counts' failed
 
   pub as_one_in_step : {F : Type 0} (answer : Result Unit (Stop F)) (standing : Standing) → StandsAfter place 1 answer standing
-      → CarriesOn counter_takes counter_refuses (carrying_of first (Execute item)) false counts counts' first first' answer
-      → StandsBy standing (λ failed. GoesInStep (Execute item) place (first ∷ others_in formation first others) (first' ∷ others_in formation first' others) counts counts' failed)
+      → CarriesOn counter_takes counter_refuses (carrying_of first action) (is_last action) counts counts' first first' answer
+      → StandsBy standing (λ failed. GoesInStep action place (first ∷ others_in formation first others) (first' ∷ others_in formation first' others) counts counts' failed)
   as_one_in_step (Ok done) standing stands h =
       open_by came standing stands
-      (h.2.events, all_do law item h.2.events first first' (does_of counter_takes (Execute item) counts counts' first first' h.1 h.2) formation others formed goes, TakesAll-counts counts counts' h.2.events h.2.leads)
+      (h.2.events, all h.2.events (does_of counter_takes action counts counts' first first' h.1 h.2), TakesAll-counts counts counts' h.2.events h.2.leads)
   as_one_in_step (Err (stops.Found finding)) standing stands h =
       failed_by came standing (found_at place 1 finding) stands (refl, inl (refl, record { events = h.2.events; peaks = h.2.peaks; run = h.2.is }))
   as_one_in_step (Err (stops.Refused fault)) standing stands h = refused_by came standing stands
   as_one_in_step (Err (stops.Memory error)) standing stands h = refused_by came standing stands
   as_one_in_step (Err stops.Stopped) standing stands h = absurd stands
 
-  -- where it goes on they stand so again
+-- where an item goes on they stand as they stood
+module _ (law : (item : Entry) → RunsOnLike item) (item : Entry) (formation : Formation) (counts counts' : Counts) (first first' : MachineState) (others : List MachineState) (formed : IsFormed formation first others) (goes : GoesAsOne formation first others item) where
   pub as_one_formed : {F : Type 0} (answer : Result Unit (Stop F)) → first.stopped ≡ false → first'.stopped ≡ false
       → CarriesOn counter_takes counter_refuses (carrying_of first (Execute item)) false counts counts' first first' answer → IsFormed formation first' others
   as_one_formed (Ok done) running runs h =

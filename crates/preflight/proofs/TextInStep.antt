@@ -186,6 +186,23 @@ module _ (law : (item : Entry) → GoesOnLike item) (look : Look) where
         (subst KnowsNoMacro (sym (printed_is codes look place first first' prints)) formed.0, still_follow others formed.1, formed.2)
     stay_formed Apart others others' formed same = tt
 
+-- machines on which the first one's lines go are in mode PCL as it is
+pub all_in_pcl : (look : Look) (from : TextPlace) (codes : List ℕ) (formation : Formation) (first : MachineState) (others : List MachineState) → first.mode ≡ modes.Pcl → (formation ≡ Apart → GoOnAll look from codes others) → AreIn modes.Pcl (first ∷ others_in formation first others)
+all_in_pcl look from codes formation first others in_pcl apart = (in_pcl, others_in_pcl formation apart)
+  where
+    follow_in_pcl : (ms : List MachineState) → AreIn modes.Pcl (map (standing_as first) ms)
+    follow_in_pcl [] = tt
+    follow_in_pcl (m ∷ ms) = (in_pcl, follow_in_pcl ms)
+
+    go_in_pcl : (ms : List MachineState) → GoOnAll look from codes ms → AreIn modes.Pcl ms
+    go_in_pcl [] h = tt
+    go_in_pcl (m ∷ ms) h = (h.0.mode, go_in_pcl ms h.1)
+
+    others_in_pcl : (formation : Formation) → (formation ≡ Apart → GoOnAll look from codes others) → AreIn modes.Pcl (others_in formation first others)
+    others_in_pcl Alone apart = tt
+    others_in_pcl Together apart = follow_in_pcl others
+    others_in_pcl Apart apart = go_in_pcl others (apart refl)
+
 pub lines_of : (printer : Printer) (codes : List ℕ) (look : Look) (place : TextPlace) (page : Page) → AllGo printer look place page codes → AreLines codes
 lines_of printer [] look place page h = tt
 lines_of printer (code ∷ codes) look place page h = (h.0.byte, lines_of printer codes look (behind look code place) (page_behind look place code page) h.1)
@@ -206,7 +223,7 @@ front_goes printer (suc k) (code ∷ codes) look place page h = (h.0, front_goes
 pub fewer_go : (look : Look) (from : TextPlace) (k : ℕ) (codes : List ℕ) (machines : List MachineState) → GoOnAll look from codes machines → GoOnAll look from (take k codes) machines
 fewer_go look from k codes [] h = tt
 fewer_go look from k codes (m ∷ machines) h =
-    (record { stands = h.0.stands; go = front_goes m.printer k codes look from m.page h.0.go; no_definition = h.0.no_definition }, fewer_go look from k codes machines h.1)
+    (record { stands = h.0.stands; go = front_goes m.printer k codes look from m.page h.0.go; no_definition = h.0.no_definition; mode = h.0.mode }, fewer_go look from k codes machines h.1)
 
 one_more : (look : Look) (from : TextPlace) (codes : List ℕ) (machines : List MachineState) (m : MachineState) → GoOnAll look from codes machines → GoOn look from codes m → GoOnAll look from codes (machines ++ m ∷ [])
 one_more look from codes [] m h go = (go, tt)
@@ -218,6 +235,7 @@ measured_goes machine m look from codes is same room = record {
   stands = is.stands;
   go = subst (λ l. AllGo machine.printer l from machine.page codes) same (room_goes machine.printer m codes from machine.page is.measure is.stands room);
   no_definition = is.no_definition;
+  mode = is.mode;
 }
 
 -- places that `==` does not tell apart

@@ -60,4 +60,5 @@ passed window at dropped Pcl ended held n some short h =
       ended = refl;
       before = refl;
       behind = refl;
+      held = refl;
     }

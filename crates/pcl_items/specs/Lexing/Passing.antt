@@ -39,3 +39,4 @@ pub record ReadsLines (old : LexerState) (codes : List ℕ) (new : LexerState) :
   pub ended : new.ended ≡ old.ended
   pub before : old.context ≡ Pcl
   pub behind : new.context ≡ Pcl
+  pub held : new.held ≡ old.held

@@ -1,14 +1,10 @@
-use Rattle.std.proofs.Common.{◌≡◌, ◌<◌, length, subst, take, ap, arith}
+use Rattle.std.proofs.Common.{◌≡◌, length, subst, take, ap, arith}
 use Rattle.std.proofs.lemmas.List.{length-take-le}
 use Rattle.pcl_items.specs.Lexing.Passing.{ahead_of}
 use Rattle.preflight.specs.Carriers.Lockstep.{machines_of, counts_of}
 use Rattle.preflight.specs.Carriers.TextInStep.{PrintInStep}
-use Rattle.preflight.proofs.TextInStep.{lines_ahead_in_pcl, lines_done, lines_less, line_modes, still_run}
+use Rattle.preflight.proofs.TextInStep.{lines_done, lines_less, line_modes, still_run}
 use Rattle.preflight.proofs.check.execute_text.Goals as goal
-
-pub execute_text-passed-requires-clause-modes : goal.execute_text-passed-requires-clause-modes
-execute_text-passed-requires-clause-modes g c = λ some.
-    lines_ahead_in_pcl c.args.lexer.now (machines_of c.args.machines.now) c.requires.modes (subst (λ ahead. 0 < length ahead) c.ahead.ensures some)
 
 pub returns-clause-running : goal.returns-clause-running
 returns-clause-running g c = still_run _ _ _ _ _ c.execute_text-passed.ensures.step c.requires.running

@@ -17,7 +17,7 @@ use Rattle.preflight.specs.Carriers.Formation.{IsFormed, others_in}
 use Rattle.preflight.specs.Carriers.Lockstep.{AreIn, AreRunning, Fleet}
 use Rattle.preflight.specs.Carriers.TextInStep.{GoOnAll, PrintInStep}
 use Rattle.preflight.proofs.Executing.{written_back}
-use Rattle.preflight.proofs.TextInStep.{all_print, lines_of, print_in_step, shape_count, shapes_of, stay_formed}
+use Rattle.preflight.proofs.TextInStep.{all_in_pcl, all_print, lines_of, print_in_step, shape_count, shapes_of, stay_formed}
 use Rattle.preflight.proofs.lockstep.Lockstep.execute_lines.Given.{Over}
 use Rattle.preflight.proofs.lockstep.Lockstep.execute_lines.Goals.{After-add_marks, in-Apart, in_default-formation, in-Apart-formation, in_default-formation-2}
 use Rattle.preflight.proofs.lockstep.Lockstep.execute_lines.Goals as goal
@@ -96,7 +96,7 @@ module _ (g : Over) (c : After-add_marks g) where
   running = subst (λ (f : Fleet). AreRunning f.machines) (sym c.self.view_is) c.requires.running
 
   in_pcl : AreIn Pcl (c.self.inside.first ∷ others_in c.self.inside.formation c.self.inside.first before)
-  in_pcl = subst (λ (f : Fleet). AreIn Pcl f.machines) (sym c.self.view_is) c.requires.modes
+  in_pcl = all_in_pcl look c.in-Some.from text c.self.inside.formation c.self.inside.first before c.in-Some.ensures.mode go_on
 
   formed : IsFormed c.self.inside.formation c.self.inside.first before
   formed = c.self.invariant running.0

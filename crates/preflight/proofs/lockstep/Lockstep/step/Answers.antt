@@ -5,6 +5,7 @@ use Rattle.preflight.specs.Carriers.Lockstep.{Execute, Fleet, AreRunning, AllAdm
 use Rattle.preflight.specs.Standing.{StandsBy}
 use Rattle.preflight.proofs.Counting.{counter_takes, counter_refuses}
 use Rattle.preflight.proofs.Executing.{as_one_formed, as_one_in_step, was_running}
+use Rattle.preflight.proofs.Formations.{all_do}
 use Rattle.preflight.proofs.lockstep.Lockstep.step.Goals.{then-goes_as_one, else-goes_as_one}
 use Rattle.preflight.proofs.lockstep.Lockstep.step.Goals as goal
 
@@ -23,7 +24,7 @@ invariant_of-self g c = λ runs.
     let item = view c.args.item.now in
     let running = (subst (λ (f : Fleet). AreRunning f.machines) (sym c.self.view_is) c.requires.running).0 in
     let goes = subst (λ ms. GoesAsOne before.formation before.first ms item) c.deref.ensures.value (c.goes_as_one.ensures c.if-goes_as_one.true) in
-    as_one_formed c.items_run_on_like_printers.ensures item c.args.place before.formation before.counts c.step-answer.new.sink before.first c.step-answer.new.self before.others.items (c.self.invariant running) goes
+    as_one_formed c.items_run_on_like_printers.ensures item before.formation before.counts c.step-answer.new.sink before.first c.step-answer.new.self before.others.items (c.self.invariant running) goes
     c.step-answer.result running runs c.step-answer.ensures
 
 pub returns-then-not-is_open-clause-came : goal.returns-then-not-is_open-clause-came
@@ -36,7 +37,8 @@ returns-then-not-is_open-clause-came g c = elim c.if-goes_as_one.branch [
       let goes = subst (λ ms. GoesAsOne before.formation before.first ms item) c.deref.ensures.value (c.goes_as_one.ensures w.if-goes_as_one.true) in
       rw (w.self-is, w.standing-is)
       (subst (λ (f : Fleet). StandsBy w.judge-is_open.new.self (λ failed. GoesInStep (Execute item) c.args.place f.machines (first ∷ others_in before.formation first before.others.items) f.counts w.step-answer.new.sink failed)) c.self.view_is
-      (as_one_in_step c.items_run_on_like_printers.ensures item c.args.place before.formation before.counts w.step-answer.new.sink before.first first before.others.items (c.self.invariant running) goes
+      (as_one_in_step (Execute item) c.args.place before.formation before.counts w.step-answer.new.sink before.first first before.others.items
+      (λ events does. all_do c.items_run_on_like_printers.ensures item events before.first first does before.formation before.others.items (c.self.invariant running) goes)
       w.step-answer.result w.judge-is_open.new.self w.judge-is_open.ensures.standing w.step-answer.ensures))
   | else-goes_as_one w ↦ rw (w.self-is, w.standing-is) w.step_apart-is_open.ensures.came
 ]
@@ -51,7 +53,8 @@ returns-else-not-is_open-clause-came g c = elim c.if-goes_as_one.branch [
       let goes = subst (λ ms. GoesAsOne before.formation before.first ms item) c.deref.ensures.value (c.goes_as_one.ensures w.if-goes_as_one.true) in
       rw (w.self-is, w.standing-is)
       (subst (λ (f : Fleet). StandsBy w.judge-is_open.new.self (λ failed. GoesInStep (Execute item) c.args.place f.machines (first ∷ others_in before.formation first before.others.items) f.counts w.step-answer.new.sink failed)) c.self.view_is
-      (as_one_in_step c.items_run_on_like_printers.ensures item c.args.place before.formation before.counts w.step-answer.new.sink before.first first before.others.items (c.self.invariant running) goes
+      (as_one_in_step (Execute item) c.args.place before.formation before.counts w.step-answer.new.sink before.first first before.others.items
+      (λ events does. all_do c.items_run_on_like_printers.ensures item events before.first first does before.formation before.others.items (c.self.invariant running) goes)
       w.step-answer.result w.judge-is_open.new.self w.judge-is_open.ensures.standing w.step-answer.ensures))
   | else-goes_as_one w ↦ rw (w.self-is, w.standing-is) w.step_apart-is_open.ensures.came
 ]
