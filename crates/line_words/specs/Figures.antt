@@ -1,7 +1,8 @@
 -- Numbers and bytes as they stand in lines of text.
-use Rattle.std.specs.Prelude.{ℕ, suc, ℤ, pos, negsuc, ◌+◌, ◌/◌, ◌%◌, ◌==◌, nat_lt, nat_le, not, ◌&&◌, if◌then◌else◌, List, [], ◌∷◌, ◌++◌, decimal}
+use Rattle.std.specs.Prelude.{ℕ, suc, ℤ, pos, negsuc, ◌+◌, ◌/◌, ◌%◌, ◌==◌, nat_le, not, ◌&&◌, if◌then◌else◌, List, [], ◌∷◌, ◌++◌, decimal}
 use Rattle.std.specs.Fmt.{signed_decimal}
 use Rattle.pcl_items.specs.Spellings.Canon.{magnitude_text}
+use Rattle.shown_bytes.specs.Shown.{hex_digit}
 
 -- a value behind its name
 abbrev pub named : List ℕ → ℕ → List ℕ
@@ -25,10 +26,6 @@ signed_word (pos n) = value_word n
 signed_word (negsuc n) = 32 ∷ 45 ∷ magnitude_text (suc n)
 
 -- ---- bytes
-
--- a digit to base 16, in small letters
-abbrev pub hex_digit : ℕ → ℕ
-hex_digit d = if nat_lt d 10 then 48 + d else 87 + d
 
 abbrev pub hex_byte : ℕ → List ℕ
 hex_byte b = hex_digit (b / 16) ∷ hex_digit (b % 16) ∷ []

@@ -1,19 +1,12 @@
 //! Numbers and bytes as they stand in lines of text.
 ghost use Rattle.std.specs.Prelude.{◌≡◌, ◌++◌, ◌+◌, ◌%◌, ◌<◌, OnOk, decimal, flat_map};
-ghost use Rattle.line_words.specs.Figures.{escaped_byte, hex_byte, hex_digit, length_word, named, number_word, signed_word, value_word};
+ghost use Rattle.line_words.specs.Figures.{escaped_byte, hex_byte, length_word, named, number_word, signed_word, value_word};
 
 use itoa::Buffer;
 use pcl_items::spell_magnitude;
+use shown_bytes::{hex_digit, push_number};
 use std::alloc::{AllocError, Allocator};
 use tick_length::Length;
-
-/// Appends a number.
-pub fn push_number<A: Allocator>(text: &mut Vec<u8, A>, number: u64) -> Result<(), AllocError>
-    ensures { OnOk result (text.new.items ≡ text.old.items ++ decimal number) }
-{
-    let mut digits = Buffer::new();
-    text.extend_from_slice(digits.format(number).as_bytes())
-}
 
 /// Appends a number behind its name.
 pub fn push_named<A: Allocator>(
@@ -73,18 +66,6 @@ pub fn push_signed_word<A: Allocator>(text: &mut Vec<u8, A>, n: i32) -> Result<(
         text.push(b'-')?;
     }
     spell_magnitude(n.unsigned_abs(), text)
-}
-
-/// A digit to base 16, in small letters.
-pub fn hex_digit(digit: u8) -> u8
-    requires { digit < 16 }
-    ensures { result ≡ hex_digit digit }
-{
-    if digit < 10 {
-        b'0' + digit
-    } else {
-        b'a' + (digit - 10)
-    }
 }
 
 /// Appends a byte as two hexadecimal digits.

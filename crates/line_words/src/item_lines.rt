@@ -5,12 +5,13 @@ ghost use Rattle.pcl_items.specs.Escapes.ValueField.{sign_text};
 ghost use Rattle.pcl_items.specs.Items.{Entry, amount, at, view};
 ghost use Rattle.line_words.specs.ItemLines.{item_line, fault_line};
 
-use crate::figures::{push_escaped, push_number};
+use crate::figures::push_escaped;
 use crate::words::push_reason;
 use itoa::write_digits;
 use pcl_items::{
     Command, Group, Item, LexFault, Number, Place, Sign, SimpleItem, spell, spell_amount,
 };
+use shown_bytes::push_number;
 use std::alloc::{AllocError, Allocator};
 use verdict::Reason;
 

@@ -2,8 +2,8 @@
 ghost use Rattle.std.specs.Prelude.{◌≡◌, ◌++◌, ℕ, List, OnOk};
 ghost use Rattle.notes.specs.Note.{Told, note_line, note_name, note_number, short_note};
 
-use line_words::push_number;
 use pcl_items::Place;
+use shown_bytes::push_number;
 use std::alloc::{AllocError, Allocator};
 
 /// So many items macros may carry out in a job before that is a note: a profile with this limit

@@ -15,7 +15,7 @@ ghost use Rattle.page_picture.specs.Figures.{
   with_millionths,
 };
 
-use itoa::Buffer;
+use shown_bytes::push_number;
 use std::alloc::{AllocError, Allocator};
 
 /// How many ticks a hundredth of a unit has.
@@ -23,17 +23,6 @@ const TICKS_PER_HUNDREDTH: u64 = 50_800;
 
 /// How many ticks a millionth of an inch has.
 const TICKS_PER_MILLIONTH_INCH: u64 = 36_576;
-
-/// Appends a number.
-pub(crate) fn push_number<A: Allocator>(
-    text: &mut Vec<u8, A>,
-    number: u64,
-) -> Result<(), AllocError>
-    ensures { OnOk result (text.new.items ≡ text.old.items ++ decimal number) }
-{
-    let mut digits = Buffer::new();
-    text.extend_from_slice(digits.format(number).as_bytes())
-}
 
 /// The last digit of a number.
 fn digit(n: u64) -> u8

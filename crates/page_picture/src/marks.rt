@@ -20,12 +20,13 @@ ghost use Rattle.page_picture.specs.Marks.{
 
 use crate::attributes::{Attribute, push_attribute, push_box, push_length_attribute, span};
 use crate::characters::character_of;
-use crate::figures::{push_number, push_pair};
+use crate::figures::push_pair;
 use crate::mark_parts::MarkPart;
 use crate::rows::push_runs;
 use crate::texts::push_character;
 use device_profile::FontRequest;
 use page_env::{Area, Fill, Glyph, Mark, PenLine, RasterRow, Resolution};
+use shown_bytes::push_number;
 use std::alloc::{AllocError, Allocator};
 
 /// Appends the elements of a mark.

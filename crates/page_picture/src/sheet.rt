@@ -30,11 +30,12 @@ ghost use Rattle.page_picture.specs.Sheet.{
 use crate::attributes::{
     Attribute, push_attribute, push_box, push_length_attribute, push_ticks_attribute,
 };
-use crate::figures::{hundredths, push_inches, push_number, push_pair};
+use crate::figures::{hundredths, push_inches, push_pair};
 use crate::sheet_parts::SheetPart;
 use crate::texts::push_sentence_text;
 use device_profile::Geometry;
 use page_env::Bounds;
+use shown_bytes::push_number;
 use std::alloc::{AllocError, Allocator};
 use tick_length::Length;
 

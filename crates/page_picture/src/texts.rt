@@ -2,7 +2,7 @@
 ghost use Rattle.std.specs.Prelude.{◌≡◌, ◌++◌, OnOk};
 ghost use Rattle.page_picture.specs.Texts.{byte_text, character_text, reference, sentence_text};
 
-use crate::figures::push_number;
+use shown_bytes::push_number;
 use std::alloc::{AllocError, Allocator};
 
 /// Appends a character: as itself in ASCII but for `&`, `<` and `>`, and else by its number.

@@ -11,7 +11,7 @@ use crate::told_values::{ToldValues, told};
 use crate::warning::{FIELDS, Warning};
 use crate::warning_text::push_warning_lines;
 use device_profile::{Field, Format, Profile, format_of, next_line, next_word};
-use itoa::Buffer;
+use shown_bytes::push_number;
 use std::alloc::{AllocError, Allocator};
 
 /// The word that begins the line of a field.
@@ -59,14 +59,6 @@ fn field_on(line: &[u8]) -> Option<Field>
     field_of(word)
 }
 
-/// Appends a number.
-fn push_number<A: Allocator>(text: &mut Vec<u8, A>, number: u32) -> Result<(), AllocError>
-    ensures { OnOk result (text.new.items ≡ text.old.items ++ decimal number) }
-{
-    let mut digits = Buffer::new();
-    text.extend_from_slice(digits.format(number).as_bytes())
-}
-
 /// The last digit of a number.
 fn last_digit(number: u32) -> u8
     ensures { result ≡ 48 + number % 10 }
@@ -98,9 +90,9 @@ fn push_value<A: Allocator>(
     ensures { OnOk result (text.new.items ≡ text.old.items ++ value_word field value) }
 {
     if field != Field::Vmi {
-        return push_number(text, value);
+        return push_number(text, u64::from(value));
     }
-    push_number(text, value / 10_000)?;
+    push_number(text, u64::from(value / 10_000))?;
     push_decimals(text, value)
 }
 

@@ -5,12 +5,10 @@ ghost use Rattle.profile_lint.specs.Rules.{broken_rule};
 ghost use Rattle.profile_lint.specs.Shown.{quoted};
 
 use crate::key_rules::{broken_rule, meaning_of};
-use crate::shown::{
-    line_at, push_number, push_number_in, push_numbers_in, push_quoted, push_word_in,
-};
+use crate::shown::{line_at, push_number_in, push_numbers_in, push_quoted, push_word_in};
 use device_profile::{Cause, Key};
 use profile_faults::{TextFault, key_word};
-use shown_bytes::push_shown;
+use shown_bytes::{push_number, push_shown};
 use std::alloc::{AllocError, Allocator};
 
 /// Appends the line that tells a fault of a file's text: `FILE:LINE: WORDS (CAUSE)`, or

@@ -3,8 +3,7 @@ ghost use Rattle.std.specs.Prelude.{◌≡◌, ◌++◌, decimal, take, OnOk};
 ghost use Rattle.profile_lint.specs.Shown.{dots_behind, line_at, quoted};
 
 use device_profile::next_line;
-use itoa::Buffer;
-use shown_bytes::push_shown;
+use shown_bytes::{push_number, push_shown};
 use std::alloc::{AllocError, Allocator};
 
 /// So many bytes of a line are quoted at the most.
@@ -52,14 +51,6 @@ pub(crate) fn line_at(text: &[u8], number: u64) -> &[u8]
         rest = after;
     }
     &[]
-}
-
-/// Appends a number.
-pub(crate) fn push_number<A: Allocator>(out: &mut Vec<u8, A>, number: u64) -> Result<(), AllocError>
-    ensures { OnOk result (out.new.items ≡ out.old.items ++ decimal number) }
-{
-    let mut digits = Buffer::new();
-    out.extend_from_slice(digits.format(number).as_bytes())
 }
 
 /// Appends a number between words.

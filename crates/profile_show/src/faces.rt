@@ -17,10 +17,11 @@ ghost use Rattle.profile_show.specs.Faces.{
   set_line,
 };
 
-use crate::figures::{push_7200ths, push_number};
+use crate::figures::push_7200ths;
 use crate::label::Label;
 use crate::words::{push_cut, push_set};
 use device_profile::{CodeRange, FontRequest, FontRow, Profile};
+use shown_bytes::push_number;
 use std::alloc::{AllocError, Allocator};
 use tick_length::Length;
 

@@ -17,7 +17,7 @@ ghost use Rattle.profile_show.specs.Figures.{
   with_tenth,
 };
 
-use itoa::Buffer;
+use shown_bytes::push_number;
 use std::alloc::{AllocError, Allocator};
 use tick_length::Length;
 
@@ -43,17 +43,6 @@ const TICKS_PER_HUNDREDTH_DOT: u64 = 1_219_200;
 
 /// How many ticks 1/7200 inch has.
 const TICKS_PER_7200TH: u64 = 5_080_000;
-
-/// Appends a number.
-pub(crate) fn push_number<A: Allocator>(
-    text: &mut Vec<u8, A>,
-    number: u64,
-) -> Result<(), AllocError>
-    ensures { OnOk result (text.new.items ≡ text.old.items ++ decimal number) }
-{
-    let mut digits = Buffer::new();
-    text.extend_from_slice(digits.format(number).as_bytes())
-}
 
 /// The last digit of a number.
 fn digit(n: u64) -> u8

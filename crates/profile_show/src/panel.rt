@@ -15,13 +15,13 @@ ghost use Rattle.profile_show.specs.Panel.{
   values_words,
 };
 
-use crate::figures::push_number;
 use crate::label::Label;
 use crate::words::{
     push_cut, push_numbered, push_orientation, push_set, push_size, push_vmi, sides_name,
     termination_name,
 };
 use device_profile::{Field, FontRequest, Profile};
+use shown_bytes::push_number;
 use std::alloc::{AllocError, Allocator};
 
 /// All fields, in the order in which a profile lists them.

@@ -11,10 +11,11 @@ ghost use Rattle.profile_show.specs.Shown.{
 };
 
 use crate::faces::push_faces;
-use crate::figures::{push_counted, push_number};
+use crate::figures::push_counted;
 use crate::pages::push_pages;
 use crate::panel::push_panel;
 use device_profile::Profile;
+use shown_bytes::push_number;
 use std::alloc::{AllocError, Allocator};
 
 /// A text of lines that tells people what a profile says: its name; what the panel may have in each

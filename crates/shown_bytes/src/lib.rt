@@ -1,13 +1,24 @@
-//! Bytes of files as they stand in lines for a terminal.
+//! Bytes of files and numbers as they stand in lines of text.
 #![tactic(auto)]
 
-ghost use Rattle.std.specs.Prelude.{◌≡◌, ◌<◌, ◌++◌, OnOk};
+ghost use Rattle.std.specs.Prelude.{◌≡◌, ◌<◌, ◌++◌, OnOk, decimal};
 ghost use Rattle.shown_bytes.specs.Shown.{hex_digit, shown, shown_byte};
 
+use itoa::Buffer;
 use std::alloc::{AllocError, Allocator};
 
+/// Appends a number, in decimal digits.
+///
+/// An error means that the allocator refused a request.
+pub fn push_number<A: Allocator>(text: &mut Vec<u8, A>, number: u64) -> Result<(), AllocError>
+    ensures { OnOk result (text.new.items ≡ text.old.items ++ decimal number) }
+{
+    let mut digits = Buffer::new();
+    text.extend_from_slice(digits.format(number).as_bytes())
+}
+
 /// A digit to base 16, in small letters.
-fn hex_digit(digit: u8) -> u8
+pub fn hex_digit(digit: u8) -> u8
     requires { digit < 16 }
     ensures { result ≡ hex_digit digit }
 {

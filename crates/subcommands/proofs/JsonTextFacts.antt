@@ -6,7 +6,8 @@ use Rattle.std.proofs.lemmas.Str.{IsAscii-append, IsUtf8-from_is_utf8, is_utf8-f
 use Rattle.std.proofs.lemmas.Str.Ascii.{IsAscii-nil, IsAscii-cons}
 use Rattle.std.proofs.lemmas.Bool.Decides.{nat_tests}
 use Rattle.std.proofs.lemmas.Grind.{flat_map-append}
-use Rattle.line_words.specs.Figures.{hex_digit, escaped_byte}
+use Rattle.line_words.specs.Figures.{escaped_byte}
+use Rattle.shown_bytes.specs.Shown.{hex_digit}
 use Rattle.subcommands.specs.JobLines.{name_byte, shown_name}
 use Rattle.subcommands.specs.JsonTexts.{backslash_doubled}
 

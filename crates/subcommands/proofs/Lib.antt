@@ -19,3 +19,4 @@ pub mod TextFacts
 mod Walks
 mod Within
 mod Writing
+mod JudgedFirst

@@ -5,7 +5,8 @@ use Rattle.std.specs.List.{AllByRecursion}
 use Rattle.std.proofs.lemmas.Bool.{leb-true, and_parts}
 use Rattle.std.proofs.lemmas.Fmt.{decimal_by_steps, length-decimal-le}
 use Rattle.std.proofs.lemmas.List.{length-append, length-drop, length-take}
-use Rattle.line_words.specs.Figures.{escaped_byte, hex_digit, named}
+use Rattle.line_words.specs.Figures.{escaped_byte, named}
+use Rattle.shown_bytes.specs.Shown.{hex_digit}
 use Rattle.line_words.specs.Reason.{named_byte}
 use Rattle.subcommands.specs.CommandWords.{code_words}
 use Rattle.subcommands.specs.JobLines.{name_byte}

@@ -1,5 +1,5 @@
 -- What the subcommands leave that write a text of a job.
-use Rattle.std.specs.Prelude.{◌≡◌, ◌≢◌, ◌⊎◌, ℕ, ◌+◌, ◌^◌, Bool, List, [], ◌∷◌, length, Option, Ok, Err, ⊤}
+use Rattle.std.specs.Prelude.{◌≡◌, ◌≢◌, ◌⊎◌, ◌||◌, ℕ, ◌+◌, ◌^◌, Bool, List, [], ◌∷◌, length, Option, Ok, Err, IsTrue, ⊤}
 use Rattle.device_profile.specs.declared.panel.Panel.{Panel}
 use Rattle.device_profile.specs.Printer.{Printer, first_panel}
 use Rattle.preflight.specs.declared.error.Error.{Error}
@@ -17,9 +17,9 @@ use Rattle.subcommands.specs.declared.status.Status.{Status}
 use Rattle.subcommands.specs.declared.status.Status.TheVariants.{Pass, Fail, Help, Usage, Overwrites, NotAllowed, Told, Profile, Stopped}
 use Rattle.subcommands.specs.declared.choices.Choice.{Choice}
 use Rattle.subcommands.specs.Choices.{choice_line, chosen_panel}
-use Rattle.subcommands.specs.Fleet.{DescribeBy, Describes, IsRefused}
+use Rattle.subcommands.specs.Fleet.{DescribeBy, Describes, IsRefused, RefusesRead}
 use Rattle.subcommands.specs.Lines.{verdict_line}
-use Rattle.subcommands.specs.Status.{is_stop_of_read, is_stop_of_write}
+use Rattle.subcommands.specs.Status.{is_answer, is_refusal, is_stop_of_read, is_stop_of_write}
 
 -- How a command on a text of a job ends by this status. What it leaves, by what was read of the job,
 -- has this fact; it stopped at a read or at a write just where one failed, and for its turns after
@@ -142,3 +142,15 @@ TellsOfPin _ IsPrinter choices old new = ⊤
 abbrev pub RefusesOne : Option (List ℕ) → Status → Type 0
 RefusesOne text (Profile number line cause) = (number ≡ 1) × IsRefused line cause text
 RefusesOne text _ = ⊤
+
+-- The one profile of a command is read and judged before its job is read. Where it is refused, it is the first one, its text was read,
+-- and that is what is wrong with it; and where it is refused or could not be read, the job is as it was.
+abbrev pub JudgesFirst : {Job : Type 0} → Status → Option (List ℕ) → List (List ℕ) → List (List ℕ) → Bool → Job → Job → Type 0
+JudgesFirst status text before after failed job job' =
+    RefusesOne text status × RefusesRead before after 1 status × (IsTrue (is_refusal status || failed) → job' ≡ job)
+
+-- OUT is created once the job is open: it is as it was, or the job was opened; and it was created where the command has an answer,
+-- also for a job of no items
+abbrev pub CreatesOnceOpen : {Job Out : Type 0} → Status → (Job → Job → Type 0) → (Out → Out → Type 0) → Job → Out → Out → Type 0
+CreatesOnceOpen {Job} {Out} status opens creates job out out' =
+    ((out' ≡ out) ⊎ ((ready : Job) × opens job ready)) × (IsTrue (is_answer status) → (created : Out) × creates out created)

@@ -5,9 +5,10 @@ ghost use Rattle.pcl_items.specs.Items.{simple_view};
 ghost use Rattle.preflight.specs.declared.culprit.Culprit.TheVariants.{WithData};
 ghost use Rattle.subcommands.specs.CommandWords.{code_words, command_words};
 
-use line_words::{push_escaped, push_number};
+use line_words::push_escaped;
 use pcl_items::{DataCommand, Item, SimpleItem, spell};
 use preflight::Culprit;
+use shown_bytes::push_number;
 use std::alloc::{AllocError, Allocator};
 
 /// Appends an item in its canonical spelling, but without data; of a line of the job language only

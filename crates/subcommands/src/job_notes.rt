@@ -1,10 +1,9 @@
 //! The command `notes`.
-ghost use Rattle.std.specs.Prelude.{◌≡◌, ◌||◌, ◌++◌, IfErr, IfOk, IsErrOf, IsFalse, IsTrue, OnOk};
+ghost use Rattle.std.specs.Prelude.{◌≡◌, ◌||◌, ◌++◌, IfErr, IfOk, IsErrOf, IsFalse, OnOk};
 ghost use Rattle.preflight.specs.Errors.{is_err_of_read};
-ghost use Rattle.subcommands.specs.Fleet.{RefusesRead};
 ghost use Rattle.subcommands.specs.JobNotes.{EndsNotes, LeavesNotes, kept_error, outcome_line, status_of_text};
-ghost use Rattle.subcommands.specs.JobTexts.{EndsBy, IsNamed, RefusesOne};
-ghost use Rattle.subcommands.specs.Status.{is_refusal, is_stop_of_read, is_stop_of_write};
+ghost use Rattle.subcommands.specs.JobTexts.{EndsBy, IsNamed, JudgesFirst};
+ghost use Rattle.subcommands.specs.Status.{is_stop_of_read, is_stop_of_write};
 
 use crate::fleet::read_profile;
 use crate::kept_text::KeptText;
@@ -36,9 +35,8 @@ pub fn tell_notes<S: Source, T: ProfileTexts, O: Outlet, A: Allocator + Copy>(
         old new (O.state stdout.old) (O.state stdout.new))
         (S.state job.old) (S.state job.new)
         ((S.state job.new).failed || T.failed texts.new) (O.state stdout.new).failed }
-    ensures refusal { RefusesOne (T.text_of texts.old profile.now) result }
-    ensures refused { RefusesRead (T.given texts.old) (T.given texts.new) 1 result }
-    ensures unread { IsTrue (is_refusal result || T.failed texts.new) → job.new ≡ job.old }
+    ensures first { JudgesFirst result (T.text_of texts.old profile.now)
+        (T.given texts.old) (T.given texts.new) (T.failed texts.new) job.old job.new }
 {
     let mut profile = match read_profile(alloc, texts, profile, 1) {
         Ok(profile) => profile,

@@ -11,9 +11,10 @@ use crate::job_objects::put_explanation;
 use crate::job_sentences::push_named_first;
 use crate::json_object::Object;
 use crate::telling::Format;
-use line_words::{push_named, push_number};
+use line_words::push_named;
 use notes::{Note, NoteText, note_name, short_note};
 use pcl_items::Place;
+use shown_bytes::push_number;
 use std::alloc::{AllocError, Allocator, Global};
 
 /// Tells the notes of a job on a printer, each with its explanation.

@@ -1,8 +1,6 @@
 //! The command `pages`.
-ghost use Rattle.std.specs.Prelude.{◌≡◌, ◌||◌, IsFalse, IsTrue};
-ghost use Rattle.subcommands.specs.Fleet.{RefusesRead};
-ghost use Rattle.subcommands.specs.JobTexts.{EndsBy, IsNamed, LeavesPages, RefusesOne};
-ghost use Rattle.subcommands.specs.Status.{is_refusal};
+ghost use Rattle.std.specs.Prelude.{◌||◌, IsFalse};
+ghost use Rattle.subcommands.specs.JobTexts.{EndsBy, IsNamed, JudgesFirst, LeavesPages};
 
 use crate::fleet::read_profile;
 use crate::outcome::end_by;
@@ -29,9 +27,8 @@ pub fn pages<S: Source, T: ProfileTexts, O: Outlet, A: Allocator + Copy>(
         old new (O.state stdout.old) (O.state stdout.new))
         (S.state job.old) (S.state job.new)
         ((S.state job.new).failed || T.failed texts.new) (O.state stdout.new).failed }
-    ensures refusal { RefusesOne (T.text_of texts.old profile.now) result }
-    ensures refused { RefusesRead (T.given texts.old) (T.given texts.new) 1 result }
-    ensures unread { IsTrue (is_refusal result || T.failed texts.new) → job.new ≡ job.old }
+    ensures first { JudgesFirst result (T.text_of texts.old profile.now)
+        (T.given texts.old) (T.given texts.new) (T.failed texts.new) job.old job.new }
 {
     let profile = match read_profile(alloc, texts, profile, 1) {
         Ok(profile) => profile,

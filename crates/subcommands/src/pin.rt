@@ -1,8 +1,7 @@
 //! The command `pin`.
-ghost use Rattle.std.specs.Prelude.{◌≡◌, ◌⊎◌, ◌||◌, IsFalse, IsTrue};
-ghost use Rattle.subcommands.specs.Fleet.{RefusesRead};
-ghost use Rattle.subcommands.specs.JobTexts.{EndsBy, IsNamed, LeavesPinned, RefusesOne, TellsOfChoice, TellsOfPin};
-ghost use Rattle.subcommands.specs.Status.{is_answer, is_overwriting, is_refusal, is_refused_choice};
+ghost use Rattle.std.specs.Prelude.{◌≡◌, ◌||◌, IsFalse, IsTrue};
+ghost use Rattle.subcommands.specs.JobTexts.{CreatesOnceOpen, EndsBy, IsNamed, JudgesFirst, LeavesPinned, TellsOfChoice, TellsOfPin};
+ghost use Rattle.subcommands.specs.Status.{is_overwriting, is_refused_choice};
 
 use crate::choices::{Choice, PanelSetting, choice_line, chosen_panel};
 use crate::fleet::read_profile;
@@ -43,13 +42,9 @@ pub fn pin<S: Open, T: ProfileTexts, W: Create, O: Outlet, E: Outlet, A: Allocat
         (S.state job.old) (S.state job.new)
         ((S.state job.new).failed || T.failed texts.new)
         ((W.state out.new).failed || (O.state stdout.new).failed) }
-    ensures refusal { RefusesOne (T.text_of texts.old setting.now.profile.now) result }
-    ensures refused { RefusesRead (T.given texts.old) (T.given texts.new) 1 result }
-    ensures unread { IsTrue (is_refusal result || T.failed texts.new) → job.new ≡ job.old }
-    // OUT is as it was, or the job was opened.
-    ensures opened { (out.new ≡ out.old) ⊎ ((ready : S) × S.opens job.old ready) }
-    // OUT was created, also for a job of no items.
-    ensures created { IsTrue (is_answer result) → (created : W) × W.creates out.old created }
+    ensures first { JudgesFirst result (T.text_of texts.old setting.now.profile.now)
+        (T.given texts.old) (T.given texts.new) (T.failed texts.new) job.old job.new }
+    ensures created { CreatesOnceOpen result S.opens W.creates job.old out.old out.new }
     // Where OUT is a file that is read, it is as it was.
     ensures kept { IsTrue (is_overwriting result) → out.new ≡ out.old }
     ensures choice { TellsOfPin result

@@ -1,8 +1,8 @@
 //! The command `plain`.
-ghost use Rattle.std.specs.Prelude.{◌≡◌, ◌⊎◌, ◌||◌, IsFalse, IsSome, IsTrue};
+ghost use Rattle.std.specs.Prelude.{◌≡◌, ◌||◌, IsFalse, IsSome, IsTrue};
 ghost use Rattle.preflight.specs.Due.{plain_rendering};
-ghost use Rattle.subcommands.specs.JobTexts.{EndsBy, LeavesOut};
-ghost use Rattle.subcommands.specs.Status.{is_answer, is_overwriting};
+ghost use Rattle.subcommands.specs.JobTexts.{CreatesOnceOpen, EndsBy, LeavesOut};
+ghost use Rattle.subcommands.specs.Status.{is_overwriting};
 
 use crate::opening::open_and_create;
 use crate::outcome::end_by;
@@ -28,10 +28,7 @@ pub fn plain<S: Open, W: Create, O: Outlet, A: Allocator + Copy>(
         (W.state out.old) (W.state out.new) (O.state stdout.old) (O.state stdout.new))
         (S.state job.old) (S.state job.new)
         (S.state job.new).failed ((W.state out.new).failed || (O.state stdout.new).failed) }
-    // OUT is as it was, or the job was opened.
-    ensures opened { (out.new ≡ out.old) ⊎ ((ready : S) × S.opens job.old ready) }
-    // OUT was created, also for a job of no items.
-    ensures created { IsTrue (is_answer result) → (created : W) × W.creates out.old created }
+    ensures created { CreatesOnceOpen result S.opens W.creates job.old out.old out.new }
     // Where OUT is JOB, that was opened, and OUT is as it was.
     ensures kept { IsTrue (is_overwriting result) →
         (out.new ≡ out.old) × ((ready : S) × S.opens job.old ready × IsSome (S.file ready)) }

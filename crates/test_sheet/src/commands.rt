@@ -2,8 +2,9 @@
 ghost use Rattle.std.specs.Prelude.{◌≡◌, ◌++◌, OnOk};
 ghost use Rattle.test_sheet.specs.Commands.{font_look, font_request, font_size, move_across, move_to, page_request, rectangle, sheet_settings};
 
-use crate::figures::{push_amount, push_number, push_signed_amount, push_symbol_set};
+use crate::figures::{push_amount, push_signed_amount, push_symbol_set};
 use device_profile::FontRequest;
+use shown_bytes::push_number;
 use std::alloc::{AllocError, Allocator};
 
 /// Appends one copy, on one side, from this tray, and that CR, LF and FF stand for themselves.

@@ -4,10 +4,11 @@ ghost use Rattle.test_sheet.specs.FacePages.{face_entries, face_entry, face_line
 
 use crate::area::{Area, area_of};
 use crate::commands::{push_font_request, push_page_request};
-use crate::figures::{push_amount, push_number, push_signed_amount, push_symbol_set};
+use crate::figures::{push_amount, push_signed_amount, push_symbol_set};
 use crate::lines::{baseline, indent, line_height, push_words_on};
 use crate::marks::push_words_at;
 use device_profile::{CodeRange, FontRow, Geometry};
+use shown_bytes::push_number;
 use std::alloc::{AllocError, Allocator};
 
 /// How many faces go on a page, below its heading and above the last line.

@@ -4,19 +4,8 @@ ghost use Rattle.test_sheet.specs.Figures.{amount, decimals, digit, millimetres,
 
 use crate::dots::tenths_of_millimetres;
 use device_profile::SymbolSet;
-use itoa::Buffer;
+use shown_bytes::push_number;
 use std::alloc::{AllocError, Allocator};
-
-/// Appends a number.
-pub(crate) fn push_number<A: Allocator>(
-    text: &mut Vec<u8, A>,
-    number: u64,
-) -> Result<(), AllocError>
-    ensures { OnOk result (text.new.items ≡ text.old.items ++ decimal number) }
-{
-    let mut digits = Buffer::new();
-    text.extend_from_slice(digits.format(number).as_bytes())
-}
 
 /// The last digit of a number, as a byte.
 pub(crate) fn digit(number: u64) -> u8

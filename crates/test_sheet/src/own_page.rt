@@ -4,9 +4,9 @@ ghost use Rattle.test_sheet.specs.OwnPage.{baseline_behind, blank_columns, first
 
 use crate::area::{Area, area_of};
 use crate::dots::{DOT, ticks_of};
-use crate::figures::push_number;
 use crate::marks::{advance_of, columns_from, push_first};
 use device_profile::{FontRow, Geometry, Panel};
+use shown_bytes::push_number;
 use std::alloc::{AllocError, Allocator};
 
 /// The top margin that a page has by default, and how far its text ends above the foot of the

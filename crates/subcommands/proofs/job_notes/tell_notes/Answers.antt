@@ -1,10 +1,11 @@
-use Rattle.std.proofs.Common.{◌||◌, ◌∙◌, ap, subst, sym, true≢false}
+use Rattle.std.proofs.Common.{◌||◌, ◌∙◌, ap, subst, sym}
 use Rattle.std.proofs.Math.Bool.{or-false}
 use Rattle.subcommands.specs.Fleet.{IsEndOfProfile}
 use Rattle.subcommands.specs.JobTexts.{IsNamed}
 use Rattle.subcommands.specs.Status.{is_err_at_read}
 use Rattle.subcommands.proofs.FleetFacts.{no_write_before}
-use Rattle.subcommands.proofs.JobNotes.{never_refused, no_notes, noted_of, notes_left, refuses_no_read, refuses_none, stop_state}
+use Rattle.subcommands.proofs.JobNotes.{never_refused, no_notes, noted_of, notes_left, stop_state}
+use Rattle.subcommands.proofs.JudgedFirst.{judged_first}
 use Rattle.subcommands.proofs.job_notes.tell_notes.Goals as goal
 
 pub returns-in-Err-clause-ends : goal.returns-in-Err-clause-ends
@@ -34,16 +35,6 @@ returns-clause-ends g c =
       turns = λ is. rendered.turns (c.end_notes.ensures.turns is);
     }
 
-pub returns-clause-refusal : goal.returns-clause-refusal
-returns-clause-refusal g c =
-    refuses_none _ c.end_notes.result (never_refused c.notes_of-work.result c.end_notes.result _ _ _ _ c.end_notes.ensures.ok c.end_notes.ensures.err)
-
-pub returns-clause-refused : goal.returns-clause-refused
-returns-clause-refused g c =
-    refuses_no_read _ _ 1 c.end_notes.result (never_refused c.notes_of-work.result c.end_notes.result _ _ _ _ c.end_notes.ensures.ok c.end_notes.ensures.err)
-
-pub returns-clause-unread : goal.returns-clause-unread
-returns-clause-unread g c =
-    let failed = g.T.ProfileTexts.failed c.read_profile.new.texts in
-    let never = never_refused c.notes_of-work.result c.end_notes.result _ _ _ _ c.end_notes.ensures.ok c.end_notes.ensures.err in
-    λ is. absurd (true≢false (sym is ∙ (ap (λ refusal. refusal || failed) never ∙ (c.read_profile.ensures.read ∙ ap is_err_at_read c.in-Ok.is))))
+pub returns-clause-first : goal.returns-clause-first
+returns-clause-first g c =
+    judged_first c.end_notes.result _ _ _ _ _ _ (never_refused c.notes_of-work.result c.end_notes.result _ _ _ _ c.end_notes.ensures.ok c.end_notes.ensures.err) (c.read_profile.ensures.read ∙ ap is_err_at_read c.in-Ok.is)

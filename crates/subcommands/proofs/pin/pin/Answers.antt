@@ -1,13 +1,14 @@
-use Rattle.std.proofs.Common.{◌||◌, ◌∙◌, ap, sym, subst}
+use Rattle.std.proofs.Common.{◌≡◌, ◌||◌, ◌∙◌, false, refl, ap, sym, subst, true≢false}
 use Rattle.std.proofs.Math.Bool.{or-false}
 use Rattle.streams.specs.Outlet.{OutletState}
 use Rattle.preflight.specs.Pins.{pinned_rendering}
 use Rattle.streams.specs.Source.{SourceState}
-use Rattle.subcommands.specs.JobTexts.{IsNamed}
-use Rattle.subcommands.specs.Status.{is_err_at_read, is_err_at_write, IsEndOfOpening}
+use Rattle.subcommands.specs.JobTexts.{IsNamed, TellsOfPin}
+use Rattle.subcommands.specs.Status.{is_err_at_read, is_err_at_write, is_overwriting, is_refusal, IsEndOfOpening}
 use Rattle.subcommands.proofs.JobTexts.{choice_refused, choice_told, ended, ended_write_beside, no_pinned, opening_left, out_left, pinned_left, rendered_from, sound_beside}
 use Rattle.subcommands.specs.Fleet.{IsEndOfProfile}
 use Rattle.subcommands.proofs.FleetFacts.{no_write_before}
+use Rattle.subcommands.proofs.JudgedFirst.{ends_by, judged_first}
 use Rattle.subcommands.proofs.pin.pin.Goals as goal
 
 pub end_by-requires : goal.end_by-requires
@@ -88,3 +89,17 @@ returns-clause-ends g c =
       write = ended_write_beside g.O.Outlet.state c.args.stdout.now c.end_by.new.stdout work c.end_by.result _ rendered.write c.requires.stdout c.end_by.ensures.err c.end_by.ensures.write;
       turns = λ is. rendered.turns (c.end_by.ensures.turns is);
     }
+
+pub returns-clause-first : goal.returns-clause-first
+returns-clause-first g c =
+    judged_first c.end_by.result _ _ _ _ _ _ (ends_by (λ status. is_refusal status ≡ false) refl refl (λ error. refl) c.end_by.result c.end_by.ensures.end) (c.read_profile.ensures.read ∙ ap is_err_at_read c.in-Ok.is)
+
+pub returns-clause-kept : goal.returns-clause-kept
+returns-clause-kept g c = λ is.
+    absurd (true≢false (sym is ∙ ends_by (λ status. is_overwriting status ≡ false) refl refl (λ error. refl) c.end_by.result c.end_by.ensures.end))
+
+pub returns-clause-choice : goal.returns-clause-choice
+returns-clause-choice g c =
+    let named = IsNamed (g.T.ProfileTexts.text_of c.args.texts.now c.args.setting.now.profile.now) (g.T.ProfileTexts.given c.args.texts.now) (g.T.ProfileTexts.given c.read_profile.new.texts) in
+    let told = g.E.Outlet.state c.args.stderr.now in
+    ends_by (λ status. TellsOfPin status named c.args.setting.now.choices.now told told) tt tt (λ error. tt) c.end_by.result c.end_by.ensures.end
