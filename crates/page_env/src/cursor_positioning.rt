@@ -10,11 +10,12 @@ ghost use Rattle.page_env.specs.Places.{ticks_in, vertical_place, geometry_of, p
 ghost use Rattle.page_env.specs.CursorPositioning.{push_cursor, pop_cursor, use_stack, move_across, move_from_top, relative_reads, move_x, move_y, move_x_decipoints, move_y_decipoints, move_columns, move_rows};
 ghost use Rattle.page_env.specs.Answers.{CarriesOut, Leads, Steps};
 
+use crate::cell::Cell;
 use crate::finding::Finding;
 use crate::number::{is_whole_between, whole_of};
 use crate::page::{Coordinate, Page};
 use crate::places::{
-    first_line, geometry, geometry_and_column, geometry_and_vmi, target, target_down, ticks_in,
+    first_line, first_of_page, geometry, geometry_and_column, geometry_and_vmi, target, target_down, ticks_in,
     times, vertical, vertical_with,
 };
 use device_profile::{Field, Geometry, Profile};
@@ -23,6 +24,7 @@ use std::alloc::Allocator;
 use tick_length::{Length, Unit};
 
 /// The place to which a move of so many of a unit leads, to the left or right.
+#[inline(always)]
 fn place_across<A: Allocator>(
     profile: &Profile<A>,
     page: &Page,
@@ -43,6 +45,7 @@ fn place_across<A: Allocator>(
 }
 
 /// `*p#X`: moves the cursor to the left or right, in PCL units.
+#[inline(always)]
 pub(crate) fn move_x<A: Allocator>(
     profile: &Profile<A>,
     page: &mut Page,
@@ -68,6 +71,7 @@ pub(crate) fn move_x_decipoints<A: Allocator>(
 }
 
 /// `&a#C`: moves the cursor to the left or right, in columns.
+#[inline(always)]
 pub(crate) fn move_columns<A: Allocator>(
     profile: &Profile<A>,
     page: &mut Page,
@@ -105,8 +109,9 @@ fn geometry_and_start<A: Allocator>(
         )) result }
 {
     let fields = &page.env.fields;
-    let size = fields.size.known(Field::Size)?;
-    let orientation = fields.orientation.known(Field::Orientation)?;
+    let (Cell::Known(size), Cell::Known(orientation)) = (fields.size, fields.orientation) else {
+        return Err(first_of_page(fields));
+    };
     let geometry = profile.page_geometry(size, orientation);
     match sign {
         Sign::Absent => {
@@ -121,6 +126,7 @@ fn geometry_and_start<A: Allocator>(
 }
 
 /// The place to which a move of so many of a unit leads, up or down.
+#[inline(always)]
 fn place_down<A: Allocator>(
     profile: &Profile<A>,
     page: &Page,
@@ -140,6 +146,7 @@ fn place_down<A: Allocator>(
 }
 
 /// `*p#Y`: moves the cursor up or down, in PCL units.
+#[inline(always)]
 pub(crate) fn move_y<A: Allocator>(
     profile: &Profile<A>,
     page: &mut Page,

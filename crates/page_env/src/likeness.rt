@@ -2,6 +2,7 @@
 
 ghost use Rattle.std.specs.Prelude.{◌≡◌, IsFalse, true};
 ghost use Rattle.device_profile.specs.Printer.{Printer};
+ghost use Rattle.pcl_items.specs.Escapes.Value.{Amount};
 ghost use Rattle.pcl_items.specs.Items.{amount, view};
 ghost use Rattle.page_env.specs.Likeness.{asks_alike, command_asks_alike};
 
@@ -16,12 +17,21 @@ pub fn asks_device(item: &Item<'_>) -> bool
     ensures { IsFalse result → (p q : Printer) → asks_alike p q (view item.now) ≡ true }
 {
     match item {
-        Item::Simple(SimpleItem::Parameterized(command, _)) => matches!(
-            command,
-            Command::Sides | Command::Source | Command::MacroControl
-        ),
+        Item::Simple(SimpleItem::Parameterized(command, _)) => command_asks_device(*command),
         _ => false,
     }
+}
+
+/// Whether a command asks what printers may differ in that are alike but for the device.
+#[inline(always)]
+pub fn command_asks_device(command: Command) -> bool
+    ensures { IsFalse result → (p q : Printer) (n : Amount) →
+        command_asks_alike p q command n ≡ true }
+{
+    matches!(
+        command,
+        Command::Sides | Command::Source | Command::MacroControl
+    )
 }
 
 /// Whether an item asks nothing of the device, or two printers answer it the same. A macro control

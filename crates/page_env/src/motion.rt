@@ -161,6 +161,7 @@ fn past_limit(page: &Page) -> Result<Carried, Finding>
 
 /// Feeds a line or half a line. Past the bottom margin the page is to be closed, where the
 /// perforation is skipped.
+#[inline(always)]
 fn feed_by<A: Allocator>(
     profile: &Profile<A>,
     page: &mut Page,
@@ -229,6 +230,7 @@ fn go_left(page: &mut Page)
 }
 
 /// The cursor goes to the left margin, and a line is fed where line termination has it so.
+#[inline(always)]
 fn return_with<A: Allocator>(
     profile: &Profile<A>,
     page: &mut Page,
@@ -246,6 +248,7 @@ fn return_with<A: Allocator>(
 }
 
 /// CR.
+#[inline(always)]
 pub(crate) fn return_line<A: Allocator>(
     profile: &Profile<A>,
     page: &mut Page,
@@ -267,6 +270,7 @@ fn return_before_feed(page: &mut Page, termination: LineTermination)
 }
 
 /// LF.
+#[inline(always)]
 pub(crate) fn line_feed<A: Allocator>(
     profile: &Profile<A>,
     page: &mut Page,

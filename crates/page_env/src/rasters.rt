@@ -3,7 +3,8 @@
 
 ghost use Rattle.std.specs.Prelude.{◌≡◌, ◌==◌, not, is_some, ◌&&◌};
 ghost use Rattle.pcl_items.specs.Escapes.Commands.{group_of};
-ghost use Rattle.pcl_items.specs.Items.{amount, view};
+ghost use Rattle.pcl_items.specs.Escapes.Value.{Amount};
+ghost use Rattle.pcl_items.specs.Items.{Parameterized, amount, view};
 ghost use Rattle.page_env.specs.Rasters.{is_of_raster, is_raster_group, begun_by, resolution_of, set_resolution, set_raster_width, set_raster_height, presentation_of, set_presentation, set_compression, is_physical, start_raster, end_raster};
 ghost use Rattle.page_env.specs.Settings.{state_at};
 ghost use Rattle.device_profile.specs.declared.panel.Panel.{Panel};
@@ -42,6 +43,17 @@ pub fn is_of_raster(item: &Item<'_>) -> bool
         Item::Simple(SimpleItem::Parameterized(command, _)) => is_raster_command(*command),
         Item::WithData(command, _) => is_raster_group(command.group()),
         _ => false,
+    }
+}
+
+/// Ends the raster as a command begins, unless that is of rasters itself.
+#[inline(always)]
+pub fn begin_command(page: &mut Page, command: Command)
+    ensures { (n : Amount) (panel : Panel) →
+        begun_by (Parameterized command n) (state_at panel page.old) ≡ state_at panel page.new }
+{
+    if page.raster.is_some() && !is_raster_command(command) {
+        page.raster = None;
     }
 }
 

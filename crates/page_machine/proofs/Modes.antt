@@ -1,6 +1,7 @@
 -- In which mode an open definition stands.
 use Rattle.std.proofs.Common.{◌≡◌, ℕ, List, Option, Some, None, is_some, refl, sym, ap, subst, ◌∙◌}
 use Rattle.std.specs.Option.{IsSome, option_and_then}
+use Rattle.pcl_items.specs.declared.pcl.command.Command.{Command}
 use Rattle.pcl_items.specs.declared.pcl.command.Command.TheVariants.{MacroControl}
 use Rattle.pcl_items.specs.declared.item.Mode.{Mode}
 use Rattle.pcl_items.specs.declared.item.Mode.TheVariants.{Pcl, Frame, Pjl}
@@ -28,6 +29,12 @@ module _ (macros : Store) (mode next : Mode) (item : Entry) (e : follows mode it
 
 pub committed_stands : (macros : Store) (mode : Mode) → StandsIn (committed macros) mode
 committed_stands macros mode = λ opened. absurd cc
+
+-- a command that is admitted leaves mode PCL
+pub command_leaves : (mode : Mode) (command : Command) (n : Amount) → IsSome (follows mode (Parameterized command n)) → follows mode (Parameterized command n) ≡ Some Pcl
+command_leaves Pcl command n admitted = refl
+command_leaves Frame command n admitted = absurd cc
+command_leaves Pjl command n admitted = refl
 
 -- ---- where no definition is open
 

@@ -20,10 +20,11 @@ ghost use Rattle.page_machine.specs.Machine.{RunsAtOnce};
 use crate::sink::MarkSink;
 use device_profile::Profile;
 use page_env::{
-    Action, Area, Finding, Glyph, Mark, Page, PageEnd, PageItem, PenLine, begin_item, carry_out,
-    carry_out_motion, fill_rectangle, move_pen, print_byte, print_row, print_transparent,
+    Action, Area, CommandAction, Finding, Glyph, Mark, Page, PageEnd, PageItem, PenLine,
+    begin_command, begin_item, carry_out, carry_out_motion, carry_out_usual_command,
+    fill_rectangle, move_pen, print_byte, print_row, print_transparent,
 };
-use pcl_items::{Coordinates, Data, DataCommand, Item, Motion, Number};
+use pcl_items::{Command, Coordinates, Data, DataCommand, Item, Motion, Number};
 use std::alloc::Allocator;
 
 /// Why an item was not carried out to its end.
@@ -321,25 +322,7 @@ fn run_motion<S: MarkSink, A: Allocator>(
 }
 
 /// Fills a rectangle, and hands over its mark.
-// A call of its own, as `run_text` is, into which the mark's sink is inlined.
-#[inline(never)]
-fn fill_and_mark<S: MarkSink, A: Allocator>(
-    profile: &Profile<A>,
-    n: Number,
-    page: &mut Page,
-    sink: &mut S,
-) -> Result<(), Halt<S::Fault>>
-    ensures { (conditions : Panel → Conditions) → Follows S.takes S.refuses
-        (λ panel. begun_run profile.now (conditions panel) (Parameterized FillRectangle (amount n))
-        (state_at panel page.old))
-        sink.old sink.new page.new result }
-{
-    let filled = marked(fill_rectangle(profile, page, n));
-    hand_over(&filled, page, sink)
-}
-
-/// Fills a rectangle.
-// It matches the answer in a function of its own, which is inlined: so steps clear no room for one.
+// Inlined, so that a sink that only counts has no mark put together.
 #[inline(always)]
 fn run_fill<S: MarkSink, A: Allocator>(
     profile: &Profile<A>,
@@ -352,10 +335,8 @@ fn run_fill<S: MarkSink, A: Allocator>(
         (state_at panel page.old))
         sink.old sink.new page.new result }
 {
-    match fill_and_mark(profile, n, page, sink) {
-        Ok(()) => Ok(()),
-        Err(halt) => Err(halt),
-    }
+    let filled = marked(fill_rectangle(profile, page, n));
+    hand_over(&filled, page, sink)
 }
 
 /// Why a step that found something was not carried out.
@@ -373,6 +354,27 @@ pub(crate) enum Ran<F> {
     Ended(Result<(), Halt<F>>),
     /// It has begun. It may close the page, and nothing of it is done.
     Left(PageItem),
+}
+
+/// Carries out a command to its end, unless it may close the page.
+#[inline(always)]
+pub(crate) fn run_command<S: MarkSink, A: Allocator>(
+    profile: &Profile<A>,
+    command: Command,
+    n: Number,
+    page: &mut Page,
+    sink: &mut S,
+) -> Ran<S::Fault>
+    ensures { RunsAtOnce S.takes S.refuses profile.now (Parameterized command (amount n))
+        sink.old sink.new page.old page.new result }
+{
+    begin_command(page, command);
+    match carry_out_usual_command(profile, page, command, n) {
+        Err(finding) => Ran::Ended(Err(halted(finding))),
+        Ok(CommandAction::Stepped) => Ran::Ended(Ok(())),
+        Ok(CommandAction::Fill) => Ran::Ended(run_fill(profile, n, page, sink)),
+        Ok(CommandAction::Page(command)) => Ran::Left(PageItem::Command(command, n)),
+    }
 }
 
 /// Carries out an item to its end, unless it may close the page.

@@ -26,10 +26,10 @@ use Rattle.preflight.specs.Standing.{StandsAfter, StandsBy, found_at, is_open}
 use Rattle.preflight.specs.declared.standing.Standing.{Standing}
 use Rattle.preflight.specs.Carriers.Each.{Each}
 use Rattle.preflight.specs.declared.lockstep.Formation.{Formation}
-use Rattle.preflight.specs.Carriers.Formation.{others_in, IsFormed, GoesAsOne}
-use Rattle.preflight.specs.Carriers.Lockstep.{Action, Execute, carrying_of, is_last, Does, IsDone, Finds, FoundFrom, DiffersFrom, WrongFrom, IsWrong, Compared, GoesInStep}
+use Rattle.preflight.specs.Carriers.Formation.{others_in, fleet_of, IsFormed, GoesAsOne}
+use Rattle.preflight.specs.Carriers.Lockstep.{Action, Execute, Fleet, carrying_of, is_last, Does, IsDone, Finds, FoundFrom, DiffersFrom, WrongFrom, IsWrong, Compared, GoesInStep}
 use Rattle.preflight.proofs.Counting.{counter_takes, counter_refuses, TakesAll-counts}
-use Rattle.preflight.proofs.Formations.{still_formed}
+use Rattle.preflight.proofs.Formations.{all_do, still_formed}
 use Rattle.preflight.proofs.Standings.{failed_by, open_by, refused_by}
 
 -- ---- one machine
@@ -86,8 +86,18 @@ module _ (action : Action) (place : ℕ) (formation : Formation) (counts counts'
   as_one_in_step (Err (stops.Memory error)) standing stands h = refused_by came standing stands
   as_one_in_step (Err stops.Stopped) standing stands h = absurd stands
 
--- where an item goes on they stand as they stood
+-- an item that does the same on all
 module _ (law : (item : Entry) → RunsOnLike item) (item : Entry) (formation : Formation) (counts counts' : Counts) (first first' : MachineState) (others : List MachineState) (formed : IsFormed formation first others) (goes : GoesAsOne formation first others item) where
+  -- all of a fleet have done what the first did, whatever the item was read as
+  pub item_in_step : {F : Type 0} (read : Entry) → read ≡ item → (old : Fleet) → fleet_of formation first others counts ≡ old → (place : ℕ) (answer : Result Unit (Stop F)) (standing : Standing) → StandsAfter place 1 answer standing
+      → CarriesOn counter_takes counter_refuses (carrying_of first (Execute item)) false counts counts' first first' answer
+      → StandsBy standing (λ failed. GoesInStep (Execute read) place old.machines (first' ∷ others_in formation first' others) old.counts counts' failed)
+  item_in_step read is old stood place answer standing stands h =
+      subst (λ (i : Entry). StandsBy standing (λ failed. GoesInStep (Execute i) place old.machines (first' ∷ others_in formation first' others) old.counts counts' failed)) (sym is)
+      (subst (λ (f : Fleet). StandsBy standing (λ failed. GoesInStep (Execute item) place f.machines (first' ∷ others_in formation first' others) f.counts counts' failed)) stood
+      (as_one_in_step (Execute item) place formation counts counts' first first' others (λ events does. all_do law item events first first' does formation others formed goes) answer standing stands h))
+
+  -- where it goes on they stand as they stood
   pub as_one_formed : {F : Type 0} (answer : Result Unit (Stop F)) → first.stopped ≡ false → first'.stopped ≡ false
       → CarriesOn counter_takes counter_refuses (carrying_of first (Execute item)) false counts counts' first first' answer → IsFormed formation first' others
   as_one_formed (Ok done) running runs h =

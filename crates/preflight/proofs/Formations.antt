@@ -5,15 +5,16 @@ use Rattle.std.specs.List.{AllByRecursion}
 use Rattle.std.proofs.lemmas.List.{take_more}
 use Rattle.macro_store.specs.Store.{Store, no_macros}
 use Rattle.pcl_items.specs.Grammar.{follows}
-use Rattle.pcl_items.specs.Items.{Entry}
-use Rattle.device_profile.specs.declared.panel.Panel.{Panel}
+use Rattle.pcl_items.specs.declared.pcl.command.Command.{Command}
+use Rattle.pcl_items.specs.Escapes.Value.{Amount}
+use Rattle.pcl_items.specs.Items.{Entry, Parameterized}
 use Rattle.device_profile.specs.Likeness.{IsLike}
 use Rattle.device_profile.specs.Printer.{Printer}
-use Rattle.page_env.specs.Likeness.{asks_alike}
+use Rattle.page_env.specs.Likeness.{asks_alike, command_asks_alike}
 use Rattle.page_env.specs.Settings.{Settings, State, settings_at, state_at}
 use Rattle.page_machine.specs.Defining.{job_item_run, macros_after}
 use Rattle.page_machine.specs.Event.{Event}
-use Rattle.page_machine.specs.Likeness.{standing_as, without_macros, RunsOnBoth, RunsOnLike}
+use Rattle.page_machine.specs.Likeness.{standing_as, RunsOnBoth, RunsOnLike}
 use Rattle.page_machine.specs.MachineState.{MachineState}
 use Rattle.page_machine.specs.Run.{Run}
 use Rattle.preflight.specs.declared.lockstep.Formation.{Formation}
@@ -109,6 +110,11 @@ all_stand first [] [] h = refl
 all_stand first [] (n ∷ new) h = absurd h
 all_stand first (m ∷ old) [] h = absurd h
 all_stand first (m ∷ old) (n ∷ new) h = λ i. h.0 i ∷ all_stand first old new h.1 i
+
+-- a command that asks nothing of the device asks the same of all
+pub none_asks : (first : MachineState) (command : Command) (n : Amount) → ((p q : Printer) (n : Amount) → command_asks_alike p q command n ≡ true) → (others : List MachineState) → AskAlike first (Parameterized command n) others
+none_asks first command n same [] = tt
+none_asks first command n same (m ∷ others) = (same first.printer m.printer n, none_asks first command n same others)
 
 -- no definition is open where no macro is known
 pub followers_define_none : (first : MachineState) (others : List MachineState) → AllByRecursion (Follows first) others → NoneDefines others

@@ -7,9 +7,14 @@ use Rattle.pcl_items.specs.Modes.{follows, mode_of}
 use Rattle.pcl_items.specs.Reader.{first_of}
 use Rattle.pcl_items.specs.Fault.{IsFault}
 use Rattle.pcl_items.specs.declared.item.Item.TheVariants as items
+use Rattle.pcl_items.specs.declared.item.LineEnd.{LineEnd}
+use Rattle.pcl_items.specs.declared.item.LineEnd.TheVariants as ends
+use Rattle.pcl_items.specs.declared.item.SimpleItem.{SimpleItem}
+use Rattle.pcl_items.specs.declared.item.SimpleItem.TheVariants as simple
 use Rattle.pcl_items.specs.declared.lexer.Lexed.{Lexed}
 use Rattle.pcl_items.specs.declared.lexer.Lexed.TheVariants as answers
 use Rattle.pcl_items.specs.declared.lexer.PlacedItem.{PlacedItem}
+use Rattle.pcl_items.specs.declared.lexer.PlacedLineEnd.{PlacedLineEnd}
 use Rattle.pcl_items.specs.declared.lexer.PlacedRow.{PlacedRow}
 use Rattle.pcl_items.specs.declared.pcl.command.DataCommand.TheVariants.{RasterRow}
 use Rattle.pcl_items.specs.Items.{Placed, view, at}
@@ -36,6 +41,15 @@ pub record HasRead (lexer : LexerState) (bytes : List ℕ) (items : List Placed)
 -- the answer that gives this item
 abbrev pub answer_of : PlacedItem → Result Lexed LexFault
 answer_of read = Ok (answers.Item read.place (items.Simple read.item))
+
+-- the item of a line end
+abbrev pub item_of_end : LineEnd → SimpleItem
+item_of_end ends.CarriageReturn = simple.CarriageReturn
+item_of_end ends.LineFeed = simple.LineFeed
+
+-- the answer that gives this line end
+abbrev pub answer_of_end : PlacedLineEnd → Result Lexed LexFault
+answer_of_end read = answer_of (record { place = read.place; item = item_of_end read.line_end })
 
 -- the item that an answer gives
 abbrev pub given : Result Lexed LexFault → List Placed

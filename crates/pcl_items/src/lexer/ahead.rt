@@ -9,9 +9,10 @@ ghost use Rattle.pcl_items.specs.Lexing.FirstView.{context_view, data_len, head_
 ghost use Rattle.pcl_items.specs.Reader.{first_of};
 ghost use Rattle.pcl_items.specs.PjlLines.View.{pjl_view};
 ghost use Rattle.pcl_items.specs.Lexing.Ahead.{StandsFirst, StandsAhead, IsUndecided};
+ghost use Rattle.pcl_items.specs.Lexing.Meaning.{item_of_end};
 
 use crate::fault::LexFault;
-use crate::item::{Data, Item, PjlLine, Place, SimpleItem, TextByte};
+use crate::item::{Data, Item, LineEnd, PjlLine, Place, SimpleItem, TextByte};
 use crate::lexer::Lexed;
 use crate::lexer::first::{Context, First, Head, first_in};
 use crate::number::DataCount;
@@ -31,15 +32,16 @@ pub fn text_in(bytes: &[u8]) -> Option<TextByte>
     }
 }
 
-/// The item of the first byte, where that is a control code.
+/// The line end of which the first byte is the code.
 #[inline(always)]
 #[tactic(auto, unfolding(crate::specs::Reader::first_of))]
-pub fn control_in(bytes: &[u8]) -> Option<SimpleItem>
-    ensures { IfSome result (λ item. StandsFirst (Simple item) 1 bytes.now) }
+pub fn line_end_in(bytes: &[u8]) -> Option<LineEnd>
+    ensures { IfSome result (λ line_end. StandsFirst (Simple (item_of_end line_end)) 1 bytes.now) }
 {
     match bytes {
-        [b'\x1b' | 32..=255, ..] | [] => None,
-        [code, ..] => control_at(*code),
+        [b'\r', ..] => Some(LineEnd::CarriageReturn),
+        [b'\n', ..] => Some(LineEnd::LineFeed),
+        _ => None,
     }
 }
 

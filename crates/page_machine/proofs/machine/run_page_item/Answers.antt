@@ -27,38 +27,5 @@ returns-in-Ok-Stepped-clause-carries g c =
     (Follows-is _ _ _ _ _ _ _ _ _ (λ panel. left_runs c.args.profile.now (page_view c.args.item) c.args.item c.args.page.now c.carry_out_page_item-carried.new.page c.carry_out_page_item-carried.result refl c.requires.begun c.carry_out_page_item-carried.ensures (in_job (context_of machine panel)) panel ∙ ap (λ result. effect_run (in_job (context_of machine panel)) (effect_at panel (settings_at panel c.args.defaults.now) c.carry_out_page_item-carried.new.page result)) stepped)
     (Follows-stepped _ _ _ _ c.carry_out_page_item-carried.new.page tt)) refl)
 
-pub returns-in-Err-clause-carries : goal.returns-in-Err-clause-carries
-returns-in-Err-clause-carries g c =
-    let item : Entry = page_view c.args.item in
-    let machine : MachineState = fields_of c.args.profile.now c.args.defaults.now c.args.page.now c.args.macros.now in
-    let open_is : is_defining machine.macros ≡ false = ap (λ d. is_some d) c.requires.no_definition in
-    rw c.stop_of.ensures
-    (Carries-is _ _ _ _ _ _ (carried item machine) _ _ _ (item-is_carried item machine open_is)
-    (Carries-halted _ _ _ _ _ _ (carried item machine) _ _
-    (Follows-is _ _ _ _ _ _ _ _ _ (λ panel. left_runs c.args.profile.now (page_view c.args.item) c.args.item c.args.page.now c.carry_out_page_item-carried.new.page c.carry_out_page_item-carried.result refl c.requires.begun c.carry_out_page_item-carried.ensures (in_job (context_of machine panel)) panel)
-    (rw c.depth.ensures at c.in-Err.ensures 1 (λ panel. effect_at panel (settings_at panel c.args.defaults.now) c.carry_out_page_item-carried.new.page c.carry_out_page_item-carried.result) (λ panel. refl)))))
-
-pub returns-in-Ok-keep-clause-carries : goal.returns-in-Ok-keep-clause-carries
-returns-in-Ok-keep-clause-carries g c =
-    let item : Entry = page_view c.args.item in
-    let machine : MachineState = fields_of c.args.profile.now c.args.defaults.now c.args.page.now c.args.macros.now in
-    let open_is : is_defining machine.macros ≡ false = ap (λ d. is_some d) c.requires.no_definition in
-    Carries-is _ _ _ _ _ _ (carried item machine) _ _ _ (item-is_carried item machine open_is)
-    (Carries-done _ _ _ _ _ _ (carried item machine) _ _ _
-    (Follows-is _ _ _ _ _ _ _ _ _ (λ panel. left_runs c.args.profile.now (page_view c.args.item) c.args.item c.args.page.now c.carry_out_page_item-carried.new.page c.carry_out_page_item-carried.result refl c.requires.begun c.carry_out_page_item-carried.ensures (in_job (context_of machine panel)) panel)
-    (rw c.depth.ensures at c.in-Ok.ensures 1 (λ panel. effect_at panel (settings_at panel c.args.defaults.now) c.carry_out_page_item-carried.new.page c.carry_out_page_item-carried.result) (λ panel. refl)))
-    c.in-Ok-keep.ensures.ok)
-
-pub returns-in-Err-keep-clause-carries : goal.returns-in-Err-keep-clause-carries
-returns-in-Err-keep-clause-carries g c =
-    let item : Entry = page_view c.args.item in
-    let machine : MachineState = fields_of c.args.profile.now c.args.defaults.now c.args.page.now c.args.macros.now in
-    let open_is : is_defining machine.macros ≡ false = ap (λ d. is_some d) c.requires.no_definition in
-    Carries-is _ _ _ _ _ _ (carried item machine) _ _ _ (item-is_carried item machine open_is)
-    (Carries-memory _ _ _ _ _ _ (carried item machine) _ _ _ c.in-Err-keep.ensures.err
-    (Follows-is _ _ _ _ _ _ _ _ _ (λ panel. left_runs c.args.profile.now (page_view c.args.item) c.args.item c.args.page.now c.carry_out_page_item-carried.new.page c.carry_out_page_item-carried.result refl c.requires.begun c.carry_out_page_item-carried.ensures (in_job (context_of machine panel)) panel)
-    (rw c.depth.ensures at c.in-Ok.ensures 1 (λ panel. effect_at panel (settings_at panel c.args.defaults.now) c.carry_out_page_item-carried.new.page c.carry_out_page_item-carried.result) (λ panel. refl))))
-
-pub returns-in-Ok-keep-clause-stands : goal.returns-in-Ok-keep-clause-stands
-returns-in-Ok-keep-clause-stands g c = λ mode next e.
-    subst (λ macros. StandsIn macros next) (sym c.in-Ok-keep.ensures.ok) (carried_stands c.args.macros.now c.requires.no_definition c.args.page.now.env.job.macro_id (page_view c.args.item) mode next e)
+pub returns-clause-carries : goal.returns-clause-carries
+returns-clause-carries g c = c.go_on_page_item.ensures.carries c.args.page.now refl c.requires.begun c.carry_out_page_item-carried.ensures

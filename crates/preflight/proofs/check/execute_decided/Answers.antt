@@ -22,66 +22,41 @@ loop-is_open-init g c = record {
   came = open_by _ _ c.requires.open record { running = c.requires.running; modes = c.requires.modes; executed = λ fleet bytes h. h };
 }
 
--- ---- a command, a control code, a pair of coordinates
+-- ---- commands and the ends of lines
+
+pub returns-then-not-execute_commands-clause-came : goal.returns-then-not-execute_commands-clause-came
+returns-then-not-execute_commands-clause-came g c =
+    let so_far = c.loop-is_open.invariant in
+    let through = through_open _ _ _ _ _ _ _ _ (sym so_far.tells ∙ c.loop-is_open-test.true) so_far.came in
+    let ran = c.execute_commands.ensures in
+    came_closed _ _ _ _ _ _ _ _ (sym ran.open ∙ c.if-not-execute_commands.true) (stands_behind _ _ _ _ _ _ _ _ _ _ _ through so_far.further.ended ran.came)
+
+-- ---- a pair of coordinates
 
 pub step-is_open-requires-clause-admitted : goal.step-is_open-requires-clause-admitted
 step-is_open-requires-clause-admitted g c =
     let so_far = c.loop-is_open.invariant in
-    let through = through_open _ _ _ _ _ _ _ _ (sym so_far.tells ∙ c.loop-is_open-test.true) so_far.came in
-    let next = c.in-Some.ensures.command in
+    let ran = c.execute_commands.ensures in
+    let still = sym ran.open ∙ c.if-not-execute_commands.false in
+    let through = text_through _ _ _ _ _ _ _ _ _ _ refl (through_open _ _ _ _ _ _ _ _ (sym so_far.tells ∙ c.loop-is_open-test.true) so_far.came) (through_open _ _ _ _ _ _ _ _ still ran.came) in
+    let next = c.in-Some.ensures.pair in
     all_admit_next _ _ _ next _ _ refl _ through.modes
 
 pub loop-is_open-preserved-in-Some : goal.loop-is_open-preserved-in-Some
 loop-is_open-preserved-in-Some g c =
     let so_far = c.loop-is_open.invariant in
-    let through = through_open _ _ _ _ _ _ _ _ (sym so_far.tells ∙ c.loop-is_open-test.true) so_far.came in
-    let next = c.in-Some.ensures.command in
+    let ran = c.execute_commands.ensures in
+    let still = sym ran.open ∙ c.if-not-execute_commands.false in
+    let through = text_through _ _ _ _ _ _ _ _ _ _ refl (through_open _ _ _ _ _ _ _ _ (sym so_far.tells ∙ c.loop-is_open-test.true) so_far.came) (through_open _ _ _ _ _ _ _ _ still ran.came) in
+    let far = further_by_text _ _ _ c.execute_commands.new.lexer refl so_far.further record { ended = ran.ended; place = ran.place; no_more = ran.no_more } in
+    let untold = ran.untold c.if-not-execute_commands.false ∙ so_far.untold c.loop-is_open-test.true in
+    let next = c.in-Some.ensures.pair in
     let step = c.step-is_open.ensures in
     record {
       tells = step.open;
-      untold = λ is. step.untold is ∙ so_far.untold c.loop-is_open-test.true;
-      further = further _ _ _ _ _ _ refl next so_far.further;
-      came = comes_on _ _ _ _ _ _ _ _ _ c.one_reading.ensures c.watched_runs_are_alike.ensures _ _ _ _ _ refl next through so_far.further.ended (λ closed. step.told (step.open ∙ closed)) step.came;
-    }
-
-pub step-requires-clause-admitted : goal.step-requires-clause-admitted
-step-requires-clause-admitted g c =
-    let so_far = c.loop-is_open.invariant in
-    let through = through_open _ _ _ _ _ _ _ _ (sym so_far.tells ∙ c.loop-is_open-test.true) so_far.came in
-    let next = subst (λ old. IsNext old (answer_of c.in-Some-next_control.read) c.next_control.new.self) c.in_default.ensures.none c.in-Some-next_control.ensures.control in
-    all_admit_next _ _ _ next _ _ refl _ through.modes
-
-pub loop-is_open-preserved-in-Some-next_control : goal.loop-is_open-preserved-in-Some-next_control
-loop-is_open-preserved-in-Some-next_control g c =
-    let so_far = c.loop-is_open.invariant in
-    let through = through_open _ _ _ _ _ _ _ _ (sym so_far.tells ∙ c.loop-is_open-test.true) so_far.came in
-    let next = subst (λ old. IsNext old (answer_of c.in-Some-next_control.read) c.next_control.new.self) c.in_default.ensures.none c.in-Some-next_control.ensures.control in
-    let step = c.step.ensures in
-    record {
-      tells = step.open;
-      untold = λ is. step.untold is ∙ so_far.untold c.loop-is_open-test.true;
-      further = further _ _ _ _ _ _ refl next so_far.further;
-      came = comes_on _ _ _ _ _ _ _ _ _ c.one_reading.ensures c.watched_runs_are_alike.ensures _ _ _ _ _ refl next through so_far.further.ended (λ closed. step.told (step.open ∙ closed)) step.came;
-    }
-
-pub step-requires-in-Some-next_pair-clause-admitted : goal.step-requires-in-Some-next_pair-clause-admitted
-step-requires-in-Some-next_pair-clause-admitted g c =
-    let so_far = c.loop-is_open.invariant in
-    let through = through_open _ _ _ _ _ _ _ _ (sym so_far.tells ∙ c.loop-is_open-test.true) so_far.came in
-    let next = subst (λ old. IsNext old (answer_of c.in-Some-next_pair.read) c.next_pair.new.self) (c.in_default-next_control.ensures.none ∙ c.in_default.ensures.none) c.in-Some-next_pair.ensures.pair in
-    all_admit_next _ _ _ next _ _ refl _ through.modes
-
-pub loop-is_open-preserved-in-Some-next_pair : goal.loop-is_open-preserved-in-Some-next_pair
-loop-is_open-preserved-in-Some-next_pair g c =
-    let so_far = c.loop-is_open.invariant in
-    let through = through_open _ _ _ _ _ _ _ _ (sym so_far.tells ∙ c.loop-is_open-test.true) so_far.came in
-    let next = subst (λ old. IsNext old (answer_of c.in-Some-next_pair.read) c.next_pair.new.self) (c.in_default-next_control.ensures.none ∙ c.in_default.ensures.none) c.in-Some-next_pair.ensures.pair in
-    let step = c.step-in-Some-next_pair.ensures in
-    record {
-      tells = step.open;
-      untold = λ is. step.untold is ∙ so_far.untold c.loop-is_open-test.true;
-      further = further _ _ _ _ _ _ refl next so_far.further;
-      came = comes_on _ _ _ _ _ _ _ _ _ c.one_reading.ensures c.watched_runs_are_alike.ensures _ _ _ _ _ refl next through so_far.further.ended (λ closed. step.told (step.open ∙ closed)) step.came;
+      untold = λ is. step.untold is ∙ untold;
+      further = further _ _ _ _ _ _ refl next far;
+      came = comes_on _ _ _ _ _ _ _ _ _ c.one_reading.ensures c.watched_runs_are_alike.ensures _ _ _ _ _ refl next through far.ended (λ closed. step.told (step.open ∙ closed)) step.came;
     }
 
 -- ---- text
@@ -89,22 +64,28 @@ loop-is_open-preserved-in-Some-next_pair g c =
 pub execute_text-requires-clause-modes : goal.execute_text-requires-clause-modes
 execute_text-requires-clause-modes g c =
     let so_far = c.loop-is_open.invariant in
-    let through = through_open _ _ _ _ _ _ _ _ (sym so_far.tells ∙ c.loop-is_open-test.true) so_far.came in
-    let here = c.in_default-next_pair.ensures.none ∙ (c.in_default-next_control.ensures.none ∙ c.in_default.ensures.none) in
-    subst (λ lexer. AreIn (mode_of lexer.context) (machines_of c.loop-is_open.machines)) (sym here) through.modes
+    let ran = c.execute_commands.ensures in
+    let still = sym ran.open ∙ c.if-not-execute_commands.false in
+    let through = text_through _ _ _ _ _ _ _ _ _ _ refl (through_open _ _ _ _ _ _ _ _ (sym so_far.tells ∙ c.loop-is_open-test.true) so_far.came) (through_open _ _ _ _ _ _ _ _ still ran.came) in
+    let here = c.in_default.ensures.none in
+    subst (λ lexer. AreIn (mode_of lexer.context) (machines_of c.execute_commands.new.machines)) (sym here) through.modes
 
 pub loop-is_open-preserved-then-execute_text : goal.loop-is_open-preserved-then-execute_text
 loop-is_open-preserved-then-execute_text g c =
     let so_far = c.loop-is_open.invariant in
-    let through = through_open _ _ _ _ _ _ _ _ (sym so_far.tells ∙ c.loop-is_open-test.true) so_far.came in
-    let here = c.in_default-next_pair.ensures.none ∙ (c.in_default-next_control.ensures.none ∙ c.in_default.ensures.none) in
+    let ran = c.execute_commands.ensures in
+    let still = sym ran.open ∙ c.if-not-execute_commands.false in
+    let through = text_through _ _ _ _ _ _ _ _ _ _ refl (through_open _ _ _ _ _ _ _ _ (sym so_far.tells ∙ c.loop-is_open-test.true) so_far.came) (through_open _ _ _ _ _ _ _ _ still ran.came) in
+    let far = further_by_text _ _ _ c.execute_commands.new.lexer refl so_far.further record { ended = ran.ended; place = ran.place; no_more = ran.no_more } in
+    let untold = ran.untold c.if-not-execute_commands.false ∙ so_far.untold c.loop-is_open-test.true in
+    let here = c.in_default.ensures.none in
     let text = c.execute_text.ensures in
     let behind = text_through _ _ _ _ _ _ _ _ _ _ here through record { running = text.running; modes = text.modes; executed = text.executed } in
-    let on = further_by_text _ _ _ c.execute_text.new.lexer here so_far.further record { ended = text.ended; place = text.place; no_more = text.no_more } in
-    let is = sym so_far.tells ∙ c.loop-is_open-test.true in
+    let on = further_by_text _ _ _ c.execute_text.new.lexer here far record { ended = text.ended; place = text.place; no_more = text.no_more } in
+    let is = still in
     record {
       tells = sym is;
-      untold = λ _. so_far.untold c.loop-is_open-test.true;
+      untold = λ _. untold;
       further = on;
       came = open_by _ _ (open_is _ is) behind;
     }
@@ -118,18 +99,22 @@ step_other-requires-clause-admitted g c =
 pub loop-is_open-preserved : goal.loop-is_open-preserved
 loop-is_open-preserved g c =
     let so_far = c.loop-is_open.invariant in
-    let through = through_open _ _ _ _ _ _ _ _ (sym so_far.tells ∙ c.loop-is_open-test.true) so_far.came in
-    let here = c.in_default-next_pair.ensures.none ∙ (c.in_default-next_control.ensures.none ∙ c.in_default.ensures.none) in
+    let ran = c.execute_commands.ensures in
+    let still = sym ran.open ∙ c.if-not-execute_commands.false in
+    let through = text_through _ _ _ _ _ _ _ _ _ _ refl (through_open _ _ _ _ _ _ _ _ (sym so_far.tells ∙ c.loop-is_open-test.true) so_far.came) (through_open _ _ _ _ _ _ _ _ still ran.came) in
+    let far = further_by_text _ _ _ c.execute_commands.new.lexer refl so_far.further record { ended = ran.ended; place = ran.place; no_more = ran.no_more } in
+    let untold = ran.untold c.if-not-execute_commands.false ∙ so_far.untold c.loop-is_open-test.true in
+    let here = c.in_default.ensures.none in
     let text = c.execute_text.ensures in
     let behind = text_through _ _ _ _ _ _ _ _ _ _ here through record { running = text.running; modes = text.modes; executed = text.executed } in
-    let on = further_by_text _ _ _ c.execute_text.new.lexer here so_far.further record { ended = text.ended; place = text.place; no_more = text.no_more } in
+    let on = further_by_text _ _ _ c.execute_text.new.lexer here far record { ended = text.ended; place = text.place; no_more = text.no_more } in
     let next = c.next_other.follows.holds-at-none in
     let item = c.in-Ok-Item.is ∙ ap Ok c.in-Ok-Item.field-0-is in
     let step = c.step_other.ensures in
     let went = c.if-not-step_other.false in
     record {
       tells = sym went ∙ step.open;
-      untold = λ is. step.untold went ∙ so_far.untold c.loop-is_open-test.true;
+      untold = λ is. step.untold went ∙ untold;
       further = further _ _ _ _ _ _ item next on;
       came = comes_on _ _ _ _ _ _ _ _ _ c.one_reading.ensures c.watched_runs_are_alike.ensures _ _ _ _ _ item next behind on.ended (λ closed. absurd (both (sym step.open ∙ went) closed)) step.came;
     }
@@ -137,11 +122,14 @@ loop-is_open-preserved g c =
 pub loop-is_open-preserved-then-not-step_other : goal.loop-is_open-preserved-then-not-step_other
 loop-is_open-preserved-then-not-step_other g c =
     let so_far = c.loop-is_open.invariant in
-    let through = through_open _ _ _ _ _ _ _ _ (sym so_far.tells ∙ c.loop-is_open-test.true) so_far.came in
-    let here = c.in_default-next_pair.ensures.none ∙ (c.in_default-next_control.ensures.none ∙ c.in_default.ensures.none) in
+    let ran = c.execute_commands.ensures in
+    let still = sym ran.open ∙ c.if-not-execute_commands.false in
+    let through = text_through _ _ _ _ _ _ _ _ _ _ refl (through_open _ _ _ _ _ _ _ _ (sym so_far.tells ∙ c.loop-is_open-test.true) so_far.came) (through_open _ _ _ _ _ _ _ _ still ran.came) in
+    let far = further_by_text _ _ _ c.execute_commands.new.lexer refl so_far.further record { ended = ran.ended; place = ran.place; no_more = ran.no_more } in
+    let here = c.in_default.ensures.none in
     let text = c.execute_text.ensures in
     let behind = text_through _ _ _ _ _ _ _ _ _ _ here through record { running = text.running; modes = text.modes; executed = text.executed } in
-    let on = further_by_text _ _ _ c.execute_text.new.lexer here so_far.further record { ended = text.ended; place = text.place; no_more = text.no_more } in
+    let on = further_by_text _ _ _ c.execute_text.new.lexer here far record { ended = text.ended; place = text.place; no_more = text.no_more } in
     let next = c.next_other.follows.holds-at-none in
     let item = c.in-Ok-Item.is ∙ ap Ok c.in-Ok-Item.field-0-is in
     let step = c.step_other.ensures in
@@ -158,11 +146,14 @@ loop-is_open-preserved-then-not-step_other g c =
 pub execute_rows-requires-clause-running : goal.execute_rows-requires-clause-running
 execute_rows-requires-clause-running g c =
     let so_far = c.loop-is_open.invariant in
-    let through = through_open _ _ _ _ _ _ _ _ (sym so_far.tells ∙ c.loop-is_open-test.true) so_far.came in
-    let here = c.in_default-next_pair.ensures.none ∙ (c.in_default-next_control.ensures.none ∙ c.in_default.ensures.none) in
+    let ran = c.execute_commands.ensures in
+    let still = sym ran.open ∙ c.if-not-execute_commands.false in
+    let through = text_through _ _ _ _ _ _ _ _ _ _ refl (through_open _ _ _ _ _ _ _ _ (sym so_far.tells ∙ c.loop-is_open-test.true) so_far.came) (through_open _ _ _ _ _ _ _ _ still ran.came) in
+    let far = further_by_text _ _ _ c.execute_commands.new.lexer refl so_far.further record { ended = ran.ended; place = ran.place; no_more = ran.no_more } in
+    let here = c.in_default.ensures.none in
     let text = c.execute_text.ensures in
     let behind = text_through _ _ _ _ _ _ _ _ _ _ here through record { running = text.running; modes = text.modes; executed = text.executed } in
-    let on = further_by_text _ _ _ c.execute_text.new.lexer here so_far.further record { ended = text.ended; place = text.place; no_more = text.no_more } in
+    let on = further_by_text _ _ _ c.execute_text.new.lexer here far record { ended = text.ended; place = text.place; no_more = text.no_more } in
     let item = c.in-Ok-Item.is ∙ ap Ok c.in-Ok-Item.field-0-is in
     let step = c.step_other.ensures in
     let went = sym step.open ∙ c.if-not-step_other.false in
@@ -171,11 +162,14 @@ execute_rows-requires-clause-running g c =
 pub execute_rows-requires-clause-modes : goal.execute_rows-requires-clause-modes
 execute_rows-requires-clause-modes g c =
     let so_far = c.loop-is_open.invariant in
-    let through = through_open _ _ _ _ _ _ _ _ (sym so_far.tells ∙ c.loop-is_open-test.true) so_far.came in
-    let here = c.in_default-next_pair.ensures.none ∙ (c.in_default-next_control.ensures.none ∙ c.in_default.ensures.none) in
+    let ran = c.execute_commands.ensures in
+    let still = sym ran.open ∙ c.if-not-execute_commands.false in
+    let through = text_through _ _ _ _ _ _ _ _ _ _ refl (through_open _ _ _ _ _ _ _ _ (sym so_far.tells ∙ c.loop-is_open-test.true) so_far.came) (through_open _ _ _ _ _ _ _ _ still ran.came) in
+    let far = further_by_text _ _ _ c.execute_commands.new.lexer refl so_far.further record { ended = ran.ended; place = ran.place; no_more = ran.no_more } in
+    let here = c.in_default.ensures.none in
     let text = c.execute_text.ensures in
     let behind = text_through _ _ _ _ _ _ _ _ _ _ here through record { running = text.running; modes = text.modes; executed = text.executed } in
-    let on = further_by_text _ _ _ c.execute_text.new.lexer here so_far.further record { ended = text.ended; place = text.place; no_more = text.no_more } in
+    let on = further_by_text _ _ _ c.execute_text.new.lexer here far record { ended = text.ended; place = text.place; no_more = text.no_more } in
     let item = c.in-Ok-Item.is ∙ ap Ok c.in-Ok-Item.field-0-is in
     let step = c.step_other.ensures in
     let went = sym step.open ∙ c.if-not-step_other.false in
@@ -187,11 +181,15 @@ execute_rows-requires-clause-open g c = open_is _ (sym c.step_other.ensures.open
 pub loop-is_open-preserved-then-is_row : goal.loop-is_open-preserved-then-is_row
 loop-is_open-preserved-then-is_row g c =
     let so_far = c.loop-is_open.invariant in
-    let through = through_open _ _ _ _ _ _ _ _ (sym so_far.tells ∙ c.loop-is_open-test.true) so_far.came in
-    let here = c.in_default-next_pair.ensures.none ∙ (c.in_default-next_control.ensures.none ∙ c.in_default.ensures.none) in
+    let ran = c.execute_commands.ensures in
+    let still = sym ran.open ∙ c.if-not-execute_commands.false in
+    let through = text_through _ _ _ _ _ _ _ _ _ _ refl (through_open _ _ _ _ _ _ _ _ (sym so_far.tells ∙ c.loop-is_open-test.true) so_far.came) (through_open _ _ _ _ _ _ _ _ still ran.came) in
+    let far = further_by_text _ _ _ c.execute_commands.new.lexer refl so_far.further record { ended = ran.ended; place = ran.place; no_more = ran.no_more } in
+    let untold = ran.untold c.if-not-execute_commands.false ∙ so_far.untold c.loop-is_open-test.true in
+    let here = c.in_default.ensures.none in
     let text = c.execute_text.ensures in
     let behind = text_through _ _ _ _ _ _ _ _ _ _ here through record { running = text.running; modes = text.modes; executed = text.executed } in
-    let on = further_by_text _ _ _ c.execute_text.new.lexer here so_far.further record { ended = text.ended; place = text.place; no_more = text.no_more } in
+    let on = further_by_text _ _ _ c.execute_text.new.lexer here far record { ended = text.ended; place = text.place; no_more = text.no_more } in
     let item = c.in-Ok-Item.is ∙ ap Ok c.in-Ok-Item.field-0-is in
     let step = c.step_other.ensures in
     let went = sym step.open ∙ c.if-not-step_other.false in
@@ -200,22 +198,24 @@ loop-is_open-preserved-then-is_row g c =
     let rows = c.execute_rows.ensures in
     record {
       tells = rows.open;
-      untold = λ is. rows.untold is ∙ step.untold c.if-not-step_other.false ∙ so_far.untold c.loop-is_open-test.true;
+      untold = λ is. rows.untold is ∙ step.untold c.if-not-step_other.false ∙ untold;
       further = further_by_text _ _ _ _ refl there record { ended = rows.ended; place = rows.place; no_more = rows.no_more };
       came = stands_behind _ _ _ _ _ _ _ _ _ c.execute_rows.new.standing c.execute_rows.new.culprit (through_open _ _ _ _ _ _ _ _ went came) there.ended rows.came;
     }
 
 pub loop-is_open-smaller-then-is_row : goal.loop-is_open-smaller-then-is_row
 loop-is_open-smaller-then-is_row g c =
-    let here = c.in_default-next_pair.ensures.none ∙ (c.in_default-next_control.ensures.none ∙ c.in_default.ensures.none) in
+    let here = c.in_default.ensures.none in
     let item = c.in-Ok-Item.is ∙ ap Ok c.in-Ok-Item.field-0-is in
     omega (arith, item_takes _ _ _ c.next_other.follows.holds-at-none _ _ item, c.execute_text.ensures.no_more, c.execute_rows.ensures.no_more, ap (λ lexer. left lexer.context lexer.rest) here)
 
 pub loop-is_open-smaller : goal.loop-is_open-smaller
 loop-is_open-smaller g c =
     let so_far = c.loop-is_open.invariant in
-    let through = through_open _ _ _ _ _ _ _ _ (sym so_far.tells ∙ c.loop-is_open-test.true) so_far.came in
-    let here = c.in_default-next_pair.ensures.none ∙ (c.in_default-next_control.ensures.none ∙ c.in_default.ensures.none) in
+    let ran = c.execute_commands.ensures in
+    let still = sym ran.open ∙ c.if-not-execute_commands.false in
+    let through = text_through _ _ _ _ _ _ _ _ _ _ refl (through_open _ _ _ _ _ _ _ _ (sym so_far.tells ∙ c.loop-is_open-test.true) so_far.came) (through_open _ _ _ _ _ _ _ _ still ran.came) in
+    let here = c.in_default.ensures.none in
     let text = c.execute_text.ensures in
     let item = c.in-Ok-Item.is ∙ ap Ok c.in-Ok-Item.field-0-is in
     omega (arith, item_takes _ _ _ c.next_other.follows.holds-at-none _ _ item, text.no_more, ap (λ lexer. left lexer.context lexer.rest) here)
@@ -225,15 +225,18 @@ loop-is_open-smaller g c =
 pub returns-in-Ok-NeedMore-clause-came : goal.returns-in-Ok-NeedMore-clause-came
 returns-in-Ok-NeedMore-clause-came g c =
     let so_far = c.loop-is_open.invariant in
-    let through = through_open _ _ _ _ _ _ _ _ (sym so_far.tells ∙ c.loop-is_open-test.true) so_far.came in
-    let here = c.in_default-next_pair.ensures.none ∙ (c.in_default-next_control.ensures.none ∙ c.in_default.ensures.none) in
+    let ran = c.execute_commands.ensures in
+    let still = sym ran.open ∙ c.if-not-execute_commands.false in
+    let through = text_through _ _ _ _ _ _ _ _ _ _ refl (through_open _ _ _ _ _ _ _ _ (sym so_far.tells ∙ c.loop-is_open-test.true) so_far.came) (through_open _ _ _ _ _ _ _ _ still ran.came) in
+    let far = further_by_text _ _ _ c.execute_commands.new.lexer refl so_far.further record { ended = ran.ended; place = ran.place; no_more = ran.no_more } in
+    let here = c.in_default.ensures.none in
     let text = c.execute_text.ensures in
     let behind = text_through _ _ _ _ _ _ _ _ _ _ here through record { running = text.running; modes = text.modes; executed = text.executed } in
-    let on = further_by_text _ _ _ c.execute_text.new.lexer here so_far.further record { ended = text.ended; place = text.place; no_more = text.no_more } in
+    let on = further_by_text _ _ _ c.execute_text.new.lexer here far record { ended = text.ended; place = text.place; no_more = text.no_more } in
     let next = c.next_other.follows.holds-at-none in
     let more = c.in-Ok-NeedMore.is ∙ ap Ok c.in-Ok-NeedMore.field-0-is in
     let not_ended : c.args.lexer.now.ended ≡ false = sym (next.ended ∙ on.ended) ∙ (wants_more _ _ _ next more).0 in
-    open_by _ _ (open_is _ (sym so_far.tells ∙ c.loop-is_open-test.true)) (λ fleet bytes executed. (
+    open_by _ _ (open_is _ still) (λ fleet bytes executed. (
       nothing_read _ _ _ next (ap given more) fleet bytes _ _ (behind.executed fleet bytes executed),
       λ ended. absurd (both ended not_ended),
     ))
@@ -241,53 +244,64 @@ returns-in-Ok-NeedMore-clause-came g c =
 pub returns-in-Ok-NeedMore-clause-goes_on : goal.returns-in-Ok-NeedMore-clause-goes_on
 returns-in-Ok-NeedMore-clause-goes_on g c =
     let so_far = c.loop-is_open.invariant in
+    let ran = c.execute_commands.ensures in
+    let still = sym ran.open ∙ c.if-not-execute_commands.false in
     let next = c.next_other.follows.holds-at-none in
     let more = c.in-Ok-NeedMore.is ∙ ap Ok c.in-Ok-NeedMore.field-0-is in
-    open_by _ _ (open_is _ (sym so_far.tells ∙ c.loop-is_open-test.true))
+    open_by _ _ (open_is _ still)
     (c.execute_text.ensures.running, λ e. ((wants_more _ _ _ next more).1, same_mode _ _ _ next more _ c.execute_text.ensures.modes))
 
 pub returns-in-Ok-End-clause-came : goal.returns-in-Ok-End-clause-came
 returns-in-Ok-End-clause-came g c =
     let so_far = c.loop-is_open.invariant in
-    let through = through_open _ _ _ _ _ _ _ _ (sym so_far.tells ∙ c.loop-is_open-test.true) so_far.came in
-    let here = c.in_default-next_pair.ensures.none ∙ (c.in_default-next_control.ensures.none ∙ c.in_default.ensures.none) in
+    let ran = c.execute_commands.ensures in
+    let still = sym ran.open ∙ c.if-not-execute_commands.false in
+    let through = text_through _ _ _ _ _ _ _ _ _ _ refl (through_open _ _ _ _ _ _ _ _ (sym so_far.tells ∙ c.loop-is_open-test.true) so_far.came) (through_open _ _ _ _ _ _ _ _ still ran.came) in
+    let here = c.in_default.ensures.none in
     let text = c.execute_text.ensures in
     let behind = text_through _ _ _ _ _ _ _ _ _ _ here through record { running = text.running; modes = text.modes; executed = text.executed } in
     let end = c.in-Ok-End.is ∙ ap Ok c.in-Ok-End.field-0-is in
-    open_by _ _ (open_is _ (sym so_far.tells ∙ c.loop-is_open-test.true)) (λ fleet bytes executed.
+    open_by _ _ (open_is _ still) (λ fleet bytes executed.
     let whole = bytes_whole _ _ _ c.next_other.follows.holds-at-none end fleet bytes _ _ (behind.executed fleet bytes executed) in
     (whole.0, λ e. whole.1))
 
 pub returns-in-Ok-End-clause-goes_on : goal.returns-in-Ok-End-clause-goes_on
 returns-in-Ok-End-clause-goes_on g c =
     let so_far = c.loop-is_open.invariant in
-    let through = through_open _ _ _ _ _ _ _ _ (sym so_far.tells ∙ c.loop-is_open-test.true) so_far.came in
-    let here = c.in_default-next_pair.ensures.none ∙ (c.in_default-next_control.ensures.none ∙ c.in_default.ensures.none) in
+    let ran = c.execute_commands.ensures in
+    let still = sym ran.open ∙ c.if-not-execute_commands.false in
+    let through = text_through _ _ _ _ _ _ _ _ _ _ refl (through_open _ _ _ _ _ _ _ _ (sym so_far.tells ∙ c.loop-is_open-test.true) so_far.came) (through_open _ _ _ _ _ _ _ _ still ran.came) in
+    let far = further_by_text _ _ _ c.execute_commands.new.lexer refl so_far.further record { ended = ran.ended; place = ran.place; no_more = ran.no_more } in
+    let here = c.in_default.ensures.none in
     let text = c.execute_text.ensures in
-    let on = further_by_text _ _ _ c.execute_text.new.lexer here so_far.further record { ended = text.ended; place = text.place; no_more = text.no_more } in
+    let on = further_by_text _ _ _ c.execute_text.new.lexer here far record { ended = text.ended; place = text.place; no_more = text.no_more } in
     let next = c.next_other.follows.holds-at-none in
     let end = c.in-Ok-End.is ∙ ap Ok c.in-Ok-End.field-0-is in
     let ended = sym (next.ended ∙ on.ended) ∙ ends _ _ _ next end in
-    open_by _ _ (open_is _ (sym so_far.tells ∙ c.loop-is_open-test.true)) (text.running, λ wants. absurd (both ended wants))
+    open_by _ _ (open_is _ still) (text.running, λ wants. absurd (both ended wants))
 
 pub returns-in-Err-clause-came : goal.returns-in-Err-clause-came
 returns-in-Err-clause-came g c =
     let so_far = c.loop-is_open.invariant in
-    let through = through_open _ _ _ _ _ _ _ _ (sym so_far.tells ∙ c.loop-is_open-test.true) so_far.came in
-    let here = c.in_default-next_pair.ensures.none ∙ (c.in_default-next_control.ensures.none ∙ c.in_default.ensures.none) in
+    let ran = c.execute_commands.ensures in
+    let still = sym ran.open ∙ c.if-not-execute_commands.false in
+    let through = text_through _ _ _ _ _ _ _ _ _ _ refl (through_open _ _ _ _ _ _ _ _ (sym so_far.tells ∙ c.loop-is_open-test.true) so_far.came) (through_open _ _ _ _ _ _ _ _ still ran.came) in
+    let far = further_by_text _ _ _ c.execute_commands.new.lexer refl so_far.further record { ended = ran.ended; place = ran.place; no_more = ran.no_more } in
+    let untold = ran.untold c.if-not-execute_commands.false ∙ so_far.untold c.loop-is_open-test.true in
+    let here = c.in_default.ensures.none in
     let text = c.execute_text.ensures in
     let behind = text_through _ _ _ _ _ _ _ _ _ _ here through record { running = text.running; modes = text.modes; executed = text.executed } in
-    let on = further_by_text _ _ _ c.execute_text.new.lexer here so_far.further record { ended = text.ended; place = text.place; no_more = text.no_more } in
-    let untold = so_far.untold c.loop-is_open-test.true ∙ c.requires.untold in
+    let on = further_by_text _ _ _ c.execute_text.new.lexer here far record { ended = text.ended; place = text.place; no_more = text.no_more } in
+    let untold = untold ∙ c.requires.untold in
     failed_by _ _ _ c.fail.ensures.standing (λ fleet bytes executed job may_be.
-    subst (λ failure. IsExact fleet job (failing failure) × IsTold job (failing failure) c.loop-is_open.culprit) (sym c.of_fault.ensures)
+    subst (λ failure. IsExact fleet job (failing failure) × IsTold job (failing failure) c.execute_commands.new.culprit) (sym c.of_fault.ensures)
     (bytes_fail _ _ _ c.next_other.follows.holds-at-none c.in-Err.fault c.in-Err.is c.watched_runs_are_alike.ensures fleet bytes _ _ _ on.ended (behind.executed fleet bytes executed) job may_be, untold))
 
 pub returns-in-Ok-NeedMore-clause-untold : goal.returns-in-Ok-NeedMore-clause-untold
-returns-in-Ok-NeedMore-clause-untold g c = λ is. c.loop-is_open.invariant.untold c.loop-is_open-test.true ∙ c.requires.untold
+returns-in-Ok-NeedMore-clause-untold g c = λ is. c.execute_commands.ensures.untold c.if-not-execute_commands.false ∙ c.loop-is_open.invariant.untold c.loop-is_open-test.true ∙ c.requires.untold
 
 pub returns-in-Ok-End-clause-untold : goal.returns-in-Ok-End-clause-untold
-returns-in-Ok-End-clause-untold g c = λ is. c.loop-is_open.invariant.untold c.loop-is_open-test.true ∙ c.requires.untold
+returns-in-Ok-End-clause-untold g c = λ is. c.execute_commands.ensures.untold c.if-not-execute_commands.false ∙ c.loop-is_open.invariant.untold c.loop-is_open-test.true ∙ c.requires.untold
 
 pub returns-clause-came : goal.returns-clause-came
 returns-clause-came g c =
@@ -297,49 +311,61 @@ returns-clause-came g c =
 pub returns-in-Ok-NeedMore-clause-ended : goal.returns-in-Ok-NeedMore-clause-ended
 returns-in-Ok-NeedMore-clause-ended g c =
     let so_far = c.loop-is_open.invariant in
-    let here = c.in_default-next_pair.ensures.none ∙ (c.in_default-next_control.ensures.none ∙ c.in_default.ensures.none) in
+    let ran = c.execute_commands.ensures in
+    let far = further_by_text _ _ _ c.execute_commands.new.lexer refl so_far.further record { ended = ran.ended; place = ran.place; no_more = ran.no_more } in
+    let here = c.in_default.ensures.none in
     let text = c.execute_text.ensures in
-    let on = further_by_text _ _ _ c.execute_text.new.lexer here so_far.further record { ended = text.ended; place = text.place; no_more = text.no_more } in
+    let on = further_by_text _ _ _ c.execute_text.new.lexer here far record { ended = text.ended; place = text.place; no_more = text.no_more } in
     c.next_other.follows.holds-at-none.ended ∙ on.ended
 
 pub returns-in-Ok-NeedMore-clause-place : goal.returns-in-Ok-NeedMore-clause-place
 returns-in-Ok-NeedMore-clause-place g c =
     let so_far = c.loop-is_open.invariant in
-    let here = c.in_default-next_pair.ensures.none ∙ (c.in_default-next_control.ensures.none ∙ c.in_default.ensures.none) in
+    let ran = c.execute_commands.ensures in
+    let far = further_by_text _ _ _ c.execute_commands.new.lexer refl so_far.further record { ended = ran.ended; place = ran.place; no_more = ran.no_more } in
+    let here = c.in_default.ensures.none in
     let text = c.execute_text.ensures in
-    let on = further_by_text _ _ _ c.execute_text.new.lexer here so_far.further record { ended = text.ended; place = text.place; no_more = text.no_more } in
+    let on = further_by_text _ _ _ c.execute_text.new.lexer here far record { ended = text.ended; place = text.place; no_more = text.no_more } in
     c.next_other.follows.holds-at-none.total ∙ on.place
 
 pub returns-in-Ok-End-clause-ended : goal.returns-in-Ok-End-clause-ended
 returns-in-Ok-End-clause-ended g c =
     let so_far = c.loop-is_open.invariant in
-    let here = c.in_default-next_pair.ensures.none ∙ (c.in_default-next_control.ensures.none ∙ c.in_default.ensures.none) in
+    let ran = c.execute_commands.ensures in
+    let far = further_by_text _ _ _ c.execute_commands.new.lexer refl so_far.further record { ended = ran.ended; place = ran.place; no_more = ran.no_more } in
+    let here = c.in_default.ensures.none in
     let text = c.execute_text.ensures in
-    let on = further_by_text _ _ _ c.execute_text.new.lexer here so_far.further record { ended = text.ended; place = text.place; no_more = text.no_more } in
+    let on = further_by_text _ _ _ c.execute_text.new.lexer here far record { ended = text.ended; place = text.place; no_more = text.no_more } in
     c.next_other.follows.holds-at-none.ended ∙ on.ended
 
 pub returns-in-Ok-End-clause-place : goal.returns-in-Ok-End-clause-place
 returns-in-Ok-End-clause-place g c =
     let so_far = c.loop-is_open.invariant in
-    let here = c.in_default-next_pair.ensures.none ∙ (c.in_default-next_control.ensures.none ∙ c.in_default.ensures.none) in
+    let ran = c.execute_commands.ensures in
+    let far = further_by_text _ _ _ c.execute_commands.new.lexer refl so_far.further record { ended = ran.ended; place = ran.place; no_more = ran.no_more } in
+    let here = c.in_default.ensures.none in
     let text = c.execute_text.ensures in
-    let on = further_by_text _ _ _ c.execute_text.new.lexer here so_far.further record { ended = text.ended; place = text.place; no_more = text.no_more } in
+    let on = further_by_text _ _ _ c.execute_text.new.lexer here far record { ended = text.ended; place = text.place; no_more = text.no_more } in
     c.next_other.follows.holds-at-none.total ∙ on.place
 
 pub returns-in-Err-clause-ended : goal.returns-in-Err-clause-ended
 returns-in-Err-clause-ended g c =
     let so_far = c.loop-is_open.invariant in
-    let here = c.in_default-next_pair.ensures.none ∙ (c.in_default-next_control.ensures.none ∙ c.in_default.ensures.none) in
+    let ran = c.execute_commands.ensures in
+    let far = further_by_text _ _ _ c.execute_commands.new.lexer refl so_far.further record { ended = ran.ended; place = ran.place; no_more = ran.no_more } in
+    let here = c.in_default.ensures.none in
     let text = c.execute_text.ensures in
-    let on = further_by_text _ _ _ c.execute_text.new.lexer here so_far.further record { ended = text.ended; place = text.place; no_more = text.no_more } in
+    let on = further_by_text _ _ _ c.execute_text.new.lexer here far record { ended = text.ended; place = text.place; no_more = text.no_more } in
     c.next_other.follows.holds-at-none.ended ∙ on.ended
 
 pub returns-in-Err-clause-place : goal.returns-in-Err-clause-place
 returns-in-Err-clause-place g c =
     let so_far = c.loop-is_open.invariant in
-    let here = c.in_default-next_pair.ensures.none ∙ (c.in_default-next_control.ensures.none ∙ c.in_default.ensures.none) in
+    let ran = c.execute_commands.ensures in
+    let far = further_by_text _ _ _ c.execute_commands.new.lexer refl so_far.further record { ended = ran.ended; place = ran.place; no_more = ran.no_more } in
+    let here = c.in_default.ensures.none in
     let text = c.execute_text.ensures in
-    let on = further_by_text _ _ _ c.execute_text.new.lexer here so_far.further record { ended = text.ended; place = text.place; no_more = text.no_more } in
+    let on = further_by_text _ _ _ c.execute_text.new.lexer here far record { ended = text.ended; place = text.place; no_more = text.no_more } in
     c.next_other.follows.holds-at-none.total ∙ on.place
 
 pub returns-clause-goes_on : goal.returns-clause-goes_on

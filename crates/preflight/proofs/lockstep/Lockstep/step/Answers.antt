@@ -1,11 +1,9 @@
-use Rattle.std.proofs.Common.{◌∷◌, sym, subst}
+use Rattle.std.proofs.Common.{refl, sym, subst}
 use Rattle.pcl_items.specs.Items.{view}
-use Rattle.preflight.specs.Carriers.Formation.{GoesAsOne, others_in}
-use Rattle.preflight.specs.Carriers.Lockstep.{Execute, Fleet, AreRunning, AllAdmit, GoesInStep}
-use Rattle.preflight.specs.Standing.{StandsBy}
+use Rattle.preflight.specs.Carriers.Formation.{GoesAsOne}
+use Rattle.preflight.specs.Carriers.Lockstep.{Execute, Fleet, AreRunning, AllAdmit}
 use Rattle.preflight.proofs.Counting.{counter_takes, counter_refuses}
-use Rattle.preflight.proofs.Executing.{as_one_formed, as_one_in_step, was_running}
-use Rattle.preflight.proofs.Formations.{all_do}
+use Rattle.preflight.proofs.Executing.{as_one_formed, item_in_step, was_running}
 use Rattle.preflight.proofs.lockstep.Lockstep.step.Goals.{then-goes_as_one, else-goes_as_one}
 use Rattle.preflight.proofs.lockstep.Lockstep.step.Goals as goal
 
@@ -32,14 +30,11 @@ returns-then-not-is_open-clause-came g c = elim c.if-goes_as_one.branch [
   | then-goes_as_one w ↦
       let before = c.self.inside in
       let item = view c.args.item.now in
-      let first = w.step-answer.new.self in
       let running = (subst (λ (f : Fleet). AreRunning f.machines) (sym c.self.view_is) c.requires.running).0 in
       let goes = subst (λ ms. GoesAsOne before.formation before.first ms item) c.deref.ensures.value (c.goes_as_one.ensures w.if-goes_as_one.true) in
       rw (w.self-is, w.standing-is)
-      (subst (λ (f : Fleet). StandsBy w.judge-is_open.new.self (λ failed. GoesInStep (Execute item) c.args.place f.machines (first ∷ others_in before.formation first before.others.items) f.counts w.step-answer.new.sink failed)) c.self.view_is
-      (as_one_in_step (Execute item) c.args.place before.formation before.counts w.step-answer.new.sink before.first first before.others.items
-      (λ events does. all_do c.items_run_on_like_printers.ensures item events before.first first does before.formation before.others.items (c.self.invariant running) goes)
-      w.step-answer.result w.judge-is_open.new.self w.judge-is_open.ensures.standing w.step-answer.ensures))
+      (item_in_step c.items_run_on_like_printers.ensures item before.formation before.counts w.step-answer.new.sink before.first w.step-answer.new.self before.others.items (c.self.invariant running) goes
+      item refl c.args.self.now c.self.view_is c.args.place w.step-answer.result w.judge-is_open.new.self w.judge-is_open.ensures.standing w.step-answer.ensures)
   | else-goes_as_one w ↦ rw (w.self-is, w.standing-is) w.step_apart-is_open.ensures.came
 ]
 
@@ -48,14 +43,11 @@ returns-else-not-is_open-clause-came g c = elim c.if-goes_as_one.branch [
   | then-goes_as_one w ↦
       let before = c.self.inside in
       let item = view c.args.item.now in
-      let first = w.step-answer.new.self in
       let running = (subst (λ (f : Fleet). AreRunning f.machines) (sym c.self.view_is) c.requires.running).0 in
       let goes = subst (λ ms. GoesAsOne before.formation before.first ms item) c.deref.ensures.value (c.goes_as_one.ensures w.if-goes_as_one.true) in
       rw (w.self-is, w.standing-is)
-      (subst (λ (f : Fleet). StandsBy w.judge-is_open.new.self (λ failed. GoesInStep (Execute item) c.args.place f.machines (first ∷ others_in before.formation first before.others.items) f.counts w.step-answer.new.sink failed)) c.self.view_is
-      (as_one_in_step (Execute item) c.args.place before.formation before.counts w.step-answer.new.sink before.first first before.others.items
-      (λ events does. all_do c.items_run_on_like_printers.ensures item events before.first first does before.formation before.others.items (c.self.invariant running) goes)
-      w.step-answer.result w.judge-is_open.new.self w.judge-is_open.ensures.standing w.step-answer.ensures))
+      (item_in_step c.items_run_on_like_printers.ensures item before.formation before.counts w.step-answer.new.sink before.first w.step-answer.new.self before.others.items (c.self.invariant running) goes
+      item refl c.args.self.now c.self.view_is c.args.place w.step-answer.result w.judge-is_open.new.self w.judge-is_open.ensures.standing w.step-answer.ensures)
   | else-goes_as_one w ↦ rw (w.self-is, w.standing-is) w.step_apart-is_open.ensures.came
 ]
 

@@ -4,7 +4,7 @@ use Rattle.page_env.specs.Answers.{Marks}
 use Rattle.page_env.specs.Effect.{Step, effect_of}
 use Rattle.page_env.specs.Rectangles.{fill_rectangle}
 use Rattle.page_env.specs.Settings.{settings_at, state_at}
-use Rattle.page_machine.proofs.steps.fill_and_mark.Goals as goal
+use Rattle.page_machine.proofs.steps.run_fill.Goals as goal
 
 pub returns : goal.returns
 unfolding Marks
