@@ -1,5 +1,5 @@
 -- On printers that are alike but for the device items go the same way.
-use Rattle.std.proofs.Common.{◌≡◌, ℕ, ℤ, Bool, true, false, not, ◌&&◌, cond, List, [], ◌∷◌, refl, ap, sym, ◌∙◌, subst}
+use Rattle.std.proofs.Common.{◌≡◌, ℕ, ℤ, Bool, true, false, not, ◌&&◌, cond, [], ◌∷◌, refl, ap, sym, ◌∙◌, subst}
 use Rattle.std.specs.Prelude.{nat_lt, ◌==◌, ◌||◌}
 use Rattle.std.specs.Bool.{beq}
 use Rattle.std.specs.Cmp.{booleans_Decides}
@@ -7,9 +7,9 @@ use Rattle.std.proofs.lemmas.Bool.{eqb-true, false≢true}
 use Rattle.pcl_items.specs.declared.pcl.command.Command.{Command}
 use Rattle.pcl_items.specs.declared.pcl.command.Command.TheVariants.{Sides, Source, PageSize, Orientation, MacroControl}
 use Rattle.pcl_items.specs.declared.pcl.command.DataCommand.TheVariants.{TransparentText, RasterRow}
-use Rattle.pcl_items.specs.Items.{Entry, Text, CarriageReturn, LineFeed, FormFeed, Reset, HalfLineFeed, Parameterized, WithData, ExitLanguage}
+use Rattle.pcl_items.specs.Items.{Entry, CarriageReturn, LineFeed, FormFeed, Reset, HalfLineFeed, Parameterized, WithData, ExitLanguage}
 use Rattle.pcl_items.specs.Escapes.Value.{Amount}
-use Rattle.device_profile.specs.Likeness.{IsLike, with_device_of}
+use Rattle.device_profile.specs.Likeness.{with_device_of}
 use Rattle.device_profile.specs.Printer.{Printer, has_tray}
 use Rattle.page_env.specs.declared.finding.Finding.TheVariants.{BadValue, NotOnDevice}
 use Rattle.page_env.specs.declared.motion.Feed.{Feed}
@@ -24,7 +24,7 @@ use Rattle.page_env.specs.Pens.{move_pen}
 use Rattle.page_env.specs.Places.{page_and_line_reads}
 use Rattle.page_env.specs.Table.{command_transition, transition_of}
 use Rattle.page_env.specs.Text.{print_transparent}
-use Rattle.page_env.specs.Likeness.{command_asks_alike, asks_alike, HasNoOverlay, ClosesWithout, GoesOnBoth, GoesOnLike, ByteGoesOnLike, MoveGoesOnLike}
+use Rattle.page_env.specs.Likeness.{command_asks_alike, asks_alike, HasNoOverlay, ClosesWithout, GoesOnLike, ByteGoesOnLike, MoveGoesOnLike}
 
 -- ---- the same way
 

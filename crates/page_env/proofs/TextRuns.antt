@@ -15,7 +15,7 @@ use Rattle.page_env.specs.TextMeasure.{TextMeasure, HasColumn, HaveColumns, edge
 
 -- ---- between two bounds
 
-between_low : (low high z : ℤ) → is_between low high z ≡ true → low ≤ℤ z
+pub between_low : (low high z : ℤ) → is_between low high z ≡ true → low ≤ℤ z
 unfolding is_between
 between_low low high z h = low_of (int_lt z low) (int_lt high z) refl h
   where
@@ -23,7 +23,7 @@ between_low low high z h = low_of (int_lt z low) (int_lt high z) refl h
     low_of true b e h = absurd cc
     low_of false b e h = omega (arith, ints)
 
-between_high : (low high z : ℤ) → is_between low high z ≡ true → z ≤ℤ high
+pub between_high : (low high z : ℤ) → is_between low high z ≡ true → z ≤ℤ high
 unfolding is_between
 between_high low high z h = high_of (int_lt z low) (int_lt high z) refl h
   where
@@ -32,7 +32,7 @@ between_high low high z h = high_of (int_lt z low) (int_lt high z) refl h
     high_of false true e h = absurd cc
     high_of false false e h = omega (arith, ints)
 
-is_between-of : (low high z : ℤ) → low ≤ℤ z → z ≤ℤ high → is_between low high z ≡ true
+pub is_between-of : (low high z : ℤ) → low ≤ℤ z → z ≤ℤ high → is_between low high z ≡ true
 unfolding is_between
 is_between-of low high z l h = by (int_lt z low) (int_lt high z) refl refl
   where

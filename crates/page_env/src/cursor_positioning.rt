@@ -15,8 +15,8 @@ use crate::finding::Finding;
 use crate::number::{is_whole_between, whole_of};
 use crate::page::{Coordinate, Page};
 use crate::places::{
-    first_line, first_of_page, geometry, geometry_and_column, geometry_and_vmi, target, target_down, ticks_in,
-    times, vertical, vertical_with,
+    first_line, first_of_page, geometry, geometry_and_column, geometry_and_vmi, target,
+    target_down, ticks_in, times, vertical, vertical_with,
 };
 use device_profile::{Field, Geometry, Profile};
 use pcl_items::{Number, Sign};

@@ -28,7 +28,7 @@ use tick_length::{Length, Unit};
 const PLOTTER_UNIT: i64 = 36_000_000;
 
 /// How far the pen may be from the origin along an axis: 8,388,607 plotter units.
-const FURTHEST: u64 = 8_388_607 * PLOTTER_UNIT as u64;
+pub(crate) const FURTHEST: u64 = 8_388_607 * PLOTTER_UNIT as u64;
 
 /// The lower left corner of the picture frame.
 pub(crate) fn origin() -> PenPlace
@@ -104,7 +104,7 @@ fn reached(is_relative: bool, here: PenCoordinate, units: i32) -> i64
 }
 
 /// Where coordinates lead.
-fn pen_target(pen: &Pen, to: Coordinates) -> Target
+pub(crate) fn pen_target(pen: &Pen, to: Coordinates) -> Target
     ensures { place_of result ≡ pen_target pen.now (to.x.units, to.y.units) }
 {
     Target {
@@ -114,7 +114,7 @@ fn pen_target(pen: &Pen, to: Coordinates) -> Target
 }
 
 /// The place where the pen is.
-fn own_place(place: PenPlace) -> Target
+pub(crate) fn own_place(place: PenPlace) -> Target
     ensures { place_of result ≡ place }
 {
     Target {
@@ -144,7 +144,7 @@ fn is_in_frame(frame: &Frame, place: Target) -> bool
 }
 
 /// The pen's place at the end of a line, if both ends lie in a frame and it is not too far.
-fn place_within(frame: &Frame, start: Target, end: Target) -> Option<PenPlace>
+pub(crate) fn place_within(frame: &Frame, start: Target, end: Target) -> Option<PenPlace>
     ensures { result ≡ cond (stays_in_frame frame.now (place_of start) (place_of end))
         (Some (place_of end)) None }
 {
@@ -230,7 +230,7 @@ fn ends_between(low: Length, high: Length, half: u64, a: i64, b: i64) -> Option<
 /// in the printable area.
 #[inline(always)]
 #[tactic(auto, unfolding(crate::specs::Mark::is_inside))]
-fn line_inside(
+pub(crate) fn line_inside(
     geometry: &Geometry,
     origin: Origin,
     frame: &Frame,

@@ -4,6 +4,7 @@ pub mod Each
 pub mod Lockstep
 pub mod Formation
 pub mod TextInStep
+pub mod PairsInStep
 pub mod Checking
 pub mod Driving
 pub mod Rendering

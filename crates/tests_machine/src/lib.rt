@@ -8,4 +8,6 @@ mod machine;
 #[cfg(test)]
 mod page;
 #[cfg(test)]
+mod pairs;
+#[cfg(test)]
 mod recording;

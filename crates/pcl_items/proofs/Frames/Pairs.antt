@@ -1,10 +1,8 @@
 -- A pair of coordinates that is read at once is read by steps.
-use Rattle.std.proofs.Common.{◌≡◌, ℕ, zero, suc, ◌+◌, ◌-◌, ◌<◌, ◌≤◌, List, [], ◌∷◌, ◌++◌, length, get_or, take, drop, Bool, true, false, Option, None, Some, refl, sym, ap, subst, ◌∙◌, inr, arith}
-use Rattle.std.specs.Prelude.{ℤ, ◌==◌, nat_lt, IfSome}
-use Rattle.std.specs.Char.{is_ascii_digit}
-use Rattle.std.proofs.lemmas.Bool.{cond-true, cond-false, le-ltb, eqb-true}
+use Rattle.std.proofs.Common.{◌≡◌, ℕ, ◌+◌, ◌-◌, ◌<◌, ◌≤◌, List, [], ◌∷◌, ◌++◌, length, get_or, take, drop, Bool, true, false, Option, None, Some, refl, sym, ap, subst, ◌∙◌, inr, arith}
+use Rattle.std.specs.Prelude.{ℤ, ◌==◌, nat_lt, IfSome, IsTrue}
+use Rattle.std.proofs.lemmas.Bool.{cond-false, le-ltb, eqb-true}
 use Rattle.std.proofs.lemmas.List.{at_drop_more, get_or-drop, get_or-take, length-drop}
-use Rattle.std.proofs.lemmas.List.Sums.{take_while-cons}
 use Rattle.pcl_items.specs.declared.pcl.field.Digits.{Digits}
 use Rattle.pcl_items.specs.declared.frame.PlotterCoordinate.{PlotterCoordinate}
 use Rattle.pcl_items.specs.declared.number.Sign.{Sign}
@@ -24,10 +22,10 @@ use Rattle.pcl_items.specs.Escapes.Field.{field_at, digits, decimal, sign_at, si
 use Rattle.pcl_items.specs.Frames.Number.{coordinate_by, coordinate_of, has_digit, number_end, numeral_at}
 use Rattle.pcl_items.specs.Frames.NumberText.{IsCoordinate}
 use Rattle.pcl_items.specs.Frames.Grammar.{IsEnd}
-use Rattle.pcl_items.specs.Frames.Reader.{first_of_pair, second_of_pair, further, after_letters, after_numbers}
-use Rattle.pcl_items.specs.Reader.{Passes, first_of}
+use Rattle.pcl_items.specs.Frames.Reader.{first_of_pair, second_of_pair, further, after_letters, after_numbers, letters_by}
+use Rattle.pcl_items.specs.Reader.{Begins, Passes, first_of}
 use Rattle.pcl_items.specs.Reading.{ReadsTo, passes}
-use Rattle.pcl_items.specs.Frames.Pairs.{IsPairAhead, Leads, NamesMotion, HasLetters, LeadsCommand, IsCoordinateAhead, Stands}
+use Rattle.pcl_items.specs.Frames.Pairs.{IsBareAhead, IsPairAhead, Leads, NamesMotion, HasLetters, LeadsCommand, IsCoordinateAhead, Stands}
 use Rattle.pcl_items.proofs.Escapes.Tables.{by_test}
 use Rattle.pcl_items.proofs.Escapes.Digits.{digits_in_front, limited, rest_from, rest_is, parts_without_point}
 use Rattle.pcl_items.proofs.Frames.Figures.{coordinate_known, digit_known}
@@ -122,16 +120,17 @@ comma_first whole x n (b ∷ bytes) some e = number_comma whole x Straight n b b
 with_count : {whole : Bool} {c : Context} {x : Numbers} {from to k n : ℕ} {bytes rest : List ℕ} → k ≡ n → ReadsTo whole c from bytes [] (Numbered x Straight k) to rest → ReadsTo whole c from bytes [] (Numbered x Straight n) to rest
 with_count {whole = whole} {c = c} {x = x} {from = from} {to = to} {bytes = bytes} {rest = rest} e h = subst (λ (i : ℕ). ReadsTo whole c from bytes [] (Numbered x Straight i) to rest) e h
 
-pub comma_leads : (motion : Motion) (n place : ℕ) (bytes : List ℕ) → 1 ≤ length bytes → get_or bytes 0 0 ≡ 44 →
-    Leads (record { len = 1; place = place + 1; motion = motion }) (Numbered (Even motion) Straight n) place bytes
-comma_leads motion n place bytes some e = record {
+pub comma_leads : (motion : Motion) (place : ℕ) (bytes : List ℕ) → 1 ≤ length bytes → get_or bytes 0 0 ≡ 44 →
+    Leads (record { len = 1; place = place + 1; motion = motion; is_further = true }) (Numbered (Even motion) Straight 0) place bytes
+comma_leads motion place bytes some e = record {
   reads = λ whole x len h.
-      let gap : Context = Numbered (Even motion) Comma (n + 1) in
-      let number = further_led whole (Even motion) (n + 1) (drop 1 bytes) (begins_number (drop 1 bytes) x len h) ∙ ap (first_of_pair 0 motion) (h whole) in
+      let gap : Context = Numbered (Even motion) Comma 1 in
+      let number = further_led whole (Even motion) 1 (drop 1 bytes) (begins_number (drop 1 bytes) x len h) ∙ ap (first_of_pair 0 motion) (h whole) in
       with_count (omega arith)
-      (passes 1 gap (comma_first whole (Even motion) n bytes some e) (one_pass whole gap (Numbered (Odd motion x) Straight (0 + len)) bytes 1 place len number));
+      (passes 1 gap (comma_first whole (Even motion) 0 bytes some e) (one_pass whole gap (Numbered (Odd motion x) Straight (0 + len)) bytes 1 place len number));
   behind = omega arith;
   within = some;
+  same = λ is. refl;
 }
 
 letters_first : (motion : Motion) (bytes : List ℕ) → 2 ≤ length bytes → get_or bytes 0 0 ≡ 80 → NamesMotion (get_or bytes 1 0) motion → HasLetters motion bytes
@@ -155,14 +154,18 @@ letters_read_at whole motion i place bytes x len letters h =
     let number = first_led whole motion 2 (drop (i + 2) bytes) (begins_number (drop (i + 2) bytes) x len h) ∙ ap (first_of_pair 2 motion) (h whole) in
     ReadsTo-append (one_pass whole Frame (Letters (Moves motion) 2) bytes i place 2 (letters.first whole)) (one_pass whole (Letters (Moves motion) 2) (Numbered (Odd motion x) Straight (2 + len)) bytes (i + 2) place len number)
 
-pub letters_lead : (motion : Motion) (place : ℕ) (bytes : List ℕ) → HasLetters motion bytes → LeadsCommand (record { len = 2; place = place; motion = motion }) place bytes
+pub letters_lead : (motion : Motion) (place : ℕ) (bytes : List ℕ) → HasLetters motion bytes → LeadsCommand (record { len = 2; place = place; motion = motion; is_further = false }) place bytes
 letters_lead motion place bytes letters = record {
   leads = record {
     reads = λ whole x len h. with_count (omega arith) (ReadsTo-at (omega arith) refl refl (letters_read_at whole motion 0 place bytes x len letters h));
     behind = omega arith;
     within = letters.within;
+    same = λ is. absurd cc;
   };
   ends = letters.ends;
+  letters = λ whole. ReadsTo-at (omega arith) refl refl (one_pass whole Frame (Letters (Moves motion) 2) bytes 0 place 2 (letters.first whole));
+  placed = refl;
+  first = refl;
 }
 
 semicolon_passes : (whole : Bool) (bytes : List ℕ) → 1 ≤ length bytes → get_or bytes 0 0 ≡ 59 → first_of whole Frame bytes ≡ Passes 1 Frame
@@ -173,7 +176,7 @@ semicolon_ends : (whole : Bool) (motion : Motion) (n : ℕ) (bytes : List ℕ) �
 semicolon_ends whole motion n [] some e = absurd (omega (arith, some))
 semicolon_ends whole motion n (b ∷ rest) some e = pairs_end whole motion Straight n (b ∷ rest) (decided_behind whole b rest) tt (subst IsEnd (sym (ap kind_of e ∙ semicolon_kind)) tt)
 
-pub semicolon_leads : (motion : Motion) (place : ℕ) (bytes : List ℕ) → 1 ≤ length bytes → get_or bytes 0 0 ≡ 59 → HasLetters motion (rest_from bytes 1) → LeadsCommand (record { len = 3; place = place + 1; motion = motion }) place bytes
+pub semicolon_leads : (motion : Motion) (place : ℕ) (bytes : List ℕ) → 1 ≤ length bytes → get_or bytes 0 0 ≡ 59 → HasLetters motion (rest_from bytes 1) → LeadsCommand (record { len = 3; place = place + 1; motion = motion; is_further = false }) place bytes
 semicolon_leads motion place bytes some e h =
     let letters : HasLetters motion (drop 1 bytes) = subst (HasLetters motion) (rest_is bytes 1) h in
     record {
@@ -181,26 +184,58 @@ semicolon_leads motion place bytes some e h =
         reads = λ whole x len number. with_count (omega arith) (passes 1 Frame (semicolon_passes whole bytes some e) (letters_read_at whole motion 1 place bytes x len letters number));
         behind = omega arith;
         within = omega (arith, letters.within, length-drop 1 bytes);
+        same = λ is. absurd cc;
       };
       ends = λ whole other n. semicolon_ends whole other n bytes some e;
+      letters = λ whole. passes 1 Frame (semicolon_passes whole bytes some e) (one_pass whole Frame (Letters (Moves motion) 2) bytes 1 place 2 (letters.first whole));
+      placed = omega arith;
+      first = refl;
     }
 
 -- behind whole pairs
-command_leads : (lead : Lead) (motion : Motion) (n place : ℕ) (bytes : List ℕ) → LeadsCommand lead place bytes → Leads lead (Numbered (Even motion) Straight n) place bytes
-command_leads lead motion n place bytes h = record {
-  reads = λ whole x len number. passes 0 Frame (h.ends whole motion n) (ReadsTo-at (omega arith) refl refl (h.leads.reads whole x len number));
+command_leads : (lead : Lead) (motion : Motion) (place : ℕ) (bytes : List ℕ) → LeadsCommand lead place bytes → Leads lead (Numbered (Even motion) Straight 0) place bytes
+command_leads lead motion place bytes h = record {
+  reads = λ whole x len number. passes 0 Frame (h.ends whole motion 0) (ReadsTo-at (omega arith) refl refl (h.leads.reads whole x len number));
   behind = h.leads.behind;
   within = h.leads.within;
+  same = λ (is : IsTrue lead.is_further). absurd (let both : true ≡ false = sym is ∙ h.first in cc);
 }
 
-pub some_command : (result : Option Lead) (motion : Motion) (n place : ℕ) (bytes : List ℕ) → IfSome result (λ lead. LeadsCommand lead place bytes) → IfSome result (λ lead. Leads lead (Numbered (Even motion) Straight n) place bytes)
-some_command None motion n place bytes h = tt
-some_command (Some lead) motion n place bytes h = command_leads lead motion n place bytes h
+pub some_command : (result : Option Lead) (motion : Motion) (place : ℕ) (bytes : List ℕ) → IfSome result (λ lead. LeadsCommand lead place bytes) → IfSome result (λ lead. Leads lead (Numbered (Even motion) Straight 0) place bytes)
+some_command None motion place bytes h = tt
+some_command (Some lead) motion place bytes h = command_leads lead motion place bytes h
+
+-- ---- a command without coordinates
+
+letters_end : (whole : Bool) (motion : Motion) (b : ℕ) (rest : List ℕ) → b ≡ 59 → first_of whole (Letters (Moves motion) 2) (b ∷ rest) ≡ Begins (Move motion None) 0 Frame
+unfolding first_of after_letters
+letters_end whole motion b rest e = ap (λ kind. letters_by kind whole (Moves motion) 2 (b ∷ rest)) (ap kind_of e ∙ semicolon_kind)
+
+module _ (lead : Lead) (place : ℕ) (bytes : List ℕ) (h : LeadsCommand lead place bytes) (inside : lead.len < length bytes) (e : get_or bytes lead.len 0 ≡ 59) where
+  pub bare_stands : IsBareAhead lead Frame place bytes
+  bare_stands = record {
+    reads = λ whole.
+        let item : Entry = Move lead.motion None in
+        let context : Context = Letters (Moves lead.motion) 2 in
+        let first : first_of whole context (drop lead.len bytes) ≡ Begins item 0 Frame = at_drop_more (first_of whole context) bytes lead.len 0 inside ∙ letters_end whole lead.motion (get_or bytes lead.len 0) _ e in
+        let last = one_item whole context Frame bytes lead.len place 0 item first in
+        let stands : item_place context (place + lead.len) ≡ lead.place = omega (arith, h.placed) in
+        let same : lead.len + 0 ≡ lead.len = omega arith in
+        subst (λ (p : ℕ). ReadsTo whole Frame place bytes (at p item ∷ []) Frame (place + lead.len) (drop lead.len bytes)) stands
+        (subst (λ (k : ℕ). ReadsTo whole Frame place bytes (at (item_place context (place + lead.len)) item ∷ []) Frame (place + k) (drop k bytes)) same (ReadsTo-append (h.letters whole) last));
+    within = h.leads.within;
+  }
+
+  pub bare_behind : (motion : Motion) → IsBareAhead lead (Numbered (Even motion) Straight 0) place bytes
+  bare_behind motion = record {
+    reads = λ whole. passes 0 Frame (h.ends whole motion 0) (ReadsTo-at (omega arith) refl refl (bare_stands.reads whole));
+    within = h.leads.within;
+  }
 
 -- ---- the pair
 
 abbrev pub pair_of : Lead → ReadCoordinate → ReadCoordinate → ReadPair
-pair_of lead x y = record { len = lead.len + x.len + 1 + y.len; place = lead.place; motion = lead.motion; to = record { x = x.coordinate; y = y.coordinate } }
+pair_of lead x y = record { len = lead.len + x.len + 1 + y.len; place = lead.place; motion = lead.motion; to = record { x = x.coordinate; y = y.coordinate }; is_further = lead.is_further }
 
 pub pair_stands : (lead : Lead) (x y : ReadCoordinate) (context : Context) (place : ℕ) (bytes : List ℕ) → Leads lead context place bytes → IsCoordinateAhead x (rest_from bytes lead.len) → x.last ≡ 44 →
     IsCoordinateAhead y (rest_from bytes (lead.len + x.len + 1)) → IsPairAhead (pair_of lead x y) context place bytes
@@ -225,4 +260,5 @@ pair_stands lead x y context place bytes h first comma second =
           subst (λ (p : ℕ). ReadsTo whole context place bytes (at p item ∷ []) (Numbered (Even lead.motion) Straight 0) (place + (a + 1 + y.len)) (drop (a + 1 + y.len) bytes)) stands
           (ReadsTo-append begun (ReadsTo-append passed last));
       within = omega (arith, to_second.within, length-drop (a + 1) bytes);
+      same = h.same;
     }

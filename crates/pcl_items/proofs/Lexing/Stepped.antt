@@ -1,5 +1,5 @@
 -- The answers of a lexer, by what stands first in its window.
-use Rattle.std.proofs.Common.{◌≡◌, ◌+◌, ◌-◌, ◌≤◌, ℕ, List, [], ◌∷◌, take, drop, Bool, true, Some, Result, Ok, Err, refl, sym, ap, subst, ◌∙◌, arith}
+use Rattle.std.proofs.Common.{◌≡◌, ◌+◌, ◌-◌, ◌≤◌, ℕ, List, [], ◌∷◌, take, drop, Bool, true, Some, None, Result, Ok, Err, refl, sym, ap, subst, ◌∙◌, arith}
 use Rattle.std.proofs.lemmas.List.{drop-drop}
 use Rattle.pcl_items.specs.declared.lexer.ahead.Ahead.{Ahead}
 use Rattle.pcl_items.specs.declared.fault.LexFault.{LexFault}
@@ -10,6 +10,7 @@ use Rattle.pcl_items.specs.declared.item.Item.TheVariants as items
 use Rattle.pcl_items.specs.declared.item.Mode.{Mode}
 use Rattle.pcl_items.specs.declared.item.SimpleItem.TheVariants as simple
 use Rattle.pcl_items.specs.declared.pcl.parameterized.ReadCommand.{ReadCommand}
+use Rattle.pcl_items.specs.declared.frame.pair.Lead.{Lead}
 use Rattle.pcl_items.specs.declared.frame.pair.ReadPair.{ReadPair}
 use Rattle.pcl_items.specs.declared.pcl.command.Command.{Command}
 use Rattle.pcl_items.specs.declared.pcl.command.DataCommand.TheVariants.{RasterRow}
@@ -30,7 +31,7 @@ use Rattle.pcl_items.specs.Lexing.State.{LexerState}
 use Rattle.pcl_items.specs.Lexing.Answers.{AdvancesOver, Answers}
 use Rattle.pcl_items.specs.Escapes.ReadCommands.{IsAhead, IsAheadWithData}
 use Rattle.pcl_items.specs.Lexing.Meaning.{answer_of_row}
-use Rattle.pcl_items.specs.Frames.Pairs.{IsPairAhead}
+use Rattle.pcl_items.specs.Frames.Pairs.{IsBareAhead, IsPairAhead}
 use Rattle.pcl_items.proofs.Reading.ReadsTo.{ReadsTo-at, ReadsTo-append}
 use Rattle.pcl_items.proofs.Lexing.Spans.{begins-taken}
 use Rattle.pcl_items.proofs.Lexing.FirstModes.{begins_in_mode}
@@ -102,6 +103,19 @@ pair_is_answer window start dropped context ended held read t =
     let place : dropped + start + read.len ≡ dropped + (start + read.len) = omega arith in
     record {
       reads = subst (λ (l : List ℕ). ReadsTo ended context (dropped + start) (drop start window) (entries.at read.place entry ∷ []) (Numbered (Even read.motion) Straight 0) (dropped + (start + read.len)) l) (drop-drop read.len start window)
+          (ReadsTo-at refl refl place (t.reads ended));
+      ended = refl;
+      held = refl;
+    }
+
+-- the answer to a command without coordinates
+pub bare_is_answer : (window : List ℕ) (start dropped : ℕ) (context : Context) (ended : Bool) (held : ℕ) (lead : Lead) → IsBareAhead lead context (dropped + start) (drop start window) →
+    Answers (standing window start dropped context ended held) (Ok (answers.Item lead.place (items.Simple (simple.Move lead.motion None)))) (standing window (start + lead.len) dropped Frame ended held)
+bare_is_answer window start dropped context ended held lead t =
+    let entry : Entry = view (items.Simple (simple.Move lead.motion None)) in
+    let place : dropped + start + lead.len ≡ dropped + (start + lead.len) = omega arith in
+    record {
+      reads = subst (λ (l : List ℕ). ReadsTo ended context (dropped + start) (drop start window) (entries.at lead.place entry ∷ []) Frame (dropped + (start + lead.len)) l) (drop-drop lead.len start window)
           (ReadsTo-at refl refl place (t.reads ended));
       ended = refl;
       held = refl;

@@ -1,5 +1,5 @@
 -- A pair of coordinates that stands first in a frame.
-use Rattle.std.specs.Prelude.{◌≡◌, ◌≤◌, ◌<◌, ◌+◌, ◌-◌, ℕ, ℤ, List, [], ◌∷◌, length, get_or, drop, Bool, Some}
+use Rattle.std.specs.Prelude.{◌≡◌, ◌≤◌, ◌<◌, ◌+◌, ◌-◌, ℕ, ℤ, List, [], ◌∷◌, length, get_or, drop, Bool, false, Some, None, IsTrue}
 use Rattle.pcl_items.specs.declared.frame.Kind.TheVariants.{Letter}
 use Rattle.pcl_items.specs.declared.frame.Motion.{Motion}
 use Rattle.pcl_items.specs.declared.frame.Mnemonic.TheVariants.{Moves}
@@ -20,6 +20,13 @@ pub record IsPairAhead (read : ReadPair) (context : Context) (place : ℕ) (byte
   pub reads : (whole : Bool) →
       ReadsTo whole context place bytes (at read.place (Move read.motion (pair (Some read.to))) ∷ []) (Numbered (Even read.motion) Straight 0) (place + read.len) (drop read.len bytes)
   pub within : read.len ≤ length bytes
+  pub same : IsTrue read.is_further → context ≡ Numbered (Even read.motion) Straight 0
+
+-- the bytes from this context and place on begin with a command without coordinates: they are read to its item, which stands at its
+-- place
+pub record IsBareAhead (lead : Lead) (context : Context) (place : ℕ) (bytes : List ℕ) : Type 0 where
+  pub reads : (whole : Bool) → ReadsTo whole context place bytes (at lead.place (Move lead.motion None) ∷ []) Frame (place + lead.len) (drop lead.len bytes)
+  pub within : lead.len ≤ length bytes
 
 -- a coordinate of so many characters stands first, whatever comes behind the bytes
 abbrev pub Stands : List ℕ → ℤ → ℕ → Type 0
@@ -35,11 +42,15 @@ pub record Leads (lead : Lead) (context : Context) (place : ℕ) (bytes : List �
   pub reads : (whole : Bool) (x : ℤ) (len : ℕ) → Stands (drop lead.len bytes) x len → Begun lead context place bytes x len whole
   pub behind : lead.place ≤ place + lead.len
   pub within : lead.len ≤ length bytes
+  pub same : IsTrue lead.is_further → context ≡ Numbered (Even lead.motion) Straight 0
 
 -- .. and these bytes are no part of a command before them
 pub record LeadsCommand (lead : Lead) (place : ℕ) (bytes : List ℕ) : Type 0 where
   pub leads : Leads lead Frame place bytes
   pub ends : (whole : Bool) (motion : Motion) (n : ℕ) → first_of whole (Numbered (Even motion) Straight n) bytes ≡ Passes 0 Frame
+  pub letters : (whole : Bool) → ReadsTo whole Frame place bytes [] (Letters (Moves lead.motion) 2) (place + lead.len) (drop lead.len bytes)
+  pub placed : lead.place + 2 ≡ place + lead.len
+  pub first : lead.is_further ≡ false
 
 -- behind the capital P this byte names the motion
 pub record NamesMotion (second : ℕ) (motion : Motion) : Type 0 where

@@ -6,9 +6,10 @@
 
 ghost use Rattle.std.specs.Prelude.{◌≤◌, ◌+◌, ◌^◌, ℕ, length, IfSome};
 ghost use Rattle.pcl_items.specs.declared.frame.Gap.TheVariants.{Straight};
-ghost use Rattle.pcl_items.specs.Lexing.Contexts.{Numbered, Even};
-ghost use Rattle.pcl_items.specs.Lexing.FirstView.{context_view, numbers_view};
-ghost use Rattle.pcl_items.specs.Frames.Pairs.{IsPairAhead, Leads, LeadsCommand, NamesMotion, HasLetters, IsCoordinateAhead};
+ghost use Rattle.pcl_items.specs.declared.frame.Motion.{Motion};
+ghost use Rattle.pcl_items.specs.Lexing.Contexts.{Frame, Numbered, Even};
+ghost use Rattle.pcl_items.specs.Lexing.FirstView.{context_view};
+ghost use Rattle.pcl_items.specs.Frames.Pairs.{IsBareAhead, IsPairAhead, Leads, LeadsCommand, NamesMotion, HasLetters, IsCoordinateAhead};
 
 use crate::frame::number::{Figures, PAST_COORDINATES};
 use crate::frame::{Coordinates, Gap, Motion, PlotterCoordinate};
@@ -27,6 +28,8 @@ pub struct ReadPair {
     pub place: Place,
     pub motion: Motion,
     pub to: Coordinates,
+    /// Whether it stands behind a comma, so that it leaves what may stand next as it was.
+    pub is_further: bool,
 }
 
 /// What stands before a pair: its motion, where its item stands, and how many bytes there are up to
@@ -36,6 +39,8 @@ pub struct Lead {
     pub len: usize,
     pub place: Place,
     pub motion: Motion,
+    /// Whether it is a comma.
+    pub is_further: bool,
 }
 
 /// A coordinate, how many characters it has, and the byte behind it.
@@ -67,7 +72,38 @@ pub fn pair_in(context: Context, place: Place, bytes: &[u8]) -> Option<ReadPair>
             x: x.coordinate,
             y: y.coordinate,
         },
+        is_further: lead.is_further,
     })
+}
+
+/// The command that moves the pen and has no coordinates, that stands first in the bytes at this
+/// place with a semicolon behind its letters, unless they begin with something else.
+#[inline(always)]
+pub fn bare_motion_in(context: Context, place: Place, bytes: &[u8]) -> Option<Lead>
+    requires { place + length bytes.now ≤ 2 ^ 62 }
+    ensures { IfSome result (λ lead. IsBareAhead lead (context_view context) place bytes.now) }
+{
+    match context {
+        Context::Numbered(Numbers::Even(_), Gap::Straight, 0) | Context::Frame => {
+            bare_motion(place, bytes)
+        }
+        _ => None,
+    }
+}
+
+/// That command, behind whole pairs or between commands.
+#[inline(always)]
+fn bare_motion(place: Place, bytes: &[u8]) -> Option<Lead>
+    requires { place + length bytes.now ≤ 2 ^ 62 }
+    ensures frame { IfSome result (λ lead. IsBareAhead lead Frame place bytes.now) }
+    ensures behind { (motion : Motion) → IfSome result (λ lead.
+        IsBareAhead lead (Numbered (Even motion) Straight 0) place bytes.now) }
+{
+    let lead = command_lead(place, bytes)?;
+    match &bytes[lead.len..] {
+        [b';', ..] => Some(lead),
+        _ => None,
+    }
 }
 
 /// What stands before the pair that is first.
@@ -77,21 +113,10 @@ fn pair_lead(context: Context, place: Place, bytes: &[u8]) -> Option<Lead>
     ensures { IfSome result (λ lead. Leads lead (context_view context) place bytes.now) }
 {
     match context {
-        Context::Numbered(numbers, gap, _) => further_lead(numbers, gap, place, bytes),
+        Context::Numbered(Numbers::Even(motion), Gap::Straight, 0) => {
+            lead_behind_pair(motion, place, bytes)
+        }
         Context::Frame => command_lead(place, bytes),
-        _ => None,
-    }
-}
-
-/// What stands behind whole pairs, before another.
-#[inline(always)]
-fn further_lead(numbers: Numbers, gap: Gap, place: Place, bytes: &[u8]) -> Option<Lead>
-    requires { place + length bytes.now ≤ 2 ^ 62 }
-    ensures { (n : ℕ) → IfSome result (λ lead.
-        Leads lead (Numbered (numbers_view numbers) gap n) place bytes.now) }
-{
-    match (numbers, gap) {
-        (Numbers::Even(motion), Gap::Straight) => lead_behind_pair(motion, place, bytes),
         _ => None,
     }
 }
@@ -100,14 +125,15 @@ fn further_lead(numbers: Numbers, gap: Gap, place: Place, bytes: &[u8]) -> Optio
 #[inline(always)]
 fn lead_behind_pair(motion: Motion, place: Place, bytes: &[u8]) -> Option<Lead>
     requires { place + length bytes.now ≤ 2 ^ 62 }
-    ensures { (n : ℕ) → IfSome result (λ lead.
-        Leads lead (Numbered (Even motion) Straight n) place bytes.now) }
+    ensures { IfSome result (λ lead.
+        Leads lead (Numbered (Even motion) Straight 0) place bytes.now) }
 {
     match bytes {
         [b',', ..] => Some(Lead {
             len: 1,
             place: place + 1,
             motion,
+            is_further: true,
         }),
         _ => command_lead(place, bytes),
     }
@@ -124,11 +150,13 @@ fn command_lead(place: Place, bytes: &[u8]) -> Option<Lead>
             len: 3,
             place: place + 1,
             motion: leading_motion(rest)?,
+            is_further: false,
         }),
         _ => Some(Lead {
             len: 2,
             place,
             motion: leading_motion(bytes)?,
+            is_further: false,
         }),
     }
 }

@@ -164,8 +164,12 @@ pub fn leading_sign(bytes: &[u8]) -> (Sign, usize)
     ensures within { result.1 ≤ length bytes.now }
 {
     match bytes {
-        [b'+', ..] => (Sign::Plus, 1),
-        [b'-', ..] => (Sign::Minus, 1),
+        // One comparison where there is none, as mostly.
+        [first, ..] if *first < b'0' => match *first {
+            b'+' => (Sign::Plus, 1),
+            b'-' => (Sign::Minus, 1),
+            _ => (Sign::Absent, 0),
+        },
         _ => (Sign::Absent, 0),
     }
 }

@@ -1,5 +1,5 @@
 -- How the machines of a fleet stand.
-use Rattle.std.specs.Prelude.{◌≡◌, ◌≢◌, ℕ, true, None, List, [], ◌∷◌, map}
+use Rattle.std.specs.Prelude.{◌≡◌, ◌≢◌, true, None, List, [], ◌∷◌, map}
 use Rattle.std.specs.List.{AllByRecursion}
 use Rattle.macro_store.specs.Store.{no_macros}
 use Rattle.pcl_items.specs.Items.{Entry}

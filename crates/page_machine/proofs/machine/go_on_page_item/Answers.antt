@@ -1,17 +1,15 @@
-use Rattle.std.proofs.Common.{◌≡◌, false, is_some, Ok, refl, ap, ◌∙◌, subst, sym}
+use Rattle.std.proofs.Common.{◌≡◌, false, is_some, refl, ap, subst, sym}
 use Rattle.page_env.specs.Action.{page_view}
 use Rattle.pcl_items.specs.Items.{Entry}
-use Rattle.page_env.specs.declared.change.Carried.TheVariants.{Stepped}
 use Rattle.page_env.specs.Answers.{effect_at}
 use Rattle.page_env.specs.Settings.{settings_at}
 use Rattle.page_machine.specs.MachineState.{MachineState}
 use Rattle.page_machine.specs.Machine.{context_of, fields_of}
-use Rattle.page_machine.specs.Run.{effect_run}
 use Rattle.page_machine.specs.Macros.{in_job}
 use Rattle.page_machine.specs.Defining.{StandsIn, carried_after, is_defining}
-use Rattle.page_machine.proofs.AtOnce.{left_leaves, left_runs}
-use Rattle.page_machine.proofs.Answering.{alone, carried, item-is_alone, item-is_carried, Carries-is, Carries-done, Carries-memory, Carries-halted}
-use Rattle.page_machine.proofs.Composed.{Follows-is, Follows-stepped}
+use Rattle.page_machine.proofs.AtOnce.{left_runs}
+use Rattle.page_machine.proofs.Answering.{carried, item-is_carried, Carries-is, Carries-done, Carries-memory, Carries-halted}
+use Rattle.page_machine.proofs.Composed.{Follows-is}
 use Rattle.page_machine.proofs.Modes.{carried_stands}
 use Rattle.page_machine.proofs.machine.go_on_page_item.Goals as goal
 

@@ -1,4 +1,4 @@
-use Rattle.std.proofs.Common.{◌≡◌, false, is_some, Ok, refl, ap, ◌∙◌, subst, sym}
+use Rattle.std.proofs.Common.{◌≡◌, false, is_some, Ok, refl, ap, ◌∙◌}
 use Rattle.page_env.specs.Action.{page_view}
 use Rattle.pcl_items.specs.Items.{Entry}
 use Rattle.page_env.specs.declared.change.Carried.TheVariants.{Stepped}
@@ -8,11 +8,10 @@ use Rattle.page_machine.specs.MachineState.{MachineState}
 use Rattle.page_machine.specs.Machine.{context_of, fields_of}
 use Rattle.page_machine.specs.Run.{effect_run}
 use Rattle.page_machine.specs.Macros.{in_job}
-use Rattle.page_machine.specs.Defining.{StandsIn, is_defining}
+use Rattle.page_machine.specs.Defining.{is_defining}
 use Rattle.page_machine.proofs.AtOnce.{left_leaves, left_runs}
-use Rattle.page_machine.proofs.Answering.{alone, carried, item-is_alone, item-is_carried, Carries-is, Carries-done, Carries-memory, Carries-halted}
+use Rattle.page_machine.proofs.Answering.{alone, item-is_alone, Carries-is, Carries-done}
 use Rattle.page_machine.proofs.Composed.{Follows-is, Follows-stepped}
-use Rattle.page_machine.proofs.Modes.{carried_stands}
 use Rattle.page_machine.proofs.machine.run_page_item.Goals as goal
 
 pub returns-in-Ok-Stepped-clause-carries : goal.returns-in-Ok-Stepped-clause-carries

@@ -1,4 +1,4 @@
-use Rattle.std.proofs.Common.{◌≡◌, Ok, Err, refl, ap, sym, ◌∙◌, subst}
+use Rattle.std.proofs.Common.{Ok, Err, refl, ap, sym, ◌∙◌, subst}
 use Rattle.pcl_items.specs.declared.pcl.command.Command.TheVariants.{FillRectangle}
 use Rattle.pcl_items.specs.Items.{Entry, Parameterized, amount}
 use Rattle.page_env.specs.Action.{Acts}

@@ -2,7 +2,7 @@ use Rattle.verdict.specs.Failing.{failing}
 use Rattle.preflight.specs.Verdict.{IsExact}
 use Rattle.preflight.specs.Culprit.{IsTold}
 use Rattle.std.proofs.Common.{◌≡◌, Bool, true, false, sym, ap, subst, ◌∙◌, refl, Ok, arith}
-use Rattle.pcl_items.specs.Lexing.Meaning.{IsNext, answer_of, given}
+use Rattle.pcl_items.specs.Lexing.Meaning.{given}
 use Rattle.pcl_items.specs.Modes.{mode_of}
 use Rattle.pcl_items.specs.Reading.{left}
 use Rattle.preflight.specs.Carriers.Lockstep.{AreIn, machines_of}
@@ -33,17 +33,42 @@ returns-then-not-execute_commands-clause-came g c =
 
 -- ---- a pair of coordinates
 
-pub step-is_open-requires-clause-admitted : goal.step-is_open-requires-clause-admitted
-step-is_open-requires-clause-admitted g c =
+pub step-requires-clause-admitted : goal.step-requires-clause-admitted
+step-requires-clause-admitted g c =
     let so_far = c.loop-is_open.invariant in
     let ran = c.execute_commands.ensures in
     let still = sym ran.open ∙ c.if-not-execute_commands.false in
     let through = text_through _ _ _ _ _ _ _ _ _ _ refl (through_open _ _ _ _ _ _ _ _ (sym so_far.tells ∙ c.loop-is_open-test.true) so_far.came) (through_open _ _ _ _ _ _ _ _ still ran.came) in
-    let next = c.in-Some.ensures.pair in
-    all_admit_next _ _ _ next _ _ refl _ through.modes
+    all_admit_next _ _ _ c.in-Some.ensures.pair _ _ refl _ through.modes
 
-pub loop-is_open-preserved-in-Some : goal.loop-is_open-preserved-in-Some
-loop-is_open-preserved-in-Some g c =
+pub execute_plot-requires-clause-running : goal.execute_plot-requires-clause-running
+execute_plot-requires-clause-running g c =
+    let so_far = c.loop-is_open.invariant in
+    let ran = c.execute_commands.ensures in
+    let still = sym ran.open ∙ c.if-not-execute_commands.false in
+    let through = text_through _ _ _ _ _ _ _ _ _ _ refl (through_open _ _ _ _ _ _ _ _ (sym so_far.tells ∙ c.loop-is_open-test.true) so_far.came) (through_open _ _ _ _ _ _ _ _ still ran.came) in
+    let far = further_by_text _ _ _ c.execute_commands.new.lexer refl so_far.further record { ended = ran.ended; place = ran.place; no_more = ran.no_more } in
+    let next = c.in-Some.ensures.pair in
+    let step = c.step.ensures in
+    let went = sym step.open ∙ c.if-step.true in
+    let came = comes_on _ _ _ _ _ _ _ _ _ c.one_reading.ensures c.watched_runs_are_alike.ensures _ c.step.new.culprit _ _ _ refl next through far.ended (λ closed. absurd (both went closed)) step.came in
+    (through_open _ _ _ _ _ _ _ _ went came).running
+
+pub execute_plot-requires-clause-modes : goal.execute_plot-requires-clause-modes
+execute_plot-requires-clause-modes g c =
+    let so_far = c.loop-is_open.invariant in
+    let ran = c.execute_commands.ensures in
+    let still = sym ran.open ∙ c.if-not-execute_commands.false in
+    let through = text_through _ _ _ _ _ _ _ _ _ _ refl (through_open _ _ _ _ _ _ _ _ (sym so_far.tells ∙ c.loop-is_open-test.true) so_far.came) (through_open _ _ _ _ _ _ _ _ still ran.came) in
+    let far = further_by_text _ _ _ c.execute_commands.new.lexer refl so_far.further record { ended = ran.ended; place = ran.place; no_more = ran.no_more } in
+    let next = c.in-Some.ensures.pair in
+    let step = c.step.ensures in
+    let went = sym step.open ∙ c.if-step.true in
+    let came = comes_on _ _ _ _ _ _ _ _ _ c.one_reading.ensures c.watched_runs_are_alike.ensures _ c.step.new.culprit _ _ _ refl next through far.ended (λ closed. absurd (both went closed)) step.came in
+    (through_open _ _ _ _ _ _ _ _ went came).modes
+
+pub loop-is_open-preserved-then-step : goal.loop-is_open-preserved-then-step
+loop-is_open-preserved-then-step g c =
     let so_far = c.loop-is_open.invariant in
     let ran = c.execute_commands.ensures in
     let still = sym ran.open ∙ c.if-not-execute_commands.false in
@@ -51,13 +76,38 @@ loop-is_open-preserved-in-Some g c =
     let far = further_by_text _ _ _ c.execute_commands.new.lexer refl so_far.further record { ended = ran.ended; place = ran.place; no_more = ran.no_more } in
     let untold = ran.untold c.if-not-execute_commands.false ∙ so_far.untold c.loop-is_open-test.true in
     let next = c.in-Some.ensures.pair in
-    let step = c.step-is_open.ensures in
+    let step = c.step.ensures in
+    let went = sym step.open ∙ c.if-step.true in
+    let came = comes_on _ _ _ _ _ _ _ _ _ c.one_reading.ensures c.watched_runs_are_alike.ensures _ c.step.new.culprit _ _ _ refl next through far.ended (λ closed. absurd (both went closed)) step.came in
+    let there = further _ _ _ _ _ _ refl next far in
+    let plot = c.execute_plot.ensures in
+    record {
+      tells = plot.open;
+      untold = λ is. plot.untold is ∙ step.untold c.if-step.true ∙ untold;
+      further = further_by_text _ _ _ _ refl there record { ended = plot.ended; place = plot.place; no_more = plot.no_more };
+      came = stands_behind _ _ _ _ _ _ _ _ _ c.execute_plot.new.standing c.execute_plot.new.culprit (through_open _ _ _ _ _ _ _ _ went came) there.ended plot.came;
+    }
+
+pub loop-is_open-preserved-else-step : goal.loop-is_open-preserved-else-step
+loop-is_open-preserved-else-step g c =
+    let so_far = c.loop-is_open.invariant in
+    let ran = c.execute_commands.ensures in
+    let still = sym ran.open ∙ c.if-not-execute_commands.false in
+    let through = text_through _ _ _ _ _ _ _ _ _ _ refl (through_open _ _ _ _ _ _ _ _ (sym so_far.tells ∙ c.loop-is_open-test.true) so_far.came) (through_open _ _ _ _ _ _ _ _ still ran.came) in
+    let far = further_by_text _ _ _ c.execute_commands.new.lexer refl so_far.further record { ended = ran.ended; place = ran.place; no_more = ran.no_more } in
+    let untold = ran.untold c.if-not-execute_commands.false ∙ so_far.untold c.loop-is_open-test.true in
+    let next = c.in-Some.ensures.pair in
+    let step = c.step.ensures in
     record {
       tells = step.open;
       untold = λ is. step.untold is ∙ untold;
       further = further _ _ _ _ _ _ refl next far;
-      came = comes_on _ _ _ _ _ _ _ _ _ c.one_reading.ensures c.watched_runs_are_alike.ensures _ _ _ _ _ refl next through far.ended (λ closed. step.told (step.open ∙ closed)) step.came;
+      came = comes_on _ _ _ _ _ _ _ _ _ c.one_reading.ensures c.watched_runs_are_alike.ensures _ _ _ _ _ refl next through far.ended (λ closed. step.told c.if-step.false) step.came;
     }
+
+pub loop-is_open-smaller-then-step : goal.loop-is_open-smaller-then-step
+loop-is_open-smaller-then-step g c =
+    omega (arith, item_takes _ _ _ c.in-Some.ensures.pair _ _ refl, c.execute_plot.ensures.no_more, c.execute_commands.ensures.no_more)
 
 -- ---- text
 

@@ -1,10 +1,8 @@
-use Rattle.std.proofs.Common.{◌≡◌, true, false, refl, sym, ap, subst, ◌∙◌, arith}
-use Rattle.pcl_items.specs.Lexing.Meaning.{IsNext, answer_of, answer_of_end}
-use Rattle.preflight.specs.Carriers.Checking.{ExecutesThrough}
-use Rattle.preflight.specs.Carriers.Lockstep.{machines_of, counts_of}
+use Rattle.std.proofs.Common.{◌≡◌, true, false, refl, sym, subst, ◌∙◌}
+use Rattle.pcl_items.specs.Lexing.Meaning.{IsNext, answer_of_end}
 use Rattle.preflight.specs.Standing.{is_open}
-use Rattle.preflight.proofs.Answered.{IsFurther, all_admit_next, comes_on, further, item_takes, not_further, through_open}
-use Rattle.preflight.proofs.Standings.{open_by, open_is}
+use Rattle.preflight.proofs.Answered.{all_admit_next, comes_on, further, not_further, through_open}
+use Rattle.preflight.proofs.Standings.{open_is}
 use Rattle.preflight.proofs.commands.execute_commands.Goals as goal
 
 pub loop-read-init : goal.loop-read-init
