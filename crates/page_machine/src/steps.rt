@@ -221,7 +221,7 @@ fn run_row<S: MarkSink, A: Allocator>(
 }
 
 /// Prints the data of a command.
-// It matches the answers as `run_fill` does.
+// It matches the answers of its calls, and is inlined: so other items clear no room for one.
 #[inline(always)]
 fn run_data<S: MarkSink, A: Allocator>(
     profile: &Profile<A>,
@@ -301,7 +301,7 @@ fn move_and_draw<S: MarkSink, A: Allocator>(
 }
 
 /// Carries out a command that moves the pen.
-// It matches the answer as `run_fill` does.
+// It matches the answer of a call, as `run_data` does.
 #[inline(always)]
 fn run_motion<S: MarkSink, A: Allocator>(
     profile: &Profile<A>,

@@ -42,9 +42,9 @@ pub fn execute_plot<A: Allocator + Copy, P: Allocator>(
         && execute_motions(lexer, machines, standing, culprit)
 }
 
-/// Executes the pairs of coordinates that stand next, as far as it is known where the pen draws and
-/// one past it, and tells whether the check is still open. The one that the job fails at is the
-/// culprit.
+/// Executes the pairs of coordinates that stand next, where it is known in which box the pen draws,
+/// up to the first that leads out of it, which goes as any other item; and tells whether the check
+/// is still open. The one that the job fails at is the culprit.
 // A call of its own: a plot is mostly pairs, and what executes them keeps nothing else.
 #[inline(never)]
 fn execute_pairs<A: Allocator + Copy, P: Allocator>(
