@@ -145,6 +145,25 @@ def coordinates(places):
     return b",".join(b"%d,%d" % place for place in places)
 
 
+def report(number):
+    """A page with some of everything: a logo, rectangles, lines of text and a drawing."""
+    yield b"\x1b*t300R\x1b*r0F" + to_units(0, 150) + b"\x1b*r1A"
+    for row in range(10):
+        data = row_of_raster(number, row)
+        yield b"\x1b*b%dW" % len(data) + data
+    yield b"\x1b*rB"
+    for i in range(60):
+        yield to_units((37 * number + 29 * i) % 1800, 300 + 40 * i)
+        yield rectangle(20 + 13 * i % 400, 1 + 7 * i % 60)
+    yield to_units(0, 600)
+    for line in range(40):
+        yield line_of_text(number, line) + CR_LF
+    yield b"\x1b%0BIN;SP1;PW0.35;"
+    for count in range(1, 13):
+        yield absolute_line(number, count)
+    yield b"PU;SP0;\x1b%0A" + FORM_FEED
+
+
 def macro(number):
     """A page of a macro, which the first page defines: 60 rectangles, and one before them."""
     if number == 0:
@@ -224,5 +243,17 @@ def to_cell(column, row):
     return b"\x1b&a%dc%dR" % (column, row)
 
 
-MAKERS = (rectangles, lines, text, raster, mix, wrapped, plot, macro, written_out, overlay)
+MAKERS = (
+    rectangles,
+    lines,
+    text,
+    raster,
+    mix,
+    report,
+    wrapped,
+    plot,
+    macro,
+    written_out,
+    overlay,
+)
 KINDS = {maker.__name__: maker for maker in MAKERS}
