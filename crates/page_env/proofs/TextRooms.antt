@@ -74,8 +74,8 @@ module _ (printer : Printer) (m : TextMeasure) where
       let same : page_at from page ≡ page = λ i. record page { cursor = sym stands i } in
       subst (λ p. AllGo printer m.look from p codes) same (all_go codes from page h room)
 
-pub lines_go : (printer : Printer) (m : TextMeasure) (page : Page) (from : TextPlace) (bytes : List ℕ) (lines : TextLines) → HasMeasure printer page m → StandsAt page from → AreLinesFrom m from bytes lines → GoAs printer page m.look from (take lines.count bytes) lines
-lines_go printer m page from bytes lines h stands are = record {
+pub measured_lines_go : (printer : Printer) (m : TextMeasure) (page : Page) (from : TextPlace) (bytes : List ℕ) (lines : TextLines) → HasMeasure printer page m → StandsAt page from → AreLinesFrom m from bytes lines → GoAs printer page m.look from (take lines.count bytes) lines
+measured_lines_go printer m page from bytes lines h stands are = record {
   stands = stands;
   go = room_goes printer m (take lines.count bytes) from page h stands are.room;
   end = are.end;

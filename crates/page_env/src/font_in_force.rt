@@ -66,6 +66,7 @@ fn request_at<A: Allocator>(profile: &Profile<A>, id: u32) -> FontRequest
 }
 
 /// The request in force.
+#[inline(always)]
 pub(crate) fn font_request<A: Allocator>(
     profile: &Profile<A>,
     page: &Page,

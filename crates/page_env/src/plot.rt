@@ -34,7 +34,8 @@ fn corner(ticks: i64) -> PenCoordinate {
     PenCoordinate::from_ticks(ticks.clamp(0, FURTHEST as i64))
 }
 
-/// The box in which both ends of lines may lie that reach half a width further, if there is one.
+/// The box in which both ends of lines may lie that reach half a width further. Nothing is promised
+/// of its sides: its diagonal is judged before a line goes by it.
 fn box_for(
     geometry: &Geometry,
     origin: &Origin,

@@ -605,10 +605,10 @@ fn next_lines<A: Allocator>(
     ensures lines { IfSome result (λ lines. AreLinesFrom measure.now place bytes.now lines) }
 {
     match bytes {
-        [] => None,
+        [b' '..=255, ..] => run_ahead(measure, place, bytes),
         [b'\r', ..] => return_ahead(measure, place),
         [b'\n', ..] => feed_ahead(measure, place),
-        [_, ..] => run_ahead(measure, place, bytes),
+        _ => None,
     }
 }
 
@@ -620,6 +620,7 @@ impl<A: Allocator> TextMeasure<'_, A> {
     ///
     /// It tells nothing of the byte behind them: carried out by itself it may go, or have a
     /// finding.
+    #[inline(always)]
     pub fn lines_ahead(&self, from: TextPlace, bytes: &[u8]) -> TextLines
         ensures { AreLinesFrom self.now from bytes.now result }
     {

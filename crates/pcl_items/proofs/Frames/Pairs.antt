@@ -1,5 +1,5 @@
 -- A pair of coordinates that is read at once is read by steps.
-use Rattle.std.proofs.Common.{◌≡◌, ℕ, ◌+◌, ◌-◌, ◌<◌, ◌≤◌, List, [], ◌∷◌, ◌++◌, length, get_or, take, drop, Bool, true, false, Option, None, Some, refl, sym, ap, subst, ◌∙◌, inr, arith}
+use Rattle.std.proofs.Common.{◌≡◌, ℕ, ◌+◌, ◌-◌, ◌<◌, ◌≤◌, List, [], ◌∷◌, ◌++◌, length, get_or, take, drop, Bool, true, false, Option, None, Some, refl, sym, ap, subst, ◌∙◌, ◌⊎◌, inl, inr, arith}
 use Rattle.std.specs.Prelude.{ℤ, ◌==◌, nat_lt, IfSome, IsTrue}
 use Rattle.std.proofs.lemmas.Bool.{cond-false, le-ltb, eqb-true}
 use Rattle.std.proofs.lemmas.List.{at_drop_more, get_or-drop, get_or-take, length-drop}
@@ -113,6 +113,10 @@ semicolon_kind : kind_of 59 ≡ kinds.Semicolon
 unfolding kind_of
 semicolon_kind = refl
 
+newline_kind : kind_of 10 ≡ kinds.White
+unfolding kind_of
+newline_kind = refl
+
 comma_first : (whole : Bool) (x : Numbers) (n : ℕ) (bytes : List ℕ) → 1 ≤ length bytes → get_or bytes 0 0 ≡ 44 → first_of whole (Numbered x Straight n) bytes ≡ Passes 1 (Numbered x Comma (n + 1))
 comma_first whole x n [] some e = absurd (omega (arith, some))
 comma_first whole x n (b ∷ bytes) some e = number_comma whole x Straight n b bytes (ap kind_of e ∙ comma_kind) tt
@@ -176,21 +180,41 @@ semicolon_ends : (whole : Bool) (motion : Motion) (n : ℕ) (bytes : List ℕ) �
 semicolon_ends whole motion n [] some e = absurd (omega (arith, some))
 semicolon_ends whole motion n (b ∷ rest) some e = pairs_end whole motion Straight n (b ∷ rest) (decided_behind whole b rest) tt (subst IsEnd (sym (ap kind_of e ∙ semicolon_kind)) tt)
 
+-- behind bytes that are passed between commands
+module _ (i : ℕ) (motion : Motion) (place : ℕ) (bytes : List ℕ) (inside : i ≤ length bytes) (passed : (whole : Bool) → ReadsTo whole Frame place bytes [] Frame (place + i) (drop i bytes))
+    (ends : (whole : Bool) (other : Motion) (n : ℕ) → first_of whole (Numbered (Even other) Straight n) bytes ≡ Passes 0 Frame) (letters : HasLetters motion (drop i bytes)) where
+  passed_leads : LeadsCommand (record { len = i + 2; place = place + i; motion = motion; is_further = false }) place bytes
+  passed_leads = record {
+    leads = record {
+      reads = λ whole x len number. with_count (omega arith) (ReadsTo-append (passed whole) (letters_read_at whole motion i place bytes x len letters number));
+      behind = omega arith;
+      within = omega (arith, inside, letters.within, length-drop i bytes);
+      same = λ is. absurd cc;
+    };
+    ends = ends;
+    letters = λ whole. ReadsTo-append (passed whole) (one_pass whole Frame (Letters (Moves motion) 2) bytes i place 2 (letters.first whole));
+    placed = omega arith;
+    first = refl;
+  }
+
+semicolon_passed : (whole : Bool) (place : ℕ) (bytes : List ℕ) → 1 ≤ length bytes → get_or bytes 0 0 ≡ 59 → ReadsTo whole Frame place bytes [] Frame (place + 1) (drop 1 bytes)
+semicolon_passed whole place bytes some e = ReadsTo-at (omega arith) refl refl (one_pass whole Frame Frame bytes 0 place 1 (semicolon_passes whole bytes some e))
+
 pub semicolon_leads : (motion : Motion) (place : ℕ) (bytes : List ℕ) → 1 ≤ length bytes → get_or bytes 0 0 ≡ 59 → HasLetters motion (rest_from bytes 1) → LeadsCommand (record { len = 3; place = place + 1; motion = motion; is_further = false }) place bytes
 semicolon_leads motion place bytes some e h =
-    let letters : HasLetters motion (drop 1 bytes) = subst (HasLetters motion) (rest_is bytes 1) h in
-    record {
-      leads = record {
-        reads = λ whole x len number. with_count (omega arith) (passes 1 Frame (semicolon_passes whole bytes some e) (letters_read_at whole motion 1 place bytes x len letters number));
-        behind = omega arith;
-        within = omega (arith, letters.within, length-drop 1 bytes);
-        same = λ is. absurd cc;
-      };
-      ends = λ whole other n. semicolon_ends whole other n bytes some e;
-      letters = λ whole. passes 1 Frame (semicolon_passes whole bytes some e) (one_pass whole Frame (Letters (Moves motion) 2) bytes 1 place 2 (letters.first whole));
-      placed = omega arith;
-      first = refl;
-    }
+    passed_leads 1 motion place bytes some (λ whole. semicolon_passed whole place bytes some e) (λ whole other n. semicolon_ends whole other n bytes some e) (subst (HasLetters motion) (rest_is bytes 1) h)
+
+newline_passes : (whole : Bool) (bytes : List ℕ) → 1 ≤ length bytes → get_or bytes 0 0 ≡ 10 → first_of whole Frame bytes ≡ Passes 1 Frame
+newline_passes whole [] some e = absurd (omega (arith, some))
+newline_passes whole (b ∷ rest) some e = separator_read whole b rest (inl (ap kind_of e ∙ newline_kind))
+
+pub line_leads : (motion : Motion) (place : ℕ) (bytes : List ℕ) → 2 ≤ length bytes → get_or bytes 0 0 ≡ 59 → get_or bytes 1 0 ≡ 10 → HasLetters motion (rest_from bytes 2) → LeadsCommand (record { len = 4; place = place + 2; motion = motion; is_further = false }) place bytes
+line_leads motion place bytes some e e' h =
+    let first : 1 ≤ length bytes = omega (arith, some) in
+    let more : 1 ≤ length (drop 1 bytes) = omega (arith, some, length-drop 1 bytes) in
+    passed_leads 2 motion place bytes some
+    (λ whole. ReadsTo-append (semicolon_passed whole place bytes first e) (one_pass whole Frame Frame bytes 1 place 1 (newline_passes whole (drop 1 bytes) more (get_or-drop 1 bytes 0 0 ∙ e'))))
+    (λ whole other n. semicolon_ends whole other n bytes first e) (subst (HasLetters motion) (rest_is bytes 2) h)
 
 -- behind whole pairs
 command_leads : (lead : Lead) (motion : Motion) (place : ℕ) (bytes : List ℕ) → LeadsCommand lead place bytes → Leads lead (Numbered (Even motion) Straight 0) place bytes
@@ -207,11 +231,12 @@ some_command (Some lead) motion place bytes h = command_leads lead motion place 
 
 -- ---- a command without coordinates
 
-letters_end : (whole : Bool) (motion : Motion) (b : ℕ) (rest : List ℕ) → b ≡ 59 → first_of whole (Letters (Moves motion) 2) (b ∷ rest) ≡ Begins (Move motion None) 0 Frame
+letters_end : (whole : Bool) (motion : Motion) (b : ℕ) (rest : List ℕ) → (b ≡ 59) ⊎ (b ≡ 80) → first_of whole (Letters (Moves motion) 2) (b ∷ rest) ≡ Begins (Move motion None) 0 Frame
 unfolding first_of after_letters
-letters_end whole motion b rest e = ap (λ kind. letters_by kind whole (Moves motion) 2 (b ∷ rest)) (ap kind_of e ∙ semicolon_kind)
+letters_end whole motion b rest (inl e) = ap (λ kind. letters_by kind whole (Moves motion) 2 (b ∷ rest)) (ap kind_of e ∙ semicolon_kind)
+letters_end whole motion b rest (inr e) = ap (λ kind. letters_by kind whole (Moves motion) 2 (b ∷ rest)) (ap kind_of e ∙ p_kind)
 
-module _ (lead : Lead) (place : ℕ) (bytes : List ℕ) (h : LeadsCommand lead place bytes) (inside : lead.len < length bytes) (e : get_or bytes lead.len 0 ≡ 59) where
+module _ (lead : Lead) (place : ℕ) (bytes : List ℕ) (h : LeadsCommand lead place bytes) (inside : lead.len < length bytes) (e : (get_or bytes lead.len 0 ≡ 59) ⊎ (get_or bytes lead.len 0 ≡ 80)) where
   pub bare_stands : IsBareAhead lead Frame place bytes
   bare_stands = record {
     reads = λ whole.

@@ -77,7 +77,8 @@ pub fn pair_in(context: Context, place: Place, bytes: &[u8]) -> Option<ReadPair>
 }
 
 /// The command that moves the pen and has no coordinates, that stands first in the bytes at this
-/// place with a semicolon behind its letters, unless they begin with something else.
+/// place with a semicolon or the next such command behind its letters, unless they begin with
+/// something else.
 #[inline(always)]
 pub fn bare_motion_in(context: Context, place: Place, bytes: &[u8]) -> Option<Lead>
     requires { place + length bytes.now ≤ 2 ^ 62 }
@@ -101,7 +102,7 @@ fn bare_motion(place: Place, bytes: &[u8]) -> Option<Lead>
 {
     let lead = command_lead(place, bytes)?;
     match &bytes[lead.len..] {
-        [b';', ..] => Some(lead),
+        [b';' | b'P', ..] => Some(lead),
         _ => None,
     }
 }
@@ -139,13 +140,20 @@ fn lead_behind_pair(motion: Motion, place: Place, bytes: &[u8]) -> Option<Lead>
     }
 }
 
-/// The letters of a command that moves the pen, perhaps behind a semicolon.
+/// The letters of a command that moves the pen, perhaps behind a semicolon, or on the line behind
+/// one.
 #[inline(always)]
 fn command_lead(place: Place, bytes: &[u8]) -> Option<Lead>
     requires { place + length bytes.now ≤ 2 ^ 62 }
     ensures { IfSome result (λ lead. LeadsCommand lead place bytes.now) }
 {
     match bytes {
+        [b';', b'\n', rest @ ..] => Some(Lead {
+            len: 4,
+            place: place + 2,
+            motion: leading_motion(rest)?,
+            is_further: false,
+        }),
         [b';', rest @ ..] => Some(Lead {
             len: 3,
             place: place + 1,

@@ -156,7 +156,7 @@ fn with_decimals(sign: Sign, whole: u32, len: usize, bytes: &[u8]) -> Field
     }
 }
 
-// The sign in front, and how many characters it has.
+/// The sign in front, and how many characters it has.
 #[inline(always)]
 pub fn leading_sign(bytes: &[u8]) -> (Sign, usize)
     ensures sign { result.0 ≡ sign_at bytes.now }

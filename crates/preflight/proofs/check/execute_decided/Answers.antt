@@ -3,11 +3,9 @@ use Rattle.preflight.specs.Verdict.{IsExact}
 use Rattle.preflight.specs.Culprit.{IsTold}
 use Rattle.std.proofs.Common.{◌≡◌, Bool, true, false, sym, ap, subst, ◌∙◌, refl, Ok, arith}
 use Rattle.pcl_items.specs.Lexing.Meaning.{given}
-use Rattle.pcl_items.specs.Modes.{mode_of}
 use Rattle.pcl_items.specs.Reading.{left}
-use Rattle.preflight.specs.Carriers.Lockstep.{AreIn, machines_of}
 use Rattle.preflight.specs.Standing.{is_open}
-use Rattle.preflight.proofs.Answered.{all_admit_next, bytes_fail, bytes_whole, came_closed, comes_on, ends, further, further_by_text, item_takes, not_further, nothing_read, same_mode, stands_behind, text_through, through_open, wants_more}
+use Rattle.preflight.proofs.Answered.{all_admit_next, bytes_fail, bytes_whole, came_closed, comes_on, ends, further, further_by_text, further_here, item_takes, not_further, nothing_read, same_mode, stands_behind, text_through, through_here, through_open, wants_more}
 use Rattle.preflight.proofs.Standings.{closed_on, failed_by, open_by, open_is}
 use Rattle.preflight.proofs.check.execute_decided.Goals as goal
 
@@ -24,30 +22,30 @@ loop-is_open-init g c = record {
 
 -- ---- commands and the ends of lines
 
-pub returns-then-not-execute_commands-clause-came : goal.returns-then-not-execute_commands-clause-came
-returns-then-not-execute_commands-clause-came g c =
+pub returns-then-not-execute_pcl-clause-came : goal.returns-then-not-execute_pcl-clause-came
+returns-then-not-execute_pcl-clause-came g c =
     let so_far = c.loop-is_open.invariant in
     let through = through_open _ _ _ _ _ _ _ _ (sym so_far.tells ∙ c.loop-is_open-test.true) so_far.came in
-    let ran = c.execute_commands.ensures in
-    came_closed _ _ _ _ _ _ _ _ (sym ran.open ∙ c.if-not-execute_commands.true) (stands_behind _ _ _ _ _ _ _ _ _ _ _ through so_far.further.ended ran.came)
+    let ran = c.execute_pcl.ensures in
+    came_closed _ _ _ _ _ _ _ _ (sym ran.open ∙ c.if-not-execute_pcl.true) (stands_behind _ _ _ _ _ _ _ _ _ _ _ through so_far.further.ended ran.came)
 
 -- ---- a pair of coordinates
 
 pub step-requires-clause-admitted : goal.step-requires-clause-admitted
 step-requires-clause-admitted g c =
     let so_far = c.loop-is_open.invariant in
-    let ran = c.execute_commands.ensures in
-    let still = sym ran.open ∙ c.if-not-execute_commands.false in
+    let ran = c.execute_pcl.ensures in
+    let still = sym ran.open ∙ c.if-not-execute_pcl.false in
     let through = text_through _ _ _ _ _ _ _ _ _ _ refl (through_open _ _ _ _ _ _ _ _ (sym so_far.tells ∙ c.loop-is_open-test.true) so_far.came) (through_open _ _ _ _ _ _ _ _ still ran.came) in
     all_admit_next _ _ _ c.in-Some.ensures.pair _ _ refl _ through.modes
 
 pub execute_plot-requires-clause-running : goal.execute_plot-requires-clause-running
 execute_plot-requires-clause-running g c =
     let so_far = c.loop-is_open.invariant in
-    let ran = c.execute_commands.ensures in
-    let still = sym ran.open ∙ c.if-not-execute_commands.false in
+    let ran = c.execute_pcl.ensures in
+    let still = sym ran.open ∙ c.if-not-execute_pcl.false in
     let through = text_through _ _ _ _ _ _ _ _ _ _ refl (through_open _ _ _ _ _ _ _ _ (sym so_far.tells ∙ c.loop-is_open-test.true) so_far.came) (through_open _ _ _ _ _ _ _ _ still ran.came) in
-    let far = further_by_text _ _ _ c.execute_commands.new.lexer refl so_far.further record { ended = ran.ended; place = ran.place; no_more = ran.no_more } in
+    let far = further_by_text _ _ _ c.execute_pcl.new.lexer refl so_far.further record { ended = ran.ended; place = ran.place; no_more = ran.no_more } in
     let next = c.in-Some.ensures.pair in
     let step = c.step.ensures in
     let went = sym step.open ∙ c.if-step.true in
@@ -57,10 +55,10 @@ execute_plot-requires-clause-running g c =
 pub execute_plot-requires-clause-modes : goal.execute_plot-requires-clause-modes
 execute_plot-requires-clause-modes g c =
     let so_far = c.loop-is_open.invariant in
-    let ran = c.execute_commands.ensures in
-    let still = sym ran.open ∙ c.if-not-execute_commands.false in
+    let ran = c.execute_pcl.ensures in
+    let still = sym ran.open ∙ c.if-not-execute_pcl.false in
     let through = text_through _ _ _ _ _ _ _ _ _ _ refl (through_open _ _ _ _ _ _ _ _ (sym so_far.tells ∙ c.loop-is_open-test.true) so_far.came) (through_open _ _ _ _ _ _ _ _ still ran.came) in
-    let far = further_by_text _ _ _ c.execute_commands.new.lexer refl so_far.further record { ended = ran.ended; place = ran.place; no_more = ran.no_more } in
+    let far = further_by_text _ _ _ c.execute_pcl.new.lexer refl so_far.further record { ended = ran.ended; place = ran.place; no_more = ran.no_more } in
     let next = c.in-Some.ensures.pair in
     let step = c.step.ensures in
     let went = sym step.open ∙ c.if-step.true in
@@ -70,11 +68,11 @@ execute_plot-requires-clause-modes g c =
 pub loop-is_open-preserved-then-step : goal.loop-is_open-preserved-then-step
 loop-is_open-preserved-then-step g c =
     let so_far = c.loop-is_open.invariant in
-    let ran = c.execute_commands.ensures in
-    let still = sym ran.open ∙ c.if-not-execute_commands.false in
+    let ran = c.execute_pcl.ensures in
+    let still = sym ran.open ∙ c.if-not-execute_pcl.false in
     let through = text_through _ _ _ _ _ _ _ _ _ _ refl (through_open _ _ _ _ _ _ _ _ (sym so_far.tells ∙ c.loop-is_open-test.true) so_far.came) (through_open _ _ _ _ _ _ _ _ still ran.came) in
-    let far = further_by_text _ _ _ c.execute_commands.new.lexer refl so_far.further record { ended = ran.ended; place = ran.place; no_more = ran.no_more } in
-    let untold = ran.untold c.if-not-execute_commands.false ∙ so_far.untold c.loop-is_open-test.true in
+    let far = further_by_text _ _ _ c.execute_pcl.new.lexer refl so_far.further record { ended = ran.ended; place = ran.place; no_more = ran.no_more } in
+    let untold = ran.untold c.if-not-execute_pcl.false ∙ so_far.untold c.loop-is_open-test.true in
     let next = c.in-Some.ensures.pair in
     let step = c.step.ensures in
     let went = sym step.open ∙ c.if-step.true in
@@ -91,11 +89,11 @@ loop-is_open-preserved-then-step g c =
 pub loop-is_open-preserved-else-step : goal.loop-is_open-preserved-else-step
 loop-is_open-preserved-else-step g c =
     let so_far = c.loop-is_open.invariant in
-    let ran = c.execute_commands.ensures in
-    let still = sym ran.open ∙ c.if-not-execute_commands.false in
+    let ran = c.execute_pcl.ensures in
+    let still = sym ran.open ∙ c.if-not-execute_pcl.false in
     let through = text_through _ _ _ _ _ _ _ _ _ _ refl (through_open _ _ _ _ _ _ _ _ (sym so_far.tells ∙ c.loop-is_open-test.true) so_far.came) (through_open _ _ _ _ _ _ _ _ still ran.came) in
-    let far = further_by_text _ _ _ c.execute_commands.new.lexer refl so_far.further record { ended = ran.ended; place = ran.place; no_more = ran.no_more } in
-    let untold = ran.untold c.if-not-execute_commands.false ∙ so_far.untold c.loop-is_open-test.true in
+    let far = further_by_text _ _ _ c.execute_pcl.new.lexer refl so_far.further record { ended = ran.ended; place = ran.place; no_more = ran.no_more } in
+    let untold = ran.untold c.if-not-execute_pcl.false ∙ so_far.untold c.loop-is_open-test.true in
     let next = c.in-Some.ensures.pair in
     let step = c.step.ensures in
     record {
@@ -107,57 +105,31 @@ loop-is_open-preserved-else-step g c =
 
 pub loop-is_open-smaller-then-step : goal.loop-is_open-smaller-then-step
 loop-is_open-smaller-then-step g c =
-    omega (arith, item_takes _ _ _ c.in-Some.ensures.pair _ _ refl, c.execute_plot.ensures.no_more, c.execute_commands.ensures.no_more)
-
--- ---- text
-
-pub execute_text-requires-clause-modes : goal.execute_text-requires-clause-modes
-execute_text-requires-clause-modes g c =
-    let so_far = c.loop-is_open.invariant in
-    let ran = c.execute_commands.ensures in
-    let still = sym ran.open ∙ c.if-not-execute_commands.false in
-    let through = text_through _ _ _ _ _ _ _ _ _ _ refl (through_open _ _ _ _ _ _ _ _ (sym so_far.tells ∙ c.loop-is_open-test.true) so_far.came) (through_open _ _ _ _ _ _ _ _ still ran.came) in
-    let here = c.in_default.ensures.none in
-    subst (λ lexer. AreIn (mode_of lexer.context) (machines_of c.execute_commands.new.machines)) (sym here) through.modes
-
-pub loop-is_open-preserved-then-execute_text : goal.loop-is_open-preserved-then-execute_text
-loop-is_open-preserved-then-execute_text g c =
-    let so_far = c.loop-is_open.invariant in
-    let ran = c.execute_commands.ensures in
-    let still = sym ran.open ∙ c.if-not-execute_commands.false in
-    let through = text_through _ _ _ _ _ _ _ _ _ _ refl (through_open _ _ _ _ _ _ _ _ (sym so_far.tells ∙ c.loop-is_open-test.true) so_far.came) (through_open _ _ _ _ _ _ _ _ still ran.came) in
-    let far = further_by_text _ _ _ c.execute_commands.new.lexer refl so_far.further record { ended = ran.ended; place = ran.place; no_more = ran.no_more } in
-    let untold = ran.untold c.if-not-execute_commands.false ∙ so_far.untold c.loop-is_open-test.true in
-    let here = c.in_default.ensures.none in
-    let text = c.execute_text.ensures in
-    let behind = text_through _ _ _ _ _ _ _ _ _ _ here through record { running = text.running; modes = text.modes; executed = text.executed } in
-    let on = further_by_text _ _ _ c.execute_text.new.lexer here far record { ended = text.ended; place = text.place; no_more = text.no_more } in
-    let is = still in
-    record {
-      tells = sym is;
-      untold = λ _. untold;
-      further = on;
-      came = open_by _ _ (open_is _ is) behind;
-    }
+    omega (arith, item_takes _ _ _ c.in-Some.ensures.pair _ _ refl, c.execute_plot.ensures.no_more, c.execute_pcl.ensures.no_more)
 
 -- ---- all else
 
 pub step_other-requires-clause-admitted : goal.step_other-requires-clause-admitted
 step_other-requires-clause-admitted g c =
-    all_admit_next _ _ _ c.next_other.follows.holds-at-none _ _ (c.in-Ok-Item.is ∙ ap Ok c.in-Ok-Item.field-0-is) _ c.execute_text.ensures.modes
+    let so_far = c.loop-is_open.invariant in
+    let ran = c.execute_pcl.ensures in
+    let still = sym ran.open ∙ c.if-not-execute_pcl.false in
+    let through = text_through _ _ _ _ _ _ _ _ _ _ refl (through_open _ _ _ _ _ _ _ _ (sym so_far.tells ∙ c.loop-is_open-test.true) so_far.came) (through_open _ _ _ _ _ _ _ _ still ran.came) in
+    let here = c.in_default.ensures.none in
+    let behind = through_here _ _ _ _ _ _ _ here through in
+    all_admit_next _ _ _ c.next_other.follows.holds-at-none _ _ (c.in-Ok-Item.is ∙ ap Ok c.in-Ok-Item.field-0-is) _ behind.modes
 
 pub loop-is_open-preserved : goal.loop-is_open-preserved
 loop-is_open-preserved g c =
     let so_far = c.loop-is_open.invariant in
-    let ran = c.execute_commands.ensures in
-    let still = sym ran.open ∙ c.if-not-execute_commands.false in
+    let ran = c.execute_pcl.ensures in
+    let still = sym ran.open ∙ c.if-not-execute_pcl.false in
     let through = text_through _ _ _ _ _ _ _ _ _ _ refl (through_open _ _ _ _ _ _ _ _ (sym so_far.tells ∙ c.loop-is_open-test.true) so_far.came) (through_open _ _ _ _ _ _ _ _ still ran.came) in
-    let far = further_by_text _ _ _ c.execute_commands.new.lexer refl so_far.further record { ended = ran.ended; place = ran.place; no_more = ran.no_more } in
-    let untold = ran.untold c.if-not-execute_commands.false ∙ so_far.untold c.loop-is_open-test.true in
+    let far = further_by_text _ _ _ c.execute_pcl.new.lexer refl so_far.further record { ended = ran.ended; place = ran.place; no_more = ran.no_more } in
+    let untold = ran.untold c.if-not-execute_pcl.false ∙ so_far.untold c.loop-is_open-test.true in
     let here = c.in_default.ensures.none in
-    let text = c.execute_text.ensures in
-    let behind = text_through _ _ _ _ _ _ _ _ _ _ here through record { running = text.running; modes = text.modes; executed = text.executed } in
-    let on = further_by_text _ _ _ c.execute_text.new.lexer here far record { ended = text.ended; place = text.place; no_more = text.no_more } in
+    let behind = through_here _ _ _ _ _ _ _ here through in
+    let on = further_here _ _ _ here far in
     let next = c.next_other.follows.holds-at-none in
     let item = c.in-Ok-Item.is ∙ ap Ok c.in-Ok-Item.field-0-is in
     let step = c.step_other.ensures in
@@ -172,14 +144,13 @@ loop-is_open-preserved g c =
 pub loop-is_open-preserved-then-not-step_other : goal.loop-is_open-preserved-then-not-step_other
 loop-is_open-preserved-then-not-step_other g c =
     let so_far = c.loop-is_open.invariant in
-    let ran = c.execute_commands.ensures in
-    let still = sym ran.open ∙ c.if-not-execute_commands.false in
+    let ran = c.execute_pcl.ensures in
+    let still = sym ran.open ∙ c.if-not-execute_pcl.false in
     let through = text_through _ _ _ _ _ _ _ _ _ _ refl (through_open _ _ _ _ _ _ _ _ (sym so_far.tells ∙ c.loop-is_open-test.true) so_far.came) (through_open _ _ _ _ _ _ _ _ still ran.came) in
-    let far = further_by_text _ _ _ c.execute_commands.new.lexer refl so_far.further record { ended = ran.ended; place = ran.place; no_more = ran.no_more } in
+    let far = further_by_text _ _ _ c.execute_pcl.new.lexer refl so_far.further record { ended = ran.ended; place = ran.place; no_more = ran.no_more } in
     let here = c.in_default.ensures.none in
-    let text = c.execute_text.ensures in
-    let behind = text_through _ _ _ _ _ _ _ _ _ _ here through record { running = text.running; modes = text.modes; executed = text.executed } in
-    let on = further_by_text _ _ _ c.execute_text.new.lexer here far record { ended = text.ended; place = text.place; no_more = text.no_more } in
+    let behind = through_here _ _ _ _ _ _ _ here through in
+    let on = further_here _ _ _ here far in
     let next = c.next_other.follows.holds-at-none in
     let item = c.in-Ok-Item.is ∙ ap Ok c.in-Ok-Item.field-0-is in
     let step = c.step_other.ensures in
@@ -196,14 +167,13 @@ loop-is_open-preserved-then-not-step_other g c =
 pub execute_rows-requires-clause-running : goal.execute_rows-requires-clause-running
 execute_rows-requires-clause-running g c =
     let so_far = c.loop-is_open.invariant in
-    let ran = c.execute_commands.ensures in
-    let still = sym ran.open ∙ c.if-not-execute_commands.false in
+    let ran = c.execute_pcl.ensures in
+    let still = sym ran.open ∙ c.if-not-execute_pcl.false in
     let through = text_through _ _ _ _ _ _ _ _ _ _ refl (through_open _ _ _ _ _ _ _ _ (sym so_far.tells ∙ c.loop-is_open-test.true) so_far.came) (through_open _ _ _ _ _ _ _ _ still ran.came) in
-    let far = further_by_text _ _ _ c.execute_commands.new.lexer refl so_far.further record { ended = ran.ended; place = ran.place; no_more = ran.no_more } in
+    let far = further_by_text _ _ _ c.execute_pcl.new.lexer refl so_far.further record { ended = ran.ended; place = ran.place; no_more = ran.no_more } in
     let here = c.in_default.ensures.none in
-    let text = c.execute_text.ensures in
-    let behind = text_through _ _ _ _ _ _ _ _ _ _ here through record { running = text.running; modes = text.modes; executed = text.executed } in
-    let on = further_by_text _ _ _ c.execute_text.new.lexer here far record { ended = text.ended; place = text.place; no_more = text.no_more } in
+    let behind = through_here _ _ _ _ _ _ _ here through in
+    let on = further_here _ _ _ here far in
     let item = c.in-Ok-Item.is ∙ ap Ok c.in-Ok-Item.field-0-is in
     let step = c.step_other.ensures in
     let went = sym step.open ∙ c.if-not-step_other.false in
@@ -212,14 +182,13 @@ execute_rows-requires-clause-running g c =
 pub execute_rows-requires-clause-modes : goal.execute_rows-requires-clause-modes
 execute_rows-requires-clause-modes g c =
     let so_far = c.loop-is_open.invariant in
-    let ran = c.execute_commands.ensures in
-    let still = sym ran.open ∙ c.if-not-execute_commands.false in
+    let ran = c.execute_pcl.ensures in
+    let still = sym ran.open ∙ c.if-not-execute_pcl.false in
     let through = text_through _ _ _ _ _ _ _ _ _ _ refl (through_open _ _ _ _ _ _ _ _ (sym so_far.tells ∙ c.loop-is_open-test.true) so_far.came) (through_open _ _ _ _ _ _ _ _ still ran.came) in
-    let far = further_by_text _ _ _ c.execute_commands.new.lexer refl so_far.further record { ended = ran.ended; place = ran.place; no_more = ran.no_more } in
+    let far = further_by_text _ _ _ c.execute_pcl.new.lexer refl so_far.further record { ended = ran.ended; place = ran.place; no_more = ran.no_more } in
     let here = c.in_default.ensures.none in
-    let text = c.execute_text.ensures in
-    let behind = text_through _ _ _ _ _ _ _ _ _ _ here through record { running = text.running; modes = text.modes; executed = text.executed } in
-    let on = further_by_text _ _ _ c.execute_text.new.lexer here far record { ended = text.ended; place = text.place; no_more = text.no_more } in
+    let behind = through_here _ _ _ _ _ _ _ here through in
+    let on = further_here _ _ _ here far in
     let item = c.in-Ok-Item.is ∙ ap Ok c.in-Ok-Item.field-0-is in
     let step = c.step_other.ensures in
     let went = sym step.open ∙ c.if-not-step_other.false in
@@ -231,15 +200,14 @@ execute_rows-requires-clause-open g c = open_is _ (sym c.step_other.ensures.open
 pub loop-is_open-preserved-then-is_row : goal.loop-is_open-preserved-then-is_row
 loop-is_open-preserved-then-is_row g c =
     let so_far = c.loop-is_open.invariant in
-    let ran = c.execute_commands.ensures in
-    let still = sym ran.open ∙ c.if-not-execute_commands.false in
+    let ran = c.execute_pcl.ensures in
+    let still = sym ran.open ∙ c.if-not-execute_pcl.false in
     let through = text_through _ _ _ _ _ _ _ _ _ _ refl (through_open _ _ _ _ _ _ _ _ (sym so_far.tells ∙ c.loop-is_open-test.true) so_far.came) (through_open _ _ _ _ _ _ _ _ still ran.came) in
-    let far = further_by_text _ _ _ c.execute_commands.new.lexer refl so_far.further record { ended = ran.ended; place = ran.place; no_more = ran.no_more } in
-    let untold = ran.untold c.if-not-execute_commands.false ∙ so_far.untold c.loop-is_open-test.true in
+    let far = further_by_text _ _ _ c.execute_pcl.new.lexer refl so_far.further record { ended = ran.ended; place = ran.place; no_more = ran.no_more } in
+    let untold = ran.untold c.if-not-execute_pcl.false ∙ so_far.untold c.loop-is_open-test.true in
     let here = c.in_default.ensures.none in
-    let text = c.execute_text.ensures in
-    let behind = text_through _ _ _ _ _ _ _ _ _ _ here through record { running = text.running; modes = text.modes; executed = text.executed } in
-    let on = further_by_text _ _ _ c.execute_text.new.lexer here far record { ended = text.ended; place = text.place; no_more = text.no_more } in
+    let behind = through_here _ _ _ _ _ _ _ here through in
+    let on = further_here _ _ _ here far in
     let item = c.in-Ok-Item.is ∙ ap Ok c.in-Ok-Item.field-0-is in
     let step = c.step_other.ensures in
     let went = sym step.open ∙ c.if-not-step_other.false in
@@ -257,32 +225,26 @@ pub loop-is_open-smaller-then-is_row : goal.loop-is_open-smaller-then-is_row
 loop-is_open-smaller-then-is_row g c =
     let here = c.in_default.ensures.none in
     let item = c.in-Ok-Item.is ∙ ap Ok c.in-Ok-Item.field-0-is in
-    omega (arith, item_takes _ _ _ c.next_other.follows.holds-at-none _ _ item, c.execute_text.ensures.no_more, c.execute_rows.ensures.no_more, ap (λ lexer. left lexer.context lexer.rest) here)
+    omega (arith, item_takes _ _ _ c.next_other.follows.holds-at-none _ _ item, c.execute_pcl.ensures.no_more, c.execute_rows.ensures.no_more, ap (λ lexer. left lexer.context lexer.rest) here)
 
 pub loop-is_open-smaller : goal.loop-is_open-smaller
 loop-is_open-smaller g c =
-    let so_far = c.loop-is_open.invariant in
-    let ran = c.execute_commands.ensures in
-    let still = sym ran.open ∙ c.if-not-execute_commands.false in
-    let through = text_through _ _ _ _ _ _ _ _ _ _ refl (through_open _ _ _ _ _ _ _ _ (sym so_far.tells ∙ c.loop-is_open-test.true) so_far.came) (through_open _ _ _ _ _ _ _ _ still ran.came) in
     let here = c.in_default.ensures.none in
-    let text = c.execute_text.ensures in
     let item = c.in-Ok-Item.is ∙ ap Ok c.in-Ok-Item.field-0-is in
-    omega (arith, item_takes _ _ _ c.next_other.follows.holds-at-none _ _ item, text.no_more, ap (λ lexer. left lexer.context lexer.rest) here)
+    omega (arith, item_takes _ _ _ c.next_other.follows.holds-at-none _ _ item, c.execute_pcl.ensures.no_more, ap (λ lexer. left lexer.context lexer.rest) here)
 
 -- ---- the end
 
 pub returns-in-Ok-NeedMore-clause-came : goal.returns-in-Ok-NeedMore-clause-came
 returns-in-Ok-NeedMore-clause-came g c =
     let so_far = c.loop-is_open.invariant in
-    let ran = c.execute_commands.ensures in
-    let still = sym ran.open ∙ c.if-not-execute_commands.false in
+    let ran = c.execute_pcl.ensures in
+    let still = sym ran.open ∙ c.if-not-execute_pcl.false in
     let through = text_through _ _ _ _ _ _ _ _ _ _ refl (through_open _ _ _ _ _ _ _ _ (sym so_far.tells ∙ c.loop-is_open-test.true) so_far.came) (through_open _ _ _ _ _ _ _ _ still ran.came) in
-    let far = further_by_text _ _ _ c.execute_commands.new.lexer refl so_far.further record { ended = ran.ended; place = ran.place; no_more = ran.no_more } in
+    let far = further_by_text _ _ _ c.execute_pcl.new.lexer refl so_far.further record { ended = ran.ended; place = ran.place; no_more = ran.no_more } in
     let here = c.in_default.ensures.none in
-    let text = c.execute_text.ensures in
-    let behind = text_through _ _ _ _ _ _ _ _ _ _ here through record { running = text.running; modes = text.modes; executed = text.executed } in
-    let on = further_by_text _ _ _ c.execute_text.new.lexer here far record { ended = text.ended; place = text.place; no_more = text.no_more } in
+    let behind = through_here _ _ _ _ _ _ _ here through in
+    let on = further_here _ _ _ here far in
     let next = c.next_other.follows.holds-at-none in
     let more = c.in-Ok-NeedMore.is ∙ ap Ok c.in-Ok-NeedMore.field-0-is in
     let not_ended : c.args.lexer.now.ended ≡ false = sym (next.ended ∙ on.ended) ∙ (wants_more _ _ _ next more).0 in
@@ -294,22 +256,24 @@ returns-in-Ok-NeedMore-clause-came g c =
 pub returns-in-Ok-NeedMore-clause-goes_on : goal.returns-in-Ok-NeedMore-clause-goes_on
 returns-in-Ok-NeedMore-clause-goes_on g c =
     let so_far = c.loop-is_open.invariant in
-    let ran = c.execute_commands.ensures in
-    let still = sym ran.open ∙ c.if-not-execute_commands.false in
+    let ran = c.execute_pcl.ensures in
+    let still = sym ran.open ∙ c.if-not-execute_pcl.false in
+    let through = text_through _ _ _ _ _ _ _ _ _ _ refl (through_open _ _ _ _ _ _ _ _ (sym so_far.tells ∙ c.loop-is_open-test.true) so_far.came) (through_open _ _ _ _ _ _ _ _ still ran.came) in
+    let here = c.in_default.ensures.none in
+    let behind = through_here _ _ _ _ _ _ _ here through in
     let next = c.next_other.follows.holds-at-none in
     let more = c.in-Ok-NeedMore.is ∙ ap Ok c.in-Ok-NeedMore.field-0-is in
     open_by _ _ (open_is _ still)
-    (c.execute_text.ensures.running, λ e. ((wants_more _ _ _ next more).1, same_mode _ _ _ next more _ c.execute_text.ensures.modes))
+    (behind.running, λ e. ((wants_more _ _ _ next more).1, same_mode _ _ _ next more _ behind.modes))
 
 pub returns-in-Ok-End-clause-came : goal.returns-in-Ok-End-clause-came
 returns-in-Ok-End-clause-came g c =
     let so_far = c.loop-is_open.invariant in
-    let ran = c.execute_commands.ensures in
-    let still = sym ran.open ∙ c.if-not-execute_commands.false in
+    let ran = c.execute_pcl.ensures in
+    let still = sym ran.open ∙ c.if-not-execute_pcl.false in
     let through = text_through _ _ _ _ _ _ _ _ _ _ refl (through_open _ _ _ _ _ _ _ _ (sym so_far.tells ∙ c.loop-is_open-test.true) so_far.came) (through_open _ _ _ _ _ _ _ _ still ran.came) in
     let here = c.in_default.ensures.none in
-    let text = c.execute_text.ensures in
-    let behind = text_through _ _ _ _ _ _ _ _ _ _ here through record { running = text.running; modes = text.modes; executed = text.executed } in
+    let behind = through_here _ _ _ _ _ _ _ here through in
     let end = c.in-Ok-End.is ∙ ap Ok c.in-Ok-End.field-0-is in
     open_by _ _ (open_is _ still) (λ fleet bytes executed.
     let whole = bytes_whole _ _ _ c.next_other.follows.holds-at-none end fleet bytes _ _ (behind.executed fleet bytes executed) in
@@ -318,40 +282,38 @@ returns-in-Ok-End-clause-came g c =
 pub returns-in-Ok-End-clause-goes_on : goal.returns-in-Ok-End-clause-goes_on
 returns-in-Ok-End-clause-goes_on g c =
     let so_far = c.loop-is_open.invariant in
-    let ran = c.execute_commands.ensures in
-    let still = sym ran.open ∙ c.if-not-execute_commands.false in
+    let ran = c.execute_pcl.ensures in
+    let still = sym ran.open ∙ c.if-not-execute_pcl.false in
     let through = text_through _ _ _ _ _ _ _ _ _ _ refl (through_open _ _ _ _ _ _ _ _ (sym so_far.tells ∙ c.loop-is_open-test.true) so_far.came) (through_open _ _ _ _ _ _ _ _ still ran.came) in
-    let far = further_by_text _ _ _ c.execute_commands.new.lexer refl so_far.further record { ended = ran.ended; place = ran.place; no_more = ran.no_more } in
+    let far = further_by_text _ _ _ c.execute_pcl.new.lexer refl so_far.further record { ended = ran.ended; place = ran.place; no_more = ran.no_more } in
     let here = c.in_default.ensures.none in
-    let text = c.execute_text.ensures in
-    let on = further_by_text _ _ _ c.execute_text.new.lexer here far record { ended = text.ended; place = text.place; no_more = text.no_more } in
+    let on = further_here _ _ _ here far in
     let next = c.next_other.follows.holds-at-none in
     let end = c.in-Ok-End.is ∙ ap Ok c.in-Ok-End.field-0-is in
     let ended = sym (next.ended ∙ on.ended) ∙ ends _ _ _ next end in
-    open_by _ _ (open_is _ still) (text.running, λ wants. absurd (both ended wants))
+    open_by _ _ (open_is _ still) (through.running, λ wants. absurd (both ended wants))
 
 pub returns-in-Err-clause-came : goal.returns-in-Err-clause-came
 returns-in-Err-clause-came g c =
     let so_far = c.loop-is_open.invariant in
-    let ran = c.execute_commands.ensures in
-    let still = sym ran.open ∙ c.if-not-execute_commands.false in
+    let ran = c.execute_pcl.ensures in
+    let still = sym ran.open ∙ c.if-not-execute_pcl.false in
     let through = text_through _ _ _ _ _ _ _ _ _ _ refl (through_open _ _ _ _ _ _ _ _ (sym so_far.tells ∙ c.loop-is_open-test.true) so_far.came) (through_open _ _ _ _ _ _ _ _ still ran.came) in
-    let far = further_by_text _ _ _ c.execute_commands.new.lexer refl so_far.further record { ended = ran.ended; place = ran.place; no_more = ran.no_more } in
-    let untold = ran.untold c.if-not-execute_commands.false ∙ so_far.untold c.loop-is_open-test.true in
+    let far = further_by_text _ _ _ c.execute_pcl.new.lexer refl so_far.further record { ended = ran.ended; place = ran.place; no_more = ran.no_more } in
+    let untold = ran.untold c.if-not-execute_pcl.false ∙ so_far.untold c.loop-is_open-test.true in
     let here = c.in_default.ensures.none in
-    let text = c.execute_text.ensures in
-    let behind = text_through _ _ _ _ _ _ _ _ _ _ here through record { running = text.running; modes = text.modes; executed = text.executed } in
-    let on = further_by_text _ _ _ c.execute_text.new.lexer here far record { ended = text.ended; place = text.place; no_more = text.no_more } in
+    let behind = through_here _ _ _ _ _ _ _ here through in
+    let on = further_here _ _ _ here far in
     let untold = untold ∙ c.requires.untold in
     failed_by _ _ _ c.fail.ensures.standing (λ fleet bytes executed job may_be.
-    subst (λ failure. IsExact fleet job (failing failure) × IsTold job (failing failure) c.execute_commands.new.culprit) (sym c.of_fault.ensures)
+    subst (λ failure. IsExact fleet job (failing failure) × IsTold job (failing failure) c.execute_pcl.new.culprit) (sym c.of_fault.ensures)
     (bytes_fail _ _ _ c.next_other.follows.holds-at-none c.in-Err.fault c.in-Err.is c.watched_runs_are_alike.ensures fleet bytes _ _ _ on.ended (behind.executed fleet bytes executed) job may_be, untold))
 
 pub returns-in-Ok-NeedMore-clause-untold : goal.returns-in-Ok-NeedMore-clause-untold
-returns-in-Ok-NeedMore-clause-untold g c = λ is. c.execute_commands.ensures.untold c.if-not-execute_commands.false ∙ c.loop-is_open.invariant.untold c.loop-is_open-test.true ∙ c.requires.untold
+returns-in-Ok-NeedMore-clause-untold g c = λ is. c.execute_pcl.ensures.untold c.if-not-execute_pcl.false ∙ c.loop-is_open.invariant.untold c.loop-is_open-test.true ∙ c.requires.untold
 
 pub returns-in-Ok-End-clause-untold : goal.returns-in-Ok-End-clause-untold
-returns-in-Ok-End-clause-untold g c = λ is. c.execute_commands.ensures.untold c.if-not-execute_commands.false ∙ c.loop-is_open.invariant.untold c.loop-is_open-test.true ∙ c.requires.untold
+returns-in-Ok-End-clause-untold g c = λ is. c.execute_pcl.ensures.untold c.if-not-execute_pcl.false ∙ c.loop-is_open.invariant.untold c.loop-is_open-test.true ∙ c.requires.untold
 
 pub returns-clause-came : goal.returns-clause-came
 returns-clause-came g c =
@@ -361,61 +323,55 @@ returns-clause-came g c =
 pub returns-in-Ok-NeedMore-clause-ended : goal.returns-in-Ok-NeedMore-clause-ended
 returns-in-Ok-NeedMore-clause-ended g c =
     let so_far = c.loop-is_open.invariant in
-    let ran = c.execute_commands.ensures in
-    let far = further_by_text _ _ _ c.execute_commands.new.lexer refl so_far.further record { ended = ran.ended; place = ran.place; no_more = ran.no_more } in
+    let ran = c.execute_pcl.ensures in
+    let far = further_by_text _ _ _ c.execute_pcl.new.lexer refl so_far.further record { ended = ran.ended; place = ran.place; no_more = ran.no_more } in
     let here = c.in_default.ensures.none in
-    let text = c.execute_text.ensures in
-    let on = further_by_text _ _ _ c.execute_text.new.lexer here far record { ended = text.ended; place = text.place; no_more = text.no_more } in
+    let on = further_here _ _ _ here far in
     c.next_other.follows.holds-at-none.ended ∙ on.ended
 
 pub returns-in-Ok-NeedMore-clause-place : goal.returns-in-Ok-NeedMore-clause-place
 returns-in-Ok-NeedMore-clause-place g c =
     let so_far = c.loop-is_open.invariant in
-    let ran = c.execute_commands.ensures in
-    let far = further_by_text _ _ _ c.execute_commands.new.lexer refl so_far.further record { ended = ran.ended; place = ran.place; no_more = ran.no_more } in
+    let ran = c.execute_pcl.ensures in
+    let far = further_by_text _ _ _ c.execute_pcl.new.lexer refl so_far.further record { ended = ran.ended; place = ran.place; no_more = ran.no_more } in
     let here = c.in_default.ensures.none in
-    let text = c.execute_text.ensures in
-    let on = further_by_text _ _ _ c.execute_text.new.lexer here far record { ended = text.ended; place = text.place; no_more = text.no_more } in
+    let on = further_here _ _ _ here far in
     c.next_other.follows.holds-at-none.total ∙ on.place
 
 pub returns-in-Ok-End-clause-ended : goal.returns-in-Ok-End-clause-ended
 returns-in-Ok-End-clause-ended g c =
     let so_far = c.loop-is_open.invariant in
-    let ran = c.execute_commands.ensures in
-    let far = further_by_text _ _ _ c.execute_commands.new.lexer refl so_far.further record { ended = ran.ended; place = ran.place; no_more = ran.no_more } in
+    let ran = c.execute_pcl.ensures in
+    let far = further_by_text _ _ _ c.execute_pcl.new.lexer refl so_far.further record { ended = ran.ended; place = ran.place; no_more = ran.no_more } in
     let here = c.in_default.ensures.none in
-    let text = c.execute_text.ensures in
-    let on = further_by_text _ _ _ c.execute_text.new.lexer here far record { ended = text.ended; place = text.place; no_more = text.no_more } in
+    let on = further_here _ _ _ here far in
     c.next_other.follows.holds-at-none.ended ∙ on.ended
 
 pub returns-in-Ok-End-clause-place : goal.returns-in-Ok-End-clause-place
 returns-in-Ok-End-clause-place g c =
     let so_far = c.loop-is_open.invariant in
-    let ran = c.execute_commands.ensures in
-    let far = further_by_text _ _ _ c.execute_commands.new.lexer refl so_far.further record { ended = ran.ended; place = ran.place; no_more = ran.no_more } in
+    let ran = c.execute_pcl.ensures in
+    let far = further_by_text _ _ _ c.execute_pcl.new.lexer refl so_far.further record { ended = ran.ended; place = ran.place; no_more = ran.no_more } in
     let here = c.in_default.ensures.none in
-    let text = c.execute_text.ensures in
-    let on = further_by_text _ _ _ c.execute_text.new.lexer here far record { ended = text.ended; place = text.place; no_more = text.no_more } in
+    let on = further_here _ _ _ here far in
     c.next_other.follows.holds-at-none.total ∙ on.place
 
 pub returns-in-Err-clause-ended : goal.returns-in-Err-clause-ended
 returns-in-Err-clause-ended g c =
     let so_far = c.loop-is_open.invariant in
-    let ran = c.execute_commands.ensures in
-    let far = further_by_text _ _ _ c.execute_commands.new.lexer refl so_far.further record { ended = ran.ended; place = ran.place; no_more = ran.no_more } in
+    let ran = c.execute_pcl.ensures in
+    let far = further_by_text _ _ _ c.execute_pcl.new.lexer refl so_far.further record { ended = ran.ended; place = ran.place; no_more = ran.no_more } in
     let here = c.in_default.ensures.none in
-    let text = c.execute_text.ensures in
-    let on = further_by_text _ _ _ c.execute_text.new.lexer here far record { ended = text.ended; place = text.place; no_more = text.no_more } in
+    let on = further_here _ _ _ here far in
     c.next_other.follows.holds-at-none.ended ∙ on.ended
 
 pub returns-in-Err-clause-place : goal.returns-in-Err-clause-place
 returns-in-Err-clause-place g c =
     let so_far = c.loop-is_open.invariant in
-    let ran = c.execute_commands.ensures in
-    let far = further_by_text _ _ _ c.execute_commands.new.lexer refl so_far.further record { ended = ran.ended; place = ran.place; no_more = ran.no_more } in
+    let ran = c.execute_pcl.ensures in
+    let far = further_by_text _ _ _ c.execute_pcl.new.lexer refl so_far.further record { ended = ran.ended; place = ran.place; no_more = ran.no_more } in
     let here = c.in_default.ensures.none in
-    let text = c.execute_text.ensures in
-    let on = further_by_text _ _ _ c.execute_text.new.lexer here far record { ended = text.ended; place = text.place; no_more = text.no_more } in
+    let on = further_here _ _ _ here far in
     c.next_other.follows.holds-at-none.total ∙ on.place
 
 pub returns-clause-goes_on : goal.returns-clause-goes_on

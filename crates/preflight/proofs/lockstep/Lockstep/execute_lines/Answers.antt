@@ -1,6 +1,6 @@
 use Rattle.std.proofs.Common.{◌≡◌, ◌∷◌, ◌++◌, ℕ, List, Option, IfSome, map, take, drop, length, ap, sym, subst, ◌∙◌, arith}
 use Rattle.pcl_items.specs.declared.item.Mode.TheVariants.{Pcl}
-use Rattle.page_env.proofs.TextRooms.{lines_go}
+use Rattle.page_env.proofs.TextRooms.{measured_lines_go}
 use Rattle.page_env.specs.declared.text_lines.Look.{Look}
 use Rattle.page_env.specs.declared.text_lines.TextLines.{TextLines}
 use Rattle.page_env.specs.TextLines.{GoAs}
@@ -42,7 +42,7 @@ module _ (g : Over) (c : After-add_marks g) where
   ]
 
   goes : GoAs c.self.inside.first.printer c.self.inside.first.page look c.in-Some.from text c.in-Some-found.lines
-  goes = lines_go c.self.inside.first.printer c.in-Some.measure c.self.inside.first.page c.in-Some.from c.args.bytes.now c.in-Some-found.lines c.in-Some.ensures.measure c.in-Some.ensures.stands are_lines
+  goes = measured_lines_go c.self.inside.first.printer c.in-Some.measure c.self.inside.first.page c.in-Some.from c.args.bytes.now c.in-Some-found.lines c.in-Some.ensures.measure c.in-Some.ensures.stands are_lines
 
   prints : PrintsLines look c.in-Some.from text c.self.inside.first c.pass_lines.new.self
   prints = c.pass_lines.ensures look c.in-Some.from text c.in-Some.ensures.no_definition goes

@@ -1,11 +1,12 @@
-//! Commands and the ends of lines, one behind another.
+//! Commands, lines of text and the ends of lines, one behind another.
 
-ghost use Rattle.std.specs.Prelude.{◌≡◌, ◌≤◌, ◌+◌, length, IsFalse, IsTrue};
+ghost use Rattle.std.specs.Prelude.{◌≡◌, ◌≤◌, ◌<◌, ◌+◌, ℕ, List, length, IsFalse, IsTrue};
+ghost use Rattle.device_profile.specs.Printer.{Printer};
 ghost use Rattle.pcl_items.specs.Items.{simple_view};
 ghost use Rattle.pcl_items.specs.Lexing.Meaning.{item_of_end};
 ghost use Rattle.pcl_items.specs.Modes.{mode_of};
 ghost use Rattle.pcl_items.specs.Reading.{left};
-ghost use Rattle.preflight.specs.Carriers.Checking.{ComesThrough};
+ghost use Rattle.preflight.specs.Carriers.Checking.{ComesThrough, HasExecuted};
 ghost use Rattle.preflight.specs.Carriers.Lockstep.{machines_of, counts_of, AllAdmit, AreRunning, AreIn, Execute, GoesInStep};
 ghost use Rattle.preflight.specs.Culprit.{Names};
 ghost use Rattle.preflight.specs.Standing.{StandsBy, is_open};
@@ -18,11 +19,12 @@ use page_machine::watched_runs_are_alike;
 use pcl_items::{Item, Lexer, LineEnd, PlacedLineEnd, SimpleItem, one_reading};
 use std::alloc::Allocator;
 
-/// Executes the commands and the ends of lines that stand next, as many as are known to, and tells
-/// whether the check is still open. The one that the job fails at is the culprit.
-// A call of its own: a form is mostly these, and what executes them keeps nothing else.
+/// Executes the commands, the lines of text and the ends of lines that stand next, as many as are
+/// known to, and tells whether the check is still open. The item that the job fails at is the
+/// culprit.
+// A call of its own: a job is mostly these, and what executes them keeps nothing else.
 #[inline(never)]
-pub fn execute_commands<A: Allocator + Copy, P: Allocator>(
+pub fn execute_pcl<A: Allocator + Copy, P: Allocator>(
     lexer: &mut Lexer<A>,
     machines: &mut Lockstep<'_, A, P>,
     standing: &mut Standing,
@@ -53,10 +55,40 @@ pub fn execute_commands<A: Allocator + Copy, P: Allocator>(
             if !execute_line_end(read, machines, standing, culprit) {
                 return false;
             }
-        } else {
+        } else if !execute_text(lexer, machines) {
             return true;
         }
     }
+}
+
+/// Executes the lines of text that stand next, as far as they are known to go on all machines with
+/// the same marks, and tells whether any was.
+#[inline(always)]
+fn execute_text<A: Allocator + Copy, P: Allocator>(
+    lexer: &mut Lexer<A>,
+    machines: &mut Lockstep<'_, A, P>,
+) -> bool
+    requires running { AreRunning (machines_of machines.old) }
+    requires modes { AreIn (mode_of lexer.old.context) (machines_of machines.old) }
+    ensures running { AreRunning (machines_of machines.new) }
+    ensures modes { AreIn (mode_of lexer.new.context) (machines_of machines.new) }
+    ensures executed { (fleet : List Printer) (bytes : List ℕ) →
+        HasExecuted fleet bytes lexer.old (machines_of machines.old) (counts_of machines.old) →
+        HasExecuted fleet bytes lexer.new (machines_of machines.new) (counts_of machines.new) }
+    ensures ended { lexer.new.ended ≡ lexer.old.ended }
+    ensures place { lexer.new.place + length lexer.new.rest ≡
+        lexer.old.place + length lexer.old.rest }
+    ensures no_more { left lexer.new.context lexer.new.rest ≤
+        left lexer.old.context lexer.old.rest }
+    ensures less { IsTrue result → left lexer.new.context lexer.new.rest <
+        left lexer.old.context lexer.old.rest }
+{
+    let passed = machines.execute_text(lexer.ahead());
+    if passed == 0 {
+        return false;
+    }
+    lexer.pass_lines(passed);
+    true
 }
 
 /// Executes the end of a line, and tells whether the check is still open.

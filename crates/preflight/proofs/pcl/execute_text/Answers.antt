@@ -4,7 +4,7 @@ use Rattle.pcl_items.specs.Lexing.Passing.{ahead_of}
 use Rattle.preflight.specs.Carriers.Lockstep.{machines_of, counts_of}
 use Rattle.preflight.specs.Carriers.TextInStep.{PrintInStep}
 use Rattle.preflight.proofs.TextInStep.{lines_done, lines_less, line_modes, still_run}
-use Rattle.preflight.proofs.check.execute_text.Goals as goal
+use Rattle.preflight.proofs.pcl.execute_text.Goals as goal
 
 pub returns-clause-running : goal.returns-clause-running
 returns-clause-running g c = still_run _ _ _ _ _ c.execute_text-passed.ensures.step c.requires.running

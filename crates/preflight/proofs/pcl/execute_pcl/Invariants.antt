@@ -4,7 +4,7 @@ use Rattle.preflight.specs.Carriers.Checking.{ExecutesThrough}
 use Rattle.preflight.specs.Carriers.Lockstep.{machines_of, counts_of}
 use Rattle.preflight.specs.declared.standing.Standing.TheVariants.{Open}
 use Rattle.preflight.proofs.Answered.{IsFurther}
-use Rattle.preflight.proofs.pairs.execute_motions.Given as goal
+use Rattle.preflight.proofs.pcl.execute_pcl.Given as goal
 
 abbrev pub invariant-loop-read : goal.invariant-loop-read
 invariant-loop-read g l = record {
