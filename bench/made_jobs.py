@@ -9,12 +9,13 @@ EXIT = b"\x1b%-12345X"
 CR_LF = b"\r\n"
 HALF_LINE_FEED = b"\x1b="
 FORM_FEED = b"\f"
+LABELS = (b"Order", b"Customer", b"Number of pieces", b"Unit price", b"Total", b"Remarks")
 PUSH = b"\x1b&f0S"
 POP = b"\x1b&f1S"
 
 
 # The makers. Each yields the bytes of the page of a number, counted from 0; a job is a reset, pages
-# and a reset. A new kind is one function, named in KINDS.
+# and a reset. A new kind is one function, named in MAKERS.
 
 
 def rectangles(number):
@@ -164,6 +165,60 @@ def report(number):
     yield b"PU;SP0;\x1b%0A" + FORM_FEED
 
 
+def words(number):
+    """60 words, each put at a place of its own, as a driver prints a form or justified text."""
+    for i in range(60):
+        yield to_units((37 * number + 29 * i) % 1500, 100 + 45 * i) + word(number + i)
+    yield FORM_FEED
+
+
+def word(number):
+    """A label of a form, with a number behind it."""
+    return LABELS[number % len(LABELS)] + b" %d" % (number % 1000)
+
+
+def outline(number):
+    """A drawing of single lines, whose commands stand on lines of their own."""
+    yield b"\x1b%0BIN;SP1;PW0.35;\n"
+    for i in range(80):
+        x, y = (53 * i + 7 * number) % 6000, (97 * i + 11 * number) % 8000
+        yield b"PUPA%d,%d;\nPD%d,%d;\n" % (x, y, x + 400, y)
+    yield b"PU;SP0;\x1b%0A" + FORM_FEED
+
+
+def office(number):
+    """A page of an office: a logo, words at their places, rules, short lines, and a drawing."""
+    yield from small_logo(number)
+    for i in range(12):
+        yield to_units(150 * (i % 4) + number % 90, 300 + 60 * (i // 4)) + word(number + i)
+    for i in range(16):
+        yield to_units(0, 600 + 50 * i + number % 40) + rectangle(1800, 1 + (number + i) % 4)
+    yield to_units(0, 620)
+    for line in range(40):
+        yield line_of_text(number, line)[: 12 + (7 * line + 11 * number) % 51] + CR_LF
+    yield from small_drawing(number)
+    yield FORM_FEED
+
+
+def small_logo(number):
+    """24 rows of a raster, of 32 bytes each."""
+    yield b"\x1b*t300R\x1b*r0F" + to_units(0, 150) + b"\x1b*r1A"
+    for row in range(24):
+        yield b"\x1b*b32W" + bytes(1 + (number + 7 * row + 31 * i) % 255 for i in range(32))
+    yield b"\x1b*rB"
+
+
+def small_drawing(number):
+    """A drawing with lines through 1 to 8 places, and 12 single ones."""
+    yield b"\x1b%0BIN;SP1;PW0.35;"
+    for count in range(1, 9):
+        yield absolute_line(number, count)
+    for i in range(12):
+        x, y = (53 * i + 7 * number) % 6000, (97 * i + 11 * number) % 8000
+        yield b"PU%d,%d;PD%d,%d;" % (x, y, x + 400, y)
+    yield b"PU;SP0;\x1b%0A"
+
+
 def macro(number):
     """A page of a macro, which the first page defines: 60 rectangles, and one before them."""
     if number == 0:
@@ -247,11 +302,14 @@ MAKERS = (
     rectangles,
     lines,
     text,
+    words,
     raster,
     mix,
     report,
+    office,
     wrapped,
     plot,
+    outline,
     macro,
     written_out,
     overlay,

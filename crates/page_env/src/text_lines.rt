@@ -1,5 +1,5 @@
-//! Lines of text: bytes that go one after another, text and the ends of its lines, so that what they
-//! read is read once.
+//! Lines of text: bytes that go one after another, text and the ends of its lines, so that what
+//! they read is read once.
 
 ghost use Rattle.std.specs.Prelude.{◌≡◌, ◌↔◌, ◌≤◌, ◌+◌, ◌*◌, ◌^◌, ℕ, List, [], ◌∷◌, Some, pos, true, ◌&&◌, ◌+ℤ◌, ◌-ℤ◌, ◌≤ℤ◌, cond, length, take, unwrap_or, None, IfSome, IsTrue};
 ghost use Rattle.tick_length.specs.Length.{IsInRange};
@@ -176,7 +176,8 @@ fn area_of(geometry: &Geometry) -> Bounds
 fn text_bounds(page: &Page, geometry: &Geometry, ends_lines: bool) -> TextBounds
     ensures area { result.area ≡ area_of geometry.now }
     ensures width { result.width ≡ geometry.now.logical_width }
-    ensures right { result.right ≡ unwrap_or page.now.env.job.right_margin geometry.now.logical_width }
+    ensures right { result.right ≡
+        unwrap_or page.now.env.job.right_margin geometry.now.logical_width }
     ensures foot { result.foot ≡ cond page.now.env.job.skips_perforation
         (unwrap_or page.now.env.job.bottom_margin (geometry.now.logical_height -ℤ half_inch))
         geometry.now.logical_height }
@@ -620,6 +621,7 @@ impl<A: Allocator> TextMeasure<'_, A> {
     ///
     /// It tells nothing of the byte behind them: carried out by itself it may go, or have a
     /// finding.
+    // Inlined, so that a measure that is only asked for this is never put together.
     #[inline(always)]
     pub fn lines_ahead(&self, from: TextPlace, bytes: &[u8]) -> TextLines
         ensures { AreLinesFrom self.now from bytes.now result }
@@ -637,8 +639,8 @@ impl<A: Allocator> TextMeasure<'_, A> {
         lines
     }
 
-    /// How many of the first bytes that have room elsewhere have room here, too, if all of them look
-    /// the same.
+    /// How many of the first bytes that have room elsewhere have room here, too, if all of them
+    /// look the same.
     pub fn alike<B: Allocator>(
         &self,
         other: &TextMeasure<'_, B>,

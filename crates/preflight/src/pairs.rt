@@ -15,9 +15,9 @@ use page_machine::watched_runs_are_alike;
 use pcl_items::{Item, Lexer, one_reading};
 use std::alloc::Allocator;
 
-/// Executes what of a plot stands next, behind a pair of coordinates: further pairs of its command,
-/// and commands of the pen with coordinates and without them, and tells whether the check is still
-/// open. The item that the job fails at is the culprit.
+/// Executes what of a plot stands next behind a pair of coordinates: further pairs, and commands
+/// that move the pen, with coordinates and without, as many as are known to; and tells whether the
+/// check is still open. The item that the job fails at is the culprit.
 // A call of its own: a plot is mostly these, and what executes them keeps nothing else.
 #[inline(never)]
 pub fn execute_plot<A: Allocator + Copy, P: Allocator>(
@@ -60,9 +60,9 @@ pub fn execute_plot<A: Allocator + Copy, P: Allocator>(
     }
 }
 
-/// Executes the further pairs of the command whose pair was the last item, where it has any, and
-/// tells whether the check is still open. The one that the job fails at is the culprit.
-// A box is looked for only where a pair is known to stand, so that single lines cost none.
+/// Executes pairs of coordinates as `execute_pairs` does, where a comma stands before the first,
+/// and tells whether the check is still open. The one that the job fails at is the culprit.
+// A box is looked for only behind a comma, so that single lines look for none.
 #[inline(always)]
 fn execute_further<A: Allocator + Copy, P: Allocator>(
     lexer: &mut Lexer<A>,
@@ -91,8 +91,8 @@ fn execute_further<A: Allocator + Copy, P: Allocator>(
 }
 
 /// Executes the pairs of coordinates that stand next, where it is known in which box the pen draws,
-/// up to the first that leads out of it, which goes as any other item; and tells whether the check
-/// is still open. The one that the job fails at is the culprit.
+/// up to the first that is not drawn in it, which goes as any other item; and tells whether the
+/// check is still open. The one that the job fails at is the culprit.
 // A call of its own: a plot is mostly pairs, and what executes them keeps nothing else.
 #[inline(never)]
 fn execute_pairs<A: Allocator + Copy, P: Allocator>(

@@ -1,4 +1,5 @@
-//! A pair of coordinates that stands first in a frame.
+//! A pair of coordinates, or a command that moves the pen without them, that stands first in a
+//! frame.
 //!
 //! A plot is mostly these. What `first_in` answers of one by steps, over its comma or its command's
 //! letters and over each coordinate, is answered here at once. Whatever is written in another way
@@ -77,8 +78,7 @@ pub fn pair_in(context: Context, place: Place, bytes: &[u8]) -> Option<ReadPair>
 }
 
 /// The command that moves the pen and has no coordinates, that stands first in the bytes at this
-/// place with a semicolon or the next such command behind its letters, unless they begin with
-/// something else.
+/// place with a semicolon or a P behind its letters, unless they begin with something else.
 #[inline(always)]
 pub fn bare_motion_in(context: Context, place: Place, bytes: &[u8]) -> Option<Lead>
     requires { place + length bytes.now ≤ 2 ^ 62 }

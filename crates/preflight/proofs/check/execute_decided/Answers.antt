@@ -20,7 +20,7 @@ loop-is_open-init g c = record {
   came = open_by _ _ c.requires.open record { running = c.requires.running; modes = c.requires.modes; executed = λ fleet bytes h. h };
 }
 
--- ---- commands and the ends of lines
+-- ---- commands, lines of text and the ends of lines
 
 pub returns-then-not-execute_pcl-clause-came : goal.returns-then-not-execute_pcl-clause-came
 returns-then-not-execute_pcl-clause-came g c =
