@@ -1,6 +1,6 @@
 -- What the words ask for, and how their reading ends where they ask for no work.
 use Rattle.std.specs.Prelude.{◌≢◌, [], ⊤}
-use Rattle.preflight.specs.declared.error.Error.TheVariants.{Memory, Write}
+use Rattle.streams.specs.declared.error.Error.TheVariants.{Memory, Write}
 use Rattle.subcommands.specs.declared.status.Status.{Status}
 use Rattle.subcommands.specs.declared.status.Status.TheVariants.{Help, Usage, Overwrites, Stopped}
 use Rattle.command_line.specs.declared.words.Request.{Request}

@@ -14,8 +14,8 @@ use crate::text_commands::{
 use clap::error::ErrorKind;
 use clap::{Arg, ArgAction, ArgMatches, Command};
 use job_picture::Selection;
-use preflight::{Error, Outlet, write_text};
 use std::alloc::{AllocError, Global};
+use streams::{Error, Outlet, write_text};
 use subcommands::{Choice, Input, Status};
 
 /// What the words ask for.

@@ -6,7 +6,7 @@ use Rattle.page_machine.specs.Follows.{TakesUpTo, Refuses}
 use Rattle.page_machine.specs.Machine.{TakesWhole}
 use Rattle.page_machine.specs.Run.{Run, just, Ending}
 use Rattle.preflight.specs.Carriers.PageRendering.{any_panel}
-use Rattle.preflight.specs.Carriers.Rendering.{Puts}
+use Rattle.streams.specs.Writing.{Puts}
 use Rattle.streams.specs.Outlet.{OutletState, AddsFront}
 use Rattle.preflight.proofs.Renderings.{Puts-none, Puts-trans, Puts-front, Puts-cut-front}
 use Rattle.job_picture.specs.declared.drawing.PictureText.{PictureText}

@@ -9,12 +9,13 @@ use Rattle.page_env.specs.Settings.{State, state_at}
 use Rattle.page_machine.specs.Run.{Run, Ending, Done, Halts}
 use Rattle.page_machine.specs.MachineState.{MachineState}
 use Rattle.page_machine.specs.Machine.{item_of, end_of}
-use Rattle.preflight.specs.declared.error.Error.{Error}
+use Rattle.streams.specs.declared.error.Error.{Error}
 use Rattle.preflight.specs.declared.outcome.Outcome.{Outcome}
 use Rattle.preflight.specs.declared.outcome.Outcome.TheVariants.{Done as AllDone, Fail}
 use Rattle.preflight.specs.Due.{Rendering}
 use Rattle.preflight.specs.Carriers.PageRendering.{any_panel}
-use Rattle.preflight.specs.Carriers.Rendering.{Puts, RestGoesOn, StartsWith, Ended, RendersItem}
+use Rattle.preflight.specs.Carriers.Rendering.{RestGoesOn, StartsWith, Ended, RendersItem}
+use Rattle.streams.specs.Writing.{Puts}
 use Rattle.preflight.proofs.Renderings.{Puts-kept, Puts-trans, Puts-cut-front, tells_err, ended_err}
 use Rattle.streams.specs.Outlet.{OutletState, AddsFront}
 use Rattle.verdict.specs.declared.reason.Reason.TheVariants.{Fault as FaultOfBytes, Finding as FindingOfRun}

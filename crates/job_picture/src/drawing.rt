@@ -2,8 +2,9 @@
 ghost use Rattle.std.specs.Prelude.{◌≡◌, IfErr, IsFalse, IsSome, false};
 ghost use Rattle.pcl_items.specs.Grammar.{follows};
 ghost use Rattle.pcl_items.specs.Items.{view};
-ghost use Rattle.preflight.specs.Carriers.Rendering.{IsErrorOfRendering, PutsKept};
-ghost use Rattle.preflight.specs.Errors.{is_err_of_write, is_write};
+ghost use Rattle.preflight.specs.Carriers.Rendering.{IsErrorOfRendering};
+ghost use Rattle.streams.specs.Writing.{PutsKept};
+ghost use Rattle.streams.specs.Errors.{is_err_of_write, is_write};
 ghost use Rattle.job_picture.specs.Carriers.Drawing.{Finishes, RefusesPart, Steps, TakesPart};
 
 use crate::progress::Progress;
@@ -11,8 +12,9 @@ use crate::sheet::{Sheet, push_drawn_end, push_drawn_mark};
 use page_env::{Finding, Mark, PageEnd};
 use page_machine::{Machine, MarkSink, Stop};
 use pcl_items::{Item, Place};
-use preflight::{Error, Outlet, write_enough};
+use preflight::{Error, Outlet};
 use std::alloc::Allocator;
+use streams::write_enough;
 
 /// Draws marks and ends of pages on the sheet of the page that is open.
 #[derive(Drop)]

@@ -21,14 +21,15 @@ use Rattle.page_machine.specs.Job.{JobRun, events_of, after_item, at_end, readin
 use Rattle.page_machine.specs.MachineState.{MachineState}
 use Rattle.page_machine.specs.Machine.{IsNew, item_of, end_of}
 use Rattle.page_machine.specs.Follows.{TakesUpTo}
-use Rattle.preflight.specs.declared.error.Error.{Error}
+use Rattle.streams.specs.declared.error.Error.{Error}
 use Rattle.preflight.specs.declared.outcome.Outcome.{Outcome}
 use Rattle.preflight.specs.declared.outcome.Outcome.TheVariants.{Done as AllDone, Fail}
 use Rattle.verdict.specs.declared.reason.Reason.TheVariants.{Fault, Finding as FindingOfRun}
 use Rattle.preflight.specs.Due.{Rendering, nothing_at_fault}
 use Rattle.preflight.specs.PageTexts.{run_outcome}
 use Rattle.preflight.specs.Texts.{reading_outcome}
-use Rattle.preflight.specs.Carriers.Rendering.{Puts, RestGoesOn, EndsWith, StartsWith, Ended as EndedWith, RendersItem}
+use Rattle.preflight.specs.Carriers.Rendering.{RestGoesOn, EndsWith, StartsWith, Ended as EndedWith, RendersItem}
+use Rattle.streams.specs.Writing.{Puts}
 use Rattle.streams.specs.Outlet.{OutletState}
 use Rattle.streams.proofs.OutletFacts.{Adds-none}
 use Rattle.notes.specs.declared.closing.Closing.{Closing}

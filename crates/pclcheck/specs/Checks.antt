@@ -4,7 +4,7 @@ use Rattle.std.specs.declared.alloc.Global.{Global}
 use Rattle.command_line.specs.declared.many_words.Form.{Form}
 use Rattle.command_line.specs.declared.many_words.Form.TheVariants.{Line as LineForm, Words as WordsForm, Json as JsonForm}
 use Rattle.command_line.specs.declared.many_words.ManyWords.{ManyWords}
-use Rattle.preflight.specs.declared.error.Error.TheVariants.{Memory}
+use Rattle.streams.specs.declared.error.Error.TheVariants.{Memory}
 use Rattle.streams.specs.Files.{no_source}
 use Rattle.streams.specs.Outlet.{OutletState}
 use Rattle.streams.specs.Source.{SourceState}

@@ -1,8 +1,8 @@
 -- Which jobs would be read again whose bytes are gone once they are read.
 use Rattle.std.specs.Prelude.{◌≡◌, ◌⊎◌, ◌&&◌, ◌||◌, ◌++◌, ℕ, Bool, List, Option, Contains, IsTrue, codes, count_by, length, nat_lt, option_to_list}
 use Rattle.std.specs.Str.{bytes_eq}
-use Rattle.preflight.specs.declared.error.Error.TheVariants.{Memory}
-use Rattle.preflight.specs.Writing.{Writes}
+use Rattle.streams.specs.declared.error.Error.TheVariants.{Memory}
+use Rattle.streams.specs.Writing.{Writes}
 use Rattle.streams.specs.Outlet.{OutletState}
 use Rattle.subcommands.specs.CheckMany.{Asked}
 use Rattle.subcommands.specs.JobSentences.{named_first}

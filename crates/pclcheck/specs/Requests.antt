@@ -7,7 +7,7 @@ use Rattle.streams.specs.Files.{no_source}
 use Rattle.streams.specs.Outlet.{OutletState}
 use Rattle.streams.specs.Source.{SourceState}
 use Rattle.subcommands.specs.Check.{IsRightFor, Leaves, texts_by}
-use Rattle.preflight.specs.Writing.{Writes}
+use Rattle.streams.specs.Writing.{Writes}
 use Rattle.subcommands.specs.Explanations.{complaint, end_of_explain, explanation, is_unknown}
 use Rattle.subcommands.specs.Fleet.{RefusesBy}
 use Rattle.profile_commands.specs.ProfileList.{LeavesModels}

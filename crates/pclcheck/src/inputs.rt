@@ -1,6 +1,6 @@
 //! Jobs whose bytes are gone once they are read.
 ghost use Rattle.std.specs.Prelude.{◌≡◌, Contains, IfNone, IfSome, IfOk, IsFalse, List, ℕ, map, option_map};
-ghost use Rattle.preflight.specs.Writing.{Writes};
+ghost use Rattle.streams.specs.Writing.{Writes};
 ghost use Rattle.pclcheck.specs.Inputs.{RefusesInput, RefusesPipe, is_apart, is_input, pipe_again, reads_input_again};
 ghost use Rattle.subcommands.specs.Asked.{asked_for};
 

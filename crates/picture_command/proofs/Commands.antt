@@ -4,12 +4,12 @@ use Rattle.std.specs.Prelude.{IsFalse, IsTrue, ◌||◌}
 use Rattle.std.proofs.KnownBytes.{Keeps-refl}
 use Rattle.device_profile.specs.declared.panel.Panel.{Panel}
 use Rattle.device_profile.specs.Printer.{Printer}
-use Rattle.preflight.specs.declared.error.Error.{Error}
-use Rattle.preflight.specs.declared.error.Error.TheVariants.{Memory, Read, Write, Turns, NoProfile, Items}
+use Rattle.streams.specs.declared.error.Error.{Error}
+use Rattle.streams.specs.declared.error.Error.TheVariants.{Memory, Read, Write, Turns, NoProfile, Items}
 use Rattle.preflight.specs.declared.outcome.Outcome.{Outcome}
 use Rattle.preflight.specs.declared.outcome.Outcome.TheVariants.{Done as AllDone, Fail as FailsOf}
 use Rattle.preflight.specs.Due.{Rendering, IsDue, Renders, WritesDue}
-use Rattle.preflight.specs.Errors.{is_read}
+use Rattle.streams.specs.Errors.{is_read}
 use Rattle.streams.specs.Outlet.{OutletState, Stays}
 use Rattle.streams.specs.Pieces.{ByReads}
 use Rattle.streams.specs.Source.{SourceState}
@@ -22,7 +22,7 @@ use Rattle.subcommands.specs.Groups.{Groups}
 use Rattle.subcommands.specs.JobNotes.{kept_error}
 use Rattle.subcommands.specs.JobTexts.{RefusesOne, TellsOfChoice, TellsOfPin}
 use Rattle.subcommands.specs.Choices.{choice_line, chosen_panel}
-use Rattle.preflight.specs.Writing.{Writes}
+use Rattle.streams.specs.Writing.{Writes}
 use Rattle.subcommands.specs.Status.{is_refusal, is_refused_choice, is_stop_of_read, is_stop_of_write}
 use Rattle.picture_command.specs.Picture.{Around, Draws, IsErrorOfSearch, IsUnsearched, IsUntouched, LeavesDrawn, LeavesOther, LeavesPicture, LeavesPictureOf, LeavesSame, LeavesTold, TellsOutcome, TellsChange, status_of}
 

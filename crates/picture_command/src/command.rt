@@ -1,7 +1,7 @@
 //! The command `picture`.
 ghost use Rattle.std.specs.Prelude.{◌≡◌, ◌⊎◌, ◌||◌, IfErr, IfOk, IsErrOf, IsFalse, IsTrue};
 ghost use Rattle.device_profile.specs.Printer.{IsAllowed};
-ghost use Rattle.preflight.specs.Errors.{is_err_of_read};
+ghost use Rattle.streams.specs.Errors.{is_err_of_read};
 ghost use Rattle.subcommands.specs.Fleet.{RefusesRead};
 ghost use Rattle.subcommands.specs.JobTexts.{IsNamed, RefusesOne, TellsOfPin};
 ghost use Rattle.subcommands.specs.Status.{is_refusal, is_stop_of_read, is_stop_of_write};

@@ -1,12 +1,12 @@
 -- The reads of a job: its start, one more piece, and its end.
 use Rattle.std.specs.Prelude.{IsErrOf}
-use Rattle.preflight.specs.Errors.{is_err_of_write, is_write}
+use Rattle.streams.specs.Errors.{is_err_of_write, is_write}
 use Rattle.std.proofs.Common.{Bool, false, ◌≡◌, ◌≢◌, ◌+◌, ◌≤◌, ◌<◌, ℕ, List, [], ◌∷◌, ◌++◌, length, take, refl, ap, sym, ◌∙◌, subst, append-nil, Option, None, Some, Result, Ok, Err, IfOk, IfErr, arith, length-append}
 use Rattle.std.specs.Io.KnownBytes.{Consumes, IsAtEnd, Keeps}
 use Rattle.std.specs.List.{concat}
 use Rattle.std.proofs.KnownBytes.{Consumes-kept, Consumes-nil, Consumes-trans}
-use Rattle.preflight.specs.declared.error.Error.{Error}
-use Rattle.preflight.specs.declared.error.Error.TheVariants.{Memory, Read, Write, Turns, NoProfile, Items}
+use Rattle.streams.specs.declared.error.Error.{Error}
+use Rattle.streams.specs.declared.error.Error.TheVariants.{Memory, Read, Write, Turns, NoProfile, Items}
 use Rattle.streams.specs.Pieces.{ByReads, MayBeBy, Spell}
 use Rattle.streams.specs.Source.{SourceState}
 use Rattle.preflight.specs.Carriers.Driving.{ComesByEnd, ComesByPiece, IsAnswered, IsErrorOfPiece, IsStopped, IsUnderWay, StopsBy}

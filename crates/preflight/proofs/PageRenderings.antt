@@ -16,7 +16,7 @@ use Rattle.page_machine.specs.Job.{JobRun, events_of, after_item, ended_item, at
 use Rattle.page_machine.specs.Follows.{TakesUpTo, Refuses}
 use Rattle.page_machine.specs.MachineState.{MachineState}
 use Rattle.page_machine.specs.Machine.{IsNew, TakesWhole, item_of, end_of}
-use Rattle.preflight.specs.declared.error.Error.{Error}
+use Rattle.streams.specs.declared.error.Error.{Error}
 use Rattle.preflight.specs.declared.outcome.Outcome.{Outcome}
 use Rattle.preflight.specs.declared.outcome.Outcome.TheVariants.{Done as AllDone, Fail}
 use Rattle.verdict.specs.declared.reason.Reason.TheVariants.{Finding as FindingOfRun}
@@ -26,7 +26,8 @@ use Rattle.streams.specs.Outlet.{OutletState, AddsFront}
 use Rattle.preflight.specs.PageTexts.{event_line, events_text, page_after, run_outcome}
 use Rattle.preflight.specs.Texts.{reading_outcome}
 use Rattle.preflight.specs.Carriers.PageRendering.{LeadsTo, TakesLine, RefusesLine, any_panel, rest_run, pages_from}
-use Rattle.preflight.specs.Carriers.Rendering.{Puts, RestGoesOn, EndsWith, BeginsWith, StartsWith, Ended, RendersItem}
+use Rattle.preflight.specs.Carriers.Rendering.{RestGoesOn, EndsWith, BeginsWith, StartsWith, Ended, RendersItem}
+use Rattle.streams.specs.Writing.{Puts}
 use Rattle.preflight.proofs.Renderings.{Puts-none, Puts-trans, Puts-front, Puts-cut-front, same_outcome}
 
 -- ---- the text of events

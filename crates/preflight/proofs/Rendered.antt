@@ -3,11 +3,11 @@ use Rattle.std.proofs.Common.{◌≡◌, ◌+◌, ℕ, true, false, List, [], �
 use Rattle.pcl_items.specs.declared.item.Mode.{Mode}
 use Rattle.pcl_items.specs.Lexing.State.{LexerState, WantsMore}
 use Rattle.pcl_items.specs.Modes.{mode_of}
-use Rattle.preflight.specs.declared.error.Error.{Error}
-use Rattle.preflight.specs.declared.error.Error.TheVariants.{Memory, Read, Write, Turns, NoProfile, Items}
+use Rattle.streams.specs.declared.error.Error.{Error}
+use Rattle.streams.specs.declared.error.Error.TheVariants.{Memory, Read, Write, Turns, NoProfile, Items}
 use Rattle.preflight.specs.declared.outcome.Outcome.{Outcome}
 use Rattle.preflight.specs.Due.{Rendering}
-use Rattle.preflight.specs.Errors.{is_err_of_write}
+use Rattle.streams.specs.Errors.{is_err_of_write}
 use Rattle.streams.specs.Outlet.{OutletState}
 use Rattle.streams.specs.Pieces.{MayBeBy, Spell}
 use Rattle.preflight.specs.Carriers.Driving.{ComesByPiece, IsErrorOfPiece}

@@ -16,13 +16,14 @@ use Rattle.pcl_items.specs.Reading.{Reading, Whole, Stopped, IsReading, items_of
 use Rattle.pcl_items.specs.Reader.{first_of}
 use Rattle.pcl_items.proofs.Reading.Readings.{one_reading}
 use Rattle.pcl_items.proofs.Lexing.Steps.{decides}
-use Rattle.preflight.specs.declared.error.Error.{Error}
+use Rattle.streams.specs.declared.error.Error.{Error}
 use Rattle.preflight.specs.declared.outcome.Outcome.{Outcome}
 use Rattle.preflight.specs.Due.{Rendering, list_rendering}
 use Rattle.streams.specs.Outlet.{OutletState, Adds, AddsFront}
 use Rattle.preflight.specs.Texts.{reading_outcome, list_text}
 use Rattle.line_words.specs.ItemLines.{item_line, fault_line}
-use Rattle.preflight.specs.Carriers.Rendering.{RendersItem, StaysIn, MayCome, RenderedTo, Puts, RestGoesOn, BeginsWith, StartsWith, Ended, behind, HasRendered, HasEnded, IsFrontFor}
+use Rattle.preflight.specs.Carriers.Rendering.{RendersItem, StaysIn, MayCome, RenderedTo, RestGoesOn, BeginsWith, StartsWith, Ended, behind, HasRendered, HasEnded, IsFrontFor}
+use Rattle.streams.specs.Writing.{Puts}
 use Rattle.streams.proofs.OutletFacts.{Adds-none, Adds-trans}
 
 -- ---- what was put

@@ -7,8 +7,8 @@ use Rattle.device_profile.specs.Printer.{Printer}
 use Rattle.preflight.specs.declared.standing.Standing.{Standing}
 use Rattle.preflight.specs.declared.standing.Standing.TheVariants.{Open, Judged, Stopped}
 use Rattle.streams.specs.Pieces.{MayBeBy, Spell}
-use Rattle.preflight.specs.declared.error.Error.{Error}
-use Rattle.preflight.specs.declared.error.Error.TheVariants.{Memory, Turns}
+use Rattle.streams.specs.declared.error.Error.{Error}
+use Rattle.streams.specs.declared.error.Error.TheVariants.{Memory, Turns}
 use Rattle.preflight.specs.Carriers.Driving.{ComesByEnd, ComesByPiece, IsErrorOfPiece}
 use Rattle.preflight.specs.Session.{SessionState, ChecksTo, HasChecked, ChecksOn, IsJudged, IsOutOfMemory}
 use Rattle.preflight.specs.Verdict.{IsExact}

@@ -1,8 +1,8 @@
 -- What a standing tells.
 use Rattle.std.proofs.Common.{◌≡◌, true, false, Option, None, Some, refl, subst, sym}
 use Rattle.verdict.specs.declared.verdict.Verdict.{Verdict}
-use Rattle.preflight.specs.declared.error.Error.{Error}
-use Rattle.preflight.specs.declared.error.Error.TheVariants.{Memory}
+use Rattle.streams.specs.declared.error.Error.{Error}
+use Rattle.streams.specs.declared.error.Error.TheVariants.{Memory}
 use Rattle.preflight.specs.declared.standing.Standing.{Standing}
 use Rattle.preflight.specs.declared.standing.Standing.TheVariants.{Open, Judged, Stopped}
 use Rattle.preflight.specs.Standing.{Ends, StandsBy, is_open}

@@ -9,10 +9,10 @@ use Rattle.pcl_items.specs.Reading.{Reading, Stopped, IsReading, items_of}
 use Rattle.device_profile.specs.declared.panel.Panel.{Panel}
 use Rattle.device_profile.specs.Printer.{Printer}
 use Rattle.line_words.specs.ItemLines.{fault_line}
-use Rattle.preflight.specs.declared.error.Error.{Error}
-use Rattle.preflight.specs.declared.error.Error.TheVariants.{Read, Turns, NoProfile, Items}
+use Rattle.streams.specs.declared.error.Error.{Error}
+use Rattle.streams.specs.declared.error.Error.TheVariants.{Read, Turns, NoProfile, Items}
 use Rattle.preflight.specs.declared.outcome.Outcome.{Outcome}
-use Rattle.preflight.specs.Errors.{is_err_of_read, is_err_of_write}
+use Rattle.streams.specs.Errors.{is_err_of_read, is_err_of_write}
 use Rattle.streams.specs.Outlet.{OutletState, Adds, AddsFront}
 use Rattle.preflight.specs.PageTexts.{pages_text, pages_outcome}
 use Rattle.streams.specs.Pieces.{ByReads}

@@ -1,12 +1,11 @@
 //! Reads a job in pieces, and hands them to what takes them.
 ghost use Rattle.std.specs.Prelude.{◌≡◌, ◌+◌, ◌<◌, ◌≤◌, ◌^◌, ℕ, List, [], length, IfOk, IfErr, IsErrOf, IsFalse};
-ghost use Rattle.preflight.specs.declared.error.Error.{Error};
-ghost use Rattle.preflight.specs.Errors.{is_err_of_read};
+ghost use Rattle.streams.specs.declared.error.Error.{Error};
+ghost use Rattle.streams.specs.Errors.{is_err_of_read};
 ghost use Rattle.streams.specs.Pieces.{ByReads};
 ghost use Rattle.preflight.specs.Carriers.Driving.{ComesByEnd, ComesByPiece, IsAnswered, IsStopped};
 
-use crate::error::Error;
-use streams::Source;
+use streams::{Error, Source};
 
 /// So many bytes are asked for in one read.
 pub(crate) const PIECE: usize = 4096;

@@ -3,13 +3,11 @@ ghost use Rattle.std.specs.Prelude.{◌≡◌, ◌++◌, ℕ, List, OnOk, refl};
 ghost use Rattle.pcl_items.specs.Items.{Placed, at, view};
 ghost use Rattle.preflight.specs.Due.{item_by_item};
 
-use crate::error::Error;
-use crate::kept::write_enough;
 use crate::outcome::Outcome;
 use crate::render::Renderer;
 use pcl_items::{Item, LexFault, Place};
 use std::alloc::{AllocError, Allocator};
-use streams::Outlet;
+use streams::{Error, Outlet, write_enough};
 
 /// What stands for each item, whatever stands before it.
 pub trait ItemText {

@@ -2,14 +2,12 @@
 ghost use Rattle.std.specs.Prelude.{IsFalse, refl};
 ghost use Rattle.preflight.specs.Due.{Renders, list_rendering};
 
-use crate::error::Error;
-use crate::kept::write_enough;
 use crate::outcome::Outcome;
 use crate::render::{Renderer, render_job};
 use line_words::{push_fault, push_item};
 use pcl_items::{Item, LexFault, Place};
 use std::alloc::Allocator;
-use streams::{Outlet, Source};
+use streams::{Error, Outlet, Source, write_enough};
 
 /// Writes a line for each item.
 #[derive(Drop)]

@@ -2,12 +2,11 @@
 ghost use Rattle.std.specs.Prelude.{◌≡◌, IsFalse, false, refl};
 ghost use Rattle.device_profile.specs.Printer.{IsAllowed};
 ghost use Rattle.preflight.specs.Carriers.PageRendering.{pages_from, TakesLine, RefusesLine};
-ghost use Rattle.preflight.specs.Carriers.Rendering.{IsErrorOfRendering, PutsKept};
+ghost use Rattle.preflight.specs.Carriers.Rendering.{IsErrorOfRendering};
+ghost use Rattle.streams.specs.Writing.{PutsKept};
 ghost use Rattle.preflight.specs.Due.{Renders, pages_rendering};
-ghost use Rattle.preflight.specs.Errors.{is_err_of_write, is_write};
+ghost use Rattle.streams.specs.Errors.{is_err_of_write, is_write};
 
-use crate::error::Error;
-use crate::kept::write_enough;
 use crate::outcome::Outcome;
 use crate::render::{Renderer, render_job};
 use device_profile::{Panel, Profile};
@@ -16,7 +15,7 @@ use page_env::{Finding, Mark, PageEnd};
 use page_machine::{Machine, MarkSink, Start, Stop};
 use pcl_items::{Item, LexFault, Place};
 use std::alloc::Allocator;
-use streams::{Outlet, Source};
+use streams::{Error, Outlet, Source, write_enough};
 use verdict::Reason;
 
 /// Writes a line for each mark and for each end of a page.

@@ -12,15 +12,13 @@ ghost use Rattle.pcl_items.specs.Escapes.Value.{most};
 ghost use Rattle.preflight.specs.Due.{Renders};
 ghost use Rattle.preflight.specs.Pins.{pinned_item, pins_from, pinned_rendering};
 
-use crate::error::Error;
-use crate::kept::write_enough;
 use crate::outcome::Outcome;
 use crate::render::{Renderer, render_job};
 use device_profile::{FontRequest, Panel, Profile};
 use page_env::{Control, control_of};
 use pcl_items::{Command, Item, LexFault, Number, Place, SetLetter, Sign, SimpleItem, spell};
 use std::alloc::{AllocError, Allocator};
-use streams::{Outlet, Source};
+use streams::{Error, Outlet, Source, write_enough};
 use verdict::Reason;
 
 /// A whole number as values have it, in ten-thousandths.

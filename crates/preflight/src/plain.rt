@@ -3,13 +3,12 @@ ghost use Rattle.std.specs.Prelude.{IsFalse};
 ghost use Rattle.pcl_items.specs.Spellings.Canon.{canon};
 ghost use Rattle.preflight.specs.Due.{Renders, plain_rendering};
 
-use crate::error::Error;
 use crate::item_texts::{ItemByItem, ItemText};
 use crate::outcome::Outcome;
 use crate::render::render_job;
 use pcl_items::{Item, Place, spell};
 use std::alloc::{AllocError, Allocator};
-use streams::{Outlet, Source};
+use streams::{Error, Outlet, Source};
 
 /// Writes each item in its canonical spelling.
 #[derive(Clone, Copy)]

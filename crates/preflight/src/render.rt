@@ -8,18 +8,16 @@ ghost use Rattle.pcl_items.specs.Lexing.State.{WantsMore};
 ghost use Rattle.pcl_items.specs.Modes.{mode_of};
 ghost use Rattle.pcl_items.specs.Reading.{Whole, Stopped};
 ghost use Rattle.preflight.specs.Due.{Renders, Rendering};
-ghost use Rattle.preflight.specs.Errors.{is_err_of_write};
+ghost use Rattle.streams.specs.Errors.{is_err_of_write};
 ghost use Rattle.streams.specs.Outlet.{OutletState};
 ghost use Rattle.preflight.specs.Carriers.Rendering.{MayCome, RenderedTo, Ended, StaysIn, HasRendered, IsErrorOfRendering, RendersItem};
 ghost use Rattle.preflight.specs.Carriers.Rendered.{CanRender, IsCutOff, IsRendered, RendersOn};
 
 use crate::driver::{Consumer, read_job};
-use crate::error::Error;
-use crate::kept::write_kept;
 use crate::outcome::Outcome;
 use pcl_items::{Item, LexFault, Lexed, Lexer, Place};
 use std::alloc::Allocator;
-use streams::{Outlet, Source};
+use streams::{Error, Outlet, Source, write_kept};
 
 /// What is written of the items of a job, and what comes of it.
 ///

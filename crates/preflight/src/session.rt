@@ -3,7 +3,7 @@ ghost use Rattle.std.specs.Prelude.{◌≡◌, ◌++◌, ◌<◌, ◌≤◌, ◌
 ghost use Rattle.pcl_items.specs.Lexing.State.{WantsMore};
 ghost use Rattle.pcl_items.specs.Modes.{mode_of};
 ghost use Rattle.device_profile.specs.Printer.{Printer};
-ghost use Rattle.preflight.specs.declared.error.Error.{Error};
+ghost use Rattle.streams.specs.declared.error.Error.{Error};
 ghost use Rattle.verdict.specs.declared.verdict.Verdict.{Verdict};
 ghost use Rattle.preflight.specs.Session.{ChecksOn, HasChecked, HasRoom, IsJudged, IsOutOfMemory};
 ghost use Rattle.preflight.specs.Verdict.{IsExact, KeepsPromise};
@@ -13,7 +13,6 @@ ghost use Rattle.preflight.specs.Carriers.Lockstep.{AreIn, AreRunning, counts_of
 use crate::check::{execute_decided, finish};
 use crate::culprit::{Culprit, Judgement};
 use crate::driver::{Consumer, PIECE};
-use crate::error::Error;
 use crate::laws::fails_say;
 use crate::lockstep::Lockstep;
 use crate::standing::Standing;
@@ -21,6 +20,7 @@ use device_profile::Profile;
 use pcl_items::Lexer;
 use std::alloc::Allocator;
 use std::marker::Model;
+use streams::Error;
 use verdict::Verdict;
 
 /// All pieces of a job together have at most so many bytes.

@@ -1,13 +1,13 @@
 //! How far a check has come.
 ghost use Rattle.std.specs.Prelude.{◌≡◌, ◌≢◌, false, IfErr};
-ghost use Rattle.preflight.specs.declared.error.Error.TheVariants.{Memory};
+ghost use Rattle.streams.specs.declared.error.Error.TheVariants.{Memory};
 ghost use Rattle.preflight.specs.declared.standing.Standing.TheVariants.{Open};
 ghost use Rattle.preflight.specs.Standing.{StandsAfter, is_open};
 ghost use Rattle.verdict.specs.Failing.{failing};
 
-use crate::error::Error;
 use page_machine::Stop;
 use pcl_items::Place;
+use streams::Error;
 use verdict::{Failure, Verdict};
 
 /// How far a check has come.

@@ -9,7 +9,7 @@ use Rattle.printer_models.specs.declared.new_profile.NewError.TheVariants.{Paper
 use Rattle.printer_models.specs.declared.paper.Paper.{Paper}
 use Rattle.printer_models.specs.Asked.{paper_asked, papers_asked, papers_from}
 use Rattle.printer_models.specs.NewText.{IsNewError}
-use Rattle.preflight.specs.Writing.{Writes}
+use Rattle.streams.specs.Writing.{Writes}
 use Rattle.streams.specs.Outlet.{OutletState}
 use Rattle.profile_commands.specs.ProfileNew.{wrong_paper}
 

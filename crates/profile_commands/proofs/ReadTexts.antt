@@ -2,7 +2,7 @@
 use Rattle.std.proofs.Common.{◌≡◌, ◌<◌, ◌+◌, ℕ, Bool, List, [], ◌∷◌, ◌++◌, Option, IfSome, codes, map, take, length, get_or, append_assoc, ap, inl, inr, refl, sym, subst, ◌∙◌}
 use Rattle.std.proofs.lemmas.List.{get_or-map, length-map, map-append, map_more, take-map}
 use Rattle.std.proofs.lemmas.List.Elements.{All-push}
-use Rattle.preflight.specs.declared.error.Error.TheVariants.{Memory}
+use Rattle.streams.specs.declared.error.Error.TheVariants.{Memory}
 use Rattle.streams.specs.Outlet.{OutletState}
 use Rattle.subcommands.specs.FleetFile.{TellsOfProfile}
 use Rattle.subcommands.specs.declared.status.Status.{Status}

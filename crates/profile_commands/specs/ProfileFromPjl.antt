@@ -4,7 +4,7 @@ use Rattle.pjl_answer.specs.declared.answered.AnswerError.{AnswerError}
 use Rattle.pjl_answer.specs.declared.answered.AnswerError.TheVariants.{LongAnswer, NoAnswer, Base, LongText, Mismatch as OtherText, Memory as NoMemory}
 use Rattle.pjl_answer.specs.Answered.{IsAnswered, IsAnswerError}
 use Rattle.pjl_answer.specs.AskedPapers.{asked_papers}
-use Rattle.preflight.specs.Writing.{Writes}
+use Rattle.streams.specs.Writing.{Writes}
 use Rattle.printer_models.specs.declared.panel_lists.PanelLists.TheVariants.{Fixed}
 use Rattle.printer_models.specs.Model.{model_named}
 use Rattle.printer_models.specs.NewText.{DescribesAsked}

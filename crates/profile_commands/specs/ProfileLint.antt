@@ -1,6 +1,6 @@
 -- What the command `profile lint` leaves.
 use Rattle.std.specs.Prelude.{◌≡◌, ◌⊎◌, ◌<◌, ℕ, List, [], ◌++◌, get_or, length, take, map, Bool, Option, IfSome, IsTrue, IsFalse, All}
-use Rattle.preflight.specs.declared.error.Error.TheVariants.{Memory, Write}
+use Rattle.streams.specs.declared.error.Error.TheVariants.{Memory, Write}
 use Rattle.profile_lint.specs.Lint.{Named, lint_text, have_faults}
 use Rattle.streams.specs.Outlet.{OutletState, Adds, AddsFront}
 use Rattle.subcommands.specs.FleetFile.{TellsOfProfile}

@@ -1,6 +1,6 @@
 -- What the command `profile list` leaves.
 use Rattle.std.specs.Prelude.{◌≡◌, ◌⊎◌}
-use Rattle.preflight.specs.declared.error.Error.TheVariants.{Memory}
+use Rattle.streams.specs.declared.error.Error.TheVariants.{Memory}
 use Rattle.printer_models.specs.Listing.{models_text}
 use Rattle.streams.specs.Outlet.{OutletState}
 use Rattle.subcommands.specs.declared.status.Status.{Status}

@@ -1,7 +1,7 @@
 -- What the command `profile new` leaves.
 use Rattle.std.specs.Prelude.{◌≡◌, ◌⊎◌, ℕ, List, [], ◌++◌, codes, get_or}
-use Rattle.preflight.specs.declared.error.Error.TheVariants.{Memory}
-use Rattle.preflight.specs.Writing.{Writes}
+use Rattle.streams.specs.declared.error.Error.TheVariants.{Memory}
+use Rattle.streams.specs.Writing.{Writes}
 use Rattle.printer_models.specs.declared.asked.PaperFault.{PaperFault}
 use Rattle.printer_models.specs.declared.asked.PaperFault.TheVariants.{Unknown, NotHeld, Repeated}
 use Rattle.printer_models.specs.declared.new_profile.NewError.{NewError}

@@ -4,7 +4,7 @@ use Rattle.device_profile.specs.declared.fault.Cause.{Cause}
 use Rattle.device_profile.specs.declared.fault.ProfileFault.TheVariants.{Fault}
 use Rattle.device_profile.specs.Printer.{Printer}
 use Rattle.device_profile.specs.Text.{printer_of_text}
-use Rattle.preflight.specs.declared.error.Error.TheVariants.{Memory}
+use Rattle.streams.specs.declared.error.Error.TheVariants.{Memory}
 use Rattle.profile_lint.specs.Lint.{faults_text}
 use Rattle.streams.specs.Outlet.{OutletState}
 use Rattle.subcommands.specs.CheckMany.{TellsLine}

@@ -2,7 +2,7 @@
 use Rattle.std.specs.Prelude.{◌≡◌, ◌⊎◌, ◌∷◌, [], ℕ, List, Bool, Option, true, codes, ◌++◌, ⊤}
 use Rattle.device_profile.specs.Name.{printer_name}
 use Rattle.device_profile.specs.Printer.{Printer}
-use Rattle.preflight.specs.declared.error.Error.TheVariants.{Memory, Read, Write, Turns}
+use Rattle.streams.specs.declared.error.Error.TheVariants.{Memory, Read, Write, Turns}
 use Rattle.preflight.specs.Verdict.{IsExact, KeepsPromise}
 use Rattle.shown_bytes.specs.Shown.{shown}
 use Rattle.profile_commands.specs.ProfileReading.{IsRead, IsTextOf, TellsWhyNone}

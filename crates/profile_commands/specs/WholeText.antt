@@ -1,6 +1,6 @@
 -- How a text is written that was put together before.
 use Rattle.std.specs.Prelude.{◌≡◌, ◌⊎◌, ℕ, List, IsFalse, IsTrue}
-use Rattle.preflight.specs.declared.error.Error.TheVariants.{Memory, Write}
+use Rattle.streams.specs.declared.error.Error.TheVariants.{Memory, Write}
 use Rattle.streams.specs.Outlet.{OutletState, Adds, AddsFront}
 use Rattle.subcommands.specs.declared.status.Status.{Status}
 use Rattle.subcommands.specs.declared.status.Status.TheVariants.{Help, Stopped}

@@ -1,6 +1,6 @@
 //! The command `profile from-pjl`.
 ghost use Rattle.std.specs.Prelude.{◌≡◌, ◌≢◌, ◌++◌, IfOk, IfErr, IsFalse, OnOk, map, option_map};
-ghost use Rattle.preflight.specs.Writing.{Writes};
+ghost use Rattle.streams.specs.Writing.{Writes};
 ghost use Rattle.pjl_answer.specs.Answered.{IsAnswered, IsAnswerError};
 ghost use Rattle.printer_models.specs.Paper.{word_of};
 ghost use Rattle.profile_commands.specs.ProfileFromPjl.{IsBase, IsGenericFor, LeavesAnswered, LeavesOfAnswer, TellsNoBase, odd_answer, refusal, trouble_of};

@@ -1,6 +1,6 @@
 //! The command `profile new`.
 ghost use Rattle.std.specs.Prelude.{◌≡◌, ◌<◌, length, map, IsFalse};
-ghost use Rattle.preflight.specs.Writing.{Writes};
+ghost use Rattle.streams.specs.Writing.{Writes};
 ghost use Rattle.printer_models.specs.declared.asked.WordFault.{WordFault};
 ghost use Rattle.profile_commands.specs.ProfileNew.{LeavesProfile, mismatch_line, unknown_model, wrong_paper};
 

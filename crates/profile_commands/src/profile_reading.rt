@@ -1,6 +1,6 @@
 //! Reading a profile for the commands on profiles, which tell all that is wrong with it.
 ghost use Rattle.std.specs.Prelude.{◌≡◌, IfOk, IfErr, IsFalse, OnOk, MatchResult};
-ghost use Rattle.preflight.specs.Writing.{Writes};
+ghost use Rattle.streams.specs.Writing.{Writes};
 ghost use Rattle.profile_commands.specs.ProfileReading.{IsRead, IsTextOf, TellsFaults, TellsNoText};
 ghost use Rattle.profile_lint.specs.Lint.{faults_text};
 ghost use Rattle.subcommands.specs.CheckMany.{TellsLine};

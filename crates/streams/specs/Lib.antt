@@ -3,3 +3,5 @@ pub mod Pieces
 pub mod Outlet
 pub mod Latched
 pub mod Files
+pub mod Errors
+pub mod Writing

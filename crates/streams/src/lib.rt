@@ -2,21 +2,27 @@
 //! writers and files as these.
 #![tactic(auto)]
 
+mod error;
 mod file_id;
 mod file_outlet;
 mod file_source;
 mod given;
+mod kept;
 mod latched;
 mod opened;
 mod opening;
 mod outlet;
 mod source;
+mod writing;
 
+pub use error::Error;
 pub use file_id::FileId;
 pub use file_outlet::FileOutlet;
 pub use file_source::FileSource;
 pub use given::Given;
+pub use kept::{write_enough, write_kept};
 pub use latched::Latched;
 pub use opening::{Create, Open};
 pub use outlet::Outlet;
 pub use source::Source;
+pub use writing::write_text;

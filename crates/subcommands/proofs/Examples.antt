@@ -14,8 +14,8 @@ use Rattle.verdict.specs.declared.reason.Reason.TheVariants.{Fault, Finding}
 use Rattle.verdict.specs.declared.verdict.Verdict.TheVariants.{Fail, Pass}
 use Rattle.preflight.specs.declared.culprit.Culprit.TheVariants.{Simple}
 use Rattle.preflight.specs.declared.culprit.Judgement.{Judgement}
-use Rattle.preflight.specs.declared.error.Error.{Error}
-use Rattle.preflight.specs.declared.error.Error.TheVariants.{Read}
+use Rattle.streams.specs.declared.error.Error.{Error}
+use Rattle.streams.specs.declared.error.Error.TheVariants.{Read}
 use Rattle.subcommands.specs.declared.status.Status.TheVariants.{Profile}
 use Rattle.device_profile.specs.declared.sample.Sample.TheVariants.{C}
 use Rattle.subcommands.specs.Fleet.{RefusesFirst}

@@ -5,7 +5,7 @@ use Rattle.std.proofs.lemmas.List.Folds.{list_any_more}
 use Rattle.std.specs.List.{concat, list_any}
 use Rattle.streams.proofs.OutletFacts.{Adds-none}
 use Rattle.streams.specs.Outlet.{OutletState, Adds, AddsFront}
-use Rattle.preflight.specs.Writing.{Writes}
+use Rattle.streams.specs.Writing.{Writes}
 use Rattle.subcommands.proofs.Writing.{pieces_more, Writes-cut}
 use Rattle.subcommands.specs.Explanations.{complaint, explained_by, is_about}
 

@@ -2,12 +2,12 @@
 use Rattle.std.proofs.Common.{◌≡◌, ℕ, Bool, true, false, List, [], ◌∷◌, ◌++◌, Option, Result, Ok, Err, IfOk, IfErr, refl, sym, ◌∙◌, ap, subst, inl, inr, true≢false}
 use Rattle.device_profile.specs.declared.panel.Panel.{Panel}
 use Rattle.device_profile.specs.Printer.{Printer, first_panel}
-use Rattle.preflight.specs.declared.error.Error.{Error}
-use Rattle.preflight.specs.declared.error.Error.TheVariants.{Memory, Read, Write, Turns, NoProfile, Items}
+use Rattle.streams.specs.declared.error.Error.{Error}
+use Rattle.streams.specs.declared.error.Error.TheVariants.{Memory, Read, Write, Turns, NoProfile, Items}
 use Rattle.preflight.specs.declared.outcome.Outcome.{Outcome}
 use Rattle.preflight.specs.declared.outcome.Outcome.TheVariants.{Done as AllDone, Fail}
 use Rattle.preflight.specs.Due.{IsDue, Renders}
-use Rattle.preflight.specs.Errors.{is_err_of_read, is_read}
+use Rattle.streams.specs.Errors.{is_err_of_read, is_read}
 use Rattle.streams.specs.Outlet.{OutletState, Adds}
 use Rattle.streams.specs.Pieces.{ByReads}
 use Rattle.streams.specs.Source.{SourceState}

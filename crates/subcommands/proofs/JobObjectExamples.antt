@@ -14,8 +14,8 @@ use Rattle.verdict.specs.declared.reason.Reason.TheVariants.{Finding}
 use Rattle.verdict.specs.declared.verdict.Verdict.TheVariants.{Fail, Pass}
 use Rattle.preflight.specs.declared.culprit.Culprit.TheVariants.{Simple}
 use Rattle.preflight.specs.declared.culprit.Judgement.{Judgement}
-use Rattle.preflight.specs.declared.error.Error.{Error}
-use Rattle.preflight.specs.declared.error.Error.TheVariants.{Read}
+use Rattle.streams.specs.declared.error.Error.{Error}
+use Rattle.streams.specs.declared.error.Error.TheVariants.{Read}
 use Rattle.subcommands.specs.JobObjects.{job_object}
 use Rattle.subcommands.specs.Reports.{Reported}
 

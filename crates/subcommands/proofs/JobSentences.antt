@@ -36,8 +36,8 @@ use Rattle.line_words.specs.Reason.{bare_cause_name, bare_finding_name, bare_nam
 use Rattle.preflight.specs.declared.culprit.Culprit.{Culprit}
 use Rattle.preflight.specs.declared.culprit.Culprit.TheVariants.{Text, Simple, WithData, Line}
 use Rattle.preflight.specs.declared.culprit.Judgement.{Judgement}
-use Rattle.preflight.specs.declared.error.Error.{Error}
-use Rattle.preflight.specs.declared.error.Error.TheVariants.{Memory, Read, Write, Turns, NoProfile, Items}
+use Rattle.streams.specs.declared.error.Error.{Error}
+use Rattle.streams.specs.declared.error.Error.TheVariants.{Memory, Read, Write, Turns, NoProfile, Items}
 use Rattle.subcommands.specs.CommandWords.{code_words, command_words}
 use Rattle.subcommands.specs.JobLines.{name_byte, shown_name}
 use Rattle.subcommands.specs.JobSentences.{AreNumbers, IsCulpritOfNumbers, IsOfParts, IsSentence, IsVerdictOfNumbers, IsWithin, answer_phrase, at_command, cause_phrase, error_phrase, first_of, for_printer, job_sentence, last_of, named_first, reason_phrase, subject, verdict_phrase}

@@ -5,17 +5,17 @@ use Rattle.pcl_items.specs.declared.item.Mode.TheVariants.{Pcl}
 use Rattle.pcl_items.specs.Grammar.{here}
 use Rattle.pcl_items.specs.Reading.{IsReading, Whole}
 use Rattle.device_profile.specs.Printer.{Printer}
-use Rattle.preflight.specs.declared.error.Error.{Error}
-use Rattle.preflight.specs.declared.error.Error.TheVariants.{Memory, Read, Write, Turns, NoProfile, Items}
+use Rattle.streams.specs.declared.error.Error.{Error}
+use Rattle.streams.specs.declared.error.Error.TheVariants.{Memory, Read, Write, Turns, NoProfile, Items}
 use Rattle.preflight.specs.declared.outcome.Outcome.{Outcome}
 use Rattle.preflight.specs.declared.outcome.Outcome.TheVariants.{Done, Fail as FailsOf}
 use Rattle.preflight.specs.Due.{Rendering, Renders, WritesDue, WritesFront}
 use Rattle.std.specs.Prelude.{IsFalse, OnOk, ◌||◌}
 use Rattle.std.proofs.Math.Bool.{or-false}
-use Rattle.preflight.specs.Errors.{is_err_of_write}
+use Rattle.streams.specs.Errors.{is_err_of_write}
 use Rattle.streams.specs.Outlet.{OutletState, Adds}
 use Rattle.streams.specs.Source.{SourceState}
-use Rattle.preflight.specs.Writing.{Writes}
+use Rattle.streams.specs.Writing.{Writes}
 use Rattle.std.proofs.KnownBytes.{Appends-nil, Keeps-refl}
 use Rattle.subcommands.specs.declared.status.Status.{Status}
 use Rattle.subcommands.specs.declared.status.Status.TheVariants.{Pass, Fail, Help, Usage, Overwrites, NotAllowed, Told, Profile, Stopped}

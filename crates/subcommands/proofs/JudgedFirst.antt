@@ -1,6 +1,6 @@
 -- A command that came to the work on its text had no profile, no choice and no OUT to refuse.
 use Rattle.std.proofs.Common.{◌≡◌, ◌||◌, ℕ, Bool, true, false, List, Option, IsTrue, refl, sym, ap, ◌∙◌, true≢false}
-use Rattle.preflight.specs.declared.error.Error.{Error}
+use Rattle.streams.specs.declared.error.Error.{Error}
 use Rattle.subcommands.specs.declared.status.Status.{Status}
 use Rattle.subcommands.specs.declared.status.Status.TheVariants.{Pass, Fail, Help, Usage, Overwrites, NotAllowed, Told, Profile, Stopped}
 use Rattle.subcommands.specs.JobTexts.{JudgesFirst}

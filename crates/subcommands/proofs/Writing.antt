@@ -7,7 +7,7 @@ use Rattle.std.specs.List.{concat}
 use Rattle.streams.proofs.OutletFacts.{Adds-trans}
 use Rattle.device_profile.specs.declared.fault.Cause.{Cause}
 use Rattle.streams.specs.Outlet.{OutletState, Adds, AddsFront}
-use Rattle.preflight.specs.Writing.{Writes}
+use Rattle.streams.specs.Writing.{Writes}
 use Rattle.subcommands.specs.Status.{cause_name, refusal_line}
 
 -- the texts before a piece, its own and those behind it

@@ -2,9 +2,9 @@
 use Rattle.std.specs.Prelude.{◌≡◌, ◌-◌, ◌⊎◌, ℕ, Bool, List, [], map, flat_map, get_or, Option, Some, if◌then◌else◌}
 use Rattle.device_profile.specs.Name.{printer_name}
 use Rattle.device_profile.specs.Printer.{Printer}
-use Rattle.preflight.specs.declared.error.Error.{Error}
-use Rattle.preflight.specs.declared.error.Error.TheVariants.{Memory, Read}
-use Rattle.preflight.specs.Writing.{Writes}
+use Rattle.streams.specs.declared.error.Error.{Error}
+use Rattle.streams.specs.declared.error.Error.TheVariants.{Memory, Read}
+use Rattle.streams.specs.Writing.{Writes}
 use Rattle.notes.specs.Notes.{with_most_items}
 use Rattle.streams.specs.Outlet.{OutletState}
 use Rattle.streams.specs.Source.{SourceState}

@@ -5,7 +5,7 @@ use Rattle.std.specs.Str.{bytes_eq, str_eq_ignore_ascii_case}
 use Rattle.verdict.specs.declared.reason.Reason.{Reason}
 use Rattle.verdict.specs.Numbers.{reason_number}
 use Rattle.line_words.specs.Reason.{bare_name}
-use Rattle.preflight.specs.declared.error.Error.TheVariants.{Write}
+use Rattle.streams.specs.declared.error.Error.TheVariants.{Write}
 use Rattle.notes.specs.declared.note.Note.{Note}
 use Rattle.notes.specs.Note.{note_name, note_number}
 use Rattle.subcommands.specs.declared.status.Status.{Status}

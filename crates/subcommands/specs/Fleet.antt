@@ -4,7 +4,7 @@ use Rattle.device_profile.specs.Printer.{Printer}
 use Rattle.device_profile.specs.Text.{printer_of_text}
 use Rattle.device_profile.specs.declared.fault.Cause.{Cause}
 use Rattle.device_profile.specs.declared.fault.ProfileFault.TheVariants.{Fault}
-use Rattle.preflight.specs.declared.error.Error.TheVariants.{Memory, Read}
+use Rattle.streams.specs.declared.error.Error.TheVariants.{Memory, Read}
 use Rattle.subcommands.specs.declared.status.Status.{Status}
 use Rattle.subcommands.specs.declared.status.Status.TheVariants.{Profile, Stopped}
 

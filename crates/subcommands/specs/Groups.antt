@@ -2,7 +2,7 @@
 use Rattle.std.specs.Prelude.{ℕ, Bool, List, take, drop, length, Option, Result, if◌then◌else◌}
 use Rattle.device_profile.specs.Printer.{Printer}
 use Rattle.preflight.specs.declared.culprit.Judgement.{Judgement}
-use Rattle.preflight.specs.declared.error.Error.{Error}
+use Rattle.streams.specs.declared.error.Error.{Error}
 use Rattle.subcommands.specs.Reports.{Reported}
 
 -- the printers, those that notes are told for, the names, and whether each printer has lines of its own

@@ -2,11 +2,11 @@
 use Rattle.std.specs.Prelude.{◌≡◌, ◌⊎◌, ℕ, Bool, false, List, [], ◌∷◌, ◌++◌, flat_map, map, fold, IsErrOf, Option, None, Some, Result, Ok, Err, IfOk, IfErr, ⊤, if◌then◌else◌}
 use Rattle.std.specs.List.{AllByRecursion, range_with_len}
 use Rattle.device_profile.specs.Printer.{Printer}
-use Rattle.preflight.specs.declared.error.Error.{Error}
-use Rattle.preflight.specs.declared.error.Error.TheVariants.{Memory, Read, Write, Turns, NoProfile, Items}
+use Rattle.streams.specs.declared.error.Error.{Error}
+use Rattle.streams.specs.declared.error.Error.TheVariants.{Memory, Read, Write, Turns, NoProfile, Items}
 use Rattle.preflight.specs.declared.culprit.Judgement.{Judgement}
 use Rattle.preflight.specs.Culprit.{IsTold}
-use Rattle.preflight.specs.Errors.{is_err_of_read}
+use Rattle.streams.specs.Errors.{is_err_of_read}
 use Rattle.preflight.specs.Verdict.{PassesItems}
 use Rattle.verdict.specs.declared.verdict.Verdict.{Verdict}
 use Rattle.verdict.specs.Limits.{has_many_items}

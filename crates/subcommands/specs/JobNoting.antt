@@ -1,8 +1,8 @@
 -- The notes of a job that passes, in a check of many jobs.
 use Rattle.std.specs.Prelude.{◌≡◌, ◌≢◌, ◌⊎◌, ℕ, List, [], ◌∷◌, slice_get, Option, None, Some, Result, Ok, Err, IfOk, IfErr, IsErrOf, IsTrue, ⊤}
 use Rattle.device_profile.specs.Printer.{Printer, first_panel}
-use Rattle.preflight.specs.declared.error.Error.{Error}
-use Rattle.preflight.specs.declared.error.Error.TheVariants.{Memory, Read, Turns}
+use Rattle.streams.specs.declared.error.Error.{Error}
+use Rattle.streams.specs.declared.error.Error.TheVariants.{Memory, Read, Turns}
 use Rattle.preflight.specs.declared.outcome.Outcome.{Outcome}
 use Rattle.preflight.specs.declared.outcome.Outcome.TheVariants.{Done}
 use Rattle.preflight.specs.Due.{IsDue}

@@ -2,8 +2,8 @@
 use Rattle.std.specs.Prelude.{◌≡◌, ◌≢◌, ◌⊎◌, ◌||◌, ℕ, ◌+◌, ◌^◌, Bool, List, [], ◌∷◌, length, Option, Ok, Err, IsTrue, ⊤}
 use Rattle.device_profile.specs.declared.panel.Panel.{Panel}
 use Rattle.device_profile.specs.Printer.{Printer, first_panel}
-use Rattle.preflight.specs.declared.error.Error.{Error}
-use Rattle.preflight.specs.declared.error.Error.TheVariants.{Memory, Read, Write, Turns, NoProfile, Items}
+use Rattle.streams.specs.declared.error.Error.{Error}
+use Rattle.streams.specs.declared.error.Error.TheVariants.{Memory, Read, Write, Turns, NoProfile, Items}
 use Rattle.preflight.specs.declared.outcome.Outcome.{Outcome}
 use Rattle.preflight.specs.declared.outcome.Outcome.TheVariants.{Done, Fail as FailsOf}
 use Rattle.verdict.specs.declared.reason.Reason.{Reason}
@@ -12,7 +12,7 @@ use Rattle.preflight.specs.Due.{Rendering, WritesDue, WritesFront, pages_renderi
 use Rattle.preflight.specs.Pins.{pinned_rendering}
 use Rattle.streams.specs.Outlet.{OutletState, Adds, AddsFront, Stays}
 use Rattle.streams.specs.Source.{SourceState}
-use Rattle.preflight.specs.Writing.{Writes}
+use Rattle.streams.specs.Writing.{Writes}
 use Rattle.subcommands.specs.declared.status.Status.{Status}
 use Rattle.subcommands.specs.declared.status.Status.TheVariants.{Pass, Fail, Help, Usage, Overwrites, NotAllowed, Told, Profile, Stopped}
 use Rattle.subcommands.specs.declared.choices.Choice.{Choice}

@@ -1,6 +1,6 @@
 -- How it is told what came of a job.
 use Rattle.std.specs.Prelude.{ℕ, Bool, List, [], ◌++◌, decimal, Result, Ok, Err}
-use Rattle.preflight.specs.declared.error.Error.{Error}
+use Rattle.streams.specs.declared.error.Error.{Error}
 use Rattle.verdict.specs.Numbers.{reason_number}
 use Rattle.verdict.specs.declared.verdict.Verdict.{Verdict}
 use Rattle.verdict.specs.declared.verdict.Verdict.TheVariants.{Pass, Fail}

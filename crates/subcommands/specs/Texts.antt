@@ -4,8 +4,8 @@ use Rattle.std.specs.Str.{bytes_eq}
 use Rattle.device_profile.specs.declared.sample.Sample.{Sample}
 use Rattle.device_profile.specs.declared.sample.Sample.TheVariants.{A, B, C, D}
 use Rattle.device_profile.specs.SampleTexts.{sample_text}
-use Rattle.preflight.specs.declared.error.Error.{Error}
-use Rattle.preflight.specs.declared.error.Error.TheVariants.{Memory, Read}
+use Rattle.streams.specs.declared.error.Error.{Error}
+use Rattle.streams.specs.declared.error.Error.TheVariants.{Memory, Read}
 use Rattle.streams.specs.Pieces.{MayBeBy}
 
 -- an error in reading a text: no memory, or a read that failed

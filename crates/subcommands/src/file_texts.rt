@@ -1,6 +1,6 @@
 //! The texts of profiles on this machine: built-in samples and files.
 ghost use Rattle.std.specs.Prelude.{◌≡◌, ◌≤◌, [], false, take, length, IfOk, IfErr, IfSome};
-ghost use Rattle.preflight.specs.Errors.{is_err_of_read};
+ghost use Rattle.streams.specs.Errors.{is_err_of_read};
 ghost use Rattle.subcommands.specs.Texts.{IsErrorOfReading, IsTextBy, sample_named, text_named};
 
 use crate::texts::{ProfileTexts, read_text_from};

@@ -1,6 +1,6 @@
 //! A check of many jobs, which writes a line for each.
 ghost use Rattle.std.specs.Prelude.{◌≡◌, ◌≢◌, ◌∷◌, [], IfErr, IfOk, IsFalse, List, OnOk, Option, flat_map, map, ℕ};
-ghost use Rattle.preflight.specs.Errors.{is_err_of_write};
+ghost use Rattle.streams.specs.Errors.{is_err_of_write};
 ghost use Rattle.subcommands.specs.Asked.{told_by};
 ghost use Rattle.subcommands.specs.Groups.{group_at, reported};
 ghost use Rattle.subcommands.specs.JobChecks.{AddsTold, CutsTold, IsErrorOfLine, IsRightAnswer, TellsAll, TellsFront, due_of, ending_of, keyed, work, worse};

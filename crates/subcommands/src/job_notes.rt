@@ -1,6 +1,6 @@
 //! The command `notes`.
 ghost use Rattle.std.specs.Prelude.{◌≡◌, ◌||◌, ◌++◌, IfErr, IfOk, IsErrOf, IsFalse, OnOk};
-ghost use Rattle.preflight.specs.Errors.{is_err_of_read};
+ghost use Rattle.streams.specs.Errors.{is_err_of_read};
 ghost use Rattle.subcommands.specs.JobNotes.{EndsNotes, LeavesNotes, kept_error, outcome_line, status_of_text};
 ghost use Rattle.subcommands.specs.JobTexts.{EndsBy, IsNamed, JudgesFirst};
 ghost use Rattle.subcommands.specs.Status.{is_stop_of_read, is_stop_of_write};

@@ -1,7 +1,7 @@
 //! The notes of a job that passes, in a check of many jobs.
 ghost use Rattle.std.specs.Prelude.{◌≡◌, IfErr, IfOk, IsFalse};
 ghost use Rattle.std.specs.Option.{option_copied};
-ghost use Rattle.preflight.specs.Errors.{is_err_of_write};
+ghost use Rattle.streams.specs.Errors.{is_err_of_write};
 ghost use Rattle.streams.specs.Outlet.{Adds};
 ghost use Rattle.subcommands.specs.Asked.{told_by};
 ghost use Rattle.subcommands.specs.JobChecks.{AddsTold, CutsNotes, CutsTold, TellsNotes, work};

@@ -1,6 +1,6 @@
 //! How the program ends by the work on a text.
 ghost use Rattle.std.specs.Prelude.{◌≡◌, IsErrOf, IsFalse, IfErr, IfOk, OnOk};
-ghost use Rattle.preflight.specs.Errors.{is_err_of_read};
+ghost use Rattle.streams.specs.Errors.{is_err_of_read};
 ghost use Rattle.subcommands.specs.JobTexts.{LeavesLine};
 ghost use Rattle.subcommands.specs.Status.{is_stop_of_read, is_stop_of_write, IsEndOfText};
 

@@ -1,8 +1,8 @@
 //! How the program ends.
 ghost use Rattle.std.specs.Prelude.{◌≡◌, IsFalse, IsTrue, map};
 ghost use Rattle.std.specs.List.{concat};
-ghost use Rattle.preflight.specs.Writing.{Writes};
-ghost use Rattle.preflight.specs.declared.error.Error.TheVariants.{Memory};
+ghost use Rattle.streams.specs.Writing.{Writes};
+ghost use Rattle.streams.specs.declared.error.Error.TheVariants.{Memory};
 ghost use Rattle.subcommands.specs.Status.{code_of, cause_name, error_line, error_words, overwriting_line, refusal_line, status_line};
 ghost use Rattle.subcommands.specs.declared.status.Status.TheVariants.{Stopped};
 

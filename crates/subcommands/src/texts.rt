@@ -1,6 +1,6 @@
 //! What the texts of profiles are read from.
 ghost use Rattle.std.specs.Prelude.{◌≡◌, ◌≤◌, ℕ, Bool, List, [], ◌++◌, Option, take, length, IfOk, IfErr, IfSome, IsFalse};
-ghost use Rattle.preflight.specs.Errors.{is_err_of_read};
+ghost use Rattle.streams.specs.Errors.{is_err_of_read};
 ghost use Rattle.subcommands.specs.Texts.{IsErrorOfReading, IsTextBy, text_read};
 
 use crate::front::read_front;

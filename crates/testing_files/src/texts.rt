@@ -1,9 +1,8 @@
 //! Texts in memory under the words that name them.
 ghost use Rattle.std.specs.Prelude.{◌≡◌, None, false};
 
-use preflight::Error;
 use std::alloc::Allocator;
-use streams::{Given, Latched, Source};
+use streams::{Error, Given, Latched, Source};
 use subcommands::{ProfileTexts, read_text_from};
 
 /// A word and the text that it names.

@@ -7,9 +7,9 @@ use Rattle.page_machine.specs.Event.{Event}
 use Rattle.page_machine.specs.Machine.{item_of, end_of}
 use Rattle.page_machine.specs.MachineState.{MachineState}
 use Rattle.page_machine.specs.Run.{Peaks, Run, just, after, Ending, Done, Halts}
-use Rattle.preflight.specs.declared.error.Error.{Error}
+use Rattle.streams.specs.declared.error.Error.{Error}
 use Rattle.preflight.specs.Carriers.PageRendering.{any_panel}
-use Rattle.preflight.specs.Carriers.Rendering.{Puts}
+use Rattle.streams.specs.Writing.{Puts}
 use Rattle.streams.specs.Outlet.{OutletState, AddsFront}
 use Rattle.job_picture.specs.declared.drawing.PictureText.{PictureText}
 use Rattle.job_picture.specs.declared.progress.Progress.{Progress}

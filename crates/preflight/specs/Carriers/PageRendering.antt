@@ -11,7 +11,7 @@ use Rattle.preflight.specs.Due.{Rendering, nothing_at_fault}
 use Rattle.streams.specs.Outlet.{OutletState, AddsFront}
 use Rattle.preflight.specs.PageTexts.{event_line, events_text, page_after, run_outcome}
 use Rattle.preflight.specs.Texts.{reading_outcome}
-use Rattle.preflight.specs.Carriers.Rendering.{Puts}
+use Rattle.streams.specs.Writing.{Puts}
 
 -- the line of an event was put, and the page behind it is open
 pub record LeadsOn (old new : OutletState) (kept kept' : List ℕ) (page page' : ℕ) (event : Event) : Type 0 where

@@ -4,10 +4,10 @@ use Rattle.pcl_items.specs.declared.item.Mode.{Mode}
 use Rattle.pcl_items.specs.Lexing.State.{LexerState, WantsMore}
 use Rattle.pcl_items.specs.Lexing.Meaning.{Undecided}
 use Rattle.pcl_items.specs.Modes.{mode_of}
-use Rattle.preflight.specs.declared.error.Error.{Error}
+use Rattle.streams.specs.declared.error.Error.{Error}
 use Rattle.preflight.specs.declared.outcome.Outcome.{Outcome}
 use Rattle.preflight.specs.Due.{Rendering, IsDue}
-use Rattle.preflight.specs.Errors.{is_write}
+use Rattle.streams.specs.Errors.{is_write}
 use Rattle.streams.specs.Outlet.{OutletState, Adds}
 use Rattle.streams.specs.Pieces.{MayBeBy}
 use Rattle.preflight.specs.Carriers.Rendering.{HasRendered, IsFrontFor}

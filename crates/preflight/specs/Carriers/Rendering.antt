@@ -7,24 +7,11 @@ use Rattle.pcl_items.specs.Items.{Entry, Placed}
 use Rattle.pcl_items.specs.Reading.{Reading, Whole, Stopped, IsReading, with_item}
 use Rattle.pcl_items.specs.Lexing.State.{LexerState}
 use Rattle.pcl_items.specs.Lexing.Meaning.{HasRead, MayBe, Undecided}
-use Rattle.preflight.specs.declared.error.Error.{Error}
-use Rattle.preflight.specs.declared.error.Error.TheVariants.{Memory, Read, Write, Turns, NoProfile, Items}
+use Rattle.streams.specs.declared.error.Error.{Error}
+use Rattle.streams.specs.declared.error.Error.TheVariants.{Memory, Read, Write, Turns, NoProfile, Items}
 use Rattle.preflight.specs.declared.outcome.Outcome.{Outcome}
 use Rattle.streams.specs.Outlet.{OutletState, Adds, AddsFront}
 use Rattle.preflight.specs.Due.{Rendering, IsDue}
-
--- ---- what was put of a text
-
--- So much text was put: what was kept, and the text, is what was written, and what is kept.
-pub record Puts (old new : OutletState) (kept kept' text : List ℕ) : Type 0 where
-  pub front : List ℕ
-  pub adds : Adds old new front
-  pub split : kept ++ text ≡ front ++ kept'
-
--- the text that was kept was put, or some front of it was written
-abbrev pub PutsKept : {T E : Type 0} → OutletState → OutletState → List ℕ → List ℕ → Result T E → Type 0
-PutsKept old new kept kept' (Ok x) = Puts old new kept kept' []
-PutsKept old new kept kept' (Err e) = AddsFront old new kept
 
 -- ---- one item, or what comes behind the last
 

@@ -3,7 +3,7 @@ use Rattle.page_env.specs.Settings.{state_at}
 use Rattle.page_machine.specs.Machine.{CarriesOn, end_of}
 use Rattle.page_machine.specs.Run.{Done, Halts}
 use Rattle.preflight.specs.Carriers.PageRendering.{any_panel}
-use Rattle.preflight.specs.Errors.{is_write}
+use Rattle.streams.specs.Errors.{is_write}
 use Rattle.preflight.proofs.Renderings.{same_places}
 use Rattle.job_picture.specs.Carriers.Drawing.{Draws, DrawsFront, RefusesPart, TakesPart}
 use Rattle.job_picture.proofs.Led.{led_all, draws_all, draws_refused}

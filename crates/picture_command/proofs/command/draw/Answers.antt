@@ -1,7 +1,7 @@
 use Rattle.std.proofs.Common.{◌≡◌, ◌∙◌, ◌||◌, ap, inl, inr, refl, subst, sym}
 use Rattle.std.proofs.Math.Bool.{or-false}
-use Rattle.preflight.specs.Errors.{is_err_of_read}
-use Rattle.preflight.specs.Writing.{Writes}
+use Rattle.streams.specs.Errors.{is_err_of_read}
+use Rattle.streams.specs.Writing.{Writes}
 use Rattle.picture_command.proofs.Commands.{Stays-none, draws_told, search_writes}
 use Rattle.picture_command.proofs.command.draw.Goals as goal
 

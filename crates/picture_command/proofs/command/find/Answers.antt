@@ -1,7 +1,7 @@
 use Rattle.std.proofs.Common.{◌≡◌, ◌∙◌, ap, refl, subst, sym, Ok, Err}
-use Rattle.preflight.specs.declared.error.Error.TheVariants.{Turns}
+use Rattle.streams.specs.declared.error.Error.TheVariants.{Turns}
 use Rattle.preflight.specs.Due.{Renders}
-use Rattle.preflight.specs.Errors.{is_read}
+use Rattle.streams.specs.Errors.{is_read}
 use Rattle.picture_command.specs.PageSearch.{search_rendering}
 use Rattle.picture_command.specs.Picture.{IsErrorOfSearch}
 use Rattle.picture_command.proofs.Commands.{kept_read, kept_told, kept_turns, search_stops}

@@ -2,8 +2,8 @@ use Rattle.std.proofs.Common.{◌≡◌, Result, Ok, Err, refl, ap, subst, sym}
 use Rattle.std.proofs.lemmas.Result.{err_from_is_err_and}
 use Rattle.streams.specs.Pieces.{ByReads}
 use Rattle.preflight.specs.declared.culprit.Judgement.{Judgement}
-use Rattle.preflight.specs.declared.error.Error.{Error}
-use Rattle.preflight.specs.declared.error.Error.TheVariants.{Turns}
+use Rattle.streams.specs.declared.error.Error.{Error}
+use Rattle.streams.specs.declared.error.Error.TheVariants.{Turns}
 use Rattle.preflight.specs.Culprit.{IsTold}
 use Rattle.preflight.specs.Verdict.{IsExact, KeepsPromise}
 use Rattle.preflight.proofs.Judging.{exact, headline, known_ok, needed, never_items, never_write, told}

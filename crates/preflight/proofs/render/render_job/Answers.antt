@@ -1,10 +1,10 @@
 use Rattle.std.proofs.Common.{◌≡◌, ◌+◌, ℕ, List, IfErr, length, refl, ap, sym, subst}
 use Rattle.pcl_items.specs.Lexing.State.{LexerState}
 use Rattle.pcl_items.specs.Modes.{mode_of}
-use Rattle.preflight.specs.declared.error.Error.{Error}
-use Rattle.preflight.specs.declared.error.Error.TheVariants.{Read, Turns}
+use Rattle.streams.specs.declared.error.Error.{Error}
+use Rattle.streams.specs.declared.error.Error.TheVariants.{Read, Turns}
 use Rattle.preflight.specs.Due.{WritesDecided, WritesFront}
-use Rattle.preflight.specs.Errors.{is_write}
+use Rattle.streams.specs.Errors.{is_write}
 use Rattle.preflight.specs.Carriers.Rendered.{IsCutOff, RendersOn}
 use Rattle.preflight.proofs.Driving.{answer_gives, by_whose, never_items, never_none, of_read, own_read, stop_gives, write_status}
 use Rattle.preflight.proofs.Renderings.{nothing_decided, rendered_none}

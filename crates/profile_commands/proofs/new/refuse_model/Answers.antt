@@ -1,5 +1,5 @@
 use Rattle.std.proofs.Common.{subst}
-use Rattle.preflight.specs.Writing.{Writes}
+use Rattle.streams.specs.Writing.{Writes}
 use Rattle.profile_commands.specs.ProfileNew.{unknown_model}
 use Rattle.profile_commands.proofs.new.refuse_model.Goals as goal
 

@@ -1,7 +1,7 @@
 use Rattle.std.proofs.Common.{◌≡◌, ◌≢◌, ℕ, List, [], IsFalse, ap, inl, inr, map, refl, subst, sym, ◌∙◌}
 use Rattle.device_profile.specs.Name.{printer_name}
 use Rattle.device_profile.specs.Printer.{Printer}
-use Rattle.preflight.specs.declared.error.Error.TheVariants.{Memory}
+use Rattle.streams.specs.declared.error.Error.TheVariants.{Memory}
 use Rattle.subcommands.specs.CheckMany.{limited}
 use Rattle.subcommands.specs.CopiedTexts.{AreNotePrinters}
 use Rattle.subcommands.specs.Fleet.{DescribeBy, DescribeFleet, IsEndOfFleet}

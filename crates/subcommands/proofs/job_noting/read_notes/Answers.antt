@@ -1,5 +1,5 @@
 use Rattle.std.proofs.Common.{Ok, Err, ℕ, List, subst}
-use Rattle.preflight.specs.declared.error.Error.TheVariants.{Read}
+use Rattle.streams.specs.declared.error.Error.TheVariants.{Read}
 use Rattle.subcommands.specs.Asked.{told_by}
 use Rattle.subcommands.specs.JobNotes.{kept_error}
 use Rattle.subcommands.specs.JobNoting.{AreRightNotes}

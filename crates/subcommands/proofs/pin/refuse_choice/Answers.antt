@@ -1,5 +1,5 @@
 use Rattle.std.proofs.Common.{◌∙◌, refl, subst}
-use Rattle.preflight.specs.Writing.{Writes}
+use Rattle.streams.specs.Writing.{Writes}
 use Rattle.subcommands.proofs.pin.refuse_choice.Goals as goal
 
 pub returns-clause-choice : goal.returns-clause-choice

@@ -1,6 +1,6 @@
 use Rattle.std.proofs.Common.{◌≡◌, arith, option_map, refl, subst}
 use Rattle.std.proofs.lemmas.Grind.{common_steps}
-use Rattle.preflight.specs.Writing.{Writes}
+use Rattle.streams.specs.Writing.{Writes}
 use Rattle.subcommands.specs.Refusals.{unread}
 use Rattle.subcommands.proofs.refusals.tell_unread.Goals as goal
 

@@ -1,7 +1,7 @@
 use Rattle.std.proofs.Common.{◌≡◌, ◌∙◌, ap, sym, subst, refl, false, Err, Ok}
 use Rattle.pcl_items.specs.Items.{at, view}
 use Rattle.page_machine.specs.Machine.{CarriesOn, item_of}
-use Rattle.preflight.specs.declared.error.Error.TheVariants.{Memory}
+use Rattle.streams.specs.declared.error.Error.TheVariants.{Memory}
 use Rattle.preflight.specs.declared.outcome.Outcome.TheVariants.{Fail}
 use Rattle.verdict.specs.declared.reason.Reason.TheVariants.{Finding as FindingOfRun}
 use Rattle.preflight.specs.Carriers.Rendering.{Ended, StartsWith}

@@ -3,7 +3,7 @@ use Rattle.pcl_items.specs.Reading.{Whole}
 use Rattle.page_env.specs.Settings.{state_at}
 use Rattle.page_machine.specs.Machine.{CarriesOn, end_of}
 use Rattle.preflight.specs.declared.outcome.Outcome.TheVariants.{Done}
-use Rattle.preflight.specs.Errors.{is_write}
+use Rattle.streams.specs.Errors.{is_write}
 use Rattle.preflight.specs.Carriers.PageRendering.{pages_from, RefusesLine, TakesLine}
 use Rattle.preflight.specs.Carriers.Rendering.{Ended}
 use Rattle.preflight.proofs.PageRenderings.{led_all, tells_end, tells_end_finding, tells_end_refused}

@@ -1,8 +1,8 @@
 use Rattle.std.proofs.Common.{◌≡◌, ap, ◌∙◌, sym, subst, false, Err, Ok, None, refl, rules}
 use Rattle.pcl_items.specs.Items.{at, view}
 use Rattle.page_machine.specs.Machine.{CarriesOn, item_of}
-use Rattle.preflight.specs.declared.error.Error.TheVariants.{Memory}
-use Rattle.preflight.specs.Errors.{is_write}
+use Rattle.streams.specs.declared.error.Error.TheVariants.{Memory}
+use Rattle.streams.specs.Errors.{is_write}
 use Rattle.preflight.specs.Carriers.PageRendering.{pages_from, RefusesLine, TakesLine}
 use Rattle.preflight.specs.Carriers.Rendering.{Ended, StartsWith, RendersItem}
 use Rattle.preflight.proofs.PageRenderings.{led_all, tells_finding, tells_item, tells_refused, tells_whole}

@@ -1,6 +1,6 @@
 use Rattle.std.proofs.Common.{◌≡◌, ◌+◌, ℕ, List, [], ◌++◌, true, false, length, refl, ap, sym, ◌∙◌, subst, arith, length-append}
 use Rattle.pcl_items.specs.Lexing.State.{LexerState}
-use Rattle.preflight.specs.declared.error.Error.{Error}
+use Rattle.streams.specs.declared.error.Error.{Error}
 use Rattle.preflight.specs.declared.outcome.Outcome.{Outcome}
 use Rattle.preflight.specs.declared.render.JobRenderer.{JobRenderer}
 use Rattle.preflight.specs.Carriers.Rendering.{RenderedTo, HasRendered}

@@ -1,7 +1,7 @@
 use Rattle.std.proofs.Common.{◌≡◌, Result, Ok, Err, refl, ap, sym, subst, ◌∙◌}
 use Rattle.std.proofs.lemmas.Result.{err_from_is_err_and}
 use Rattle.verdict.specs.declared.verdict.Verdict.{Verdict}
-use Rattle.preflight.specs.declared.error.Error.{Error}
+use Rattle.streams.specs.declared.error.Error.{Error}
 use Rattle.preflight.specs.Culprit.{IsTold}
 use Rattle.preflight.proofs.session.Session.end_telling.Goals as goal
 

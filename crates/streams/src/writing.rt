@@ -1,9 +1,9 @@
 //! The writing of a text.
 ghost use Rattle.std.specs.Prelude.{◌≡◌, IfErr, IsFalse, is_err};
-ghost use Rattle.preflight.specs.Writing.{Writes};
+ghost use Rattle.streams.specs.Writing.{Writes};
 
 use crate::error::Error;
-use streams::Outlet;
+use crate::outlet::Outlet;
 
 /// Writes all of a text, or an error and a front of it.
 pub fn write_text<W: Outlet>(outlet: &mut W, text: &[u8]) -> Result<(), Error>

@@ -1,13 +1,12 @@
 //! Text that is kept until there is enough of it to be written.
 ghost use Rattle.std.specs.Prelude.{◌≡◌, ◌<◌, [], IfErr, IsFalse, OnOk, is_err, length};
-ghost use Rattle.preflight.specs.Carriers.Rendering.{PutsKept};
-ghost use Rattle.preflight.specs.Writing.{Writes};
-ghost use Rattle.preflight.specs.declared.error.Error.TheVariants.{Write};
+ghost use Rattle.streams.specs.Writing.{PutsKept, Writes};
+ghost use Rattle.streams.specs.declared.error.Error.TheVariants.{Write};
 
 use crate::error::Error;
+use crate::outlet::Outlet;
 use crate::writing::write_text;
 use std::alloc::Allocator;
-use streams::Outlet;
 
 /// So many bytes of text are written at once.
 const ENOUGH: usize = 8192;

@@ -1,6 +1,6 @@
 use Rattle.std.proofs.Common.{rules}
 use Rattle.streams.proofs.OutletFacts.{AddsBefore-more}
-use Rattle.preflight.proofs.writing.write_text.Goals as goal
+use Rattle.streams.proofs.writing.write_text.Goals as goal
 
 pub loop-rest-preserved : goal.loop-rest-preserved
 loop-rest-preserved g c =
