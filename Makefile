@@ -1,5 +1,6 @@
-# Installs pclcheck, and packs what is installed; `make help` says what there is. Nothing here
-# builds the program. Needs GNU make; `make dist` git, and `make deb` dpkg-dev and binutils, too.
+# Builds and installs pclcheck, and packs what is installed; `make help` says what there is. Needs
+# GNU make; `make build` the Rattle toolchain and Python 3.11, `make dist` git, and `make deb`
+# dpkg-dev and binutils, too.
 
 PREFIX = /usr/local
 DESTDIR =
@@ -39,9 +40,10 @@ TIME = $(shell git log -1 --format=%ct)
 NAME = pclcheck-$(VERSION)
 ROOT = dist/deb
 
-.PHONY: help install uninstall dist deb program committed clean
+.PHONY: help build install uninstall dist deb program committed clean
 
 help:
+	@echo 'make build      proves and builds the program, and tells a line for each crate'
 	@echo 'make install    puts the built program, its manual pages, completions, profiles,'
 	@echo '                examples and documents under PREFIX ($(PREFIX)), or DESTDIR/PREFIX'
 	@echo 'make uninstall  removes these files, and the folders of pclcheck that are then empty'
@@ -49,9 +51,11 @@ help:
 	@echo 'make deb        packs them as a package for Debian, in dist/'
 	@echo 'make clean      removes dist/'
 
+build:
+	@.ci/prove --program
+
 program:
-	@test -x $(PROGRAM) || { echo 'make: there is no $(PROGRAM); build it in crates/pclcheck by' \
-		"'rt run -- check ../../examples/ruled_form.pcl @A'" >&2; exit 1; }
+	@test -x $(PROGRAM) || { echo 'make: there is no $(PROGRAM): make build' >&2; exit 1; }
 
 # A pack of a tree that is no commit would not be made again.
 committed:

@@ -12,11 +12,13 @@ import signal
 import subprocess
 import sys
 import tempfile
-from collections.abc import Iterable, Iterator
+from collections.abc import Iterator
 from pathlib import Path
 
 ROOT = Path(__file__).resolve().parent.parent
 TRIED = ROOT / ".ci" / "edits_tried.txt"
+# What a copy of the tree is without.
+LEFT_OUT = ("out", "dist", ".git", "__pycache__", "must-fail")
 # What an edit's verdict is kept for: what is stated and what is edited. Proofs may change below it.
 JUDGED = ("src", "specs", "must-fail")
 
@@ -42,6 +44,13 @@ def with_all_below(name: str) -> set[str]:
 
 def edits_of(crate: str) -> list[Path]:
     return sorted((ROOT / "crates" / crate / "must-fail").glob("*.edit"))
+
+
+def size_of(crate: str) -> int:
+    """How many bytes of proofs, specs and sources a crate has: the larger, the longer it takes."""
+    folder = ROOT / "crates" / crate
+    return sum(path.stat().st_size for part in ("src", "specs", "proofs")
+               for path in (folder / part).rglob("*") if path.is_file())
 
 
 def crates_with_edits() -> list[str]:
@@ -86,15 +95,13 @@ def lanes() -> dict[str, str]:
 
 
 @contextlib.contextmanager
-def copy(edits_from: Iterable[str] = (), only: set[str] | None = None) -> Iterator[Path]:
-    """A copy of the tree, with the edits of these crates alone, and of all crates or `only` some.
+def copy(only: set[str] | None = None) -> Iterator[Path]:
+    """A copy of the tree without edits, of all crates or `only` some.
 
     It lies outside the repository, as `rt ci` wants it, and is removed in the end."""
     def left_out(folder: str, names: list[str]) -> list[str]:
         path = Path(folder)
-        out = [name for name in names if name in ("out", "dist", ".git", "__pycache__")]
-        if path.parent == ROOT / "crates" and path.name not in edits_from:
-            out += [name for name in names if name == "must-fail"]
+        out = [name for name in names if name in LEFT_OUT]
         if path == ROOT / "crates" and only is not None:
             out += [name for name in names if name not in only]
         return out
