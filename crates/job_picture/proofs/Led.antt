@@ -5,10 +5,10 @@ use Rattle.page_machine.specs.Event.{Event, TakesAll}
 use Rattle.page_machine.specs.Follows.{TakesUpTo, Refuses}
 use Rattle.page_machine.specs.Machine.{TakesWhole}
 use Rattle.page_machine.specs.Run.{Run, just, Ending}
-use Rattle.preflight.specs.Carriers.PageRendering.{any_panel}
+use Rattle.renderings.specs.Carriers.PageRendering.{any_panel}
 use Rattle.streams.specs.Writing.{Puts}
 use Rattle.streams.specs.Outlet.{OutletState, AddsFront}
-use Rattle.preflight.proofs.Renderings.{Puts-none, Puts-trans, Puts-front, Puts-cut-front}
+use Rattle.renderings.proofs.Renderings.{Puts-none, Puts-trans, Puts-front, Puts-cut-front}
 use Rattle.job_picture.specs.declared.drawing.PictureText.{PictureText}
 use Rattle.job_picture.specs.declared.progress.Progress.{Progress}
 use Rattle.job_picture.specs.declared.sheet.Sheet.{Sheet}

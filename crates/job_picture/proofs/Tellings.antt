@@ -10,13 +10,13 @@ use Rattle.page_machine.specs.Run.{Run, Ending, Done, Halts}
 use Rattle.page_machine.specs.MachineState.{MachineState}
 use Rattle.page_machine.specs.Machine.{item_of, end_of}
 use Rattle.streams.specs.declared.error.Error.{Error}
-use Rattle.preflight.specs.declared.outcome.Outcome.{Outcome}
-use Rattle.preflight.specs.declared.outcome.Outcome.TheVariants.{Done as AllDone, Fail}
-use Rattle.preflight.specs.Due.{Rendering}
-use Rattle.preflight.specs.Carriers.PageRendering.{any_panel}
-use Rattle.preflight.specs.Carriers.Rendering.{RestGoesOn, StartsWith, Ended, RendersItem}
+use Rattle.renderings.specs.declared.outcome.Outcome.{Outcome}
+use Rattle.renderings.specs.declared.outcome.Outcome.TheVariants.{Done as AllDone, Fail}
+use Rattle.renderings.specs.Due.{Rendering}
+use Rattle.renderings.specs.Carriers.PageRendering.{any_panel}
+use Rattle.renderings.specs.Carriers.Rendering.{RestGoesOn, StartsWith, Ended, RendersItem}
 use Rattle.streams.specs.Writing.{Puts}
-use Rattle.preflight.proofs.Renderings.{Puts-kept, Puts-trans, Puts-cut-front, tells_err, ended_err}
+use Rattle.renderings.proofs.Renderings.{Puts-kept, Puts-trans, Puts-cut-front, tells_err, ended_err}
 use Rattle.streams.specs.Outlet.{OutletState, AddsFront}
 use Rattle.verdict.specs.declared.reason.Reason.TheVariants.{Fault as FaultOfBytes, Finding as FindingOfRun}
 use Rattle.job_picture.specs.declared.progress.Progress.{Progress}

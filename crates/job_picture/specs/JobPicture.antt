@@ -13,9 +13,9 @@ use Rattle.page_env.specs.Settings.{Settings, State, start_state, user_defaults,
 use Rattle.page_machine.specs.Run.{Run, Ending, Done, Halts}
 use Rattle.page_machine.specs.Defining.{job_item_run, job_end_run, macros_after}
 use Rattle.page_machine.specs.Job.{with_macros}
-use Rattle.preflight.specs.declared.outcome.Outcome.{Outcome}
-use Rattle.preflight.specs.declared.outcome.Outcome.TheVariants.{Done as AllDone, Fail}
-use Rattle.preflight.specs.Due.{Rendering}
+use Rattle.renderings.specs.declared.outcome.Outcome.{Outcome}
+use Rattle.renderings.specs.declared.outcome.Outcome.TheVariants.{Done as AllDone, Fail}
+use Rattle.renderings.specs.Due.{Rendering}
 use Rattle.verdict.specs.declared.reason.Reason.TheVariants.{Fault as FaultOfBytes, Finding as FindingOfRun}
 use Rattle.job_picture.specs.declared.progress.Progress.{Progress}
 use Rattle.job_picture.specs.declared.selection.Selection.{Selection}

@@ -2,7 +2,7 @@
 ghost use Rattle.std.specs.Prelude.{◌≡◌, IfErr, IsFalse, IsSome, false};
 ghost use Rattle.pcl_items.specs.Grammar.{follows};
 ghost use Rattle.pcl_items.specs.Items.{view};
-ghost use Rattle.preflight.specs.Carriers.Rendering.{IsErrorOfRendering};
+ghost use Rattle.renderings.specs.Carriers.Rendering.{IsErrorOfRendering};
 ghost use Rattle.streams.specs.Writing.{PutsKept};
 ghost use Rattle.streams.specs.Errors.{is_err_of_write, is_write};
 ghost use Rattle.job_picture.specs.Carriers.Drawing.{Finishes, RefusesPart, Steps, TakesPart};
@@ -12,9 +12,8 @@ use crate::sheet::{Sheet, push_drawn_end, push_drawn_mark};
 use page_env::{Finding, Mark, PageEnd};
 use page_machine::{Machine, MarkSink, Stop};
 use pcl_items::{Item, Place};
-use preflight::{Error, Outlet};
 use std::alloc::Allocator;
-use streams::write_enough;
+use streams::{Error, Outlet, write_enough};
 
 /// Draws marks and ends of pages on the sheet of the page that is open.
 #[derive(Drop)]

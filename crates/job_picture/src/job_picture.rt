@@ -2,8 +2,8 @@
 ghost use Rattle.std.specs.Prelude.{◌≡◌, ◌++◌, IsFalse, OnOk, false, refl};
 ghost use Rattle.device_profile.specs.Printer.{IsAllowed};
 ghost use Rattle.page_env.specs.Settings.{state_at};
-ghost use Rattle.preflight.specs.Carriers.PageRendering.{any_panel};
-ghost use Rattle.preflight.specs.Due.{Renders};
+ghost use Rattle.renderings.specs.Carriers.PageRendering.{any_panel};
+ghost use Rattle.renderings.specs.Due.{Renders};
 ghost use Rattle.job_picture.specs.Carriers.Rest.{drawn_from};
 ghost use Rattle.job_picture.specs.JobPicture.{late_end, picture_rendering};
 ghost use Rattle.job_picture.specs.Sheet.{drawn_failure, end_of_all, sheet_of, spot_of, start_if_due};
@@ -17,8 +17,10 @@ use device_profile::{Panel, Profile};
 use page_env::{Finding, Page};
 use page_machine::{Machine, Start};
 use pcl_items::{Item, LexCause, LexFault, Place};
-use preflight::{Error, Outcome, Outlet, Reason, Renderer, Source, render_job};
+use renderings::{Outcome, Renderer, render_job};
 use std::alloc::{AllocError, Allocator};
+use streams::{Error, Outlet, Source};
+use verdict::Reason;
 
 /// What is drawn of a job.
 #[derive(Clone, Copy)]

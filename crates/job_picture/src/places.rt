@@ -4,7 +4,7 @@ ghost use Rattle.std.specs.Prelude.{◌≡◌, ◌+◌, ◌≤◌, ◌^◌};
 ghost use Rattle.page_env.specs.Numbers.{IsWithin};
 ghost use Rattle.page_env.specs.Places.{first_line, geometry_of, ticks_in, vertical_place};
 ghost use Rattle.page_env.specs.Settings.{state_at};
-ghost use Rattle.preflight.specs.Carriers.PageRendering.{any_panel};
+ghost use Rattle.renderings.specs.Carriers.PageRendering.{any_panel};
 ghost use Rattle.job_picture.specs.Places.{cursor_x, cursor_y};
 
 use device_profile::{Geometry, Profile};

@@ -22,13 +22,13 @@ use Rattle.page_machine.specs.MachineState.{MachineState}
 use Rattle.page_machine.specs.Machine.{IsNew, item_of, end_of}
 use Rattle.page_machine.specs.Follows.{TakesUpTo}
 use Rattle.streams.specs.declared.error.Error.{Error}
-use Rattle.preflight.specs.declared.outcome.Outcome.{Outcome}
-use Rattle.preflight.specs.declared.outcome.Outcome.TheVariants.{Done as AllDone, Fail}
+use Rattle.renderings.specs.declared.outcome.Outcome.{Outcome}
+use Rattle.renderings.specs.declared.outcome.Outcome.TheVariants.{Done as AllDone, Fail}
 use Rattle.verdict.specs.declared.reason.Reason.TheVariants.{Fault, Finding as FindingOfRun}
-use Rattle.preflight.specs.Due.{Rendering, nothing_at_fault}
-use Rattle.preflight.specs.PageTexts.{run_outcome}
-use Rattle.preflight.specs.Texts.{reading_outcome}
-use Rattle.preflight.specs.Carriers.Rendering.{RestGoesOn, EndsWith, StartsWith, Ended as EndedWith, RendersItem}
+use Rattle.renderings.specs.Due.{Rendering, nothing_at_fault}
+use Rattle.renderings.specs.PageTexts.{run_outcome}
+use Rattle.renderings.specs.Texts.{reading_outcome}
+use Rattle.renderings.specs.Carriers.Rendering.{RestGoesOn, EndsWith, StartsWith, Ended as EndedWith, RendersItem}
 use Rattle.streams.specs.Writing.{Puts}
 use Rattle.streams.specs.Outlet.{OutletState}
 use Rattle.streams.proofs.OutletFacts.{Adds-none}

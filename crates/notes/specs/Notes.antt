@@ -12,10 +12,10 @@ use Rattle.page_machine.specs.Run.{Ending, Done, Halts}
 use Rattle.page_machine.specs.Defining.{is_defining, job_item_run, macros_after}
 use Rattle.page_machine.specs.Job.{JobRun, events_of, with_macros, plain_run}
 use Rattle.verdict.specs.Limits.{is_many_items}
-use Rattle.preflight.specs.declared.outcome.Outcome.{Outcome}
-use Rattle.preflight.specs.declared.outcome.Outcome.TheVariants.{Done as AllDone, Fail}
-use Rattle.preflight.specs.Due.{Rendering, nothing_at_fault}
-use Rattle.preflight.specs.PageTexts.{pages_outcome}
+use Rattle.renderings.specs.declared.outcome.Outcome.{Outcome}
+use Rattle.renderings.specs.declared.outcome.Outcome.TheVariants.{Done as AllDone, Fail}
+use Rattle.renderings.specs.Due.{Rendering, nothing_at_fault}
+use Rattle.renderings.specs.PageTexts.{pages_outcome}
 use Rattle.notes.specs.declared.note.TheConstants.{MOST_ITEMS}
 use Rattle.notes.specs.declared.note.Note.TheVariants.{OpenEnd, NoPage, ShortRaster, LongRun}
 use Rattle.notes.specs.Note.{Told, told_if, firsts}

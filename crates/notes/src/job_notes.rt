@@ -3,7 +3,7 @@ ghost use Rattle.std.specs.Prelude.{◌≡◌, IfOk, IsFalse, OnOk, false, refl}
 ghost use Rattle.device_profile.specs.Printer.{IsAllowed};
 ghost use Rattle.notes.specs.Carriers.Rest.{WritesNotes, notes_from};
 ghost use Rattle.notes.specs.Notes.{long_run, noted_outcome, notes_at_end, notes_rendering};
-ghost use Rattle.preflight.specs.Due.{Renders};
+ghost use Rattle.renderings.specs.Due.{Renders};
 
 use crate::closing::Closing;
 use crate::item_notes::tell_item;
@@ -15,8 +15,10 @@ use device_profile::{Panel, Profile};
 use page_env::Finding;
 use page_machine::{Machine, Start, Stop};
 use pcl_items::{Item, LexFault, Place};
-use preflight::{Error, Outcome, Outlet, Reason, Renderer, Source, render_job};
+use renderings::{Outcome, Renderer, render_job};
 use std::alloc::{AllocError, Allocator};
+use streams::{Error, Outlet, Source};
+use verdict::Reason;
 
 /// Executes the items on a machine at its panel, and tells the notes of each.
 #[derive(Drop)]

@@ -1,7 +1,7 @@
 -- What the commands that write a text of a job come to. Nothing is known of files beforehand, so this is said for some reads of them.
 use Rattle.std.specs.Prelude.{◌≡◌, ◌⊎◌, ◌||◌, [], ◌∷◌, ℕ, List, IsTrue}
 use Rattle.streams.specs.declared.error.Error.TheVariants.{Turns}
-use Rattle.preflight.specs.Due.{Rendering, plain_rendering}
+use Rattle.renderings.specs.Due.{Rendering, plain_rendering}
 use Rattle.streams.specs.Files.{no_outlet, no_source}
 use Rattle.streams.specs.Outlet.{OutletState}
 use Rattle.streams.specs.Source.{SourceState}

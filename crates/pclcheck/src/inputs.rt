@@ -4,10 +4,10 @@ ghost use Rattle.streams.specs.Writing.{Writes};
 ghost use Rattle.pclcheck.specs.Inputs.{RefusesInput, RefusesPipe, is_apart, is_input, pipe_again, reads_input_again};
 ghost use Rattle.subcommands.specs.Asked.{asked_for};
 
-use preflight::{Error, Outlet, write_text};
 use std::alloc::{AllocError, Global};
 use std::fs;
 use std::rt::Files;
+use streams::{Error, Outlet, write_text};
 use subcommands::check_jobs::ManyJobs;
 use subcommands::{Status, push_named_first};
 

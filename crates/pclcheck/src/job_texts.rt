@@ -1,7 +1,7 @@
 //! What the program does on texts of a job by request, on files.
 ghost use Rattle.std.specs.Prelude.{IsFalse};
 ghost use Rattle.pclcheck.specs.JobRequests.{LeavesNotesFor, LeavesPagesFor, LeavesPictureFor, LeavesPin, LeavesPlain, LeavesRendered};
-ghost use Rattle.preflight.specs.Due.{list_rendering};
+ghost use Rattle.renderings.specs.Due.{list_rendering};
 
 use crate::inputs::{is_pipe, refuse_pipe};
 use picture_command::PictureAsked;

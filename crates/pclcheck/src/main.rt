@@ -12,12 +12,12 @@ ghost use Rattle.std.specs.Prelude.{IsFalse};
 
 use crate::requests::fulfil;
 use command_line::read_words;
-use preflight::{Error, Outlet, Watched, write_text};
 use std::io::Input;
 use std::os::fd::{AsRawFd, IntoRawFd, RawFd};
 use std::process::ExitCode;
 use std::rt::{Env, Files};
 use std::{env, fs, io};
+use streams::{Error, Latched as Watched, Outlet, write_text};
 use subcommands::{Status, tell};
 
 /// The descriptors of the standard streams are those below this one.

@@ -3,10 +3,10 @@ ghost use Rattle.std.specs.Prelude.{◌≡◌, ◌++◌, [], IfErr, IfOk, IsFals
 ghost use Rattle.pclcheck.specs.Names.{LeadsTo, names_in};
 ghost use Rattle.subcommands.specs.FleetFile.{TellsOfNames};
 
-use preflight::{Error, Outlet, Source};
 use std::alloc::AllocError;
 use std::io::Input;
 use std::rt::Files;
+use streams::{Error, Outlet, Source};
 use subcommands::{FileJobs, Jobs, Status, read_front, tell_unread};
 
 /// The bytes of the file of names at a path, or none where there is no such file.

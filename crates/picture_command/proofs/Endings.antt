@@ -14,14 +14,14 @@ use Rattle.verdict.specs.declared.failure.Failure.{Failure}
 use Rattle.verdict.specs.declared.reason.Reason.TheVariants.{Fault as FaultOfBytes}
 use Rattle.preflight.specs.declared.culprit.Culprit.{Culprit}
 use Rattle.streams.specs.declared.error.Error.{Error}
-use Rattle.preflight.specs.declared.outcome.Outcome.{Outcome}
-use Rattle.preflight.specs.declared.outcome.Outcome.TheVariants.{Done as AllDone}
+use Rattle.renderings.specs.declared.outcome.Outcome.{Outcome}
+use Rattle.renderings.specs.declared.outcome.Outcome.TheVariants.{Done as AllDone}
 use Rattle.preflight.specs.Culprit.{IsCulprit}
-use Rattle.preflight.specs.Due.{Rendering}
-use Rattle.preflight.specs.Carriers.PageRendering.{any_panel}
-use Rattle.preflight.specs.Carriers.Rendering.{EndsWith, Ended, RendersItem, StartsWith}
+use Rattle.renderings.specs.Due.{Rendering}
+use Rattle.renderings.specs.Carriers.PageRendering.{any_panel}
+use Rattle.renderings.specs.Carriers.Rendering.{EndsWith, Ended, RendersItem, StartsWith}
 use Rattle.streams.specs.Writing.{Puts}
-use Rattle.preflight.proofs.Renderings.{Puts-kept, Puts-none, end_none}
+use Rattle.renderings.proofs.Renderings.{Puts-kept, Puts-none, end_none}
 use Rattle.job_picture.specs.declared.selection.Selection.{Selection}
 use Rattle.job_picture.specs.Selection.{is_behind}
 use Rattle.subcommands.specs.Groups.{Groups}

@@ -16,10 +16,10 @@ use Rattle.page_machine.specs.MachineState.{MachineState}
 use Rattle.page_machine.specs.Machine.{IsNew, item_of, end_of}
 use Rattle.sinks.specs.declared.counts.Counts.{Counts}
 use Rattle.sinks.specs.Counts.{counted, counts_after, no_counts}
-use Rattle.preflight.specs.declared.outcome.Outcome.TheVariants.{Done as AllDone}
-use Rattle.preflight.specs.Due.{Rendering}
-use Rattle.preflight.specs.Carriers.PageRendering.{any_panel}
-use Rattle.preflight.specs.Carriers.Rendering.{RestGoesOn, EndsWith, StartsWith}
+use Rattle.renderings.specs.declared.outcome.Outcome.TheVariants.{Done as AllDone}
+use Rattle.renderings.specs.Due.{Rendering}
+use Rattle.renderings.specs.Carriers.PageRendering.{any_panel}
+use Rattle.renderings.specs.Carriers.Rendering.{RestGoesOn, EndsWith, StartsWith}
 use Rattle.job_picture.specs.declared.selection.Selection.{Selection}
 use Rattle.job_picture.specs.Selection.{is_behind}
 use Rattle.subcommands.specs.Groups.{Groups}

@@ -10,9 +10,9 @@ use Rattle.page_machine.specs.Run.{Run, Ending, Done, Halts}
 use Rattle.sinks.specs.declared.counts.Counts.{Counts}
 use Rattle.sinks.specs.Counts.{counts_after}
 use Rattle.streams.specs.declared.error.Error.{Error}
-use Rattle.preflight.specs.declared.outcome.Outcome.{Outcome}
-use Rattle.preflight.specs.Carriers.PageRendering.{any_panel}
-use Rattle.preflight.specs.Due.{Rendering}
+use Rattle.renderings.specs.declared.outcome.Outcome.{Outcome}
+use Rattle.renderings.specs.Carriers.PageRendering.{any_panel}
+use Rattle.renderings.specs.Due.{Rendering}
 use Rattle.job_picture.specs.declared.selection.Selection.{Selection}
 use Rattle.subcommands.specs.Groups.{Groups}
 use Rattle.picture_command.specs.PageSearch.{Searched, reading_search}

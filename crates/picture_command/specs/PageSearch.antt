@@ -21,9 +21,9 @@ use Rattle.verdict.specs.declared.verdict.Verdict.{Verdict}
 use Rattle.verdict.specs.declared.verdict.Verdict.TheVariants.{Pass, Fail}
 use Rattle.verdict.specs.Failing.{failing}
 use Rattle.line_words.specs.Figures.{escaped_byte, named}
-use Rattle.preflight.specs.declared.outcome.Outcome.{Outcome}
-use Rattle.preflight.specs.declared.outcome.Outcome.TheVariants.{Done as AllDone, Fail as FailsOf}
-use Rattle.preflight.specs.Due.{Rendering}
+use Rattle.renderings.specs.declared.outcome.Outcome.{Outcome}
+use Rattle.renderings.specs.declared.outcome.Outcome.TheVariants.{Done as AllDone, Fail as FailsOf}
+use Rattle.renderings.specs.Due.{Rendering}
 use Rattle.job_picture.specs.declared.selection.Selection.{Selection}
 use Rattle.job_picture.specs.declared.selection.Selection.TheVariants.{All, One}
 use Rattle.job_picture.specs.Selection.{is_behind, is_drawn}

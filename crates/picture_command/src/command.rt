@@ -15,8 +15,9 @@ use crate::page_search::{Names, PageSearch};
 use crate::same::is_same;
 use device_profile::{Panel, Profile};
 use job_picture::{Selection, Wanted, picture_of};
-use preflight::{Error, Outcome, Outlet, Source, render_job, write_text};
+use renderings::{Outcome, render_job};
 use std::alloc::{AllocError, Allocator};
+use streams::{Error, Outlet, Source, write_text};
 use subcommands::job_notes::kept_error;
 use subcommands::pin::refuse_choice;
 use subcommands::{

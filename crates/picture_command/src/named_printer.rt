@@ -7,8 +7,8 @@ ghost use Rattle.subcommands.specs.JobTexts.{IsNamed};
 ghost use Rattle.subcommands.specs.Status.{is_err_at_read};
 
 use device_profile::{Profile, printer_name};
-use preflight::Error;
 use std::alloc::Allocator;
+use streams::Error;
 use subcommands::{ProfileTexts, Status, refusal};
 
 /// A printer, and the name by which sentences name it, alone in a list.

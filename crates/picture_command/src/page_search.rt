@@ -16,9 +16,11 @@ use line_words::push_named;
 use page_env::Finding;
 use page_machine::{Machine, Start, Stop};
 use pcl_items::{Item, LexFault, Place};
-use preflight::{Culprit, Error, Judgement, Outcome, Outlet, Renderer, Verdict};
+use preflight::{Culprit, Judgement, Verdict};
+use renderings::{Outcome, Renderer};
 use sinks::Counts;
 use std::alloc::{AllocError, Allocator};
+use streams::{Error, Outlet};
 use subcommands::{PrinterGroup, Report, push_job_sentence, push_named_first};
 use verdict::Failure;
 

@@ -5,7 +5,8 @@ ghost use Rattle.std.specs.Prelude.{◌≡◌, ◌≢◌, IsFalse, IsTrue};
 
 use page_env::Finding;
 use pcl_items::LexCause;
-use preflight::{Outcome, Reason};
+use renderings::Outcome;
+use verdict::Reason;
 
 /// Whether the second reading of the job came to the same as the first.
 pub(crate) fn is_same(outcome: Outcome, found: Outcome) -> bool

@@ -9,9 +9,9 @@ use Rattle.streams.specs.Source.{SourceState}
 use Rattle.preflight.specs.Session.{SessionState, ChecksOn, HasChecked, IsJudged, IsOutOfMemory}
 use Rattle.preflight.specs.Verdict.{IsExact, KeepsPromise, NeedsEachRead}
 use Rattle.preflight.specs.Culprit.{IsTold}
-use Rattle.preflight.specs.Carriers.Driving.{IsAnswered, IsStopped, StopsBy}
+use Rattle.streams.specs.Driving.{IsAnswered, IsStopped, StopsBy}
 use Rattle.streams.proofs.Pieces.{known_by}
-use Rattle.preflight.proofs.Driving.{never_items as none_of_limits}
+use Rattle.streams.proofs.Driving.{never_items as none_of_limits}
 use Rattle.preflight.proofs.Sessions.{opened}
 use Rattle.preflight.proofs.StillOpen.{leaves_open}
 use Rattle.verdict.specs.declared.verdict.Verdict.{Verdict}

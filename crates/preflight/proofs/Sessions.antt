@@ -9,7 +9,7 @@ use Rattle.preflight.specs.declared.standing.Standing.TheVariants.{Open, Judged,
 use Rattle.streams.specs.Pieces.{MayBeBy, Spell}
 use Rattle.streams.specs.declared.error.Error.{Error}
 use Rattle.streams.specs.declared.error.Error.TheVariants.{Memory, Turns}
-use Rattle.preflight.specs.Carriers.Driving.{ComesByEnd, ComesByPiece, IsErrorOfPiece}
+use Rattle.streams.specs.Driving.{ComesByEnd, ComesByPiece, IsErrorOfPiece}
 use Rattle.preflight.specs.Session.{SessionState, ChecksTo, HasChecked, ChecksOn, IsJudged, IsOutOfMemory}
 use Rattle.preflight.specs.Verdict.{IsExact}
 use Rattle.preflight.specs.Culprit.{IsRight, IsTold}

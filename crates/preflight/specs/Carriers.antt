@@ -6,8 +6,4 @@ pub mod Formation
 pub mod TextInStep
 pub mod PairsInStep
 pub mod Checking
-pub mod Driving
-pub mod Rendering
-pub mod Rendered
-pub mod PageRendering
 pub mod Rooms

@@ -12,7 +12,6 @@ ghost use Rattle.preflight.specs.Carriers.Lockstep.{AreIn, AreRunning, counts_of
 
 use crate::check::{execute_decided, finish};
 use crate::culprit::{Culprit, Judgement};
-use crate::driver::{Consumer, PIECE};
 use crate::laws::fails_say;
 use crate::lockstep::Lockstep;
 use crate::standing::Standing;
@@ -20,7 +19,7 @@ use device_profile::Profile;
 use pcl_items::Lexer;
 use std::alloc::Allocator;
 use std::marker::Model;
-use streams::Error;
+use streams::{Consumer, Error, PIECE};
 use verdict::Verdict;
 
 /// All pieces of a job together have at most so many bytes.

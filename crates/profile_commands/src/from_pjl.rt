@@ -14,11 +14,11 @@ use crate::profile_reading::read_text;
 use crate::whole_text::write_whole;
 use itoa::Buffer;
 use pjl_answer::{AnswerError, Answered, MOST_BYTES, answered_text, asked_papers};
-use preflight::{Error, Outlet, Source, write_text};
 use printer_models::{NewError, PanelLists, Paper, new_text};
 use profile_lint::faults_text;
 use shown_bytes::push_shown;
 use std::alloc::{AllocError, Allocator};
+use streams::{Error, Outlet, Source, write_text};
 use subcommands::{ProfileTexts, Status, Trouble, read_front, tell_unread};
 
 /// The command `profile from-pjl`: on standard output the text of a profile with what a printer's

@@ -4,9 +4,9 @@ ghost use Rattle.profile_commands.specs.ProfileLint.{AreRead, LeavesLint, StopsR
 ghost use Rattle.profile_lint.specs.Lint.{have_faults, lint_text};
 
 use crate::profile_reading::read_text;
-use preflight::{Error, Outlet, write_text};
 use profile_lint::{NamedText, lint_texts};
 use std::alloc::{AllocError, Allocator};
+use streams::{Error, Outlet, write_text};
 use subcommands::{ProfileTexts, Status, Trouble};
 
 /// The command `profile lint`: on standard output all that is found in the texts of profiles. All

@@ -3,9 +3,9 @@ ghost use Rattle.std.specs.Prelude.{IsFalse};
 ghost use Rattle.profile_commands.specs.ProfileList.{LeavesModels};
 
 use crate::whole_text::write_whole;
-use preflight::{Error, Outlet};
 use printer_models::models_text;
 use std::alloc::Allocator;
+use streams::{Error, Outlet};
 use subcommands::Status;
 
 /// The command `profile list`: on standard output a line for each model of which the program can

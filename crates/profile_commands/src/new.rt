@@ -5,9 +5,9 @@ ghost use Rattle.printer_models.specs.declared.asked.WordFault.{WordFault};
 ghost use Rattle.profile_commands.specs.ProfileNew.{LeavesProfile, mismatch_line, unknown_model, wrong_paper};
 
 use crate::whole_text::write_whole;
-use preflight::{Error, Outlet, write_text};
 use printer_models::{NewError, PanelLists, PaperFault, new_text};
 use std::alloc::Allocator;
+use streams::{Error, Outlet, write_text};
 use subcommands::{Status, Trouble, write_pieces};
 
 /// The command `profile new`: on standard output the text of a profile of a model, with the papers

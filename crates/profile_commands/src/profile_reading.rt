@@ -6,9 +6,9 @@ ghost use Rattle.profile_lint.specs.Lint.{faults_text};
 ghost use Rattle.subcommands.specs.CheckMany.{TellsLine};
 
 use device_profile::{Profile, ProfileFault};
-use preflight::{Error, Outlet, write_text};
 use profile_lint::faults_text;
 use std::alloc::Allocator;
+use streams::{Error, Outlet, write_text};
 use subcommands::{ProfileTexts, Status, Trouble, tell_unread};
 
 /// The text that a word names. Where there is none, standard error is told why.

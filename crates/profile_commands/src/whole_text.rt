@@ -2,7 +2,7 @@
 ghost use Rattle.std.specs.Prelude.{IsFalse};
 ghost use Rattle.profile_commands.specs.WholeText.{WritesWhole};
 
-use preflight::{Error, Outlet, write_text};
+use streams::{Error, Outlet, write_text};
 use subcommands::Status;
 
 /// Writes a text, and answers how a command ends that has nothing more to do.

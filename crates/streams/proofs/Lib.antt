@@ -1,3 +1,4 @@
 mod Walks
 pub mod OutletFacts
 pub mod Pieces
+pub mod Driving

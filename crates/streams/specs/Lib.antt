@@ -5,3 +5,4 @@ pub mod Latched
 pub mod Files
 pub mod Errors
 pub mod Writing
+pub mod Driving

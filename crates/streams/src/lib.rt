@@ -1,7 +1,8 @@
-//! Input and output: sources and outlets with the histories of their reads and writes, and readers,
-//! writers and files as these.
+//! Input and output: sources and outlets with the histories of their reads and writes, readers,
+//! writers and files as these, and the loop that reads a source in pieces.
 #![tactic(auto)]
 
+mod driver;
 mod error;
 mod file_id;
 mod file_outlet;
@@ -15,6 +16,7 @@ mod outlet;
 mod source;
 mod writing;
 
+pub use driver::{Consumer, PIECE, read_job};
 pub use error::Error;
 pub use file_id::FileId;
 pub use file_outlet::FileOutlet;

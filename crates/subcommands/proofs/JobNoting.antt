@@ -4,9 +4,9 @@ use Rattle.device_profile.specs.declared.panel.Panel.{Panel}
 use Rattle.device_profile.specs.Printer.{Printer, first_panel}
 use Rattle.streams.specs.declared.error.Error.{Error}
 use Rattle.streams.specs.declared.error.Error.TheVariants.{Memory, Read, Write, Turns, NoProfile, Items}
-use Rattle.preflight.specs.declared.outcome.Outcome.{Outcome}
-use Rattle.preflight.specs.declared.outcome.Outcome.TheVariants.{Done as AllDone, Fail}
-use Rattle.preflight.specs.Due.{IsDue, Renders}
+use Rattle.renderings.specs.declared.outcome.Outcome.{Outcome}
+use Rattle.renderings.specs.declared.outcome.Outcome.TheVariants.{Done as AllDone, Fail}
+use Rattle.renderings.specs.Due.{IsDue, Renders}
 use Rattle.streams.specs.Errors.{is_err_of_read, is_read}
 use Rattle.streams.specs.Outlet.{OutletState, Adds}
 use Rattle.streams.specs.Pieces.{ByReads}

@@ -7,9 +7,9 @@ use Rattle.pcl_items.specs.Reading.{IsReading, Whole}
 use Rattle.device_profile.specs.Printer.{Printer}
 use Rattle.streams.specs.declared.error.Error.{Error}
 use Rattle.streams.specs.declared.error.Error.TheVariants.{Memory, Read, Write, Turns, NoProfile, Items}
-use Rattle.preflight.specs.declared.outcome.Outcome.{Outcome}
-use Rattle.preflight.specs.declared.outcome.Outcome.TheVariants.{Done, Fail as FailsOf}
-use Rattle.preflight.specs.Due.{Rendering, Renders, WritesDue, WritesFront}
+use Rattle.renderings.specs.declared.outcome.Outcome.{Outcome}
+use Rattle.renderings.specs.declared.outcome.Outcome.TheVariants.{Done, Fail as FailsOf}
+use Rattle.renderings.specs.Due.{Rendering, Renders, WritesDue, WritesFront}
 use Rattle.std.specs.Prelude.{IsFalse, OnOk, ◌||◌}
 use Rattle.std.proofs.Math.Bool.{or-false}
 use Rattle.streams.specs.Errors.{is_err_of_write}

@@ -3,9 +3,9 @@ use Rattle.std.specs.Prelude.{◌≡◌, ◌≢◌, ◌⊎◌, ℕ, List, [], �
 use Rattle.device_profile.specs.Printer.{Printer, first_panel}
 use Rattle.streams.specs.declared.error.Error.{Error}
 use Rattle.streams.specs.declared.error.Error.TheVariants.{Memory, Write, NoProfile, Items}
-use Rattle.preflight.specs.declared.outcome.Outcome.{Outcome}
-use Rattle.preflight.specs.declared.outcome.Outcome.TheVariants.{Done, Fail as FailsOf}
-use Rattle.preflight.specs.Due.{Rendering, IsDue, WritesFront}
+use Rattle.renderings.specs.declared.outcome.Outcome.{Outcome}
+use Rattle.renderings.specs.declared.outcome.Outcome.TheVariants.{Done, Fail as FailsOf}
+use Rattle.renderings.specs.Due.{Rendering, IsDue, WritesFront}
 use Rattle.streams.specs.Outlet.{OutletState, Adds, AddsFront}
 use Rattle.streams.specs.Pieces.{ByReads}
 use Rattle.streams.specs.Source.{SourceState}

@@ -13,9 +13,9 @@ use crate::lines::line_of;
 use crate::status::Status;
 use crate::texts::ProfileTexts;
 use device_profile::Profile;
-use preflight::{Error, Outlet, Source, Verdict, check_job, write_text};
+use preflight::{Verdict, check_job};
 use std::alloc::Allocator;
-use streams::Latched;
+use streams::{Error, Latched, Outlet, Source, write_text};
 
 /// The command `check`: one line on standard output, by the verdict on the job for the printers
 /// that the words PROFILE name. Each profile is read and judged before the next one, and the job

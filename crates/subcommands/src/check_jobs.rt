@@ -20,8 +20,8 @@ use crate::system_words::system_words;
 use crate::telling::{Format, Telling};
 use crate::texts::ProfileTexts;
 use device_profile::Cause;
-use preflight::{Error, Outlet, write_text};
 use std::alloc::{AllocError, Allocator};
+use streams::{Error, Outlet, write_text};
 
 /// Jobs and printers by the words that name them, and how they are checked.
 #[derive(Clone, Copy)]

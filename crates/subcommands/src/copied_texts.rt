@@ -6,11 +6,10 @@ ghost use Rattle.subcommands.specs.CopiedTexts.{AreNotePrinters};
 use crate::texts::ProfileTexts;
 use device_profile::{Profile, printer_name};
 use notes::MOST_ITEMS;
-use preflight::Error;
 use std::alloc::{AllocError, Allocator};
 use std::io;
 use std::marker::Model;
-use streams::{FileId, Given};
+use streams::{Error, FileId, Given};
 
 /// Texts under the words that name them, of each of which a copy is kept.
 #[derive(Drop)]

@@ -7,7 +7,7 @@ ghost use Rattle.subcommands.specs.Explanations.{complaint, end_of_explain, expl
 use crate::explanations::EXPLANATIONS;
 use crate::status::{Status, write_pieces};
 use itoa::Buffer;
-use preflight::{Error, Outlet, write_text};
+use streams::{Error, Outlet, write_text};
 
 /// The command `explain`: on standard output what the faults, findings and notes mean that have
 /// this number or name, or what all mean. A code that none has is a usage error, of which standard

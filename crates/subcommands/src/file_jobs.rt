@@ -4,12 +4,11 @@ ghost use Rattle.subcommands.specs.FileJobs.{state_of_job};
 
 use crate::ended::{Ended, JobEnd};
 use crate::jobs::Jobs;
-use preflight::Source;
 use std::io;
 use std::io::{Input, Read};
 use std::marker::Model;
 use std::rt::Files;
-use streams::{FileSource, Given, Latched};
+use streams::{FileSource, Given, Latched, Source};
 
 /// The jobs at paths, and standard input under the name `-`.
 #[derive(Drop)]

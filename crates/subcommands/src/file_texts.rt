@@ -5,12 +5,11 @@ ghost use Rattle.subcommands.specs.Texts.{IsErrorOfReading, IsTextBy, sample_nam
 
 use crate::texts::{ProfileTexts, read_text_from};
 use device_profile::Sample;
-use preflight::Error;
 use std::alloc::Allocator;
 use std::io;
 use std::marker::Model;
 use std::rt::Files;
-use streams::{FileId, FileSource, Given, Latched, Open, Source};
+use streams::{Error, FileId, FileSource, Given, Latched, Open, Source};
 
 /// The built-in samples under `@A` to `@D`, and the files under their paths.
 #[derive(Drop)]

@@ -7,8 +7,8 @@ ghost use Rattle.subcommands.specs.Status.{is_err_at_read, refusal_of};
 use crate::status::Status;
 use crate::texts::ProfileTexts;
 use device_profile::{Profile, ProfileFault};
-use preflight::Error;
 use std::alloc::Allocator;
+use streams::Error;
 
 /// The profiles that words name, in their order. Each is read and judged before the next one.
 ///

@@ -7,10 +7,10 @@ use crate::refusals::push_unread;
 use crate::status::{Status, Trouble};
 use crate::system_words::system_words;
 use crate::texts::ProfileTexts;
-use preflight::{Error, Outlet, write_text};
 use std::alloc::{AllocError, Allocator};
 use std::io;
 use std::path::Path;
+use streams::{Error, Outlet, write_text};
 
 /// A text has at most so many bytes.
 const MOST_BYTES: usize = 65_536;

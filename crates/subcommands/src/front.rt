@@ -5,8 +5,8 @@ ghost use Rattle.streams.specs.Errors.{is_err_of_read};
 ghost use Rattle.streams.specs.Pieces.{ByReads};
 ghost use Rattle.subcommands.specs.Texts.{IsErrorOfReading};
 
-use preflight::{Error, Source};
 use std::alloc::Allocator;
+use streams::{Error, Source};
 
 /// So many bytes are asked for in one read.
 const PIECE: usize = 4096;

@@ -13,9 +13,10 @@ use crate::jobs::Jobs;
 use crate::reports::Report;
 use crate::system_words::system_words;
 use crate::telling::{Telling, push_report};
-use preflight::{Error, Judgement, Outlet, Source, Verdict, check_job_within, write_text};
+use preflight::{Judgement, Verdict, check_job_within};
 use std::alloc::{AllocError, Allocator};
 use std::io;
+use streams::{Error, Outlet, Source, write_text};
 
 /// How jobs count for the exit status.
 #[derive(Clone, Copy, Debug, PartialEq, Eq)]

@@ -6,8 +6,9 @@ ghost use Rattle.subcommands.specs.Reports.{number_told, verdict_of};
 use crate::reports::Report;
 use crate::status::error_words;
 use line_words::{push_escaped, push_named, push_reason};
-use preflight::{Error, Verdict};
+use preflight::Verdict;
 use std::alloc::{AllocError, Allocator};
+use streams::Error;
 
 /// Appends the line of a job: what came of it, the printer that this is about, the number and the
 /// name of what is wrong, the job's name, and what the system says of a read that failed.

@@ -11,8 +11,10 @@ use crate::lines::line_of;
 use crate::status::Status;
 use crate::texts::ProfileTexts;
 use notes::{MOST_ITEMS, NoteLine, notes_of};
-use preflight::{Error, Outcome, Outlet, Source, Verdict, write_text};
+use preflight::Verdict;
+use renderings::Outcome;
 use std::alloc::{AllocError, Allocator};
+use streams::{Error, Outlet, Source, write_text};
 
 /// The command `notes`: what the job leaves to the printer that the word PROFILE names, from its
 /// first panel, on standard output, where macros may carry out `MOST_ITEMS` items. The profile is

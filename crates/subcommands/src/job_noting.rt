@@ -18,9 +18,11 @@ use crate::note_reports::NoteReport;
 use crate::telling::Telling;
 use device_profile::Profile;
 use notes::notes_of;
-use preflight::{Error, Judgement, Outcome, Outlet, Source, Verdict, write_text};
+use preflight::{Judgement, Verdict};
+use renderings::Outcome;
 use std::alloc::Allocator;
 use std::io;
+use streams::{Error, Outlet, Source, write_text};
 
 /// The printer that notes are told for: the first of these, where the job passes.
 pub fn note_printer<A: Allocator>(

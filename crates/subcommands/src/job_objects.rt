@@ -20,8 +20,9 @@ use crate::command_words::push_command_words;
 use crate::json_object::Object;
 use crate::reports::Report;
 use line_words::{bare_name, push_field_words};
-use preflight::{Culprit, Error, Verdict};
+use preflight::{Culprit, Verdict};
 use std::alloc::{AllocError, Allocator, Global};
+use streams::Error;
 use verdict::Reason;
 
 /// Appends the object of a job: its name, what came of it, for which printer, and this explanation,

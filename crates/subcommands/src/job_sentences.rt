@@ -8,8 +8,9 @@ use crate::job_lines::push_shown_name;
 use crate::reports::Report;
 use crate::status::error_words;
 use line_words::{push_named, push_reason, short_reason};
-use preflight::{Culprit, Error, Verdict};
+use preflight::{Culprit, Verdict};
 use std::alloc::{AllocError, Allocator};
+use streams::Error;
 use verdict::Reason;
 
 /// Appends the sentence of a job: its name, what came of it, and for which printer.

@@ -1,10 +1,10 @@
 //! A text that is kept in memory.
 ghost use Rattle.std.specs.Prelude.{◌≡◌, [], false};
 
-use preflight::Outlet;
 use std::alloc::Allocator;
 use std::io;
 use std::marker::Model;
+use streams::Outlet;
 
 /// An outlet into memory, of which the text can be had.
 #[derive(Drop)]

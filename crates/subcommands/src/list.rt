@@ -1,12 +1,13 @@
 //! The command `list`.
 ghost use Rattle.std.specs.Prelude.{IsFalse};
-ghost use Rattle.preflight.specs.Due.{list_rendering};
+ghost use Rattle.renderings.specs.Due.{list_rendering};
 ghost use Rattle.subcommands.specs.JobTexts.{EndsBy, LeavesText};
 
 use crate::render::render;
 use crate::status::Status;
-use preflight::{Listing, Outlet, Source};
+use renderings::Listing;
 use std::alloc::Allocator;
+use streams::{Outlet, Source};
 
 /// The command `list`: a line on standard output for each item of the job, its place and its
 /// spelling, and a last one for a fault of the bytes.

@@ -3,8 +3,7 @@ ghost use Rattle.std.specs.Prelude.{◌≡◌, ◌⊎◌, IfErr, IsFalse, IsSome
 ghost use Rattle.subcommands.specs.Status.{is_err_at_read, is_err_at_write, is_overwriting, IsEndOfOpening};
 
 use crate::status::{Input, Status};
-use preflight::Error;
-use streams::{Create, FileId, Open};
+use streams::{Create, Error, FileId, Open};
 
 /// Opens JOB and creates OUT, unless OUT is JOB or the file that the profile came from, if from
 /// one.

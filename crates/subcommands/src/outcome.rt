@@ -6,8 +6,10 @@ ghost use Rattle.subcommands.specs.Status.{is_stop_of_read, is_stop_of_write, Is
 
 use crate::lines::line_of;
 use crate::status::Status;
-use preflight::{Error, Outcome, Outlet, Verdict, write_text};
+use preflight::Verdict;
+use renderings::Outcome;
 use std::alloc::Allocator;
+use streams::{Error, Outlet, write_text};
 
 /// How the program ends by the work on a text: by what stopped it, or by its outcome, for which the
 /// line of a failure is written.

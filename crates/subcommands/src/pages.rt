@@ -6,8 +6,9 @@ use crate::fleet::read_profile;
 use crate::outcome::end_by;
 use crate::status::Status;
 use crate::texts::ProfileTexts;
-use preflight::{Outlet, Source, pages_of};
+use renderings::pages_of;
 use std::alloc::Allocator;
+use streams::{Outlet, Source};
 
 /// The command `pages`: the pages of the job on standard output, from the first panel of the
 /// printer that the word PROFILE names. The profile is read and judged before the job is read.

@@ -10,9 +10,9 @@ use crate::outcome::end_by;
 use crate::status::Status;
 use crate::texts::ProfileTexts;
 use device_profile::Profile;
-use preflight::{Error, pin_job, write_text};
+use renderings::pin_job;
 use std::alloc::Allocator;
-use streams::{Create, Open, Outlet};
+use streams::{Create, Error, Open, Outlet, write_text};
 
 /// The command `pin`: the items of the job in OUT, pinned to the panel of the printer that is
 /// chosen, and for a fault of the bytes or an item that cannot be pinned its line on standard

@@ -1,13 +1,13 @@
 //! The command `plain`.
 ghost use Rattle.std.specs.Prelude.{◌≡◌, ◌||◌, IsFalse, IsSome, IsTrue};
-ghost use Rattle.preflight.specs.Due.{plain_rendering};
+ghost use Rattle.renderings.specs.Due.{plain_rendering};
 ghost use Rattle.subcommands.specs.JobTexts.{CreatesOnceOpen, EndsBy, LeavesOut};
 ghost use Rattle.subcommands.specs.Status.{is_overwriting};
 
 use crate::opening::open_and_create;
 use crate::outcome::end_by;
 use crate::status::Status;
-use preflight::plain_job;
+use renderings::plain_job;
 use std::alloc::Allocator;
 use streams::{Create, Open, Outlet};
 

@@ -9,9 +9,9 @@ use crate::status::{Status, Trouble, cause_name};
 use crate::system_words::system_words;
 use device_profile::Cause;
 use line_words::push_named;
-use preflight::{Error, Outlet, write_text};
 use std::alloc::{AllocError, Allocator};
 use std::io;
+use streams::{Error, Outlet, write_text};
 
 /// Appends that the profile of this number and word is refused at a line of its text.
 pub fn push_refused_profile<A: Allocator>(

@@ -4,8 +4,9 @@ ghost use Rattle.pcl_items.specs.declared.item.Mode.TheVariants.{Pcl};
 ghost use Rattle.subcommands.specs.JobTexts.{EndsBy, LeavesText};
 
 use crate::status::Status;
-use preflight::{Outcome, Outlet, Renderer, Source, render_job};
+use renderings::{Outcome, Renderer, render_job};
 use std::alloc::Allocator;
+use streams::{Outlet, Source};
 
 /// A command that writes on standard output what this renderer makes of the job.
 pub fn render<S: Source, R: Renderer, O: Outlet, A: Allocator + Copy>(

@@ -3,9 +3,10 @@ ghost use Rattle.std.specs.Prelude.{◌≡◌, ◌≤◌, ◌-◌, [], get_or};
 ghost use Rattle.subcommands.specs.Reports.{culprit_of, number_told, verdict_of};
 
 use crate::groups::PrinterGroup;
-use preflight::{Culprit, Error, Judgement, Verdict};
+use preflight::{Culprit, Judgement, Verdict};
 use std::alloc::Allocator;
 use std::marker::Model;
+use streams::Error;
 
 /// What came of a job for some printers.
 #[derive(Drop)]

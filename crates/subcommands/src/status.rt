@@ -9,8 +9,8 @@ ghost use Rattle.subcommands.specs.declared.status.Status.TheVariants.{Stopped};
 use crate::choices::Choice;
 use device_profile::Cause;
 use itoa::Buffer;
-use preflight::{Error, Outlet, write_text};
 use std::alloc::AllocFailed;
+use streams::{Error, Outlet, write_text};
 
 /// What the program reads.
 #[derive(Clone, Copy, Debug, PartialEq, Eq)]

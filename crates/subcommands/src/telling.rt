@@ -8,8 +8,9 @@ use crate::job_lines::push_job_line;
 use crate::job_objects::push_job_object;
 use crate::job_sentences::push_job_sentence;
 use crate::reports::Report;
-use preflight::{Error, Verdict};
+use preflight::Verdict;
 use std::alloc::{AllocError, Allocator, Global};
+use streams::Error;
 
 /// The form of what is told of a job.
 #[derive(Clone, Copy)]

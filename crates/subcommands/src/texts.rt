@@ -4,10 +4,9 @@ ghost use Rattle.streams.specs.Errors.{is_err_of_read};
 ghost use Rattle.subcommands.specs.Texts.{IsErrorOfReading, IsTextBy, text_read};
 
 use crate::front::read_front;
-use preflight::Error;
 use std::alloc::Allocator;
 use std::io;
-use streams::{FileId, Source};
+use streams::{Error, FileId, Source};
 
 /// So many bytes of a text are read at most: one more than a text may have, which tells that it
 /// has too many.

@@ -3,11 +3,11 @@
 use command_line::{Form, ManyWords, Request, read_words};
 use device_profile::Field;
 use job_picture::Selection;
-use preflight::Watched;
 use printer_models::PanelLists;
 use std::alloc::{AllocError, Global};
 use std::process::Abort;
 use std::test::Fail;
+use streams::Latched as Watched;
 use subcommands::{Choice, Input, Status};
 
 /// How words are answered.

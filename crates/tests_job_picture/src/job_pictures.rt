@@ -9,13 +9,15 @@ use page_env::Finding;
 use page_env::Finding::OffPage;
 use pcl_items::LexCause::{NotInProfile, Truncated};
 use pcl_items::{LexCause, Name};
-use preflight::{Error, Outcome, Reason, Source, Watched};
+use renderings::Outcome;
 use std::alloc::{AllocError, Global};
 use std::process::Abort;
 use std::test::Fail;
+use streams::{Error, Latched as Watched, Source};
 use testing_failures::{CutSource, FailingOutlet};
 use testing_printers::Printer::{A, B};
 use testing_printers::{Printer, profile_of};
+use verdict::Reason;
 
 /// How a job ends.
 #[derive(Clone, Copy)]

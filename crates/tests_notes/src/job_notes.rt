@@ -8,13 +8,15 @@ use page_env::Finding;
 use page_env::Finding::{BadValue, DefinitionOpen, OffPage, StackEmpty};
 use pcl_items::LexCause;
 use pcl_items::LexCause::{EndInFrame, Pjl, Truncated};
-use preflight::{Outcome, Reason, Source, Watched};
+use renderings::Outcome;
 use std::alloc::{AllocError, Global};
 use std::process::Abort;
 use std::test::Fail;
+use streams::{Latched as Watched, Source};
 use testing_failures::{CutSource, FailingOutlet, FailingSource};
 use testing_printers::Printer::{A, B};
 use testing_printers::{Printer, profile_of, text_of_one_page, with_line};
+use verdict::Reason;
 
 /// How a job ends.
 #[derive(Clone, Copy)]

@@ -3,7 +3,8 @@
 use crate::texts::Ending::Done;
 use crate::texts::{Text, check_text, write_text_of};
 use device_profile::Profile;
-use preflight::{Error, Outcome, Watched};
+use preflight::{Error, Watched};
+use renderings::Outcome;
 use std::alloc::Global;
 use std::process::Abort;
 use std::test::Fail;

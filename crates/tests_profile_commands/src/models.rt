@@ -1,12 +1,13 @@
 //! The commands `profile list` and `profile new`.
 
-use preflight::{Error, Outlet, Watched};
+use preflight::{Error, Watched};
 use printer_models::PanelLists;
 use profile_commands::list::profile_list;
 use profile_commands::new::profile_new;
 use std::alloc::Global;
 use std::process::Abort;
 use std::test::Fail;
+use streams::Outlet;
 use subcommands::{Status, tell};
 use testing_failures::{FailingOutlet, Refusing};
 

@@ -2,7 +2,7 @@
 ghost use Rattle.std.specs.Prelude.{◌≡◌, false, IsFalse};
 
 use device_profile::{Profile, Sample};
-use preflight::{Error, Outlet, Verdict, Watched, check_job};
+use preflight::{Error, Verdict, Watched, check_job};
 use profile_commands::from_pjl::profile_from_pjl;
 use profile_commands::lint::profile_lint;
 use profile_commands::sheet::profile_sheet;
@@ -10,7 +10,7 @@ use profile_commands::show::profile_show;
 use std::alloc::Allocator;
 use std::process::Abort;
 use std::test::Fail;
-use streams::Create;
+use streams::{Create, Outlet};
 use subcommands::{Status, tell};
 use testing_failures::{FailingOutlet, FailingSource, Refusing};
 use testing_files::{File, KeptTexts, Named};

@@ -2,10 +2,11 @@
 ghost use Rattle.std.specs.Prelude.{◌≡◌, false, IsFalse};
 
 use device_profile::Sample;
-use preflight::{Outlet, Source};
+use preflight::Source;
 use std::alloc::Global;
 use std::process::Abort;
 use std::test::Fail;
+use streams::Outlet;
 use subcommands::check::check;
 use subcommands::{Status, tell};
 use testing_failures::{FailingOutlet, FailingSource};

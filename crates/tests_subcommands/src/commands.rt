@@ -2,10 +2,10 @@
 ghost use Rattle.std.specs.Prelude.{◌≡◌, false, IsFalse};
 
 use device_profile::{Field, Sample};
-use preflight::{Error, Outlet, Source, Watched};
+use preflight::{Error, Source, Watched};
 use std::alloc::{Allocator, Global};
 use std::process::Abort;
-use streams::{Create, FileOutlet, FileSource, Open};
+use streams::{Create, FileOutlet, FileSource, Open, Outlet};
 use subcommands::check::check;
 use subcommands::job_notes::tell_notes;
 use subcommands::list::list;

@@ -1,10 +1,11 @@
 //! Texts that name the printers of a fleet.
 ghost use Rattle.std.specs.Prelude.{◌≡◌, false, IsFalse};
 
-use preflight::{Error, Outlet, Watched};
+use preflight::{Error, Watched};
 use std::alloc::Allocator;
 use std::process::Abort;
 use std::test::Fail;
+use streams::Outlet;
 use subcommands::fleet_file::read_fleet_file;
 use subcommands::{Status, Trouble, tell};
 use testing_failures::Refusing;

@@ -3,10 +3,11 @@
 use device_profile::{Cause as ProfileCause, Field};
 use page_env::Finding;
 use pcl_items::{Group, LexCause, Name};
-use preflight::{Error, Outlet, Verdict, Watched};
+use preflight::{Error, Verdict, Watched};
 use std::alloc::{AllocError, Global};
 use std::process::Abort;
 use std::test::Fail;
+use streams::Outlet;
 use subcommands::{Input, Status, line_of, tell};
 use verdict::Reason;
 

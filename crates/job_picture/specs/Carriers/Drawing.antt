@@ -8,7 +8,7 @@ use Rattle.page_machine.specs.Machine.{item_of, end_of}
 use Rattle.page_machine.specs.MachineState.{MachineState}
 use Rattle.page_machine.specs.Run.{Peaks, Run, just, after, Ending, Done, Halts}
 use Rattle.streams.specs.declared.error.Error.{Error}
-use Rattle.preflight.specs.Carriers.PageRendering.{any_panel}
+use Rattle.renderings.specs.Carriers.PageRendering.{any_panel}
 use Rattle.streams.specs.Writing.{Puts}
 use Rattle.streams.specs.Outlet.{OutletState, AddsFront}
 use Rattle.job_picture.specs.declared.drawing.PictureText.{PictureText}

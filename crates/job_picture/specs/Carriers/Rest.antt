@@ -3,8 +3,8 @@ use Rattle.std.specs.Prelude.{ℕ, Bool, List, ◌++◌}
 use Rattle.pcl_items.specs.Reading.{Reading}
 use Rattle.page_env.specs.Settings.{settings_at, state_at}
 use Rattle.page_machine.specs.MachineState.{MachineState}
-use Rattle.preflight.specs.Carriers.PageRendering.{any_panel}
-use Rattle.preflight.specs.Due.{Rendering}
+use Rattle.renderings.specs.Carriers.PageRendering.{any_panel}
+use Rattle.renderings.specs.Due.{Rendering}
 use Rattle.job_picture.specs.declared.progress.Progress.{Progress}
 use Rattle.job_picture.specs.declared.selection.Selection.{Selection}
 use Rattle.job_picture.specs.JobPicture.{Drawing, fault_behind, reading_drawing, started_behind, then_draws}

@@ -3,9 +3,9 @@ use Rattle.pcl_items.specs.Items.{view}
 use Rattle.page_env.specs.Settings.{state_at}
 use Rattle.page_machine.specs.Machine.{CarriesOn, item_of}
 use Rattle.page_machine.specs.Run.{Done, Halts}
-use Rattle.preflight.specs.Carriers.PageRendering.{any_panel}
+use Rattle.renderings.specs.Carriers.PageRendering.{any_panel}
 use Rattle.streams.specs.Errors.{is_write}
-use Rattle.preflight.proofs.Renderings.{same_places}
+use Rattle.renderings.proofs.Renderings.{same_places}
 use Rattle.job_picture.specs.Carriers.Drawing.{Draws, DrawsFront, RefusesPart, TakesPart}
 use Rattle.job_picture.proofs.Led.{led_all, draws_all, draws_whole, draws_refused}
 use Rattle.job_picture.proofs.drawing.step_on.Goals as goal

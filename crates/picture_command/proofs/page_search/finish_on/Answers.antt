@@ -3,7 +3,7 @@ use Rattle.page_env.specs.Settings.{state_at}
 use Rattle.page_machine.specs.Machine.{CarriesOn, end_of}
 use Rattle.page_machine.specs.Run.{Done, Halts}
 use Rattle.sinks.specs.Counts.{counted}
-use Rattle.preflight.specs.Carriers.PageRendering.{any_panel}
+use Rattle.renderings.specs.Carriers.PageRendering.{any_panel}
 use Rattle.picture_command.proofs.Searches.{has_run}
 use Rattle.picture_command.proofs.page_search.finish_on.Goals as goal
 

@@ -1,7 +1,7 @@
 use Rattle.std.proofs.Common.{◌||◌, ◌∙◌, ap, sym, subst}
 use Rattle.std.proofs.Math.Bool.{or-false}
 use Rattle.device_profile.specs.Printer.{first_panel}
-use Rattle.preflight.specs.Due.{Renders, pages_rendering}
+use Rattle.renderings.specs.Due.{Renders, pages_rendering}
 use Rattle.subcommands.specs.Fleet.{IsEndOfProfile}
 use Rattle.subcommands.specs.JobTexts.{IsNamed}
 use Rattle.subcommands.specs.Status.{is_err_at_read}

@@ -1,7 +1,7 @@
 use Rattle.std.proofs.Common.{◌≡◌, ◌||◌, ◌∙◌, false, refl, ap, sym, subst, true≢false}
 use Rattle.std.proofs.Math.Bool.{or-false}
 use Rattle.streams.specs.Outlet.{OutletState}
-use Rattle.preflight.specs.Pins.{pinned_rendering}
+use Rattle.renderings.specs.Pins.{pinned_rendering}
 use Rattle.streams.specs.Source.{SourceState}
 use Rattle.subcommands.specs.JobTexts.{IsNamed, TellsOfPin}
 use Rattle.subcommands.specs.Status.{is_err_at_read, is_err_at_write, is_overwriting, is_refusal, IsEndOfOpening}

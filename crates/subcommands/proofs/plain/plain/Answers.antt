@@ -1,6 +1,6 @@
 use Rattle.std.proofs.Common.{◌||◌, ◌∙◌, ap, sym, subst}
 use Rattle.std.proofs.Math.Bool.{or-false}
-use Rattle.preflight.specs.Due.{plain_rendering}
+use Rattle.renderings.specs.Due.{plain_rendering}
 use Rattle.streams.specs.Outlet.{OutletState}
 use Rattle.streams.specs.Source.{SourceState}
 use Rattle.subcommands.specs.Status.{is_err_at_read, is_err_at_write, IsEndOfOpening}

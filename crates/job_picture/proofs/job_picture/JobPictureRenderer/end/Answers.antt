@@ -3,8 +3,8 @@ use Rattle.pcl_items.specs.Reading.{Whole}
 use Rattle.device_profile.specs.Printer.{Printer}
 use Rattle.page_env.specs.declared.page.Page.{Page}
 use Rattle.page_env.specs.Settings.{state_at}
-use Rattle.preflight.specs.Carriers.PageRendering.{any_panel}
-use Rattle.preflight.proofs.Renderings.{end_none}
+use Rattle.renderings.specs.Carriers.PageRendering.{any_panel}
+use Rattle.renderings.proofs.Renderings.{end_none}
 use Rattle.job_picture.specs.Carriers.Rest.{drawn_from}
 use Rattle.job_picture.specs.Sheet.{sheet_of, spot_of}
 use Rattle.job_picture.proofs.Tellings.{end_stops, end_ends, end_goes_on, end_fails, end_cuts}

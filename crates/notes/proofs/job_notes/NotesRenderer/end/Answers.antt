@@ -2,7 +2,7 @@ use Rattle.std.proofs.Common.{[], ◌≡◌, ◌∙◌, ap, sym, subst, true, Er
 use Rattle.pcl_items.specs.Reading.{Whole}
 use Rattle.page_env.specs.Settings.{state_at}
 use Rattle.page_machine.specs.Machine.{CarriesOn, end_of}
-use Rattle.preflight.specs.Carriers.Rendering.{Ended}
+use Rattle.renderings.specs.Carriers.Rendering.{Ended}
 use Rattle.notes.specs.Carriers.Rest.{notes_from}
 use Rattle.notes.proofs.Rests.{refuses, takes, tells_end, tells_end_finding}
 use Rattle.notes.proofs.job_notes.NotesRenderer.end.Goals as goal

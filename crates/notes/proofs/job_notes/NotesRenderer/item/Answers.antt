@@ -2,9 +2,9 @@ use Rattle.std.proofs.Common.{◌≡◌, ◌∙◌, ap, sym, subst, refl, false,
 use Rattle.pcl_items.specs.Items.{at, view}
 use Rattle.page_machine.specs.Machine.{CarriesOn, item_of}
 use Rattle.streams.specs.declared.error.Error.TheVariants.{Memory}
-use Rattle.preflight.specs.declared.outcome.Outcome.TheVariants.{Fail}
+use Rattle.renderings.specs.declared.outcome.Outcome.TheVariants.{Fail}
 use Rattle.verdict.specs.declared.reason.Reason.TheVariants.{Finding as FindingOfRun}
-use Rattle.preflight.specs.Carriers.Rendering.{Ended, StartsWith}
+use Rattle.renderings.specs.Carriers.Rendering.{Ended, StartsWith}
 use Rattle.notes.specs.Notes.{long_run, noted_outcome}
 use Rattle.notes.specs.Carriers.Rest.{WritesNotes, notes_from}
 use Rattle.notes.proofs.Rests.{none_written, refuses, takes, tells_finding, tells_item}

@@ -1,6 +1,6 @@
 use Rattle.std.proofs.Common.{◌≡◌, refl, []}
 use Rattle.pcl_items.specs.Reading.{Whole}
-use Rattle.preflight.proofs.Renderings.{end_none}
+use Rattle.renderings.proofs.Renderings.{end_none}
 use Rattle.picture_command.specs.Carriers.{search_from}
 use Rattle.picture_command.proofs.Endings.{end_ends, end_fails, end_goes_on}
 use Rattle.picture_command.proofs.page_search.PageSearchRenderer.end.Goals as goal

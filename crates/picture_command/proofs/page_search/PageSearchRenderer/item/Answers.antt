@@ -1,6 +1,6 @@
 use Rattle.std.proofs.Common.{refl, Ok}
 use Rattle.pcl_items.specs.Items.{at, view}
-use Rattle.preflight.proofs.Renderings.{item_none}
+use Rattle.renderings.proofs.Renderings.{item_none}
 use Rattle.picture_command.specs.Carriers.{search_from}
 use Rattle.picture_command.proofs.Endings.{item_ends, item_fails, item_goes_on}
 use Rattle.picture_command.proofs.page_search.PageSearchRenderer.item.Goals as goal

@@ -1,5 +1,0 @@
-use Rattle.preflight.proofs.AtTheEnd.{pass_is_ended}
-use Rattle.preflight.proofs.laws.pass_is_at_the_end.Goals as goal
-
-pub returns : goal.returns
-returns c = pass_is_ended c.one_reading.ensures

@@ -1,5 +1,0 @@
-use Rattle.preflight.proofs.SameRuns.{plain_is_set}
-use Rattle.preflight.proofs.laws.plain_runs_are_set.Goals as goal
-
-pub returns : goal.returns
-returns c = plain_is_set c.unset_is_read.ensures

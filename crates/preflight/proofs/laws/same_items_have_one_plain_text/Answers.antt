@@ -1,5 +1,0 @@
-use Rattle.preflight.proofs.ReadAgain.{one_plain_text}
-use Rattle.preflight.proofs.laws.same_items_have_one_plain_text.Goals as goal
-
-pub returns : goal.returns
-returns c = λ a b same. one_plain_text a b same

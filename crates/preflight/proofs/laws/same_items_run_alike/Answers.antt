@@ -1,5 +1,0 @@
-use Rattle.preflight.proofs.SameRuns.{run_alike}
-use Rattle.preflight.proofs.laws.same_items_run_alike.Goals as goal
-
-pub returns : goal.returns
-returns c = run_alike

@@ -1,0 +1,7 @@
+pub mod Renderings
+mod PageRenderings
+pub mod PinSettings
+mod PinRenderings
+mod TextExamples
+mod WrittenTexts
+mod Rendered

@@ -1,0 +1,5 @@
+pub mod Texts
+pub mod PageTexts
+pub mod Due
+pub mod Pins
+pub mod Carriers
