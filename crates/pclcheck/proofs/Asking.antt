@@ -4,7 +4,7 @@ use Rattle.std.specs.Prelude.{IsSomeAnd}
 use Rattle.std.proofs.lemmas.List.{length-map, nil_from_length}
 use Rattle.streams.specs.Outlet.{OutletState}
 use Rattle.subcommands.specs.FleetFile.{TellsOfNames}
-use Rattle.subcommands.specs.declared.status.Status.{Status}
+use Rattle.requests.specs.declared.status.Status.{Status}
 use Rattle.pclcheck.specs.Checks.{LacksSome}
 
 -- the names of jobs cannot be read

@@ -7,10 +7,10 @@ use Rattle.subcommands.specs.Check.{IsRightFor, Leaves, texts_by}
 use Rattle.subcommands.specs.CheckMany.{Asked, LeavesMany}
 use Rattle.subcommands.specs.Fleet.{RefusesBy}
 use Rattle.subcommands.specs.JobChecks.{work}
-use Rattle.subcommands.specs.Status.{is_stop_of_write}
+use Rattle.requests.specs.Status.{is_stop_of_write}
 use Rattle.subcommands.specs.Texts.{text_named}
-use Rattle.subcommands.specs.declared.status.Status.{Status}
-use Rattle.command_line.specs.declared.words.Request.{Request}
+use Rattle.requests.specs.declared.status.Status.{Status}
+use Rattle.requests.specs.declared.request.Request.{Request}
 use Rattle.pclcheck.specs.Checks.{LeavesAsked}
 use Rattle.pclcheck.specs.Inputs.{reads_input_again}
 use Rattle.pclcheck.specs.Requests.{Fulfils, LeavesCheck}

@@ -6,7 +6,7 @@ use Rattle.streams.specs.Files.{no_outlet, no_source}
 use Rattle.streams.specs.Outlet.{OutletState}
 use Rattle.streams.specs.Source.{SourceState}
 use Rattle.subcommands.specs.Texts.{text_named}
-use Rattle.subcommands.specs.declared.status.Status.{Status}
+use Rattle.requests.specs.declared.status.Status.{Status}
 use Rattle.pclcheck.specs.ProfileRequests.{LeavesAnsweredFor, LeavesSheetFor}
 
 pub sheet_left : (word : List ℕ) (given texts : List (List ℕ)) (failed : Bool) (status : Status) (out file err err' : OutletState)

@@ -1,9 +1,9 @@
 -- What is left of a check of many jobs. Nothing is known of files beforehand, so this is said for some texts of them.
 use Rattle.std.specs.Prelude.{◌≡◌, ◌⊎◌, ◌≤◌, ◌++◌, ℕ, Bool, List, [], length, map, option_map, Contains, IsFalse, Option, None, Some, if◌then◌else◌}
 use Rattle.std.specs.declared.alloc.Global.{Global}
-use Rattle.command_line.specs.declared.many_words.Form.{Form}
-use Rattle.command_line.specs.declared.many_words.Form.TheVariants.{Line as LineForm, Words as WordsForm, Json as JsonForm}
-use Rattle.command_line.specs.declared.many_words.ManyWords.{ManyWords}
+use Rattle.requests.specs.declared.many_words.Form.{Form}
+use Rattle.requests.specs.declared.many_words.Form.TheVariants.{Line as LineForm, Words as WordsForm, Json as JsonForm}
+use Rattle.requests.specs.declared.many_words.ManyWords.{ManyWords}
 use Rattle.streams.specs.declared.error.Error.TheVariants.{Memory}
 use Rattle.streams.specs.Files.{no_source}
 use Rattle.streams.specs.Outlet.{OutletState}
@@ -13,8 +13,8 @@ use Rattle.subcommands.specs.FleetFile.{TellsOfFleet, TellsOfNames}
 use Rattle.subcommands.specs.JobChecks.{work}
 use Rattle.subcommands.specs.Telling.{HowTold}
 use Rattle.subcommands.specs.Texts.{text_named}
-use Rattle.subcommands.specs.declared.status.Status.{Status}
-use Rattle.subcommands.specs.declared.status.Status.TheVariants.{Stopped}
+use Rattle.requests.specs.declared.status.Status.{Status}
+use Rattle.requests.specs.declared.status.Status.TheVariants.{Stopped}
 use Rattle.subcommands.specs.declared.telling.Format.{Format}
 use Rattle.subcommands.specs.declared.telling.Format.TheVariants.{Line, Words, Json}
 use Rattle.pclcheck.specs.Inputs.{RefusesInput, reads_input_again}

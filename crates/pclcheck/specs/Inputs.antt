@@ -6,8 +6,8 @@ use Rattle.streams.specs.Writing.{Writes}
 use Rattle.streams.specs.Outlet.{OutletState}
 use Rattle.subcommands.specs.CheckMany.{Asked}
 use Rattle.subcommands.specs.JobSentences.{named_first}
-use Rattle.subcommands.specs.declared.status.Status.{Status}
-use Rattle.subcommands.specs.declared.status.Status.TheVariants.{Usage, Stopped}
+use Rattle.requests.specs.declared.status.Status.{Status}
+use Rattle.requests.specs.declared.status.Status.TheVariants.{Usage, Stopped}
 
 -- a word for standard input
 abbrev pub is_input : List ℕ → Bool

@@ -5,16 +5,16 @@ use Rattle.preflight.specs.Due.{Rendering, plain_rendering}
 use Rattle.streams.specs.Files.{no_outlet, no_source}
 use Rattle.streams.specs.Outlet.{OutletState}
 use Rattle.streams.specs.Source.{SourceState}
-use Rattle.job_picture.specs.declared.selection.Selection.{Selection}
+use Rattle.requests.specs.declared.selection.Selection.{Selection}
 use Rattle.subcommands.specs.Fleet.{RefusesRead}
 use Rattle.subcommands.specs.JobNotes.{LeavesNotes}
 use Rattle.subcommands.specs.JobTexts.{EndsBy, IsNamed, LeavesOut, LeavesPages, LeavesPinned, LeavesText, RefusesOne, TellsOfPin}
 use Rattle.picture_command.specs.Picture.{HasNoEnd, IsNamedBy, LeavesPicture}
-use Rattle.subcommands.specs.Status.{is_stop_of_read, is_stop_of_write}
+use Rattle.requests.specs.Status.{is_stop_of_read, is_stop_of_write}
 use Rattle.subcommands.specs.Texts.{text_named}
-use Rattle.subcommands.specs.declared.choices.Choice.{Choice}
-use Rattle.subcommands.specs.declared.status.Status.{Status}
-use Rattle.subcommands.specs.declared.status.Status.TheVariants.{Stopped}
+use Rattle.requests.specs.declared.choices.Choice.{Choice}
+use Rattle.requests.specs.declared.status.Status.{Status}
+use Rattle.requests.specs.declared.status.Status.TheVariants.{Stopped}
 use Rattle.pclcheck.specs.Inputs.{RefusesPipe, read_to_draw}
 
 -- what is due of a job by this rendering

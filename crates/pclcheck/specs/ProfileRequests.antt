@@ -9,7 +9,7 @@ use Rattle.streams.specs.Files.{no_outlet, no_source}
 use Rattle.streams.specs.Outlet.{OutletState}
 use Rattle.streams.specs.Source.{SourceState}
 use Rattle.subcommands.specs.Texts.{text_named}
-use Rattle.subcommands.specs.declared.status.Status.{Status}
+use Rattle.requests.specs.declared.status.Status.{Status}
 
 -- what is found in the texts that these words name
 pub record LeavesLintFor (words : List (List ℕ)) (status : Status) (out out' err err' : OutletState) : Type 0 where

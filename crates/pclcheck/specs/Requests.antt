@@ -1,7 +1,7 @@
 -- What the program leaves of what it is asked for. Nothing is known of its files beforehand, so this is said for some reads of them.
 use Rattle.std.specs.Prelude.{◌≡◌, List, [], ℕ, Option, map, option_map, IsFalse, IsTrue}
-use Rattle.command_line.specs.declared.words.Request.{Request}
-use Rattle.command_line.specs.declared.words.Request.TheVariants as requests
+use Rattle.requests.specs.declared.request.Request.{Request}
+use Rattle.requests.specs.declared.request.Request.TheVariants as requests
 use Rattle.preflight.specs.Due.{list_rendering}
 use Rattle.streams.specs.Files.{no_source}
 use Rattle.streams.specs.Outlet.{OutletState}
@@ -12,9 +12,9 @@ use Rattle.subcommands.specs.Explanations.{complaint, end_of_explain, explanatio
 use Rattle.subcommands.specs.Fleet.{RefusesBy}
 use Rattle.profile_commands.specs.ProfileList.{LeavesModels}
 use Rattle.profile_commands.specs.ProfileNew.{LeavesProfile}
-use Rattle.subcommands.specs.Status.{is_stop_of_write}
+use Rattle.requests.specs.Status.{is_stop_of_write}
 use Rattle.subcommands.specs.Texts.{text_named}
-use Rattle.subcommands.specs.declared.status.Status.{Status}
+use Rattle.requests.specs.declared.status.Status.{Status}
 use Rattle.pclcheck.specs.Checks.{LeavesChecks, asking}
 use Rattle.pclcheck.specs.JobRequests.{LeavesNotesFor, LeavesPagesFor, LeavesPictureFor, LeavesPin, LeavesPlain, LeavesRendered}
 use Rattle.pclcheck.specs.ProfileRequests.{LeavesAnsweredFor, LeavesLintFor, LeavesSheetFor, LeavesShownFor}

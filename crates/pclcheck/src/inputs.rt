@@ -5,11 +5,12 @@ ghost use Rattle.pclcheck.specs.Inputs.{RefusesInput, RefusesPipe, is_apart, is_
 ghost use Rattle.subcommands.specs.Asked.{asked_for};
 
 use preflight::{Error, Outlet, write_text};
+use requests::Status;
 use std::alloc::{AllocError, Global};
 use std::fs;
 use std::rt::Files;
 use subcommands::check_jobs::ManyJobs;
-use subcommands::{Status, push_named_first};
+use subcommands::push_named_first;
 
 const INPUT_AGAIN: &[u8] =
     b"error: standard input can be read only once; --each reads a job for each printer, \

@@ -5,9 +5,10 @@ ghost use Rattle.preflight.specs.Due.{list_rendering};
 
 use crate::inputs::{is_pipe, refuse_pipe};
 use picture_command::PictureAsked;
+use requests::{PanelSetting, Status};
 use std::rt::Files;
 use streams::{FileOutlet, FileSource, Outlet};
-use subcommands::{FileTexts, PanelSetting, Status};
+use subcommands::FileTexts;
 
 /// Lists the items of the job at a path.
 pub fn list<R: Files + AllocGlobal, O: Outlet>(rt: &R, job: &str, stdout: &mut O) -> Status

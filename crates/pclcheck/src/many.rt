@@ -1,6 +1,6 @@
 //! A check of many jobs by request, on files.
 ghost use Rattle.std.specs.Prelude.{◌≡◌, ◌≢◌, ◌≤◌, ◌++◌, [], List, ℕ, Contains, IfErr, IfOk, IsFalse, OnOk, length, map, option_map, string_bytes};
-ghost use Rattle.command_line.specs.ManyWords.{NamesPrinter};
+ghost use Rattle.requests.specs.ManyWords.{NamesPrinter};
 ghost use Rattle.pclcheck.specs.Checks.{IsTelling, LeavesAsked, LeavesChecks, asking};
 ghost use Rattle.pclcheck.specs.Names.{names_in};
 ghost use Rattle.subcommands.specs.Asked.{asked_for, told_by};
@@ -8,14 +8,14 @@ ghost use Rattle.subcommands.specs.FleetFile.{TellsOfFleet};
 
 use crate::inputs::refuse_inputs;
 use crate::names::{push_names, read_names};
-use command_line::{Form, ManyWords};
 use preflight::{Error, Outlet};
+use requests::{Form, ManyWords, Status};
 use std::alloc::{AllocError, Global};
 use std::io::Input;
 use std::rt::Files;
 use subcommands::check_jobs::{ManyJobs, check_many};
 use subcommands::fleet_file::read_fleet_file;
-use subcommands::{EXPLANATIONS, FileJobs, FileTexts, Format, Status, Telling};
+use subcommands::{EXPLANATIONS, FileJobs, FileTexts, Format, Telling};
 
 /// Checks many jobs. The fleets are read first, then the names of the jobs, then the profiles.
 pub fn check_asked<R: Files + Input + AllocGlobal, O: Outlet, E: Outlet>(

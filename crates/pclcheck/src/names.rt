@@ -4,10 +4,11 @@ ghost use Rattle.pclcheck.specs.Names.{LeadsTo, names_in};
 ghost use Rattle.subcommands.specs.FleetFile.{TellsOfNames};
 
 use preflight::{Error, Outlet, Source};
+use requests::Status;
 use std::alloc::AllocError;
 use std::io::Input;
 use std::rt::Files;
-use subcommands::{FileJobs, Jobs, Status, read_front, tell_unread};
+use subcommands::{FileJobs, Jobs, read_front, tell_unread};
 
 /// The bytes of the file of names at a path, or none where there is no such file.
 pub fn read_names<R: Files + Input + AllocGlobal, E: Outlet>(

@@ -6,10 +6,11 @@ use profile_commands::from_pjl::profile_from_pjl;
 use profile_commands::lint::profile_lint;
 use profile_commands::sheet::profile_sheet;
 use profile_commands::show::profile_show;
+use requests::Status;
 use std::io::Input;
 use std::rt::Files;
 use streams::{FileOutlet, Outlet};
-use subcommands::{FileJobs, FileTexts, Jobs, Status};
+use subcommands::{FileJobs, FileTexts, Jobs};
 
 /// Tells what is found in profiles.
 pub fn lint<R: Files + AllocGlobal, O: Outlet, E: Outlet>(

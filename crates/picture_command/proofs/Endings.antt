@@ -22,8 +22,8 @@ use Rattle.preflight.specs.Carriers.PageRendering.{any_panel}
 use Rattle.preflight.specs.Carriers.Rendering.{EndsWith, Ended, RendersItem, StartsWith}
 use Rattle.streams.specs.Writing.{Puts}
 use Rattle.preflight.proofs.Renderings.{Puts-kept, Puts-none, end_none}
-use Rattle.job_picture.specs.declared.selection.Selection.{Selection}
-use Rattle.job_picture.specs.Selection.{is_behind}
+use Rattle.requests.specs.declared.selection.Selection.{Selection}
+use Rattle.requests.specs.Selection.{is_behind}
 use Rattle.subcommands.specs.Groups.{Groups}
 use Rattle.subcommands.specs.JobSentences.{at_command}
 use Rattle.picture_command.specs.Carriers.{Finishes, HasRun, Keeps, Steps, search_from}

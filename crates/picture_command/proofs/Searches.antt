@@ -20,8 +20,8 @@ use Rattle.preflight.specs.declared.outcome.Outcome.TheVariants.{Done as AllDone
 use Rattle.preflight.specs.Due.{Rendering}
 use Rattle.preflight.specs.Carriers.PageRendering.{any_panel}
 use Rattle.preflight.specs.Carriers.Rendering.{RestGoesOn, EndsWith, StartsWith}
-use Rattle.job_picture.specs.declared.selection.Selection.{Selection}
-use Rattle.job_picture.specs.Selection.{is_behind}
+use Rattle.requests.specs.declared.selection.Selection.{Selection}
+use Rattle.requests.specs.Selection.{is_behind}
 use Rattle.subcommands.specs.Groups.{Groups}
 use Rattle.picture_command.specs.Carriers.{HasRun, rest_search, search_from}
 use Rattle.picture_command.specs.PageSearch.{Searched, at_item, behind_ending, failure_by, found_at_end, found_at_failure, nothing_told, open_page, reading_search, run_search, search_rendering}

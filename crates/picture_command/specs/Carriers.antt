@@ -13,7 +13,7 @@ use Rattle.streams.specs.declared.error.Error.{Error}
 use Rattle.preflight.specs.declared.outcome.Outcome.{Outcome}
 use Rattle.preflight.specs.Carriers.PageRendering.{any_panel}
 use Rattle.preflight.specs.Due.{Rendering}
-use Rattle.job_picture.specs.declared.selection.Selection.{Selection}
+use Rattle.requests.specs.declared.selection.Selection.{Selection}
 use Rattle.subcommands.specs.Groups.{Groups}
 use Rattle.picture_command.specs.PageSearch.{Searched, reading_search}
 

@@ -10,10 +10,10 @@ use Rattle.profile_commands.specs.WholeText.{WritesWhole}
 use Rattle.streams.specs.Outlet.{OutletState}
 use Rattle.subcommands.specs.CheckMany.{TellsLine}
 use Rattle.subcommands.specs.Lines.{verdict_line}
-use Rattle.subcommands.specs.declared.status.Input.TheVariants.{Profile as TheProfile}
-use Rattle.subcommands.specs.declared.status.Status.{Status}
-use Rattle.subcommands.specs.declared.status.Status.TheVariants.{Overwrites, Stopped}
-use Rattle.subcommands.specs.declared.status.Trouble.TheVariants.{Refused}
+use Rattle.requests.specs.declared.status.Input.TheVariants.{Profile as TheProfile}
+use Rattle.requests.specs.declared.status.Status.{Status}
+use Rattle.requests.specs.declared.status.Status.TheVariants.{Overwrites, Stopped}
+use Rattle.requests.specs.declared.status.Trouble.TheVariants.{Refused}
 use Rattle.test_sheet.specs.Sheet.{sheet}
 use Rattle.verdict.specs.declared.reason.Reason.{Reason}
 use Rattle.verdict.specs.declared.verdict.Verdict.{Verdict}

@@ -17,9 +17,10 @@ use pjl_answer::{AnswerError, Answered, MOST_BYTES, answered_text, asked_papers}
 use preflight::{Error, Outlet, Source, write_text};
 use printer_models::{NewError, PanelLists, Paper, new_text};
 use profile_lint::faults_text;
+use requests::{Status, Trouble};
 use shown_bytes::push_shown;
 use std::alloc::{AllocError, Allocator};
-use subcommands::{ProfileTexts, Status, Trouble, read_front, tell_unread};
+use subcommands::{ProfileTexts, read_front, tell_unread};
 
 /// The command `profile from-pjl`: on standard output the text of a profile with what a printer's
 /// answer tells, and the warnings on standard error. The answer, which a word names, is read first;

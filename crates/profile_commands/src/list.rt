@@ -5,8 +5,8 @@ ghost use Rattle.profile_commands.specs.ProfileList.{LeavesModels};
 use crate::whole_text::write_whole;
 use preflight::{Error, Outlet};
 use printer_models::models_text;
+use requests::Status;
 use std::alloc::Allocator;
-use subcommands::Status;
 
 /// The command `profile list`: on standard output a line for each model of which the program can
 /// make the text of a profile.

@@ -8,8 +8,9 @@ ghost use Rattle.subcommands.specs.CheckMany.{TellsLine};
 use device_profile::{Profile, ProfileFault};
 use preflight::{Error, Outlet, write_text};
 use profile_lint::faults_text;
+use requests::{Status, Trouble};
 use std::alloc::Allocator;
-use subcommands::{ProfileTexts, Status, Trouble, tell_unread};
+use subcommands::{ProfileTexts, tell_unread};
 
 /// The text that a word names. Where there is none, standard error is told why.
 pub fn read_text<T: ProfileTexts, E: Outlet, A: Allocator + Copy>(

@@ -7,8 +7,9 @@ use crate::whole_text::write_whole;
 use device_profile::printer_name;
 use preflight::{Error, Outlet};
 use profile_show::profile_text;
+use requests::Status;
 use std::alloc::Allocator;
-use subcommands::{ProfileTexts, Status};
+use subcommands::ProfileTexts;
 
 /// The command `profile show`: on standard output what a profile says, for people. Of a profile
 /// that cannot be read or that is refused standard error tells.

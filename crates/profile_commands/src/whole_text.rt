@@ -3,7 +3,7 @@ ghost use Rattle.std.specs.Prelude.{IsFalse};
 ghost use Rattle.profile_commands.specs.WholeText.{WritesWhole};
 
 use preflight::{Error, Outlet, write_text};
-use subcommands::Status;
+use requests::Status;
 
 /// Writes a text, and answers how a command ends that has nothing more to do.
 pub fn write_whole<O: Outlet>(stdout: &mut O, text: &[u8]) -> Status

@@ -8,7 +8,7 @@ use Rattle.device_profile.specs.declared.field.Field.{Field}
 use Rattle.device_profile.specs.declared.field.Field.TheVariants.{Size, Orientation, Vmi, Font, Copies, Sides, Tray, LineTerm}
 use Rattle.device_profile.specs.declared.panel.Panel.{Panel}
 use Rattle.device_profile.specs.Printer.{Printer, IsAllowed, values_of}
-use Rattle.subcommands.specs.declared.choices.Choice.{Choice}
+use Rattle.requests.specs.declared.choices.Choice.{Choice}
 use Rattle.subcommands.specs.Choices.{chosen_from, is_choice, with_choice, with_value}
 
 -- one more choice that the panel may have

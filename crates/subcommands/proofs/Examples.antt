@@ -16,7 +16,7 @@ use Rattle.preflight.specs.declared.culprit.Culprit.TheVariants.{Simple}
 use Rattle.preflight.specs.declared.culprit.Judgement.{Judgement}
 use Rattle.streams.specs.declared.error.Error.{Error}
 use Rattle.streams.specs.declared.error.Error.TheVariants.{Read}
-use Rattle.subcommands.specs.declared.status.Status.TheVariants.{Profile}
+use Rattle.requests.specs.declared.status.Status.TheVariants.{Profile}
 use Rattle.device_profile.specs.declared.sample.Sample.TheVariants.{C}
 use Rattle.subcommands.specs.Fleet.{RefusesFirst}
 use Rattle.subcommands.specs.JobLines.{job_line}

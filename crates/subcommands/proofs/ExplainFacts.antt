@@ -6,7 +6,7 @@ use Rattle.std.specs.List.{concat, list_any}
 use Rattle.streams.proofs.OutletFacts.{Adds-none}
 use Rattle.streams.specs.Outlet.{OutletState, Adds, AddsFront}
 use Rattle.streams.specs.Writing.{Writes}
-use Rattle.subcommands.proofs.Writing.{pieces_more, Writes-cut}
+use Rattle.requests.proofs.Writing.{pieces_more, Writes-cut}
 use Rattle.subcommands.specs.Explanations.{complaint, explained_by, is_about}
 
 -- what is written of one text: all of it, or nothing

@@ -30,8 +30,8 @@ use Rattle.device_profile.specs.Text.{printer_of_text}
 use Rattle.subcommands.specs.Fleet.{DescribeBy, DescribeFleet, IsEndOfFleet}
 use Rattle.subcommands.proofs.FleetFacts.{DescribeBy-more}
 use Rattle.subcommands.specs.Texts.{IsErrorOfReading}
-use Rattle.subcommands.specs.declared.status.Status.{Status}
-use Rattle.subcommands.specs.declared.status.Status.TheVariants.{Stopped}
+use Rattle.requests.specs.declared.status.Status.{Status}
+use Rattle.requests.specs.declared.status.Status.TheVariants.{Stopped}
 use Rattle.subcommands.specs.Reports.{verdict_of}
 use Rattle.subcommands.specs.Telling.{HowTold, report_text}
 

@@ -42,7 +42,7 @@ use Rattle.subcommands.specs.CommandWords.{code_words, command_words}
 use Rattle.subcommands.specs.JobLines.{name_byte, shown_name}
 use Rattle.subcommands.specs.JobSentences.{AreNumbers, IsCulpritOfNumbers, IsOfParts, IsSentence, IsVerdictOfNumbers, IsWithin, answer_phrase, at_command, cause_phrase, error_phrase, first_of, for_printer, job_sentence, last_of, named_first, reason_phrase, subject, verdict_phrase}
 use Rattle.subcommands.specs.Reports.{Reported, culprit_of, number_told, verdict_of}
-use Rattle.subcommands.specs.Status.{error_words}
+use Rattle.requests.specs.Status.{error_words}
 use Rattle.subcommands.proofs.Within.{code_part, decimal_part, escaped_part, first_part, flat_part, joined, last_part, literal, name_at, name_part, named_part, nothing, one_of, shown_part, wider}
 
 -- ---- the item that a job fails at

@@ -18,5 +18,4 @@ mod Limiting
 pub mod TextFacts
 mod Walks
 mod Within
-mod Writing
 mod JudgedFirst

@@ -7,9 +7,9 @@ use Rattle.device_profile.specs.declared.fault.ProfileFault.{ProfileFault}
 use Rattle.device_profile.specs.declared.fault.ProfileFault.TheVariants.{Fault, Memory}
 use Rattle.device_profile.specs.Printer.{Printer}
 use Rattle.device_profile.specs.Text.{printer_of_text, IsErrorOfText}
-use Rattle.subcommands.specs.declared.status.Status.{Status}
+use Rattle.requests.specs.declared.status.Status.{Status}
 use Rattle.subcommands.specs.Fleet.{IsEndOfProfile}
-use Rattle.subcommands.specs.Status.{refusal_of}
+use Rattle.requests.specs.Status.{refusal_of}
 
 long_refused : (text : List ℕ) → 65_536 < length text → printer_of_text text ≡ Err (Fault 0 Range)
 unfolding printer_of_text

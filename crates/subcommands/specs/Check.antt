@@ -10,8 +10,8 @@ use Rattle.streams.specs.Outlet.{OutletState, Adds, AddsFront, Stays}
 use Rattle.streams.specs.Pieces.{ByReads}
 use Rattle.streams.specs.Source.{SourceState}
 use Rattle.preflight.specs.Verdict.{IsExact, KeepsPromise, NeedsEachRead}
-use Rattle.subcommands.specs.declared.status.Status.{Status}
-use Rattle.subcommands.specs.declared.status.Status.TheVariants.{Pass, Fail, Help, Usage, Overwrites, NotAllowed, Told, Profile, Stopped}
+use Rattle.requests.specs.declared.status.Status.{Status}
+use Rattle.requests.specs.declared.status.Status.TheVariants.{Pass, Fail, Help, Usage, Overwrites, NotAllowed, Told, Profile, Stopped}
 use Rattle.subcommands.specs.Fleet.{DescribeBy, DescribeFleet}
 use Rattle.subcommands.specs.Lines.{verdict_line}
 

@@ -10,10 +10,10 @@ use Rattle.streams.specs.Outlet.{OutletState}
 use Rattle.streams.specs.Source.{SourceState}
 use Rattle.subcommands.specs.declared.job_checks.Ending.{Ending}
 use Rattle.subcommands.specs.declared.job_checks.Ending.TheVariants.{Passes, Fails, HasNoVerdict}
-use Rattle.subcommands.specs.declared.status.Status.{Status}
-use Rattle.subcommands.specs.declared.status.Status.TheVariants.{Pass, Fail, Profile, Stopped, Told}
-use Rattle.subcommands.specs.declared.status.Trouble.{Trouble}
-use Rattle.subcommands.specs.declared.status.Trouble.TheVariants.{Refused, NoVerdict}
+use Rattle.requests.specs.declared.status.Status.{Status}
+use Rattle.requests.specs.declared.status.Status.TheVariants.{Pass, Fail, Profile, Stopped, Told}
+use Rattle.requests.specs.declared.status.Trouble.{Trouble}
+use Rattle.requests.specs.declared.status.Trouble.TheVariants.{Refused, NoVerdict}
 use Rattle.subcommands.specs.Fleet.{DescribeFleet, IsEndOfFleet}
 use Rattle.subcommands.specs.Groups.{Groups}
 use Rattle.subcommands.specs.JobChecks.{IsErrorOfLine, TellsAll, TellsFront, Work, due_of}

@@ -6,7 +6,7 @@ use Rattle.device_profile.specs.declared.field.Field.TheVariants.{Size, Orientat
 use Rattle.device_profile.specs.declared.panel.Panel.{Panel}
 use Rattle.device_profile.specs.Printer.{Printer, values_of, first_panel}
 use Rattle.line_words.specs.Figures.{number_word, value_word}
-use Rattle.subcommands.specs.declared.choices.Choice.{Choice}
+use Rattle.requests.specs.declared.choices.Choice.{Choice}
 
 -- the panel has this value in this field
 abbrev pub with_value : Panel → ℕ → Field → Panel
@@ -37,17 +37,6 @@ abbrev pub chosen_panel : Printer → List Choice → Result Panel Choice
 chosen_panel printer choices = chosen_from printer (first_panel printer) choices
 
 -- ---- the line of a choice that the panel may not have
-
--- a field's key in a profile's text
-abbrev pub field_word : Field → List ℕ
-field_word Size = codes "size"
-field_word Orientation = codes "orientation"
-field_word Vmi = codes "vmi"
-field_word Font = codes "font"
-field_word Copies = codes "copies"
-field_word Sides = codes "sides"
-field_word Tray = codes "tray"
-field_word LineTerm = codes "lineterm"
 
 -- a value behind a space, as a profile's text has it
 abbrev pub choice_word : Field → ℕ → List ℕ

@@ -8,8 +8,8 @@ use Rattle.line_words.specs.Reason.{bare_name}
 use Rattle.streams.specs.declared.error.Error.TheVariants.{Write}
 use Rattle.notes.specs.declared.note.Note.{Note}
 use Rattle.notes.specs.Note.{note_name, note_number}
-use Rattle.subcommands.specs.declared.status.Status.{Status}
-use Rattle.subcommands.specs.declared.status.Status.TheVariants.{Help, Usage, Stopped}
+use Rattle.requests.specs.declared.status.Status.{Status}
+use Rattle.requests.specs.declared.status.Status.TheVariants.{Help, Usage, Stopped}
 
 -- an explanation begins with its number, a space, its name and the end of the line
 abbrev pub number_of : List ℕ → List ℕ

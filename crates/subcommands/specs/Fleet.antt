@@ -5,8 +5,8 @@ use Rattle.device_profile.specs.Text.{printer_of_text}
 use Rattle.device_profile.specs.declared.fault.Cause.{Cause}
 use Rattle.device_profile.specs.declared.fault.ProfileFault.TheVariants.{Fault}
 use Rattle.streams.specs.declared.error.Error.TheVariants.{Memory, Read}
-use Rattle.subcommands.specs.declared.status.Status.{Status}
-use Rattle.subcommands.specs.declared.status.Status.TheVariants.{Profile, Stopped}
+use Rattle.requests.specs.declared.status.Status.{Status}
+use Rattle.requests.specs.declared.status.Status.TheVariants.{Profile, Stopped}
 
 -- the text describes the printer; one that is not known may be any printer's
 abbrev pub Describes : Option (List ℕ) → Printer → Type 0

@@ -3,8 +3,8 @@ use Rattle.std.specs.Prelude.{◌≡◌, ◌≢◌, ℕ, List, [], ◌++◌, cod
 use Rattle.streams.specs.Outlet.{OutletState}
 use Rattle.subcommands.specs.declared.fleet_file.FleetFault.{FleetFault}
 use Rattle.subcommands.specs.declared.fleet_file.FleetFault.TheVariants.{Unreadable, TooLong, NoText, NoPrinter}
-use Rattle.subcommands.specs.declared.status.Status.{Status}
-use Rattle.subcommands.specs.declared.status.Trouble.TheVariants.{Refused, NoVerdict}
+use Rattle.requests.specs.declared.status.Status.{Status}
+use Rattle.requests.specs.declared.status.Trouble.TheVariants.{Refused, NoVerdict}
 use Rattle.subcommands.specs.CheckMany.{TellsLine}
 use Rattle.subcommands.specs.JobLines.{shown_name}
 use Rattle.subcommands.specs.Refusals.{unread}

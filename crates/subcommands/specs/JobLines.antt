@@ -6,7 +6,7 @@ use Rattle.verdict.specs.declared.verdict.Verdict.TheVariants.{Pass, Fail}
 use Rattle.line_words.specs.Figures.{escaped_byte, named}
 use Rattle.line_words.specs.Reason.{reason_words}
 use Rattle.subcommands.specs.Reports.{Reported, number_told, verdict_of}
-use Rattle.subcommands.specs.Status.{error_words}
+use Rattle.requests.specs.Status.{error_words}
 
 -- a byte of a name as `list` writes it, but a blank is one
 abbrev pub name_byte : ℕ → List ℕ

@@ -12,8 +12,8 @@ use Rattle.streams.specs.Source.{SourceState}
 use Rattle.verdict.specs.declared.verdict.Verdict.TheVariants.{Fail as FailOf}
 use Rattle.notes.specs.Note.{Told as ToldNote, note_line}
 use Rattle.notes.specs.Notes.{notes_rendering, with_most_items}
-use Rattle.subcommands.specs.declared.status.Status.{Status}
-use Rattle.subcommands.specs.declared.status.Status.TheVariants.{Pass, Fail, Profile, Stopped}
+use Rattle.requests.specs.declared.status.Status.{Status}
+use Rattle.requests.specs.declared.status.Status.TheVariants.{Pass, Fail, Profile, Stopped}
 use Rattle.subcommands.specs.JobTexts.{IsUntouched}
 use Rattle.subcommands.specs.Lines.{verdict_line}
 

@@ -14,7 +14,7 @@ use Rattle.verdict.specs.declared.verdict.Verdict.TheVariants.{Pass, Fail}
 use Rattle.subcommands.specs.CommandWords.{command_words}
 use Rattle.subcommands.specs.JobLines.{shown_name}
 use Rattle.subcommands.specs.Reports.{Reported, culprit_of, number_told, verdict_of}
-use Rattle.subcommands.specs.Status.{error_words}
+use Rattle.requests.specs.Status.{error_words}
 
 -- ---- what is long, in part
 

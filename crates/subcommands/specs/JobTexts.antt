@@ -13,13 +13,13 @@ use Rattle.preflight.specs.Pins.{pinned_rendering}
 use Rattle.streams.specs.Outlet.{OutletState, Adds, AddsFront, Stays}
 use Rattle.streams.specs.Source.{SourceState}
 use Rattle.streams.specs.Writing.{Writes}
-use Rattle.subcommands.specs.declared.status.Status.{Status}
-use Rattle.subcommands.specs.declared.status.Status.TheVariants.{Pass, Fail, Help, Usage, Overwrites, NotAllowed, Told, Profile, Stopped}
-use Rattle.subcommands.specs.declared.choices.Choice.{Choice}
+use Rattle.requests.specs.declared.status.Status.{Status}
+use Rattle.requests.specs.declared.status.Status.TheVariants.{Pass, Fail, Help, Usage, Overwrites, NotAllowed, Told, Profile, Stopped}
+use Rattle.requests.specs.declared.choices.Choice.{Choice}
 use Rattle.subcommands.specs.Choices.{choice_line, chosen_panel}
 use Rattle.subcommands.specs.Fleet.{DescribeBy, Describes, IsRefused, RefusesRead}
 use Rattle.subcommands.specs.Lines.{verdict_line}
-use Rattle.subcommands.specs.Status.{is_answer, is_refusal, is_stop_of_read, is_stop_of_write}
+use Rattle.requests.specs.Status.{is_answer, is_refusal, is_stop_of_read, is_stop_of_write}
 
 -- How a command on a text of a job ends by this status. What it leaves, by what was read of the job,
 -- has this fact; it stopped at a read or at a write just where one failed, and for its turns after

@@ -23,6 +23,5 @@ pub mod Lines
 pub mod NoteReports
 pub mod Refusals
 pub mod Reports
-pub mod Status
 pub mod Telling
 pub mod Texts

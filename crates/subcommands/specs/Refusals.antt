@@ -5,7 +5,7 @@ use Rattle.device_profile.specs.declared.fault.Cause.TheVariants.{Version, Unkno
 use Rattle.line_words.specs.Figures.{named}
 use Rattle.subcommands.specs.JobLines.{cause_part, shown_name}
 use Rattle.subcommands.specs.JobSentences.{cause_phrase, named_first}
-use Rattle.subcommands.specs.Status.{cause_name}
+use Rattle.requests.specs.Status.{cause_name}
 
 -- a line of a text, and what is wrong there
 abbrev pub fault_part : ℕ → Cause → List ℕ

@@ -6,14 +6,14 @@ ghost use Rattle.streams.specs.Outlet.{Adds};
 ghost use Rattle.subcommands.specs.Check.{texts_by, IsRight, IsRightFor, Leaves, LeavesAtStop};
 ghost use Rattle.subcommands.specs.Fleet.{RefusesBy, RefusesFirst, ReachesSome};
 ghost use Rattle.subcommands.specs.Lines.{verdict_line};
-ghost use Rattle.subcommands.specs.Status.{is_refusal, is_stop_of_read, is_stop_of_write};
+ghost use Rattle.requests.specs.Status.{is_refusal, is_stop_of_read, is_stop_of_write};
 
 use crate::fleet::read_fleet;
 use crate::lines::line_of;
-use crate::status::Status;
 use crate::texts::ProfileTexts;
 use device_profile::Profile;
 use preflight::{Error, Outlet, Source, Verdict, check_job, write_text};
+use requests::Status;
 use std::alloc::Allocator;
 use streams::Latched;
 

@@ -15,12 +15,12 @@ use crate::refusals::{
     push_refused_profile, push_refused_profile_sentence, push_unread_profile,
     push_unread_profile_sentence,
 };
-use crate::status::{Status, Trouble};
 use crate::system_words::system_words;
 use crate::telling::{Format, Telling};
 use crate::texts::ProfileTexts;
 use device_profile::Cause;
 use preflight::{Error, Outlet, write_text};
+use requests::{Status, Trouble};
 use std::alloc::{AllocError, Allocator};
 
 /// Jobs and printers by the words that name them, and how they are checked.

@@ -5,9 +5,9 @@ ghost use Rattle.streams.specs.Writing.{Writes};
 ghost use Rattle.subcommands.specs.Explanations.{complaint, end_of_explain, explained_by, explanation, is_about, is_asked, is_unknown};
 
 use crate::explanations::EXPLANATIONS;
-use crate::status::{Status, write_pieces};
 use itoa::Buffer;
 use preflight::{Error, Outlet, write_text};
+use requests::{Status, write_pieces};
 
 /// The command `explain`: on standard output what the faults, findings and notes mean that have
 /// this number or name, or what all mean. A code that none has is a usage error, of which standard

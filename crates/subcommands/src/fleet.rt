@@ -2,12 +2,12 @@
 ghost use Rattle.std.specs.Prelude.{◌≡◌, ◌+◌, ◌<◌, ◌^◌, [], ◌∷◌, map, length, IfSome, IsFalse, MatchResult};
 ghost use Rattle.subcommands.specs.CheckMany.{limited};
 ghost use Rattle.subcommands.specs.Fleet.{DescribeBy, DescribeFleet, Describes, IsEndOfFleet, IsEndOfProfile, RefusesBy, RefusesRead};
-ghost use Rattle.subcommands.specs.Status.{is_err_at_read, refusal_of};
+ghost use Rattle.requests.specs.Status.{is_err_at_read, refusal_of};
 
-use crate::status::Status;
 use crate::texts::ProfileTexts;
 use device_profile::{Profile, ProfileFault};
 use preflight::Error;
+use requests::Status;
 use std::alloc::Allocator;
 
 /// The profiles that words name, in their order. Each is read and judged before the next one.

@@ -4,10 +4,10 @@ ghost use Rattle.subcommands.specs.FleetFile.{AddsSome, TellsOfFleet, refused_fl
 
 use crate::job_lines::push_shown_name;
 use crate::refusals::push_unread;
-use crate::status::{Status, Trouble};
 use crate::system_words::system_words;
 use crate::texts::ProfileTexts;
 use preflight::{Error, Outlet, write_text};
+use requests::{Status, Trouble};
 use std::alloc::{AllocError, Allocator};
 use std::io;
 use std::path::Path;

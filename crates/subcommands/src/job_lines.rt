@@ -4,9 +4,9 @@ ghost use Rattle.subcommands.specs.JobLines.{cause_part, job_line, name_byte, pr
 ghost use Rattle.subcommands.specs.Reports.{number_told, verdict_of};
 
 use crate::reports::Report;
-use crate::status::error_words;
 use line_words::{push_escaped, push_named, push_reason};
 use preflight::{Error, Verdict};
+use requests::error_words;
 use std::alloc::{AllocError, Allocator};
 
 /// Appends the line of a job: what came of it, the printer that this is about, the number and the

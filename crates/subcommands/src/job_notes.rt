@@ -3,15 +3,15 @@ ghost use Rattle.std.specs.Prelude.{◌≡◌, ◌||◌, ◌++◌, IfErr, IfOk, 
 ghost use Rattle.streams.specs.Errors.{is_err_of_read};
 ghost use Rattle.subcommands.specs.JobNotes.{EndsNotes, LeavesNotes, kept_error, outcome_line, status_of_text};
 ghost use Rattle.subcommands.specs.JobTexts.{EndsBy, IsNamed, JudgesFirst};
-ghost use Rattle.subcommands.specs.Status.{is_stop_of_read, is_stop_of_write};
+ghost use Rattle.requests.specs.Status.{is_stop_of_read, is_stop_of_write};
 
 use crate::fleet::read_profile;
 use crate::kept_text::KeptText;
 use crate::lines::line_of;
-use crate::status::Status;
 use crate::texts::ProfileTexts;
 use notes::{MOST_ITEMS, NoteLine, notes_of};
 use preflight::{Error, Outcome, Outlet, Source, Verdict, write_text};
+use requests::Status;
 use std::alloc::{AllocError, Allocator};
 
 /// The command `notes`: what the job leaves to the printer that the word PROFILE names, from its

@@ -6,9 +6,9 @@ ghost use Rattle.subcommands.specs.Reports.{Reported, number_told, verdict_of};
 use crate::command_words::push_command_words;
 use crate::job_lines::push_shown_name;
 use crate::reports::Report;
-use crate::status::error_words;
 use line_words::{push_named, push_reason, short_reason};
 use preflight::{Culprit, Error, Verdict};
+use requests::error_words;
 use std::alloc::{AllocError, Allocator};
 use verdict::Reason;
 

@@ -4,8 +4,8 @@ ghost use Rattle.preflight.specs.Due.{list_rendering};
 ghost use Rattle.subcommands.specs.JobTexts.{EndsBy, LeavesText};
 
 use crate::render::render;
-use crate::status::Status;
 use preflight::{Listing, Outlet, Source};
+use requests::Status;
 use std::alloc::Allocator;
 
 /// The command `list`: a line on standard output for each item of the job, its place and its

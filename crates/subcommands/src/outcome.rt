@@ -2,11 +2,11 @@
 ghost use Rattle.std.specs.Prelude.{◌≡◌, IsErrOf, IsFalse, IfErr, IfOk, OnOk};
 ghost use Rattle.streams.specs.Errors.{is_err_of_read};
 ghost use Rattle.subcommands.specs.JobTexts.{LeavesLine};
-ghost use Rattle.subcommands.specs.Status.{is_stop_of_read, is_stop_of_write, IsEndOfText};
+ghost use Rattle.requests.specs.Status.{is_stop_of_read, is_stop_of_write, IsEndOfText};
 
 use crate::lines::line_of;
-use crate::status::Status;
 use preflight::{Error, Outcome, Outlet, Verdict, write_text};
+use requests::Status;
 use std::alloc::Allocator;
 
 /// How the program ends by the work on a text: by what stopped it, or by its outcome, for which the

@@ -4,9 +4,9 @@ ghost use Rattle.subcommands.specs.JobTexts.{EndsBy, IsNamed, JudgesFirst, Leave
 
 use crate::fleet::read_profile;
 use crate::outcome::end_by;
-use crate::status::Status;
 use crate::texts::ProfileTexts;
 use preflight::{Outlet, Source, pages_of};
+use requests::Status;
 use std::alloc::Allocator;
 
 /// The command `pages`: the pages of the job on standard output, from the first panel of the

@@ -1,16 +1,16 @@
 //! The command `pin`.
 ghost use Rattle.std.specs.Prelude.{◌≡◌, ◌||◌, IsFalse, IsTrue};
 ghost use Rattle.subcommands.specs.JobTexts.{CreatesOnceOpen, EndsBy, IsNamed, JudgesFirst, LeavesPinned, TellsOfChoice, TellsOfPin};
-ghost use Rattle.subcommands.specs.Status.{is_overwriting, is_refused_choice};
+ghost use Rattle.requests.specs.Status.{is_overwriting, is_refused_choice};
 
-use crate::choices::{Choice, PanelSetting, choice_line, chosen_panel};
+use crate::choices::{choice_line, chosen_panel};
 use crate::fleet::read_profile;
 use crate::opening::open_and_create;
 use crate::outcome::end_by;
-use crate::status::Status;
 use crate::texts::ProfileTexts;
 use device_profile::Profile;
 use preflight::{Error, pin_job, write_text};
+use requests::{Choice, PanelSetting, Status};
 use std::alloc::Allocator;
 use streams::{Create, Open, Outlet};
 

@@ -5,11 +5,11 @@ ghost use Rattle.subcommands.specs.FleetFile.{TellsUnread};
 
 use crate::job_lines::{push_cause, push_shown_name};
 use crate::job_sentences::{push_cause_phrase, push_named_first};
-use crate::status::{Status, Trouble, cause_name};
 use crate::system_words::system_words;
 use device_profile::Cause;
 use line_words::push_named;
 use preflight::{Error, Outlet, write_text};
+use requests::{Status, Trouble, cause_name};
 use std::alloc::{AllocError, Allocator};
 use std::io;
 

@@ -3,11 +3,11 @@ ghost use Rattle.std.specs.Prelude.{◌≡◌, false, IsFalse};
 
 use device_profile::Sample;
 use preflight::{Outlet, Source};
+use requests::{Status, tell};
 use std::alloc::Global;
 use std::process::Abort;
 use std::test::Fail;
 use subcommands::check::check;
-use subcommands::{Status, tell};
 use testing_failures::{FailingOutlet, FailingSource};
 use testing_files::{KeptTexts, Named};
 use testing_items::RECTANGLE;

@@ -2,11 +2,11 @@
 ghost use Rattle.std.specs.Prelude.{◌≡◌, false, IsFalse};
 
 use preflight::{Error, Outlet, Watched};
+use requests::{Status, Trouble, tell};
 use std::alloc::Allocator;
 use std::process::Abort;
 use std::test::Fail;
 use subcommands::fleet_file::read_fleet_file;
-use subcommands::{Status, Trouble, tell};
 use testing_failures::Refusing;
 use testing_files::{KeptTexts, Named};
 

@@ -4,10 +4,11 @@ use device_profile::{Cause as ProfileCause, Field};
 use page_env::Finding;
 use pcl_items::{Group, LexCause, Name};
 use preflight::{Error, Outlet, Verdict, Watched};
+use requests::{Input, Status, tell};
 use std::alloc::{AllocError, Global};
 use std::process::Abort;
 use std::test::Fail;
-use subcommands::{Input, Status, line_of, tell};
+use subcommands::line_of;
 use verdict::Reason;
 
 /// What is wrong, and the line of a Fail at byte 24 of printer 1.

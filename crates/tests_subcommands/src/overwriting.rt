@@ -3,15 +3,16 @@
 
 use device_profile::Sample;
 use preflight::Watched;
+use requests::{Input, PanelSetting, Status};
 use std::os::unix::fs::symlink;
 use std::process::Abort;
 use std::rt::{Env, Files};
 use std::test::Fail;
 use std::{env, fs};
 use streams::{FileOutlet, FileSource};
+use subcommands::FileTexts;
 use subcommands::pin::pin;
 use subcommands::plain::plain;
-use subcommands::{FileTexts, Input, PanelSetting, Status};
 
 const JOB: &[u8] = b"\x1bE\x1b&l02A";
 

@@ -6,7 +6,7 @@ use Rattle.subcommands.specs.CheckMany.{limited}
 use Rattle.subcommands.specs.CopiedTexts.{AreNotePrinters}
 use Rattle.subcommands.specs.Fleet.{DescribeBy, DescribeFleet, IsEndOfFleet}
 use Rattle.subcommands.specs.Groups.{Groups}
-use Rattle.subcommands.specs.declared.status.Status.TheVariants.{Stopped}
+use Rattle.requests.specs.declared.status.Status.TheVariants.{Stopped}
 use Rattle.subcommands.proofs.FleetFacts.{DescribeFleet-some}
 use Rattle.subcommands.proofs.JobChecks.{of_texts}
 use Rattle.subcommands.proofs.Limiting.{limited_some}

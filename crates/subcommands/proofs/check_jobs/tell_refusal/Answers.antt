@@ -1,7 +1,7 @@
 use Rattle.std.proofs.Common.{map, subst, sym}
 use Rattle.subcommands.proofs.JobChecks.{error_of_end}
 use Rattle.subcommands.specs.CheckMany.{TellsLine, TellsRefusal, refusal_text}
-use Rattle.subcommands.specs.declared.status.Trouble.TheVariants.{Refused}
+use Rattle.requests.specs.declared.status.Trouble.TheVariants.{Refused}
 use Rattle.subcommands.proofs.check_jobs.tell_refusal.Goals as goal
 
 pub returns-in-Profile : goal.returns-in-Profile

@@ -2,7 +2,7 @@ use Rattle.std.proofs.Common.{◌||◌, ◌∙◌, ap, subst, sym}
 use Rattle.std.proofs.Math.Bool.{or-false}
 use Rattle.subcommands.specs.Fleet.{IsEndOfProfile}
 use Rattle.subcommands.specs.JobTexts.{IsNamed}
-use Rattle.subcommands.specs.Status.{is_err_at_read}
+use Rattle.requests.specs.Status.{is_err_at_read}
 use Rattle.subcommands.proofs.FleetFacts.{no_write_before}
 use Rattle.subcommands.proofs.JobNotes.{never_refused, no_notes, noted_of, notes_left, stop_state}
 use Rattle.subcommands.proofs.JudgedFirst.{judged_first}

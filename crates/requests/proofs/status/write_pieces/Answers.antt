@@ -1,6 +1,6 @@
 use Rattle.std.proofs.Common.{rules}
-use Rattle.subcommands.proofs.Writing.{pieces_more, Writes-cut}
-use Rattle.subcommands.proofs.status.write_pieces.Goals as goal
+use Rattle.requests.proofs.Writing.{pieces_more, Writes-cut}
+use Rattle.requests.proofs.status.write_pieces.Goals as goal
 
 pub returns-in_err-write_text : goal.returns-in_err-write_text
 returns-in_err-write_text g c =

@@ -1,6 +1,6 @@
 use Rattle.std.proofs.Common.{rules}
-use Rattle.subcommands.proofs.Writing.{Writes-refusal}
-use Rattle.subcommands.proofs.status.write_refusal.Goals as goal
+use Rattle.requests.proofs.Writing.{Writes-refusal}
+use Rattle.requests.proofs.status.write_refusal.Goals as goal
 
 pub returns : goal.returns
 returns g c =

@@ -1,7 +1,7 @@
 -- Which pages of a job are drawn.
 use Rattle.std.specs.Prelude.{ℕ, ◌==◌, nat_lt, Bool, true, false}
-use Rattle.job_picture.specs.declared.selection.Selection.{Selection}
-use Rattle.job_picture.specs.declared.selection.Selection.TheVariants.{All, One}
+use Rattle.requests.specs.declared.selection.Selection.{Selection}
+use Rattle.requests.specs.declared.selection.Selection.TheVariants.{All, One}
 
 -- the page of this number is drawn
 abbrev pub is_drawn : Selection → ℕ → Bool

@@ -7,11 +7,11 @@ use Rattle.device_profile.specs.declared.fault.ProfileFault.TheVariants.{Fault, 
 use Rattle.streams.specs.declared.error.Error.{Error}
 use Rattle.streams.specs.declared.error.Error.TheVariants.{Memory, Read, Write, Turns, NoProfile, Items}
 use Rattle.streams.specs.Errors.{is_read, is_write}
-use Rattle.subcommands.specs.declared.status.Status.{Status}
-use Rattle.subcommands.specs.declared.status.Input.{Input}
-use Rattle.subcommands.specs.declared.status.Trouble.TheVariants.{Refused, NoVerdict, Mismatch}
-use Rattle.subcommands.specs.declared.status.Input.TheVariants.{Job, Profile as TheProfile}
-use Rattle.subcommands.specs.declared.status.Status.TheVariants.{Pass, Fail, Help, Usage, Overwrites, NotAllowed, Told, Profile, Stopped}
+use Rattle.requests.specs.declared.status.Status.{Status}
+use Rattle.requests.specs.declared.status.Input.{Input}
+use Rattle.requests.specs.declared.status.Trouble.TheVariants.{Refused, NoVerdict, Mismatch}
+use Rattle.requests.specs.declared.status.Input.TheVariants.{Job, Profile as TheProfile}
+use Rattle.requests.specs.declared.status.Status.TheVariants.{Pass, Fail, Help, Usage, Overwrites, NotAllowed, Told, Profile, Stopped}
 
 -- the number that the system is told
 abbrev pub code_of : Status → ℕ

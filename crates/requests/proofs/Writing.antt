@@ -8,7 +8,7 @@ use Rattle.streams.proofs.OutletFacts.{Adds-trans}
 use Rattle.device_profile.specs.declared.fault.Cause.{Cause}
 use Rattle.streams.specs.Outlet.{OutletState, Adds, AddsFront}
 use Rattle.streams.specs.Writing.{Writes}
-use Rattle.subcommands.specs.Status.{cause_name, refusal_line}
+use Rattle.requests.specs.Status.{cause_name, refusal_line}
 
 -- the texts before a piece, its own and those behind it
 pieces_split : {X : Type 0} (f : X → List ℕ) (xs : List X) (i : ℕ) (d : X) → i < length xs →

@@ -1,6 +1,6 @@
 -- What the words of a check of many jobs name.
 use Rattle.std.specs.Prelude.{◌≢◌, [], ◌++◌}
-use Rattle.command_line.specs.declared.many_words.ManyWords.{ManyWords}
+use Rattle.requests.specs.declared.many_words.ManyWords.{ManyWords}
 
 -- one printer at least, or a text that names some
 abbrev pub NamesPrinter : ManyWords → Type 0

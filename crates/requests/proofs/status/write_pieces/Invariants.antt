@@ -1,7 +1,7 @@
 use Rattle.std.proofs.Common.{IsFalse, map, take}
 use Rattle.std.specs.List.{concat}
 use Rattle.streams.specs.Outlet.{Adds}
-use Rattle.subcommands.proofs.status.write_pieces.Given as goal
+use Rattle.requests.proofs.status.write_pieces.Given as goal
 
 abbrev pub invariant-loop-piece : goal.invariant-loop-piece
 invariant-loop-piece g l =

@@ -3,14 +3,14 @@ ghost use Rattle.std.specs.Prelude.{◌≡◌, IsFalse, IsTrue, map};
 ghost use Rattle.std.specs.List.{concat};
 ghost use Rattle.streams.specs.Writing.{Writes};
 ghost use Rattle.streams.specs.declared.error.Error.TheVariants.{Memory};
-ghost use Rattle.subcommands.specs.Status.{code_of, cause_name, error_line, error_words, overwriting_line, refusal_line, status_line};
-ghost use Rattle.subcommands.specs.declared.status.Status.TheVariants.{Stopped};
+ghost use Rattle.requests.specs.Status.{code_of, cause_name, error_line, error_words, overwriting_line, refusal_line, status_line};
+ghost use Rattle.requests.specs.declared.status.Status.TheVariants.{Stopped};
 
 use crate::choices::Choice;
 use device_profile::Cause;
 use itoa::Buffer;
-use preflight::{Error, Outlet, write_text};
 use std::alloc::AllocFailed;
+use streams::{Error, Outlet, write_text};
 
 /// What the program reads.
 #[derive(Clone, Copy, Debug, PartialEq, Eq)]

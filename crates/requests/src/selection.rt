@@ -11,7 +11,7 @@ pub enum Selection {
 }
 
 impl Selection {
-    ghost use Rattle.job_picture.specs.Selection.{has_patterns, is_behind, is_drawn};
+    ghost use Rattle.requests.specs.Selection.{has_patterns, is_behind, is_drawn};
 
     /// Whether the page of this number is drawn.
     pub fn is_drawn(self, page: u64) -> bool

@@ -1,21 +1,21 @@
 //! What the program does by request, on files.
 ghost use Rattle.std.specs.Prelude.{IsFalse, map};
-ghost use Rattle.command_line.specs.Words.{NamesSome};
+ghost use Rattle.requests.specs.Words.{NamesSome};
 ghost use Rattle.pclcheck.specs.Requests.{Fulfils};
 
 use crate::job_texts::{list, notes, pages, picture, pin, plain};
 use crate::many::check_asked;
 use crate::profiles::{from_pjl, lint, sheet, show};
-use command_line::Request;
 use picture_command::PictureAsked;
 use profile_commands::list::profile_list;
 use profile_commands::new::profile_new;
+use requests::{PanelSetting, Request, Status};
 use std::io::Input;
 use std::rt::Files;
 use streams::{FileSource, Outlet};
 use subcommands::check::check;
 use subcommands::explain::explain;
-use subcommands::{EXPLANATIONS, FileTexts, PanelSetting, Status};
+use subcommands::{EXPLANATIONS, FileTexts};
 
 /// Does what is asked for. Its files are opened by the subcommands, as late as these say.
 pub fn fulfil<R: Files + Input + AllocGlobal, O: Outlet, E: Outlet>(

@@ -2,7 +2,7 @@ use Rattle.std.proofs.Common.{ap, map, refl, subst}
 use Rattle.profile_commands.specs.ProfileNew.{LeavesProfile}
 use Rattle.subcommands.specs.Texts.{text_named}
 use Rattle.pclcheck.proofs.Fulfilling.{asked, check_left}
-use Rattle.pclcheck.proofs.requests.fulfil.Goals as goal
+use Rattle.pclcheck.proofs.by_request.fulfil.Goals as goal
 
 pub returns-in-Check : goal.returns-in-Check
 returns-in-Check g c =
