@@ -3,7 +3,7 @@ use Rattle.std.proofs.Common.{◌≡◌, ◌≢◌, ◌≤◌, ◌+◌, ◌++◌
 use Rattle.std.specs.Prelude.{IsSomeAnd}
 use Rattle.std.proofs.lemmas.List.{length-map, nil_from_length}
 use Rattle.streams.specs.Outlet.{OutletState}
-use Rattle.subcommands.specs.FleetFile.{TellsOfNames}
+use Rattle.job_reports.specs.Refusals.{TellsOfNames}
 use Rattle.requests.specs.declared.status.Status.{Status}
 use Rattle.pclcheck.specs.Checks.{LacksSome}
 

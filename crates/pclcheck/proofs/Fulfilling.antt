@@ -4,11 +4,11 @@ use Rattle.streams.specs.Files.{no_source}
 use Rattle.streams.specs.Outlet.{OutletState}
 use Rattle.streams.specs.Source.{SourceState}
 use Rattle.subcommands.specs.Check.{IsRightFor, Leaves, texts_by}
-use Rattle.subcommands.specs.CheckMany.{Asked, LeavesMany}
-use Rattle.subcommands.specs.Fleet.{RefusesBy}
-use Rattle.subcommands.specs.JobChecks.{work}
+use Rattle.many_jobs.specs.CheckMany.{Asked, LeavesMany}
+use Rattle.named_inputs.specs.Fleet.{RefusesBy}
+use Rattle.many_jobs.specs.JobChecks.{work}
 use Rattle.requests.specs.Status.{is_stop_of_write}
-use Rattle.subcommands.specs.Texts.{text_named}
+use Rattle.named_inputs.specs.Texts.{text_named}
 use Rattle.requests.specs.declared.status.Status.{Status}
 use Rattle.requests.specs.declared.request.Request.{Request}
 use Rattle.pclcheck.specs.Checks.{LeavesAsked}

@@ -5,7 +5,7 @@ use Rattle.profile_commands.specs.ProfileSheet.{LeavesSheet}
 use Rattle.streams.specs.Files.{no_outlet, no_source}
 use Rattle.streams.specs.Outlet.{OutletState}
 use Rattle.streams.specs.Source.{SourceState}
-use Rattle.subcommands.specs.Texts.{text_named}
+use Rattle.named_inputs.specs.Texts.{text_named}
 use Rattle.requests.specs.declared.status.Status.{Status}
 use Rattle.pclcheck.specs.ProfileRequests.{LeavesAnsweredFor, LeavesSheetFor}
 

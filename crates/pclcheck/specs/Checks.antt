@@ -8,15 +8,16 @@ use Rattle.streams.specs.declared.error.Error.TheVariants.{Memory}
 use Rattle.streams.specs.Files.{no_source}
 use Rattle.streams.specs.Outlet.{OutletState}
 use Rattle.streams.specs.Source.{SourceState}
-use Rattle.subcommands.specs.CheckMany.{Asked, LeavesMany}
-use Rattle.subcommands.specs.FleetFile.{TellsOfFleet, TellsOfNames}
-use Rattle.subcommands.specs.JobChecks.{work}
-use Rattle.subcommands.specs.Telling.{HowTold}
-use Rattle.subcommands.specs.Texts.{text_named}
+use Rattle.many_jobs.specs.CheckMany.{Asked, LeavesMany}
+use Rattle.many_jobs.specs.FleetFile.{TellsOfFleet}
+use Rattle.job_reports.specs.Refusals.{TellsOfNames}
+use Rattle.many_jobs.specs.JobChecks.{work}
+use Rattle.many_jobs.specs.Telling.{HowTold}
+use Rattle.named_inputs.specs.Texts.{text_named}
 use Rattle.requests.specs.declared.status.Status.{Status}
 use Rattle.requests.specs.declared.status.Status.TheVariants.{Stopped}
-use Rattle.subcommands.specs.declared.telling.Format.{Format}
-use Rattle.subcommands.specs.declared.telling.Format.TheVariants.{Line, Words, Json}
+use Rattle.many_jobs.specs.declared.telling.Format.{Format}
+use Rattle.many_jobs.specs.declared.telling.Format.TheVariants.{Line, Words, Json}
 use Rattle.pclcheck.specs.Inputs.{RefusesInput, reads_input_again}
 use Rattle.pclcheck.specs.Names.{names_in}
 

@@ -4,8 +4,8 @@ use Rattle.std.specs.Str.{bytes_eq}
 use Rattle.streams.specs.declared.error.Error.TheVariants.{Memory}
 use Rattle.streams.specs.Writing.{Writes}
 use Rattle.streams.specs.Outlet.{OutletState}
-use Rattle.subcommands.specs.CheckMany.{Asked}
-use Rattle.subcommands.specs.JobSentences.{named_first}
+use Rattle.many_jobs.specs.CheckMany.{Asked}
+use Rattle.job_reports.specs.JobSentences.{named_first}
 use Rattle.requests.specs.declared.status.Status.{Status}
 use Rattle.requests.specs.declared.status.Status.TheVariants.{Usage, Stopped}
 

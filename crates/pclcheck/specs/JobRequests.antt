@@ -6,12 +6,13 @@ use Rattle.streams.specs.Files.{no_outlet, no_source}
 use Rattle.streams.specs.Outlet.{OutletState}
 use Rattle.streams.specs.Source.{SourceState}
 use Rattle.requests.specs.declared.selection.Selection.{Selection}
-use Rattle.subcommands.specs.Fleet.{RefusesRead}
+use Rattle.named_inputs.specs.Fleet.{RefusesRead, IsNamed, RefusesOne}
 use Rattle.subcommands.specs.JobNotes.{LeavesNotes}
-use Rattle.subcommands.specs.JobTexts.{EndsBy, IsNamed, LeavesOut, LeavesPages, LeavesPinned, LeavesText, RefusesOne, TellsOfPin}
+use Rattle.subcommands.specs.JobTexts.{EndsBy, LeavesOut, LeavesPages, LeavesPinned, LeavesText}
+use Rattle.named_inputs.specs.Choices.{TellsOfPin}
 use Rattle.picture_command.specs.Picture.{HasNoEnd, IsNamedBy, LeavesPicture}
 use Rattle.requests.specs.Status.{is_stop_of_read, is_stop_of_write}
-use Rattle.subcommands.specs.Texts.{text_named}
+use Rattle.named_inputs.specs.Texts.{text_named}
 use Rattle.requests.specs.declared.choices.Choice.{Choice}
 use Rattle.requests.specs.declared.status.Status.{Status}
 use Rattle.requests.specs.declared.status.Status.TheVariants.{Stopped}

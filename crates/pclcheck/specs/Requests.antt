@@ -8,12 +8,12 @@ use Rattle.streams.specs.Outlet.{OutletState}
 use Rattle.streams.specs.Source.{SourceState}
 use Rattle.subcommands.specs.Check.{IsRightFor, Leaves, texts_by}
 use Rattle.streams.specs.Writing.{Writes}
-use Rattle.subcommands.specs.Explanations.{complaint, end_of_explain, explanation, is_unknown}
-use Rattle.subcommands.specs.Fleet.{RefusesBy}
+use Rattle.meanings.specs.Explanations.{complaint, end_of_explain, explanation, is_unknown}
+use Rattle.named_inputs.specs.Fleet.{RefusesBy}
 use Rattle.profile_commands.specs.ProfileList.{LeavesModels}
 use Rattle.profile_commands.specs.ProfileNew.{LeavesProfile}
 use Rattle.requests.specs.Status.{is_stop_of_write}
-use Rattle.subcommands.specs.Texts.{text_named}
+use Rattle.named_inputs.specs.Texts.{text_named}
 use Rattle.requests.specs.declared.status.Status.{Status}
 use Rattle.pclcheck.specs.Checks.{LeavesChecks, asking}
 use Rattle.pclcheck.specs.JobRequests.{LeavesNotesFor, LeavesPagesFor, LeavesPictureFor, LeavesPin, LeavesPlain, LeavesRendered}

@@ -6,6 +6,9 @@ ghost use Rattle.pclcheck.specs.Requests.{Fulfils};
 use crate::job_texts::{list, notes, pages, picture, pin, plain};
 use crate::many::check_asked;
 use crate::profiles::{from_pjl, lint, sheet, show};
+use meanings::EXPLANATIONS;
+use meanings::explain::explain;
+use named_inputs::FileTexts;
 use picture_command::PictureAsked;
 use profile_commands::list::profile_list;
 use profile_commands::new::profile_new;
@@ -14,8 +17,6 @@ use std::io::Input;
 use std::rt::Files;
 use streams::{FileSource, Outlet};
 use subcommands::check::check;
-use subcommands::explain::explain;
-use subcommands::{EXPLANATIONS, FileTexts};
 
 /// Does what is asked for. Its files are opened by the subcommands, as late as these say.
 pub fn fulfil<R: Files + Input + AllocGlobal, O: Outlet, E: Outlet>(

@@ -2,15 +2,15 @@
 ghost use Rattle.std.specs.Prelude.{◌≡◌, Contains, IfNone, IfSome, IfOk, IsFalse, List, ℕ, map, option_map};
 ghost use Rattle.streams.specs.Writing.{Writes};
 ghost use Rattle.pclcheck.specs.Inputs.{RefusesInput, RefusesPipe, is_apart, is_input, pipe_again, reads_input_again};
-ghost use Rattle.subcommands.specs.Asked.{asked_for};
+ghost use Rattle.many_jobs.specs.Asked.{asked_for};
 
+use job_reports::push_named_first;
+use many_jobs::ManyJobs;
 use preflight::{Error, Outlet, write_text};
 use requests::Status;
 use std::alloc::{AllocError, Global};
 use std::fs;
 use std::rt::Files;
-use subcommands::check_jobs::ManyJobs;
-use subcommands::push_named_first;
 
 const INPUT_AGAIN: &[u8] =
     b"error: standard input can be read only once; --each reads a job for each printer, \

@@ -4,11 +4,11 @@ ghost use Rattle.pclcheck.specs.JobRequests.{LeavesNotesFor, LeavesPagesFor, Lea
 ghost use Rattle.preflight.specs.Due.{list_rendering};
 
 use crate::inputs::{is_pipe, refuse_pipe};
+use named_inputs::FileTexts;
 use picture_command::PictureAsked;
 use requests::{PanelSetting, Status};
 use std::rt::Files;
 use streams::{FileOutlet, FileSource, Outlet};
-use subcommands::FileTexts;
 
 /// Lists the items of the job at a path.
 pub fn list<R: Files + AllocGlobal, O: Outlet>(rt: &R, job: &str, stdout: &mut O) -> Status

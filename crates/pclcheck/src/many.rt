@@ -3,19 +3,19 @@ ghost use Rattle.std.specs.Prelude.{◌≡◌, ◌≢◌, ◌≤◌, ◌++◌, [
 ghost use Rattle.requests.specs.ManyWords.{NamesPrinter};
 ghost use Rattle.pclcheck.specs.Checks.{IsTelling, LeavesAsked, LeavesChecks, asking};
 ghost use Rattle.pclcheck.specs.Names.{names_in};
-ghost use Rattle.subcommands.specs.Asked.{asked_for, told_by};
-ghost use Rattle.subcommands.specs.FleetFile.{TellsOfFleet};
+ghost use Rattle.many_jobs.specs.Asked.{asked_for, told_by};
+ghost use Rattle.many_jobs.specs.FleetFile.{TellsOfFleet};
 
 use crate::inputs::refuse_inputs;
 use crate::names::{push_names, read_names};
+use many_jobs::{Format, ManyJobs, Telling, check_many, read_fleet_file};
+use meanings::EXPLANATIONS;
+use named_inputs::{FileJobs, FileTexts};
 use preflight::{Error, Outlet};
 use requests::{Form, ManyWords, Status};
 use std::alloc::{AllocError, Global};
 use std::io::Input;
 use std::rt::Files;
-use subcommands::check_jobs::{ManyJobs, check_many};
-use subcommands::fleet_file::read_fleet_file;
-use subcommands::{EXPLANATIONS, FileJobs, FileTexts, Format, Telling};
 
 /// Checks many jobs. The fleets are read first, then the names of the jobs, then the profiles.
 pub fn check_asked<R: Files + Input + AllocGlobal, O: Outlet, E: Outlet>(

@@ -1,14 +1,15 @@
 //! The file of the names of jobs.
 ghost use Rattle.std.specs.Prelude.{◌≡◌, ◌++◌, [], IfErr, IfOk, IsFalse, IsSomeAnd, MatchOption, OnOk, map};
 ghost use Rattle.pclcheck.specs.Names.{LeadsTo, names_in};
-ghost use Rattle.subcommands.specs.FleetFile.{TellsOfNames};
+ghost use Rattle.job_reports.specs.Refusals.{TellsOfNames};
 
+use job_reports::tell_unread;
+use named_inputs::{FileJobs, Jobs, read_front};
 use preflight::{Error, Outlet, Source};
 use requests::Status;
 use std::alloc::AllocError;
 use std::io::Input;
 use std::rt::Files;
-use subcommands::{FileJobs, Jobs, read_front, tell_unread};
 
 /// The bytes of the file of names at a path, or none where there is no such file.
 pub fn read_names<R: Files + Input + AllocGlobal, E: Outlet>(

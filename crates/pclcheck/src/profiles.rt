@@ -2,6 +2,7 @@
 ghost use Rattle.std.specs.Prelude.{IsFalse, map, option_map};
 ghost use Rattle.pclcheck.specs.ProfileRequests.{LeavesAnsweredFor, LeavesLintFor, LeavesSheetFor, LeavesShownFor};
 
+use named_inputs::{FileJobs, FileTexts, Jobs};
 use profile_commands::from_pjl::profile_from_pjl;
 use profile_commands::lint::profile_lint;
 use profile_commands::sheet::profile_sheet;
@@ -10,7 +11,6 @@ use requests::Status;
 use std::io::Input;
 use std::rt::Files;
 use streams::{FileOutlet, Outlet};
-use subcommands::{FileJobs, FileTexts, Jobs};
 
 /// Tells what is found in profiles.
 pub fn lint<R: Files + AllocGlobal, O: Outlet, E: Outlet>(

@@ -24,8 +24,8 @@ use Rattle.streams.specs.Writing.{Puts}
 use Rattle.preflight.proofs.Renderings.{Puts-kept, Puts-none, end_none}
 use Rattle.requests.specs.declared.selection.Selection.{Selection}
 use Rattle.requests.specs.Selection.{is_behind}
-use Rattle.subcommands.specs.Groups.{Groups}
-use Rattle.subcommands.specs.JobSentences.{at_command}
+use Rattle.job_reports.specs.Groups.{Groups}
+use Rattle.job_reports.specs.JobSentences.{at_command}
 use Rattle.picture_command.specs.Carriers.{Finishes, HasRun, Keeps, Steps, search_from}
 use Rattle.picture_command.specs.PageSearch.{Searched, at_item, failure_by, found_at_failure, open_page, text_at_end}
 use Rattle.picture_command.proofs.Searches.{item_goes, item_over, item_found, end_over, end_goes, end_found}

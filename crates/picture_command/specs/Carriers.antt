@@ -14,7 +14,7 @@ use Rattle.preflight.specs.declared.outcome.Outcome.{Outcome}
 use Rattle.preflight.specs.Carriers.PageRendering.{any_panel}
 use Rattle.preflight.specs.Due.{Rendering}
 use Rattle.requests.specs.declared.selection.Selection.{Selection}
-use Rattle.subcommands.specs.Groups.{Groups}
+use Rattle.job_reports.specs.Groups.{Groups}
 use Rattle.picture_command.specs.PageSearch.{Searched, reading_search}
 
 -- ---- the rest of a job

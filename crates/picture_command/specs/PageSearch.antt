@@ -27,10 +27,10 @@ use Rattle.preflight.specs.Due.{Rendering}
 use Rattle.requests.specs.declared.selection.Selection.{Selection}
 use Rattle.requests.specs.declared.selection.Selection.TheVariants.{All, One}
 use Rattle.requests.specs.Selection.{is_behind, is_drawn}
-use Rattle.subcommands.specs.CommandWords.{code_words}
-use Rattle.subcommands.specs.Groups.{Groups}
-use Rattle.subcommands.specs.JobSentences.{named_first, reason_phrase, subject, verdict_phrase}
-use Rattle.subcommands.specs.Reports.{number_told}
+use Rattle.job_reports.specs.CommandWords.{code_words}
+use Rattle.job_reports.specs.Groups.{Groups}
+use Rattle.job_reports.specs.JobSentences.{named_first, reason_phrase, subject, verdict_phrase}
+use Rattle.job_reports.specs.Reports.{number_told}
 
 -- ---- sentences
 

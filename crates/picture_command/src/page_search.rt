@@ -5,12 +5,13 @@ ghost use Rattle.pcl_items.specs.declared.item.Mode.TheVariants.{Pcl};
 ghost use Rattle.pcl_items.specs.Grammar.{follows};
 ghost use Rattle.pcl_items.specs.Items.{view};
 ghost use Rattle.device_profile.specs.Printer.{IsAllowed};
-ghost use Rattle.subcommands.specs.JobSentences.{at_command};
+ghost use Rattle.job_reports.specs.JobSentences.{at_command};
 ghost use Rattle.requests.specs.Selection.{is_behind};
 ghost use Rattle.picture_command.specs.Carriers.{Finishes, Keeps, Steps, search_from};
 ghost use Rattle.picture_command.specs.PageSearch.{drawn_line, found_at_failure, missing_line, missing_part, open_page, search_rendering, sentence, text_at_end};
 
 use device_profile::{Panel, Profile};
+use job_reports::{PrinterGroup, Report, push_job_sentence, push_named_first};
 use line_words::push_named;
 use page_env::Finding;
 use page_machine::{Machine, Start, Stop};
@@ -19,7 +20,6 @@ use preflight::{Culprit, Error, Judgement, Outcome, Outlet, Renderer, Verdict};
 use requests::Selection;
 use sinks::Counts;
 use std::alloc::{AllocError, Allocator};
-use subcommands::{PrinterGroup, Report, push_job_sentence, push_named_first};
 use verdict::Failure;
 
 /// Whose pages are searched for, and for which printer: names for sentences.

@@ -3,7 +3,7 @@ use Rattle.std.specs.Prelude.{◌≡◌, ◌⊎◌, ◌<◌, ℕ, List, [], ◌+
 use Rattle.streams.specs.declared.error.Error.TheVariants.{Memory, Write}
 use Rattle.profile_lint.specs.Lint.{Named, lint_text, have_faults}
 use Rattle.streams.specs.Outlet.{OutletState, Adds, AddsFront}
-use Rattle.subcommands.specs.FleetFile.{TellsOfProfile}
+use Rattle.job_reports.specs.Refusals.{TellsOfProfile}
 use Rattle.requests.specs.declared.status.Status.{Status}
 use Rattle.requests.specs.declared.status.Status.TheVariants.{Help, Told, Stopped}
 use Rattle.requests.specs.declared.status.Trouble.TheVariants.{Refused}

@@ -8,8 +8,8 @@ use Rattle.shown_bytes.specs.Shown.{shown}
 use Rattle.profile_commands.specs.ProfileReading.{IsRead, IsTextOf, TellsWhyNone}
 use Rattle.profile_commands.specs.WholeText.{WritesWhole}
 use Rattle.streams.specs.Outlet.{OutletState}
-use Rattle.subcommands.specs.CheckMany.{TellsLine}
-use Rattle.subcommands.specs.Lines.{verdict_line}
+use Rattle.job_reports.specs.Refusals.{TellsLine}
+use Rattle.job_reports.specs.Lines.{verdict_line}
 use Rattle.requests.specs.declared.status.Input.TheVariants.{Profile as TheProfile}
 use Rattle.requests.specs.declared.status.Status.{Status}
 use Rattle.requests.specs.declared.status.Status.TheVariants.{Overwrites, Stopped}

@@ -19,10 +19,10 @@ use Rattle.streams.specs.Writing.{Writes}
 use Rattle.std.proofs.KnownBytes.{Appends-nil, Keeps-refl}
 use Rattle.requests.specs.declared.status.Status.{Status}
 use Rattle.requests.specs.declared.status.Status.TheVariants.{Pass, Fail, Help, Usage, Overwrites, NotAllowed, Told, Profile, Stopped}
-use Rattle.subcommands.specs.Fleet.{IsEndOfProfile}
+use Rattle.named_inputs.specs.Fleet.{IsEndOfProfile}
 use Rattle.requests.specs.declared.choices.Choice.{Choice}
-use Rattle.subcommands.specs.Choices.{choice_line, chosen_panel}
-use Rattle.subcommands.specs.JobTexts.{EndsBy, LeavesAtStopBeside, LeavesLine, LeavesOut, LeavesPages, LeavesPagesOf, LeavesPinned, LeavesPinnedOf, LeavesTextAndLine, TellsOfChoice, TellsOfPin}
+use Rattle.named_inputs.specs.Choices.{choice_line, chosen_panel, TellsOfChoice, TellsOfPin}
+use Rattle.subcommands.specs.JobTexts.{EndsBy, LeavesAtStopBeside, LeavesLine, LeavesOut, LeavesPages, LeavesPagesOf, LeavesPinned, LeavesPinnedOf, LeavesTextAndLine}
 use Rattle.requests.specs.Status.{is_stop_of_write, IsEndOfOpening}
 use Rattle.subcommands.proofs.Leaves.{Stays-none}
 

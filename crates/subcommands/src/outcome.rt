@@ -4,7 +4,7 @@ ghost use Rattle.streams.specs.Errors.{is_err_of_read};
 ghost use Rattle.subcommands.specs.JobTexts.{LeavesLine};
 ghost use Rattle.requests.specs.Status.{is_stop_of_read, is_stop_of_write, IsEndOfText};
 
-use crate::lines::line_of;
+use job_reports::line_of;
 use preflight::{Error, Outcome, Outlet, Verdict, write_text};
 use requests::Status;
 use std::alloc::Allocator;

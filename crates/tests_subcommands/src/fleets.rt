@@ -1,12 +1,12 @@
 //! Texts that name the printers of a fleet.
 ghost use Rattle.std.specs.Prelude.{◌≡◌, false, IsFalse};
 
+use many_jobs::read_fleet_file;
 use preflight::{Error, Outlet, Watched};
 use requests::{Status, Trouble, tell};
 use std::alloc::Allocator;
 use std::process::Abort;
 use std::test::Fail;
-use subcommands::fleet_file::read_fleet_file;
 use testing_failures::Refusing;
 use testing_files::{KeptTexts, Named};
 

@@ -2,6 +2,7 @@
 //! was.
 
 use device_profile::Sample;
+use named_inputs::FileTexts;
 use preflight::Watched;
 use requests::{Input, PanelSetting, Status};
 use std::os::unix::fs::symlink;
@@ -10,7 +11,6 @@ use std::rt::{Env, Files};
 use std::test::Fail;
 use std::{env, fs};
 use streams::{FileOutlet, FileSource};
-use subcommands::FileTexts;
 use subcommands::pin::pin;
 use subcommands::plain::plain;
 

@@ -1,6 +1,6 @@
 use Rattle.std.proofs.Common.{ap, map, refl, subst}
 use Rattle.profile_commands.specs.ProfileNew.{LeavesProfile}
-use Rattle.subcommands.specs.Texts.{text_named}
+use Rattle.named_inputs.specs.Texts.{text_named}
 use Rattle.pclcheck.proofs.Fulfilling.{asked, check_left}
 use Rattle.pclcheck.proofs.by_request.fulfil.Goals as goal
 

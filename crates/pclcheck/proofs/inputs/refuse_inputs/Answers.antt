@@ -1,5 +1,5 @@
 use Rattle.std.proofs.Common.{rules, IsTrue, inr, map}
-use Rattle.subcommands.specs.Asked.{asked_for}
+use Rattle.many_jobs.specs.Asked.{asked_for}
 use Rattle.pclcheck.specs.Inputs.{is_apart}
 use Rattle.pclcheck.proofs.inputs.refuse_inputs.Goals as goal
 

@@ -1,7 +1,7 @@
 use Rattle.std.proofs.Common.{◌≡◌, ap, map, option_map, sym}
 use Rattle.std.proofs.lemmas.Simd.{map-map}
-use Rattle.subcommands.specs.Asked.{asked_for}
-use Rattle.subcommands.specs.Texts.{text_named}
+use Rattle.many_jobs.specs.Asked.{asked_for}
+use Rattle.named_inputs.specs.Texts.{text_named}
 use Rattle.pclcheck.proofs.Fulfilling.{asked_left}
 use Rattle.pclcheck.proofs.many.check_all.Goals as goal
 

@@ -1,6 +1,6 @@
 use Rattle.std.proofs.Common.{◌≤◌, ◌∙◌, ◌++◌, ap, inl, inr, length, map, option_map, refl, string_bytes, subst}
-use Rattle.subcommands.specs.Asked.{told_by}
-use Rattle.subcommands.specs.CheckMany.{Asked}
+use Rattle.many_jobs.specs.Asked.{told_by}
+use Rattle.many_jobs.specs.CheckMany.{Asked}
 use Rattle.pclcheck.proofs.Asking.{each_fleet, names_lack, no_word, no_words, some_printer}
 use Rattle.pclcheck.specs.Checks.{LeavesAsked}
 use Rattle.pclcheck.specs.Names.{names_in}

@@ -1,6 +1,6 @@
 use Rattle.std.proofs.Common.{[], get_or, subst}
 use Rattle.std.proofs.lemmas.Result.{err_from_is_err_and}
-use Rattle.subcommands.specs.FleetFile.{TellsOfFleet}
+use Rattle.many_jobs.specs.FleetFile.{TellsOfFleet}
 use Rattle.pclcheck.proofs.Contained.{contained}
 use Rattle.pclcheck.proofs.many.read_fleets.Goals as goal
 
