@@ -2,7 +2,6 @@
 ghost use Rattle.std.specs.Prelude.{◌≡◌, ◌++◌, IfOk, IsFalse, OnOk, flat_map};
 ghost use Rattle.device_profile.specs.Printer.{IsAllowed};
 ghost use Rattle.named_inputs.specs.Choices.{TellsOfChoice, choice_line, choice_word, chosen_panel, is_choice, with_choice};
-ghost use Rattle.requests.specs.Choices.{field_word};
 ghost use Rattle.requests.specs.Status.{is_refused_choice};
 
 use device_profile::{Field, Panel, Profile};

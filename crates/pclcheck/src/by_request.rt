@@ -3,20 +3,18 @@ ghost use Rattle.std.specs.Prelude.{IsFalse, map};
 ghost use Rattle.requests.specs.Words.{NamesSome};
 ghost use Rattle.pclcheck.specs.Requests.{Fulfils};
 
-use crate::job_texts::{list, notes, pages, picture, pin, plain};
-use crate::many::check_asked;
-use crate::profiles::{from_pjl, lint, sheet, show};
+use file_requests::job_texts::{check, list, notes, pages, picture, pin, plain};
+use file_requests::profiles::{from_pjl, lint, sheet, show};
+use many_requests::check_asked;
 use meanings::EXPLANATIONS;
 use meanings::explain::explain;
-use named_inputs::FileTexts;
 use picture_command::PictureAsked;
 use profile_commands::list::profile_list;
 use profile_commands::new::profile_new;
 use requests::{PanelSetting, Request, Status};
 use std::io::Input;
 use std::rt::Files;
-use streams::{FileSource, Outlet};
-use subcommands::check::check;
+use streams::Outlet;
 
 /// Does what is asked for. Its files are opened by the subcommands, as late as these say.
 pub fn fulfil<R: Files + Input + AllocGlobal, O: Outlet, E: Outlet>(
@@ -33,11 +31,7 @@ pub fn fulfil<R: Files + Input + AllocGlobal, O: Outlet, E: Outlet>(
 {
     let alloc = rt.alloc();
     match request {
-        Request::Check { job, profiles } => {
-            let mut job = FileSource::new(rt, job);
-            let mut texts = FileTexts::new(rt);
-            check(alloc, &mut job, &mut texts, profiles.as_slice(), stdout)
-        }
+        Request::Check { job, profiles } => check(rt, job, profiles.as_slice(), stdout),
         Request::CheckMany(words) => check_asked(rt, words, stdout, stderr),
         Request::List { job } => list(rt, job, stdout),
         Request::Pages { job, profile } => pages(rt, job, profile, stdout),

@@ -2,11 +2,6 @@
 #![tactic(auto)]
 
 mod by_request;
-mod inputs;
-mod job_texts;
-mod many;
-mod names;
-mod profiles;
 
 ghost use Rattle.std.specs.Prelude.{IsFalse};
 

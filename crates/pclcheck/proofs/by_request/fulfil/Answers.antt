@@ -1,13 +1,14 @@
 use Rattle.std.proofs.Common.{ap, map, refl, subst}
 use Rattle.profile_commands.specs.ProfileNew.{LeavesProfile}
 use Rattle.named_inputs.specs.Texts.{text_named}
-use Rattle.pclcheck.proofs.Fulfilling.{asked, check_left}
+use Rattle.pclcheck.proofs.Fulfilling.{asked}
+use Rattle.file_requests.specs.JobRequests.{LeavesCheck}
 use Rattle.pclcheck.proofs.by_request.fulfil.Goals as goal
 
 pub returns-in-Check : goal.returns-in-Check
 returns-in-Check g c =
     asked _ _ _ _ _ _ _ _ c.in-Check.is
-    (check_left _ _ _ _ _ _ _ _ _ (ap (map (λ word. text_named word.now)) c.as_slice.ensures.value) c.new-texts.ensures.given c.new-job.ensures c.check.ensures.line c.check.ensures.refused c.check.ensures.write, refl)
+    (subst (λ words. LeavesCheck (map (λ word. text_named word.now) words) c.check.result (g.O.Outlet.state c.args.stdout.now) (g.O.Outlet.state c.check.new.stdout)) c.as_slice.ensures.value c.check.ensures, refl)
 
 pub returns-in-Explain : goal.returns-in-Explain
 returns-in-Explain g c =
