@@ -23,7 +23,7 @@ MACROS = ROOT / "crates" / "page_env" / "src" / "macros.rt"
 NUMBERS = [ROOT / "crates" / "verdict" / "src" / name for name in ("numbers.rt", "reason.rt")]
 NAMES = ROOT / "crates" / "line_words" / "src" / "words.rt"
 NOTES = ROOT / "crates" / "notes" / "src" / "note.rt"
-EXPLANATIONS = ROOT / "crates" / "subcommands" / "src" / "explanations.rt"
+EXPLANATIONS = ROOT / "crates" / "meanings" / "src" / "explanations.rt"
 
 # The kinds of items that stand in no table of bytes, as the table of commands writes them.
 OTHERS = {

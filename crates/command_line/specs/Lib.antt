@@ -1,2 +1,1 @@
-pub mod ManyWords
 pub mod Words

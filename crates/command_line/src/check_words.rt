@@ -1,11 +1,11 @@
 //! The words of the command `check`.
 ghost use Rattle.std.specs.Prelude.{IfOk, IfSome};
-ghost use Rattle.command_line.specs.Words.{NamesSome};
+ghost use Rattle.requests.specs.Words.{NamesSome};
 
 use crate::many_words::{asks_for_many, read_many, with_many_options};
 use crate::panel_words::ChoiceFault;
-use crate::words::Request;
 use clap::{Arg, ArgAction, ArgMatches, Command};
+use requests::Request;
 use std::alloc::{AllocError, Global};
 
 pub const EXPLANATION: &str = "Examples:

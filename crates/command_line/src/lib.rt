@@ -1,4 +1,4 @@
-//! What the words of the command line ask for.
+//! Reads the words of the command line.
 #![tactic(auto)]
 
 mod check_words;
@@ -10,6 +10,4 @@ mod profile_words;
 mod text_commands;
 mod words;
 
-pub use many_words::{Form, ManyWords};
-pub use profile_words::NewProfile;
-pub use words::{Request, read_words};
+pub use words::read_words;

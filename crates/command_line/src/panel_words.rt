@@ -1,8 +1,8 @@
 //! What the words of `--panel` choose.
 
 use device_profile::Field;
+use requests::{Choice, PANEL_FIELDS, field_word};
 use std::alloc::{AllocError, Global};
-use subcommands::{Choice, PANEL_FIELDS, field_word};
 use thiserror::Error;
 
 /// Why the words of `--panel` choose nothing.

@@ -1,13 +1,12 @@
 //! The words of the command `picture`.
 ghost use Rattle.std.specs.Prelude.{IfOk, IfSome};
-ghost use Rattle.command_line.specs.Words.{NamesSome};
+ghost use Rattle.requests.specs.Words.{NamesSome};
 
 use crate::panel_words::{ChoiceFault, read_choices};
 use crate::text_commands::{job, profile};
-use crate::words::Request;
 use clap::builder::ValueParser;
 use clap::{Arg, ArgAction, ArgMatches, Command};
-use job_picture::Selection;
+use requests::{Request, Selection};
 use std::alloc::{AllocError, Global};
 
 const PICTURE_EXPLANATION: &str =

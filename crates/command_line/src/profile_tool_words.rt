@@ -1,10 +1,10 @@
 //! The words of the commands `profile lint`, `show`, `sheet` and `from-pjl`.
 ghost use Rattle.std.specs.Prelude.{IfOk, IfSome};
-ghost use Rattle.command_line.specs.Words.{NamesSome};
+ghost use Rattle.requests.specs.Words.{NamesSome};
 
 use crate::text_commands::{out, profile, required};
-use crate::words::Request;
 use clap::{Arg, ArgAction, ArgMatches, Command};
+use requests::Request;
 use std::alloc::{AllocError, Global};
 
 const LINT_EXPLANATION: &str = "Output, a line for each thing that is found:

@@ -1,26 +1,17 @@
 //! The words of the commands `profile list` and `profile new`.
 ghost use Rattle.std.specs.Prelude.{IfOk, IfSome};
-ghost use Rattle.command_line.specs.Words.{NamesSome};
+ghost use Rattle.requests.specs.Words.{NamesSome};
 
 use crate::profile_tool_words::{
     from_pjl_command, lint_command, sheet_command, show_command, tool_request,
 };
 use crate::text_commands::required;
-use crate::words::{Request, with_command};
+use crate::words::with_command;
 use clap::builder::ValueParser;
 use clap::{Arg, ArgAction, ArgMatches, Command};
 use printer_models::PanelLists;
+use requests::{NewProfile, Request};
 use std::alloc::{AllocError, Global};
-
-/// What the words of `profile new` ask for.
-#[derive(Drop)]
-pub struct NewProfile<'a> {
-    /// The model, by its name.
-    pub model: &'a str,
-    /// The papers, by their names.
-    pub papers: Vec<&'a str>,
-    pub lists: PanelLists,
-}
 
 const PROFILE_EXPLANATION: &str = "Examples:
   pclcheck profile list

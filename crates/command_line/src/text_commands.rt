@@ -1,10 +1,10 @@
 //! The commands that write a text of a job: `list`, `pages`, `notes`, `plain` and `pin`.
 ghost use Rattle.std.specs.Prelude.{IfOk, IfSome};
-ghost use Rattle.command_line.specs.Words.{NamesSome};
+ghost use Rattle.requests.specs.Words.{NamesSome};
 
 use crate::panel_words::{ChoiceFault, read_choices};
-use crate::words::Request;
 use clap::{Arg, ArgAction, ArgMatches, Command};
+use requests::Request;
 use std::alloc::{AllocError, Global};
 
 const LIST_EXPLANATION: &str = "Output, a line for each item:

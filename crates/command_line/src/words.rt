@@ -1,96 +1,21 @@
 //! The words that the program is started with.
 ghost use Rattle.std.specs.Prelude.{◌≡◌, ◌≢◌, IsFalse, OnOk, IfOk, IfErr, IfSome, is_some};
-ghost use Rattle.command_line.specs.Words.{IsEndOfWords, KeepsWhatItReads, NamesSome};
+ghost use Rattle.command_line.specs.Words.{IsEndOfWords};
+ghost use Rattle.requests.specs.Words.{KeepsWhatItReads, NamesSome};
 
 use crate::check_words::{EXPLANATION, check_args, check_request};
-use crate::many_words::ManyWords;
 use crate::panel_words::ChoiceFault;
 use crate::picture_words::{picture_command, picture_request};
-use crate::profile_words::{NewProfile, profile_command, profile_request};
+use crate::profile_words::{profile_command, profile_request};
 use crate::text_commands::{
     list_command, notes_command, pages_command, pin_command, pin_request, plain_command,
     text_request,
 };
 use clap::error::ErrorKind;
 use clap::{Arg, ArgAction, ArgMatches, Command};
-use job_picture::Selection;
+use requests::{Input, Request, Status};
 use std::alloc::{AllocError, Global};
 use streams::{Error, Outlet, write_text};
-use subcommands::{Choice, Input, Status};
-
-/// What the words ask for.
-#[derive(Drop)]
-pub enum Request<'a> {
-    /// A check of the job at a path, for the printers that words name.
-    Check {
-        job: &'a str,
-        profiles: Vec<&'a str>,
-    },
-    /// A check of many jobs.
-    CheckMany(ManyWords<'a>),
-    /// The items of the job at a path.
-    List {
-        job: &'a str,
-    },
-    /// The pages of the job at a path, on the printer that a word names.
-    Pages {
-        job: &'a str,
-        profile: &'a str,
-    },
-    /// What the job at a path leaves to the printer that a word names.
-    Notes {
-        job: &'a str,
-        profile: &'a str,
-    },
-    /// Pictures of pages of the job at a path, from the panel that is chosen of the printer that a
-    /// word names.
-    Picture {
-        job: &'a str,
-        profile: &'a str,
-        choices: Vec<Choice>,
-        selection: Selection,
-    },
-    /// The items of the job at a path, each in its canonical spelling, in a file at a path.
-    Plain {
-        job: &'a str,
-        out: &'a str,
-    },
-    /// The items of the job at a path, pinned to the panel that is chosen of the printer that a
-    /// word names, in a file at a path.
-    Pin {
-        job: &'a str,
-        profile: &'a str,
-        choices: Vec<Choice>,
-        out: &'a str,
-    },
-    /// What a fault, a finding or a note means, by its number or its name; without a code, what all
-    /// mean.
-    Explain {
-        code: Option<&'a str>,
-    },
-    /// The models of which there are profiles.
-    ProfileList,
-    /// The text of a profile of a model.
-    ProfileNew(NewProfile<'a>),
-    /// What is wrong with profiles, and hints.
-    ProfileLint {
-        profiles: Vec<&'a str>,
-    },
-    /// A profile, as people read it.
-    ProfileShow {
-        profile: &'a str,
-    },
-    /// A job by which a printer is compared with its profile.
-    ProfileSheet {
-        profile: &'a str,
-        out: &'a str,
-    },
-    /// The text of a profile after a printer's own answer.
-    ProfileFromPjl {
-        answer: &'a str,
-        base: Option<&'a str>,
-    },
-}
 
 const VERSION: &str = "0.1.0";
 

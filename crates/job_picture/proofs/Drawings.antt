@@ -19,12 +19,12 @@ use Rattle.renderings.specs.Carriers.PageRendering.{any_panel}
 use Rattle.renderings.specs.Carriers.Rendering.{RestGoesOn, EndsWith, BeginsWith, StartsWith}
 use Rattle.verdict.specs.declared.reason.Reason.TheVariants.{Finding as FindingOfRun}
 use Rattle.job_picture.specs.declared.progress.Progress.{Progress}
-use Rattle.job_picture.specs.declared.selection.Selection.{Selection}
+use Rattle.requests.specs.declared.selection.Selection.{Selection}
 use Rattle.job_picture.specs.declared.sheet.Sheet.{Sheet}
 use Rattle.job_picture.specs.Carriers.Rest.{drawn_from, rest_drawing}
 use Rattle.job_picture.specs.JobPicture.{Drawing, then_draws, drawn_out, late_end, at_the_end, at_failure, behind_ending, run_drawing, reading_drawing, fault_behind, added_at_ending, started_behind, picture_rendering}
 use Rattle.job_picture.specs.Progress.{first_page, progress_behind_all}
-use Rattle.job_picture.specs.Selection.{is_behind}
+use Rattle.requests.specs.Selection.{is_behind}
 use Rattle.job_picture.specs.Sheet.{drawn_events, end_of_all, sheet_of, start_if_due}
 use Rattle.job_picture.proofs.Led.{drawn_events-append}
 

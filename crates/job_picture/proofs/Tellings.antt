@@ -20,14 +20,14 @@ use Rattle.renderings.proofs.Renderings.{Puts-kept, Puts-trans, Puts-cut-front, 
 use Rattle.streams.specs.Outlet.{OutletState, AddsFront}
 use Rattle.verdict.specs.declared.reason.Reason.TheVariants.{Fault as FaultOfBytes, Finding as FindingOfRun}
 use Rattle.job_picture.specs.declared.progress.Progress.{Progress}
-use Rattle.job_picture.specs.declared.selection.Selection.{Selection}
+use Rattle.requests.specs.declared.selection.Selection.{Selection}
 use Rattle.job_picture.specs.declared.sheet.Sheet.{Sheet}
 use Rattle.job_picture.specs.declared.sheet.Spot.{Spot}
 use Rattle.job_picture.specs.Carriers.Drawing.{Draws, DrawsFront, Steps, Finishes}
 use Rattle.job_picture.specs.Carriers.Rest.{drawn_from}
 use Rattle.job_picture.specs.JobPicture.{late_end}
 use Rattle.job_picture.specs.Progress.{progress_behind_all}
-use Rattle.job_picture.specs.Selection.{is_behind}
+use Rattle.requests.specs.Selection.{is_behind}
 use Rattle.job_picture.specs.Sheet.{drawn_events, drawn_failure, end_of_all, sheet_of, spot_of, start_if_due}
 use Rattle.job_picture.proofs.Drawings.{item_goes, item_over, item_found, item_begun, end_over, end_goes, end_found, end_begun}
 

@@ -18,10 +18,10 @@ use Rattle.renderings.specs.declared.outcome.Outcome.TheVariants.{Done as AllDon
 use Rattle.renderings.specs.Due.{Rendering}
 use Rattle.verdict.specs.declared.reason.Reason.TheVariants.{Fault as FaultOfBytes, Finding as FindingOfRun}
 use Rattle.job_picture.specs.declared.progress.Progress.{Progress}
-use Rattle.job_picture.specs.declared.selection.Selection.{Selection}
-use Rattle.job_picture.specs.declared.selection.Selection.TheVariants.{All, One}
+use Rattle.requests.specs.declared.selection.Selection.{Selection}
+use Rattle.requests.specs.declared.selection.Selection.TheVariants.{All, One}
 use Rattle.job_picture.specs.Progress.{first_page, progress_behind_all}
-use Rattle.job_picture.specs.Selection.{is_behind}
+use Rattle.requests.specs.Selection.{is_behind}
 use Rattle.job_picture.specs.Sheet.{drawn_events, drawn_failure, end_of_all, sheet_of, spot_of, start_if_due, start_of_all}
 
 -- what is written from somewhere on, and what comes of it

@@ -1,4 +1,3 @@
-pub mod Selection
 pub mod Progress
 pub mod Places
 pub mod Sheet

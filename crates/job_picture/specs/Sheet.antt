@@ -8,13 +8,13 @@ use Rattle.page_machine.specs.Event.{Event, Marked, Ended}
 use Rattle.page_picture.specs.Marks.{mark_picture}
 use Rattle.page_picture.specs.Sheet.{head_picture, foot_picture, failure_picture, sentence_picture, document_start, document_end}
 use Rattle.job_picture.specs.declared.progress.Progress.{Progress}
-use Rattle.job_picture.specs.declared.selection.Selection.{Selection}
-use Rattle.job_picture.specs.declared.selection.Selection.TheVariants.{All, One}
+use Rattle.requests.specs.declared.selection.Selection.{Selection}
+use Rattle.requests.specs.declared.selection.Selection.TheVariants.{All, One}
 use Rattle.job_picture.specs.declared.sheet.Sheet.{Sheet}
 use Rattle.job_picture.specs.declared.sheet.Spot.{Spot}
 use Rattle.job_picture.specs.Places.{cursor_x, cursor_y}
 use Rattle.job_picture.specs.Progress.{progress_behind}
-use Rattle.job_picture.specs.Selection.{has_patterns, is_drawn}
+use Rattle.requests.specs.Selection.{has_patterns, is_drawn}
 
 -- ---- the sheet
 

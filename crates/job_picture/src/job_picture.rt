@@ -11,13 +11,13 @@ ghost use Rattle.job_picture.specs.Sheet.{drawn_failure, end_of_all, sheet_of, s
 use crate::drawing::{finish_on, step_on};
 use crate::places::{cursor_x, cursor_y, paper_of};
 use crate::progress::Progress;
-use crate::selection::Selection;
 use crate::sheet::{Sheet, Spot, push_drawn_failure, push_end_of_all, push_start_of_all};
 use device_profile::{Panel, Profile};
 use page_env::{Finding, Page};
 use page_machine::{Machine, Start};
 use pcl_items::{Item, LexCause, LexFault, Place};
 use renderings::{Outcome, Renderer, render_job};
+use requests::Selection;
 use std::alloc::{AllocError, Allocator};
 use streams::{Error, Outlet, Source};
 use verdict::Reason;

@@ -5,8 +5,6 @@ mod drawing;
 mod job_picture;
 mod places;
 mod progress;
-mod selection;
 mod sheet;
 
 pub use job_picture::{Wanted, picture_of};
-pub use selection::Selection;

@@ -14,13 +14,13 @@ ghost use Rattle.job_picture.specs.Sheet.{
 };
 
 use crate::progress::Progress;
-use crate::selection::Selection;
 use device_profile::Geometry;
 use page_env::{Mark, PageEnd};
 use page_picture::{
     push_document_end, push_document_start, push_failure, push_foot, push_head, push_mark,
     push_sentence,
 };
+use requests::Selection;
 use std::alloc::{AllocError, Allocator};
 
 /// The sheet of the page that is open, and which pages are drawn.

@@ -1,5 +1,1 @@
-mod Asking
-mod Contained
 mod Fulfilling
-mod NameFacts
-mod OnFiles

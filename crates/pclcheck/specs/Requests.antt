@@ -1,31 +1,18 @@
 -- What the program leaves of what it is asked for. Nothing is known of its files beforehand, so this is said for some reads of them.
-use Rattle.std.specs.Prelude.{◌≡◌, List, [], ℕ, Option, map, option_map, IsFalse, IsTrue}
-use Rattle.command_line.specs.declared.words.Request.{Request}
-use Rattle.command_line.specs.declared.words.Request.TheVariants as requests
 use Rattle.renderings.specs.Due.{list_rendering}
-use Rattle.streams.specs.Files.{no_source}
+use Rattle.std.specs.Prelude.{◌≡◌, List, ℕ, Option, map, option_map, IsFalse, IsTrue}
+use Rattle.requests.specs.declared.request.Request.{Request}
+use Rattle.requests.specs.declared.request.Request.TheVariants as requests
 use Rattle.streams.specs.Outlet.{OutletState}
-use Rattle.streams.specs.Source.{SourceState}
-use Rattle.subcommands.specs.Check.{IsRightFor, Leaves, texts_by}
 use Rattle.streams.specs.Writing.{Writes}
-use Rattle.subcommands.specs.Explanations.{complaint, end_of_explain, explanation, is_unknown}
-use Rattle.subcommands.specs.Fleet.{RefusesBy}
+use Rattle.meanings.specs.Explanations.{complaint, end_of_explain, explanation, is_unknown}
 use Rattle.profile_commands.specs.ProfileList.{LeavesModels}
 use Rattle.profile_commands.specs.ProfileNew.{LeavesProfile}
-use Rattle.subcommands.specs.Status.{is_stop_of_write}
-use Rattle.subcommands.specs.Texts.{text_named}
-use Rattle.subcommands.specs.declared.status.Status.{Status}
-use Rattle.pclcheck.specs.Checks.{LeavesChecks, asking}
-use Rattle.pclcheck.specs.JobRequests.{LeavesNotesFor, LeavesPagesFor, LeavesPictureFor, LeavesPin, LeavesPlain, LeavesRendered}
-use Rattle.pclcheck.specs.ProfileRequests.{LeavesAnsweredFor, LeavesLintFor, LeavesSheetFor, LeavesShownFor}
-
--- a check for the printers of these texts, so far as they are known: the line of a verdict that is right for all of them
-pub record LeavesCheck (known : List (Option (List ℕ))) (status : Status) (out out' : OutletState) : Type 0 where
-  pub job : SourceState
-  pub texts : List (List ℕ)
-  pub line : Leaves status (IsRightFor (texts_by known [] texts) no_source job) out out'
-  pub refused : RefusesBy [] texts status
-  pub write : out'.failed ≡ is_stop_of_write status
+use Rattle.named_inputs.specs.Texts.{text_named}
+use Rattle.requests.specs.declared.status.Status.{Status}
+use Rattle.many_requests.specs.Checks.{LeavesChecks, asking}
+use Rattle.file_requests.specs.JobRequests.{LeavesCheck, LeavesNotesFor, LeavesPagesFor, LeavesPictureFor, LeavesPin, LeavesPlain, LeavesRendered}
+use Rattle.file_requests.specs.ProfileRequests.{LeavesAnsweredFor, LeavesLintFor, LeavesSheetFor, LeavesShownFor}
 
 -- what these texts say of a code, or all of it; of a code that is unknown standard error tells
 pub record LeavesExplanation (texts : List (List ℕ)) (code : Option (List ℕ)) (status : Status) (out out' err err' : OutletState) : Type 0 where

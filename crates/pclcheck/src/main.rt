@@ -1,24 +1,19 @@
 //! A preflight checker for print jobs.
 #![tactic(auto)]
 
-mod inputs;
-mod job_texts;
-mod many;
-mod names;
-mod profiles;
-mod requests;
+mod by_request;
 
 ghost use Rattle.std.specs.Prelude.{IsFalse};
 
-use crate::requests::fulfil;
+use crate::by_request::fulfil;
 use command_line::read_words;
+use requests::{Status, tell};
 use std::io::Input;
 use std::os::fd::{AsRawFd, IntoRawFd, RawFd};
 use std::process::ExitCode;
 use std::rt::{Env, Files};
 use std::{env, fs, io};
 use streams::{Error, Latched as Watched, Outlet, write_text};
-use subcommands::{Status, tell};
 
 /// The descriptors of the standard streams are those below this one.
 const STANDARD_STREAMS: RawFd = 3;

@@ -13,17 +13,16 @@ use Rattle.streams.specs.Errors.{is_read}
 use Rattle.streams.specs.Outlet.{OutletState, Stays}
 use Rattle.streams.specs.Pieces.{ByReads}
 use Rattle.streams.specs.Source.{SourceState}
-use Rattle.job_picture.specs.declared.selection.Selection.{Selection}
-use Rattle.subcommands.specs.declared.choices.Choice.{Choice}
-use Rattle.subcommands.specs.declared.status.Status.{Status}
-use Rattle.subcommands.specs.declared.status.Status.TheVariants.{Pass, Fail, Help, Usage, Overwrites, NotAllowed, Told, Profile, Stopped}
-use Rattle.subcommands.specs.Fleet.{IsEndOfProfile, RefusesRead}
-use Rattle.subcommands.specs.Groups.{Groups}
-use Rattle.subcommands.specs.JobNotes.{kept_error}
-use Rattle.subcommands.specs.JobTexts.{RefusesOne, TellsOfChoice, TellsOfPin}
-use Rattle.subcommands.specs.Choices.{choice_line, chosen_panel}
+use Rattle.requests.specs.declared.selection.Selection.{Selection}
+use Rattle.requests.specs.declared.choices.Choice.{Choice}
+use Rattle.requests.specs.declared.status.Status.{Status}
+use Rattle.requests.specs.declared.status.Status.TheVariants.{Pass, Fail, Help, Usage, Overwrites, NotAllowed, Told, Profile, Stopped}
+use Rattle.named_inputs.specs.Fleet.{IsEndOfProfile, RefusesRead, RefusesOne}
+use Rattle.job_reports.specs.Groups.{Groups}
+use Rattle.named_inputs.specs.KeptText.{kept_error}
+use Rattle.named_inputs.specs.Choices.{TellsOfChoice, TellsOfPin, choice_line, chosen_panel}
 use Rattle.streams.specs.Writing.{Writes}
-use Rattle.subcommands.specs.Status.{is_refusal, is_refused_choice, is_stop_of_read, is_stop_of_write}
+use Rattle.requests.specs.Status.{is_refusal, is_refused_choice, is_stop_of_read, is_stop_of_write}
 use Rattle.picture_command.specs.Picture.{Around, Draws, IsErrorOfSearch, IsUnsearched, IsUntouched, LeavesDrawn, LeavesOther, LeavesPicture, LeavesPictureOf, LeavesSame, LeavesTold, TellsOutcome, TellsChange, status_of}
 
 pub Stays-none : (a : OutletState) → Stays a a

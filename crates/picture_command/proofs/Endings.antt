@@ -22,10 +22,10 @@ use Rattle.renderings.specs.Carriers.PageRendering.{any_panel}
 use Rattle.renderings.specs.Carriers.Rendering.{EndsWith, Ended, RendersItem, StartsWith}
 use Rattle.streams.specs.Writing.{Puts}
 use Rattle.renderings.proofs.Renderings.{Puts-kept, Puts-none, end_none}
-use Rattle.job_picture.specs.declared.selection.Selection.{Selection}
-use Rattle.job_picture.specs.Selection.{is_behind}
-use Rattle.subcommands.specs.Groups.{Groups}
-use Rattle.subcommands.specs.JobSentences.{at_command}
+use Rattle.requests.specs.declared.selection.Selection.{Selection}
+use Rattle.requests.specs.Selection.{is_behind}
+use Rattle.job_reports.specs.Groups.{Groups}
+use Rattle.job_reports.specs.JobSentences.{at_command}
 use Rattle.picture_command.specs.Carriers.{Finishes, HasRun, Keeps, Steps, search_from}
 use Rattle.picture_command.specs.PageSearch.{Searched, at_item, failure_by, found_at_failure, open_page, text_at_end}
 use Rattle.picture_command.proofs.Searches.{item_goes, item_over, item_found, end_over, end_goes, end_found}

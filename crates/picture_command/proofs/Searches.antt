@@ -20,9 +20,9 @@ use Rattle.renderings.specs.declared.outcome.Outcome.TheVariants.{Done as AllDon
 use Rattle.renderings.specs.Due.{Rendering}
 use Rattle.renderings.specs.Carriers.PageRendering.{any_panel}
 use Rattle.renderings.specs.Carriers.Rendering.{RestGoesOn, EndsWith, StartsWith}
-use Rattle.job_picture.specs.declared.selection.Selection.{Selection}
-use Rattle.job_picture.specs.Selection.{is_behind}
-use Rattle.subcommands.specs.Groups.{Groups}
+use Rattle.requests.specs.declared.selection.Selection.{Selection}
+use Rattle.requests.specs.Selection.{is_behind}
+use Rattle.job_reports.specs.Groups.{Groups}
 use Rattle.picture_command.specs.Carriers.{HasRun, rest_search, search_from}
 use Rattle.picture_command.specs.PageSearch.{Searched, at_item, behind_ending, failure_by, found_at_end, found_at_failure, nothing_told, open_page, reading_search, run_search, search_rendering}
 

@@ -12,10 +12,10 @@ use Rattle.verdict.specs.declared.verdict.Verdict.TheVariants.{Pass, Fail}
 use Rattle.preflight.specs.declared.culprit.Culprit.{Culprit}
 use Rattle.preflight.specs.declared.culprit.Culprit.TheVariants as culprits
 use Rattle.preflight.specs.Culprit.{IsCulprit}
-use Rattle.subcommands.specs.CommandWords.{code_words, command_words}
-use Rattle.subcommands.specs.Groups.{Groups}
-use Rattle.subcommands.specs.JobSentences.{at_command, job_sentence, named_first, subject, verdict_phrase}
-use Rattle.subcommands.specs.Reports.{number_told}
+use Rattle.job_reports.specs.CommandWords.{code_words, command_words}
+use Rattle.job_reports.specs.Groups.{Groups}
+use Rattle.job_reports.specs.JobSentences.{at_command, job_sentence, named_first, subject, verdict_phrase}
+use Rattle.job_reports.specs.Reports.{number_told}
 use Rattle.picture_command.specs.PageSearch.{at_item, item_words, sentence, verdict_words}
 
 simple_words : (item : SimpleItem) → item_words (simple_view item) ≡ flat_map code_words (canon (simple_view item))

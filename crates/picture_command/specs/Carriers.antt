@@ -13,8 +13,8 @@ use Rattle.streams.specs.declared.error.Error.{Error}
 use Rattle.renderings.specs.declared.outcome.Outcome.{Outcome}
 use Rattle.renderings.specs.Carriers.PageRendering.{any_panel}
 use Rattle.renderings.specs.Due.{Rendering}
-use Rattle.job_picture.specs.declared.selection.Selection.{Selection}
-use Rattle.subcommands.specs.Groups.{Groups}
+use Rattle.requests.specs.declared.selection.Selection.{Selection}
+use Rattle.job_reports.specs.Groups.{Groups}
 use Rattle.picture_command.specs.PageSearch.{Searched, reading_search}
 
 -- ---- the rest of a job

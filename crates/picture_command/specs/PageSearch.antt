@@ -24,13 +24,13 @@ use Rattle.line_words.specs.Figures.{escaped_byte, named}
 use Rattle.renderings.specs.declared.outcome.Outcome.{Outcome}
 use Rattle.renderings.specs.declared.outcome.Outcome.TheVariants.{Done as AllDone, Fail as FailsOf}
 use Rattle.renderings.specs.Due.{Rendering}
-use Rattle.job_picture.specs.declared.selection.Selection.{Selection}
-use Rattle.job_picture.specs.declared.selection.Selection.TheVariants.{All, One}
-use Rattle.job_picture.specs.Selection.{is_behind, is_drawn}
-use Rattle.subcommands.specs.CommandWords.{code_words}
-use Rattle.subcommands.specs.Groups.{Groups}
-use Rattle.subcommands.specs.JobSentences.{named_first, reason_phrase, subject, verdict_phrase}
-use Rattle.subcommands.specs.Reports.{number_told}
+use Rattle.requests.specs.declared.selection.Selection.{Selection}
+use Rattle.requests.specs.declared.selection.Selection.TheVariants.{All, One}
+use Rattle.requests.specs.Selection.{is_behind, is_drawn}
+use Rattle.job_reports.specs.CommandWords.{code_words}
+use Rattle.job_reports.specs.Groups.{Groups}
+use Rattle.job_reports.specs.JobSentences.{named_first, reason_phrase, subject, verdict_phrase}
+use Rattle.job_reports.specs.Reports.{number_told}
 
 -- ---- sentences
 

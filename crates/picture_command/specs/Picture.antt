@@ -12,15 +12,15 @@ use Rattle.streams.specs.Writing.{Writes}
 use Rattle.streams.specs.Outlet.{OutletState, Stays}
 use Rattle.streams.specs.Pieces.{ByReads}
 use Rattle.streams.specs.Source.{SourceState}
-use Rattle.job_picture.specs.declared.selection.Selection.{Selection}
-use Rattle.job_picture.specs.declared.selection.Selection.TheVariants.{All, One}
+use Rattle.requests.specs.declared.selection.Selection.{Selection}
+use Rattle.requests.specs.declared.selection.Selection.TheVariants.{All, One}
 use Rattle.job_picture.specs.JobPicture.{picture_rendering}
-use Rattle.subcommands.specs.declared.choices.Choice.{Choice}
-use Rattle.subcommands.specs.declared.status.Status.{Status}
-use Rattle.subcommands.specs.declared.status.Status.TheVariants.{Pass, Fail, Profile, NotAllowed, Stopped}
-use Rattle.subcommands.specs.Choices.{chosen_panel}
-use Rattle.subcommands.specs.Groups.{Groups}
-use Rattle.subcommands.specs.JobSentences.{named_first}
+use Rattle.requests.specs.declared.choices.Choice.{Choice}
+use Rattle.requests.specs.declared.status.Status.{Status}
+use Rattle.requests.specs.declared.status.Status.TheVariants.{Pass, Fail, Profile, NotAllowed, Stopped}
+use Rattle.named_inputs.specs.Choices.{chosen_panel}
+use Rattle.job_reports.specs.Groups.{Groups}
+use Rattle.job_reports.specs.JobSentences.{named_first}
 use Rattle.picture_command.specs.PageSearch.{search_rendering}
 
 -- ---- what the first reading tells

@@ -2,9 +2,9 @@
 ghost use Rattle.std.specs.Prelude.{◌≡◌, ◌⊎◌, ◌||◌, IfErr, IfOk, IsErrOf, IsFalse, IsTrue};
 ghost use Rattle.device_profile.specs.Printer.{IsAllowed};
 ghost use Rattle.streams.specs.Errors.{is_err_of_read};
-ghost use Rattle.subcommands.specs.Fleet.{RefusesRead};
-ghost use Rattle.subcommands.specs.JobTexts.{IsNamed, RefusesOne, TellsOfPin};
-ghost use Rattle.subcommands.specs.Status.{is_refusal, is_stop_of_read, is_stop_of_write};
+ghost use Rattle.named_inputs.specs.Fleet.{RefusesRead, IsNamed, RefusesOne};
+ghost use Rattle.named_inputs.specs.Choices.{TellsOfPin};
+ghost use Rattle.requests.specs.Status.{is_refusal, is_stop_of_read, is_stop_of_write};
 ghost use Rattle.streams.specs.Source.{SourceState};
 ghost use Rattle.job_picture.specs.JobPicture.{picture_rendering};
 ghost use Rattle.picture_command.specs.PageSearch.{search_rendering};
@@ -14,15 +14,13 @@ use crate::named_printer::read_printer;
 use crate::page_search::{Names, PageSearch};
 use crate::same::is_same;
 use device_profile::{Panel, Profile};
-use job_picture::{Selection, Wanted, picture_of};
+use job_picture::{Wanted, picture_of};
+use job_reports::{PrinterGroup, push_named_first};
+use named_inputs::{KeptText, ProfileTexts, chosen_panel, kept_error, refuse_choice};
 use renderings::{Outcome, render_job};
+use requests::{PanelSetting, Selection, Status};
 use std::alloc::{AllocError, Allocator};
 use streams::{Error, Outlet, Source, write_text};
-use subcommands::job_notes::kept_error;
-use subcommands::pin::refuse_choice;
-use subcommands::{
-    KeptText, PanelSetting, PrinterGroup, ProfileTexts, Status, chosen_panel, push_named_first,
-};
 
 /// What is asked of the command `picture`.
 #[derive(Clone, Copy)]

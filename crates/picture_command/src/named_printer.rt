@@ -2,14 +2,14 @@
 ghost use Rattle.std.specs.Prelude.{◌≡◌, ℕ, List, [], ◌∷◌, map, IfErr, IfOk, IsFalse, MatchResult};
 ghost use Rattle.device_profile.specs.Name.{printer_name};
 ghost use Rattle.picture_command.specs.Picture.{IsNamedBy};
-ghost use Rattle.subcommands.specs.Fleet.{IsEndOfProfile, RefusesRead};
-ghost use Rattle.subcommands.specs.JobTexts.{IsNamed};
-ghost use Rattle.subcommands.specs.Status.{is_err_at_read};
+ghost use Rattle.named_inputs.specs.Fleet.{IsEndOfProfile, RefusesRead, IsNamed};
+ghost use Rattle.requests.specs.Status.{is_err_at_read};
 
 use device_profile::{Profile, printer_name};
+use named_inputs::{ProfileTexts, refusal};
+use requests::Status;
 use std::alloc::Allocator;
 use streams::Error;
-use subcommands::{ProfileTexts, Status, refusal};
 
 /// A printer, and the name by which sentences name it, alone in a list.
 #[derive(Drop)]

@@ -5,23 +5,23 @@ ghost use Rattle.pcl_items.specs.declared.item.Mode.TheVariants.{Pcl};
 ghost use Rattle.pcl_items.specs.Grammar.{follows};
 ghost use Rattle.pcl_items.specs.Items.{view};
 ghost use Rattle.device_profile.specs.Printer.{IsAllowed};
-ghost use Rattle.subcommands.specs.JobSentences.{at_command};
-ghost use Rattle.job_picture.specs.Selection.{is_behind};
+ghost use Rattle.job_reports.specs.JobSentences.{at_command};
+ghost use Rattle.requests.specs.Selection.{is_behind};
 ghost use Rattle.picture_command.specs.Carriers.{Finishes, Keeps, Steps, search_from};
 ghost use Rattle.picture_command.specs.PageSearch.{drawn_line, found_at_failure, missing_line, missing_part, open_page, search_rendering, sentence, text_at_end};
 
 use device_profile::{Panel, Profile};
-use job_picture::Selection;
+use job_reports::{PrinterGroup, Report, push_job_sentence, push_named_first};
 use line_words::push_named;
 use page_env::Finding;
 use page_machine::{Machine, Start, Stop};
 use pcl_items::{Item, LexFault, Place};
 use preflight::{Culprit, Judgement, Verdict};
 use renderings::{Outcome, Renderer};
+use requests::Selection;
 use sinks::Counts;
 use std::alloc::{AllocError, Allocator};
 use streams::{Error, Outlet};
-use subcommands::{PrinterGroup, Report, push_job_sentence, push_named_first};
 use verdict::Failure;
 
 /// Whose pages are searched for, and for which printer: names for sentences.

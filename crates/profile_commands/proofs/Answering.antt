@@ -4,8 +4,8 @@ use Rattle.pjl_answer.specs.declared.answered.AnswerError.{AnswerError}
 use Rattle.pjl_answer.specs.Answered.{IsAnswerError}
 use Rattle.profile_commands.specs.ProfileFromPjl.{IsBase, LeavesOfAnswer, base_word, refusal, trouble_of}
 use Rattle.streams.specs.Outlet.{OutletState}
-use Rattle.subcommands.specs.CheckMany.{TellsLine}
-use Rattle.subcommands.specs.declared.status.Status.{Status}
+use Rattle.job_reports.specs.Refusals.{TellsLine}
+use Rattle.requests.specs.declared.status.Status.{Status}
 
 -- the word of what an answer is put into
 pub base_word_is : (base : Option (Bor (List ℕ))) (d : Bor (List ℕ)) → d.now ≡ codes "generic" → base_word (option_map (λ word. word.now) base) ≡ (unwrap_or base d).now

@@ -4,9 +4,9 @@ use Rattle.std.proofs.lemmas.List.{get_or-map, length-map, map-append, map_more,
 use Rattle.std.proofs.lemmas.List.Elements.{All-push}
 use Rattle.streams.specs.declared.error.Error.TheVariants.{Memory}
 use Rattle.streams.specs.Outlet.{OutletState}
-use Rattle.subcommands.specs.FleetFile.{TellsOfProfile}
-use Rattle.subcommands.specs.declared.status.Status.{Status}
-use Rattle.subcommands.specs.declared.status.Status.TheVariants.{Stopped}
+use Rattle.job_reports.specs.Refusals.{TellsOfProfile}
+use Rattle.requests.specs.declared.status.Status.{Status}
+use Rattle.requests.specs.declared.status.Status.TheVariants.{Stopped}
 use Rattle.profile_commands.specs.ProfileLint.{AreRead, StopsReading, TellsOfNext}
 use Rattle.profile_commands.specs.ProfileReading.{IsRead, TellsFailedRead, TellsNoText}
 use Rattle.profile_lint.specs.Lint.{Named}

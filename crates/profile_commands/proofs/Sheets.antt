@@ -3,11 +3,11 @@ use Rattle.std.proofs.Common.{◌≡◌, ◌∙◌, ℕ, Bool, List, [], ◌∷�
 use Rattle.device_profile.specs.Name.{printer_name}
 use Rattle.profile_commands.specs.ProfileReading.{IsRead, IsTextOf, TellsFaults, TellsWhyNone}
 use Rattle.streams.specs.Outlet.{OutletState}
-use Rattle.subcommands.specs.CheckMany.{TellsLine}
-use Rattle.subcommands.specs.Status.{is_overwriting}
-use Rattle.subcommands.specs.declared.status.Status.{Status}
-use Rattle.subcommands.specs.declared.status.Status.TheVariants.{Overwrites}
-use Rattle.subcommands.specs.declared.status.Trouble.{Trouble}
+use Rattle.job_reports.specs.Refusals.{TellsLine}
+use Rattle.requests.specs.Status.{is_overwriting}
+use Rattle.requests.specs.declared.status.Status.{Status}
+use Rattle.requests.specs.declared.status.Status.TheVariants.{Overwrites}
+use Rattle.requests.specs.declared.status.Trouble.{Trouble}
 use Rattle.test_sheet.specs.Sheet.{sheet}
 use Rattle.device_profile.specs.Printer.{Printer}
 use Rattle.preflight.specs.Verdict.{IsExact, KeepsPromise}

@@ -17,10 +17,10 @@ use Rattle.shown_bytes.specs.Shown.{shown}
 use Rattle.streams.specs.Outlet.{OutletState}
 use Rattle.streams.specs.Pieces.{ByReads}
 use Rattle.streams.specs.Source.{SourceState}
-use Rattle.subcommands.specs.CheckMany.{TellsLine}
-use Rattle.subcommands.specs.declared.status.Status.{Status}
-use Rattle.subcommands.specs.declared.status.Trouble.{Trouble}
-use Rattle.subcommands.specs.declared.status.Trouble.TheVariants.{Refused, Mismatch}
+use Rattle.job_reports.specs.Refusals.{TellsLine}
+use Rattle.requests.specs.declared.status.Status.{Status}
+use Rattle.requests.specs.declared.status.Trouble.{Trouble}
+use Rattle.requests.specs.declared.status.Trouble.TheVariants.{Refused, Mismatch}
 
 -- what the source gave: its first 65,537 bytes, or all
 abbrev pub IsAnswerBy : SourceState → SourceState → List ℕ → Type 0

@@ -3,10 +3,10 @@ use Rattle.std.specs.Prelude.{◌≡◌, ◌⊎◌, ◌<◌, ℕ, List, [], ◌+
 use Rattle.streams.specs.declared.error.Error.TheVariants.{Memory, Write}
 use Rattle.profile_lint.specs.Lint.{Named, lint_text, have_faults}
 use Rattle.streams.specs.Outlet.{OutletState, Adds, AddsFront}
-use Rattle.subcommands.specs.FleetFile.{TellsOfProfile}
-use Rattle.subcommands.specs.declared.status.Status.{Status}
-use Rattle.subcommands.specs.declared.status.Status.TheVariants.{Help, Told, Stopped}
-use Rattle.subcommands.specs.declared.status.Trouble.TheVariants.{Refused}
+use Rattle.job_reports.specs.Refusals.{TellsOfProfile}
+use Rattle.requests.specs.declared.status.Status.{Status}
+use Rattle.requests.specs.declared.status.Status.TheVariants.{Help, Told, Stopped}
+use Rattle.requests.specs.declared.status.Trouble.TheVariants.{Refused}
 
 -- The texts that were read under these words, in their order; each is the front of what its word names, where that is known.
 pub record AreRead (text_of : List ℕ → Option (List ℕ)) (words old new : List (List ℕ)) (texts : List Named) : Type 0 where

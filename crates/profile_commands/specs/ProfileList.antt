@@ -3,8 +3,8 @@ use Rattle.std.specs.Prelude.{◌≡◌, ◌⊎◌}
 use Rattle.streams.specs.declared.error.Error.TheVariants.{Memory}
 use Rattle.printer_models.specs.Listing.{models_text}
 use Rattle.streams.specs.Outlet.{OutletState}
-use Rattle.subcommands.specs.declared.status.Status.{Status}
-use Rattle.subcommands.specs.declared.status.Status.TheVariants.{Stopped}
+use Rattle.requests.specs.declared.status.Status.{Status}
+use Rattle.requests.specs.declared.status.Status.TheVariants.{Stopped}
 use Rattle.profile_commands.specs.WholeText.{WritesWhole}
 
 -- the lines of all models are written, or there was no memory for them

@@ -10,9 +10,9 @@ use Rattle.printer_models.specs.declared.panel_lists.PanelLists.{PanelLists}
 use Rattle.printer_models.specs.Model.{model_named}
 use Rattle.printer_models.specs.NewText.{DescribesAsked, IsNewError}
 use Rattle.streams.specs.Outlet.{OutletState}
-use Rattle.subcommands.specs.declared.status.Status.{Status}
-use Rattle.subcommands.specs.declared.status.Status.TheVariants.{Usage, Told, Stopped}
-use Rattle.subcommands.specs.declared.status.Trouble.TheVariants.{Mismatch}
+use Rattle.requests.specs.declared.status.Status.{Status}
+use Rattle.requests.specs.declared.status.Status.TheVariants.{Usage, Told, Stopped}
+use Rattle.requests.specs.declared.status.Trouble.TheVariants.{Mismatch}
 use Rattle.profile_commands.specs.WholeText.{WritesWhole}
 
 -- no model has the name

@@ -7,11 +7,10 @@ use Rattle.device_profile.specs.Text.{printer_of_text}
 use Rattle.streams.specs.declared.error.Error.TheVariants.{Memory}
 use Rattle.profile_lint.specs.Lint.{faults_text}
 use Rattle.streams.specs.Outlet.{OutletState}
-use Rattle.subcommands.specs.CheckMany.{TellsLine}
-use Rattle.subcommands.specs.FleetFile.{TellsUnread}
-use Rattle.subcommands.specs.declared.status.Status.{Status}
-use Rattle.subcommands.specs.declared.status.Status.TheVariants.{Stopped}
-use Rattle.subcommands.specs.declared.status.Trouble.TheVariants.{Refused}
+use Rattle.job_reports.specs.Refusals.{TellsLine, TellsUnread}
+use Rattle.requests.specs.declared.status.Status.{Status}
+use Rattle.requests.specs.declared.status.Status.TheVariants.{Stopped}
+use Rattle.requests.specs.declared.status.Trouble.TheVariants.{Refused}
 
 -- one more text was read; it is the front of what its word names, where that is known
 abbrev pub IsRead : Option (List ℕ) → List (List ℕ) → List (List ℕ) → List ℕ → Type 0

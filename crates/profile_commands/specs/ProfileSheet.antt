@@ -8,12 +8,12 @@ use Rattle.shown_bytes.specs.Shown.{shown}
 use Rattle.profile_commands.specs.ProfileReading.{IsRead, IsTextOf, TellsWhyNone}
 use Rattle.profile_commands.specs.WholeText.{WritesWhole}
 use Rattle.streams.specs.Outlet.{OutletState}
-use Rattle.subcommands.specs.CheckMany.{TellsLine}
-use Rattle.subcommands.specs.Lines.{verdict_line}
-use Rattle.subcommands.specs.declared.status.Input.TheVariants.{Profile as TheProfile}
-use Rattle.subcommands.specs.declared.status.Status.{Status}
-use Rattle.subcommands.specs.declared.status.Status.TheVariants.{Overwrites, Stopped}
-use Rattle.subcommands.specs.declared.status.Trouble.TheVariants.{Refused}
+use Rattle.job_reports.specs.Refusals.{TellsLine}
+use Rattle.job_reports.specs.Lines.{verdict_line}
+use Rattle.requests.specs.declared.status.Input.TheVariants.{Profile as TheProfile}
+use Rattle.requests.specs.declared.status.Status.{Status}
+use Rattle.requests.specs.declared.status.Status.TheVariants.{Overwrites, Stopped}
+use Rattle.requests.specs.declared.status.Trouble.TheVariants.{Refused}
 use Rattle.test_sheet.specs.Sheet.{sheet}
 use Rattle.verdict.specs.declared.reason.Reason.{Reason}
 use Rattle.verdict.specs.declared.verdict.Verdict.{Verdict}

@@ -6,7 +6,7 @@ use Rattle.profile_commands.specs.ProfileReading.{IsRead, IsTextOf, TellsWhyNone
 use Rattle.profile_commands.specs.WholeText.{WritesOrStops}
 use Rattle.profile_show.specs.Shown.{shown_profile}
 use Rattle.streams.specs.Outlet.{OutletState}
-use Rattle.subcommands.specs.declared.status.Status.{Status}
+use Rattle.requests.specs.declared.status.Status.{Status}
 
 -- the printer of the text that was read is shown, or there is none, and standard error is told why
 abbrev pub LeavesShown : Option (List ℕ) → List ℕ → List (List ℕ) → List (List ℕ) → Bool → Status → OutletState → OutletState → OutletState → OutletState → Type 0

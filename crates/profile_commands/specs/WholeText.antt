@@ -2,8 +2,8 @@
 use Rattle.std.specs.Prelude.{◌≡◌, ◌⊎◌, ℕ, List, IsFalse, IsTrue}
 use Rattle.streams.specs.declared.error.Error.TheVariants.{Memory, Write}
 use Rattle.streams.specs.Outlet.{OutletState, Adds, AddsFront}
-use Rattle.subcommands.specs.declared.status.Status.{Status}
-use Rattle.subcommands.specs.declared.status.Status.TheVariants.{Help, Stopped}
+use Rattle.requests.specs.declared.status.Status.{Status}
+use Rattle.requests.specs.declared.status.Status.TheVariants.{Help, Stopped}
 
 -- all of it stands there, or a write failed and a front of it does
 abbrev pub WritesWhole : List ℕ → Status → OutletState → OutletState → Type 0

@@ -7,19 +7,21 @@ ghost use Rattle.profile_commands.specs.ProfileFromPjl.{IsBase, IsGenericFor, Le
 ghost use Rattle.profile_commands.specs.ProfileNew.{mismatch_line};
 ghost use Rattle.profile_commands.specs.WholeText.{WritesWhole};
 ghost use Rattle.shown_bytes.specs.Shown.{shown};
-ghost use Rattle.subcommands.specs.CheckMany.{TellsLine};
+ghost use Rattle.job_reports.specs.Refusals.{TellsLine};
 
 use crate::new::tell_mismatch;
 use crate::profile_reading::read_text;
 use crate::whole_text::write_whole;
 use itoa::Buffer;
+use job_reports::tell_unread;
+use named_inputs::{ProfileTexts, read_front};
 use pjl_answer::{AnswerError, Answered, MOST_BYTES, answered_text, asked_papers};
 use printer_models::{NewError, PanelLists, Paper, new_text};
 use profile_lint::faults_text;
+use requests::{Status, Trouble};
 use shown_bytes::push_shown;
 use std::alloc::{AllocError, Allocator};
 use streams::{Error, Outlet, Source, write_text};
-use subcommands::{ProfileTexts, Status, Trouble, read_front, tell_unread};
 
 /// The command `profile from-pjl`: on standard output the text of a profile with what a printer's
 /// answer tells, and the warnings on standard error. The answer, which a word names, is read first;

@@ -4,10 +4,11 @@ ghost use Rattle.profile_commands.specs.ProfileLint.{AreRead, LeavesLint, StopsR
 ghost use Rattle.profile_lint.specs.Lint.{have_faults, lint_text};
 
 use crate::profile_reading::read_text;
+use named_inputs::ProfileTexts;
 use profile_lint::{NamedText, lint_texts};
+use requests::{Status, Trouble};
 use std::alloc::{AllocError, Allocator};
 use streams::{Error, Outlet, write_text};
-use subcommands::{ProfileTexts, Status, Trouble};
 
 /// The command `profile lint`: on standard output all that is found in the texts of profiles. All
 /// are read before anything is written; of one that cannot be read standard error tells.

@@ -4,9 +4,9 @@ ghost use Rattle.profile_commands.specs.ProfileList.{LeavesModels};
 
 use crate::whole_text::write_whole;
 use printer_models::models_text;
+use requests::Status;
 use std::alloc::Allocator;
 use streams::{Error, Outlet};
-use subcommands::Status;
 
 /// The command `profile list`: on standard output a line for each model of which the program can
 /// make the text of a profile.

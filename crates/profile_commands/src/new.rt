@@ -6,9 +6,9 @@ ghost use Rattle.profile_commands.specs.ProfileNew.{LeavesProfile, mismatch_line
 
 use crate::whole_text::write_whole;
 use printer_models::{NewError, PanelLists, PaperFault, new_text};
+use requests::{Status, Trouble, write_pieces};
 use std::alloc::Allocator;
 use streams::{Error, Outlet, write_text};
-use subcommands::{Status, Trouble, write_pieces};
 
 /// The command `profile new`: on standard output the text of a profile of a model, with the papers
 /// of these names, which without a name are letter and A4, and with a panel of these lists. Of a

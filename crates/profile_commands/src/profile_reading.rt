@@ -3,13 +3,15 @@ ghost use Rattle.std.specs.Prelude.{◌≡◌, IfOk, IfErr, IsFalse, OnOk, Match
 ghost use Rattle.streams.specs.Writing.{Writes};
 ghost use Rattle.profile_commands.specs.ProfileReading.{IsRead, IsTextOf, TellsFaults, TellsNoText};
 ghost use Rattle.profile_lint.specs.Lint.{faults_text};
-ghost use Rattle.subcommands.specs.CheckMany.{TellsLine};
+ghost use Rattle.job_reports.specs.Refusals.{TellsLine};
 
 use device_profile::{Profile, ProfileFault};
+use job_reports::tell_unread;
+use named_inputs::ProfileTexts;
 use profile_lint::faults_text;
+use requests::{Status, Trouble};
 use std::alloc::Allocator;
 use streams::{Error, Outlet, write_text};
-use subcommands::{ProfileTexts, Status, Trouble, tell_unread};
 
 /// The text that a word names. Where there is none, standard error is told why.
 pub fn read_text<T: ProfileTexts, E: Outlet, A: Allocator + Copy>(

@@ -1,18 +1,20 @@
 //! The command `profile sheet`.
 ghost use Rattle.std.specs.Prelude.{◌≡◌, IfOk, IsFalse, IsSome, IsTrue};
 ghost use Rattle.profile_commands.specs.ProfileSheet.{IsEndOfCheck, LeavesSheet, LeavesSheetOf, WritesOut, unprinted_sheet};
-ghost use Rattle.subcommands.specs.CheckMany.{TellsLine};
-ghost use Rattle.subcommands.specs.Status.{is_overwriting};
+ghost use Rattle.job_reports.specs.Refusals.{TellsLine};
+ghost use Rattle.requests.specs.Status.{is_overwriting};
 
 use crate::profile_reading::{profile_of, read_text};
 use crate::whole_text::write_whole;
 use device_profile::{Profile, printer_name};
+use job_reports::line_of;
+use named_inputs::ProfileTexts;
 use preflight::Verdict;
+use requests::{Input, Status, Trouble};
 use shown_bytes::push_shown;
 use std::alloc::{AllocError, Allocator};
 use streams::{Create, Error, FileId, Outlet, write_text};
 use subcommands::check::verdict_on;
-use subcommands::{Input, ProfileTexts, Status, Trouble, line_of};
 use test_sheet::sheet_job;
 
 /// The command `profile sheet`: in OUT a job by which the printer is compared with its profile. The

@@ -5,10 +5,11 @@ ghost use Rattle.profile_commands.specs.ProfileShow.{LeavesShown};
 use crate::profile_reading::{profile_of, read_text};
 use crate::whole_text::write_whole;
 use device_profile::printer_name;
+use named_inputs::ProfileTexts;
 use profile_show::profile_text;
+use requests::Status;
 use std::alloc::Allocator;
 use streams::{Error, Outlet};
-use subcommands::{ProfileTexts, Status};
 
 /// The command `profile show`: on standard output what a profile says, for people. Of a profile
 /// that cannot be read or that is refused standard error tells.

@@ -2,8 +2,8 @@
 ghost use Rattle.std.specs.Prelude.{IsFalse};
 ghost use Rattle.profile_commands.specs.WholeText.{WritesWhole};
 
+use requests::Status;
 use streams::{Error, Outlet, write_text};
-use subcommands::Status;
 
 /// Writes a text, and answers how a command ends that has nothing more to do.
 pub fn write_whole<O: Outlet>(stdout: &mut O, text: &[u8]) -> Status

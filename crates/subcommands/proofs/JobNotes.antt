@@ -13,12 +13,12 @@ use Rattle.streams.specs.Source.{SourceState}
 use Rattle.streams.proofs.OutletFacts.{Adds-none}
 use Rattle.notes.specs.Note.{note_line}
 use Rattle.notes.specs.Notes.{notes_rendering, with_most_items}
-use Rattle.subcommands.specs.declared.status.Status.{Status}
-use Rattle.subcommands.specs.declared.status.Status.TheVariants.{Pass, Fail, Help, Usage, Overwrites, NotAllowed, Told, Profile, Stopped}
-use Rattle.subcommands.specs.Fleet.{IsEndOfProfile, RefusesRead}
-use Rattle.subcommands.specs.Status.{is_refusal, is_stop_of_read}
-use Rattle.subcommands.specs.JobTexts.{RefusesOne}
-use Rattle.subcommands.specs.JobNotes.{EndsNotes, LeavesNotes, kept_error, noted, outcome_line, status_of_text}
+use Rattle.requests.specs.declared.status.Status.{Status}
+use Rattle.requests.specs.declared.status.Status.TheVariants.{Pass, Fail, Help, Usage, Overwrites, NotAllowed, Told, Profile, Stopped}
+use Rattle.named_inputs.specs.Fleet.{IsEndOfProfile, RefusesRead, RefusesOne}
+use Rattle.requests.specs.Status.{is_refusal, is_stop_of_read}
+use Rattle.subcommands.specs.JobNotes.{EndsNotes, LeavesNotes, noted, outcome_line, status_of_text}
+use Rattle.named_inputs.specs.KeptText.{kept_error}
 use Rattle.subcommands.proofs.Leaves.{Stays-none}
 
 -- ---- why work stopped

@@ -17,13 +17,13 @@ use Rattle.streams.specs.Outlet.{OutletState, Adds}
 use Rattle.streams.specs.Source.{SourceState}
 use Rattle.streams.specs.Writing.{Writes}
 use Rattle.std.proofs.KnownBytes.{Appends-nil, Keeps-refl}
-use Rattle.subcommands.specs.declared.status.Status.{Status}
-use Rattle.subcommands.specs.declared.status.Status.TheVariants.{Pass, Fail, Help, Usage, Overwrites, NotAllowed, Told, Profile, Stopped}
-use Rattle.subcommands.specs.Fleet.{IsEndOfProfile}
-use Rattle.subcommands.specs.declared.choices.Choice.{Choice}
-use Rattle.subcommands.specs.Choices.{choice_line, chosen_panel}
-use Rattle.subcommands.specs.JobTexts.{EndsBy, LeavesAtStopBeside, LeavesLine, LeavesOut, LeavesPages, LeavesPagesOf, LeavesPinned, LeavesPinnedOf, LeavesTextAndLine, TellsOfChoice, TellsOfPin}
-use Rattle.subcommands.specs.Status.{is_stop_of_write, IsEndOfOpening}
+use Rattle.requests.specs.declared.status.Status.{Status}
+use Rattle.requests.specs.declared.status.Status.TheVariants.{Pass, Fail, Help, Usage, Overwrites, NotAllowed, Told, Profile, Stopped}
+use Rattle.named_inputs.specs.Fleet.{IsEndOfProfile}
+use Rattle.requests.specs.declared.choices.Choice.{Choice}
+use Rattle.named_inputs.specs.Choices.{choice_line, chosen_panel, TellsOfChoice, TellsOfPin}
+use Rattle.subcommands.specs.JobTexts.{EndsBy, LeavesAtStopBeside, LeavesLine, LeavesOut, LeavesPages, LeavesPagesOf, LeavesPinned, LeavesPinnedOf, LeavesTextAndLine}
+use Rattle.requests.specs.Status.{is_stop_of_write, IsEndOfOpening}
 use Rattle.subcommands.proofs.Leaves.{Stays-none}
 
 nothing_spelled : IsReading [] (Whole [] 0)

@@ -1,10 +1,10 @@
 -- A command that came to the work on its text had no profile, no choice and no OUT to refuse.
 use Rattle.std.proofs.Common.{◌≡◌, ◌||◌, ℕ, Bool, true, false, List, Option, IsTrue, refl, sym, ap, ◌∙◌, true≢false}
 use Rattle.streams.specs.declared.error.Error.{Error}
-use Rattle.subcommands.specs.declared.status.Status.{Status}
-use Rattle.subcommands.specs.declared.status.Status.TheVariants.{Pass, Fail, Help, Usage, Overwrites, NotAllowed, Told, Profile, Stopped}
+use Rattle.requests.specs.declared.status.Status.{Status}
+use Rattle.requests.specs.declared.status.Status.TheVariants.{Pass, Fail, Help, Usage, Overwrites, NotAllowed, Told, Profile, Stopped}
 use Rattle.subcommands.specs.JobTexts.{JudgesFirst}
-use Rattle.subcommands.specs.Status.{IsEndOfText, is_refusal}
+use Rattle.requests.specs.Status.{IsEndOfText, is_refusal}
 use Rattle.subcommands.proofs.JobNotes.{refuses_none, refuses_no_read}
 
 pub judged_first : {Job : Type 0} (status : Status) (text : Option (List ℕ)) (before after : List (List ℕ)) (failed : Bool) (job job' : Job) → is_refusal status ≡ false → failed ≡ false → JudgesFirst status text before after failed job job'

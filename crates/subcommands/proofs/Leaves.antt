@@ -1,12 +1,15 @@
 -- Lemmas on what is left on standard output.
-use Rattle.std.proofs.Common.{◌≡◌, Result, Ok, Err, IfErr, refl, sym, subst}
+use Rattle.std.proofs.Common.{◌≡◌, ℕ, List, Option, Result, Ok, Err, IfErr, refl, sym, subst}
 use Rattle.std.specs.Prelude.{IsErrAnd}
 use Rattle.std.proofs.KnownBytes.{Keeps-refl}
 use Rattle.streams.specs.declared.error.Error.{Error}
 use Rattle.streams.specs.declared.error.Error.TheVariants.{Memory, Read, Write, Turns, NoProfile, Items}
 use Rattle.verdict.specs.declared.verdict.Verdict.{Verdict}
 use Rattle.streams.specs.Outlet.{OutletState, Stays}
-use Rattle.subcommands.specs.Check.{LeavesAtStop}
+use Rattle.requests.specs.declared.status.Status.{Status}
+use Rattle.requests.specs.declared.status.Status.TheVariants.{Pass, Fail, Help, Usage, Overwrites, NotAllowed, Told, Profile, Stopped}
+use Rattle.named_inputs.specs.Fleet.{IsEndOfFleet}
+use Rattle.subcommands.specs.Check.{Leaves, LeavesAtStop}
 
 -- an outlet that was not written to
 pub Stays-none : (a : OutletState) → Stays a a
@@ -25,3 +28,20 @@ LeavesAtStop-more Items P Q old new more left = left
 pub LeavesAtStop-memory : (r : Result Verdict Error) (P : Verdict → Type 0) (a : OutletState) → IsErrAnd r (λ error. error ≡ Memory) → IfErr r (λ error. LeavesAtStop error P a a)
 LeavesAtStop-memory (Ok verdict) P a is = tt
 LeavesAtStop-memory (Err error) P a is = subst (λ e. LeavesAtStop e P a a) (sym is) (Stays-none a)
+
+-- where there is no fleet, no line is written
+pub no_line : (texts : List (Option (List ℕ))) (status : Status) (P : Verdict → Type 0) (a : OutletState) → IsEndOfFleet texts status → Leaves status P a a
+no_line texts (Profile number line cause) P a end = Stays-none a
+no_line texts (Stopped Memory) P a end = Stays-none a
+no_line texts (Stopped Read) P a end = Stays-none a
+no_line texts (Stopped Write) P a end = absurd end
+no_line texts (Stopped Turns) P a end = absurd end
+no_line texts (Stopped NoProfile) P a end = absurd end
+no_line texts (Stopped Items) P a end = absurd end
+no_line texts Pass P a end = absurd end
+no_line texts Fail P a end = absurd end
+no_line texts Help P a end = absurd end
+no_line texts Usage P a end = absurd end
+no_line texts (Overwrites input) P a end = absurd end
+no_line texts (NotAllowed choice) P a end = absurd end
+no_line texts (Told trouble) P a end = absurd end

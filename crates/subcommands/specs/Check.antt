@@ -7,13 +7,12 @@ use Rattle.verdict.specs.declared.reason.Reason.{Reason}
 use Rattle.verdict.specs.declared.verdict.Verdict.{Verdict}
 use Rattle.verdict.specs.declared.verdict.Verdict.TheVariants.{Pass as PassOf, Fail as FailOf}
 use Rattle.streams.specs.Outlet.{OutletState, Adds, AddsFront, Stays}
-use Rattle.streams.specs.Pieces.{ByReads}
 use Rattle.streams.specs.Source.{SourceState}
-use Rattle.preflight.specs.Verdict.{IsExact, KeepsPromise, NeedsEachRead}
-use Rattle.subcommands.specs.declared.status.Status.{Status}
-use Rattle.subcommands.specs.declared.status.Status.TheVariants.{Pass, Fail, Help, Usage, Overwrites, NotAllowed, Told, Profile, Stopped}
-use Rattle.subcommands.specs.Fleet.{DescribeBy, DescribeFleet}
-use Rattle.subcommands.specs.Lines.{verdict_line}
+use Rattle.requests.specs.declared.status.Status.{Status}
+use Rattle.requests.specs.declared.status.Status.TheVariants.{Pass, Fail, Help, Usage, Overwrites, NotAllowed, Told, Profile, Stopped}
+use Rattle.named_inputs.specs.Fleet.{DescribeBy, DescribeFleet}
+use Rattle.job_reports.specs.Lines.{verdict_line}
+use Rattle.job_reports.specs.Right.{IsRight}
 
 -- the texts of profiles: those that are known, in order, and those that were read before and after
 pub record Texts : Type 0 where
@@ -23,12 +22,6 @@ pub record Texts : Type 0 where
 
 abbrev pub texts_by : List (Option (List ℕ)) → List (List ℕ) → List (List ℕ) → Texts
 texts_by known before after = record { known = known; before = before; after = after }
-
--- of every job that may be by what the reads gave, the verdict is exact and keeps its promise; and each read was needed
-pub record IsRight (job job' : SourceState) (fleet : List Printer) (verdict : Verdict) : Type 0 where
-  pub exact : ByReads job job' (λ bytes. IsExact fleet bytes verdict)
-  pub promise : ByReads job job' (λ bytes. KeepsPromise fleet bytes verdict)
-  pub needed : NeedsEachRead fleet job job'
 
 -- the verdict is right for a fleet that the texts of its profiles describe
 abbrev pub IsRightFor : Texts → SourceState → SourceState → Verdict → Type 0

@@ -1,7 +1,6 @@
 -- What the command `notes` leaves.
 use Rattle.std.specs.Prelude.{◌≡◌, ◌≢◌, ◌⊎◌, ℕ, List, [], ◌∷◌, ◌++◌}
 use Rattle.device_profile.specs.Printer.{Printer, first_panel}
-use Rattle.streams.specs.declared.error.Error.{Error}
 use Rattle.streams.specs.declared.error.Error.TheVariants.{Memory, Write, NoProfile, Items}
 use Rattle.renderings.specs.declared.outcome.Outcome.{Outcome}
 use Rattle.renderings.specs.declared.outcome.Outcome.TheVariants.{Done, Fail as FailsOf}
@@ -12,10 +11,10 @@ use Rattle.streams.specs.Source.{SourceState}
 use Rattle.verdict.specs.declared.verdict.Verdict.TheVariants.{Fail as FailOf}
 use Rattle.notes.specs.Note.{Told as ToldNote, note_line}
 use Rattle.notes.specs.Notes.{notes_rendering, with_most_items}
-use Rattle.subcommands.specs.declared.status.Status.{Status}
-use Rattle.subcommands.specs.declared.status.Status.TheVariants.{Pass, Fail, Profile, Stopped}
+use Rattle.requests.specs.declared.status.Status.{Status}
+use Rattle.requests.specs.declared.status.Status.TheVariants.{Pass, Fail, Profile, Stopped}
 use Rattle.subcommands.specs.JobTexts.{IsUntouched}
-use Rattle.subcommands.specs.Lines.{verdict_line}
+use Rattle.job_reports.specs.Lines.{verdict_line}
 
 -- what is told so of a job for this printer, from its first panel, where macros may carry out a million items
 abbrev pub noted : (ToldNote → List ℕ) → Printer → Rendering
@@ -30,11 +29,6 @@ outcome_line (FailsOf place profile finding) = verdict_line (FailOf place profil
 abbrev pub status_of_text : List ℕ → Status
 status_of_text [] = Pass
 status_of_text (byte ∷ bytes) = Fail
-
--- why work on a text in memory stopped: a write there fails for want of memory alone
-abbrev pub kept_error : Error → Error
-kept_error Write = Memory
-kept_error error = error
 
 -- A text and an outcome, of every job that may be by what the reads gave; and of it with the line of the outcome this holds.
 pub record TellsDue (rendering : Rendering) (job job' : SourceState) (P : List ℕ → Type 0) : Type 0 where

@@ -1,5 +1,5 @@
 -- What the subcommands leave that write a text of a job.
-use Rattle.std.specs.Prelude.{◌≡◌, ◌≢◌, ◌⊎◌, ◌||◌, ℕ, ◌+◌, ◌^◌, Bool, List, [], ◌∷◌, length, Option, Ok, Err, IsTrue, ⊤}
+use Rattle.std.specs.Prelude.{◌≡◌, ◌≢◌, ◌⊎◌, ◌||◌, ℕ, ◌+◌, ◌^◌, Bool, List, length, Option, Ok, IsTrue}
 use Rattle.device_profile.specs.declared.panel.Panel.{Panel}
 use Rattle.device_profile.specs.Printer.{Printer, first_panel}
 use Rattle.streams.specs.declared.error.Error.{Error}
@@ -12,14 +12,13 @@ use Rattle.renderings.specs.Due.{Rendering, WritesDue, WritesFront, pages_render
 use Rattle.renderings.specs.Pins.{pinned_rendering}
 use Rattle.streams.specs.Outlet.{OutletState, Adds, AddsFront, Stays}
 use Rattle.streams.specs.Source.{SourceState}
-use Rattle.streams.specs.Writing.{Writes}
-use Rattle.subcommands.specs.declared.status.Status.{Status}
-use Rattle.subcommands.specs.declared.status.Status.TheVariants.{Pass, Fail, Help, Usage, Overwrites, NotAllowed, Told, Profile, Stopped}
-use Rattle.subcommands.specs.declared.choices.Choice.{Choice}
-use Rattle.subcommands.specs.Choices.{choice_line, chosen_panel}
-use Rattle.subcommands.specs.Fleet.{DescribeBy, Describes, IsRefused, RefusesRead}
-use Rattle.subcommands.specs.Lines.{verdict_line}
-use Rattle.subcommands.specs.Status.{is_answer, is_refusal, is_stop_of_read, is_stop_of_write}
+use Rattle.requests.specs.declared.status.Status.{Status}
+use Rattle.requests.specs.declared.status.Status.TheVariants.{Pass, Fail, Help, Usage, Overwrites, NotAllowed, Told, Profile, Stopped}
+use Rattle.requests.specs.declared.choices.Choice.{Choice}
+use Rattle.named_inputs.specs.Choices.{chosen_panel}
+use Rattle.named_inputs.specs.Fleet.{RefusesOne, RefusesRead}
+use Rattle.job_reports.specs.Lines.{verdict_line}
+use Rattle.requests.specs.Status.{is_answer, is_refusal, is_stop_of_read, is_stop_of_write}
 
 -- How a command on a text of a job ends by this status. What it leaves, by what was read of the job,
 -- has this fact; it stopped at a read or at a write just where one failed, and for its turns after
@@ -80,10 +79,6 @@ LeavesLine _ _ start end = ⊥
 
 -- ---- pages
 
--- the printer is the one of this text, where that is known, and of the text that was read
-abbrev pub IsNamed : Option (List ℕ) → List (List ℕ) → List (List ℕ) → Printer → Type 0
-IsNamed text before after printer = Describes text printer × DescribeBy before after (printer ∷ [])
-
 -- nothing was read of the job, and nothing written
 abbrev pub IsUntouched : SourceState → SourceState → OutletState → OutletState → Type 0
 IsUntouched job job' old new = (job'.given ≡ job.given) × Stays old new
@@ -125,23 +120,6 @@ LeavesPinned (NotAllowed choice) IsPrinter choices job job' old new start end = 
 LeavesPinned (Stopped error) IsPrinter choices job job' old new start end =
     IsUntouchedBeside job job' old new start end ⊎ LeavesPinnedOf (Stopped error) IsPrinter choices job job' old new start end
 LeavesPinned status IsPrinter choices job job' old new start end = LeavesPinnedOf status IsPrinter choices job job' old new start end
-
--- what is told on standard error of a choice that the panel may not have: its line; without memory for it nothing
-abbrev pub TellsOfChoice : Status → Printer → Choice → OutletState → OutletState → Type 0
-TellsOfChoice (NotAllowed told) printer choice old new = (told ≡ choice) × Writes old new (choice_line printer choice)
-TellsOfChoice (Stopped Memory) printer choice old new = ⊤
-TellsOfChoice _ printer choice old new = ⊥
-
--- what `pin` writes on standard error where it ends for a choice, for a printer with this fact
-abbrev pub TellsOfPin : Status → (Printer → Type 0) → List Choice → OutletState → OutletState → Type 0
-TellsOfPin (NotAllowed choice) IsPrinter choices old new =
-    (printer : Printer) × IsPrinter printer × (chosen_panel printer choices ≡ Err choice) × Writes old new (choice_line printer choice)
-TellsOfPin _ IsPrinter choices old new = ⊤
-
--- where the profile is refused, it is the first one, and that is what is wrong with it
-abbrev pub RefusesOne : Option (List ℕ) → Status → Type 0
-RefusesOne text (Profile number line cause) = (number ≡ 1) × IsRefused line cause text
-RefusesOne text _ = ⊤
 
 -- The one profile of a command is read and judged before its job is read. Where it is refused, it is the first one, its text was read,
 -- and that is what is wrong with it; and where it is refused or could not be read, the job is as it was.

@@ -3,17 +3,17 @@ ghost use Rattle.std.specs.Prelude.{◌≡◌, ◌≢◌, ◌+◌, ◌^◌, [], 
 ghost use Rattle.streams.specs.Errors.{is_err_of_read, is_err_of_write};
 ghost use Rattle.preflight.specs.Verdict.{IsExact, KeepsPromise};
 ghost use Rattle.streams.specs.Outlet.{Adds};
-ghost use Rattle.subcommands.specs.Check.{texts_by, IsRight, IsRightFor, Leaves, LeavesAtStop};
-ghost use Rattle.subcommands.specs.Fleet.{RefusesBy, RefusesFirst, ReachesSome};
-ghost use Rattle.subcommands.specs.Lines.{verdict_line};
-ghost use Rattle.subcommands.specs.Status.{is_refusal, is_stop_of_read, is_stop_of_write};
+ghost use Rattle.subcommands.specs.Check.{texts_by, IsRightFor, Leaves, LeavesAtStop};
+ghost use Rattle.job_reports.specs.Right.{IsRight};
+ghost use Rattle.named_inputs.specs.Fleet.{RefusesBy, RefusesFirst, ReachesSome};
+ghost use Rattle.job_reports.specs.Lines.{verdict_line};
+ghost use Rattle.requests.specs.Status.{is_refusal, is_stop_of_read, is_stop_of_write};
 
-use crate::fleet::read_fleet;
-use crate::lines::line_of;
-use crate::status::Status;
-use crate::texts::ProfileTexts;
 use device_profile::Profile;
+use job_reports::line_of;
+use named_inputs::{ProfileTexts, read_fleet};
 use preflight::{Verdict, check_job};
+use requests::Status;
 use std::alloc::Allocator;
 use streams::{Error, Latched, Outlet, Source, write_text};
 

@@ -1,18 +1,18 @@
 //! The command `notes`.
 ghost use Rattle.std.specs.Prelude.{◌≡◌, ◌||◌, ◌++◌, IfErr, IfOk, IsErrOf, IsFalse, OnOk};
 ghost use Rattle.streams.specs.Errors.{is_err_of_read};
-ghost use Rattle.subcommands.specs.JobNotes.{EndsNotes, LeavesNotes, kept_error, outcome_line, status_of_text};
-ghost use Rattle.subcommands.specs.JobTexts.{EndsBy, IsNamed, JudgesFirst};
-ghost use Rattle.subcommands.specs.Status.{is_stop_of_read, is_stop_of_write};
+ghost use Rattle.subcommands.specs.JobNotes.{EndsNotes, LeavesNotes, outcome_line, status_of_text};
+ghost use Rattle.named_inputs.specs.KeptText.{kept_error};
+ghost use Rattle.subcommands.specs.JobTexts.{EndsBy, JudgesFirst};
+ghost use Rattle.named_inputs.specs.Fleet.{IsNamed};
+ghost use Rattle.requests.specs.Status.{is_stop_of_read, is_stop_of_write};
 
-use crate::fleet::read_profile;
-use crate::kept_text::KeptText;
-use crate::lines::line_of;
-use crate::status::Status;
-use crate::texts::ProfileTexts;
+use job_reports::line_of;
+use named_inputs::{KeptText, ProfileTexts, kept_error, read_profile};
 use notes::{MOST_ITEMS, NoteLine, notes_of};
 use preflight::Verdict;
 use renderings::Outcome;
+use requests::Status;
 use std::alloc::{AllocError, Allocator};
 use streams::{Error, Outlet, Source, write_text};
 
@@ -72,16 +72,6 @@ fn end_notes<O: Outlet, A: Allocator + Copy>(
     match work {
         Ok(outcome) => write_all(alloc, text.into_bytes(), outcome, stdout),
         Err(error) => Status::Stopped(kept_error(error)),
-    }
-}
-
-/// Why work on a text that is kept in memory stopped: a write there fails for want of memory alone.
-pub fn kept_error(error: Error) -> Error
-    ensures { result ≡ kept_error error }
-{
-    match error {
-        Error::Write => Error::Memory,
-        Error::Memory | Error::Read | Error::Turns | Error::NoProfile | Error::Items => error,
     }
 }
 

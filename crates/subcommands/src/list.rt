@@ -4,8 +4,8 @@ ghost use Rattle.renderings.specs.Due.{list_rendering};
 ghost use Rattle.subcommands.specs.JobTexts.{EndsBy, LeavesText};
 
 use crate::render::render;
-use crate::status::Status;
 use renderings::Listing;
+use requests::Status;
 use std::alloc::Allocator;
 use streams::{Outlet, Source};
 

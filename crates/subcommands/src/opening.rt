@@ -1,8 +1,8 @@
 //! The opening of JOB and the creation of OUT, in this order.
 ghost use Rattle.std.specs.Prelude.{◌≡◌, ◌⊎◌, IfErr, IsFalse, IsSome, IsTrue, OnOk};
-ghost use Rattle.subcommands.specs.Status.{is_err_at_read, is_err_at_write, is_overwriting, IsEndOfOpening};
+ghost use Rattle.requests.specs.Status.{is_err_at_read, is_err_at_write, is_overwriting, IsEndOfOpening};
 
-use crate::status::{Input, Status};
+use requests::{Input, Status};
 use streams::{Create, Error, FileId, Open};
 
 /// Opens JOB and creates OUT, unless OUT is JOB or the file that the profile came from, if from

@@ -2,12 +2,12 @@
 ghost use Rattle.std.specs.Prelude.{◌≡◌, IsErrOf, IsFalse, IfErr, IfOk, OnOk};
 ghost use Rattle.streams.specs.Errors.{is_err_of_read};
 ghost use Rattle.subcommands.specs.JobTexts.{LeavesLine};
-ghost use Rattle.subcommands.specs.Status.{is_stop_of_read, is_stop_of_write, IsEndOfText};
+ghost use Rattle.requests.specs.Status.{is_stop_of_read, is_stop_of_write, IsEndOfText};
 
-use crate::lines::line_of;
-use crate::status::Status;
+use job_reports::line_of;
 use preflight::Verdict;
 use renderings::Outcome;
+use requests::Status;
 use std::alloc::Allocator;
 use streams::{Error, Outlet, write_text};
 

@@ -1,12 +1,12 @@
 //! The command `pages`.
 ghost use Rattle.std.specs.Prelude.{◌||◌, IsFalse};
-ghost use Rattle.subcommands.specs.JobTexts.{EndsBy, IsNamed, JudgesFirst, LeavesPages};
+ghost use Rattle.subcommands.specs.JobTexts.{EndsBy, JudgesFirst, LeavesPages};
+ghost use Rattle.named_inputs.specs.Fleet.{IsNamed};
 
-use crate::fleet::read_profile;
 use crate::outcome::end_by;
-use crate::status::Status;
-use crate::texts::ProfileTexts;
+use named_inputs::{ProfileTexts, read_profile};
 use renderings::pages_of;
+use requests::Status;
 use std::alloc::Allocator;
 use streams::{Outlet, Source};
 

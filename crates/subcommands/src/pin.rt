@@ -1,16 +1,15 @@
 //! The command `pin`.
 ghost use Rattle.std.specs.Prelude.{◌≡◌, ◌||◌, IsFalse, IsTrue};
-ghost use Rattle.subcommands.specs.JobTexts.{CreatesOnceOpen, EndsBy, IsNamed, JudgesFirst, LeavesPinned, TellsOfChoice, TellsOfPin};
-ghost use Rattle.subcommands.specs.Status.{is_overwriting, is_refused_choice};
+ghost use Rattle.subcommands.specs.JobTexts.{CreatesOnceOpen, EndsBy, JudgesFirst, LeavesPinned};
+ghost use Rattle.named_inputs.specs.Choices.{TellsOfPin};
+ghost use Rattle.named_inputs.specs.Fleet.{IsNamed};
+ghost use Rattle.requests.specs.Status.{is_overwriting, is_refused_choice};
 
-use crate::choices::{Choice, PanelSetting, choice_line, chosen_panel};
-use crate::fleet::read_profile;
 use crate::opening::open_and_create;
 use crate::outcome::end_by;
-use crate::status::Status;
-use crate::texts::ProfileTexts;
-use device_profile::Profile;
+use named_inputs::{ProfileTexts, chosen_panel, read_profile, refuse_choice};
 use renderings::pin_job;
+use requests::{PanelSetting, Status};
 use std::alloc::Allocator;
 use streams::{Create, Error, Open, Outlet, write_text};
 
@@ -66,24 +65,4 @@ pub fn pin<S: Open, T: ProfileTexts, W: Create, O: Outlet, E: Outlet, A: Allocat
     }
     let work = pin_job(alloc, job, &profile, &panel, out);
     end_by(alloc, work, stdout)
-}
-
-/// Tells which choice the panel may not have, and which values its field has.
-pub fn refuse_choice<E: Outlet, A: Allocator, P: Allocator>(
-    alloc: A,
-    profile: &Profile<P>,
-    choice: Choice,
-    stderr: &mut E,
-) -> Status
-    requires { IsFalse (E.state stderr.old).failed }
-    ensures choice { TellsOfChoice result profile.now choice
-        (E.state stderr.old) (E.state stderr.new) }
-    ensures quiet { IsFalse (is_refused_choice result) → stderr.new ≡ stderr.old }
-{
-    let Ok(line) = choice_line(alloc, profile, choice) else {
-        return Status::Stopped(Error::Memory);
-    };
-    // Where standard error takes nothing, the status alone is left to tell.
-    let _ = write_text(stderr, line.as_slice());
-    Status::NotAllowed(choice)
 }

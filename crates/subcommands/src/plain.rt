@@ -2,12 +2,12 @@
 ghost use Rattle.std.specs.Prelude.{◌≡◌, ◌||◌, IsFalse, IsSome, IsTrue};
 ghost use Rattle.renderings.specs.Due.{plain_rendering};
 ghost use Rattle.subcommands.specs.JobTexts.{CreatesOnceOpen, EndsBy, LeavesOut};
-ghost use Rattle.subcommands.specs.Status.{is_overwriting};
+ghost use Rattle.requests.specs.Status.{is_overwriting};
 
 use crate::opening::open_and_create;
 use crate::outcome::end_by;
-use crate::status::Status;
 use renderings::plain_job;
+use requests::Status;
 use std::alloc::Allocator;
 use streams::{Create, Open, Outlet};
 

@@ -3,8 +3,8 @@ ghost use Rattle.std.specs.Prelude.{IsFalse};
 ghost use Rattle.pcl_items.specs.declared.item.Mode.TheVariants.{Pcl};
 ghost use Rattle.subcommands.specs.JobTexts.{EndsBy, LeavesText};
 
-use crate::status::Status;
 use renderings::{Outcome, Renderer, render_job};
+use requests::Status;
 use std::alloc::Allocator;
 use streams::{Outlet, Source};
 

@@ -1,9 +1,9 @@
 //! Jobs in memory under their names.
 ghost use Rattle.std.specs.Prelude.{◌≡◌, [], None, false};
 
+use named_inputs::{Ended, JobEnd, Jobs};
 use std::io;
 use streams::Source;
-use subcommands::{Ended, JobEnd, Jobs};
 use testing_failures::FailingSource;
 
 /// A name, the bytes of its job, and how many reads of a byte succeed.

@@ -1,9 +1,9 @@
 //! Texts in memory under the words that name them.
 ghost use Rattle.std.specs.Prelude.{◌≡◌, None, false};
 
+use named_inputs::{ProfileTexts, read_text_from};
 use std::alloc::Allocator;
 use streams::{Error, Given, Latched, Source};
-use subcommands::{ProfileTexts, read_text_from};
 
 /// A word and the text that it names.
 pub type Named<'a> = (&'a str, &'a [u8]);

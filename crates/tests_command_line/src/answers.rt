@@ -1,14 +1,13 @@
 //! How words are answered.
 
-use command_line::{Form, ManyWords, Request, read_words};
+use command_line::read_words;
 use device_profile::Field;
-use job_picture::Selection;
 use printer_models::PanelLists;
+use requests::{Choice, Form, Input, ManyWords, Request, Selection, Status};
 use std::alloc::{AllocError, Global};
 use std::process::Abort;
 use std::test::Fail;
 use streams::Latched as Watched;
-use subcommands::{Choice, Input, Status};
 
 /// How words are answered.
 pub enum Answer {

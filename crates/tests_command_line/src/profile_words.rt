@@ -2,8 +2,8 @@
 
 use crate::answers::Answer::{Asks, Help, Overwrites, Wrong};
 use crate::answers::{Row, check_words};
+use requests::Input;
 use std::test::Fail;
-use subcommands::Input;
 
 /// Words that ask for help.
 const HELPS: &[Row] = &[

@@ -2,11 +2,10 @@
 
 use crate::answers::Answer::{Asks, Help, Overwrites, Picture, Pin, Text, Wrong};
 use crate::answers::{Answer, Many, Row, check_words};
-use command_line::Form;
 use device_profile::Field;
 use job_picture::Selection::{All, One};
+use requests::{Form, Input};
 use std::test::Fail;
-use subcommands::Input;
 
 /// Words that ask for help or for the version.
 const HELPS: &[Row] = &[

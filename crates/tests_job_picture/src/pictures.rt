@@ -1,13 +1,12 @@
 //! The command `picture`: its exit status, and what it writes.
 
 use device_profile::{Field, Sample};
-use job_picture::Selection;
 use job_picture::Selection::{All, One};
 use picture_command::{PictureAsked, picture};
+use requests::{Choice, PanelSetting, Selection, tell};
 use std::alloc::{Allocator, Global};
 use std::process::Abort;
 use std::test::Fail;
-use subcommands::{Choice, PanelSetting, tell};
 use testing_failures::{FailingOutlet, FailingSource, Refusing};
 use testing_files::{KeptTexts, Named};
 

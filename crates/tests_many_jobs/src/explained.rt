@@ -1,9 +1,9 @@
 //! Explanations of what is wrong, and of notes.
 
 use crate::runs::{Form, Manner, Run, TOGETHER, run_of};
+use meanings::EXPLANATIONS;
 use std::process::Abort;
 use std::test::Fail;
-use subcommands::EXPLANATIONS;
 
 /// A run, how the explanation that is told begins, and what stands before it and behind it.
 type Row = (Run, &'static str, &'static [u8], &'static [u8]);

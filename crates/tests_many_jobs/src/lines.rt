@@ -1,9 +1,9 @@
 //! The command `check` for many jobs, which tells in lines: its exit status, and what it writes.
 
 use crate::runs::{Answer, EACH, Manner, Run, TOGETHER, check_runs};
+use job_reports::tell_unread;
 use std::io;
 use std::test::Fail;
-use subcommands::tell_unread;
 use testing_failures::FailingOutlet;
 
 /// For all printers together, and a FAIL counts as a PASS.

@@ -1,11 +1,12 @@
 //! Runs of `check` on many jobs, and what comes of them.
 
 use device_profile::Sample;
+use many_jobs::{Format, ManyJobs, Telling, check_many};
+use meanings::EXPLANATIONS;
+use requests::tell;
 use std::alloc::{Allocator, Global};
 use std::process::Abort;
 use std::test::Fail;
-use subcommands::check_jobs::{ManyJobs, check_many};
-use subcommands::{EXPLANATIONS, Format, Telling, tell};
 use testing_failures::FailingOutlet;
 use testing_files::{Change, KeptJobs, KeptTexts, Named, NamedJob};
 use testing_items::RECTANGLE;

@@ -4,11 +4,11 @@ use preflight::{Error, Watched};
 use printer_models::PanelLists;
 use profile_commands::list::profile_list;
 use profile_commands::new::profile_new;
+use requests::{Status, tell};
 use std::alloc::Global;
 use std::process::Abort;
 use std::test::Fail;
 use streams::Outlet;
-use subcommands::{Status, tell};
 use testing_failures::{FailingOutlet, Refusing};
 
 /// Whether this is a line of a text.

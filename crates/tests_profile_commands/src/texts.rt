@@ -7,11 +7,11 @@ use profile_commands::from_pjl::profile_from_pjl;
 use profile_commands::lint::profile_lint;
 use profile_commands::sheet::profile_sheet;
 use profile_commands::show::profile_show;
+use requests::{Status, tell};
 use std::alloc::Allocator;
 use std::process::Abort;
 use std::test::Fail;
 use streams::{Create, Outlet};
-use subcommands::{Status, tell};
 use testing_failures::{FailingOutlet, FailingSource, Refusing};
 use testing_files::{File, KeptTexts, Named};
 

@@ -4,9 +4,9 @@ use crate::escapes::bytes_of;
 use crate::lines::{Line, read_line};
 use crate::trouble::Trouble;
 use device_profile::Profile;
+use job_reports::line_of;
 use preflight::{Error, Verdict};
 use std::alloc::{AllocError, Global};
-use subcommands::line_of;
 use testing_printers::{printer_named, profile_of, with_area};
 use testing_verdicts::{Other, Way, check_each_way, verdict_on};
 

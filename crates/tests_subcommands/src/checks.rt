@@ -3,12 +3,12 @@ ghost use Rattle.std.specs.Prelude.{◌≡◌, false, IsFalse};
 
 use device_profile::Sample;
 use preflight::Source;
+use requests::{Status, tell};
 use std::alloc::Global;
 use std::process::Abort;
 use std::test::Fail;
 use streams::Outlet;
 use subcommands::check::check;
-use subcommands::{Status, tell};
 use testing_failures::{FailingOutlet, FailingSource};
 use testing_files::{KeptTexts, Named};
 use testing_items::RECTANGLE;

@@ -3,6 +3,7 @@ ghost use Rattle.std.specs.Prelude.{◌≡◌, false, IsFalse};
 
 use device_profile::{Field, Sample};
 use preflight::{Error, Source, Watched};
+use requests::{Choice, PanelSetting, Status, tell};
 use std::alloc::{Allocator, Global};
 use std::process::Abort;
 use streams::{Create, FileOutlet, FileSource, Open, Outlet};
@@ -12,7 +13,6 @@ use subcommands::list::list;
 use subcommands::pages::pages;
 use subcommands::pin::pin;
 use subcommands::plain::plain;
-use subcommands::{Choice, PanelSetting, Status, tell};
 use testing_failures::{FailingOutlet, FailingSource, Refusing};
 use testing_files::{File, KeptTexts, Named};
 

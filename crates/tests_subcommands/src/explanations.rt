@@ -1,11 +1,11 @@
 //! The subcommand `explain`.
 
+use meanings::explain::explain;
 use preflight::Watched;
+use requests::{Status, tell};
 use std::alloc::Global;
 use std::process::Abort;
 use std::test::Fail;
-use subcommands::explain::explain;
-use subcommands::{Status, tell};
 use testing_failures::FailingOutlet;
 
 /// The numbers and names of the faults and findings.

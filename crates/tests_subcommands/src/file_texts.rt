@@ -1,8 +1,8 @@
 //! The texts of profiles on this machine.
 use device_profile::Sample;
+use named_inputs::{FileTexts, ProfileTexts};
 use preflight::Error;
 use std::test::Fail;
-use subcommands::{FileTexts, ProfileTexts};
 
 /// Words, and the sample that each names. Under the others, which are paths, nothing is read.
 const WORDS: &[(&str, Option<Sample>)] = &[

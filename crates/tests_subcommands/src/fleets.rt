@@ -1,13 +1,13 @@
 //! Texts that name the printers of a fleet.
 ghost use Rattle.std.specs.Prelude.{◌≡◌, false, IsFalse};
 
+use many_jobs::read_fleet_file;
 use preflight::{Error, Watched};
+use requests::{Status, Trouble, tell};
 use std::alloc::Allocator;
 use std::process::Abort;
 use std::test::Fail;
 use streams::Outlet;
-use subcommands::fleet_file::read_fleet_file;
-use subcommands::{Status, Trouble, tell};
 use testing_failures::Refusing;
 use testing_files::{KeptTexts, Named};
 

@@ -1,14 +1,15 @@
 //! The lines that the program writes.
 
 use device_profile::{Cause as ProfileCause, Field};
+use job_reports::line_of;
 use page_env::Finding;
 use pcl_items::{Group, LexCause, Name};
 use preflight::{Error, Verdict, Watched};
+use requests::{Input, Status, tell};
 use std::alloc::{AllocError, Global};
 use std::process::Abort;
 use std::test::Fail;
 use streams::Outlet;
-use subcommands::{Input, Status, line_of, tell};
 use verdict::Reason;
 
 /// What is wrong, and the line of a Fail at byte 24 of printer 1.

@@ -2,7 +2,9 @@
 //! was.
 
 use device_profile::Sample;
+use named_inputs::FileTexts;
 use preflight::Watched;
+use requests::{Input, PanelSetting, Status};
 use std::os::unix::fs::symlink;
 use std::process::Abort;
 use std::rt::{Env, Files};
@@ -11,7 +13,6 @@ use std::{env, fs};
 use streams::{FileOutlet, FileSource};
 use subcommands::pin::pin;
 use subcommands::plain::plain;
-use subcommands::{FileTexts, Input, PanelSetting, Status};
 
 const JOB: &[u8] = b"\x1bE\x1b&l02A";
 

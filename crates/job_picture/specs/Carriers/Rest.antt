@@ -6,7 +6,7 @@ use Rattle.page_machine.specs.MachineState.{MachineState}
 use Rattle.renderings.specs.Carriers.PageRendering.{any_panel}
 use Rattle.renderings.specs.Due.{Rendering}
 use Rattle.job_picture.specs.declared.progress.Progress.{Progress}
-use Rattle.job_picture.specs.declared.selection.Selection.{Selection}
+use Rattle.requests.specs.declared.selection.Selection.{Selection}
 use Rattle.job_picture.specs.JobPicture.{Drawing, fault_behind, reading_drawing, started_behind, then_draws}
 use Rattle.job_picture.specs.Sheet.{start_if_due}
 

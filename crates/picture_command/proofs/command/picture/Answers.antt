@@ -1,7 +1,7 @@
 use Rattle.std.proofs.Common.{◌≡◌, ◌∙◌, ◌||◌, ℕ, List, ap, refl, subst, sym}
-use Rattle.subcommands.specs.Groups.{Groups}
-use Rattle.subcommands.specs.JobTexts.{IsNamed}
-use Rattle.subcommands.specs.Status.{is_err_at_read}
+use Rattle.job_reports.specs.Groups.{Groups}
+use Rattle.named_inputs.specs.Fleet.{IsNamed}
+use Rattle.requests.specs.Status.{is_err_at_read}
 use Rattle.std.proofs.Math.Bool.{or-false}
 use Rattle.streams.specs.Outlet.{Stays}
 use Rattle.picture_command.specs.Picture.{Around, Draws, IsNamedBy}

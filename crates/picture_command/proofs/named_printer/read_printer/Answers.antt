@@ -1,7 +1,7 @@
 use Rattle.std.proofs.Common.{◌≡◌, ◌∙◌, [], ◌∷◌, ◌++◌, ap, subst, refl, rules, Ok}
 use Rattle.device_profile.specs.Name.{printer_name}
 use Rattle.device_profile.specs.Text.{IsErrorOfText, printer_of_text}
-use Rattle.subcommands.proofs.TextFacts.{read_judged, read_refused}
+use Rattle.named_inputs.proofs.TextFacts.{read_judged, read_refused}
 use Rattle.picture_command.proofs.named_printer.read_printer.Goals as goal
 
 pub returns-in-Ok-clause-printer : goal.returns-in-Ok-clause-printer

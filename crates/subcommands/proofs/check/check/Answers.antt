@@ -1,8 +1,8 @@
 use Rattle.std.proofs.Common.{◌||◌, ◌∙◌, ap, sym, subst}
-use Rattle.subcommands.specs.Fleet.{DescribeBy, DescribeFleet, IsEndOfFleet}
-use Rattle.subcommands.specs.Status.{is_err_at_read}
-use Rattle.subcommands.proofs.FleetFacts.{DescribeFleet-some, no_line, no_write}
-use Rattle.subcommands.proofs.Leaves.{LeavesAtStop-more}
+use Rattle.named_inputs.specs.Fleet.{DescribeBy, DescribeFleet, IsEndOfFleet}
+use Rattle.requests.specs.Status.{is_err_at_read}
+use Rattle.named_inputs.proofs.FleetFacts.{DescribeFleet-some, no_write}
+use Rattle.subcommands.proofs.Leaves.{no_line, LeavesAtStop-more}
 use Rattle.subcommands.proofs.check.check.Goals as goal
 
 pub write_verdict-requires-clause-some : goal.write_verdict-requires-clause-some

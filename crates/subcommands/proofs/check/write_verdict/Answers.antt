@@ -1,7 +1,7 @@
 use Rattle.std.proofs.Common.{rules, subst, ◌∙◌}
 use Rattle.std.proofs.lemmas.Result.{err_from_is_err_and}
 use Rattle.streams.specs.Outlet.{Adds}
-use Rattle.subcommands.specs.Check.{IsRight}
+use Rattle.job_reports.specs.Right.{IsRight}
 use Rattle.subcommands.proofs.Leaves.{LeavesAtStop-memory}
 use Rattle.subcommands.proofs.check.write_verdict.Goals as goal
 

@@ -1,9 +1,8 @@
 use Rattle.std.proofs.Common.{◌||◌, ◌∙◌, ap, subst, sym}
 use Rattle.std.proofs.Math.Bool.{or-false}
-use Rattle.subcommands.specs.Fleet.{IsEndOfProfile}
-use Rattle.subcommands.specs.JobTexts.{IsNamed}
-use Rattle.subcommands.specs.Status.{is_err_at_read}
-use Rattle.subcommands.proofs.FleetFacts.{no_write_before}
+use Rattle.named_inputs.specs.Fleet.{IsEndOfProfile, IsNamed}
+use Rattle.requests.specs.Status.{is_err_at_read}
+use Rattle.named_inputs.proofs.FleetFacts.{no_write_before}
 use Rattle.subcommands.proofs.JobNotes.{never_refused, no_notes, noted_of, notes_left, stop_state}
 use Rattle.subcommands.proofs.JudgedFirst.{judged_first}
 use Rattle.subcommands.proofs.job_notes.tell_notes.Goals as goal

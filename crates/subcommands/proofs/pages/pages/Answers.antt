@@ -2,10 +2,9 @@ use Rattle.std.proofs.Common.{◌||◌, ◌∙◌, ap, sym, subst}
 use Rattle.std.proofs.Math.Bool.{or-false}
 use Rattle.device_profile.specs.Printer.{first_panel}
 use Rattle.renderings.specs.Due.{Renders, pages_rendering}
-use Rattle.subcommands.specs.Fleet.{IsEndOfProfile}
-use Rattle.subcommands.specs.JobTexts.{IsNamed}
-use Rattle.subcommands.specs.Status.{is_err_at_read}
-use Rattle.subcommands.proofs.FleetFacts.{no_write_before}
+use Rattle.named_inputs.specs.Fleet.{IsEndOfProfile, IsNamed}
+use Rattle.requests.specs.Status.{is_err_at_read}
+use Rattle.named_inputs.proofs.FleetFacts.{no_write_before}
 use Rattle.subcommands.proofs.JobTexts.{ended, ended_write, no_pages, pages_left, sound_for_line}
 use Rattle.subcommands.proofs.pages.pages.Goals as goal
 

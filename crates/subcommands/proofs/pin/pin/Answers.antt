@@ -3,11 +3,11 @@ use Rattle.std.proofs.Math.Bool.{or-false}
 use Rattle.streams.specs.Outlet.{OutletState}
 use Rattle.renderings.specs.Pins.{pinned_rendering}
 use Rattle.streams.specs.Source.{SourceState}
-use Rattle.subcommands.specs.JobTexts.{IsNamed, TellsOfPin}
-use Rattle.subcommands.specs.Status.{is_err_at_read, is_err_at_write, is_overwriting, is_refusal, IsEndOfOpening}
+use Rattle.named_inputs.specs.Choices.{TellsOfPin}
+use Rattle.named_inputs.specs.Fleet.{IsNamed, IsEndOfProfile}
+use Rattle.requests.specs.Status.{is_err_at_read, is_err_at_write, is_overwriting, is_refusal, IsEndOfOpening}
 use Rattle.subcommands.proofs.JobTexts.{choice_refused, choice_told, ended, ended_write_beside, no_pinned, opening_left, out_left, pinned_left, rendered_from, sound_beside}
-use Rattle.subcommands.specs.Fleet.{IsEndOfProfile}
-use Rattle.subcommands.proofs.FleetFacts.{no_write_before}
+use Rattle.named_inputs.proofs.FleetFacts.{no_write_before}
 use Rattle.subcommands.proofs.JudgedFirst.{ends_by, judged_first}
 use Rattle.subcommands.proofs.pin.pin.Goals as goal
 

@@ -3,7 +3,7 @@ use Rattle.std.proofs.Math.Bool.{or-false}
 use Rattle.renderings.specs.Due.{plain_rendering}
 use Rattle.streams.specs.Outlet.{OutletState}
 use Rattle.streams.specs.Source.{SourceState}
-use Rattle.subcommands.specs.Status.{is_err_at_read, is_err_at_write, IsEndOfOpening}
+use Rattle.requests.specs.Status.{is_err_at_read, is_err_at_write, IsEndOfOpening}
 use Rattle.subcommands.proofs.JobTexts.{ended, ended_write_beside, opening_left, out_left, rendered_from, sound_beside}
 use Rattle.subcommands.proofs.plain.plain.Goals as goal
 

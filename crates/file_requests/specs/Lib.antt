@@ -1,0 +1,2 @@
+pub mod JobRequests
+pub mod ProfileRequests

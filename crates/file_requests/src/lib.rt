@@ -1,0 +1,5 @@
+//! What is done by request on one job and on profiles, on files.
+#![tactic(auto)]
+
+pub mod job_texts;
+pub mod profiles;

@@ -1,0 +1,87 @@
+//! What the program does on profiles by request, on files.
+ghost use Rattle.std.specs.Prelude.{IsFalse, map, option_map};
+ghost use Rattle.file_requests.specs.ProfileRequests.{LeavesAnsweredFor, LeavesLintFor, LeavesSheetFor, LeavesShownFor};
+
+use named_inputs::{FileJobs, FileTexts, Jobs};
+use profile_commands::from_pjl::profile_from_pjl;
+use profile_commands::lint::profile_lint;
+use profile_commands::sheet::profile_sheet;
+use profile_commands::show::profile_show;
+use requests::Status;
+use std::io::Input;
+use std::rt::Files;
+use streams::{FileOutlet, Outlet};
+
+/// Tells what is found in profiles.
+pub fn lint<R: Files + AllocGlobal, O: Outlet, E: Outlet>(
+    rt: &R,
+    words: &[&str],
+    stdout: &mut O,
+    stderr: &mut E,
+) -> Status
+    requires stdout { IsFalse (O.state stdout.old).failed }
+    requires stderr { IsFalse (E.state stderr.old).failed }
+    ensures { LeavesLintFor (map (λ word. word.now) words.now) result
+        (O.state stdout.old) (O.state stdout.new) (E.state stderr.old) (E.state stderr.new) }
+{
+    let mut texts = FileTexts::new(rt);
+    profile_lint(rt.alloc(), &mut texts, words, stdout, stderr)
+}
+
+/// Shows a profile.
+pub fn show<R: Files + AllocGlobal, O: Outlet, E: Outlet>(
+    rt: &R,
+    word: &str,
+    stdout: &mut O,
+    stderr: &mut E,
+) -> Status
+    requires stdout { IsFalse (O.state stdout.old).failed }
+    requires stderr { IsFalse (E.state stderr.old).failed }
+    ensures { LeavesShownFor word.now result
+        (O.state stdout.old) (O.state stdout.new) (E.state stderr.old) (E.state stderr.new) }
+{
+    let mut texts = FileTexts::new(rt);
+    profile_show(rt.alloc(), &mut texts, word, stdout, stderr)
+}
+
+/// Writes the sheet of a profile at a path.
+pub fn sheet<R: Files + AllocGlobal, E: Outlet>(
+    rt: &R,
+    word: &str,
+    out: &str,
+    stderr: &mut E,
+) -> Status
+    requires { IsFalse (E.state stderr.old).failed }
+    ensures { LeavesSheetFor word.now result (E.state stderr.old) (E.state stderr.new) }
+{
+    let mut texts = FileTexts::new(rt);
+    let mut out = FileOutlet::new(rt, out);
+    profile_sheet(rt.alloc(), &mut texts, word, &mut out, stderr)
+}
+
+/// Writes a profile with what a printer's answer tells, which is read at a path, or with `-` from
+/// standard input.
+pub fn from_pjl<R: Files + Input + AllocGlobal, O: Outlet, E: Outlet>(
+    rt: &R,
+    answer: &str,
+    base: Option<&str>,
+    stdout: &mut O,
+    stderr: &mut E,
+) -> Status
+    requires stdout { IsFalse (O.state stdout.old).failed }
+    requires stderr { IsFalse (E.state stderr.old).failed }
+    ensures { LeavesAnsweredFor answer.now (option_map (λ word. word.now) base.entry) result
+        (O.state stdout.old) (O.state stdout.new) (E.state stderr.old) (E.state stderr.new) }
+{
+    let mut source = FileJobs::new(rt).job(answer.as_bytes());
+    let mut texts = FileTexts::new(rt);
+    profile_from_pjl(
+        rt.alloc(),
+        &mut source,
+        answer,
+        &mut texts,
+        base,
+        stdout,
+        stderr,
+    )
+}

@@ -1,0 +1,91 @@
+-- Lines and sentences, computed from the definitions alone.
+use Rattle.std.proofs.Common.{◌≡◌, ℕ, Bool, true, false, List, [], ◌∷◌, Option, Some, None, Result, Ok, Err, refl, lit≤}
+use Rattle.std.specs.Prelude.{codes}
+use Rattle.std.specs.Fmt.{digits}
+use Rattle.pcl_items.specs.declared.pcl.command.Command.TheVariants.{PageSize}
+use Rattle.pcl_items.specs.declared.fault.LexCause.TheVariants.{Syntax}
+use Rattle.pcl_items.specs.declared.item.SimpleItem.TheVariants.{Parameterized}
+use Rattle.pcl_items.specs.declared.number.Sign.TheVariants.{Absent}
+use Rattle.device_profile.specs.declared.fault.Cause.TheVariants.{Range, Repeated}
+use Rattle.page_env.specs.declared.finding.Finding.TheVariants.{NotOnDevice}
+use Rattle.verdict.specs.declared.reason.Reason.TheVariants.{Fault, Finding}
+use Rattle.verdict.specs.declared.verdict.Verdict.TheVariants.{Fail, Pass}
+use Rattle.preflight.specs.declared.culprit.Culprit.TheVariants.{Simple}
+use Rattle.preflight.specs.declared.culprit.Judgement.{Judgement}
+use Rattle.streams.specs.declared.error.Error.{Error}
+use Rattle.streams.specs.declared.error.Error.TheVariants.{Read}
+use Rattle.job_reports.specs.JobLines.{job_line}
+use Rattle.job_reports.specs.JobSentences.{job_sentence}
+use Rattle.job_reports.specs.Refusals.{refused_profile_sentence, unread_profile_sentence}
+use Rattle.job_reports.specs.Reports.{Reported}
+
+-- of a job for two printers, told of together or each by itself
+abbrev report_of : Bool → Result Judgement Error → Option (List ℕ) → Reported
+report_of is_each answer cause = record {
+  is_each = is_each;
+  names = codes "counter" ∷ codes "export-desk" ∷ [];
+  job = codes "in/note 4712.pcl";
+  answer = answer;
+  cause = cause;
+}
+
+abbrev passed : Result Judgement Error
+passed = Ok (record { verdict = Pass 1 22; culprit = None })
+
+-- the second printer has no page of this size
+abbrev refused : Result Judgement Error
+refused = Ok (record {
+  verdict = Fail 134 2 (Finding NotOnDevice);
+  culprit = Some (Simple (Parameterized PageSize (record { sign = Absent; ten_thousandths = 20000; within = lit≤ tt })));
+})
+
+-- the bytes are wrong, whatever the printer
+abbrev faulty : Result Judgement Error
+faulty = Ok (record { verdict = Fail 9 0 (Fault Syntax); culprit = None })
+
+abbrev gone : Option (List ℕ)
+gone = Some (codes "No such file or directory")
+
+line_of_pass : job_line (report_of false passed None) ≡ codes "PASS pages=1 marks=22 in/note 4712.pcl\n"
+unfolding digits
+line_of_pass = refl
+
+line_of_finding : job_line (report_of false refused None) ≡ codes "FAIL at=134 printer=export-desk 11 NotOnDevice in/note 4712.pcl\n"
+unfolding digits
+line_of_finding = refl
+
+line_of_fault : job_line (report_of false faulty None) ≡ codes "FAIL at=9 1 Syntax in/note 4712.pcl\n"
+unfolding digits
+line_of_fault = refl
+
+line_of_unread : job_line (report_of true (Err Read) gone) ≡ codes "ERROR read printer=counter in/note 4712.pcl: No such file or directory\n"
+line_of_unread = refl
+
+sentence_of_pass : job_sentence (report_of false passed None) ≡ codes "in/note 4712.pcl: each printer prints this job (pages=1 marks=22)\n"
+unfolding digits
+sentence_of_pass = refl
+
+sentence_of_finding : job_sentence (report_of false refused None)
+    ≡ codes "in/note 4712.pcl: export-desk refuses this job at byte 134, ESC &l2A: the printer does not have this size, orientation, tray or sides (11 NotOnDevice)\n"
+unfolding digits
+sentence_of_finding = refl
+
+sentence_of_fault : job_sentence (report_of false faulty None) ≡ codes "in/note 4712.pcl: each printer refuses this job at byte 9: the bytes here are no command (1 Syntax)\n"
+unfolding digits
+sentence_of_fault = refl
+
+sentence_of_unread : job_sentence (report_of true (Err Read) gone) ≡ codes "in/note 4712.pcl: this job cannot be read for counter: No such file or directory (ERROR read)\n"
+sentence_of_unread = refl
+
+refused_at_line : refused_profile_sentence 1 (codes "bad.profile") 3 Repeated
+    ≡ codes "bad.profile: line 3: this gives again what an earlier line gave, or a number twice (ERROR profile 1 Repeated)\n"
+unfolding digits
+refused_at_line = refl
+
+refused_as_whole : refused_profile_sentence 2 (codes "bad.profile") 0 Range
+    ≡ codes "bad.profile: the text has more than 65,536 bytes, or the panel offers what the printer lacks (ERROR profile 2 Range)\n"
+unfolding digits
+refused_as_whole = refl
+
+unread : unread_profile_sentence (codes "gone.profile") gone ≡ codes "gone.profile: this profile cannot be read: No such file or directory (ERROR read)\n"
+unread = refl

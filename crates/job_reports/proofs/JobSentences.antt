@@ -1,0 +1,252 @@
+-- A sentence is short, and has no control code before its end.
+use Rattle.std.proofs.Common.{ℕ, ◌-◌, ◌^◌, ◌==◌, ◌<◌, ◌≤◌, List, [], ◌∷◌, ◌++◌, length, codes, refl, arith, get_or, Option, None, Some, Result, Ok, Err}
+use Rattle.std.specs.Prelude.{IfOk, decimal, flat_map}
+use Rattle.std.specs.Fmt.{signed_decimal}
+use Rattle.std.specs.List.{AllByRecursion}
+use Rattle.std.proofs.lemmas.List.{length-append}
+use Rattle.pcl_items.specs.declared.pcl.command.DataCommand.{DataCommand}
+use Rattle.pcl_items.specs.declared.pcl.command.DataCommand.TheVariants.{TransparentText, RasterRow}
+use Rattle.pcl_items.specs.declared.fault.LexCause.{LexCause}
+use Rattle.pcl_items.specs.declared.fault.LexCause.TheVariants.{Syntax, Truncated, NotInProfile, BadNumber, Pjl, EndInFrame}
+use Rattle.pcl_items.specs.declared.fault.Name.{Name}
+use Rattle.pcl_items.specs.declared.fault.Name.TheVariants as fault_names
+use Rattle.pcl_items.specs.declared.number.Number.{Number}
+use Rattle.pcl_items.specs.declared.number.Sign.{Sign}
+use Rattle.pcl_items.specs.declared.number.Sign.TheVariants.{Absent, Plus, Minus}
+use Rattle.pcl_items.specs.declared.item.SimpleItem.{SimpleItem}
+use Rattle.pcl_items.specs.declared.item.SimpleItem.TheVariants as simple
+use Rattle.pcl_items.specs.Spellings.Canon.{amount_text, canon, magnitude_text}
+use Rattle.pcl_items.specs.Escapes.Commands.{character_of, introducer_of, letter_of}
+use Rattle.pcl_items.specs.Items.{amount, simple_view}
+use Rattle.pcl_items.specs.Escapes.ValueField.{sign_text}
+use Rattle.pcl_items.proofs.Spellings.Canonical.{setting_spelled}
+use Rattle.pcl_items.proofs.Frames.Canonical.{coordinate_spelled}
+use Rattle.device_profile.specs.declared.field.Field.{Field}
+use Rattle.device_profile.specs.declared.field.Field.TheVariants.{Size}
+use Rattle.page_env.specs.declared.finding.Finding.{Finding}
+use Rattle.page_env.specs.declared.finding.Finding.TheVariants.{BadValue, Unset}
+use Rattle.page_env.specs.Order.{number_of}
+use Rattle.verdict.specs.declared.reason.Reason.{Reason}
+use Rattle.verdict.specs.declared.reason.Reason.TheVariants.{Fault, Finding as Found, Differs, Unpinnable}
+use Rattle.verdict.specs.declared.verdict.Verdict.{Verdict}
+use Rattle.verdict.specs.declared.verdict.Verdict.TheVariants.{Pass, Fail}
+use Rattle.verdict.specs.Numbers.{cause_number, reason_number}
+use Rattle.line_words.specs.Figures.{escaped_byte, named}
+use Rattle.line_words.specs.Reason.{bare_cause_name, bare_finding_name, bare_name, brackets, field_name, name_words, reason_words, short_cause, short_finding, short_reason, named_byte}
+use Rattle.preflight.specs.declared.culprit.Culprit.{Culprit}
+use Rattle.preflight.specs.declared.culprit.Culprit.TheVariants.{Text, Simple, WithData, Line}
+use Rattle.preflight.specs.declared.culprit.Judgement.{Judgement}
+use Rattle.streams.specs.declared.error.Error.{Error}
+use Rattle.streams.specs.declared.error.Error.TheVariants.{Memory, Read, Write, Turns, NoProfile, Items}
+use Rattle.job_reports.specs.CommandWords.{code_words, command_words}
+use Rattle.job_reports.specs.JobLines.{name_byte, shown_name}
+use Rattle.job_reports.specs.JobSentences.{AreNumbers, IsCulpritOfNumbers, IsOfParts, IsSentence, IsVerdictOfNumbers, IsWithin, answer_phrase, at_command, cause_phrase, error_phrase, first_of, for_printer, job_sentence, last_of, named_first, reason_phrase, subject, verdict_phrase}
+use Rattle.job_reports.specs.Reports.{Reported, culprit_of, number_told, verdict_of}
+use Rattle.requests.specs.Status.{error_words}
+use Rattle.job_reports.proofs.Within.{code_part, decimal_part, escaped_part, first_part, flat_part, joined, last_part, literal, name_at, name_part, named_part, nothing, one_of, shown_part, wider}
+
+-- ---- the item that a job fails at
+
+sign_short : (sign : Sign) → length (sign_text sign) ≤ 1
+sign_short Absent = omega arith
+sign_short Plus = omega arith
+sign_short Minus = omega arith
+
+number_short : (number : Number) → length (amount_text (amount number)) ≤ 17
+number_short number =
+    omega (arith, length-append (sign_text number.sign) (magnitude_text number.ten_thousandths), sign_short number.sign, (setting_spelled number.ten_thousandths number.within).field.short)
+
+simple_short : (item : SimpleItem) → length (canon (simple_view item)) ≤ 36
+simple_short simple.CarriageReturn = omega arith
+simple_short simple.LineFeed = omega arith
+simple_short simple.FormFeed = omega arith
+simple_short simple.Reset = omega arith
+simple_short simple.ClearMargins = omega arith
+simple_short simple.HalfLineFeed = omega arith
+simple_short (simple.Parameterized command number) =
+    let text : List ℕ = amount_text (amount number) in
+    omega (arith, length-append text (letter_of command ∷ []), number_short number)
+simple_short (simple.SymbolSet letter number) =
+    let text : List ℕ = amount_text (amount number) in
+    omega (arith, length-append text (letter.code ∷ []), number_short number)
+simple_short simple.DefaultFont = omega arith
+simple_short (simple.EnterFrame handover) = omega arith
+simple_short (simple.LeaveFrame handover) = omega arith
+simple_short simple.Initialize = omega arith
+simple_short (simple.Set setting magnitude) =
+    let text : List ℕ = magnitude_text magnitude.ten_thousandths in
+    omega (arith, length-append text (59 ∷ []), (setting_spelled magnitude.ten_thousandths magnitude.within).field.short)
+simple_short (simple.Move motion None) = omega arith
+simple_short (simple.Move motion (Some to)) =
+    let x : List ℕ = signed_decimal to.x.units in
+    let y : List ℕ = signed_decimal to.y.units in
+    omega (arith, length-append x (44 ∷ y), length-append (x ++ 44 ∷ y) (59 ∷ []), (coordinate_spelled to.x.units to.x.within).numeral.short, (coordinate_spelled to.y.units to.y.within).numeral.short)
+simple_short simple.ExitLanguage = omega arith
+
+simple_part : (item : SimpleItem) → IsWithin 144 (flat_map code_words (canon (simple_view item)))
+simple_part item =
+    let text : List ℕ = canon (simple_view item) in
+    wider 144 (flat_map code_words text) (omega (arith, simple_short item)) (flat_part code_words code_part text)
+
+counting_part : (command : DataCommand) (count : ℕ) → count < 2 ^ 64 → IsWithin 144 (command_words (WithData command count))
+counting_part TransparentText count h = wider 144 _ (omega arith) (joined (codes "ESC &p") _ (literal 6 _ refl refl) (joined (decimal count) (88 ∷ []) (decimal_part count h) (literal 1 _ refl refl)))
+counting_part RasterRow count h = wider 144 _ (omega arith) (joined (codes "ESC *b") _ (literal 6 _ refl refl) (joined (decimal count) (87 ∷ []) (decimal_part count h) (literal 1 _ refl refl)))
+
+command_part : (culprit : Culprit) → IsCulpritOfNumbers (Some culprit) → IsWithin 144 (command_words culprit)
+command_part (Text code) h = wider 144 _ (omega arith) (joined (codes "character ") (escaped_byte code) (literal 10 _ refl refl) (escaped_part code))
+command_part (Simple item) h = simple_part item
+command_part (WithData command count) h = counting_part command count h
+command_part Line h = literal 144 _ refl refl
+
+at_part : (culprit : Option Culprit) → IsCulpritOfNumbers culprit → IsWithin 146 (at_command culprit)
+at_part None h = nothing 146
+at_part (Some culprit) h = joined (codes ", ") (command_words culprit) (literal 2 _ refl refl) (command_part culprit h)
+
+-- ---- what is wrong
+
+short_cause_part : (cause : LexCause) → IsWithin 80 (short_cause cause)
+short_cause_part Syntax = literal 80 _ refl refl
+short_cause_part Truncated = literal 80 _ refl refl
+short_cause_part (NotInProfile name) = literal 80 _ refl refl
+short_cause_part BadNumber = literal 80 _ refl refl
+short_cause_part Pjl = literal 80 _ refl refl
+short_cause_part EndInFrame = literal 80 _ refl refl
+
+short_finding_part : (finding : Finding) → IsWithin 80 (short_finding finding)
+short_finding_part BadValue = literal 80 _ refl refl
+short_finding_part _ = literal 80 _ refl refl
+
+short_part : (reason : Reason) → IsWithin 80 (short_reason reason)
+short_part (Fault cause) = short_cause_part cause
+short_part (Found finding) = short_finding_part finding
+short_part Differs = literal 80 _ refl refl
+short_part Unpinnable = literal 80 _ refl refl
+
+cause_name_part : (cause : LexCause) → IsWithin 20 (bare_cause_name cause)
+cause_name_part Syntax = literal 20 _ refl refl
+cause_name_part Truncated = literal 20 _ refl refl
+cause_name_part (NotInProfile name) = literal 20 _ refl refl
+cause_name_part BadNumber = literal 20 _ refl refl
+cause_name_part Pjl = literal 20 _ refl refl
+cause_name_part EndInFrame = literal 20 _ refl refl
+
+finding_name_part : (finding : Finding) → IsWithin 20 (bare_finding_name finding)
+finding_name_part BadValue = literal 20 _ refl refl
+finding_name_part _ = literal 20 _ refl refl
+
+bare_part : (reason : Reason) → IsWithin 20 (bare_name reason)
+bare_part (Fault cause) = cause_name_part cause
+bare_part (Found finding) = finding_name_part finding
+bare_part Differs = literal 20 _ refl refl
+bare_part Unpinnable = literal 20 _ refl refl
+
+name_words_part : (name : Name) → IsWithin 9 (name_words name)
+name_words_part (fault_names.Byte b) = wider 9 _ (omega arith) (shown_part b)
+name_words_part (fault_names.Pair a b) = wider 9 _ (omega arith) (joined (named_byte a) (named_byte b) (shown_part a) (shown_part b))
+name_words_part (fault_names.Command group letter) =
+    joined (named_byte (introducer_of group) ++ named_byte (character_of group)) (named_byte letter) (joined (named_byte (introducer_of group)) (named_byte (character_of group)) (shown_part (introducer_of group)) (shown_part (character_of group))) (shown_part letter)
+
+field_part : (field : Field) → IsWithin 11 (field_name field)
+field_part Size = literal 11 _ refl refl
+field_part _ = literal 11 _ refl refl
+
+in_brackets : (n : ℕ) (text : List ℕ) → IsWithin n text → n ≤ 11 → IsWithin 13 (codes "(" ++ text ++ codes ")")
+in_brackets n text h l = wider 13 _ (omega (arith, l)) (joined (codes "(" ++ text) (codes ")") (joined (codes "(") text (literal 1 _ refl refl) h) (literal 1 _ refl refl))
+
+brackets_part : (reason : Reason) → IsWithin 13 (brackets reason)
+brackets_part (Fault (NotInProfile name)) = in_brackets 9 (name_words name) (name_words_part name) (omega arith)
+brackets_part (Found (Unset field)) = in_brackets 11 (field_name field) (field_part field) (omega arith)
+brackets_part _ = nothing 13
+
+finding_number : (finding : Finding) → number_of finding < 2 ^ 64
+finding_number BadValue = omega arith
+finding_number _ = omega arith
+
+cause_number_small : (cause : LexCause) → cause_number cause < 2 ^ 64
+cause_number_small Syntax = omega arith
+cause_number_small _ = omega arith
+
+number_small : (reason : Reason) → reason_number reason < 2 ^ 64
+number_small (Fault cause) = cause_number_small cause
+number_small (Found finding) = finding_number finding
+number_small Differs = omega arith
+number_small Unpinnable = omega arith
+
+reason_part : (reason : Reason) → IsWithin 54 (reason_words reason)
+reason_part reason =
+    joined (decimal (reason_number reason) ++ codes " ") _
+    (joined (decimal (reason_number reason)) (codes " ") (decimal_part _ (number_small reason)) (literal 1 _ refl refl))
+    (joined (bare_name reason) (brackets reason) (bare_part reason) (brackets_part reason))
+
+reason_phrase_part : (reason : Reason) → IsWithin 139 (reason_phrase reason)
+reason_phrase_part reason =
+    let front : List ℕ = codes ": " ++ short_reason reason in
+    joined ((front ++ codes " (") ++ reason_words reason) (codes ")")
+    (joined (front ++ codes " (") (reason_words reason) (joined front (codes " (") (joined (codes ": ") (short_reason reason) (literal 2 _ refl refl) (short_part reason)) (literal 2 _ refl refl)) (reason_part reason))
+    (literal 1 _ refl refl)
+
+-- ---- the answer
+
+verdict_part : (culprit : Option Culprit) (verdict : Verdict) → IsCulpritOfNumbers culprit → IsVerdictOfNumbers verdict → IsWithin 331 (verdict_phrase culprit verdict)
+verdict_part culprit (Pass pages marks) h k =
+    let front : List ℕ = named (codes " prints this job (pages=") pages in
+    let back : List ℕ = named (codes " marks=") marks in
+    wider 331 _ (omega arith) (joined (front ++ back) (codes ")") (joined front back (named_part 24 (codes " prints this job (pages=") pages refl refl k.0) (named_part 7 (codes " marks=") marks refl refl k.1)) (literal 1 _ refl refl))
+verdict_part culprit (Fail place profile reason) h k =
+    let front : List ℕ = named (codes " refuses this job at byte ") place in
+    joined (front ++ at_command culprit) (reason_phrase reason) (joined front (at_command culprit) (named_part 26 (codes " refuses this job at byte ") place refl refl k) (at_part culprit h)) (reason_phrase_part reason)
+
+subject_part : (names : List (List ℕ)) (number : ℕ) → AllByRecursion (IsWithin 32) names → IsWithin 32 (subject names number)
+subject_part names number h = one_of 32 (number == 0) (codes "each printer") (get_or names (number - 1) []) (λ e. literal 32 _ refl refl) (name_at names (number - 1) h)
+
+error_part : (error : Error) → IsWithin 40 (error_phrase error)
+error_part Memory = literal 40 _ refl refl
+error_part Read = literal 40 _ refl refl
+error_part Write = literal 40 _ refl refl
+error_part Turns = literal 40 _ refl refl
+error_part NoProfile = literal 40 _ refl refl
+error_part Items = literal 40 _ refl refl
+
+error_words_part : (error : Error) → IsWithin 20 (error_words error)
+error_words_part Memory = literal 20 _ refl refl
+error_words_part Read = literal 20 _ refl refl
+error_words_part Write = literal 20 _ refl refl
+error_words_part Turns = literal 20 _ refl refl
+error_words_part NoProfile = literal 20 _ refl refl
+error_words_part Items = literal 20 _ refl refl
+
+for_part : (names : List (List ℕ)) (number : ℕ) → AllByRecursion (IsWithin 32) names → IsWithin 37 (for_printer names number)
+for_part names number h = one_of 37 (number == 0) [] (codes " for " ++ get_or names (number - 1) []) (λ e. nothing 37) (joined (codes " for ") _ (literal 5 _ refl refl) (name_at names (number - 1) h))
+
+cause_part : (cause : Option (List ℕ)) → IsWithin 205 (cause_phrase cause)
+cause_part None = nothing 205
+cause_part (Some words) = joined (codes ": ") (first_of 200 (shown_name words)) (literal 2 _ refl refl) (first_part 200 (shown_name words) (flat_part name_byte name_part words).shown)
+
+answer_part : (report : Reported) (answer : Result Verdict Error) → AllByRecursion (IsWithin 32) report.names → IsCulpritOfNumbers (culprit_of report.answer) → IfOk answer IsVerdictOfNumbers → IsWithin 363 (answer_phrase report answer)
+answer_part report (Ok verdict) h k l = joined (subject report.names (number_told report.is_each (Ok verdict))) (verdict_phrase (culprit_of report.answer) verdict) (subject_part report.names _ h) (verdict_part (culprit_of report.answer) verdict k l)
+answer_part report (Err error) h k l =
+    let front : List ℕ = error_phrase error ++ for_printer report.names (number_told report.is_each (Err error)) in
+    wider 363 _ (omega arith)
+    (joined (((front ++ cause_phrase report.cause) ++ codes " (") ++ error_words error) (codes ")")
+    (joined ((front ++ cause_phrase report.cause) ++ codes " (") (error_words error)
+    (joined (front ++ cause_phrase report.cause) (codes " (")
+    (joined front (cause_phrase report.cause) (joined (error_phrase error) _ (error_part error) (for_part report.names _ h)) (cause_part report.cause))
+    (literal 2 _ refl refl)) (error_words_part error)) (literal 1 _ refl refl))
+
+-- ---- the sentence
+
+culprit_numbers : (answer : Result Judgement Error) → IfOk answer AreNumbers → IsCulpritOfNumbers (culprit_of answer)
+culprit_numbers (Ok judgement) h = h.1
+culprit_numbers (Err error) h = tt
+
+verdict_numbers : (answer : Result Judgement Error) → IfOk answer AreNumbers → IfOk (verdict_of answer) IsVerdictOfNumbers
+verdict_numbers (Ok judgement) h = h.0
+verdict_numbers (Err error) h = tt
+
+named_first_part : (name : List ℕ) → IsWithin 505 (named_first name)
+named_first_part name = joined (last_of 500 (shown_name name)) (codes ": ") (last_part 500 (shown_name name) (flat_part name_byte name_part name).shown) (literal 2 _ refl refl)
+
+pub sentence_is_short : (report : Reported) → IsOfParts report → IsSentence (job_sentence report)
+sentence_is_short report h =
+    let answer : List ℕ = answer_phrase report (verdict_of report.answer) in
+    (named_first report.job ++ answer, refl, wider 999 _ (omega arith) (joined (named_first report.job) answer (named_first_part report.job) (answer_part report (verdict_of report.answer) h.names (culprit_numbers report.answer h.numbers) (verdict_numbers report.answer h.numbers))))

@@ -1,0 +1,5 @@
+pub mod Appending
+mod Examples
+mod GroupFacts
+mod JobSentences
+mod Within

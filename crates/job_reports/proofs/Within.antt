@@ -1,0 +1,119 @@
+-- Texts of at most so many bytes, of which none is a control code.
+use Rattle.std.proofs.Common.{◌≡◌, ℕ, zero, suc, ◌+◌, ◌-◌, ◌*◌, ◌/◌, ◌%◌, ◌^◌, ◌==◌, ◌<◌, ◌≤◌, Bool, true, false, List, [], ◌∷◌, ◌++◌, length, take, drop, codes, refl, arith, get_or}
+use Rattle.std.specs.Prelude.{decimal, flat_map, nat_le, nat_lt, not, ◌&&◌, if◌then◌else◌}
+use Rattle.std.specs.List.{AllByRecursion}
+use Rattle.std.proofs.lemmas.Bool.{leb-true, and_parts}
+use Rattle.std.proofs.lemmas.Fmt.{decimal_by_steps, length-decimal-le}
+use Rattle.std.proofs.lemmas.List.{length-append, length-drop, length-take}
+use Rattle.line_words.specs.Figures.{escaped_byte, named}
+use Rattle.shown_bytes.specs.Shown.{hex_digit}
+use Rattle.line_words.specs.Reason.{named_byte}
+use Rattle.job_reports.specs.CommandWords.{code_words}
+use Rattle.job_reports.specs.JobLines.{name_byte}
+use Rattle.job_reports.specs.JobSentences.{IsWithin, first_of, last_of}
+
+-- no control code
+abbrev IsShown : List ℕ → Type 0
+IsShown text = AllByRecursion (λ byte. 32 ≤ byte) text
+
+-- ---- lists
+
+shown-append : (a b : List ℕ) → IsShown a → IsShown b → IsShown (a ++ b)
+shown-append [] b h k = k
+shown-append (x ∷ a) b h k = (h.0, shown-append a b h.1 k)
+
+shown-take : (n : ℕ) (text : List ℕ) → IsShown text → IsShown (take n text)
+shown-take zero text h = tt
+shown-take (suc n) [] h = tt
+shown-take (suc n) (x ∷ text) h = (h.0, shown-take n text h.1)
+
+shown-drop : (n : ℕ) (text : List ℕ) → IsShown text → IsShown (drop n text)
+shown-drop zero text h = h
+shown-drop (suc n) [] h = tt
+shown-drop (suc n) (x ∷ text) h = shown-drop n text h.1
+
+pub joined : {m n : ℕ} (a b : List ℕ) → IsWithin m a → IsWithin n b → IsWithin (m + n) (a ++ b)
+joined a b h k = record {
+  short = omega (arith, length-append a b, h.short, k.short);
+  shown = shown-append a b h.shown k.shown;
+}
+
+pub wider : {m : ℕ} (n : ℕ) (text : List ℕ) → m ≤ n → IsWithin m text → IsWithin n text
+wider n text l h = record { short = omega (arith, l, h.short); shown = h.shown }
+
+pub nothing : (n : ℕ) → IsWithin n []
+nothing n = record { short = omega arith; shown = tt }
+
+pub one_of : (most : ℕ) (test : Bool) (a b : List ℕ) → (test ≡ true → IsWithin most a) → IsWithin most b → IsWithin most (if test then a else b)
+one_of most true a b h k = h refl
+one_of most false a b h k = k
+
+-- ---- literals
+
+abbrev pub are_shown : List ℕ → Bool
+are_shown [] = true
+are_shown (b ∷ text) = nat_le 32 b && are_shown text
+
+shown_by_test : (text : List ℕ) → are_shown text ≡ true → IsShown text
+shown_by_test [] e = tt
+shown_by_test (b ∷ text) e = let both = and_parts (nat_le 32 b) (are_shown text) e in (leb-true 32 b both.0, shown_by_test text both.1)
+
+pub literal : (most : ℕ) (text : List ℕ) → nat_le (length text) most ≡ true → are_shown text ≡ true → IsWithin most text
+literal most text l e = record { short = leb-true _ _ l; shown = shown_by_test text e }
+
+-- ---- bytes
+
+hex_shown : (d : ℕ) → 32 ≤ hex_digit d
+hex_shown d = elim (nat_lt d 10) as (λ b. 32 ≤ (if b then 48 + d else 87 + d)) [ true ↦ omega arith | false ↦ omega arith ]
+
+self_part : (n b : ℕ) → 1 ≤ n → 32 ≤ b → IsWithin n (b ∷ [])
+self_part n b l h = record { short = omega (arith, l); shown = (h, tt) }
+
+digits_part : (b : ℕ) → IsWithin 2 (hex_digit (b / 16) ∷ hex_digit (b % 16) ∷ [])
+digits_part b = record { short = omega arith; shown = (hex_shown _, (hex_shown _, tt)) }
+
+pub escaped_part : (b : ℕ) → IsWithin 4 (escaped_byte b)
+escaped_part b = one_of 4 (nat_le 33 b && nat_le b 126 && not (b == 92)) (b ∷ []) _ (λ e. self_part 4 b (omega arith) (let h : 33 ≤ b = leb-true 33 b (and_parts (nat_le 33 b) (nat_le b 126) (and_parts (nat_le 33 b && nat_le b 126) (not (b == 92)) e).0).0 in omega arith)) (joined (92 ∷ 120 ∷ []) _ (literal 2 _ refl refl) (digits_part b))
+
+pub name_part : (b : ℕ) → IsWithin 4 (name_byte b)
+name_part b = one_of 4 (b == 32) (32 ∷ []) _ (λ e. self_part 4 32 (omega arith) (omega arith)) (escaped_part b)
+
+pub code_part : (b : ℕ) → IsWithin 4 (code_words b)
+code_part b =
+    one_of 4 (b == 27) (codes "ESC ") _ (λ e. literal 4 _ refl refl)
+    (one_of 4 (b == 13) (codes "CR") _ (λ e. literal 4 _ refl refl)
+    (one_of 4 (b == 10) (codes "LF") _ (λ e. literal 4 _ refl refl)
+    (one_of 4 (b == 12) (codes "FF") _ (λ e. literal 4 _ refl refl) (escaped_part b))))
+
+pub shown_part : (b : ℕ) → IsWithin 3 (named_byte b)
+shown_part b = one_of 3 (nat_le 33 b && nat_le b 126) (b ∷ []) _ (λ e. self_part 3 b (omega arith) (let h : 33 ≤ b = leb-true 33 b (and_parts (nat_le 33 b) (nat_le b 126) e).0 in omega arith)) (joined (120 ∷ []) _ (literal 1 _ refl refl) (digits_part b))
+
+-- ---- texts of many bytes
+
+pub flat_part : (f : ℕ → List ℕ) → ((b : ℕ) → IsWithin 4 (f b)) → (bytes : List ℕ) → IsWithin (4 * length bytes) (flat_map f bytes)
+flat_part f each [] = nothing _
+flat_part f each (b ∷ bytes) = wider _ _ (omega arith) (joined (f b) (flat_map f bytes) (each b) (flat_part f each bytes))
+
+pub last_part : (most : ℕ) (text : List ℕ) → IsShown text → IsWithin (3 + most) (last_of most text)
+last_part most text h =
+    one_of (3 + most) (nat_le (length text) most) text _ (λ e. record { short = let l : length text ≤ most = leb-true (length text) most e in omega arith; shown = h })
+    (joined (codes "...") _ (literal 3 _ refl refl) (record { short = omega (arith, length-drop (length text - most) text); shown = shown-drop _ text h }))
+
+pub first_part : (most : ℕ) (text : List ℕ) → IsShown text → IsWithin (most + 3) (first_of most text)
+first_part most text h =
+    one_of (most + 3) (nat_le (length text) most) text _ (λ e. record { short = let l : length text ≤ most = leb-true (length text) most e in omega arith; shown = h })
+    (joined (take most text) (codes "...") (record { short = omega (arith, length-take most text); shown = shown-take most text h }) (literal 3 _ refl refl))
+
+pub decimal_part : (n : ℕ) → n < 2 ^ 64 → IsWithin 20 (decimal n)
+decimal_part n h = record {
+  short = length-decimal-le 20 n (omega arith) (omega arith) h;
+  shown = decimal_by_steps (λ n ds. IsShown ds) (λ n h. (omega arith, tt)) (λ n ds h k. shown-append ds _ k (omega arith, tt)) n h;
+}
+
+pub name_at : (names : List (List ℕ)) (i : ℕ) → AllByRecursion (IsWithin 32) names → IsWithin 32 (get_or names i [])
+name_at [] i h = nothing 32
+name_at (name ∷ names) zero h = h.0
+name_at (name ∷ names) (suc i) h = name_at names i h.1
+
+pub named_part : (most : ℕ) (name : List ℕ) (n : ℕ) → nat_le (length name) most ≡ true → are_shown name ≡ true → n < 2 ^ 64 → IsWithin (most + 20) (named name n)
+named_part most name n l e h = joined name (decimal n) (literal most name l e) (decimal_part n h)

@@ -1,0 +1,85 @@
+//! The item that a job fails at, in words.
+ghost use Rattle.std.specs.Prelude.{◌≡◌, ◌++◌, OnOk, flat_map};
+ghost use Rattle.pcl_items.specs.Spellings.Canon.{canon};
+ghost use Rattle.pcl_items.specs.Items.{simple_view};
+ghost use Rattle.preflight.specs.declared.culprit.Culprit.TheVariants.{WithData};
+ghost use Rattle.job_reports.specs.CommandWords.{code_words, command_words};
+
+use line_words::push_escaped;
+use pcl_items::{DataCommand, Item, SimpleItem, spell};
+use preflight::Culprit;
+use shown_bytes::push_number;
+use std::alloc::{AllocError, Allocator};
+
+/// Appends an item in its canonical spelling, but without data; of a line of the job language only
+/// how it begins. ESC and the control codes stand by their names.
+pub fn push_command_words<A: Allocator + Copy>(
+    alloc: A,
+    words: &mut Vec<u8, A>,
+    culprit: Culprit,
+) -> Result<(), AllocError>
+    ensures { OnOk result (words.new.items ≡ words.old.items ++ command_words culprit) }
+{
+    match culprit {
+        Culprit::Text(code) => {
+            words.extend_from_slice(b"character ")?;
+            push_escaped(words, &[code])
+        }
+        Culprit::Simple(item) => push_simple(alloc, words, item),
+        Culprit::WithData(command, count) => push_counting(words, command, count),
+        Culprit::Line => words.extend_from_slice(b"@PJL"),
+    }
+}
+
+/// Appends an item that has no data.
+fn push_simple<A: Allocator + Copy>(
+    alloc: A,
+    words: &mut Vec<u8, A>,
+    item: SimpleItem,
+) -> Result<(), AllocError>
+    ensures { OnOk result (words.new.items ≡ words.old.items ++
+        flat_map code_words (canon (simple_view item))) }
+{
+    let mut spelling = Vec::new(alloc);
+    spell(&Item::Simple(item), &mut spelling)?;
+    push_codes(words, spelling.as_slice())
+}
+
+/// Appends a command that counts its data, without these.
+fn push_counting<A: Allocator>(
+    words: &mut Vec<u8, A>,
+    command: DataCommand,
+    count: usize,
+) -> Result<(), AllocError>
+    ensures { OnOk result (words.new.items ≡ words.old.items ++
+        command_words (WithData command count)) }
+{
+    let group = command.group();
+    words.extend_from_slice(b"ESC ")?;
+    words.extend_from_slice(&[group.introducer(), group.character()])?;
+    push_number(words, count as u64)?;
+    words.extend_from_slice(&[command.letter()])
+}
+
+/// Appends the bytes of a spelling.
+fn push_codes<A: Allocator>(words: &mut Vec<u8, A>, bytes: &[u8]) -> Result<(), AllocError>
+    ensures { OnOk result (words.new.items ≡ words.old.items ++ flat_map code_words bytes.now) }
+{
+    for byte in bytes {
+        push_code(words, *byte)?;
+    }
+    Ok(())
+}
+
+/// Appends a byte of a spelling: a control code by its name.
+fn push_code<A: Allocator>(words: &mut Vec<u8, A>, byte: u8) -> Result<(), AllocError>
+    ensures { OnOk result (words.new.items ≡ words.old.items ++ code_words byte) }
+{
+    match byte {
+        b'\x1b' => words.extend_from_slice(b"ESC "),
+        b'\r' => words.extend_from_slice(b"CR"),
+        b'\n' => words.extend_from_slice(b"LF"),
+        b'\x0c' => words.extend_from_slice(b"FF"),
+        _ => push_escaped(words, &[byte]),
+    }
+}

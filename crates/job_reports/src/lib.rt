@@ -1,0 +1,23 @@
+//! What is told of a job, as a line or a sentence, and of printers that are refused.
+#![tactic(auto)]
+
+mod command_words;
+mod groups;
+mod job_lines;
+mod job_sentences;
+mod lines;
+mod pipes;
+mod refusals;
+mod reports;
+
+pub use command_words::push_command_words;
+pub use groups::PrinterGroup;
+pub use job_lines::{push_job_line, push_shown_name};
+pub use job_sentences::{push_job_sentence, push_named_first, sentences_are_short};
+pub use lines::line_of;
+pub use pipes::{is_pipe, refuse, refuse_pipe};
+pub use refusals::{
+    push_refused_profile, push_refused_profile_sentence, push_unread, push_unread_profile,
+    push_unread_profile_sentence, tell_unread,
+};
+pub use reports::Report;

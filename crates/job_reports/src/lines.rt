@@ -1,0 +1,32 @@
+//! The lines that the program writes on standard output.
+ghost use Rattle.std.specs.Prelude.{◌≡◌, IfOk};
+ghost use Rattle.job_reports.specs.Lines.{verdict_line};
+
+use line_words::{push_named, push_reason};
+use preflight::Verdict;
+use std::alloc::{AllocError, Allocator};
+
+/// The line of a verdict, with its LF.
+pub fn line_of<A: Allocator>(alloc: A, verdict: Verdict) -> Result<Vec<u8, A>, AllocError>
+    ensures { IfOk result (λ line. line.items ≡ verdict_line verdict) }
+{
+    let mut line = Vec::new(alloc);
+    match verdict {
+        Verdict::Pass { pages, marks } => {
+            push_named(&mut line, b"PASS pages=", pages)?;
+            push_named(&mut line, b" marks=", marks)?;
+        }
+        Verdict::Fail {
+            place,
+            profile,
+            finding,
+        } => {
+            push_named(&mut line, b"FAIL at=", place)?;
+            push_named(&mut line, b" profile=", profile)?;
+            line.push(b' ')?;
+            push_reason(&mut line, finding)?;
+        }
+    }
+    line.push(b'\n')?;
+    Ok(line)
+}

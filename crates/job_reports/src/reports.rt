@@ -1,0 +1,80 @@
+//! What is told of a job.
+ghost use Rattle.std.specs.Prelude.{◌≡◌, ◌≤◌, ◌-◌, [], get_or};
+ghost use Rattle.job_reports.specs.Reports.{culprit_of, number_told, verdict_of};
+
+use crate::groups::PrinterGroup;
+use preflight::{Culprit, Judgement, Verdict};
+use std::alloc::Allocator;
+use std::marker::Model;
+use streams::Error;
+
+/// What came of a job for some printers.
+#[derive(Drop)]
+pub struct Report<'t, 'c, A: Allocator> {
+    pub printers: &'t PrinterGroup<'t, A>,
+    /// The name of the job.
+    pub job: &'t [u8],
+    pub answer: Result<Judgement, Error>,
+    /// What the system says of a read that failed.
+    pub cause: Option<&'c [u8]>,
+}
+
+impl<'t, 'c, A: Allocator> Model for Report<'t, 'c, A> {
+    ghost use Rattle.std.specs.Prelude.{option_map};
+    ghost use Rattle.job_reports.specs.Reports.{Reported};
+
+    ghost Value = { Reported };
+
+    ghost view = { λ report. record {
+      is_each = report.printers.now.is_each;
+      names = report.printers.now.names;
+      job = report.job.now;
+      answer = report.answer;
+      cause = option_map (λ words. words.now) report.cause;
+    } };
+}
+
+impl<'t, 'c, A: Allocator> Report<'t, 'c, A> {
+    /// The answer without the item that the job fails at.
+    pub fn verdict(&self) -> Result<Verdict, Error>
+        ensures { result ≡ verdict_of self.now.answer }
+    {
+        match self.answer {
+            Ok(judgement) => Ok(judgement.verdict),
+            Err(error) => Err(error),
+        }
+    }
+
+    /// The item that the job fails at.
+    pub fn culprit(&self) -> Option<Culprit>
+        ensures { result ≡ culprit_of self.now.answer }
+    {
+        match self.answer {
+            Ok(judgement) => judgement.culprit,
+            Err(_) => None,
+        }
+    }
+
+    /// The number of the printer that this is about, from 1, or 0 where it is about none alone.
+    pub fn number_told(&self) -> u64
+        ensures { result ≡ number_told self.now.is_each (verdict_of self.now.answer) }
+    {
+        match self.verdict() {
+            _ if self.printers.is_each() => 1,
+            Ok(Verdict::Fail { profile, .. }) => profile,
+            Ok(Verdict::Pass { .. }) | Err(_) => 0,
+        }
+    }
+
+    /// The name of the printer that this is about, or nothing where there are not so many.
+    pub fn printer_name(&self) -> &'t [u8]
+        requires { 1 ≤ number_told self.now.is_each (verdict_of self.now.answer) }
+        ensures { result.now ≡ get_or self.now.names
+            (number_told self.now.is_each (verdict_of self.now.answer) - 1) [] }
+    {
+        match self.printers.names().get((self.number_told() - 1) as usize) {
+            Some(name) => name.as_slice(),
+            None => &[],
+        }
+    }
+}

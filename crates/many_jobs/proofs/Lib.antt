@@ -1,0 +1,6 @@
+mod JobChecks
+mod JobNoting
+mod JobObjectExamples
+mod JsonObjectFacts
+mod JsonTextFacts
+mod Limiting

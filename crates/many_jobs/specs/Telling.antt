@@ -1,0 +1,35 @@
+-- How it is told what came of a job.
+use Rattle.std.specs.Prelude.{ℕ, Bool, List, [], ◌++◌, decimal, Result, Ok, Err}
+use Rattle.streams.specs.declared.error.Error.{Error}
+use Rattle.verdict.specs.Numbers.{reason_number}
+use Rattle.verdict.specs.declared.verdict.Verdict.{Verdict}
+use Rattle.verdict.specs.declared.verdict.Verdict.TheVariants.{Pass, Fail}
+use Rattle.meanings.specs.Explanations.{explained_by}
+use Rattle.job_reports.specs.JobLines.{job_line}
+use Rattle.many_jobs.specs.JobObjects.{job_object}
+use Rattle.job_reports.specs.JobSentences.{job_sentence}
+use Rattle.job_reports.specs.Reports.{Reported, verdict_of}
+use Rattle.many_jobs.specs.declared.telling.Format.{Format}
+use Rattle.many_jobs.specs.declared.telling.Format.TheVariants.{Line, Words, Json}
+
+-- the form, the explanations of which a FAIL and a note get their own, and whether a FAIL counts as a PASS
+pub record HowTold : Type 0 where
+  pub format : Format
+  pub explanations : List (List ℕ)
+  pub exit_zero : Bool
+
+-- what these explanations say of what is wrong
+abbrev pub explained : List (List ℕ) → Result Verdict Error → List ℕ
+explained explanations (Ok (Fail place profile reason)) = explained_by (decimal (reason_number reason)) explanations
+explained explanations (Ok (Pass pages marks)) = []
+explained explanations (Err error) = []
+
+-- the line, the sentence or the object of a job, with what stands below a line or a sentence, or in an object
+abbrev pub text_in : Format → List ℕ → Reported → List ℕ
+text_in Line below report = job_line report ++ below
+text_in Words below report = job_sentence report ++ below
+text_in (Json alloc) below report = job_object below report
+
+-- with the explanation of what is wrong
+abbrev pub report_text : HowTold → Reported → List ℕ
+report_text telling report = text_in telling.format (explained telling.explanations (verdict_of report.answer)) report

@@ -1,0 +1,144 @@
+//! A fleet as a text: a profile a line.
+ghost use Rattle.std.specs.Prelude.{◌≡◌, ◌++◌, IfErr, IfNone, IfOk, IsFalse, OnOk, option_map};
+ghost use Rattle.many_jobs.specs.FleetFile.{AddsSome, TellsOfFleet, refused_fleet, refused_text};
+
+use job_reports::{push_shown_name, push_unread};
+use named_inputs::{ProfileTexts, system_words};
+use requests::{Status, Trouble};
+use std::alloc::{AllocError, Allocator};
+use std::io;
+use std::path::Path;
+use streams::{Error, Outlet, write_text};
+
+/// A text has at most so many bytes.
+const MOST_BYTES: usize = 65_536;
+
+/// Why a fleet's text gives no printers.
+#[derive(Clone, Copy, Debug, PartialEq, Eq)]
+enum FleetFault {
+    Unreadable,
+    TooLong,
+    NoText,
+    NoPrinter,
+}
+
+/// Appends the words that a fleet's text names, in its order: each line is the path of a profile,
+/// relative to the folder of the text, or a sample; empty lines and those that begin with `#` are
+/// passed over. Of a fleet that is refused standard error tells.
+pub fn read_fleet_file<T: ProfileTexts, E: Outlet, A: Allocator + Copy>(
+    alloc: A,
+    texts: &mut T,
+    path: &str,
+    words: &mut Vec<String<A>, A>,
+    stderr: &mut E,
+) -> Result<(), Status>
+    requires texts { IsFalse (T.failed texts.old) }
+    requires stderr { IsFalse (E.state stderr.old).failed }
+    ensures named { OnOk result (AddsSome words.old.items words.new.items) }
+    ensures quiet { OnOk result (stderr.new ≡ stderr.old) }
+    ensures end { IfErr result (λ status. TellsOfFleet path.now status
+        (E.state stderr.old) (E.state stderr.new)) }
+{
+    match gather_words(alloc, texts, path, words) {
+        Ok(None) => Ok(()),
+        Ok(Some(fault)) => Err(tell_fault(alloc, path, fault, texts.error(), stderr)),
+        Err(AllocError) => Err(Status::Stopped(Error::Memory)),
+    }
+}
+
+/// Appends the words that a fleet's text names, or finds what is wrong with the text.
+fn gather_words<T: ProfileTexts, A: Allocator + Copy>(
+    alloc: A,
+    texts: &mut T,
+    path: &str,
+    words: &mut Vec<String<A>, A>,
+) -> Result<Option<FleetFault>, AllocError>
+    requires { IsFalse (T.failed texts.old) }
+    ensures { IfOk result (λ fault. IfNone fault (AddsSome words.old.items words.new.items)) }
+{
+    let text = match texts.read_text(alloc, path) {
+        Ok(text) => text,
+        Err(Error::Read) => return Ok(Some(FleetFault::Unreadable)),
+        Err(_) => return Err(AllocError),
+    };
+    if text.len() > MOST_BYTES {
+        return Ok(Some(FleetFault::TooLong));
+    }
+    let Ok(text) = str::from_utf8(text.as_slice()) else {
+        return Ok(Some(FleetFault::NoText));
+    };
+    let before = words.len();
+    for line in text.lines() {
+        let line = line.trim();
+        if !line.is_empty() && !line.starts_with('#') {
+            words.push(word_of(alloc, path, line)?)?;
+        }
+    }
+    if words.len() == before {
+        return Ok(Some(FleetFault::NoPrinter));
+    }
+    Ok(None)
+}
+
+/// The word of a line: a sample as it stands, and a path as seen from the folder of the text.
+fn word_of<A: Allocator + Copy>(alloc: A, path: &str, line: &str) -> Result<String<A>, AllocError> {
+    if line.starts_with('@') {
+        return String::from_str(alloc, line);
+    }
+    let path = Path::new(path).with_file_name(alloc, line)?;
+    Ok(path.into_string())
+}
+
+/// Tells standard error why a fleet is refused.
+fn tell_fault<E: Outlet, A: Allocator + Copy>(
+    alloc: A,
+    path: &str,
+    fault: FleetFault,
+    error: Option<io::Error>,
+    stderr: &mut E,
+) -> Status
+    requires { IsFalse (E.state stderr.old).failed }
+    ensures { TellsOfFleet path.now result (E.state stderr.old) (E.state stderr.new) }
+{
+    let told = system_words(alloc, error);
+    let cause = told.as_ref().map(|told| told.as_bytes());
+    let mut line = Vec::new(alloc);
+    if push_fault(&mut line, path, fault, cause).is_err() {
+        return Status::Stopped(Error::Memory);
+    }
+    // Where standard error takes nothing, the status alone is left to tell.
+    let _ = write_text(stderr, line.as_slice());
+    Status::Told(Trouble::Refused)
+}
+
+/// Appends why a fleet is refused.
+fn push_fault<A: Allocator>(
+    line: &mut Vec<u8, A>,
+    path: &str,
+    fault: FleetFault,
+    cause: Option<&[u8]>,
+) -> Result<(), AllocError>
+    ensures { OnOk result (line.new.items ≡ line.old.items ++
+        refused_fleet path.now fault (option_map (λ words. words.now) cause.entry)) }
+{
+    match fault {
+        FleetFault::Unreadable => push_unread(line, b"ERROR read fleet ", path, cause),
+        FleetFault::TooLong => push_refused(line, path, b": more than 65536 bytes\n"),
+        FleetFault::NoText => push_refused(line, path, b": not UTF-8 text\n"),
+        FleetFault::NoPrinter => push_refused(line, path, b": names no printer\n"),
+    }
+}
+
+/// Appends that a fleet's text is refused, with these words.
+fn push_refused<A: Allocator>(
+    line: &mut Vec<u8, A>,
+    path: &str,
+    words: &[u8],
+) -> Result<(), AllocError>
+    ensures { OnOk result (line.new.items ≡ line.old.items ++ refused_text path.now words.now) }
+{
+    line.extend_from_slice(b"ERROR fleet ")?;
+    push_shown_name(line, path.as_bytes())?;
+    line.extend_from_slice(words)?;
+    Ok(())
+}

@@ -1,0 +1,196 @@
+//! The object of a job, in a check of many: a line of JSON.
+ghost use Rattle.std.specs.Prelude.{◌≡◌, ◌++◌, IfOk, OnOk, option_map};
+ghost use Rattle.many_jobs.specs.JobObjects.{
+  error_name,
+  job_object,
+  report_members,
+  with_answer,
+  with_command,
+  with_error,
+  with_explanation,
+  with_fail,
+  with_field,
+  with_pass,
+  with_printer,
+};
+ghost use Rattle.many_jobs.specs.JsonObject.{members_of};
+ghost use Rattle.job_reports.specs.Reports.{number_told, verdict_of};
+
+use crate::json_object::Object;
+use job_reports::{Report, push_command_words};
+use line_words::{bare_name, push_field_words};
+use preflight::{Culprit, Verdict};
+use std::alloc::{AllocError, Allocator, Global};
+use streams::Error;
+use verdict::Reason;
+
+/// Appends the object of a job: its name, what came of it, for which printer, and this explanation,
+/// where there is one.
+pub fn push_job_object<A: Allocator + Copy>(
+    alloc: A,
+    memory: Global,
+    line: &mut Vec<u8, A>,
+    report: &Report<'_, '_, A>,
+    explanation: &str,
+) -> Result<(), AllocError>
+    ensures { OnOk result (line.new.items
+        ≡ line.old.items ++ job_object explanation.now report.now) }
+{
+    let object = report_object(alloc, memory, report, explanation)?;
+    let text = object.into_text()?;
+    line.extend_from_slice(text.as_bytes())?;
+    line.push(b'\n')?;
+    Ok(())
+}
+
+/// What is told of a job.
+fn report_object<A: Allocator + Copy>(
+    alloc: A,
+    memory: Global,
+    report: &Report<'_, '_, A>,
+    explanation: &str,
+) -> Result<Object, AllocError>
+    ensures { IfOk result (λ object. members_of object
+        ≡ report_members explanation.now report.now) }
+{
+    let mut object = Object::new(memory);
+    object.put_name("job", report.job)?;
+    put_printer(&mut object, report)?;
+    put_answer(alloc, &mut object, report, explanation)?;
+    Ok(object)
+}
+
+/// Puts the name of the printer that this is about.
+fn put_printer<A: Allocator>(
+    object: &mut Object,
+    report: &Report<'_, '_, A>,
+) -> Result<(), AllocError>
+    ensures { OnOk result (members_of object.new ≡ with_printer report.now.names
+        (number_told report.now.is_each (verdict_of report.now.answer)) (members_of object.old)) }
+{
+    if report.number_told() == 0 {
+        return Ok(());
+    }
+    object.put_name("printer", report.printer_name())
+}
+
+/// Puts what came of a job.
+fn put_answer<A: Allocator + Copy>(
+    alloc: A,
+    object: &mut Object,
+    report: &Report<'_, '_, A>,
+    explanation: &str,
+) -> Result<(), AllocError>
+    ensures { OnOk result (members_of object.new ≡ with_answer explanation.now report.now
+        (verdict_of report.now.answer) (members_of object.old)) }
+{
+    match report.verdict() {
+        Ok(Verdict::Pass { pages, marks }) => put_pass(object, pages, marks),
+        Ok(
+            Verdict::Fail {
+                place,
+                profile,
+                finding,
+            },
+        ) => {
+            put_fail(alloc, object, place, profile, finding)?;
+            put_command(alloc, object, report.culprit())?;
+            put_explanation(object, explanation)
+        }
+        Err(error) => put_error(object, error, report.cause),
+    }
+}
+
+fn put_pass(object: &mut Object, pages: u64, marks: u64) -> Result<(), AllocError>
+    ensures { OnOk result (members_of object.new ≡ with_pass pages marks (members_of object.old)) }
+{
+    object.put_text("verdict", "PASS")?;
+    object.put_number("pages", pages)?;
+    object.put_number("marks", marks)
+}
+
+/// Puts where a job fails, for which profile, and why.
+fn put_fail<A: Allocator>(
+    alloc: A,
+    object: &mut Object,
+    place: u64,
+    profile: u64,
+    finding: Reason,
+) -> Result<(), AllocError>
+    ensures { OnOk result (members_of object.new
+        ≡ with_fail place profile finding (members_of object.old)) }
+{
+    object.put_text("verdict", "FAIL")?;
+    object.put_number("at", place)?;
+    object.put_number("profile", profile)?;
+    object.put_number("code", u64::from(finding.number()))?;
+    object.put_words("finding", bare_name(finding))?;
+    put_field(alloc, object, finding)
+}
+
+/// Puts what stands in brackets behind the name of a finding, where there is such.
+fn put_field<A: Allocator>(alloc: A, object: &mut Object, finding: Reason) -> Result<(), AllocError>
+    ensures { OnOk result (members_of object.new ≡ with_field finding (members_of object.old)) }
+{
+    let mut words = Vec::new(alloc);
+    push_field_words(&mut words, finding)?;
+    if words.is_empty() {
+        return Ok(());
+    }
+    object.put_words("field", words.as_slice())
+}
+
+/// Puts the item that a job fails at, where there is one.
+fn put_command<A: Allocator + Copy>(
+    alloc: A,
+    object: &mut Object,
+    culprit: Option<Culprit>,
+) -> Result<(), AllocError>
+    ensures { OnOk result (members_of object.new ≡ with_command culprit (members_of object.old)) }
+{
+    match culprit {
+        Some(culprit) => {
+            let mut words = Vec::new(alloc);
+            push_command_words(alloc, &mut words, culprit)?;
+            object.put_words("command", words.as_slice())
+        }
+        None => Ok(()),
+    }
+}
+
+/// Puts an explanation, where there is one.
+pub fn put_explanation(object: &mut Object, explanation: &str) -> Result<(), AllocError>
+    ensures { OnOk result (members_of object.new
+        ≡ with_explanation explanation.now (members_of object.old)) }
+{
+    if explanation.is_empty() {
+        return Ok(());
+    }
+    object.put_text("explanation", explanation)
+}
+
+/// Puts why a job has no verdict.
+fn put_error(object: &mut Object, error: Error, cause: Option<&[u8]>) -> Result<(), AllocError>
+    ensures { OnOk result (members_of object.new ≡ with_error error
+        (option_map (λ words. words.now) cause.entry) (members_of object.old)) }
+{
+    object.put_text("verdict", "ERROR")?;
+    object.put_text("error", error_name(error))?;
+    match cause {
+        Some(words) => object.put_name("cause", words),
+        None => Ok(()),
+    }
+}
+
+fn error_name(error: Error) -> &'static str
+    ensures { result.now ≡ error_name error }
+{
+    match error {
+        Error::Memory => "memory",
+        Error::Read => "read",
+        Error::Write => "write",
+        Error::Turns => "turns",
+        Error::NoProfile => "no profile",
+        Error::Items => "items",
+    }
+}

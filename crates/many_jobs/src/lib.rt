@@ -1,0 +1,18 @@
+//! Checks of many jobs, each told of as a line, a sentence or an object.
+#![tactic(auto)]
+
+mod check_jobs;
+mod copied_texts;
+mod fleet_file;
+mod job_checks;
+mod job_noting;
+mod job_objects;
+mod json_object;
+mod json_texts;
+mod limited;
+mod note_reports;
+mod telling;
+
+pub use check_jobs::{ManyJobs, check_many};
+pub use fleet_file::read_fleet_file;
+pub use telling::{Format, Telling};

@@ -1,0 +1,61 @@
+//! How it is told what came of a job.
+ghost use Rattle.std.specs.Prelude.{◌≡◌, ◌++◌, OnOk, map};
+ghost use Rattle.many_jobs.specs.Asked.{told_by};
+ghost use Rattle.many_jobs.specs.Telling.{explained, report_text};
+
+use crate::job_objects::push_job_object;
+use job_reports::{Report, push_job_line, push_job_sentence};
+use meanings::explain::explained_by;
+use preflight::Verdict;
+use std::alloc::{AllocError, Allocator, Global};
+use streams::Error;
+
+/// The form of what is told of a job.
+#[derive(Clone, Copy)]
+pub enum Format {
+    /// A line of words and numbers.
+    Line,
+    /// A sentence.
+    Words,
+    /// An object of JSON on a line, which is put together in this memory.
+    Json(Global),
+}
+
+/// How it is told what came of jobs.
+#[derive(Clone, Copy)]
+pub struct Telling<'t> {
+    pub format: Format,
+    /// The explanations of which a FAIL and a note get their own.
+    pub explanations: &'t [&'t str],
+    /// A FAIL counts as a PASS.
+    pub exit_zero: bool,
+}
+
+/// Appends what is told of a job, and below a line or a sentence the explanation of what is wrong.
+pub fn push_report<A: Allocator + Copy>(
+    alloc: A,
+    line: &mut Vec<u8, A>,
+    report: &Report<'_, '_, A>,
+    telling: &Telling<'_>,
+) -> Result<(), AllocError>
+    ensures { OnOk result (line.new.items ≡ line.old.items ++
+        report_text (told_by telling.now) report.now) }
+{
+    let below = explained(telling.explanations, report.verdict());
+    match telling.format {
+        Format::Line => push_job_line(line, report)?,
+        Format::Words => push_job_sentence(alloc, line, report)?,
+        Format::Json(memory) => return push_job_object(alloc, memory, line, report, below),
+    }
+    line.extend_from_slice(below.as_bytes())
+}
+
+/// What these explanations say of what is wrong with a job.
+fn explained<'t>(explanations: &[&'t str], answer: Result<Verdict, Error>) -> &'t str
+    ensures { result.now ≡ explained (map (λ text. text.now) explanations.now) answer }
+{
+    match answer {
+        Ok(Verdict::Fail { finding, .. }) => explained_by(finding.number(), explanations),
+        Ok(Verdict::Pass { .. }) | Err(_) => "",
+    }
+}

@@ -1,0 +1,4 @@
+mod AskedLeft
+mod Asking
+mod Contained
+mod NameFacts

@@ -1,0 +1,57 @@
+use Rattle.std.proofs.Common.{◌≤◌, ◌∙◌, ◌++◌, ap, inl, inr, length, map, option_map, refl, string_bytes, subst}
+use Rattle.many_jobs.specs.Asked.{told_by}
+use Rattle.many_jobs.specs.CheckMany.{Asked}
+use Rattle.many_requests.proofs.Asking.{each_fleet, names_lack, no_word, no_words, some_printer}
+use Rattle.many_requests.specs.Checks.{LeavesAsked}
+use Rattle.many_requests.specs.Names.{names_in}
+use Rattle.many_requests.proofs.many.check_asked.Goals as goal
+
+pub returns-in-Err-read_names : goal.returns-in-Err-read_names
+returns-in-Err-read_names g c =
+    inr (
+      names_lack (map (λ word. word.now) c.args.words.now.fleets.items) c.args.words.now.names_from c.in-Err-read_names.status (g.E.Outlet.state c.read_fleets.new.stderr) (g.E.Outlet.state c.args.stderr.now) (g.E.Outlet.state c.read_names.new.stderr)
+          (ap g.E.Outlet.state c.in-Ok.ensures.quiet) c.in-Err-read_names.ensures.end,
+      refl,
+    )
+
+pub check_all-requires-clause-some : goal.check_all-requires-clause-some
+check_all-requires-clause-some g c =
+    let words = c.args.words.now in
+    let each = subst (λ fleets. length fleets ≤ length c.in-Ok.fleets.items) c.as_slice.ensures.value c.in-Ok.ensures.each in
+    let printers = ap (map (λ word. word.now)) c.as_slice-7.ensures.value ∙ c.in-Ok-all_printers.ensures
+    ∙ ap (λ all. map (λ word. word.now) all ++ map string_bytes c.as_slice-3.result.now) c.as_slice-2.ensures.value
+    ∙ ap (λ fleets. map (λ word. word.now) words.printers.items ++ map string_bytes fleets) c.as_slice-3.ensures.value in
+    some_printer words.printers.items words.fleets.items c.in-Ok.fleets.items string_bytes c.as_slice-7.result.now c.requires.some each printers
+
+pub returns : goal.returns
+returns g c =
+    let words = c.args.words.now in
+    let asked : Asked = record {
+      jobs = map (λ name. name.now) c.as_slice-6.result.now;
+      printers = map (λ word. word.now) c.as_slice-7.result.now;
+      most_items = words.most_items;
+      is_each = words.is_each;
+      tells_notes = words.tells_notes;
+      telling = told_by c.telling_of.result;
+    } in
+    inl (
+      asked,
+      record {
+        names = c.in-Ok-read_names.names.items;
+        of_fleets = map string_bytes c.in-Ok.fleets.items;
+        jobs = ap (map (λ name. name.now)) c.as_slice-6.ensures.value ∙ c.in-Ok-all_jobs.ensures
+            ∙ ap (λ all. map (λ word. word.now) all ++ names_in c.as_slice-5.result.now) c.as_slice-4.ensures.value
+            ∙ ap (λ names. map (λ word. word.now) words.jobs.items ++ names_in names) c.as_slice-5.ensures.value;
+        printers = ap (map (λ word. word.now)) c.as_slice-7.ensures.value ∙ c.in-Ok-all_printers.ensures
+            ∙ ap (λ all. map (λ word. word.now) all ++ map string_bytes c.as_slice-3.result.now) c.as_slice-2.ensures.value
+            ∙ ap (λ fleets. map (λ word. word.now) words.printers.items ++ map string_bytes fleets) c.as_slice-3.ensures.value;
+        no_names = λ none. c.in-Ok-read_names.ensures.none (no_word (λ word. word.now) words.names_from none);
+        no_fleets = λ none. ap (map string_bytes) (c.in-Ok.ensures.none (c.as_slice.ensures.value ∙ no_words (λ word. word.now) words.fleets.items none));
+        each_fleet = each_fleet string_bytes words.fleets.items c.in-Ok.fleets.items (subst (λ fleets. length fleets ≤ length c.in-Ok.fleets.items) c.as_slice.ensures.value c.in-Ok.ensures.each);
+        most_items = refl;
+        is_each = refl;
+        tells_notes = refl;
+        telling = c.telling_of.ensures;
+      },
+      subst (λ err. LeavesAsked (option_map (λ word. word.now) words.names_from) asked c.check_all.result (g.O.Outlet.state c.args.stdout.now) (g.O.Outlet.state c.check_all.new.stdout) (g.E.Outlet.state err) (g.E.Outlet.state c.check_all.new.stderr)) (c.in-Ok-read_names.ensures.quiet ∙ c.in-Ok.ensures.quiet) c.check_all.ensures,
+    )

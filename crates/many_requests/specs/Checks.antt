@@ -1,0 +1,105 @@
+-- What is left of a check of many jobs. Nothing is known of files beforehand, so this is said for some texts of them.
+use Rattle.std.specs.Prelude.{◌≡◌, ◌⊎◌, ◌≤◌, ◌++◌, ℕ, Bool, List, [], length, map, option_map, Contains, IsFalse, Option, None, Some, if◌then◌else◌}
+use Rattle.std.specs.declared.alloc.Global.{Global}
+use Rattle.requests.specs.declared.many_words.Form.{Form}
+use Rattle.requests.specs.declared.many_words.Form.TheVariants.{Line as LineForm, Words as WordsForm, Json as JsonForm}
+use Rattle.requests.specs.declared.many_words.ManyWords.{ManyWords}
+use Rattle.streams.specs.declared.error.Error.TheVariants.{Memory}
+use Rattle.streams.specs.Files.{no_source}
+use Rattle.streams.specs.Outlet.{OutletState}
+use Rattle.streams.specs.Source.{SourceState}
+use Rattle.many_jobs.specs.CheckMany.{Asked, LeavesMany}
+use Rattle.many_jobs.specs.FleetFile.{TellsOfFleet}
+use Rattle.job_reports.specs.Refusals.{TellsOfNames}
+use Rattle.many_jobs.specs.JobChecks.{work}
+use Rattle.many_jobs.specs.Telling.{HowTold}
+use Rattle.named_inputs.specs.Texts.{text_named}
+use Rattle.requests.specs.declared.status.Status.{Status}
+use Rattle.requests.specs.declared.status.Status.TheVariants.{Stopped}
+use Rattle.many_jobs.specs.declared.telling.Format.{Format}
+use Rattle.many_jobs.specs.declared.telling.Format.TheVariants.{Line, Words, Json}
+use Rattle.many_requests.specs.Inputs.{RefusesInput, reads_input_again}
+use Rattle.many_requests.specs.Names.{names_in}
+
+-- ---- what is asked for
+
+-- by the words: the jobs, the file of their names, the printers, the fleets, how many items macros may carry out, whether each printer is
+-- told of by itself, whether the notes of a job that passes are told, the form, the explanations of which a FAIL and a note get their own,
+-- and whether a FAIL counts as a PASS
+pub record Asking : Type 0 where
+  pub jobs : List (List ℕ)
+  pub names_from : Option (List ℕ)
+  pub printers : List (List ℕ)
+  pub fleets : List (List ℕ)
+  pub most_items : Option ℕ
+  pub is_each : Bool
+  pub tells_notes : Bool
+  pub form : Form
+  pub explanations : List (List ℕ)
+  pub exit_zero : Bool
+
+-- these words ask for that, where these are the explanations
+abbrev pub asking : List (List ℕ) → ManyWords → Asking
+asking texts words = record {
+  jobs = map (λ word. word.now) words.jobs.items;
+  names_from = option_map (λ word. word.now) words.names_from;
+  printers = map (λ word. word.now) words.printers.items;
+  fleets = map (λ word. word.now) words.fleets.items;
+  most_items = words.most_items;
+  is_each = words.is_each;
+  tells_notes = words.tells_notes;
+  form = words.form;
+  explanations = if words.explains then texts else [];
+  exit_zero = words.exit_zero;
+}
+
+-- a form, in whatever memory an object is put together
+abbrev pub IsForm : Form → Format → Type 0
+IsForm LineForm format = format ≡ Line
+IsForm WordsForm format = format ≡ Words
+IsForm JsonForm format = (memory : Global) × (format ≡ Json memory)
+
+-- it is told as it is asked for
+pub record IsTelling (asking : Asking) (telling : HowTold) : Type 0 where
+  pub form : IsForm asking.form telling.format
+  pub explanations : telling.explanations ≡ asking.explanations
+  pub exit_zero : telling.exit_zero ≡ asking.exit_zero
+
+-- What is checked: the jobs of the words and then those that the bytes of the file of names have, for the printers of the words and then
+-- those that the texts of the fleets name, one at least each.
+pub record Completes (asking : Asking) (asked : Asked) : Type 0 where
+  pub names : List ℕ
+  pub of_fleets : List (List ℕ)
+  pub jobs : asked.jobs ≡ asking.jobs ++ names_in names
+  pub printers : asked.printers ≡ asking.printers ++ of_fleets
+  pub no_names : asking.names_from ≡ None → names ≡ []
+  pub no_fleets : asking.fleets ≡ [] → of_fleets ≡ []
+  pub each_fleet : length asking.fleets ≤ length of_fleets
+  pub most_items : asked.most_items ≡ asking.most_items
+  pub is_each : asked.is_each ≡ asking.is_each
+  pub tells_notes : asked.tells_notes ≡ asking.tells_notes
+  pub telling : IsTelling asking asked.telling
+
+-- ---- what is left
+
+-- The jobs are checked, where standard input is read once at most; or they are refused for what can be read only once, and no line is
+-- written.
+abbrev pub LeavesAsked : Option (List ℕ) → Asked → Status → OutletState → OutletState → OutletState → OutletState → Type 0
+LeavesAsked names_from asked status out out' err err' =
+    (IsFalse (reads_input_again names_from asked) × (ended : List SourceState)
+    × LeavesMany (map text_named asked.printers) asked (λ name. no_source) status (work out []) (work out' ended) err err')
+    ⊎ (RefusesInput names_from asked status err err' × (out' ≡ out))
+
+-- why there is nothing to check: one of these fleets is refused, or this file of names cannot be read, of which standard error is told;
+-- or there is no memory
+abbrev pub LacksSome : List (List ℕ) → Option (List ℕ) → Status → OutletState → OutletState → Type 0
+LacksSome fleets names_from status err err' =
+    ((path : List ℕ) × Contains fleets path × TellsOfFleet path status err err')
+    ⊎ (((path : List ℕ) × (names_from ≡ Some path) × TellsOfNames path status err err')
+    ⊎ ((status ≡ Stopped Memory) × (err' ≡ err)))
+
+-- what is asked for is had and checked, or some of it cannot be had, and no line is written
+abbrev pub LeavesChecks : Asking → Status → OutletState → OutletState → OutletState → OutletState → Type 0
+LeavesChecks asking status out out' err err' =
+    ((asked : Asked) × Completes asking asked × LeavesAsked asking.names_from asked status out out' err err')
+    ⊎ (LacksSome asking.fleets asking.names_from status err err' × (out' ≡ out))

@@ -1,0 +1,81 @@
+//! Jobs whose bytes are gone once they are read.
+ghost use Rattle.std.specs.Prelude.{◌≡◌, Contains, IfNone, IfSome, IsFalse, map, option_map};
+ghost use Rattle.many_requests.specs.Inputs.{RefusesInput, is_apart, is_input, reads_input_again};
+ghost use Rattle.many_jobs.specs.Asked.{asked_for};
+
+use job_reports::{is_pipe, refuse, refuse_pipe};
+use many_jobs::ManyJobs;
+use requests::Status;
+use std::rt::Files;
+use streams::{Error, Outlet, write_text};
+
+const INPUT_AGAIN: &[u8] =
+    b"error: standard input can be read only once; --each reads a job for each printer, \
+      and --notes once more\n";
+
+/// Why a check reads a job again.
+const READ_APART: &[u8] = b"--each reads it for each printer, and --notes once more\n";
+
+/// Refuses to read standard input again, or a job that is no file: of that standard error is told.
+/// `names_from` is the file of the names of the jobs.
+pub fn refuse_inputs<R: Files + AllocGlobal, E: Outlet>(
+    rt: &R,
+    names_from: Option<&str>,
+    many: &ManyJobs<'_, '_>,
+    stderr: &mut E,
+) -> Option<Status>
+    requires { IsFalse (E.state stderr.old).failed }
+    ensures once { IfNone result (IsFalse (reads_input_again
+        (option_map (λ path. path.now) names_from.entry) (asked_for many.now))) }
+    ensures quiet { IfNone result (stderr.new ≡ stderr.old) }
+    ensures refused { IfSome result (λ status. RefusesInput
+        (option_map (λ path. path.now) names_from.entry) (asked_for many.now) status
+        (E.state stderr.old) (E.state stderr.new)) }
+{
+    if reads_input_again(names_from, many) {
+        return Some(refuse(INPUT_AGAIN, stderr));
+    }
+    if !is_apart(many) {
+        return None;
+    }
+    match first_pipe(rt, many.jobs) {
+        Some(name) => Some(refuse_pipe(rt.alloc(), name, READ_APART, stderr)),
+        None => None,
+    }
+}
+
+/// Whether standard input would be read more than once, for the names of the jobs or as a job.
+fn reads_input_again(names_from: Option<&str>, many: &ManyJobs<'_, '_>) -> bool
+    ensures { result ≡ reads_input_again (option_map (λ path. path.now) names_from.entry)
+        (asked_for many.now) }
+{
+    let of_names = usize::from(names_from.is_some_and(|path| is_input(path.as_bytes())));
+    let of_jobs = many.jobs.iter().filter(|job| is_input(job)).count();
+    of_names + of_jobs > 1 || is_apart(many) && of_jobs > 0
+}
+
+/// Whether a word names standard input.
+fn is_input(name: &[u8]) -> bool
+    ensures { result ≡ is_input name.now }
+{
+    name == b"-".as_slice()
+}
+
+/// Whether each job is read more than once.
+fn is_apart(many: &ManyJobs<'_, '_>) -> bool
+    ensures { result ≡ is_apart (asked_for many.now) }
+{
+    many.tells_notes || many.is_each && many.printers.len() > 1
+}
+
+/// The first job whose bytes are gone once they are read.
+fn first_pipe<'n, R: Files>(rt: &R, jobs: &[&'n [u8]]) -> Option<&'n [u8]>
+    ensures { IfSome result (λ name. Contains (map (λ name. name.now) jobs.now) name.now) }
+{
+    for job in jobs {
+        if is_pipe(rt, job) {
+            return Some(*job);
+        }
+    }
+    None
+}

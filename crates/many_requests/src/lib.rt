@@ -1,0 +1,8 @@
+//! A check of many jobs by request, on files.
+#![tactic(auto)]
+
+mod inputs;
+mod many;
+mod names;
+
+pub use many::check_asked;

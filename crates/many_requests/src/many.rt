@@ -1,0 +1,154 @@
+//! A check of many jobs by request, on files.
+ghost use Rattle.std.specs.Prelude.{◌≡◌, ◌≢◌, ◌≤◌, ◌++◌, [], List, ℕ, Contains, IfErr, IfOk, IsFalse, OnOk, length, map, option_map, string_bytes};
+ghost use Rattle.requests.specs.ManyWords.{NamesPrinter};
+ghost use Rattle.many_requests.specs.Checks.{IsTelling, LeavesAsked, LeavesChecks, asking};
+ghost use Rattle.many_requests.specs.Names.{names_in};
+ghost use Rattle.many_jobs.specs.Asked.{asked_for, told_by};
+ghost use Rattle.many_jobs.specs.FleetFile.{TellsOfFleet};
+
+use crate::inputs::refuse_inputs;
+use crate::names::{push_names, read_names};
+use many_jobs::{Format, ManyJobs, Telling, check_many, read_fleet_file};
+use meanings::EXPLANATIONS;
+use named_inputs::{FileJobs, FileTexts};
+use requests::{Form, ManyWords, Status};
+use std::alloc::{AllocError, Global};
+use std::io::Input;
+use std::rt::Files;
+use streams::{Error, Outlet};
+
+/// Checks many jobs. The fleets are read first, then the names of the jobs, then the profiles.
+pub fn check_asked<R: Files + Input + AllocGlobal, O: Outlet, E: Outlet>(
+    rt: &R,
+    words: &ManyWords<'_>,
+    stdout: &mut O,
+    stderr: &mut E,
+) -> Status
+    requires stdout { IsFalse (O.state stdout.old).failed }
+    requires stderr { IsFalse (E.state stderr.old).failed }
+    requires some { NamesPrinter words.now }
+    ensures { LeavesChecks (asking (map (λ text. text.now) EXPLANATIONS) words.now) result
+        (O.state stdout.old) (O.state stdout.new) (E.state stderr.old) (E.state stderr.new) }
+{
+    let alloc = rt.alloc();
+    let fleets = match read_fleets(rt, words.fleets.as_slice(), stderr) {
+        Ok(fleets) => fleets,
+        Err(status) => return status,
+    };
+    let Ok(printers) = all_printers(alloc, words.printers.as_slice(), fleets.as_slice()) else {
+        return Status::Stopped(Error::Memory);
+    };
+    let names = match read_names(rt, words.names_from, stderr) {
+        Ok(names) => names,
+        Err(status) => return status,
+    };
+    let Ok(jobs) = all_jobs(alloc, words.jobs.as_slice(), names.as_slice()) else {
+        return Status::Stopped(Error::Memory);
+    };
+    let many = ManyJobs {
+        jobs: jobs.as_slice(),
+        printers: printers.as_slice(),
+        most_items: words.most_items,
+        is_each: words.is_each,
+        tells_notes: words.tells_notes,
+        telling: telling_of(alloc, words),
+    };
+    check_all(rt, words.names_from, &many, stdout, stderr)
+}
+
+/// Checks all jobs that are asked for, unless one would be read again that can be read only once.
+/// `names_from` is the file of their names.
+fn check_all<'r, R: Files + Input + AllocGlobal, O: Outlet, E: Outlet>(
+    rt: &'r R,
+    names_from: Option<&str>,
+    many: &ManyJobs<'_, 'r>,
+    stdout: &mut O,
+    stderr: &mut E,
+) -> Status
+    requires stdout { IsFalse (O.state stdout.old).failed }
+    requires stderr { IsFalse (E.state stderr.old).failed }
+    requires some { many.now.printers.now ≢ [] }
+    ensures { LeavesAsked (option_map (λ path. path.now) names_from.entry) (asked_for many.now)
+        result (O.state stdout.old) (O.state stdout.new)
+        (E.state stderr.old) (E.state stderr.new) }
+{
+    if let Some(status) = refuse_inputs(rt, names_from, many, stderr) {
+        return status;
+    }
+    let mut jobs = FileJobs::new(rt);
+    let mut texts = FileTexts::new(rt);
+    check_many(rt.alloc(), &mut jobs, &mut texts, many, stdout, stderr)
+}
+
+/// The words that fleets name, one fleet behind another.
+fn read_fleets<R: Files + AllocGlobal, E: Outlet>(
+    rt: &R,
+    paths: &[&str],
+    stderr: &mut E,
+) -> Result<Vec<String>, Status>
+    requires { IsFalse (E.state stderr.old).failed }
+    ensures each { IfOk result (λ words. length paths.now ≤ length words.items) }
+    ensures none { IfOk result (λ words. paths.now ≡ [] → words.items ≡ []) }
+    ensures quiet { OnOk result (stderr.new ≡ stderr.old) }
+    ensures end { IfErr result (λ status. (path : List ℕ) ×
+        Contains (map (λ path. path.now) paths.now) path ×
+        TellsOfFleet path status (E.state stderr.old) (E.state stderr.new)) }
+{
+    let mut words = Vec::new(rt.alloc());
+    for path in paths {
+        let mut texts = FileTexts::new(rt);
+        read_fleet_file(rt.alloc(), &mut texts, path, &mut words, stderr)?;
+    }
+    Ok(words)
+}
+
+/// The words of printers, and behind them those of fleets.
+fn all_printers<'w>(
+    alloc: Global,
+    printers: &[&'w str],
+    fleets: &'w [String],
+) -> Result<Vec<&'w str>, AllocError>
+    ensures { IfOk result (λ all. map (λ word. word.now) all.items ≡
+        map (λ word. word.now) printers.now ++ map string_bytes fleets.now) }
+{
+    let mut all = Vec::new(alloc);
+    all.extend_from_slice(printers)?;
+    for word in fleets {
+        all.push(word.as_str())?;
+    }
+    Ok(all)
+}
+
+/// The jobs that words name, and behind them those that a file of names has.
+fn all_jobs<'n>(
+    alloc: Global,
+    jobs: &[&'n str],
+    names: &'n [u8],
+) -> Result<Vec<&'n [u8]>, AllocError>
+    ensures { IfOk result (λ all. map (λ name. name.now) all.items ≡
+        map (λ word. word.now) jobs.now ++ names_in names.now) }
+{
+    let mut all = Vec::new(alloc);
+    for job in jobs {
+        all.push(job.as_bytes())?;
+    }
+    push_names(&mut all, names)?;
+    Ok(all)
+}
+
+/// How it is told what came of a job.
+fn telling_of(alloc: Global, words: &ManyWords<'_>) -> Telling<'static>
+    ensures { IsTelling (asking (map (λ text. text.now) EXPLANATIONS) words.now) (told_by result) }
+{
+    let format = match words.form {
+        Form::Line => Format::Line,
+        Form::Words => Format::Words,
+        Form::Json => Format::Json(alloc),
+    };
+    let explanations: &'static [&'static str] = if words.explains { &EXPLANATIONS } else { &[] };
+    Telling {
+        format,
+        explanations,
+        exit_zero: words.exit_zero,
+    }
+}

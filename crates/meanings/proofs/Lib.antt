@@ -1,0 +1,2 @@
+mod ExplainFacts
+mod ExplainedReasons

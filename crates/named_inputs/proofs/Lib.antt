@@ -1,0 +1,6 @@
+mod ChoiceFacts
+mod Examples
+pub mod FleetFacts
+mod FrontFacts
+pub mod TextFacts
+mod Walks

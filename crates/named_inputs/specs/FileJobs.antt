@@ -1,0 +1,15 @@
+-- What a job stands for that is a file or standard input.
+use Rattle.std.specs.Prelude.{None}
+use Rattle.streams.specs.Source.{SourceState}
+use Rattle.named_inputs.specs.declared.ended.JobEnd.{JobEnd}
+use Rattle.named_inputs.specs.declared.file_jobs.JobSource.{JobSource}
+use Rattle.named_inputs.specs.declared.file_jobs.JobSource.TheVariants.{File, Standard, NoText}
+
+abbrev pub state_of_job : {R F I N : Type 0} → JobSource R F I N → SourceState
+state_of_job (File file) = record file.source { remaining = None }
+state_of_job (Standard input) = record { given = input.given; remaining = None; failed = input.has_failed }
+state_of_job (NoText none) = record { given = none.given; remaining = None; failed = none.has_failed }
+
+-- what a job had come to when it was ended; what it would have given is not known
+abbrev pub state_at_end : JobEnd → SourceState
+state_at_end job = record { given = job.given.pieces; remaining = None; failed = job.has_failed }

@@ -1,0 +1,42 @@
+//! What the jobs that were ended had come to. Only proofs read it: it takes no memory, and the
+//! methods do nothing at run time.
+ghost use Rattle.std.specs.Prelude.{◌≡◌, List, [], ◌∷◌, ◌++◌};
+ghost use Rattle.std.specs.Borrow.{ftrue};
+ghost use Rattle.streams.specs.Source.{SourceState};
+ghost use Rattle.named_inputs.specs.FileJobs.{state_at_end};
+
+use std::marker::Model;
+use streams::Given;
+
+/// What a job gave, and whether a read failed.
+#[derive(Drop)]
+pub struct JobEnd {
+    pub given: Given,
+    pub has_failed: bool,
+}
+
+/// The jobs that were ended so far. A clause reads them as `jobs`.
+#[derive(Drop)]
+pub struct Ended {
+    pub ghost jobs: { List SourceState },
+}
+
+impl Model for Ended {
+    ghost also_owns = { λ _. ftrue };
+}
+
+impl Ended {
+    /// Before the first job.
+    pub fn new() -> Ended
+        ensures { result.jobs ≡ [] }
+    {
+        Ended {}
+    }
+
+    /// And then this job.
+    pub fn and(&self, _job: &JobEnd) -> Ended
+        ensures { result.jobs ≡ self.now.jobs ++ state_at_end _job.now ∷ [] }
+    {
+        Ended {}
+    }
+}

@@ -1,0 +1,24 @@
+//! The jobs, the texts of profiles and the printers that words name.
+#![tactic(auto)]
+
+mod choices;
+mod ended;
+mod file_jobs;
+mod file_texts;
+mod fleet;
+mod front;
+mod jobs;
+mod kept_text;
+mod system_words;
+mod texts;
+
+pub use choices::{chosen_panel, refuse_choice};
+pub use ended::{Ended, JobEnd};
+pub use file_jobs::{FileJobs, JobSource};
+pub use file_texts::FileTexts;
+pub use fleet::{read_fleet, read_profile, refusal};
+pub use front::read_front;
+pub use jobs::Jobs;
+pub use kept_text::{KeptText, kept_error};
+pub use system_words::system_words;
+pub use texts::{ProfileTexts, read_text_from};

@@ -1,0 +1,76 @@
+//! What the program does by request, on files.
+ghost use Rattle.std.specs.Prelude.{IsFalse, map};
+ghost use Rattle.requests.specs.Words.{NamesSome};
+ghost use Rattle.pclcheck.specs.Requests.{Fulfils};
+
+use file_requests::job_texts::{check, list, notes, pages, picture, pin, plain};
+use file_requests::profiles::{from_pjl, lint, sheet, show};
+use many_requests::check_asked;
+use meanings::EXPLANATIONS;
+use meanings::explain::explain;
+use picture_command::PictureAsked;
+use profile_commands::list::profile_list;
+use profile_commands::new::profile_new;
+use requests::{PanelSetting, Request, Status};
+use std::io::Input;
+use std::rt::Files;
+use streams::Outlet;
+
+/// Does what is asked for. Its files are opened by the subcommands, as late as these say.
+pub fn fulfil<R: Files + Input + AllocGlobal, O: Outlet, E: Outlet>(
+    rt: &R,
+    request: &Request<'_>,
+    stdout: &mut O,
+    stderr: &mut E,
+) -> Status
+    requires stdout { IsFalse (O.state stdout.old).failed }
+    requires stderr { IsFalse (E.state stderr.old).failed }
+    requires some { NamesSome request.now }
+    ensures { Fulfils (map (λ text. text.now) EXPLANATIONS) request.now result
+        (O.state stdout.old) (O.state stdout.new) (E.state stderr.old) (E.state stderr.new) }
+{
+    let alloc = rt.alloc();
+    match request {
+        Request::Check { job, profiles } => check(rt, job, profiles.as_slice(), stdout),
+        Request::CheckMany(words) => check_asked(rt, words, stdout, stderr),
+        Request::List { job } => list(rt, job, stdout),
+        Request::Pages { job, profile } => pages(rt, job, profile, stdout),
+        Request::Picture {
+            job,
+            profile,
+            choices,
+            selection,
+        } => {
+            let choices = choices.as_slice();
+            let setting = PanelSetting { profile, choices };
+            let asked = PictureAsked {
+                job,
+                setting,
+                selection: *selection,
+            };
+            picture(rt, &asked, stdout, stderr)
+        }
+        Request::Notes { job, profile } => notes(rt, job, profile, stdout),
+        Request::Plain { job, out } => plain(rt, job, out, stdout),
+        Request::Pin {
+            job,
+            profile,
+            choices,
+            out,
+        } => {
+            let choices = choices.as_slice();
+            let setting = PanelSetting { profile, choices };
+            pin(rt, job, &setting, out, stdout, stderr)
+        }
+        Request::Explain { code } => explain(*code, stdout, stderr),
+        Request::ProfileList => profile_list(alloc, stdout),
+        Request::ProfileNew(words) => {
+            let papers = words.papers.as_slice();
+            profile_new(alloc, words.model, papers, words.lists, stdout, stderr)
+        }
+        Request::ProfileLint { profiles } => lint(rt, profiles.as_slice(), stdout, stderr),
+        Request::ProfileShow { profile } => show(rt, profile, stdout, stderr),
+        Request::ProfileSheet { profile, out } => sheet(rt, profile, out, stderr),
+        Request::ProfileFromPjl { answer, base } => from_pjl(rt, answer, *base, stdout, stderr),
+    }
+}

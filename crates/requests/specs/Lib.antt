@@ -1,0 +1,5 @@
+pub mod Choices
+pub mod ManyWords
+pub mod Selection
+pub mod Status
+pub mod Words

@@ -1,5 +1,0 @@
-use Rattle.subcommands.proofs.Limiting.{AreLimitedUpTo}
-use Rattle.subcommands.proofs.fleet.limit_each.Given as goal
-
-abbrev pub invariant-loop-profile : goal.invariant-loop-profile
-invariant-loop-profile g l = AreLimitedUpTo l.most l.profile-index l.initial.fleet l.fleet
