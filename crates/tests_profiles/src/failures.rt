@@ -1,7 +1,7 @@
 //! Requests for memory that are refused, and writes that fail.
 
 use crate::commands::{Command, WRITERS, status_of};
-use preflight::{Error, Outlet, Watched};
+use preflight::{Error, Watched};
 use std::alloc::Global;
 use std::process::Abort;
 use subcommands::Status;
