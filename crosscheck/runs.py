@@ -193,7 +193,7 @@ def run_file(program: Path, rows: Path) -> tuple[int, list[str]]:
         folder = Path(name) / "examples"
         shutil.copytree(ROOT / "examples", folder)
         for row, line in enumerate(rows.read_text().splitlines(), 1):
-            if line.startswith(("$ ", "file ", "more ", "sample ")):
+            if line.split(" ")[0] in ("$", "file", "more", "sample"):
                 end()
             if line and not line.startswith("#"):
                 run = read_line(run, folder, line, row) or run
