@@ -1,9 +1,7 @@
-//! The tests of profiles, over their public calls.
+//! The tests of the commands on profiles, where memory is refused or a write fails.
 #![tactic(auto)]
 
 #[cfg(test)]
-mod model_texts;
+mod commands;
 #[cfg(test)]
-mod profile_texts;
-#[cfg(test)]
-mod profiles;
+mod failures;
