@@ -31,7 +31,7 @@ class Said:
 
     @property
     def is_refused(self) -> bool:
-        return self.status == 1 and any(it.startswith("logic=not-proved") for it in self.lines[-1:])
+        return self.status == 1 and self.lines[-1].startswith(("logic=not-proved", "only="))
 
 
 class Crate:
@@ -47,30 +47,33 @@ class Crate:
     def text(self, file: str) -> str:
         return (self.folder / file).read_text(encoding="utf-8")
 
-    def check(self, texts: dict[str, str], over: Path) -> Said:
-        """Checks the crate with these texts in place of its own, over a folder of kept work."""
+    def check(self, texts: dict[str, str], over: Path, only: set[str]) -> Said:
+        """Checks the crate with these texts in place of its own, over a folder of kept work: of its
+        functions only these with those that they call, or all where none is named."""
+        words = [*self.words, "--incremental", str(over)]
+        words += [word for path in sorted(only) for word in ("--only", path)]
         with tempfile.TemporaryDirectory(dir=self.room) as name:
             for part in PARTS:
                 if (self.folder / part).is_dir():
                     shutil.copytree(self.folder / part, Path(name) / part)
             for file, text in texts.items():
                 (Path(name) / file).write_text(text, encoding="utf-8")
-            ran = subprocess.run([*self.words, "--incremental", str(over)], cwd=name, text=True,
+            ran = subprocess.run(words, cwd=name, text=True, errors="replace",
                                  stdin=subprocess.DEVNULL, stdout=subprocess.PIPE,
-                                 stderr=subprocess.STDOUT, errors="replace")
+                                 stderr=subprocess.STDOUT)
         return Said(ran.stdout.rstrip("\n").split("\n"), ran.returncode)
 
-    def prove(self) -> bool:
-        """Proves the crate as it stands, into the folder with which its edits begin."""
+    def prove(self, only: set[str]) -> bool:
+        """Proves what the edits change as it stands, into the folder with which they begin."""
         self.seed.mkdir(parents=True)
-        return self.check({}, self.seed).is_proved
+        return self.check({}, self.seed, only).is_proved
 
-    def check_edited(self, texts: dict[str, str]) -> Said:
+    def check_edited(self, texts: dict[str, str], only: set[str]) -> Said:
         """Checks the crate with these texts, over a copy of what is proved of it."""
         over = Path(tempfile.mkdtemp(dir=self.room)) / "over"
         shutil.copytree(self.seed, over, copy_function=linked)
         try:
-            return self.check(texts, over)
+            return self.check(texts, over, only)
         finally:
             shutil.rmtree(over.parent)
 
