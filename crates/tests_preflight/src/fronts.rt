@@ -82,16 +82,19 @@ fn read_past_refusal<A: Allocator, B: Allocator>(
     read_on(kept, &mut lexer, items)
 }
 
+fn is_reset(item: Item<'_>) -> bool {
+    matches!(item, Item::Simple(SimpleItem::Reset))
+}
+
 #[test]
 fn refused_piece_leaves_the_lexer(rt: HostRuntime) -> Result<(), Fail> {
     let heap = Refusing::new(rt.alloc(), 1);
     let mut items = Vec::new(rt.alloc());
     let end = read_past_refusal(rt.alloc(), &heap, &mut items)?;
     assert_eq!(rt; end, Ok(Lexed::End));
-    let is_reset = match items.as_slice() {
-        [(0, item)] => matches!(item.as_item(), Item::Simple(SimpleItem::Reset)),
-        _ => false,
-    };
-    assert!(rt; is_reset);
+    assert!(rt; items.len() == 1);
+    for (place, item) in &items {
+        assert!(rt; *place == 0 && is_reset(item.as_item()));
+    }
     Ok(())
 }
