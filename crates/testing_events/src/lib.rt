@@ -1,30 +1,13 @@
-//! For the tests: rows of jobs with their events, which a machine hands to a sink.
+//! For the tests: runs of a machine, which hands its events to a sink.
 #![tactic(auto)]
 
 use device_profile::{Profile, Sample};
-use page_env::{Fill, PageEnd, Resolution};
-use page_machine::{Machine, MarkSink, OwnedEvent, OwnedMark, Start, Stop};
+use page_env::PageEnd;
+use page_machine::{Machine, MarkSink, Start, Stop};
 use pcl_items::{Item, OwnedItem, Place};
-use sinks::Recorder;
 use std::alloc::{Allocator, Global};
 use std::test::Fail;
 use testing_items::items_of;
-
-/// An event of a row.
-#[derive(Clone, Copy)]
-pub enum Event {
-    /// A black rectangle with these edges, in ticks.
-    Rect([i64; 4]),
-    /// A row of a raster: its resolution, place in ticks and bytes.
-    RasterRow(Resolution, i64, i64, &'static [u8]),
-    /// So many copies of a page of letter paper in portrait.
-    Page(u32),
-}
-
-use Event::{Page, RasterRow, Rect};
-
-/// A job and its events.
-pub type Events = (&'static [u8], &'static [Event]);
 
 /// So many copies of a page of letter paper in portrait.
 pub fn letter(copies: u32) -> PageEnd {
@@ -90,48 +73,4 @@ pub fn run<S: MarkSink<Fault: Drop>>(
     let items = items_of(alloc, job)?;
     let profile = Sample::B.profile(alloc)?;
     all_go(alloc, &profile, &items, job.len() as u64, sink)
-}
-
-fn is_event(event: &OwnedEvent, wanted: Event) -> bool {
-    match (event, wanted) {
-        (OwnedEvent::Marked(OwnedMark::Rect(area)), Rect(edges)) => {
-            let bounds = area.bounds;
-            let [left, top, right, bottom] = edges;
-            area.fill == Fill::Solid
-                && (bounds.left.ticks(), bounds.top.ticks()) == (left, top)
-                && (bounds.right.ticks(), bounds.bottom.ticks()) == (right, bottom)
-        }
-        (OwnedEvent::Marked(OwnedMark::Row(row)), RasterRow(resolution, x, y, bytes)) => {
-            let place = (
-                row.resolution,
-                row.x.ticks(),
-                row.y.ticks(),
-                row.bytes.as_slice(),
-            );
-            place == (resolution, x, y, bytes)
-        }
-        (OwnedEvent::Ended(page), Page(copies)) => *page == letter(copies),
-        _ => false,
-    }
-}
-
-/// Whether the events are these.
-fn are_events(events: &[OwnedEvent], wanted: &[Event]) -> bool {
-    let mut are = events.len() == wanted.len();
-    for (event, wanted) in events.iter().zip(wanted) {
-        are = are && is_event(event, *wanted);
-    }
-    are
-}
-
-/// Checks that jobs go and give these events.
-pub fn check_events(alloc: Global, rows: &[Events]) -> Result<(), Fail> {
-    for (job, wanted) in rows {
-        let mut recorder = Recorder::new(alloc);
-        let goes = run(alloc, job, &mut recorder)?;
-        if !goes || !are_events(recorder.events(), wanted) {
-            return Err(Fail::new(format_args!("other events of {job:?}")));
-        }
-    }
-    Ok(())
 }

@@ -71,27 +71,6 @@ pub fn read_whole<A: Allocator, B: Allocator>(
     read_on(kept, &mut lexer, items)
 }
 
-/// Feeds the bytes one by one.
-pub fn read_bytes<A: Allocator, B: Allocator>(
-    kept: Global,
-    alloc: A,
-    bytes: &[u8],
-    items: &mut Vec<(Place, OwnedItem), B>,
-) -> Result<Last, AllocError>
-    requires { length bytes.now ≤ 4096 }
-{
-    let mut lexer = Lexer::new(alloc);
-    for byte in bytes {
-        lexer.feed(&[*byte])?;
-        match read_on(kept, &mut lexer, items)? {
-            Ok(Lexed::NeedMore) => {}
-            other => return Ok(other),
-        }
-    }
-    lexer.end_input();
-    read_on(kept, &mut lexer, items)
-}
-
 /// The items of a job without a fault, of at most 4096 bytes.
 pub fn items_of(alloc: Global, job: &[u8]) -> Result<Vec<(Place, OwnedItem)>, Fail> {
     if job.len() > 4096 {

@@ -26,9 +26,6 @@ pub enum Expected {
     Differs(u64, u64),
 }
 
-/// A job and what is expected of its check.
-pub type Row = (&'static [u8], Expected);
-
 impl Expected {
     pub fn verdict(self) -> Verdict {
         let (place, profile, finding) = match self {

@@ -1,7 +1,6 @@
 //! Requests for memory that are refused.
 
-use crate::cut_texts::FIVE_JOBS;
-use crate::jobs::PAGE;
+use crate::jobs::{FIVE_JOBS, PAGE, TWO_PAGES, WRAPPED};
 use device_profile::Profile;
 use preflight::{Error, Watched, check_job};
 use std::alloc::Global;
@@ -12,10 +11,6 @@ use testing_items::RECTANGLE;
 use testing_printers::{Printer, fleet_of};
 use testing_verdicts::Expected::{Differs, Pass};
 use testing_verdicts::{Expected, check_in_pieces};
-
-/// Two pages, with one rectangle each.
-pub const TWO_PAGES: &[u8] =
-    b"\x1bE\x1b*p300x300Y\x1b*c100a50b0P\x0c\x1b*p300X\x1b*p300Y\x1b*c0P\x0c";
 
 /// A job with each control code and each command that sets pages, margins or lines, or moves the
 /// cursor, and a rectangle.
@@ -33,10 +28,6 @@ const MACRO_OF_FRAME: &[u8] = b"\x1bE\x1b&f0X\x1b%0BIN;SP1;PD;\x1b%0A\x1b&f1X\x1
 
 /// A VMI that is set, and a macro that sets another, which is called before the cursor is pushed.
 const CALLED_SPACING: &[u8] = b"\x1bE\x1b&l8C\x1b&f1y0X\x1b&l6C\x1b&f1X\x1b&f1y3X\x1b&f0S";
-
-/// A character between lines of the job language.
-pub const WRAPPED: &[u8] =
-    b"\x1b%-12345X@PJL JOB NAME=\"x\"\n@PJL ENTER LANGUAGE=PCL\n\x1bEA\x1b%-12345X@PJL EOJ\n\x1b%-12345X";
 
 /// Printers, a job, what is expected of its check, and how many requests for memory the check makes
 /// at least: for the lexer's window, with several printers for the machines of the others and,

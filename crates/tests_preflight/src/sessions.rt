@@ -1,6 +1,6 @@
 //! Jobs that are fed to a session in pieces.
 
-use crate::cut_texts::FIVE_JOBS;
+use crate::jobs::FIVE_JOBS;
 use device_profile::Profile;
 use page_env::Finding::{DefinitionOpen, StackEmpty};
 use pcl_items::LexCause::{EndInFrame, Pjl, Truncated};
@@ -13,14 +13,7 @@ use testing_items::job_of;
 use testing_printers::Printer::{B, D};
 use testing_printers::fleet_of;
 use testing_verdicts::Expected::{Differs, Fault, Found, Pass};
-use testing_verdicts::{Expected, check_in_pieces, check_in_sizes, feed_pieces};
-
-#[test]
-fn five_jobs_in_pieces(rt: HostRuntime) -> Result<(), Fail> {
-    let fleet = fleet_of(rt.alloc(), &[B])?;
-    check_in_pieces(rt.alloc(), &fleet, FIVE_JOBS, Pass(5, 7))?;
-    Ok(())
-}
+use testing_verdicts::{Expected, check_in_sizes, feed_pieces};
 
 /// Whether a job of so many bytes, which is the front of one that passes, may come to this verdict.
 fn may_end_so(verdict: &Verdict, len: u64) -> bool {

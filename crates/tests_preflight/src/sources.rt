@@ -1,8 +1,6 @@
 //! Readers and writers, those that fail among them, and a fleet of no printer.
 
-use crate::cut_texts::FIVE_JOBS;
-use crate::jobs::PAGE;
-use crate::memory::{TWO_PAGES, WRAPPED};
+use crate::jobs::{FIVE_JOBS, PAGE, TWO_PAGES, WRAPPED};
 use device_profile::{Field, Profile};
 use page_env::Finding::Unset;
 use preflight::{Error, Source, Verdict, Watched, check_job};

@@ -1,15 +1,16 @@
 //! The texts of a job, written whole and in pieces.
 ghost use Rattle.std.specs.Prelude.{◌≡◌, false, IsFalse};
 
+use crate::jobs::{FIVE_JOBS, WRAPPED};
 use device_profile::Profile;
-use page_env::Finding;
-use pcl_items::LexCause;
 use preflight::{Error, Source, Watched};
 use renderings::{Outcome, list_job, pages_of, pin_job, plain_job};
 use std::alloc::{Allocator, Global};
 use std::process::Abort;
+use std::test::Fail;
 use testing_failures::{CutSource, FailingOutlet, FailingSource};
-use verdict::Reason;
+use testing_printers::Printer::B;
+use testing_printers::profile_of;
 
 /// A text of a job.
 #[derive(Clone, Copy, Debug)]
@@ -24,34 +25,8 @@ pub enum Text {
     Pinned,
 }
 
-/// How a text ends.
-#[derive(Clone, Copy)]
-pub enum Ending {
-    /// The job is whole.
-    Done,
-    /// A fault of the bytes at the place.
-    Fault(u64, LexCause),
-    /// A finding at the place.
-    Found(u64, Finding),
-    /// An item at the place that cannot be pinned.
-    Unpinnable(u64),
-}
-
-impl Ending {
-    pub fn outcome(self) -> Outcome {
-        let (place, profile, finding) = match self {
-            Ending::Done => return Outcome::Done,
-            Ending::Fault(place, cause) => (place, 0, Reason::Fault(cause)),
-            Ending::Found(place, finding) => (place, 1, Reason::Finding(finding)),
-            Ending::Unpinnable(place) => (place, 1, Reason::Unpinnable),
-        };
-        Outcome::Fail {
-            place,
-            profile,
-            finding,
-        }
-    }
-}
+/// The texts of a job.
+pub const TEXTS: &[Text] = &[Text::List, Text::Plain, Text::Pages, Text::Pinned];
 
 /// Writes a text of a job. Its pages are those from the first setting of the printer's panel, to
 /// which it is pinned, too.
@@ -79,41 +54,59 @@ pub fn write_text_of<S: Source, A: Allocator + Copy, P: Allocator>(
     }
 }
 
-/// A job, its text, and how the text ends.
-pub type TextRow<'a> = (&'a [u8], &'a [u8], Ending);
+/// What comes of a text, and the text.
+pub type Written<'a> = (Result<Outcome, Error>, &'a [u8]);
 
-/// Writes a text of the job of a row, which a source gives.
+/// A text of the job that a source gives comes to what is due.
 fn assert_text<S: Source>(
     rt: &impl Abort,
     alloc: Global,
     text: Text,
     profile: &Profile,
     source: &mut S,
-    row: TextRow,
+    due: Written,
 )
     requires { IsFalse (S.state source.old).failed }
 {
-    let (job, wanted, ending) = row;
     let mut outlet = FailingOutlet::new(alloc, u64::MAX);
     let answer = write_text_of(text, alloc, source, profile, &mut outlet);
-    assert_eq!(rt;
-        (answer, outlet.taken()),
-        (Ok(ending.outcome()), wanted),
-        "{text:?} of {job:?}"
-    );
+    assert_eq!(rt; (answer, outlet.taken()), due, "{text:?}");
 }
 
-/// Writes a text of a job that is read whole, byte by byte, and in two pieces that are cut at each
-/// place.
-pub fn check_text(rt: &impl Abort, alloc: Global, text: Text, profile: &Profile, row: TextRow) {
-    let (job, _, _) = row;
-    let mut whole = Watched::new(job);
-    assert_text(rt, alloc, text, profile, &mut whole, row);
+/// A text of a job that is read byte by byte, or in two pieces that are cut at each place, is that
+/// of the job that is read whole.
+fn check_pieces(rt: &impl Abort, alloc: Global, text: Text, profile: &Profile, job: &[u8]) {
+    let mut outlet = FailingOutlet::new(alloc, u64::MAX);
+    let answer = write_text_of(text, alloc, &mut Watched::new(job), profile, &mut outlet);
+    let due = (answer, outlet.taken());
     let mut bytes = FailingSource::new(job, u64::MAX);
-    assert_text(rt, alloc, text, profile, &mut bytes, row);
+    assert_text(rt, alloc, text, profile, &mut bytes, due);
     for place in 0..job.len() {
         let (first, second) = job.split_at(place);
         let mut cut = CutSource::new(first, second);
-        assert_text(rt, alloc, text, profile, &mut cut, row);
+        assert_text(rt, alloc, text, profile, &mut cut, due);
     }
+}
+
+/// Jobs of each language, and jobs that end with a fault, a finding and an item that cannot be
+/// pinned. Their texts stand in the row files of runs.
+const JOBS: &[&[u8]] = &[
+    FIVE_JOBS,
+    WRAPPED,
+    b"A\x7f\xff \x1b&p3X\x1bE\x00\x1b(8U\x1b(s10h0p12V\x1b&p0X.",
+    b"\x1b%0Bpa1-2+3-4;Pr-0+0,.0 2.\x1b%0A\r",
+    b"\x1b%0Bin;sp;pu 1,2 ,3 4",
+    b"\x1bEA\x0c\x1b&f1S",
+    b"A\x1b&f1y4X",
+];
+
+#[test]
+fn texts_of_jobs_in_pieces(rt: HostRuntime) -> Result<(), Fail> {
+    let profile = profile_of(rt.alloc(), B)?;
+    for job in JOBS {
+        for text in TEXTS {
+            check_pieces(&rt, rt.alloc(), *text, &profile, job);
+        }
+    }
+    Ok(())
 }

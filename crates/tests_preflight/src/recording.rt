@@ -1,14 +1,14 @@
 //! Sinks that count, record and compare events.
 
-use crate::machine::{character, rectangle};
 use crate::recording::Event::{Character, Letter, Line, Rect, Square};
-use page_env::{Area, Bounds, Fill, Mark, PenLine};
+use device_profile::{FontRequest, SymbolSet};
+use page_env::{Area, Bounds, Fill, Glyph, Mark, PenLine};
 use page_machine::MarkSink;
 use sinks::{Comparer, Counts, Recorder};
 use std::alloc::{AllocError, Global};
 use std::process::Abort;
 use std::test::Fail;
-use testing_events::letter;
+use testing_events::{letter, run};
 use testing_failures::Refusing;
 use tick_length::Length;
 
@@ -18,7 +18,7 @@ enum Event {
     /// A square at the corner of the page, with sides of so many 7200ths of an inch.
     Square(u32),
     /// A black area with these edges, in 7200ths of an inch.
-    Rect((u32, u32, u32, u32)),
+    Rect(Edges),
     /// A character by its code.
     Character(u8),
     /// A line of the pen: its width, and where it begins and ends, in 7200ths of an inch.
@@ -27,16 +27,50 @@ enum Event {
     Letter(u32),
 }
 
+/// A left, upper, right and lower edge, in 7200ths of an inch.
+type Edges = (u32, u32, u32, u32);
+
 fn square(side: u32) -> Mark<'static> {
-    Mark::Rect(Area {
+    Mark::Rect(rectangle((0, 0, side, side)))
+}
+
+/// A rectangle with these edges.
+fn rectangle(edges: Edges) -> Area {
+    Area {
         fill: Fill::Solid,
-        bounds: Bounds {
-            left: Length::ZERO,
-            top: Length::ZERO,
-            right: Length::of_7200ths(side),
-            bottom: Length::of_7200ths(side),
+        bounds: box_of(edges),
+    }
+}
+
+fn box_of((left, top, right, bottom): Edges) -> Bounds {
+    Bounds {
+        left: Length::of_7200ths(left),
+        top: Length::of_7200ths(top),
+        right: Length::of_7200ths(right),
+        bottom: Length::of_7200ths(bottom),
+    }
+}
+
+/// The character of a code in the first face of sample B, with its reference point at the first
+/// line of the page.
+fn character(code: u8) -> Glyph {
+    Glyph {
+        code,
+        request: FontRequest {
+            symbol_set: SymbolSet {
+                number: 100_000,
+                letter: b'U',
+            },
+            spacing: 0,
+            pitch: 100_000,
+            height: 120_000,
+            style: 0,
+            weight: 0,
+            typeface: 30_000,
         },
-    })
+        y: Length::of_7200ths(4500),
+        bounds: box_of((1800, 3600, 2520, 4800)),
+    }
 }
 
 /// A line of this width, from the first place to the second, in 7200ths of an inch.
@@ -163,4 +197,56 @@ fn a_refused_event_is_not_kept(rt: HostRuntime) {
     for (requests, recorded) in [(0, (0, none, true)), (1, (2, both, false))] {
         assert_eq!(rt; record_with(rt.alloc(), requests), recorded);
     }
+}
+
+const ROW: &[u8] = b"\x1bE\x1b*p300x300Y\x1b*t300R\x1b*r0f1A\x1b*b3W\x80\x81\x01";
+
+/// Jobs with one mark, and whether it is another than that of the row.
+const OTHERS: &[(&[u8], bool)] = &[
+    (ROW, false),
+    (
+        b"\x1bE\x1b*p301x300Y\x1b*t300R\x1b*r0f1A\x1b*b3W\x80\x81\x01",
+        true,
+    ),
+    (
+        b"\x1bE\x1b*p300x301Y\x1b*t300R\x1b*r0f1A\x1b*b3W\x80\x81\x01",
+        true,
+    ),
+    (
+        b"\x1bE\x1b*p300x300Y\x1b*t600R\x1b*r0f1A\x1b*b3W\x80\x81\x01",
+        true,
+    ),
+    (
+        b"\x1bE\x1b*p300x300Y\x1b*t300R\x1b*r0f1A\x1b*b3W\x80\x80\x01",
+        true,
+    ),
+    (
+        b"\x1bE\x1b*p300x300Y\x1b*t300R\x1b*r0f1A\x1b*b2W\x80\x81",
+        true,
+    ),
+    (b"\x1bE\x1b*p300x300Y\x1b*c24a1b0P", true),
+];
+
+#[test]
+fn rows_are_told_from_others(rt: HostRuntime) -> Result<(), Fail> {
+    let mut recorder = Recorder::new(rt.alloc());
+    assert!(rt; run(rt.alloc(), ROW, &mut recorder)?);
+    for (job, differ) in OTHERS {
+        let mut comparer = Comparer::new(recorder.events());
+        assert!(rt; run(rt.alloc(), job, &mut comparer)?);
+        assert!(rt; comparer.differs() == *differ, "{job:?}");
+    }
+    Ok(())
+}
+
+#[test]
+fn a_row_is_kept_in_memory(rt: HostRuntime) -> Result<(), Fail> {
+    // Room for its bytes, and for the list of events.
+    for (requests, kept) in [(0, 0), (1, 0), (2, 2)] {
+        let heap = Refusing::new(rt.alloc(), requests);
+        let mut recorder = Recorder::new(&heap);
+        let is_kept = run(rt.alloc(), ROW, &mut recorder)?;
+        assert!(rt; is_kept == (kept == 2) && recorder.events().len() == kept);
+    }
+    Ok(())
 }
