@@ -2,8 +2,8 @@
 
     python3 crosscheck/runs.py PROGRAM [FILE ..]
 
-A row file has these lines, with `\\n`, `\\r`, `\\t`, `\\e`, `\\\\` and `\\xHH` for bytes that it cannot
-show, and with `\\.` for none, as behind a blank at the end of a line or for a file without bytes:
+A row file has these lines, with `\\n`, `\\r`, `\\t`, `\\e`, `\\\\` and `\\xHH` for bytes that it
+cannot show, and with `\\.` for none, as behind a blank at the end of a line:
 
     # A comment.
     file NAME TEXT              a file of these bytes, for the runs behind it in this row file
@@ -21,13 +21,15 @@ show, and with `\\.` for none, as behind a blank at the end of a line or for a f
     - TEXT                      the same as `>`, without the end of the line
     into NAME                   what it writes on standard output is this file for the runs behind
                                 it, and only the parts of it that are told are compared
-    same NAME                   it writes on standard output the bytes of this file
+    same NAME                   it writes on standard output the bytes of this file;
+    same                        what was due there last
     out NAME TEXT               the bytes of a file after the run; `out NAME` alone: it is not there
+    like NAME OTHER             a file after the run has the bytes that the other had before it
 
-The bytes stand so in names and in words, too, in words when these are split: '\\n' in quotes is a
-word of one byte. All that a run writes is compared, to the byte, but where parts are told. Each row
-file has a folder of its own, in which the files of `examples/` lie. Prints what differs, and at last
-`N run, M differ`; the exit status is 0 where M is 0, else 1.
+The bytes stand so in names and in words, too, in words when these are split: '\\n' in quotes is
+a word of one byte. All that a run writes is compared, to the byte, but where parts are told. Each
+row file has a folder of its own, in which the files of `examples/` lie. Prints what differs, and at
+last `N run, M differ`; the exit status is 0 where M is 0, else 1.
 """
 
 import os
@@ -45,6 +47,7 @@ from samples import SAMPLES
 
 ROOT = Path(__file__).resolve().parent.parent
 ROWS = Path(__file__).resolve().parent / "runs"
+FILES = ("file", "more", "sample")
 ESCAPES = {"n": b"\n", "r": b"\r", "t": b"\t", "e": b"\x1b", "\\": b"\\", ".": b""}
 
 
@@ -64,6 +67,7 @@ class Run:
     parts: list[bytes] = field(default_factory=list)
     error_parts: list[bytes] = field(default_factory=list)
     into: str | None = None
+    before: bytes = b""
     outs: list[tuple[str, bytes | None]] = field(default_factory=list)
 
 
@@ -136,23 +140,30 @@ def differences(program: Path, folder: Path, run: Run) -> list[str]:
     return found
 
 
-def read_line(run: Run | None, folder: Path, line: str, row: int) -> Run | None:
-    """Takes a line of a row file; gives the run that it begins."""
-    kind, _, rest = line.partition(" ")
-    if kind == "file":
-        name, _, text = rest.partition(" ")
-        write_file(path_of(folder, name), bytes_of(text))
+def make(folder: Path, kind: str, words: str) -> None:
+    """Makes a file for the runs behind it, or one that is longer."""
+    if kind == "sample":
+        sample(folder, words)
     elif kind == "more":
-        name, times, text = rest.split(" ", 2)
+        name, times, text = words.split(" ", 2)
         with path_of(folder, name).open("ab") as file:
             file.write(bytes_of(text) * int(times))
-    elif kind == "sample":
-        sample(folder, rest)
-    elif kind == "$":
-        return Run([bytes_of(word) for word in shlex.split(rest)], row)
-    elif run is None:
-        raise RowError(f"'{line}' stands behind no run")
-    elif kind == "<":
+    else:
+        name, _, text = words.partition(" ")
+        write_file(path_of(folder, name), bytes_of(text))
+
+
+def due_out(folder: Path, kind: str, words: str) -> tuple[str, bytes | None]:
+    """The file that a run writes, and what is due of it."""
+    name, is_told, text = words.partition(" ")
+    if kind == "like":
+        return name, path_of(folder, text).read_bytes()
+    return name, bytes_of(text) if is_told else None
+
+
+def take(run: Run, folder: Path, kind: str, rest: str) -> bool:
+    """Takes what is due of a run, and tells whether this is a line of that."""
+    if kind == "<":
         run.stdin = rest
     elif kind == "=":
         run.status = int(rest)
@@ -168,23 +179,36 @@ def read_line(run: Run | None, folder: Path, line: str, row: int) -> Run | None:
         run.into = rest
         run.parts.append(b"")
     elif kind == "same":
-        run.stdout += path_of(folder, rest).read_bytes()
-    elif kind == "out":
-        name, has_text, text = rest.partition(" ")
-        run.outs.append((name, bytes_of(text) if has_text else None))
+        run.stdout += path_of(folder, rest).read_bytes() if rest else run.before
+    elif kind in ("out", "like"):
+        run.outs.append(due_out(folder, kind, rest))
     else:
+        return False
+    return True
+
+
+def read_line(run: Run | None, folder: Path, line: str, row: int) -> Run | None:
+    """Takes a line of a row file; gives the run that it begins."""
+    kind, _, rest = line.partition(" ")
+    if kind in FILES:
+        make(folder, kind, rest)
+    elif kind == "$":
+        return Run([bytes_of(word) for word in shlex.split(rest)], row)
+    elif run is None:
+        raise RowError(f"'{line}' stands behind no run")
+    elif not take(run, folder, kind, rest):
         raise RowError(f"'{line}' is no line of a row file")
     return None
 
 
 def run_file(program: Path, rows: Path) -> tuple[int, list[str]]:
     """How many runs a row file has, and what differs."""
-    count, found, run = 0, [], None
+    count, found, run, before = 0, [], None, b""
 
     def end() -> None:
-        nonlocal count, run
+        nonlocal count, run, before
         if run is not None:
-            count += 1
+            count, before = count + 1, run.stdout or before
             told = f"{rows.name}:{run.row}: {b' '.join(run.words)!r}"
             found.extend(f"{told}: {it}" for it in differences(program, folder, run))
             run = None
@@ -193,10 +217,13 @@ def run_file(program: Path, rows: Path) -> tuple[int, list[str]]:
         folder = Path(name) / "examples"
         shutil.copytree(ROOT / "examples", folder)
         for row, line in enumerate(rows.read_text().splitlines(), 1):
-            if line.startswith(("$ ", "file ", "more ", "sample ")):
+            kind = line.split(" ")[0]
+            if kind in ("$", *FILES):
                 end()
             if line and not line.startswith("#"):
                 run = read_line(run, folder, line, row) or run
+            if kind == "$":
+                run.before = before
         end()
     return count, found
 
