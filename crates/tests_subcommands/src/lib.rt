@@ -1,17 +1,18 @@
-//! The tests of the subcommands that read one job, and of what they share.
+//! The tests of the commands on jobs: reads, writes and requests for memory that fail, and jobs that
+//! change or come in pieces. What the commands write of files stands in `crosscheck/runs`.
 #![tactic(auto)]
 
-#[cfg(test)]
-mod checks;
 #[cfg(test)]
 mod commands;
 #[cfg(test)]
 mod explanations;
 #[cfg(test)]
-mod file_texts;
-#[cfg(test)]
 mod fleets;
+#[cfg(test)]
+mod job_notes;
 #[cfg(test)]
 mod lines;
 #[cfg(test)]
-mod overwriting;
+mod many_jobs;
+#[cfg(test)]
+mod many_stops;

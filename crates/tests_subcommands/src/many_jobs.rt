@@ -1,4 +1,4 @@
-//! Runs of `check` on many jobs, and what comes of them.
+//! Runs of `check` on many jobs, of which some cannot be read or change.
 
 use device_profile::Sample;
 use many_jobs::{Format, ManyJobs, Telling, check_many};
@@ -12,23 +12,16 @@ use testing_files::{Change, KeptJobs, KeptTexts, Named, NamedJob};
 use testing_items::RECTANGLE;
 
 /// All reads succeed.
-pub const SOUND: u64 = u64::MAX;
+const SOUND: u64 = u64::MAX;
 
 /// The jobs of the rows. No job is named `gone`.
 const JOBS: &[NamedJob] = &[
-    (b"empty", b"", SOUND),
-    (b"move", b"\x1bE\x1b*p300X", SOUND),
     (b"in/note 4711.pcl", RECTANGLE, SOUND),
     (b"plex", b"\x1b&l1S\x1b&l2H", SOUND),
     (b"fault", b"\x1b&l66P", SOUND),
     // A read that is not reached fails, and one that is.
     (b"early", b"\x1b)", 2),
     (b"cut", RECTANGLE, 5),
-    (b"-a\n\\\xff '\xc3\xa4'", b"", SOUND),
-    (b"", b"", SOUND),
-    (b"macros", TWO_OF_THREE, SOUND),
-    (b"nested", TWO_WITH_THREE, SOUND),
-    (b"overlaid", TWO_PAGES_OF_THREE, SOUND),
     // A page between two resets leaves nothing to the printer.
     (b"whole", b"\x1bE\x1b&l0O\x0c\x1bE", SOUND),
     // A page without a reset.
@@ -40,46 +33,10 @@ const JOBS: &[NamedJob] = &[
     (b"noted cut", b"\x1b&k12H\x0c", 6),
 ];
 
-/// A macro of three items, which is executed and called.
-const TWO_OF_THREE: &[u8] = b"\x1b&f1Y\x1b&f0X\r\r\r\x1b&f1X\x1b&f2X\x1b&f3X";
-
-/// A macro of three items, and one of two that executes it and is called.
-const TWO_WITH_THREE: &[u8] = b"\x1b&f1Y\x1b&f0X\r\r\r\x1b&f1X\
-    \x1b&f2Y\x1b&f0X\x1b&f1Y\x1b&f2X\x1b&f1X\x1b&f3X";
-
-/// A macro of three items, which is the overlay of two pages.
-const TWO_PAGES_OF_THREE: &[u8] = b"\x1b&f1Y\x1b&f0X\r\r\r\x1b&f1X\x1b&f4X\x0c\x0c";
-
-/// Texts of printers, and one that is refused. No text is named `none`.
-fn texts() -> [Named<'static>; 6] {
-    [
-        ("a", Sample::A.text()),
-        ("b", Sample::B.text()),
-        ("moved", MOVED),
-        ("export", EXPORT),
-        ("wide", WIDE),
-        ("in/un known", b"pclprofile 1\ncolour 1\n"),
-    ]
+/// Texts of printers. No text is named `none`.
+fn texts() -> [Named<'static>; 3] {
+    [("b", Sample::B.text()), ("export", EXPORT), ("wide", WIDE)]
 }
-
-/// A printer named as sample B, with a logical page that begins 1/120 inch further right.
-const MOVED: &[u8] = b"\
-pclprofile 1
-name B
-size 2
-orientation 0
-vmi 8
-font 1
-copies 1
-sides 0
-tray 1
-trays 1 2
-duplex 1
-depth 2
-memory 100
-geometry 2 0 61200 79200 1860 0 57600 79200 1200 1200 60000 78000
-face 1 10U 10 12 0 0 3 720 900 300 33-126
-";
 
 /// A printer without duplex, with one tray and one face.
 const EXPORT: &[u8] = b"\
@@ -134,14 +91,10 @@ pub struct Manner {
     pub form: Form,
     /// Each printer has lines of its own.
     pub is_each: bool,
-    /// A FAIL counts as a PASS.
-    pub exit_zero: bool,
     /// A FAIL and a note get their explanations.
     pub explains: bool,
     /// The notes of a job that passes are told.
     pub tells_notes: bool,
-    /// How many items macros may carry out in a job, where that is limited.
-    pub most_items: Option<u64>,
     /// A job that is read otherwise than its name says.
     pub change: Option<Change>,
 }
@@ -150,10 +103,8 @@ pub struct Manner {
 pub const TOGETHER: Manner = Manner {
     form: Form::Line,
     is_each: false,
-    exit_zero: false,
     explains: false,
     tells_notes: false,
-    most_items: None,
     change: None,
 };
 
@@ -193,7 +144,7 @@ impl Manner {
         Telling {
             format,
             explanations: if self.explains { &EXPLANATIONS } else { &[] },
-            exit_zero: self.exit_zero,
+            exit_zero: false,
         }
     }
 }
@@ -214,7 +165,7 @@ pub fn run_of<H: Allocator + Copy>(
     let asked = ManyJobs {
         jobs,
         printers,
-        most_items: manner.most_items,
+        most_items: None,
         is_each: manner.is_each,
         tells_notes: manner.tells_notes,
         telling: manner.telling(alloc),
@@ -238,12 +189,12 @@ pub fn run_of<H: Allocator + Copy>(
 }
 
 /// A text, for a message.
-pub fn shown(text: &[u8]) -> &str {
+fn shown(text: &[u8]) -> &str {
     str::from_utf8(text).unwrap_or("not UTF-8")
 }
 
 /// Does what each row asks for, and compares what came of it.
-pub fn check_runs(
+fn check_runs(
     rt: &(impl Abort + AllocGlobal),
     rows: &[(Run, Answer<'static>)],
 ) -> Result<(), Fail> {
@@ -253,4 +204,125 @@ pub fn check_runs(
         assert!(rt; told == *answer, "{}{}", shown(told.1), shown(told.2));
     }
     Ok(())
+}
+
+const IN_WORDS: Manner = Manner {
+    form: Form::Words,
+    ..TOGETHER
+};
+
+/// Jobs and a profile that cannot be read.
+const UNREAD: &[(Run, Answer<'static>)] = &[
+    (
+        (
+            &["b", "export"],
+            &[b"early", b"cut", b"gone", b"plex"],
+            TOGETHER,
+        ),
+        (
+            3,
+            b"FAIL at=0 3 NotInProfile()) early\n\
+              ERROR read cut: no more reads\n\
+              ERROR read gone: no more reads\n\
+              FAIL at=0 printer=export-desk 11 NotOnDevice plex\n",
+            b"",
+        ),
+    ),
+    // The system does not say why.
+    (
+        (&["b", "none"], &[b"early"], TOGETHER),
+        (3, b"", b"ERROR read profile none\n"),
+    ),
+    (
+        (&["b", "none"], &[b"early"], IN_WORDS),
+        (3, b"", b"none: this profile cannot be read (ERROR read)\n"),
+    ),
+];
+
+const NOTED: Manner = Manner {
+    tells_notes: true,
+    ..TOGETHER
+};
+
+/// A job that passes, and how it or the next one is then read.
+const CHANGED: &[(Run, Answer<'static>)] = &[
+    // Reading it again fails.
+    (
+        (
+            &["b", "wide"],
+            TWO,
+            Manner {
+                change: Some(Change {
+                    behind: 1,
+                    bytes: b"\x0c",
+                    reads: 1,
+                }),
+                ..NOTED
+            },
+        ),
+        (
+            3,
+            b"PASS pages=1 marks=0 turned\n\
+              ERROR read turned: no more reads\n\
+              PASS pages=1 marks=0 whole\n",
+            b"",
+        ),
+    ),
+    // It now fails, so it is another job.
+    (
+        (
+            &["b", "wide"],
+            TWO,
+            Manner {
+                change: Some(Change {
+                    behind: 1,
+                    bytes: b"\x0c\x1b&l66P",
+                    reads: SOUND,
+                }),
+                ..NOTED
+            },
+        ),
+        (
+            3,
+            b"PASS pages=1 marks=0 turned\n\
+              ERROR read turned: it was another job when it was read again for its notes\n\
+              PASS pages=1 marks=0 whole\n",
+            b"",
+        ),
+    ),
+    // The next one cannot be read the first time.
+    (
+        (
+            &["b", "wide"],
+            TWO,
+            Manner {
+                change: Some(Change {
+                    behind: 2,
+                    bytes: b"",
+                    reads: 0,
+                }),
+                ..NOTED
+            },
+        ),
+        (
+            3,
+            b"PASS pages=1 marks=0 turned\n\
+              NOTE at=8 printer=B 105 SameOrientation turned\n\
+              ERROR read whole: no more reads\n",
+            b"",
+        ),
+    ),
+];
+
+/// Two jobs, the first with a note.
+const TWO: &[&[u8]] = &[b"turned", b"whole"];
+
+#[test]
+fn a_job_that_cannot_be_read_ends_alone(rt: HostRuntime) -> Result<(), Fail> {
+    check_runs(&rt, UNREAD)
+}
+
+#[test]
+fn a_job_that_changes_has_no_notes(rt: HostRuntime) -> Result<(), Fail> {
+    check_runs(&rt, CHANGED)
 }

@@ -1,5 +1,0 @@
-//! The tests of notes.
-#![tactic(auto)]
-
-#[cfg(test)]
-mod job_notes;
