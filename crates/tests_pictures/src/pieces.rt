@@ -27,7 +27,7 @@ struct Drawn {
 }
 
 /// Draws the pages of a job, which a source gives.
-fn drawn<S: Source>(alloc: Global, profile: &Profile, source: &mut S) -> Drawn
+fn draw<S: Source>(alloc: Global, profile: &Profile, source: &mut S) -> Drawn
     requires { IsFalse (S.state source.old).failed }
 {
     let panel = profile.first_panel();
@@ -44,11 +44,11 @@ fn drawn<S: Source>(alloc: Global, profile: &Profile, source: &mut S) -> Drawn
 fn pieces_are_drawn_as_the_whole(rt: HostRuntime) -> Result<(), Fail> {
     let profile = Sample::A.profile(rt.alloc())?;
     for job in JOBS {
-        let whole = drawn(rt.alloc(), &profile, &mut Watched::new(*job));
+        let whole = draw(rt.alloc(), &profile, &mut Watched::new(*job));
         assert!(rt; whole.answer.is_ok() && whole.outlet.taken().ends_with(b"</html>\n"));
         for place in 0..job.len() {
             let (first, second) = job.split_at(place);
-            let cut = drawn(rt.alloc(), &profile, &mut CutSource::new(first, second));
+            let cut = draw(rt.alloc(), &profile, &mut CutSource::new(first, second));
             assert!(rt;
                 cut.answer == whole.answer && cut.outlet.taken() == whole.outlet.taken(),
                 "{job:?} at {place}"
