@@ -3,7 +3,7 @@
 use crate::answers::Answer::{Asks, Help, Overwrites, Picture, Pin, Text, Wrong};
 use crate::answers::{Answer, Many, Row, check_words};
 use device_profile::Field;
-use job_picture::Selection::{All, One};
+use requests::Selection::{All, One};
 use requests::{Form, Input};
 use std::test::Fail;
 

@@ -3,7 +3,6 @@ ghost use Rattle.std.specs.Prelude.{IsFalse};
 
 use crate::job_pictures::Ending::{Done, Fault, Found};
 use device_profile::Profile;
-use job_picture::Selection::{All, One};
 use job_picture::{Wanted, picture_of};
 use page_env::Finding;
 use page_env::Finding::OffPage;
@@ -11,6 +10,7 @@ use pcl_items::LexCause::{NotInProfile, Truncated};
 use pcl_items::{LexCause, Name};
 use renderings::Outcome;
 use requests::Selection;
+use requests::Selection::{All, One};
 use std::alloc::{AllocError, Global};
 use std::process::Abort;
 use std::test::Fail;

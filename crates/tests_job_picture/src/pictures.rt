@@ -1,8 +1,8 @@
 //! The command `picture`: its exit status, and what it writes.
 
 use device_profile::{Field, Sample};
-use job_picture::Selection::{All, One};
 use picture_command::{PictureAsked, picture};
+use requests::Selection::{All, One};
 use requests::{Choice, PanelSetting, Selection, tell};
 use std::alloc::{Allocator, Global};
 use std::process::Abort;

@@ -2,7 +2,6 @@
 ghost use Rattle.std.specs.Prelude.{◌≡◌, false, IsFalse};
 
 use device_profile::Sample;
-use preflight::Outlet;
 use printer_models::PanelLists;
 use profile_commands::from_pjl::profile_from_pjl;
 use profile_commands::lint::profile_lint;
@@ -10,9 +9,9 @@ use profile_commands::list::profile_list;
 use profile_commands::new::profile_new;
 use profile_commands::sheet::profile_sheet;
 use profile_commands::show::profile_show;
+use requests::{Status, tell};
 use std::alloc::Allocator;
-use streams::Create;
-use subcommands::{Status, tell};
+use streams::{Create, Outlet};
 use testing_failures::FailingSource;
 use testing_files::{KeptTexts, Named};
 

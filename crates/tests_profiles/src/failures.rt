@@ -2,9 +2,9 @@
 
 use crate::commands::{Command, WRITERS, status_of};
 use preflight::{Error, Watched};
+use requests::Status;
 use std::alloc::Global;
 use std::process::Abort;
-use subcommands::Status;
 use testing_failures::{FailingOutlet, Refusing};
 use testing_files::File;
 
