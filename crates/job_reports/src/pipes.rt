@@ -47,7 +47,7 @@ fn pipe_again(alloc: Global, name: &[u8], why: &[u8]) -> Result<Vec<u8>, AllocEr
 }
 
 /// Tells standard error why words are refused.
-fn refuse<E: Outlet>(text: &[u8], stderr: &mut E) -> Status
+pub fn refuse<E: Outlet>(text: &[u8], stderr: &mut E) -> Status
     requires { IsFalse (E.state stderr.old).failed }
     ensures status { result ≡ Status.Usage }
     ensures text { Writes (E.state stderr.old) (E.state stderr.new) text.now }

@@ -6,7 +6,7 @@ use crate::job_lines::{push_cause, push_shown_name};
 use crate::job_sentences::{push_cause_phrase, push_named_first};
 use device_profile::Cause;
 use line_words::push_named;
-use named_inputs::system_words;
+use named_inputs::system_words::system_words;
 use requests::{Status, Trouble, cause_name};
 use std::alloc::{AllocError, Allocator};
 use std::io;

@@ -3,7 +3,8 @@ ghost use Rattle.std.specs.Prelude.{◌≡◌, ◌++◌, IfErr, IfNone, IfOk, Is
 ghost use Rattle.many_jobs.specs.FleetFile.{AddsSome, TellsOfFleet, refused_fleet, refused_text};
 
 use job_reports::{push_shown_name, push_unread};
-use named_inputs::{ProfileTexts, system_words};
+use named_inputs::ProfileTexts;
+use named_inputs::system_words::system_words;
 use requests::{Status, Trouble};
 use std::alloc::{AllocError, Allocator};
 use std::io;

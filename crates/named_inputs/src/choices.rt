@@ -8,7 +8,7 @@ use device_profile::{Field, Panel, Profile};
 use line_words::{push_number_word, push_value_word};
 use requests::{Choice, Status, field_word};
 use std::alloc::{AllocError, Allocator};
-use streams::{Outlet, write_text};
+use streams::{Error, Outlet, write_text};
 
 /// The panel has this value in its field.
 fn choose(panel: &mut Panel, choice: Choice)

@@ -9,7 +9,7 @@ mod fleet;
 mod front;
 mod jobs;
 mod kept_text;
-mod system_words;
+pub mod system_words;
 mod texts;
 
 pub use choices::{chosen_panel, refuse_choice};
@@ -20,5 +20,4 @@ pub use fleet::{read_fleet, read_profile, refusal};
 pub use front::read_front;
 pub use jobs::Jobs;
 pub use kept_text::{KeptText, kept_error};
-pub use system_words::system_words;
 pub use texts::{ProfileTexts, read_text_from};
