@@ -30,12 +30,8 @@ pub struct Change {
 }
 
 impl KeptJobs {
-    pub fn new(jobs: &'static [NamedJob]) -> KeptJobs {
-        KeptJobs::with_change(jobs, None)
-    }
-
-    /// Jobs of which one changes.
-    pub fn with_change(jobs: &'static [NamedJob], change: Option<Change>) -> KeptJobs {
+    /// Jobs, of which one may change.
+    pub fn new(jobs: &'static [NamedJob], change: Option<Change>) -> KeptJobs {
         KeptJobs {
             jobs,
             change,

@@ -16,8 +16,6 @@ pub struct KeptTexts<'a> {
     /// What the reads of the last text gave.
     reads: Given,
     pub has_failed: bool,
-    /// How many texts were asked for.
-    pub asked: u64,
 }
 
 impl<'a> KeptTexts<'a> {
@@ -29,7 +27,6 @@ impl<'a> KeptTexts<'a> {
             given: Given::new(),
             reads: Given::new(),
             has_failed: false,
-            asked: 0,
         }
     }
 
@@ -54,7 +51,6 @@ impl ProfileTexts for KeptTexts<'_> {
     ghost failed = { λ kept. kept.has_failed };
 
     fn read_text<A: Allocator>(&mut self, alloc: A, word: &str) -> Result<Vec<u8, A>, Error> {
-        self.asked = self.asked.saturating_add(1);
         let Some(text) = self.text_named(word) else {
             self.has_failed = true;
             return Err(Error::Read);

@@ -161,7 +161,7 @@ pub fn run_of<H: Allocator + Copy>(
     }
     let named = texts();
     let mut texts = KeptTexts::new(&named);
-    let mut kept = KeptJobs::with_change(JOBS, manner.change);
+    let mut kept = KeptJobs::new(JOBS, manner.change);
     let asked = ManyJobs {
         jobs,
         printers,
