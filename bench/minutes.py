@@ -36,8 +36,8 @@ def kind_of(name: str, words: list[str]) -> str | None:
     """The kind of a process, if it is one of the toolchain."""
     if name != "rattle":
         return "LLVM" if LLVM.match(name) else None
-    if "--incremental" in words and "/rt-edits-" in " ".join(words):
-        over = words[words.index("--incremental") + 1]
+    over = words[words.index("--incremental") + 1] if "--incremental" in words else ""
+    if "edits-" in over:
         return "second proof" if over.endswith("/seed") else "edits"
     return "tests" if "--test" in words else "proof"
 
