@@ -11,6 +11,7 @@ use Rattle.streams.specs.declared.error.Error.{Error}
 use Rattle.streams.specs.declared.error.Error.TheVariants.{Memory, Read, Write, Turns, NoProfile, Items}
 use Rattle.renderings.specs.declared.outcome.Outcome.{Outcome}
 use Rattle.streams.specs.Outlet.{OutletState, Adds, AddsFront}
+use Rattle.streams.specs.Writing.{Puts}
 use Rattle.renderings.specs.Due.{Rendering, IsDue}
 
 -- ---- one item, or what comes behind the last
