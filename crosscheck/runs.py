@@ -2,8 +2,8 @@
 
     python3 crosscheck/runs.py PROGRAM [FILE ..]
 
-A row file has these lines, with `\\n`, `\\r`, `\\t`, `\\e`, `\\\\` and `\\xHH` for bytes that it cannot
-show, and with `\\.` for none, as in a file without bytes:
+A row file has these lines, with `\\n`, `\\r`, `\\t`, `\\e`, `\\\\` and `\\xHH` for bytes that it
+cannot show, and with `\\.` for none, as behind a blank at the end of a line:
 
     # A comment.
     file NAME TEXT              a file of these bytes, for the runs behind it in this row file
@@ -16,17 +16,23 @@ show, and with `\\.` for none, as in a file without bytes:
     = STATUS                    its exit status, 0 where none is told
     > TEXT                      a line that it writes on standard output
     ! TEXT                      a line that it writes on standard error
+    ~ TEXT                      a part of what it writes on standard output, behind the one before
+    ? TEXT                      the same of standard error
     - TEXT                      the same as `>`, without the end of the line
-    same                        it writes on standard output what was due there last
-    same NAME                   it writes on standard output the bytes of a file
+    into NAME                   what it writes on standard output is this file for the runs behind
+                                it, and only the parts of it that are told are compared
+    same NAME                   it writes on standard output the bytes of this file;
+    same                        what was due there last
     out NAME TEXT               the bytes of a file after the run; `out NAME` alone: it is not there
     like NAME OTHER             a file after the run has the bytes that the other had before it
 
-All that a run writes is compared, to the byte. Each row file has a folder of its own, in which
-the files of `examples/` lie. Prints what differs, and at last `N run, M differ`; the exit status is
-0 where M is 0, else 1.
+The bytes stand so in names and in words, too, in words when these are split: '\\n' in quotes is
+a word of one byte. All that a run writes is compared, to the byte, but where parts are told. Each
+row file has a folder of its own, in which the files of `examples/` lie. Prints what differs, and at
+last `N run, M differ`; the exit status is 0 where M is 0, else 1.
 """
 
+import os
 import re
 import shlex
 import shutil
@@ -41,6 +47,7 @@ from samples import SAMPLES
 
 ROOT = Path(__file__).resolve().parent.parent
 ROWS = Path(__file__).resolve().parent / "runs"
+FILES = ("file", "more", "sample")
 ESCAPES = {"n": b"\n", "r": b"\r", "t": b"\t", "e": b"\x1b", "\\": b"\\", ".": b""}
 
 
@@ -51,13 +58,16 @@ class RowError(Exception):
 @dataclass
 class Run:
     """A run of the program, and what is due."""
-    words: list[str]
+    words: list[bytes]
     row: int
-    before: bytes = b""
     status: int = 0
     stdin: str | None = None
     stdout: bytes = b""
     stderr: bytes = b""
+    parts: list[bytes] = field(default_factory=list)
+    error_parts: list[bytes] = field(default_factory=list)
+    into: str | None = None
+    before: bytes = b""
     outs: list[tuple[str, bytes | None]] = field(default_factory=list)
 
 
@@ -72,6 +82,11 @@ def bytes_of(text: str) -> bytes:
     return found
 
 
+def path_of(folder: Path, name: str) -> Path:
+    """The path of a file by its name in a row file."""
+    return folder / os.fsdecode(bytes_of(name))
+
+
 def with_line(text: bytes, number: int, line: bytes) -> bytes:
     """A text with this line in place of one, counted from 1, or behind the last."""
     lines = text.splitlines(keepends=True)
@@ -81,58 +96,74 @@ def with_line(text: bytes, number: int, line: bytes) -> bytes:
 def sample(folder: Path, words: str) -> None:
     """Makes a file of a sample, or of a file that is there."""
     name, of, *more = words.split(" ", 3)
-    text = SAMPLES[of].encode() if of in SAMPLES else (folder / of).read_bytes()
+    text = SAMPLES[of].encode() if of in SAMPLES else path_of(folder, of).read_bytes()
     if more:
         text = with_line(text, int(more[0]), bytes_of(more[1] if len(more) > 1 else ""))
-    (folder / name).write_bytes(text)
+    write_file(path_of(folder, name), text)
 
 
-def more(folder: Path, words: str) -> None:
-    """Puts bytes, so many times, behind those of a file."""
-    name, times, text = words.split(" ", 2)
-    with (folder / name).open("ab") as file:
-        file.write(bytes_of(text) * int(times))
+def write_file(path: Path, text: bytes) -> None:
+    path.parent.mkdir(parents=True, exist_ok=True)
+    path.write_bytes(text)
 
 
-def due_out(folder: Path, kind: str, words: str) -> tuple[str, bytes | None]:
-    """The file that a run writes, and what is due of it."""
-    name, is_told, text = words.partition(" ")
-    if kind == "like":
-        return name, (folder / text).read_bytes()
-    return name, bytes_of(text) if is_told else None
+def is_due(have: bytes, due: bytes, parts: list[bytes]) -> bool:
+    """Whether this is written; where parts are told, whether they stand one behind another."""
+    if not parts:
+        return have == due
+    place = 0
+    for part in parts:
+        place = have.find(part, place)
+        if place < 0:
+            return False
+        place += len(part)
+    return True
 
 
 def differences(program: Path, folder: Path, run: Run) -> list[str]:
     """What a run does otherwise than is due."""
-    given = (folder / run.stdin).read_bytes() if run.stdin else b""
+    given = path_of(folder, run.stdin).read_bytes() if run.stdin else b""
     came = subprocess.run([program, *run.words], cwd=folder, input=given, capture_output=True)
-    found = [f"{what}: {have!r}, due {due!r}" for what, have, due in (
-        ("status", came.returncode, run.status), ("standard output", came.stdout, run.stdout),
-        ("standard error", came.stderr, run.stderr)) if have != due]
+    found = [f"{what}: {have!r}, due {parts or due!r}" for what, have, due, parts in (
+        ("standard output", came.stdout, run.stdout, run.parts),
+        ("standard error", came.stderr, run.stderr, run.error_parts))
+        if not is_due(have, due, parts)]
+    if run.into:
+        write_file(path_of(folder, run.into), came.stdout)
+    if came.returncode != run.status:
+        found.insert(0, f"status: {came.returncode}, due {run.status}")
     for name, due in run.outs:
-        path = folder / name
+        path = path_of(folder, name)
         have = path.read_bytes() if path.is_file() else None
         if have != due:
             found.append(f"file {name}: {have!r}, due {due!r}")
     return found
 
 
-def read_line(run: Run | None, folder: Path, line: str, row: int) -> Run | None:
-    """Takes a line of a row file; gives the run that it begins."""
-    kind, _, rest = line.partition(" ")
-    if kind == "file":
-        name, _, text = rest.partition(" ")
-        (folder / name).parent.mkdir(parents=True, exist_ok=True)
-        (folder / name).write_bytes(bytes_of(text))
+def make(folder: Path, kind: str, words: str) -> None:
+    """Makes a file for the runs behind it, or one that is longer."""
+    if kind == "sample":
+        sample(folder, words)
     elif kind == "more":
-        more(folder, rest)
-    elif kind == "sample":
-        sample(folder, rest)
-    elif kind == "$":
-        return Run(shlex.split(rest), row)
-    elif run is None:
-        raise RowError(f"'{line}' stands behind no run")
-    elif kind == "<":
+        name, times, text = words.split(" ", 2)
+        with path_of(folder, name).open("ab") as file:
+            file.write(bytes_of(text) * int(times))
+    else:
+        name, _, text = words.partition(" ")
+        write_file(path_of(folder, name), bytes_of(text))
+
+
+def due_out(folder: Path, kind: str, words: str) -> tuple[str, bytes | None]:
+    """The file that a run writes, and what is due of it."""
+    name, is_told, text = words.partition(" ")
+    if kind == "like":
+        return name, path_of(folder, text).read_bytes()
+    return name, bytes_of(text) if is_told else None
+
+
+def take(run: Run, folder: Path, kind: str, rest: str) -> bool:
+    """Takes what is due of a run, and tells whether this is a line of that."""
+    if kind == "<":
         run.stdin = rest
     elif kind == "=":
         run.status = int(rest)
@@ -140,11 +171,32 @@ def read_line(run: Run | None, folder: Path, line: str, row: int) -> Run | None:
         run.stdout += bytes_of(rest) + (b"\n" if kind == ">" else b"")
     elif kind == "!":
         run.stderr += bytes_of(rest) + b"\n"
+    elif kind == "~":
+        run.parts.append(bytes_of(rest))
+    elif kind == "?":
+        run.error_parts.append(bytes_of(rest))
+    elif kind == "into":
+        run.into = rest
+        run.parts.append(b"")
     elif kind == "same":
-        run.stdout += (folder / rest).read_bytes() if rest else run.before
+        run.stdout += path_of(folder, rest).read_bytes() if rest else run.before
     elif kind in ("out", "like"):
         run.outs.append(due_out(folder, kind, rest))
     else:
+        return False
+    return True
+
+
+def read_line(run: Run | None, folder: Path, line: str, row: int) -> Run | None:
+    """Takes a line of a row file; gives the run that it begins."""
+    kind, _, rest = line.partition(" ")
+    if kind in FILES:
+        make(folder, kind, rest)
+    elif kind == "$":
+        return Run([bytes_of(word) for word in shlex.split(rest)], row)
+    elif run is None:
+        raise RowError(f"'{line}' stands behind no run")
+    elif not take(run, folder, kind, rest):
         raise RowError(f"'{line}' is no line of a row file")
     return None
 
@@ -157,7 +209,7 @@ def run_file(program: Path, rows: Path) -> tuple[int, list[str]]:
         nonlocal count, run, before
         if run is not None:
             count, before = count + 1, run.stdout or before
-            told = f"{rows.name}:{run.row}: {shlex.join(run.words)}"
+            told = f"{rows.name}:{run.row}: {b' '.join(run.words)!r}"
             found.extend(f"{told}: {it}" for it in differences(program, folder, run))
             run = None
 
@@ -165,11 +217,12 @@ def run_file(program: Path, rows: Path) -> tuple[int, list[str]]:
         folder = Path(name) / "examples"
         shutil.copytree(ROOT / "examples", folder)
         for row, line in enumerate(rows.read_text().splitlines(), 1):
-            if line.startswith(("$ ", "file ", "more ", "sample ")):
+            kind = line.split(" ")[0]
+            if kind in ("$", *FILES):
                 end()
             if line and not line.startswith("#"):
                 run = read_line(run, folder, line, row) or run
-            if line.startswith("$ "):
+            if kind == "$":
                 run.before = before
         end()
     return count, found
