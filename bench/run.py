@@ -55,7 +55,7 @@ from made_jobs import KINDS, RESET, characters_of_page, rows_of_page   # noqa: E
 
 ROOT = Path(__file__).resolve().parent.parent
 PROGRAM = ROOT / "crates" / "pclcheck" / "out" / "pclcheck"
-BUILD = "cd crates/pclcheck && rt run -- check ../../examples/ruled_form.pcl @A"
+BUILD = "make build"
 
 PRINTER = "@B"
 
