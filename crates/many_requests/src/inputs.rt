@@ -1,5 +1,5 @@
 //! Jobs whose bytes are gone once they are read.
-ghost use Rattle.std.specs.Prelude.{◌≡◌, Contains, IfNone, IfSome, IsFalse, map, option_map};
+ghost use Rattle.std.specs.Prelude.{◌≡◌, ◌≤◌, Contains, IfNone, IfSome, IsFalse, count_by, length, map, option_map};
 ghost use Rattle.many_requests.specs.Inputs.{RefusesInput, is_apart, is_input, reads_input_again};
 ghost use Rattle.many_jobs.specs.Asked.{asked_for};
 
@@ -50,8 +50,16 @@ fn reads_input_again(names_from: Option<&str>, many: &ManyJobs<'_, '_>) -> bool
         (asked_for many.now) }
 {
     let of_names = usize::from(names_from.is_some_and(|path| is_input(path.as_bytes())));
-    let of_jobs = many.jobs.iter().filter(|job| is_input(job)).count();
+    let of_jobs = input_count(many.jobs);
     of_names + of_jobs > 1 || is_apart(many) && of_jobs > 0
+}
+
+/// How many of these jobs are standard input.
+fn input_count(jobs: &[&[u8]]) -> usize
+    ensures count { result ≡ count_by is_input (map (λ job. job.now) jobs.now) }
+    ensures most { result ≤ length jobs.now }
+{
+    jobs.iter().filter(|job| is_input(job)).count()
 }
 
 /// Whether a word names standard input.
