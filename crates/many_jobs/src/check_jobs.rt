@@ -16,8 +16,8 @@ use job_reports::{
     PrinterGroup, push_refused_profile, push_refused_profile_sentence, push_unread_profile,
     push_unread_profile_sentence,
 };
-use named_inputs::{Jobs, ProfileTexts, read_fleet};
 use named_inputs::system_words::system_words;
+use named_inputs::{Jobs, ProfileTexts, read_fleet};
 use requests::{Status, Trouble};
 use std::alloc::{AllocError, Allocator};
 use streams::{Error, Outlet, write_text};
