@@ -13,6 +13,6 @@ mod job_notes;
 #[cfg(test)]
 mod lines;
 #[cfg(test)]
-mod many_jobs;
+mod many_runs;
 #[cfg(test)]
 mod many_stops;

@@ -1,6 +1,6 @@
 //! Checks of many jobs that stop: each write of standard output fails in turn, and each request for memory.
 
-use crate::many_jobs::{EACH, Form, Manner, Run, run_of};
+use crate::many_runs::{EACH, Form, Manner, Run, run_of};
 use std::process::Abort;
 use std::test::Fail;
 use testing_failures::Refusing;
