@@ -64,9 +64,10 @@ class Crate:
         return Said(ran.stdout.rstrip("\n").split("\n"), ran.returncode)
 
     def prove(self, only: set[str]) -> bool:
-        """Proves what the edits change as it stands, into the folder with which they begin."""
+        """Proves what the edits change as it stands, into the folder with which they begin; or the
+        whole crate, where the prover does not know one of the names."""
         self.seed.mkdir(parents=True)
-        return self.check({}, self.seed, only).is_proved
+        return any(self.check({}, self.seed, paths).is_proved for paths in (only, set()))
 
     def check_edited(self, texts: dict[str, str], only: set[str]) -> Said:
         """Checks the crate with these texts, over a copy of what is proved of it."""

@@ -18,6 +18,10 @@ from prover import Crate, Said
 HEAD = re.compile(r"(?m)^( *)(?:pub(?:\([^)]*\))? )?(?:const )?fn (\w+)")
 
 
+# The end of a function's head: its body follows, or it has none.
+OPENED = re.compile(r"(?m)[{;]$")
+
+
 class EditError(Exception):
     """Why an edit cannot be applied."""
 
@@ -43,15 +47,17 @@ class Edit:
 
 
 def function_at(text: str, file: str, start: int, end: int) -> Changed | None:
-    """The function in which a part of a text lies."""
+    """The function in which a part of a text lies; what a trait declares is none."""
     heads = [it for it in HEAD.finditer(text) if it.start() <= start]
     if not file.startswith("src/") or not heads:
         return None
     head = heads[-1]
+    if OPENED.search(text, head.end())[0].endswith(";"):
+        return None
     close = text.find(f"\n{head[1]}}}\n", head.start())
     if close < end:
         return None
-    opened = re.compile(r"(?m)^ *\{$|\{$").search(text, head.end(), start)
+    opened = OPENED.search(text, head.end(), start)
     lines = text.count("\n", 0, head.start()) + 1, text.count("\n", 0, close) + 2
     return Changed(file, head[2], *lines, opened is not None)
 
