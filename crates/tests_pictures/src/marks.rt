@@ -97,15 +97,23 @@ const AREAS: &[([i64; 4], &[u8])] = &[
     ),
 ];
 
+/// Checks an area with these edges, in ticks, by what its element says of its box.
+fn check_area(rt: &(impl Abort + AllocGlobal), edges: [i64; 4], wanted: &[u8]) -> Result<(), Fail> {
+    let mark = Mark::Rect(Area {
+        fill: Fill::Solid,
+        bounds: bounds(edges),
+    });
+    check_mark(
+        rt,
+        &mark,
+        &[b"<rect class=\"area\" ", wanted, b" fill=\"black\"/>\n"],
+    )
+}
+
 #[test]
 fn places_off_the_page_are_rounded_down(rt: HostRuntime) -> Result<(), Fail> {
     for (edges, wanted) in AREAS {
-        let mark = Mark::Rect(Area {
-            fill: Fill::Solid,
-            bounds: bounds(*edges),
-        });
-        let parts: [&[u8]; 3] = [b"<rect class=\"area\" ", wanted, b" fill=\"black\"/>\n"];
-        check_mark(&rt, &mark, &parts)?;
+        check_area(&rt, *edges, wanted)?;
     }
     Ok(())
 }
@@ -163,15 +171,26 @@ const CHARACTERS: &[(Set, i32, u8, &[u8])] = &[
     (PC8, 9_999, b'A', b"A"),
 ];
 
+/// Checks a character by its text.
+fn check_character(
+    rt: &(impl Abort + AllocGlobal),
+    set: Set,
+    weight: i32,
+    code: u8,
+    wanted: &[u8],
+) -> Result<(), Fail> {
+    let mark = character(set, weight, code);
+    if wanted.is_empty() {
+        check_mark(rt, &mark, &[BOX])
+    } else {
+        check_mark(rt, &mark, &[BOX, TEXT, wanted, b"</text>\n"])
+    }
+}
+
 #[test]
 fn characters_of_other_codes_and_faces(rt: HostRuntime) -> Result<(), Fail> {
     for (set, weight, code, wanted) in CHARACTERS {
-        let mark = character(*set, *weight, *code);
-        if wanted.is_empty() {
-            check_mark(&rt, &mark, &[BOX])?;
-        } else {
-            check_mark(&rt, &mark, &[BOX, TEXT, wanted, b"</text>\n"])?;
-        }
+        check_character(&rt, *set, *weight, *code, wanted)?;
     }
     Ok(())
 }
