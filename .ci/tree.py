@@ -87,11 +87,14 @@ def stands(crate: str, said: str | None) -> bool:
 
 
 def lanes() -> dict[str, str]:
-    """The environment in which `rt ci` runs checks side by side, as RT_JOBS says or else three.
+    """The environment in which `rt ci` runs checks side by side: as many as RT_JOBS says, or else
+    as there are processors and as memory holds, at 3 GB each.
 
-    Without a number rt goes by an estimate of memory, by which the tests would wait until nothing
-    else runs. A check takes up to 3 GB."""
-    return os.environ | {"RT_JOBS": os.environ.get("RT_JOBS") or str(min(os.cpu_count() or 1, 3))}
+    Without a number rt goes by an estimate of its own, by which the upper crates would wait until
+    nothing else runs."""
+    memory = int(re.search(r"MemAvailable:\s+(\d+)", Path("/proc/meminfo").read_text())[1])
+    most = max(1, min(os.cpu_count() or 1, memory // 3_000_000))
+    return os.environ | {"RT_JOBS": os.environ.get("RT_JOBS") or str(most)}
 
 
 @contextlib.contextmanager
