@@ -78,7 +78,7 @@ fn behind_pjl(command: PjlCommand<'_>) -> Context
 }
 
 /// What stands first in bytes that begin with `@`. The line lends its text out of these bytes.
-#[tactic(auto, unfolding(crate::specs::PjlLines::First::at_pjl))]
+#[tactic(auto, unfolding(pcl_items::specs::PjlLines::First::at_pjl))]
 pub fn at_pjl(bytes: &[u8]) -> FirstPjl<'_>
     ensures first { first_pjl_view result ≡ at_pjl bytes.now }
     ensures within { first_pjl_len result ≤ length bytes.now }
