@@ -3,7 +3,7 @@ use Rattle.std.specs.Prelude.{ℕ, Bool, true, false, if◌then◌else◌, List,
 use Rattle.pcl_items.specs.declared.fault.LexCause.{LexCause}
 use Rattle.pcl_items.specs.declared.fault.LexCause.TheVariants.{Truncated}
 use Rattle.pcl_items.specs.Items.{Placed}
-use Rattle.pcl_items.specs.Reading.{Reading, Whole, Stopped}
+use Rattle.pcl_lexer.specs.Reading.{Reading, Whole, Stopped}
 use Rattle.device_profile.specs.declared.panel.Panel.{Panel}
 use Rattle.device_profile.specs.Printer.{Printer}
 use Rattle.macro_store.specs.Store.{Store, no_macros}

@@ -1,6 +1,6 @@
 //! Carries out an item, and draws what it marks on the sheet of the page that is open.
 ghost use Rattle.std.specs.Prelude.{◌≡◌, IfErr, IsFalse, IsSome, false};
-ghost use Rattle.pcl_items.specs.Grammar.{follows};
+ghost use Rattle.pcl_items.specs.Modes.{follows};
 ghost use Rattle.pcl_items.specs.Items.{view};
 ghost use Rattle.renderings.specs.Carriers.Rendering.{IsErrorOfRendering};
 ghost use Rattle.streams.specs.Writing.{PutsKept};

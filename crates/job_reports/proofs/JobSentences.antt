@@ -19,8 +19,8 @@ use Rattle.pcl_items.specs.Spellings.Canon.{amount_text, canon, magnitude_text}
 use Rattle.pcl_items.specs.Escapes.Commands.{character_of, introducer_of, letter_of}
 use Rattle.pcl_items.specs.Items.{amount, simple_view}
 use Rattle.pcl_items.specs.Escapes.ValueField.{sign_text}
-use Rattle.pcl_items.proofs.Spellings.Canonical.{setting_spelled}
-use Rattle.pcl_items.proofs.Frames.Canonical.{coordinate_spelled}
+use Rattle.pcl_spelling.proofs.Spellings.Canonical.{setting_spelled}
+use Rattle.pcl_spelling.proofs.Frames.Canonical.{coordinate_spelled}
 use Rattle.device_profile.specs.declared.field.Field.{Field}
 use Rattle.device_profile.specs.declared.field.Field.TheVariants.{Size}
 use Rattle.page_env.specs.declared.finding.Finding.{Finding}

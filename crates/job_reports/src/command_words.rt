@@ -6,7 +6,8 @@ ghost use Rattle.preflight.specs.declared.culprit.Culprit.TheVariants.{WithData}
 ghost use Rattle.job_reports.specs.CommandWords.{code_words, command_words};
 
 use line_words::push_escaped;
-use pcl_items::{DataCommand, Item, SimpleItem, spell};
+use pcl_items::{DataCommand, Item, SimpleItem};
+use pcl_spelling::spell;
 use preflight::Culprit;
 use shown_bytes::push_number;
 use std::alloc::{AllocError, Allocator};

@@ -17,7 +17,7 @@ use Rattle.pcl_items.specs.Escapes.Commands.{introducer_of, character_of, group_
 use Rattle.pcl_items.specs.Items.{Parameterized, at}
 use Rattle.pcl_items.specs.Escapes.Value.{Amount, most}
 use Rattle.pcl_items.specs.Escapes.ValueField.{sign_text}
-use Rattle.pcl_items.proofs.Escapes.WholeNumbers.{no_decimals}
+use Rattle.pcl_spelling.proofs.Escapes.WholeNumbers.{no_decimals}
 use Rattle.line_words.specs.Figures.{escaped_byte}
 use Rattle.line_words.specs.ItemLines.{item_line}
 

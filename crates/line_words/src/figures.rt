@@ -3,7 +3,7 @@ ghost use Rattle.std.specs.Prelude.{◌≡◌, ◌++◌, ◌+◌, ◌%◌, ◌<�
 ghost use Rattle.line_words.specs.Figures.{escaped_byte, hex_byte, length_word, named, number_word, signed_word, value_word};
 
 use itoa::Buffer;
-use pcl_items::spell_magnitude;
+use pcl_spelling::spell_magnitude;
 use shown_bytes::{hex_digit, push_number};
 use std::alloc::{AllocError, Allocator};
 use tick_length::Length;

@@ -8,9 +8,8 @@ ghost use Rattle.line_words.specs.ItemLines.{item_line, fault_line};
 use crate::figures::push_escaped;
 use crate::words::push_reason;
 use itoa::write_digits;
-use pcl_items::{
-    Command, Group, Item, LexFault, Number, Place, Sign, SimpleItem, spell, spell_amount,
-};
+use pcl_items::{Command, Group, Item, LexFault, Number, Place, Sign, SimpleItem};
+use pcl_spelling::{spell, spell_amount};
 use shown_bytes::push_number;
 use std::alloc::{AllocError, Allocator};
 use verdict::Reason;

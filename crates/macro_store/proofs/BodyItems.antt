@@ -5,9 +5,9 @@ use Rattle.std.proofs.lemmas.List.{length-append}
 use Rattle.pcl_items.specs.declared.item.Mode.{Mode}
 use Rattle.pcl_items.specs.Items.{Entry}
 use Rattle.pcl_items.specs.Spellings.Canon.{canon, IsItem}
-use Rattle.pcl_items.specs.Grammar.{follows}
-use Rattle.pcl_items.specs.Spellings.Spelled.{StandsAt, NothingStands, spelled, AreAdmitted, none, some, IsSpelled, items_in}
-use Rattle.pcl_items.proofs.Spellings.ReadAgain.{canon-some, items_in-spelled, one_stands}
+use Rattle.pcl_items.specs.Modes.{follows}
+use Rattle.pcl_spelling.specs.Spellings.Spelled.{StandsAt, NothingStands, spelled, AreAdmitted, none, some, IsSpelled, items_in}
+use Rattle.pcl_spelling.proofs.Spellings.ReadAgain.{canon-some, items_in-spelled, one_stands}
 
 first_stands : {mode next : Mode} (bytes : List ℕ) (item : Entry) (items : List Entry) → IsItem item → follows mode item ≡ Some next → bytes ≡ spelled (item ∷ items) → StandsAt mode bytes 0 item (0 + length (canon item)) next
 first_stands bytes item items is_item admitted is = record { is_item = is_item; admitted = admitted; rest = spelled items; spelled = is; ends = refl }

@@ -10,9 +10,9 @@ use Rattle.macro_store.proofs.Modes.{mode_defined, admitted_more}
 use Rattle.pcl_items.specs.declared.item.Mode.TheVariants.{Pcl}
 use Rattle.pcl_items.specs.Items.{Entry}
 use Rattle.pcl_items.specs.Spellings.Canon.{canon, IsItem}
-use Rattle.pcl_items.specs.Spellings.Spelled.{spelled, items_in}
-use Rattle.pcl_items.specs.Spellings.Spelled as spellings
-use Rattle.pcl_items.proofs.Spellings.ReadAgain.{spelled-append}
+use Rattle.pcl_spelling.specs.Spellings.Spelled.{spelled, items_in}
+use Rattle.pcl_spelling.specs.Spellings.Spelled as spellings
+use Rattle.pcl_spelling.proofs.Spellings.ReadAgain.{spelled-append}
 use Rattle.macro_store.specs.declared.span.Span.{Span}
 use Rattle.macro_store.specs.declared.span.Definition.{Definition}
 use Rattle.macro_store.specs.Store.{Store, stored_bytes, Admits, with_item, bodies_with, began, appended, committed, deleted}

@@ -7,10 +7,10 @@ use Rattle.std.proofs.lemmas.List.Elements.{All-push}
 use Rattle.pcl_items.specs.declared.item.Mode.{Mode}
 use Rattle.pcl_items.specs.declared.item.Mode.TheVariants.{Pcl}
 use Rattle.pcl_items.specs.Items.{Entry, Parameterized, amount}
-use Rattle.pcl_items.specs.Grammar.{follows}
+use Rattle.pcl_items.specs.Modes.{follows}
 use Rattle.pcl_items.specs.Spellings.Canon.{canon, IsItem}
-use Rattle.pcl_items.specs.Spellings.Spelled.{StandsAt}
-use Rattle.pcl_items.proofs.Spellings.ReadAgain.{canon-some}
+use Rattle.pcl_spelling.specs.Spellings.Spelled.{StandsAt}
+use Rattle.pcl_spelling.proofs.Spellings.ReadAgain.{canon-some}
 use Rattle.macro_store.specs.declared.commands.StoredCommand.{StoredCommand}
 use Rattle.macro_store.specs.declared.span.Span.{Span}
 use Rattle.macro_store.specs.Layout.{bytes_at}

@@ -9,9 +9,10 @@ use Rattle.std.proofs.lemmas.List.Sums.{sum_by-cons}
 use Rattle.pcl_items.specs.declared.item.Mode.TheVariants.{Pcl}
 use Rattle.pcl_items.specs.Items.{Entry}
 use Rattle.pcl_items.specs.Spellings.Canon.{canon}
-use Rattle.pcl_items.specs.Spellings.Spelled.{spelled, AreAdmitted, IsSpelled, mode_behind, items_in}
-use Rattle.pcl_items.specs.Spellings.Spelled as spellings
-use Rattle.pcl_items.proofs.Spellings.ReadAgain.{items_in-spelled}
+use Rattle.pcl_spelling.specs.Spellings.Spelled.{spelled, AreAdmitted, IsSpelled, items_in}
+use Rattle.pcl_items.specs.Modes.{mode_behind}
+use Rattle.pcl_spelling.specs.Spellings.Spelled as spellings
+use Rattle.pcl_spelling.proofs.Spellings.ReadAgain.{items_in-spelled}
 use Rattle.macro_store.specs.declared.span.Span.{Span}
 use Rattle.macro_store.specs.declared.span.Definition.{Definition}
 use Rattle.macro_store.specs.Store.{mode_in, IsAdmittedIn, bytes_of, open_bytes}

@@ -4,8 +4,8 @@ use Rattle.std.specs.Option.{IsSome, option_and_then}
 use Rattle.pcl_items.specs.declared.item.Mode.{Mode}
 use Rattle.pcl_items.specs.Items.{Entry}
 use Rattle.pcl_items.specs.Spellings.Canon.{IsItem}
-use Rattle.pcl_items.specs.Grammar.{follows}
-use Rattle.pcl_items.specs.Spellings.Spelled.{AreAdmitted, none, some, mode_after, mode_behind}
+use Rattle.pcl_items.specs.Modes.{follows, mode_after, mode_behind}
+use Rattle.pcl_spelling.specs.Spellings.Spelled.{AreAdmitted, none, some}
 use Rattle.macro_store.specs.Store.{mode_in, IsAdmittedIn}
 
 -- where it does, a definition is open

@@ -3,7 +3,7 @@ use Rattle.std.specs.Prelude.{◌≡◌, ℕ, ◌+◌, ◌^◌, ◌<◌, ◌≤�
 use Rattle.std.specs.List.{All}
 use Rattle.pcl_items.specs.declared.item.Mode.TheVariants.{Pcl}
 use Rattle.pcl_items.specs.Items.{Parameterized, amount}
-use Rattle.pcl_items.specs.Spellings.Spelled.{StandsAt}
+use Rattle.pcl_spelling.specs.Spellings.Spelled.{StandsAt}
 use Rattle.macro_store.specs.declared.commands.StoredCommand.{StoredCommand}
 
 -- the spelling of a command stands where it is said to stand

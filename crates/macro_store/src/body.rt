@@ -4,7 +4,8 @@ ghost use Rattle.std.specs.Prelude.{◌≡◌, ◌∷◌, [], IfNone, IfSome, Ma
 ghost use Rattle.pcl_items.specs.Items.{simple_view, view as entry_of};
 
 use crate::commands::StoredCommand;
-use pcl_items::{Item, Mode, SimpleItem, first_spelled};
+use pcl_items::{Item, Mode, SimpleItem};
+use pcl_spelling::first_spelled;
 use std::marker::Model;
 
 /// The items of a body that are still to come, in order.
@@ -23,7 +24,7 @@ pub struct Body<'a> {
 impl<'a> Model for Body<'a> {
     ghost use Rattle.std.specs.Prelude.{List};
     ghost use Rattle.pcl_items.specs.Items.{Entry};
-    ghost use Rattle.pcl_items.specs.Spellings.Spelled.{IsSpelled, items_in};
+    ghost use Rattle.pcl_spelling.specs.Spellings.Spelled.{IsSpelled, items_in};
     ghost use Rattle.macro_store.specs.Commands.{LiesInPool};
 
     ghost Value = { List Entry };

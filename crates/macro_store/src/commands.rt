@@ -5,7 +5,8 @@ ghost use Rattle.pcl_items.specs.Items.{view as entry_of};
 ghost use Rattle.pcl_items.specs.Spellings.Canon.{canon};
 ghost use Rattle.macro_store.specs.Commands.{AreStored, EndBefore};
 
-use pcl_items::{Command, Item, Number, SimpleItem, spell};
+use pcl_items::{Command, Item, Number, SimpleItem};
+use pcl_spelling::spell;
 use std::alloc::{AllocError, Allocator};
 
 /// A command of the pool: where its spelling begins and ends there, and what it says.

@@ -1,9 +1,9 @@
 -- Jobs whose notes are computed from the definitions alone.
 use Rattle.std.proofs.Common.{◌≡◌, ℕ, List, [], ◌∷◌, ◌++◌, Some, refl}
 use Rattle.std.specs.Prelude.{codes}
-use Rattle.pcl_items.specs.Escapes.Field.{field_at, amount_of}
-use Rattle.pcl_items.specs.Reader.{first_of, after_escape, after_introducer, after_parenthesis, command_in, without_group}
-use Rattle.pcl_items.specs.Reading.{read_on, reading_of}
+use Rattle.pcl_lexer.specs.Escapes.Field.{field_at, amount_of}
+use Rattle.pcl_lexer.specs.Reader.{first_of, after_escape, after_introducer, after_parenthesis, command_in, without_group}
+use Rattle.pcl_lexer.specs.Reading.{read_on, reading_of}
 use Rattle.device_profile.specs.Printer.{first_panel, row_at, geometry_at, has_size, has_orientation}
 use Rattle.device_profile.specs.Samples.{printer_a}
 use Rattle.page_env.specs.Places.{is_between, page_reads, page_and_line_reads}

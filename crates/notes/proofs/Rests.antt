@@ -4,9 +4,9 @@ use Rattle.std.specs.Option.{option_map_or}
 use Rattle.std.specs.Result.{IsErr}
 use Rattle.pcl_items.specs.declared.fault.LexCause.{LexCause}
 use Rattle.pcl_items.specs.declared.item.Mode.{Mode}
-use Rattle.pcl_items.specs.Grammar.{follows}
+use Rattle.pcl_items.specs.Modes.{follows}
 use Rattle.pcl_items.specs.Items.{Entry, Placed}
-use Rattle.pcl_items.specs.Reading.{Reading, Whole, Stopped, with_item, items_of}
+use Rattle.pcl_lexer.specs.Reading.{Reading, Whole, Stopped, with_item, items_of}
 use Rattle.device_profile.specs.declared.panel.Panel.{Panel}
 use Rattle.device_profile.specs.Printer.{Printer}
 use Rattle.macro_store.specs.Store.{Store, no_macros}

@@ -2,7 +2,7 @@
 use Rattle.std.specs.Prelude.{ℕ, Bool, true, false, not, cond, List, [], ◌∷◌, ◌++◌, flat_map, Some}
 use Rattle.std.specs.List.{list_any}
 use Rattle.pcl_items.specs.Items.{Placed}
-use Rattle.pcl_items.specs.Reading.{Reading, Whole, Stopped, items_of}
+use Rattle.pcl_lexer.specs.Reading.{Reading, Whole, Stopped, items_of}
 use Rattle.device_profile.specs.declared.panel.Panel.{Panel}
 use Rattle.device_profile.specs.Printer.{Printer}
 use Rattle.macro_store.specs.Store.{Store, no_macros}

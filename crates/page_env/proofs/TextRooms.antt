@@ -12,7 +12,7 @@ use Rattle.device_profile.specs.declared.panel.Panel.{Panel}
 use Rattle.device_profile.specs.declared.font.CodeRange.{CodeRange}
 use Rattle.device_profile.specs.Faces.{is_text_of}
 use Rattle.device_profile.specs.Printer.{Printer}
-use Rattle.pcl_items.specs.Lexing.Passing.{IsOfLines}
+use Rattle.pcl_items.specs.Lines.{IsOfLines}
 use Rattle.page_env.specs.declared.page.Page.{Page}
 use Rattle.page_env.specs.declared.text_lines.Look.{Look}
 use Rattle.page_env.specs.declared.text_lines.TextLines.{TextLines}

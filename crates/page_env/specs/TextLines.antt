@@ -1,7 +1,7 @@
 -- Lines of text: bytes that go one after another, text and the ends of its lines.
 use Rattle.std.specs.Prelude.{◌≡◌, ℕ, true, pos, ◌+◌, ◌==◌, ◌||◌, not, cond, ◌+ℤ◌, ◌-ℤ◌, Bool, Option, Some, None, List, [], ◌∷◌}
 use Rattle.std.specs.List.{AllByRecursion}
-use Rattle.pcl_items.specs.Lexing.Passing.{IsOfLines, line_item}
+use Rattle.pcl_items.specs.Lines.{IsOfLines, line_item}
 use Rattle.device_profile.specs.declared.font.CodeRange.{CodeRange}
 use Rattle.device_profile.specs.declared.panel.Panel.{Panel}
 use Rattle.device_profile.specs.Faces.{is_text_of}

@@ -5,7 +5,7 @@ use Rattle.pcl_items.specs.declared.pcl.command.Command.{Command}
 use Rattle.pcl_items.specs.declared.pcl.command.Command.TheVariants.{MacroControl}
 use Rattle.pcl_items.specs.declared.item.Mode.{Mode}
 use Rattle.pcl_items.specs.declared.item.Mode.TheVariants.{Pcl, Frame, Pjl}
-use Rattle.pcl_items.specs.Grammar.{follows}
+use Rattle.pcl_items.specs.Modes.{follows}
 use Rattle.pcl_items.specs.Items.{Entry, Reset, Parameterized, ExitLanguage}
 use Rattle.pcl_items.specs.Escapes.Value.{Amount}
 use Rattle.macro_store.specs.Store.{Store, mode_in, IsAdmittedIn, Admits, with_item, appended, committed}

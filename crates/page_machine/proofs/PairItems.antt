@@ -7,7 +7,7 @@ use Rattle.pcl_items.specs.declared.frame.Motion.{Motion}
 use Rattle.pcl_items.specs.declared.frame.Motion.TheVariants.{Absolute, Down, Relative}
 use Rattle.pcl_items.specs.declared.item.Mode.{Mode}
 use Rattle.pcl_items.specs.declared.item.Mode.TheVariants.{Frame, Pcl, Pjl}
-use Rattle.pcl_items.specs.Grammar.{follows}
+use Rattle.pcl_items.specs.Modes.{follows}
 use Rattle.pcl_items.specs.Items.{Entry, Move}
 use Rattle.page_env.specs.declared.mark.PenLine.{PenLine}
 use Rattle.page_env.specs.declared.page.Page.{Page}

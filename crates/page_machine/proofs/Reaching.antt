@@ -6,7 +6,7 @@ use Rattle.pcl_items.specs.declared.pcl.command.Command.TheVariants.{MacroContro
 use Rattle.pcl_items.specs.declared.pcl.command.DataCommand.TheVariants.{TransparentText}
 use Rattle.pcl_items.specs.Spellings.Canon.{canon}
 use Rattle.pcl_items.specs.Items.{Entry, Parameterized, WithData, Move, Reset, Placed}
-use Rattle.pcl_items.specs.Reading.{Reading, Whole, Stopped}
+use Rattle.pcl_lexer.specs.Reading.{Reading, Whole, Stopped}
 use Rattle.pcl_items.specs.Escapes.Value.{Amount}
 use Rattle.device_profile.specs.declared.field.Field.{Field}
 use Rattle.device_profile.specs.declared.field.Field.TheVariants.{Size, Orientation, Vmi, Font, Copies, Sides, Tray, LineTerm}

@@ -3,7 +3,7 @@ use Rattle.std.proofs.Common.{◌≡◌, ℕ, ◌==◌, Bool, true, false, cond,
 use Rattle.device_profile.specs.declared.panel.Panel.{Panel}
 use Rattle.device_profile.specs.Printer.{Printer}
 use Rattle.pcl_items.specs.Items.{CarriageReturn, LineFeed, Text}
-use Rattle.pcl_items.specs.Lexing.Passing.{line_item}
+use Rattle.pcl_items.specs.Lines.{line_item}
 use Rattle.page_env.specs.declared.text_lines.Look.{Look}
 use Rattle.page_env.specs.declared.text_lines.TextPlace.{TextPlace}
 use Rattle.page_env.specs.Effect.{effect_of}

@@ -8,7 +8,7 @@ use Rattle.pcl_items.specs.declared.pcl.command.Command.TheVariants as commands
 use Rattle.pcl_items.specs.declared.number.Sign.TheVariants.{Absent, Minus}
 use Rattle.pcl_items.specs.Spellings.Canon.{canon}
 use Rattle.pcl_items.specs.Items.{Entry, Placed, Parameterized, SymbolSet, Reset, ExitLanguage, PjlLine}
-use Rattle.pcl_items.specs.Reading.{Reading, Whole}
+use Rattle.pcl_lexer.specs.Reading.{Reading, Whole}
 use Rattle.pcl_items.specs.Escapes.Value.{Amount}
 use Rattle.page_env.specs.declared.finding.Finding.{Finding}
 use Rattle.page_env.specs.declared.finding.Finding.TheVariants.{MacroMemory}

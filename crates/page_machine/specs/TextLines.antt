@@ -2,7 +2,7 @@
 use Rattle.std.specs.Prelude.{◌≡◌, None, ℕ, false, map, List, [], ◌∷◌}
 use Rattle.device_profile.specs.declared.panel.Panel.{Panel}
 use Rattle.pcl_items.specs.declared.item.Mode.TheVariants.{Pcl}
-use Rattle.pcl_items.specs.Lexing.Passing.{line_item}
+use Rattle.pcl_items.specs.Lines.{line_item}
 use Rattle.page_env.specs.declared.text_lines.Look.{Look}
 use Rattle.page_env.specs.declared.text_lines.TextPlace.{TextPlace}
 use Rattle.page_env.specs.Mark.{characters_of}

@@ -2,7 +2,7 @@
 
 ghost use Rattle.std.specs.Prelude.{◌≡◌, None, Some, true, OnOk, OnErr};
 ghost use Rattle.pcl_items.specs.declared.item.Mode.{Mode};
-ghost use Rattle.pcl_items.specs.Grammar.{follows};
+ghost use Rattle.pcl_items.specs.Modes.{follows};
 ghost use Rattle.macro_store.specs.Store.{Admits};
 ghost use Rattle.pcl_items.specs.Items.{view};
 ghost use Rattle.page_env.specs.Action.{page_view};

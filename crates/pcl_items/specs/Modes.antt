@@ -1,8 +1,7 @@
 -- The languages of a job, where one goes over into the other.
-use Rattle.std.specs.Prelude.{◌==◌, Option, None, Some, if◌then◌else◌}
+use Rattle.std.specs.Prelude.{◌==◌, List, [], ◌∷◌, Option, None, Some, if◌then◌else◌}
 use Rattle.pcl_items.specs.declared.item.Mode.{Mode}
 use Rattle.pcl_items.specs.declared.item.Mode.TheVariants as modes
-use Rattle.pcl_items.specs.Lexing.Contexts.{Context, Pcl, Sequence, Frame, Letters, Numbered, Pjl}
 use Rattle.pcl_items.specs.Items.{Entry, Text, Reset, EnterFrame, LeaveFrame, Initialize, Set, Move, ExitLanguage, PjlLine}
 use Rattle.pcl_items.specs.PjlLines.Text.{at_sign, PjlCommand, EnterPcl}
 
@@ -35,17 +34,11 @@ follows modes.Pjl (Text code) = if code == at_sign then None else Some modes.Pcl
 follows modes.Pjl (PjlLine line) = Some (behind_pjl line)
 follows modes.Pjl item = pcl_follows item
 
--- what stands before a unit of a mode
-abbrev pub between : Mode → Context
-between modes.Pcl = Pcl
-between modes.Frame = Frame
-between modes.Pjl = Pjl
+-- the mode behind items that a mode admits one behind another
+abbrev pub mode_after : Option Mode → List Entry → Option Mode
+mode_after None items = None
+mode_after (Some mode) [] = Some mode
+mode_after (Some mode) (item ∷ items) = mode_after (follows mode item) items
 
--- the mode of the bytes before which this stands
-abbrev pub mode_of : Context → Mode
-mode_of Pcl = modes.Pcl
-mode_of (Sequence group) = modes.Pcl
-mode_of Frame = modes.Frame
-mode_of (Letters mnemonic n) = modes.Frame
-mode_of (Numbered numbers gap n) = modes.Frame
-mode_of Pjl = modes.Pjl
+abbrev pub mode_behind : Mode → List Entry → Option Mode
+mode_behind mode items = mode_after (Some mode) items

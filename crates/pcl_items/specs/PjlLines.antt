@@ -2,9 +2,6 @@
 pub mod Exit
 pub mod Text
 pub mod View
-pub mod Syntax
-pub mod Units
 pub mod Reader
 pub mod First
-pub mod FirstView
 pub mod Canon

@@ -1,3 +1,2 @@
 -- The one spelling of each item.
 pub mod Canon
-pub mod Spelled

@@ -1,13 +1,8 @@
-//! The commands of an HP-GL/2 frame, and the bytes that they are written in.
+//! The commands of an HP-GL/2 frame, by their letters.
 
 ghost use Rattle.std.specs.Prelude.{◌≡◌, ◌≤◌, unsigned_abs};
-ghost use Rattle.pcl_items.specs.Frames.Kinds.{kind_of, capital};
-ghost use Rattle.pcl_items.specs.Frames.Mnemonics.{mnemonic_at, letters_of};
+ghost use Rattle.pcl_items.specs.Frames.Mnemonics.{capital, mnemonic_at, letters_of};
 ghost use Rattle.pcl_items.specs.Escapes.Value.{most_units};
-
-pub(crate) mod first;
-pub(crate) mod number;
-pub(crate) mod pair;
 
 /// A command that moves the pen.
 #[derive(Clone, Copy, Debug, PartialEq, Eq)]
@@ -42,17 +37,6 @@ pub enum Mnemonic {
     Moves(Motion),
 }
 
-/// What stands between a number of a command and the bytes that are read next.
-#[derive(Clone, Copy)]
-pub enum Gap {
-    /// Nothing.
-    Straight,
-    /// White space.
-    Spaced,
-    /// A comma, with white space or none.
-    Comma,
-}
-
 /// A coordinate in plotter units.
 #[derive(Clone, Copy, Debug, PartialEq, Eq)]
 pub struct PlotterCoordinate {
@@ -78,46 +62,6 @@ pub enum Handover {
     Previous,
     /// The position of the language that is left.
     Current,
-}
-
-/// What a byte is within a frame.
-#[derive(Clone, Copy, PartialEq, Eq)]
-pub enum Kind {
-    /// White space.
-    White,
-    /// `,`
-    Comma,
-    /// `;`
-    Semicolon,
-    /// A letter of either case.
-    Letter,
-    /// ESC
-    Escape,
-    /// `+` or `-`
-    Sign,
-    /// A digit or a point.
-    Figure,
-    /// Anything else.
-    Other,
-}
-
-impl Kind {
-    /// What the byte is.
-    #[tactic(auto, unfolding(crate::specs::Frames::Kinds::kind_of))]
-    pub fn of(byte: u8) -> Kind
-        ensures { result ≡ kind_of byte }
-    {
-        match byte {
-            b'\t' | b'\n' | b'\r' | b' ' => Kind::White,
-            b',' => Kind::Comma,
-            b';' => Kind::Semicolon,
-            b'A'..=b'Z' | b'a'..=b'z' => Kind::Letter,
-            b'\x1b' => Kind::Escape,
-            b'+' | b'-' => Kind::Sign,
-            b'0'..=b'9' | b'.' => Kind::Figure,
-            _ => Kind::Other,
-        }
-    }
 }
 
 /// The letter as a capital.

@@ -1,8 +1,4 @@
-//! Mode PCL: control codes, and escape sequences with and without a group.
+//! Mode PCL: the tables of its control codes and of its commands.
 
 pub(crate) mod code;
 pub(crate) mod command;
-pub(crate) mod command_with_data;
-pub(crate) mod counting;
-pub(crate) mod field;
-pub(crate) mod parameterized;

@@ -2,7 +2,7 @@
 use Rattle.std.proofs.Common.{◌≡◌, ℕ, true, false, List, [], ◌++◌, Option, None, Some, Result, Ok, Err, ap, sym, ◌∙◌, subst}
 use Rattle.pcl_items.specs.declared.fault.LexCause.{LexCause}
 use Rattle.pcl_items.specs.Items.{Placed}
-use Rattle.pcl_items.specs.Reading.{Reading, Whole, Stopped}
+use Rattle.pcl_lexer.specs.Reading.{Reading, Whole, Stopped}
 use Rattle.page_env.specs.declared.finding.Finding.{Finding}
 use Rattle.page_env.specs.Settings.{state_at}
 use Rattle.page_machine.specs.Run.{Ending, Done, Halts}

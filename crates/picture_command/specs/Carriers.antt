@@ -1,7 +1,7 @@
 -- What stands here is about how the code searches pages; nothing of it has to be believed.
 use Rattle.std.specs.Prelude.{◌≡◌, ℕ, List, [], ◌++◌, false, Option, None, Some, Result, Ok, Err, ⊤}
 use Rattle.pcl_items.specs.Items.{Entry}
-use Rattle.pcl_items.specs.Reading.{Reading, Stopped}
+use Rattle.pcl_lexer.specs.Reading.{Reading, Stopped}
 use Rattle.page_env.specs.declared.finding.Finding.{Finding}
 use Rattle.page_env.specs.Settings.{State, settings_at, state_at}
 use Rattle.page_machine.specs.Machine.{item_of, end_of}

@@ -4,7 +4,7 @@ use Rattle.pcl_items.specs.declared.fault.LexCause.{LexCause}
 use Rattle.pcl_items.specs.Spellings.Canon.{canon}
 use Rattle.pcl_items.specs.Escapes.Commands.{introducer_of, character_of, data_group_of, data_letter_of}
 use Rattle.pcl_items.specs.Items.{Entry, Placed, Text, WithData, PjlLine}
-use Rattle.pcl_items.specs.Reading.{Reading, Whole, Stopped}
+use Rattle.pcl_lexer.specs.Reading.{Reading, Whole, Stopped}
 use Rattle.device_profile.specs.declared.panel.Panel.{Panel}
 use Rattle.device_profile.specs.Printer.{Printer}
 use Rattle.macro_store.specs.Store.{Store, no_macros}

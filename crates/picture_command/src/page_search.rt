@@ -2,7 +2,7 @@
 //! whether it has them.
 ghost use Rattle.std.specs.Prelude.{◌≡◌, ◌++◌, IfErr, IsSome, OnOk, false, refl};
 ghost use Rattle.pcl_items.specs.declared.item.Mode.TheVariants.{Pcl};
-ghost use Rattle.pcl_items.specs.Grammar.{follows};
+ghost use Rattle.pcl_items.specs.Modes.{follows};
 ghost use Rattle.pcl_items.specs.Items.{view};
 ghost use Rattle.device_profile.specs.Printer.{IsAllowed};
 ghost use Rattle.job_reports.specs.JobSentences.{at_command};

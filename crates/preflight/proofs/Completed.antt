@@ -3,29 +3,29 @@ use Rattle.std.proofs.Common.{◌≡◌, ℕ, ◌+◌, ◌<◌, List, [], ◌∷
 use Rattle.std.specs.Prelude.{ℤ, ◌==◌, nat_lt}
 use Rattle.std.proofs.lemmas.Bool.{cond_both}
 use Rattle.std.proofs.lemmas.List.{length-drop}
-use Rattle.pcl_items.specs.declared.frame.Gap.{Gap}
-use Rattle.pcl_items.specs.declared.frame.Gap.TheVariants as gaps
-use Rattle.pcl_items.specs.declared.frame.Kind.{Kind}
-use Rattle.pcl_items.specs.declared.frame.Kind.TheVariants as kinds
+use Rattle.pcl_lexer.specs.declared.frame.Gap.{Gap}
+use Rattle.pcl_lexer.specs.declared.frame.Gap.TheVariants as gaps
+use Rattle.pcl_lexer.specs.declared.frame.Kind.{Kind}
+use Rattle.pcl_lexer.specs.declared.frame.Kind.TheVariants as kinds
 use Rattle.pcl_items.specs.declared.frame.Mnemonic.{Mnemonic}
 use Rattle.pcl_items.specs.declared.frame.Mnemonic.TheVariants as mnemonics
 use Rattle.pcl_items.specs.declared.frame.Motion.{Motion}
 use Rattle.pcl_items.specs.declared.frame.Setting.{Setting}
-use Rattle.pcl_items.specs.Lexing.Contexts.{Context, Pcl, Sequence, Frame, Letters, Numbered, Pjl, Numbers, Single, Odd, Even, counted, pending, item_place}
+use Rattle.pcl_lexer.specs.Lexing.Contexts.{Context, Pcl, Sequence, Frame, Letters, Numbered, Pjl, Numbers, Single, Odd, Even, counted, pending, item_place}
 use Rattle.pcl_items.specs.PjlLines.Exit.{exit_field, begins_with}
-use Rattle.pcl_items.specs.Escapes.Field.{Field, field_at, amount_of}
-use Rattle.pcl_items.specs.Frames.Number.{coordinate_of, setting_of, Numeral, Cut, Wrong, Read, numeral_at}
-use Rattle.pcl_items.specs.Frames.Reader.{left_by, by_language, after_language_field, language_in, in_command, second_letter, after_letter, after_frame_escape, by_kind, at_frame, single, first_of_pair, second_of_pair, first_number, letters_by, after_letters, further, ended_by, ended, with_comma, by_figure, numbers_by, after_numbers}
+use Rattle.pcl_lexer.specs.Escapes.Field.{Field, field_at, amount_of}
+use Rattle.pcl_lexer.specs.Frames.Number.{coordinate_of, setting_of, Numeral, Cut, Wrong, Read, numeral_at}
+use Rattle.pcl_lexer.specs.Frames.Reader.{left_by, by_language, after_language_field, language_in, in_command, second_letter, after_letter, after_frame_escape, by_kind, at_frame, single, first_of_pair, second_of_pair, first_number, letters_by, after_letters, further, ended_by, ended, with_comma, by_figure, numbers_by, after_numbers}
 use Rattle.pcl_items.specs.Items.{Entry}
-use Rattle.pcl_items.specs.Frames.Kinds.{kind_of, capital}
+use Rattle.pcl_lexer.specs.Frames.Kinds.{kind_of}
+use Rattle.pcl_items.specs.Frames.Mnemonics.{capital, mnemonic_at}
 use Rattle.pcl_items.specs.PjlLines.First as lines
 use Rattle.pcl_items.specs.PjlLines.Text.{Bare, Remark, JobBegins, JobEnds, EnterPcl}
-use Rattle.pcl_items.specs.Escapes.Ungrouped.{leave_at}
-use Rattle.pcl_items.specs.Frames.Mnemonics.{mnemonic_at}
-use Rattle.pcl_items.specs.Reader.{First, Open, Passes, Begins, Faulty, is_termination, between_units, by_pjl, first_of}
+use Rattle.pcl_lexer.specs.Escapes.Ungrouped.{leave_at}
+use Rattle.pcl_lexer.specs.Reader.{First, Open, Passes, Begins, Faulty, is_termination, between_units, by_pjl, first_of}
 use Rattle.pcl_items.specs.Escapes.Value.{Amount}
-use Rattle.pcl_items.proofs.Frames.Opening.{ended_open}
-use Rattle.pcl_items.proofs.Lexing.Spans.{IsNumeralSpan, numeral-span, begins-taken, pcl_item, pcl_item_in}
+use Rattle.pcl_lexer.proofs.Frames.Opening.{ended_open}
+use Rattle.pcl_lexer.proofs.Lexing.Spans.{IsNumeralSpan, numeral-span, begins-taken, pcl_item, pcl_item_in}
 
 abbrev Takes : Context → First → Type 0
 Takes c Open = Unit {0}

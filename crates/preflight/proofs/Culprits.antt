@@ -3,7 +3,7 @@ use Rattle.std.proofs.Common.{◌≡◌, ℕ, List, [], ◌∷◌, ◌++◌, Opt
 use Rattle.std.specs.List.{Contains}
 use Rattle.std.proofs.lemmas.List.Elements.{Contains-append_left, Contains-append_right}
 use Rattle.pcl_items.specs.Items.{Entry, Placed, at}
-use Rattle.pcl_items.specs.Reading.{Reading, IsReading, items_of}
+use Rattle.pcl_lexer.specs.Reading.{Reading, IsReading, items_of}
 use Rattle.device_profile.specs.Printer.{Printer}
 use Rattle.page_machine.specs.MachineState.{MachineState}
 use Rattle.verdict.specs.Failing.{failing}

@@ -1,7 +1,7 @@
 -- Where two printers differ every run goes through the item, and there its events are not the same.
 use Rattle.std.proofs.Common.{◌≡◌, ◌≤◌, ◌<◌, ◌+◌, ◌⊎◌, inl, inr, ℕ, zero, suc, Bool, true, false, cond, List, [], ◌∷◌, None, Some, refl, ap, sym, ◌∙◌, subst, arith}
 use Rattle.pcl_items.specs.Items.{Placed}
-use Rattle.pcl_items.specs.Reading.{Reading, Whole, Stopped}
+use Rattle.pcl_lexer.specs.Reading.{Reading, Whole, Stopped}
 use Rattle.pcl_items.specs.declared.fault.LexCause.TheVariants.{Syntax}
 use Rattle.device_profile.specs.declared.panel.Panel.{Panel}
 use Rattle.device_profile.specs.Printer.{Printer, first_panel}

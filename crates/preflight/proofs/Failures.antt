@@ -1,6 +1,6 @@
 -- What a Fail says of the printers of a fleet.
 use Rattle.std.proofs.Common.{◌≡◌, inl, inr, ℕ, List, Option, None, Some, refl, ap, sym, ◌∙◌, subst}
-use Rattle.pcl_items.specs.Reading.{Reading, Whole, Stopped}
+use Rattle.pcl_lexer.specs.Reading.{Reading, Whole, Stopped}
 use Rattle.device_profile.specs.declared.panel.Panel.{Panel}
 use Rattle.device_profile.specs.Printer.{Printer}
 use Rattle.page_env.specs.Settings.{watched}

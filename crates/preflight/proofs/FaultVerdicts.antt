@@ -3,7 +3,7 @@ use Rattle.std.proofs.Common.{◌≡◌, ℕ, ◌+◌, Bool, true, false, List, 
 use Rattle.std.specs.Prelude.{nat_le, if◌then◌else◌}
 use Rattle.std.specs.List.{AllByRecursion}
 use Rattle.pcl_items.specs.declared.fault.LexCause.{LexCause}
-use Rattle.pcl_items.specs.Reading.{Reading, Whole, Stopped, items_of}
+use Rattle.pcl_lexer.specs.Reading.{Reading, Whole, Stopped, items_of}
 use Rattle.device_profile.specs.Printer.{Printer}
 use Rattle.page_env.specs.declared.finding.Finding.{Finding}
 use Rattle.page_machine.specs.Event.{Event}

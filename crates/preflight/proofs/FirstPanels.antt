@@ -4,7 +4,7 @@ use Rattle.std.specs.Prelude.{slice_index}
 use Rattle.std.specs.List.{Contains}
 use Rattle.device_profile.specs.declared.panel.Panel.{Panel}
 use Rattle.device_profile.specs.Printer.{Printer, IsAllowed, first_panel}
-use Rattle.pcl_items.specs.Reading.{Reading}
+use Rattle.pcl_lexer.specs.Reading.{Reading}
 use Rattle.page_env.specs.Settings.{watched}
 use Rattle.page_machine.specs.Job.{JobRun, plain_run, watched_run}
 use Rattle.page_machine.specs.Laws.{IsSet, IsWatchedAlike, RunsPlainly}

@@ -1,8 +1,8 @@
 -- What a piece and the end make of a session.
 use Rattle.std.proofs.Common.{◌≡◌, ◌+◌, ◌-◌, ◌≤◌, ◌↔◌, ℕ, true, false, List, [], ◌∷◌, ◌++◌, length, take, drop, refl, ap, sym, ◌∙◌, subst, append_assoc, append-nil, length-append, take-append-drop, Option, None, Some, Result, Ok, Err, IfOk, IfErr, arith}
 use Rattle.std.proofs.lemmas.List.{take_rest}
-use Rattle.pcl_items.specs.Lexing.State.{WantsMore}
-use Rattle.pcl_items.specs.Lexing.Meaning.{MayBe}
+use Rattle.pcl_lexer.specs.Lexing.State.{WantsMore}
+use Rattle.pcl_lexer.specs.Lexing.Meaning.{MayBe}
 use Rattle.device_profile.specs.Printer.{Printer}
 use Rattle.preflight.specs.declared.standing.Standing.{Standing}
 use Rattle.preflight.specs.declared.standing.Standing.TheVariants.{Open, Judged, Stopped}

@@ -3,20 +3,20 @@ use Rattle.std.proofs.Common.{◌≡◌, ◌+◌, ◌≤◌, ◌<◌, ℕ, Bool,
 use Rattle.pcl_items.specs.declared.fault.LexCause.{LexCause}
 use Rattle.pcl_items.specs.declared.fault.LexCause.TheVariants.{NotInProfile}
 use Rattle.pcl_items.specs.declared.fault.Name.TheVariants as names
-use Rattle.pcl_items.specs.Lexing.Contexts.{Context, Pcl, Sequence, Frame, Letters, Numbered, Pjl, Single, Odd, Even, counted, item_place, MayEndAt}
+use Rattle.pcl_lexer.specs.Lexing.Contexts.{Context, Pcl, Sequence, Frame, Letters, Numbered, Pjl, Single, Odd, Even, counted, item_place, MayEndAt}
 use Rattle.pcl_items.specs.Items.{Entry, Placed}
-use Rattle.pcl_items.specs.Reader.{First, Open, Begins, first_of}
-use Rattle.pcl_items.specs.Fault.{end_cause, IsFault}
-use Rattle.pcl_items.specs.Laws.{HasOneReading}
-use Rattle.pcl_items.specs.Lexing.State.{LexerState, WantsMore}
-use Rattle.pcl_items.specs.Lexing.Meaning.{HasRead}
-use Rattle.pcl_items.specs.Reading.{Reading, Stopped, IsReading, items_of, ReadsTo, here, passes, begins, IsReadFrom}
-use Rattle.pcl_items.proofs.Frames.Opening.{Refuses, IsEnding, Opened, refuses, completes, opened}
-use Rattle.pcl_items.proofs.Reading.Readings.{one_only, one_reading, fault_last, whole_end}
-use Rattle.pcl_items.proofs.Reading.ReadsTo.{ReadsTo-append, closes, grows, behind_front}
-use Rattle.pcl_items.proofs.Lexing.Spans.{begins-taken, passes-taken}
-use Rattle.pcl_items.proofs.Lexing.Steps.{open_end, with_items, read_behind, behind_end}
-use Rattle.pcl_items.proofs.Reading.Stopping.{read_by_rules}
+use Rattle.pcl_lexer.specs.Reader.{First, Open, Begins, first_of}
+use Rattle.pcl_lexer.specs.Fault.{end_cause, IsFault}
+use Rattle.pcl_lexer.specs.Laws.{HasOneReading}
+use Rattle.pcl_lexer.specs.Lexing.State.{LexerState, WantsMore}
+use Rattle.pcl_lexer.specs.Lexing.Meaning.{HasRead}
+use Rattle.pcl_lexer.specs.Reading.{Reading, Stopped, IsReading, items_of, ReadsTo, here, passes, begins, IsReadFrom}
+use Rattle.pcl_lexer.proofs.Frames.Opening.{Refuses, IsEnding, Opened, refuses, completes, opened}
+use Rattle.pcl_lexer.proofs.Reading.Readings.{one_only, one_reading, fault_last, whole_end}
+use Rattle.pcl_lexer.proofs.Reading.ReadsTo.{ReadsTo-append, closes, grows, behind_front}
+use Rattle.pcl_lexer.proofs.Lexing.Spans.{begins-taken, passes-taken}
+use Rattle.pcl_lexer.proofs.Lexing.Steps.{open_end, with_items, read_behind, behind_end}
+use Rattle.pcl_lexer.proofs.Reading.Stopping.{read_by_rules}
 use Rattle.device_profile.specs.Printer.{Printer}
 use Rattle.page_machine.specs.MachineState.{MachineState}
 use Rattle.sinks.specs.declared.counts.Counts.{Counts}

@@ -8,13 +8,14 @@ use Rattle.std.proofs.lemmas.Bool.Decides.{Decides-int_eq}
 use Rattle.std.proofs.lemmas.List.{take_more, take_more_set, drop_more, drop-set-lt, drop-drop, length-take-le, take_all, take-take, length-set}
 use Rattle.pcl_items.specs.declared.item.Mode.{Mode}
 use Rattle.pcl_items.specs.declared.item.Mode.TheVariants as modes
-use Rattle.pcl_items.specs.Lexing.Contexts.{Context, Pcl, Sequence, Frame, Letters, Numbered, Pjl, pending}
-use Rattle.pcl_items.specs.Grammar.{follows}
+use Rattle.pcl_lexer.specs.Lexing.Contexts.{Context, Pcl, Sequence, Frame, Letters, Numbered, Pjl, pending}
+use Rattle.pcl_items.specs.Modes.{follows}
 use Rattle.pcl_items.specs.Items.{CarriageReturn, Entry, LineFeed, Text, at, Placed}
-use Rattle.pcl_items.specs.Modes.{mode_of}
-use Rattle.pcl_items.specs.Reading.{left}
-use Rattle.pcl_items.specs.Lexing.State.{LexerState}
-use Rattle.pcl_items.specs.Lexing.Passing.{ahead_in, ahead_of, AreLines, line_item, line_items, ReadsLines}
+use Rattle.pcl_lexer.specs.Modes.{mode_of}
+use Rattle.pcl_lexer.specs.Reading.{left}
+use Rattle.pcl_lexer.specs.Lexing.State.{LexerState}
+use Rattle.pcl_lexer.specs.Lexing.Passing.{ahead_in, ahead_of, ReadsLines}
+use Rattle.pcl_items.specs.Lines.{AreLines, line_item, line_items}
 use Rattle.macro_store.specs.Store.{Store}
 use Rattle.device_profile.specs.Likeness.{IsLike}
 use Rattle.device_profile.specs.Printer.{Printer}

@@ -4,7 +4,7 @@ use Rattle.std.specs.List.{Contains}
 use Rattle.pcl_items.specs.Items.{Entry, simple_view, at}
 use Rattle.pcl_items.specs.Items as entries
 use Rattle.pcl_items.specs.PjlLines.Text.{PjlCommand}
-use Rattle.pcl_items.specs.Reading.{Reading, IsReading, items_of}
+use Rattle.pcl_lexer.specs.Reading.{Reading, IsReading, items_of}
 use Rattle.device_profile.specs.Printer.{Printer}
 use Rattle.verdict.specs.declared.reason.Reason.TheVariants.{Fault, Finding, Differs, Unpinnable}
 use Rattle.verdict.specs.declared.verdict.Verdict.{Verdict}

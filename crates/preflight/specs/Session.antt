@@ -1,7 +1,7 @@
 -- What a session stands for, and what it says of the bytes that it was fed.
 use Rattle.std.specs.Prelude.{◌≡◌, ◌+◌, ◌≤◌, ◌^◌, ℕ, List, ◌++◌, length, false, Option}
-use Rattle.pcl_items.specs.Lexing.State.{LexerState, WantsMore}
-use Rattle.pcl_items.specs.Lexing.Meaning.{MayBe}
+use Rattle.pcl_lexer.specs.Lexing.State.{LexerState, WantsMore}
+use Rattle.pcl_lexer.specs.Lexing.Meaning.{MayBe}
 use Rattle.device_profile.specs.Printer.{Printer}
 use Rattle.page_machine.specs.MachineState.{MachineState}
 use Rattle.sinks.specs.declared.counts.Counts.{Counts}

@@ -1,8 +1,8 @@
 //! Commands of the pen and their pairs of coordinates, one behind another.
 
 ghost use Rattle.std.specs.Prelude.{◌≡◌, ◌≤◌, ◌+◌, length, IsTrue};
-ghost use Rattle.pcl_items.specs.Modes.{mode_of};
-ghost use Rattle.pcl_items.specs.Reading.{left};
+ghost use Rattle.pcl_lexer.specs.Modes.{mode_of};
+ghost use Rattle.pcl_lexer.specs.Reading.{left};
 ghost use Rattle.preflight.specs.Carriers.Checking.{ComesThrough};
 ghost use Rattle.preflight.specs.Carriers.Lockstep.{machines_of, counts_of, AreRunning, AreIn};
 ghost use Rattle.preflight.specs.Standing.{StandsBy, is_open};
@@ -12,7 +12,8 @@ use crate::culprit::Culprit;
 use crate::lockstep::Lockstep;
 use crate::standing::Standing;
 use page_machine::watched_runs_are_alike;
-use pcl_items::{Item, Lexer, one_reading};
+use pcl_items::Item;
+use pcl_lexer::{Lexer, one_reading};
 use std::alloc::Allocator;
 
 /// Executes what of a plot stands next behind a pair of coordinates: further pairs, and commands

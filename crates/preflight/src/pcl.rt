@@ -3,9 +3,9 @@
 ghost use Rattle.std.specs.Prelude.{◌≡◌, ◌≤◌, ◌<◌, ◌+◌, ℕ, List, length, IsFalse, IsTrue};
 ghost use Rattle.device_profile.specs.Printer.{Printer};
 ghost use Rattle.pcl_items.specs.Items.{simple_view};
-ghost use Rattle.pcl_items.specs.Lexing.Meaning.{item_of_end};
-ghost use Rattle.pcl_items.specs.Modes.{mode_of};
-ghost use Rattle.pcl_items.specs.Reading.{left};
+ghost use Rattle.pcl_lexer.specs.Lexing.Meaning.{item_of_end};
+ghost use Rattle.pcl_lexer.specs.Modes.{mode_of};
+ghost use Rattle.pcl_lexer.specs.Reading.{left};
 ghost use Rattle.preflight.specs.Carriers.Checking.{ComesThrough, HasExecuted};
 ghost use Rattle.preflight.specs.Carriers.Lockstep.{machines_of, counts_of, AllAdmit, AreRunning, AreIn, Execute, GoesInStep};
 ghost use Rattle.preflight.specs.Culprit.{Names};
@@ -16,7 +16,8 @@ use crate::culprit::Culprit;
 use crate::lockstep::Lockstep;
 use crate::standing::Standing;
 use page_machine::watched_runs_are_alike;
-use pcl_items::{Item, Lexer, LineEnd, PlacedLineEnd, SimpleItem, one_reading};
+use pcl_items::{Item, LineEnd, SimpleItem};
+use pcl_lexer::{Lexer, PlacedLineEnd, one_reading};
 use std::alloc::Allocator;
 
 /// Executes the commands, the lines of text and the ends of lines that stand next, as many as are

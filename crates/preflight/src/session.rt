@@ -1,7 +1,7 @@
 //! A check of a job that is fed in pieces.
 ghost use Rattle.std.specs.Prelude.{◌≡◌, ◌++◌, ◌<◌, ◌≤◌, ◌+◌, ◌^◌, ◌↔◌, ◌≢◌, ◌⊎◌, ℕ, List, [], length, None, IfOk, IfErr, IsErrOf, Ok, Err, OnOk, false};
-ghost use Rattle.pcl_items.specs.Lexing.State.{WantsMore};
-ghost use Rattle.pcl_items.specs.Modes.{mode_of};
+ghost use Rattle.pcl_lexer.specs.Lexing.State.{WantsMore};
+ghost use Rattle.pcl_lexer.specs.Modes.{mode_of};
 ghost use Rattle.device_profile.specs.Printer.{Printer};
 ghost use Rattle.streams.specs.declared.error.Error.{Error};
 ghost use Rattle.verdict.specs.declared.verdict.Verdict.{Verdict};
@@ -16,7 +16,7 @@ use crate::laws::fails_say;
 use crate::lockstep::Lockstep;
 use crate::standing::Standing;
 use device_profile::Profile;
-use pcl_items::Lexer;
+use pcl_lexer::Lexer;
 use std::alloc::Allocator;
 use std::marker::Model;
 use streams::{Consumer, Error, PIECE};
@@ -41,8 +41,8 @@ pub struct Session<'p, A: Allocator + Copy, P: Allocator> {
 
 impl<'p, A: Allocator + Copy, P: Allocator> Model for Session<'p, A, P> {
     ghost use Rattle.std.specs.Prelude.{◌≡◌, ◌≤◌, ◌+◌, ◌^◌, length, None, false};
-    ghost use Rattle.pcl_items.specs.Lexing.State.{WantsMore};
-    ghost use Rattle.pcl_items.specs.Modes.{mode_of};
+    ghost use Rattle.pcl_lexer.specs.Lexing.State.{WantsMore};
+    ghost use Rattle.pcl_lexer.specs.Modes.{mode_of};
     ghost use Rattle.preflight.specs.declared.standing.Standing.TheVariants.{Open};
     ghost use Rattle.preflight.specs.Session.{SessionState};
     ghost use Rattle.preflight.specs.Carriers.Lockstep.{AreIn, AreRunning, counts_of, machines_of};

@@ -3,18 +3,18 @@ use Rattle.std.proofs.Common.{◌≡◌, ℕ, zero, suc, ◌+◌, ◌<◌, List,
 use Rattle.pcl_items.specs.declared.fault.LexCause.{LexCause}
 use Rattle.pcl_items.specs.declared.fault.LexCause.TheVariants.{NotInProfile}
 use Rattle.pcl_items.specs.declared.fault.Name.TheVariants as names
-use Rattle.pcl_items.specs.Lexing.Contexts.{Context, Pcl, item_place}
+use Rattle.pcl_lexer.specs.Lexing.Contexts.{Context, Pcl, item_place}
 use Rattle.pcl_items.specs.Items.{Placed, at}
-use Rattle.pcl_items.specs.Reader.{First, Open, Passes, Begins, Faulty, first_of}
-use Rattle.pcl_items.specs.Fault.{end_cause, IsFault}
-use Rattle.pcl_items.specs.Reading.{Reading, Stopped, IsReading, ReadsTo, here, passes, begins, left}
-use Rattle.pcl_items.specs.Laws.{HasOneReading}
-use Rattle.pcl_items.proofs.Lexing.Decided.{stays_decided}
-use Rattle.pcl_items.proofs.Frames.Opening.{Opened, refuses, completes, opened}
-use Rattle.pcl_items.proofs.Reading.Readings.{whole_end}
-use Rattle.pcl_items.proofs.Reading.ReadsTo.{grows}
-use Rattle.pcl_items.proofs.Lexing.Spans.{begins-taken, passes-taken}
-use Rattle.pcl_items.proofs.Reading.Stopping.{read_by_rules}
+use Rattle.pcl_lexer.specs.Reader.{First, Open, Passes, Begins, Faulty, first_of}
+use Rattle.pcl_lexer.specs.Fault.{end_cause, IsFault}
+use Rattle.pcl_lexer.specs.Reading.{Reading, Stopped, IsReading, ReadsTo, here, passes, begins, left}
+use Rattle.pcl_lexer.specs.Laws.{HasOneReading}
+use Rattle.pcl_lexer.proofs.Lexing.Decided.{stays_decided}
+use Rattle.pcl_lexer.proofs.Frames.Opening.{Opened, refuses, completes, opened}
+use Rattle.pcl_lexer.proofs.Reading.Readings.{whole_end}
+use Rattle.pcl_lexer.proofs.Reading.ReadsTo.{grows}
+use Rattle.pcl_lexer.proofs.Lexing.Spans.{begins-taken, passes-taken}
+use Rattle.pcl_lexer.proofs.Reading.Stopping.{read_by_rules}
 use Rattle.device_profile.specs.Printer.{Printer}
 use Rattle.page_machine.specs.Event.{Event}
 use Rattle.page_machine.specs.Job.{events_of}

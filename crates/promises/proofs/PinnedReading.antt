@@ -11,15 +11,16 @@ use Rattle.pcl_items.specs.declared.pcl.command.Command.TheVariants.{Orientation
 use Rattle.pcl_items.specs.declared.item.Mode.{Mode}
 use Rattle.pcl_items.specs.declared.item.Mode.TheVariants.{Pcl, Frame, Pjl}
 use Rattle.pcl_items.specs.Spellings.Canon.{canon, IsItem}
-use Rattle.pcl_items.specs.Grammar.{MayEnd, follows, behind_pjl}
-use Rattle.pcl_items.specs.Items.{Entry, Placed, Reset, ExitLanguage, PjlLine, Parameterized, Text}
+use Rattle.pcl_lexer.specs.Grammar.{MayEnd}
+use Rattle.pcl_items.specs.Modes.{follows, behind_pjl, mode_after, mode_behind}
+use Rattle.pcl_items.specs.Items.{Entry, Placed, Reset, ExitLanguage, PjlLine, Parameterized, Text, entries}
 use Rattle.pcl_items.specs.PjlLines.Text.{PjlCommand, EnterPcl, at_sign}
-use Rattle.pcl_items.specs.Modes.{between, mode_of}
-use Rattle.pcl_items.specs.Reading.{Whole, IsReading}
-use Rattle.pcl_items.specs.Spellings.Spelled.{AreAdmitted, none, some, entries, mode_after, mode_behind, spelled}
+use Rattle.pcl_lexer.specs.Modes.{between, mode_of}
+use Rattle.pcl_lexer.specs.Reading.{Whole, IsReading}
+use Rattle.pcl_spelling.specs.Spellings.Spelled.{AreAdmitted, none, some, spelled}
 use Rattle.pcl_items.specs.Escapes.Value.{most}
-use Rattle.pcl_items.proofs.Spellings.ReadAgain.{AreAdmitted-append, mode_behind-append, reads_mode, spelled-append}
-use Rattle.pcl_items.proofs.Reading.Stopping.{read_by_rules}
+use Rattle.pcl_spelling.proofs.Spellings.ReadAgain.{AreAdmitted-append, mode_behind-append, reads_mode, spelled-append}
+use Rattle.pcl_lexer.proofs.Reading.Stopping.{read_by_rules}
 use Rattle.page_env.specs.FontInForce.{request_at, no_request}
 use Rattle.page_env.specs.Pinned.{is_unpinnable}
 use Rattle.page_machine.specs.Pinning.{spacing, prologue, needs_no_prologue, before, behind, is_due_behind, pinned_items, placed_from, place_behind}

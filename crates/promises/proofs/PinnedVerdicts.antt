@@ -1,6 +1,6 @@
 -- The verdict for one printer alone is told by the events of its run and its finding.
 use Rattle.std.proofs.Common.{◌≡◌, ℕ, ◌+◌, Bool, cond, List, [], ◌∷◌, ◌++◌, append-nil, Option, Some, None, refl, ap, sym, ◌∙◌}
-use Rattle.pcl_items.specs.Reading.{Reading}
+use Rattle.pcl_lexer.specs.Reading.{Reading}
 use Rattle.page_env.specs.declared.finding.Finding.{Finding}
 use Rattle.page_machine.specs.Event.{Event}
 use Rattle.page_machine.specs.Job.{ItemRun, JobRun, events_of}

@@ -12,20 +12,21 @@ use Rattle.pcl_items.specs.declared.number.Sign.{Sign}
 use Rattle.pcl_items.specs.declared.number.Sign.TheVariants.{Absent, Plus, Minus}
 use Rattle.pcl_items.specs.Spellings.Canon.{canon, IsItem}
 use Rattle.pcl_items.specs.Escapes.Codes.{control_at, sequence_at}
-use Rattle.pcl_items.specs.Frames.CommandParts.{Numbers, Single, Odd, Even}
-use Rattle.pcl_items.specs.Faults as rules
-use Rattle.pcl_items.specs.Frames.Faults as frames
-use Rattle.pcl_items.specs.Frames.Grammar.{Start, Part, Word, Number, IsBegun, letters, letters_space, setting, coordinate, behind_pair, further_coordinate, space, comma, IsWhole, without_number, with_number, EndsPair, second_coordinate, IsCommand, without_pairs, pair, behind_pairs, IsFrameUnit, separator, command, ended_command, LeavesFrame, reset, leave_frame}
-use Rattle.pcl_items.specs.Grammar.{Commands, last, with_data, more, IsUngrouped, symbol_set, default_font, leave_frame as leaves_ungrouped, enter_frame, IsUnit, text_byte, control_code, two_characters, ungrouped, combined, in_frame, out_of_frame, exit, line, otherwise, SpellsTo, here, next, follows}
-use Rattle.pcl_items.specs.Items.{Entry, Placed, bare}
-use Rattle.pcl_items.specs.Frames.NumberText.{IsCoordinate}
-use Rattle.pcl_items.specs.Reading.{Reading, Whole, Stopped, IsReading, items_of, reading_of}
-use Rattle.pcl_items.specs.Spellings.Spelled.{AreAdmitted, none, some, entries, items_in, mode_after, mode_behind, spelled}
+use Rattle.pcl_lexer.specs.Frames.CommandParts.{Numbers, Single, Odd, Even}
+use Rattle.pcl_lexer.specs.Faults as rules
+use Rattle.pcl_lexer.specs.Frames.Faults as frames
+use Rattle.pcl_lexer.specs.Frames.Grammar.{Start, Part, Word, Number, IsBegun, letters, letters_space, setting, coordinate, behind_pair, further_coordinate, space, comma, IsWhole, without_number, with_number, EndsPair, second_coordinate, IsCommand, without_pairs, pair, behind_pairs, IsFrameUnit, separator, command, ended_command, LeavesFrame, reset, leave_frame}
+use Rattle.pcl_lexer.specs.Grammar.{Commands, last, with_data, more, IsUngrouped, symbol_set, default_font, leave_frame as leaves_ungrouped, enter_frame, IsUnit, text_byte, control_code, two_characters, ungrouped, combined, in_frame, out_of_frame, exit, line, otherwise, SpellsTo, here, next}
+use Rattle.pcl_items.specs.Modes.{follows, mode_after, mode_behind}
+use Rattle.pcl_items.specs.Items.{Entry, Placed, bare, entries}
+use Rattle.pcl_lexer.specs.Frames.NumberText.{IsCoordinate}
+use Rattle.pcl_lexer.specs.Reading.{Reading, Whole, Stopped, IsReading, items_of, reading_of}
+use Rattle.pcl_spelling.specs.Spellings.Spelled.{AreAdmitted, none, some, items_in, spelled}
 use Rattle.pcl_items.specs.Escapes.Value.{most, most_units, signed}
 use Rattle.pcl_items.specs.Escapes.ValueField.{IsField}
-use Rattle.pcl_items.proofs.PjlLines.Canonical.{spelled_line}
-use Rattle.pcl_items.proofs.Spellings.ReadAgain.{items_in-spelled, reads_mode}
-use Rattle.pcl_items.proofs.Reading.Stopping.{read_by_rules}
+use Rattle.pcl_lexer.proofs.PjlLines.Canonical.{spelled_line}
+use Rattle.pcl_spelling.proofs.Spellings.ReadAgain.{items_in-spelled, reads_mode}
+use Rattle.pcl_lexer.proofs.Reading.Stopping.{read_by_rules}
 use Rattle.promises.specs.Laws.{HaveOnePlainText, IsReadAgain}
 use Rattle.page_machine.specs.Pinning.{placed_from, place_behind}
 use Rattle.renderings.specs.Texts.{plain_text}

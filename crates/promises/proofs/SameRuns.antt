@@ -1,9 +1,8 @@
 -- Where items stand changes nothing in their run; and nothing is unset in a plain one.
 use Rattle.std.proofs.Common.{◌≡◌, ℕ, zero, suc, Bool, true, List, [], ◌∷◌, None, Some, refl, ap, ◌∙◌, subst}
 use Rattle.std.proofs.lemmas.Bool.{false≢true}
-use Rattle.pcl_items.specs.Items.{Entry, Placed}
-use Rattle.pcl_items.specs.Reading.{Reading}
-use Rattle.pcl_items.specs.Spellings.Spelled.{entries}
+use Rattle.pcl_items.specs.Items.{Entry, Placed, entries}
+use Rattle.pcl_lexer.specs.Reading.{Reading}
 use Rattle.device_profile.specs.declared.field.Field.{Field}
 use Rattle.device_profile.specs.declared.field.Field.TheVariants.{Size, Orientation, Vmi, Font, Copies, Sides, Tray, LineTerm}
 use Rattle.device_profile.specs.declared.font.FontRequest.{FontRequest}

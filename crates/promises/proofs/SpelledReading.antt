@@ -3,17 +3,18 @@ use Rattle.std.proofs.Common.{◌≡◌, ℕ, ◌+◌, length, true, List, [], �
 use Rattle.pcl_items.specs.declared.item.Mode.{Mode}
 use Rattle.pcl_items.specs.declared.item.Mode.TheVariants.{Pcl, Frame, Pjl}
 use Rattle.pcl_items.specs.Spellings.Canon.{canon}
-use Rattle.pcl_items.specs.Lexing.Contexts.{Context, MayEndAt}
-use Rattle.pcl_items.specs.Lexing.Contexts as contexts
-use Rattle.pcl_items.specs.Grammar.{MayEnd}
-use Rattle.pcl_items.specs.Items.{Entry, Placed}
-use Rattle.pcl_items.specs.Modes.{between, mode_of}
-use Rattle.pcl_items.specs.Reading.{ReadsTo, here, Whole, IsReading}
-use Rattle.pcl_items.specs.Spellings.Spelled.{AreAdmitted, none, some, entries, mode_after, mode_behind, spelled}
-use Rattle.pcl_items.proofs.Spellings.Canons.{has_canon}
-use Rattle.pcl_items.proofs.Reading.ReadsTo.{ReadsTo-append}
-use Rattle.pcl_items.proofs.Spellings.ReadAgain.{reads_mode}
-use Rattle.pcl_items.proofs.Reading.Stopping.{read_by_rules}
+use Rattle.pcl_lexer.specs.Lexing.Contexts.{Context, MayEndAt}
+use Rattle.pcl_lexer.specs.Lexing.Contexts as contexts
+use Rattle.pcl_lexer.specs.Grammar.{MayEnd}
+use Rattle.pcl_items.specs.Items.{Entry, Placed, entries}
+use Rattle.pcl_lexer.specs.Modes.{between, mode_of}
+use Rattle.pcl_lexer.specs.Reading.{ReadsTo, here, Whole, IsReading}
+use Rattle.pcl_spelling.specs.Spellings.Spelled.{AreAdmitted, none, some, spelled}
+use Rattle.pcl_items.specs.Modes.{mode_after, mode_behind}
+use Rattle.pcl_spelling.proofs.Spellings.Canons.{has_canon}
+use Rattle.pcl_lexer.proofs.Reading.ReadsTo.{ReadsTo-append}
+use Rattle.pcl_spelling.proofs.Spellings.ReadAgain.{reads_mode}
+use Rattle.pcl_lexer.proofs.Reading.Stopping.{read_by_rules}
 use Rattle.page_machine.specs.Pinning.{placed_from, place_behind}
 
 pub placed_reads : (mode final : Mode) (place : ℕ) (items : List Entry) → AreAdmitted mode items → mode_behind mode items ≡ Some final → ReadsTo true (between mode) place (spelled items) (placed_from place items) (between final) (place_behind place items) []

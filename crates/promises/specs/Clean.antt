@@ -2,7 +2,7 @@
 use Rattle.std.specs.Prelude.{◌≡◌, ◌↔◌, ◌≤◌, ℕ, List, length}
 use Rattle.std.specs.List.{Contains}
 use Rattle.pcl_items.specs.Items.{Placed}
-use Rattle.pcl_items.specs.Reading.{Whole}
+use Rattle.pcl_lexer.specs.Reading.{Whole}
 use Rattle.device_profile.specs.declared.panel.Panel.{Panel}
 use Rattle.device_profile.specs.declared.field.Field.{Field}
 use Rattle.device_profile.specs.Printer.{Printer, first_panel, values_of}

@@ -1,9 +1,8 @@
 -- Laws of verdicts and of texts.
 use Rattle.std.specs.Prelude.{◌≡◌, ℕ, ◌<◌, List, [], ◌∷◌, length, map, None}
 use Rattle.std.specs.List.{All, Contains}
-use Rattle.pcl_items.specs.Items.{Placed}
-use Rattle.pcl_items.specs.Reading.{Reading, Whole, IsReading, items_of, reading_of}
-use Rattle.pcl_items.specs.Spellings.Spelled.{entries}
+use Rattle.pcl_items.specs.Items.{Placed, entries}
+use Rattle.pcl_lexer.specs.Reading.{Reading, Whole, IsReading, items_of, reading_of}
 use Rattle.device_profile.specs.declared.panel.Panel.{Panel}
 use Rattle.device_profile.specs.Printer.{Printer, first_panel}
 use Rattle.page_env.specs.Settings.{Flags}

@@ -1,9 +1,13 @@
-//! Laws of verdicts and of texts.
+//! Laws of spellings, of verdicts and of texts.
 
-ghost use Rattle.std.specs.Prelude.{◌≡◌, ℕ, List, Option, false};
+ghost use Rattle.std.specs.Prelude.{◌≡◌, ◌↔◌, ℕ, List, Option, Some, false};
 ghost use Rattle.std.specs.List.{AllByRecursion};
-ghost use Rattle.pcl_items.specs.Items.{Placed};
-ghost use Rattle.pcl_items.specs.Reading.{Reading, Whole, IsReading};
+ghost use Rattle.pcl_items.specs.declared.item.Mode.{Mode};
+ghost use Rattle.pcl_items.specs.Items.{Entry, Placed};
+ghost use Rattle.pcl_items.specs.Modes.{follows};
+ghost use Rattle.pcl_items.specs.Spellings.Canon.{IsItem};
+ghost use Rattle.pcl_lexer.specs.Reading.{Reading, Whole, IsReading};
+ghost use Rattle.pcl_spelling.specs.Laws.{HasCanon, IsOneUnit};
 ghost use Rattle.device_profile.specs.declared.panel.Panel.{Panel};
 ghost use Rattle.device_profile.specs.Printer.{CanBeSetTo, Printer};
 ghost use Rattle.page_env.specs.Pinned.{is_unpinnable};
@@ -17,8 +21,22 @@ ghost use Rattle.promises.specs.Clean.{PassesWhereClean};
 ghost use Rattle.preflight.specs.Verdict.{IsExact, verdict_of};
 
 use page_machine::{pinned_jobs_print_alike, unset_is_read, watched_is_plain};
-use pcl_items::one_reading;
+use pcl_lexer::one_reading;
 use verdict::Verdict;
+
+/// In each mode that admits an item, its one spelling is a spelling of it, and is read as that
+/// item, whatever bytes follow.
+pub fn canon_is_read()
+    ensures { (mode mode2 : Mode) (item : Entry) → IsItem item → follows mode item ≡ Some mode2 →
+        HasCanon mode item mode2 }
+{}
+
+/// A mode admits an item and leads to another exactly where the item's one spelling is one unit of
+/// it, with that other mode behind.
+pub fn admitted_by_rules()
+    ensures { (mode mode2 : Mode) (item : Entry) → IsItem item → (follows mode item ≡ Some mode2) ↔
+        IsOneUnit mode item mode2 }
+{}
 
 /// What a fleet passes, each part of it passes alike: printers of the fleet, at least one, in any
 /// order.

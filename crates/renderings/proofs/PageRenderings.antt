@@ -1,9 +1,9 @@
 -- What an item does on a machine that knows its panel, and what is due of the rest of the job.
 use Rattle.std.proofs.Common.{◌≡◌, ℕ, false, unwrap_or, IsFalse, Ok, Err, List, [], ◌∷◌, ◌++◌, None, Some, refl, ap, sym, ◌∙◌, subst, append_assoc, append-nil}
 use Rattle.pcl_items.specs.declared.item.Mode.{Mode}
-use Rattle.pcl_items.specs.Grammar.{follows}
+use Rattle.pcl_items.specs.Modes.{follows}
 use Rattle.pcl_items.specs.Items.{Entry, Placed}
-use Rattle.pcl_items.specs.Reading.{Reading, Whole, Stopped, with_item}
+use Rattle.pcl_lexer.specs.Reading.{Reading, Whole, Stopped, with_item}
 use Rattle.device_profile.specs.declared.panel.Panel.{Panel}
 use Rattle.device_profile.specs.Printer.{Printer}
 use Rattle.macro_store.specs.Store.{no_macros}

@@ -5,18 +5,18 @@ use Rattle.std.specs.Result.{IsErr}
 use Rattle.pcl_items.specs.declared.fault.LexFault.{LexFault}
 use Rattle.pcl_items.specs.declared.item.Item.{Item}
 use Rattle.pcl_items.specs.declared.item.Mode.{Mode}
-use Rattle.pcl_items.specs.Grammar.{follows}
-use Rattle.pcl_items.specs.declared.lexer.Lexed.{Lexed}
-use Rattle.pcl_items.specs.declared.lexer.Lexed.TheVariants as answers
+use Rattle.pcl_items.specs.Modes.{follows}
+use Rattle.pcl_lexer.specs.declared.lexer.Lexed.{Lexed}
+use Rattle.pcl_lexer.specs.declared.lexer.Lexed.TheVariants as answers
 use Rattle.pcl_items.specs.Items.{Entry, Placed, view, at}
-use Rattle.pcl_items.specs.Laws.{HasOneReading}
-use Rattle.pcl_items.specs.Modes.{mode_of}
-use Rattle.pcl_items.specs.Lexing.State.{LexerState}
-use Rattle.pcl_items.specs.Lexing.Meaning.{HasRead, MayBe, Decides, Settles, given, Tells as LexerTells, Undecided, IsNext, KeepsMode}
-use Rattle.pcl_items.specs.Reading.{Reading, Whole, Stopped, IsReading, items_of, read_on, reading_of, with_item}
-use Rattle.pcl_items.specs.Reader.{first_of}
-use Rattle.pcl_items.proofs.Reading.Readings.{one_reading}
-use Rattle.pcl_items.proofs.Lexing.Steps.{decides}
+use Rattle.pcl_lexer.specs.Laws.{HasOneReading}
+use Rattle.pcl_lexer.specs.Modes.{mode_of}
+use Rattle.pcl_lexer.specs.Lexing.State.{LexerState}
+use Rattle.pcl_lexer.specs.Lexing.Meaning.{HasRead, MayBe, Decides, Settles, given, Tells as LexerTells, Undecided, IsNext, KeepsMode}
+use Rattle.pcl_lexer.specs.Reading.{Reading, Whole, Stopped, IsReading, items_of, read_on, reading_of, with_item}
+use Rattle.pcl_lexer.specs.Reader.{first_of}
+use Rattle.pcl_lexer.proofs.Reading.Readings.{one_reading}
+use Rattle.pcl_lexer.proofs.Lexing.Steps.{decides}
 use Rattle.streams.specs.declared.error.Error.{Error}
 use Rattle.renderings.specs.declared.outcome.Outcome.{Outcome}
 use Rattle.renderings.specs.Due.{Rendering, list_rendering}

@@ -6,11 +6,11 @@ use Rattle.pcl_items.specs.declared.pcl.command.Group.TheVariants.{Layout}
 use Rattle.pcl_items.specs.declared.fault.Name.TheVariants as names
 use Rattle.pcl_items.specs.declared.fault.LexCause.TheVariants.{NotInProfile}
 use Rattle.pcl_items.specs.PjlLines.Exit.{exit_text}
-use Rattle.pcl_items.specs.Escapes.Field.{field_at, amount_of}
+use Rattle.pcl_lexer.specs.Escapes.Field.{field_at, amount_of}
 use Rattle.pcl_items.specs.PjlLines.First.{at_pjl}
 use Rattle.pcl_items.specs.PjlLines.Reader.{trimmed, is_word, past_part, parts_behind, is_language, in_words, pjl_command_of}
-use Rattle.pcl_items.specs.Reader.{first_of, after_escape, after_introducer, after_parenthesis, command_in, without_group}
-use Rattle.pcl_items.specs.Reading.{read_on, reading_of}
+use Rattle.pcl_lexer.specs.Reader.{first_of, after_escape, after_introducer, after_parenthesis, command_in, without_group}
+use Rattle.pcl_lexer.specs.Reading.{read_on, reading_of}
 use Rattle.device_profile.specs.declared.panel.Panel.{Panel}
 use Rattle.device_profile.specs.Printer.{first_panel, row_at, geometry_at, has_size, has_orientation}
 use Rattle.device_profile.specs.Samples.{printer_a}

@@ -4,10 +4,10 @@ use Rattle.std.specs.List.{concat}
 use Rattle.std.specs.Io.KnownBytes.{Consumes}
 use Rattle.pcl_items.specs.declared.fault.LexCause.{LexCause}
 use Rattle.pcl_items.specs.declared.item.Mode.{Mode}
-use Rattle.pcl_items.specs.Lexing.State.{LexerState}
-use Rattle.pcl_items.specs.Lexing.Meaning.{Decides, Undecided}
-use Rattle.pcl_items.specs.Reading.{Stopped, IsReading}
-use Rattle.pcl_items.proofs.Lexing.Steps.{decides}
+use Rattle.pcl_lexer.specs.Lexing.State.{LexerState}
+use Rattle.pcl_lexer.specs.Lexing.Meaning.{Decides, Undecided}
+use Rattle.pcl_lexer.specs.Reading.{Stopped, IsReading}
+use Rattle.pcl_lexer.proofs.Lexing.Steps.{decides}
 use Rattle.renderings.specs.declared.outcome.Outcome.{Outcome}
 use Rattle.renderings.specs.Due.{Rendering, WritesDue, WritesFront, WritesDecided}
 use Rattle.streams.specs.Outlet.{OutletState}

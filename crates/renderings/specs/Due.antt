@@ -4,8 +4,8 @@ use Rattle.std.specs.List.{concat}
 use Rattle.std.specs.Io.KnownBytes.{Consumes}
 use Rattle.pcl_items.specs.declared.fault.LexCause.{LexCause}
 use Rattle.pcl_items.specs.Items.{Placed}
-use Rattle.pcl_items.specs.Lexing.Meaning.{Decides, Undecided}
-use Rattle.pcl_items.specs.Reading.{Reading, Stopped, IsReading, items_of}
+use Rattle.pcl_lexer.specs.Lexing.Meaning.{Decides, Undecided}
+use Rattle.pcl_lexer.specs.Reading.{Reading, Stopped, IsReading, items_of}
 use Rattle.device_profile.specs.declared.panel.Panel.{Panel}
 use Rattle.device_profile.specs.Printer.{Printer}
 use Rattle.line_words.specs.ItemLines.{fault_line}

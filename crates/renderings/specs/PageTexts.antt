@@ -1,6 +1,6 @@
 -- The text of the pages of a job: a line for each mark, in the order of the job, and one for the end of each page.
 use Rattle.std.specs.Prelude.{ℕ, ◌+◌, List, [], ◌∷◌, ◌++◌, Option, None, Some}
-use Rattle.pcl_items.specs.Reading.{Reading}
+use Rattle.pcl_lexer.specs.Reading.{Reading}
 use Rattle.device_profile.specs.declared.panel.Panel.{Panel}
 use Rattle.device_profile.specs.Printer.{Printer}
 use Rattle.page_env.specs.declared.finding.Finding.{Finding}

@@ -5,7 +5,7 @@ use Rattle.device_profile.specs.declared.panel.Panel.{Panel}
 use Rattle.device_profile.specs.Printer.{Printer}
 use Rattle.pcl_items.specs.Spellings.Canon.{canon}
 use Rattle.pcl_items.specs.Items.{Entry, Placed}
-use Rattle.pcl_items.specs.Reading.{Reading, items_of}
+use Rattle.pcl_lexer.specs.Reading.{Reading, items_of}
 use Rattle.page_env.specs.FontInForce.{request_at}
 use Rattle.page_env.specs.Pinned.{is_unpinnable}
 use Rattle.page_machine.specs.Pinning.{before, behind, is_due_behind}

@@ -2,7 +2,7 @@
 use Rattle.std.specs.Prelude.{ℕ, List, ◌++◌, flat_map}
 use Rattle.pcl_items.specs.Items.{Placed}
 use Rattle.pcl_items.specs.Spellings.Canon.{canon}
-use Rattle.pcl_items.specs.Reading.{Reading, Whole, Stopped, items_of}
+use Rattle.pcl_lexer.specs.Reading.{Reading, Whole, Stopped, items_of}
 use Rattle.renderings.specs.declared.outcome.Outcome.{Outcome}
 use Rattle.renderings.specs.declared.outcome.Outcome.TheVariants.{Done, Fail}
 use Rattle.verdict.specs.declared.reason.Reason.TheVariants.{Fault}

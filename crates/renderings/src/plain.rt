@@ -6,7 +6,8 @@ ghost use Rattle.renderings.specs.Due.{Renders, plain_rendering};
 use crate::item_texts::{ItemByItem, ItemText};
 use crate::outcome::Outcome;
 use crate::render::render_job;
-use pcl_items::{Item, Place, spell};
+use pcl_items::{Item, Place};
+use pcl_spelling::spell;
 use std::alloc::{AllocError, Allocator};
 use streams::{Error, Outlet, Source};
 

@@ -4,9 +4,9 @@ ghost use Rattle.pcl_items.specs.declared.fault.LexCause.{LexCause};
 ghost use Rattle.pcl_items.specs.declared.item.Mode.{Mode};
 ghost use Rattle.pcl_items.specs.declared.item.Mode.TheVariants.{Pcl};
 ghost use Rattle.pcl_items.specs.Items.{at, view};
-ghost use Rattle.pcl_items.specs.Lexing.State.{WantsMore};
-ghost use Rattle.pcl_items.specs.Modes.{mode_of};
-ghost use Rattle.pcl_items.specs.Reading.{Whole, Stopped};
+ghost use Rattle.pcl_lexer.specs.Lexing.State.{WantsMore};
+ghost use Rattle.pcl_lexer.specs.Modes.{mode_of};
+ghost use Rattle.pcl_lexer.specs.Reading.{Whole, Stopped};
 ghost use Rattle.renderings.specs.Due.{Renders, Rendering};
 ghost use Rattle.streams.specs.Errors.{is_err_of_write};
 ghost use Rattle.streams.specs.Outlet.{OutletState};
@@ -14,7 +14,8 @@ ghost use Rattle.renderings.specs.Carriers.Rendering.{MayCome, RenderedTo, Ended
 ghost use Rattle.renderings.specs.Carriers.Rendered.{CanRender, IsCutOff, IsRendered, RendersOn};
 
 use crate::outcome::Outcome;
-use pcl_items::{Item, LexFault, Lexed, Lexer, Place};
+use pcl_items::{Item, LexFault, Place};
+use pcl_lexer::{Lexed, Lexer};
 use std::alloc::Allocator;
 use streams::{Consumer, Error, Outlet, Source, read_job, write_kept};
 

@@ -2,8 +2,8 @@
 use Rattle.std.proofs.Common.{false, ◌≡◌, ◌≢◌, inl, inr, ℕ, Bool, List, [], Option, None, Some, Result, Ok, Err, IfErr, IfOk, refl, sym, ◌∙◌, ap, subst, append-nil}
 use Rattle.std.specs.Io.KnownBytes.{Consumes}
 use Rattle.pcl_items.specs.declared.item.Mode.TheVariants.{Pcl}
-use Rattle.pcl_items.specs.Grammar.{here}
-use Rattle.pcl_items.specs.Reading.{IsReading, Whole}
+use Rattle.pcl_lexer.specs.Grammar.{here}
+use Rattle.pcl_lexer.specs.Reading.{IsReading, Whole}
 use Rattle.device_profile.specs.Printer.{Printer}
 use Rattle.streams.specs.declared.error.Error.{Error}
 use Rattle.streams.specs.declared.error.Error.TheVariants.{Memory, Read, Write, Turns, NoProfile, Items}

@@ -2,9 +2,10 @@
 #![tactic(auto)]
 
 ghost use Rattle.std.specs.Prelude.{◌≡◌, ◌≤◌, ◌+◌, length, IfOk};
-ghost use Rattle.pcl_items.specs.Lexing.Meaning.{Allows};
+ghost use Rattle.pcl_lexer.specs.Lexing.Meaning.{Allows};
 
-use pcl_items::{LexFault, Lexed, Lexer, OwnedItem, Place};
+use pcl_items::{LexFault, OwnedItem, Place};
+use pcl_lexer::{Lexed, Lexer};
 use std::alloc::{AllocError, Allocator, Global};
 use std::test::Fail;
 
@@ -32,7 +33,7 @@ pub fn job_of(
 pub type Last = Result<Lexed<'static>, LexFault>;
 
 /// Reads on to the first answer that is no item, and keeps copies of the items.
-#[tactic(auto, using(pcl_items::proofs::Lexing::Pieces::total_kept))]
+#[tactic(auto, using(pcl_lexer::proofs::Lexing::Pieces::total_kept))]
 pub fn read_on<A: Allocator, B: Allocator>(
     kept: Global,
     lexer: &mut Lexer<A>,

@@ -2,7 +2,8 @@
 
 ghost use Rattle.std.specs.Prelude.{◌≤◌, length};
 
-use pcl_items::{Item, Lexed, Lexer, OwnedItem, Place, SimpleItem};
+use pcl_items::{Item, OwnedItem, Place, SimpleItem};
+use pcl_lexer::{Lexed, Lexer};
 use std::alloc::{AllocError, Allocator, Global};
 use std::test::Fail;
 use testing_failures::Refusing;

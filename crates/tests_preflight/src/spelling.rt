@@ -1,6 +1,7 @@
 //! The one spelling of an item: read again, and refused.
 
-use pcl_items::{Mode, OwnedItem, item_at, spell};
+use pcl_items::{Mode, OwnedItem};
+use pcl_spelling::{item_at, spell};
 use std::test::Fail;
 use testing_failures::Refusing;
 use testing_items::items_of;

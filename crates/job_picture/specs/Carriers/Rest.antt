@@ -1,6 +1,6 @@
 -- What is due of the rest of a job, from where a machine stands.
 use Rattle.std.specs.Prelude.{ℕ, Bool, List, ◌++◌}
-use Rattle.pcl_items.specs.Reading.{Reading}
+use Rattle.pcl_lexer.specs.Reading.{Reading}
 use Rattle.page_env.specs.Settings.{settings_at, state_at}
 use Rattle.page_machine.specs.MachineState.{MachineState}
 use Rattle.renderings.specs.Carriers.PageRendering.{any_panel}

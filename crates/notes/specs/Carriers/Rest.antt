@@ -1,7 +1,7 @@
 -- How notes are told one after another, and what is due of the rest of a job from where a machine stands.
 use Rattle.std.specs.Prelude.{◌≡◌, ℕ, Bool, true, not, ◌||◌, cond, List, [], ◌∷◌, ◌++◌, flat_map}
 use Rattle.pcl_items.specs.Items.{Placed}
-use Rattle.pcl_items.specs.Reading.{Reading, Whole, Stopped, items_of}
+use Rattle.pcl_lexer.specs.Reading.{Reading, Whole, Stopped, items_of}
 use Rattle.device_profile.specs.declared.panel.Panel.{Panel}
 use Rattle.device_profile.specs.Printer.{Printer}
 use Rattle.macro_store.specs.Store.{Store}

@@ -1,7 +1,7 @@
 -- The lines of the job language, as they are read.
 use Rattle.std.specs.Prelude.{ℕ, zero, suc, ◌==◌, List, [], ◌∷◌, length, take, drop, Bool, true, false, ◌||◌, ◌&&◌, Option, None, Some, if◌then◌else◌}
 use Rattle.std.specs.List.{prefix_len}
-use Rattle.pcl_items.specs.Frames.Kinds.{capital}
+use Rattle.pcl_items.specs.Frames.Mnemonics.{capital}
 use Rattle.pcl_items.specs.declared.pjl.Word.{Word}
 use Rattle.pcl_items.specs.declared.pjl.Word.TheVariants.{Comment, Job, EndOfJob, Enter}
 use Rattle.pcl_items.specs.PjlLines.Text.{is_blank, is_solid, is_name_byte, is_quotable, PjlCommand, Bare, Remark, JobBegins, JobEnds, EnterPcl, name, display, language, pcl, spelling}

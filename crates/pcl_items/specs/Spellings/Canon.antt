@@ -1,20 +1,19 @@
 -- The one spelling of each item.
-use Rattle.std.specs.Prelude.{ℕ, ℤ, unsigned_abs, Option, None, Some, ◌+◌, ◌/◌, ◌%◌, ◌==◌, ◌≤◌, List, [], ◌∷◌, ◌++◌, length, if◌then◌else◌, decimal, Bool}
+use Rattle.std.specs.Prelude.{ℕ, ℤ, unsigned_abs, Option, None, Some, ◌+◌, ◌/◌, ◌%◌, ◌==◌, ◌≤◌, List, [], ◌∷◌, ◌++◌, length, if◌then◌else◌, decimal}
 use Rattle.std.specs.Fmt.{signed_decimal}
 use Rattle.pcl_items.specs.declared.frame.Handover.{Handover}
 use Rattle.pcl_items.specs.declared.frame.Handover.TheVariants.{Previous, Current}
 use Rattle.pcl_items.specs.declared.frame.Mnemonic.{Mnemonic}
 use Rattle.pcl_items.specs.declared.frame.Mnemonic.TheVariants as mnemonics
 use Rattle.pcl_items.specs.Frames.Mnemonics.{letters_of}
-use Rattle.pcl_items.specs.declared.item.Mode.{Mode}
 use Rattle.pcl_items.specs.Escapes.Commands.{introducer_of, character_of, group_of, letter_of, data_group_of, data_letter_of}
 use Rattle.pcl_items.specs.Escapes.Value.{Amount, most, most_data, most_units}
 use Rattle.pcl_items.specs.Escapes.ValueField.{sign_text}
-use Rattle.pcl_items.specs.Items.{Entry, Text, CarriageReturn, LineFeed, FormFeed, Reset, ClearMargins, HalfLineFeed, Parameterized, SymbolSet, DefaultFont, EnterFrame, LeaveFrame, Initialize, Set, Move, WithData, ExitLanguage, PjlLine, at}
+use Rattle.pcl_items.specs.Items.{Entry, Text, CarriageReturn, LineFeed, FormFeed, Reset, ClearMargins, HalfLineFeed, Parameterized, SymbolSet, DefaultFont, EnterFrame, LeaveFrame, Initialize, Set, Move, WithData, ExitLanguage, PjlLine}
 use Rattle.pcl_items.specs.Escapes.SetLetters.{IsSetLetter}
 use Rattle.pcl_items.specs.PjlLines.Canon.{canon_pjl, IsSpelledPjl}
-use Rattle.pcl_items.specs.Grammar.{escape, exit_text, IsUnit, SpellsTo}
-use Rattle.pcl_items.specs.Reading.{ReadsTo, between}
+use Rattle.pcl_items.specs.PjlLines.Exit.{exit_text}
+use Rattle.pcl_items.specs.Escapes.Codes.{escape}
 
 -- the four decimals of n ten-thousandths
 abbrev pub four_decimals : ℕ → List ℕ
@@ -109,10 +108,3 @@ IsItem (PjlLine line) = IsSpelledPjl line
 abbrev pub IsNoPjl : Entry → Type 0
 IsNoPjl (PjlLine line) = ⊥
 IsNoPjl item = Unit {0}
-
--- In a mode its spelling is one unit, which leaves another mode behind it. Whatever bytes follow, that unit is spelled
--- first and the item is read first, over all of the spelling.
-pub record HasCanon (mode : Mode) (item : Entry) (mode2 : Mode) : Type 0 where
-  pub unit : (place : ℕ) (rest : List ℕ) → IsUnit mode place (canon item) rest (at place item ∷ []) mode2
-  pub spells : (place : ℕ) (rest : List ℕ) → SpellsTo mode place (canon item ++ rest) (at place item ∷ []) mode2 (place + length (canon item)) rest
-  pub reads : (whole : Bool) (place : ℕ) (rest : List ℕ) → ReadsTo whole (between mode) place (canon item ++ rest) (at place item ∷ []) (between mode2) (place + length (canon item)) rest

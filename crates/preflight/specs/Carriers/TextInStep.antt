@@ -2,7 +2,7 @@
 use Rattle.std.specs.Prelude.{◌≡◌, ℕ, None, List, [], ◌∷◌}
 use Rattle.std.specs.List.{AllByRecursion}
 use Rattle.pcl_items.specs.declared.item.Mode.TheVariants.{Pcl}
-use Rattle.pcl_items.specs.Lexing.Passing.{line_item}
+use Rattle.pcl_items.specs.Lines.{line_item}
 use Rattle.page_env.specs.declared.text_lines.Look.{Look}
 use Rattle.page_env.specs.declared.text_lines.TextPlace.{TextPlace}
 use Rattle.page_env.specs.TextLines.{AllGo, StandsAt}

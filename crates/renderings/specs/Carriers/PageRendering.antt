@@ -1,6 +1,6 @@
 -- How the pages of a job are rendered: what a line leads to, and what is due from where a machine stands.
 use Rattle.std.specs.Prelude.{◌≡◌, ℕ, List, ◌++◌, IsFalse}
-use Rattle.pcl_items.specs.Reading.{Reading}
+use Rattle.pcl_lexer.specs.Reading.{Reading}
 use Rattle.device_profile.specs.declared.panel.Panel.{Panel}
 use Rattle.page_env.specs.Settings.{settings_at, state_at}
 use Rattle.page_machine.specs.Event.{Event}

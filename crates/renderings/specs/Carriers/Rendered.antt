@@ -1,9 +1,9 @@
 -- How a job is rendered as it is taken.
 use Rattle.std.specs.Prelude.{◌≡◌, ◌+◌, ◌≤◌, ◌^◌, ℕ, List, [], length, Bool, false}
 use Rattle.pcl_items.specs.declared.item.Mode.{Mode}
-use Rattle.pcl_items.specs.Lexing.State.{LexerState, WantsMore}
-use Rattle.pcl_items.specs.Lexing.Meaning.{Undecided}
-use Rattle.pcl_items.specs.Modes.{mode_of}
+use Rattle.pcl_lexer.specs.Lexing.State.{LexerState, WantsMore}
+use Rattle.pcl_lexer.specs.Lexing.Meaning.{Undecided}
+use Rattle.pcl_lexer.specs.Modes.{mode_of}
 use Rattle.streams.specs.declared.error.Error.{Error}
 use Rattle.renderings.specs.declared.outcome.Outcome.{Outcome}
 use Rattle.renderings.specs.Due.{Rendering, IsDue}

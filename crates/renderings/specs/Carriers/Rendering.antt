@@ -2,11 +2,11 @@
 use Rattle.std.specs.Prelude.{◌≡◌, ℕ, List, [], ◌∷◌, ◌++◌, Bool, Option, None, Some, IsSome, Result, Ok, Err}
 use Rattle.pcl_items.specs.declared.fault.LexCause.{LexCause}
 use Rattle.pcl_items.specs.declared.item.Mode.{Mode}
-use Rattle.pcl_items.specs.Grammar.{follows}
+use Rattle.pcl_items.specs.Modes.{follows}
 use Rattle.pcl_items.specs.Items.{Entry, Placed}
-use Rattle.pcl_items.specs.Reading.{Reading, Whole, Stopped, IsReading, with_item}
-use Rattle.pcl_items.specs.Lexing.State.{LexerState}
-use Rattle.pcl_items.specs.Lexing.Meaning.{HasRead, MayBe, Undecided}
+use Rattle.pcl_lexer.specs.Reading.{Reading, Whole, Stopped, IsReading, with_item}
+use Rattle.pcl_lexer.specs.Lexing.State.{LexerState}
+use Rattle.pcl_lexer.specs.Lexing.Meaning.{HasRead, MayBe, Undecided}
 use Rattle.streams.specs.declared.error.Error.{Error}
 use Rattle.streams.specs.declared.error.Error.TheVariants.{Memory, Read, Write, Turns, NoProfile, Items}
 use Rattle.renderings.specs.declared.outcome.Outcome.{Outcome}

@@ -1,7 +1,7 @@
 -- A renderer that goes on has the room that its bytes leave.
 use Rattle.std.proofs.Common.{◌+◌, ◌≤◌, ℕ, List, length, Bool, arith}
 use Rattle.pcl_items.specs.declared.item.Mode.{Mode}
-use Rattle.pcl_items.specs.Lexing.State.{LexerState}
+use Rattle.pcl_lexer.specs.Lexing.State.{LexerState}
 use Rattle.renderings.specs.Due.{Rendering}
 use Rattle.streams.specs.Outlet.{OutletState}
 use Rattle.renderings.specs.Carriers.Rendered.{CanRender, RendersOn}

@@ -1,5 +1,5 @@
 use Rattle.std.proofs.Common.{◌≡◌, ◌+◌, length}
-use Rattle.pcl_items.specs.Reading.{left}
+use Rattle.pcl_lexer.specs.Reading.{left}
 use Rattle.testing_items.proofs.read_on.Given as goal
 
 abbrev pub invariant-loop-place : goal.invariant-loop-place

@@ -2,7 +2,7 @@ use Rattle.std.proofs.Common.{◌≡◌, ◌++◌, ap, subst, ◌∙◌, arith, 
 use Rattle.std.proofs.lemmas.Grind.{common_steps}
 use Rattle.pcl_items.specs.Items.{view, Parameterized, amount}
 use Rattle.pcl_items.specs.Spellings.Canon.{canon, IsItem}
-use Rattle.pcl_items.proofs.Spellings.ReadAgain.{item_known}
+use Rattle.pcl_spelling.proofs.Spellings.ReadAgain.{item_known}
 use Rattle.macro_store.proofs.KeptCommands.{stored_spelled, command_stored}
 use Rattle.macro_store.proofs.commands.spell_behind.Goals as goal
 

@@ -2,8 +2,8 @@ use Rattle.verdict.specs.Failing.{failing}
 use Rattle.preflight.specs.Verdict.{IsExact}
 use Rattle.preflight.specs.Culprit.{IsTold}
 use Rattle.std.proofs.Common.{◌≡◌, Bool, true, false, sym, ap, subst, ◌∙◌, refl, Ok, arith}
-use Rattle.pcl_items.specs.Lexing.Meaning.{given}
-use Rattle.pcl_items.specs.Reading.{left}
+use Rattle.pcl_lexer.specs.Lexing.Meaning.{given}
+use Rattle.pcl_lexer.specs.Reading.{left}
 use Rattle.preflight.specs.Standing.{is_open}
 use Rattle.preflight.proofs.Answered.{all_admit_next, bytes_fail, bytes_whole, came_closed, comes_on, ends, further, further_by_text, further_here, item_takes, not_further, nothing_read, same_mode, stands_behind, text_through, through_here, through_open, wants_more}
 use Rattle.preflight.proofs.Standings.{closed_on, failed_by, open_by, open_is}

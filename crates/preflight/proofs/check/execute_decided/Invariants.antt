@@ -1,5 +1,5 @@
 use Rattle.std.proofs.Common.{◌≡◌, IsTrue}
-use Rattle.pcl_items.specs.Reading.{left}
+use Rattle.pcl_lexer.specs.Reading.{left}
 use Rattle.preflight.specs.Carriers.Checking.{ComesThrough}
 use Rattle.preflight.specs.Carriers.Lockstep.{machines_of, counts_of}
 use Rattle.preflight.specs.Standing.{StandsBy, is_open}

@@ -1,5 +1,5 @@
 use Rattle.std.proofs.Common.{refl, sym, subst, ◌∙◌}
-use Rattle.pcl_items.specs.Modes.{mode_of}
+use Rattle.pcl_lexer.specs.Modes.{mode_of}
 use Rattle.preflight.specs.Carriers.Checking.{ExecutesThrough}
 use Rattle.preflight.specs.Carriers.Lockstep.{AreIn, Fleet}
 use Rattle.preflight.proofs.Answered.{all_admit_next, comes_on, further, item_through, not_further, through_both}

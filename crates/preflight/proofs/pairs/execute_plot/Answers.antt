@@ -1,5 +1,5 @@
 use Rattle.std.proofs.Common.{◌≡◌, true, false, refl, sym, subst, ◌∙◌}
-use Rattle.pcl_items.specs.Lexing.Meaning.{IsNext, answer_of}
+use Rattle.pcl_lexer.specs.Lexing.Meaning.{IsNext, answer_of}
 use Rattle.preflight.specs.Standing.{is_open}
 use Rattle.preflight.proofs.Answered.{all_admit_next, comes_on, further, further_by_text, not_further, stands_behind, through_both, through_open}
 use Rattle.preflight.proofs.Standings.{open_is}

@@ -1,6 +1,6 @@
 use Rattle.std.proofs.Common.{◌≡◌, true, false, refl, sym, subst, ◌∙◌}
-use Rattle.pcl_items.specs.Lexing.Meaning.{IsNext, answer_of_end}
-use Rattle.pcl_items.specs.Modes.{mode_of}
+use Rattle.pcl_lexer.specs.Lexing.Meaning.{IsNext, answer_of_end}
+use Rattle.pcl_lexer.specs.Modes.{mode_of}
 use Rattle.preflight.specs.Carriers.Lockstep.{AreIn, machines_of}
 use Rattle.preflight.specs.Standing.{is_open}
 use Rattle.preflight.proofs.Answered.{all_admit_next, comes_on, further, further_by_text, not_further, text_through, through_open}

@@ -1,5 +1,5 @@
 use Rattle.std.proofs.Common.{◌≡◌}
-use Rattle.pcl_items.specs.Reading.{left}
+use Rattle.pcl_lexer.specs.Reading.{left}
 use Rattle.preflight.specs.Carriers.Checking.{ExecutesThrough}
 use Rattle.preflight.specs.Carriers.Lockstep.{machines_of, counts_of}
 use Rattle.preflight.specs.declared.standing.Standing.TheVariants.{Open}

@@ -1,6 +1,6 @@
 use Rattle.std.proofs.Common.{◌≡◌, length, subst, take, ap, arith}
 use Rattle.std.proofs.lemmas.List.{length-take-le}
-use Rattle.pcl_items.specs.Lexing.Passing.{ahead_of}
+use Rattle.pcl_lexer.specs.Lexing.Passing.{ahead_of}
 use Rattle.preflight.specs.Carriers.Lockstep.{machines_of, counts_of}
 use Rattle.preflight.specs.Carriers.TextInStep.{PrintInStep}
 use Rattle.preflight.proofs.TextInStep.{lines_done, lines_less, line_modes, still_run}

@@ -2,8 +2,8 @@ use Rattle.std.proofs.Common.{true, subst, sym}
 use Rattle.device_profile.specs.Printer.{first_panel}
 use Rattle.page_env.specs.FontInForce.{request_at}
 use Rattle.page_env.specs.Settings.{unwatched, watched}
-use Rattle.pcl_items.specs.Spellings.Spelled.{entries}
-use Rattle.pcl_items.specs.Reading.{IsReading}
+use Rattle.pcl_items.specs.Items.{entries}
+use Rattle.pcl_lexer.specs.Reading.{IsReading}
 use Rattle.page_machine.specs.Job.{plain_run, watched_run}
 use Rattle.page_machine.specs.Pinning.{pinned_reading, moved_reading}
 use Rattle.promises.proofs.PinnedReading.{text_is_spelled, pinned_is_read, all_entries}

@@ -1,9 +1,9 @@
 use Rattle.std.proofs.Common.{◌≡◌, ap, ◌∙◌, refl, subst, [], Ok, is_some}
 use Rattle.pcl_items.specs.declared.item.Item.TheVariants.{Simple}
 use Rattle.pcl_items.specs.Items.{at, view}
-use Rattle.pcl_items.specs.Lexing.Meaning.{IsNext, answer_of}
-use Rattle.pcl_items.specs.Modes.{mode_of}
-use Rattle.pcl_items.specs.Reading.{Whole, Stopped}
+use Rattle.pcl_lexer.specs.Lexing.Meaning.{IsNext, answer_of}
+use Rattle.pcl_lexer.specs.Modes.{mode_of}
+use Rattle.pcl_lexer.specs.Reading.{Whole, Stopped}
 use Rattle.renderings.specs.Carriers.Rendering.{StartsWith}
 use Rattle.renderings.proofs.Renderings.{came_err, end_there, fault_there, follows_on, item_admitted, item_there, renders_on, renders_over, rendered_all, rendered_ended, rendered_failed, rendered_item}
 use Rattle.renderings.proofs.render.render_items.Goals as goal

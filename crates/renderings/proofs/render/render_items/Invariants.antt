@@ -1,6 +1,6 @@
 use Rattle.std.proofs.Common.{◌≡◌, ◌+◌, ℕ, List, length, IsFalse}
-use Rattle.pcl_items.specs.Modes.{mode_of}
-use Rattle.pcl_items.specs.Reading.{left}
+use Rattle.pcl_lexer.specs.Modes.{mode_of}
+use Rattle.pcl_lexer.specs.Reading.{left}
 use Rattle.renderings.specs.Due.{Rendering}
 use Rattle.streams.specs.Outlet.{OutletState}
 use Rattle.renderings.specs.Carriers.Rendering.{HasRendered}

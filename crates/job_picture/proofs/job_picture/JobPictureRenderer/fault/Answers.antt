@@ -1,5 +1,5 @@
 use Rattle.std.proofs.Common.{◌≡◌, ◌∙◌, ap, refl, []}
-use Rattle.pcl_items.specs.Reading.{Stopped}
+use Rattle.pcl_lexer.specs.Reading.{Stopped}
 use Rattle.device_profile.specs.Printer.{Printer}
 use Rattle.page_env.specs.declared.page.Page.{Page}
 use Rattle.page_env.specs.Settings.{state_at}

@@ -1,7 +1,7 @@
 use Rattle.std.proofs.Common.{◌∷◌, sym, ap, subst, ◌∙◌}
 use Rattle.std.proofs.lemmas.List.{take_rest}
 use Rattle.pcl_items.specs.Items.{view}
-use Rattle.pcl_items.specs.Spellings.Spelled.{IsSpelled, items_in}
+use Rattle.pcl_spelling.specs.Spellings.Spelled.{IsSpelled, items_in}
 use Rattle.macro_store.proofs.BodyItems.{next_of, none_left}
 use Rattle.macro_store.proofs.KeptCommands.{end_within, lies_on}
 use Rattle.macro_store.proofs.body.Body.next.Goals as goal

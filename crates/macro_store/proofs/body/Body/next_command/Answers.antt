@@ -3,7 +3,7 @@ use Rattle.std.proofs.lemmas.List.{take_rest}
 use Rattle.std.proofs.lemmas.List.Elements.{All-drop}
 use Rattle.pcl_items.specs.declared.item.Mode.TheVariants.{Pcl}
 use Rattle.pcl_items.specs.Items.{Parameterized, amount}
-use Rattle.pcl_items.specs.Spellings.Spelled.{IsSpelled, items_in}
+use Rattle.pcl_spelling.specs.Spellings.Spelled.{IsSpelled, items_in}
 use Rattle.macro_store.specs.Commands.{IsStored, AreStored}
 use Rattle.macro_store.proofs.BodyItems.{IsNext, next_of}
 use Rattle.macro_store.proofs.KeptCommands.{lies_on, lies_with, stands_first}

@@ -1,6 +1,6 @@
 use Rattle.std.proofs.Common.{ap, ◌∙◌, arith}
 use Rattle.pcl_items.specs.Items.{view}
-use Rattle.pcl_items.proofs.Spellings.ReadAgain.{item_known}
+use Rattle.pcl_spelling.proofs.Spellings.ReadAgain.{item_known}
 use Rattle.macro_store.specs.Store.{stored_bytes}
 use Rattle.macro_store.proofs.Laid.{pool_length}
 use Rattle.macro_store.proofs.Calls.{add_laid, add_fits, add_is}

@@ -1,7 +1,7 @@
 use Rattle.std.proofs.Common.{Some, sym, subst, ap, ◌∙◌, arith}
 use Rattle.std.specs.Option.{option_map, option_copied}
 use Rattle.pcl_items.specs.declared.item.Mode.TheVariants.{Pcl}
-use Rattle.pcl_items.specs.Spellings.Spelled.{IsSpelled, items_in}
+use Rattle.pcl_spelling.specs.Spellings.Spelled.{IsSpelled, items_in}
 use Rattle.macro_store.specs.Store.{body_of}
 use Rattle.macro_store.specs.Layout.{bytes_at}
 use Rattle.macro_store.specs.Commands.{AreStored}

@@ -1,5 +1,5 @@
 use Rattle.std.proofs.Common.{[], ◌≡◌, ◌∙◌, ap, sym, subst, true, Err, Ok}
-use Rattle.pcl_items.specs.Reading.{Whole}
+use Rattle.pcl_lexer.specs.Reading.{Whole}
 use Rattle.page_env.specs.Settings.{state_at}
 use Rattle.page_machine.specs.Machine.{CarriesOn, end_of}
 use Rattle.renderings.specs.Carriers.Rendering.{Ended}

@@ -4,7 +4,7 @@ use Rattle.device_profile.specs.declared.panel.Panel.{Panel}
 use Rattle.page_env.specs.Rasters.{begun_by}
 use Rattle.page_env.specs.Settings.{state_at}
 use Rattle.pcl_items.specs.declared.item.Mode.TheVariants.{Pcl}
-use Rattle.pcl_items.specs.Grammar.{follows}
+use Rattle.pcl_items.specs.Modes.{follows}
 use Rattle.pcl_items.specs.Items.{Entry, Parameterized, amount}
 use Rattle.page_machine.specs.MachineState.{MachineState}
 use Rattle.page_machine.specs.Macros.{in_job}

@@ -2,7 +2,7 @@ use Rattle.std.proofs.Common.{◌≡◌, unwrap_or, true, false, refl, sym, ap, 
 use Rattle.device_profile.specs.declared.panel.Panel.{Panel}
 use Rattle.page_env.specs.Rasters.{begun_by}
 use Rattle.page_env.specs.Settings.{state_at}
-use Rattle.pcl_items.specs.Grammar.{follows}
+use Rattle.pcl_items.specs.Modes.{follows}
 use Rattle.page_env.specs.Action.{page_view}
 use Rattle.pcl_items.specs.Items.{Entry}
 use Rattle.page_machine.specs.MachineState.{MachineState}

@@ -1,5 +1,5 @@
 use Rattle.std.proofs.Common.{◌≡◌, unwrap_or, true, false, Ok, refl, ap, ◌∙◌}
-use Rattle.pcl_items.specs.Grammar.{follows}
+use Rattle.pcl_items.specs.Modes.{follows}
 use Rattle.pcl_items.specs.Items.{Entry, view}
 use Rattle.page_machine.specs.Defining.{is_defining}
 use Rattle.page_machine.specs.MachineState.{MachineState}

@@ -1,5 +1,5 @@
 use Rattle.std.proofs.Common.{◌≡◌, refl, []}
-use Rattle.pcl_items.specs.Reading.{Whole}
+use Rattle.pcl_lexer.specs.Reading.{Whole}
 use Rattle.renderings.proofs.Renderings.{end_none}
 use Rattle.picture_command.specs.Carriers.{search_from}
 use Rattle.picture_command.proofs.Endings.{end_ends, end_fails, end_goes_on}

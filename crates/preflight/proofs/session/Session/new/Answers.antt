@@ -1,7 +1,7 @@
 use Rattle.std.proofs.Common.{◌+◌, ◌-◌, List, [], ◌∷◌, take, drop, length, refl, ap, sym, subst, arith}
 use Rattle.device_profile.specs.Printer.{Printer}
-use Rattle.pcl_items.specs.Lexing.State.{LexerState}
-use Rattle.pcl_items.specs.Modes.{mode_of}
+use Rattle.pcl_lexer.specs.Lexing.State.{LexerState}
+use Rattle.pcl_lexer.specs.Modes.{mode_of}
 use Rattle.preflight.specs.Carriers.Checking.{HasExecuted}
 use Rattle.preflight.specs.Carriers.Lockstep.{AreIn, machines_of, counts_of}
 use Rattle.preflight.proofs.Sessions.{checks_on_none}

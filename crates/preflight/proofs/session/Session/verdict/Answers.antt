@@ -1,5 +1,5 @@
 use Rattle.std.proofs.Common.{◌≡◌, [], false, sym, ap, ◌∙◌, subst}
-use Rattle.pcl_items.specs.Lexing.State.{WantsMore}
+use Rattle.pcl_lexer.specs.Lexing.State.{WantsMore}
 use Rattle.preflight.specs.Session.{SessionState}
 use Rattle.preflight.proofs.Sessions.{checks_on_none, end_error, end_right, judged_before}
 use Rattle.preflight.proofs.session.Session.verdict.Goals as goal

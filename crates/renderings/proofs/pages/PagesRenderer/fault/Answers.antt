@@ -1,5 +1,5 @@
 use Rattle.std.proofs.Common.{refl, sym, [], append-nil}
-use Rattle.pcl_items.specs.Reading.{Stopped}
+use Rattle.pcl_lexer.specs.Reading.{Stopped}
 use Rattle.renderings.specs.Carriers.PageRendering.{pages_from}
 use Rattle.renderings.proofs.Renderings.{last_told}
 use Rattle.renderings.proofs.pages.PagesRenderer.fault.Goals as goal

@@ -1,5 +1,5 @@
 use Rattle.std.proofs.Common.{◌≡◌, [], true, Some, Ok, ap, sym, subst, arith}
-use Rattle.pcl_items.specs.Lexing.State.{LexerState}
+use Rattle.pcl_lexer.specs.Lexing.State.{LexerState}
 use Rattle.renderings.specs.Carriers.Rendering.{RenderedTo, HasRendered}
 use Rattle.renderings.proofs.Rendered.{rendered_end}
 use Rattle.renderings.proofs.Renderings.{rendered_to_end}

@@ -1,5 +1,5 @@
 use Rattle.std.proofs.Common.{◌≡◌, ◌+◌, ℕ, List, [], ◌++◌, true, false, length, refl, ap, sym, ◌∙◌, subst, arith, length-append}
-use Rattle.pcl_items.specs.Lexing.State.{LexerState}
+use Rattle.pcl_lexer.specs.Lexing.State.{LexerState}
 use Rattle.streams.specs.declared.error.Error.{Error}
 use Rattle.renderings.specs.declared.outcome.Outcome.{Outcome}
 use Rattle.renderings.specs.declared.render.JobRenderer.{JobRenderer}

@@ -1,4 +1,0 @@
-use Rattle.pcl_items.proofs.pjl.+parts_behind.Given as goal
-
-abbrev pub decreases-parts_behind : goal.decreases-parts_behind
-decreases-parts_behind l = l.most

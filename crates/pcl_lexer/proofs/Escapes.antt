@@ -1,0 +1,13 @@
+-- Of escape sequences, and of their numbers.
+pub mod Digits
+pub mod FaultHeads
+pub mod FieldEnds
+pub mod Fields
+pub mod Heads
+pub mod Limits
+pub mod Shapes
+pub mod Tables
+pub mod Counted
+pub mod Ungrouped
+pub mod Values
+pub mod ReadCommands

@@ -1,0 +1,28 @@
+use Rattle.std.proofs.Common.{◌≡◌, ◌+◌, ◌≤◌, ◌<◌, ◌∙◌, Some, sym, ap, refl, arith}
+use Rattle.pcl_items.specs.Escapes.Commands.{command_at}
+use Rattle.pcl_lexer.specs.Lexing.FirstView.{context_view}
+use Rattle.pcl_items.specs.Items.{amount, Parameterized}
+use Rattle.pcl_lexer.specs.Reader.{Begins}
+use Rattle.pcl_lexer.proofs.Escapes.ReadCommands.{named_small, named_capital}
+use Rattle.pcl_lexer.proofs.pcl.parameterized.ended_by.Goals.{in-0-to-95, in-96-to-255}
+use Rattle.pcl_lexer.proofs.pcl.parameterized.ended_by.Goals as goal
+
+pub returns : goal.returns
+returns c =
+    let group = c.args.group in
+    let last = c.args.field.last in
+    let len = c.args.field.len in
+    let number = amount c.args.field.number in
+    let command = c.in_ok-command.command in
+    let letter = c.if-field-lt96.letter in
+    let known : command_at group letter.0 ≡ Some command = sym c.of.ensures ∙ c.in_ok-command.was in
+    elim c.if-field-lt96.branch [
+      | in-0-to-95 w ↦
+          let below : last < 96 = omega arith in
+          let named = ap (λ l. command_at group l.0) (sym w.letter-is) ∙ known in
+          (λ bytes. named_capital group number len last bytes command below named ∙ ap (λ l. Begins (Parameterized command number) (len + 1) (context_view l.1)) (sym w.letter-is), refl)
+      | in-96-to-255 w ↦
+          let above : 96 ≤ last = omega arith in
+          let named = ap (λ l. command_at group l.0) (sym w.letter-is) ∙ known in
+          (λ bytes. named_small group number len last bytes command above named ∙ ap (λ l. Begins (Parameterized command number) (len + 1) (context_view l.1)) (sym w.letter-is), refl)
+    ]

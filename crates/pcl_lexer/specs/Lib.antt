@@ -1,0 +1,11 @@
+pub mod Escapes
+pub mod PjlLines
+pub mod Frames
+pub mod Lexing
+pub mod Modes
+pub mod Grammar
+pub mod Faults
+pub mod Reader
+pub mod Fault
+pub mod Reading
+pub mod Laws

@@ -1,0 +1,2 @@
+-- Of the numbers of escape sequences.
+pub mod WholeNumbers

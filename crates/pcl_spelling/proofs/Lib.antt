@@ -1,0 +1,4 @@
+pub mod Escapes
+pub mod PjlLines
+pub mod Frames
+pub mod Spellings

@@ -1,0 +1,2 @@
+-- Of the spellings of lines of the job language.
+pub mod Spellings

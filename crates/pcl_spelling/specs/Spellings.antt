@@ -1,0 +1,2 @@
+-- Items by their spellings.
+pub mod Spelled
