@@ -122,9 +122,9 @@ oldest_sets = Roman8 ∷ Pc8 ∷ []
 abbrev pub courier : Cut → FaceLook → List CharacterSet → List FaceRow
 courier cut look sets = in_sets cut look Courier sets ++ in_sets cut look BaseCourier sets
 
--- THE TABLE OF FACES, in the order of their ids, from 1 on
-unfoldable pub faces_of : Generation → List FaceRow
-faces_of generation =
+-- THE TABLE OF FACES, in the order of their ids, from 1 on: first those of Courier
+abbrev pub courier_faces : Generation → List FaceRow
+courier_faces generation =
     in_sets Ten Medium BaseCourier (panel_sets generation)
     ++ in_sets Ten Medium BaseCourier (Latin1 ∷ Windows ∷ Pc850 ∷ Ascii ∷ [])
     ++ in_sets Ten Medium Courier (text_sets ++ Ascii ∷ [])
@@ -132,11 +132,18 @@ faces_of generation =
     ++ courier Twelve Medium text_sets
     ++ courier Ten Italic usual_sets
     ++ courier Twelve Bold usual_sets
-    ++ in_sets Small Medium LinePrinter (Roman8 ∷ Pc8 ∷ Latin1 ∷ Pc850 ∷ [])
+
+-- then those of Line Printer and Letter Gothic
+abbrev pub other_faces : List FaceRow
+other_faces =
+    in_sets Small Medium LinePrinter (Roman8 ∷ Pc8 ∷ Latin1 ∷ Pc850 ∷ [])
     ++ in_sets OldSmall Medium LinePrinter oldest_sets
     ++ in_sets Elite Medium LetterGothic text_sets
     ++ in_sets Elite Bold LetterGothic oldest_sets
     ++ in_sets Elite Medium BaseLetterGothic oldest_sets
+
+unfoldable pub faces_of : Generation → List FaceRow
+faces_of generation = courier_faces generation ++ other_faces
 
 -- the face of an id among these rows, of which the first has id 1
 abbrev pub face_numbered : List FaceRow → ℕ → Option Face

@@ -59,9 +59,13 @@ abbrev pub every_paper : List Paper
 every_paper =
     papers.Executive ∷ papers.Letter ∷ papers.Legal ∷ papers.Ledger ∷ papers.A6 ∷ papers.A5 ∷ papers.A4 ∷ papers.A3 ∷ papers.JisB5 ∷ papers.JisB4 ∷ papers.Monarch ∷ papers.Com10 ∷ papers.Dl ∷ papers.C5 ∷ papers.B5 ∷ []
 
--- the paper of a name, in any letter case
+-- whether a paper has this name, in any letter case
+unfoldable pub is_named : List ℕ → Paper → Bool
+is_named word paper = str_eq_ignore_ascii_case (word_of paper) word
+
+-- the paper of a name
 abbrev pub paper_named : List ℕ → Option Paper
-paper_named word = find (λ paper. str_eq_ignore_ascii_case (word_of paper) word) every_paper
+paper_named word = find (is_named word) every_paper
 
 -- the whole dots of a side, of which an inch has 300
 abbrev pub dots_of : Measure → ℕ → ℕ

@@ -7,7 +7,7 @@ use crate::paper::Paper;
 use std::alloc::{AllocError, AllocFailed, Allocator};
 
 /// What is wrong with the name of a paper.
-#[derive(Clone, Copy, Debug, PartialEq, Eq)]
+#[derive(Clone, Copy)]
 pub enum PaperFault {
     /// No paper has this name.
     Unknown,
@@ -18,7 +18,7 @@ pub enum PaperFault {
 }
 
 /// The first word that is wrong.
-#[derive(Clone, Copy, Debug, PartialEq, Eq)]
+#[derive(Clone, Copy)]
 pub struct WordFault {
     /// How many words stand before it.
     pub index: usize,
@@ -26,7 +26,7 @@ pub struct WordFault {
 }
 
 /// Why there are no papers.
-#[derive(Clone, Copy, Debug, PartialEq, Eq)]
+#[derive(Clone, Copy)]
 pub(crate) enum AskedError {
     Wrong(WordFault),
     Memory,

@@ -116,12 +116,35 @@ fn has_values_in<A: Allocator + Copy>(
         values_of profile.now field ≡ panel_values model papers.now lists field) fields.now) }
 {
     for field in fields {
-        let values = panel_values(alloc, model, papers, lists, *field)?;
-        if profile.allowed(*field) != values.as_slice() {
+        let has = has_values_of(alloc, profile, model, papers, lists, *field)?;
+        if !has {
             return Ok(false);
         }
     }
     Ok(true)
+}
+
+/// The same in one field.
+fn has_values_of<A: Allocator + Copy>(
+    alloc: A,
+    profile: &Profile<A>,
+    model: Model,
+    papers: &[Paper],
+    lists: PanelLists,
+    field: Field,
+) -> Result<bool, AllocError>
+    ensures { IfOk result (λ has. IsTrue has →
+        values_of profile.now field ≡ panel_values model papers.now lists field) }
+{
+    let values = panel_values(alloc, model, papers, lists, field)?;
+    Ok(are_same(profile.allowed(field), &values))
+}
+
+/// Whether the numbers are the same, one by one.
+fn are_same(a: &[u32], b: &[u32]) -> bool
+    ensures { IsTrue result → a.now ≡ b.now }
+{
+    a == b
 }
 
 /// Whether the device has these trays and no others.

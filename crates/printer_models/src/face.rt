@@ -1,12 +1,12 @@
 //! The resident faces of a generation of printers.
 ghost use Rattle.std.specs.Prelude.{◌≡◌, ◌++◌, IfOk, OnOk};
-ghost use Rattle.printer_models.specs.Face.{codes_in, courier, faces_of, in_sets, metrics, metrics_of, oldest_sets, panel_sets, request_of, set_of, style_of, symbol_set_of, text_sets, typeface_number, usual_sets, weight_of};
+ghost use Rattle.printer_models.specs.Face.{codes_in, courier, courier_faces, faces_of, in_sets, metrics, metrics_of, oldest_sets, other_faces, panel_sets, request_of, set_of, style_of, symbol_set_of, text_sets, typeface_number, usual_sets, weight_of};
 
 use device_profile::{CodeRange, FontRequest, SymbolSet};
 use std::alloc::{AllocError, Allocator};
 
 /// A symbol set.
-#[derive(Clone, Copy, Debug, PartialEq, Eq)]
+#[derive(Clone, Copy)]
 pub enum CharacterSet {
     /// 8U.
     Roman8,
@@ -23,7 +23,7 @@ pub enum CharacterSet {
 }
 
 /// A pitch and a height.
-#[derive(Clone, Copy, Debug, PartialEq, Eq)]
+#[derive(Clone, Copy)]
 pub enum Cut {
     /// 10 characters an inch, 12 points.
     Ten,
@@ -38,7 +38,7 @@ pub enum Cut {
 }
 
 /// How the letters stand.
-#[derive(Clone, Copy, Debug, PartialEq, Eq)]
+#[derive(Clone, Copy)]
 pub enum FaceLook {
     /// Upright, of medium weight.
     Medium,
@@ -49,7 +49,7 @@ pub enum FaceLook {
 }
 
 /// A design, by the number that selects it: Courier and Letter Gothic have two each.
-#[derive(Clone, Copy, Debug, PartialEq, Eq)]
+#[derive(Clone, Copy)]
 pub enum Typeface {
     Courier,
     BaseCourier,
@@ -59,7 +59,7 @@ pub enum Typeface {
 }
 
 /// What a pitch and a height are, and how their characters lie.
-#[derive(Clone, Copy, Debug, PartialEq, Eq)]
+#[derive(Clone, Copy)]
 pub struct Metrics {
     /// In ten-thousandths of a character an inch.
     pub pitch: u32,
@@ -74,7 +74,7 @@ pub struct Metrics {
 }
 
 /// A resident face.
-#[derive(Clone, Copy, Debug, PartialEq, Eq)]
+#[derive(Clone, Copy)]
 pub struct FaceRow {
     pub set: CharacterSet,
     pub cut: Cut,
@@ -83,7 +83,7 @@ pub struct FaceRow {
 }
 
 /// Printers that have the same faces in the same order.
-#[derive(Clone, Copy, Debug, PartialEq, Eq)]
+#[derive(Clone, Copy)]
 pub enum Generation {
     /// The LaserJet 4 and 4 Plus: the panel has Roman-8 at the factory.
     LaserJet4,
@@ -326,30 +326,45 @@ pub fn faces_of<A: Allocator>(
 ) -> Result<Vec<FaceRow, A>, AllocError>
     ensures { IfOk result (λ faces. faces.items ≡ faces_of generation) }
 {
-    use Cut::{Elite, OldSmall, Small, Ten, Twelve};
-    use FaceLook::{Bold, Italic, Medium};
-    use Typeface::{BaseCourier, BaseLetterGothic, Courier, LetterGothic, LinePrinter};
-
     let mut faces = Vec::new(alloc);
-    push(
-        &mut faces,
-        Ten,
-        Medium,
-        BaseCourier,
-        generation.panel_sets(),
-    )?;
-    push(&mut faces, Ten, Medium, BaseCourier, OTHER_SETS)?;
-    push(&mut faces, Ten, Medium, Courier, ALL_SETS)?;
-    push_courier(&mut faces, Ten, Bold, TEXT_SETS)?;
-    push_courier(&mut faces, Twelve, Medium, TEXT_SETS)?;
-    push_courier(&mut faces, Ten, Italic, USUAL_SETS)?;
-    push_courier(&mut faces, Twelve, Bold, USUAL_SETS)?;
-    push(&mut faces, Small, Medium, LinePrinter, LINE_PRINTER_SETS)?;
-    push(&mut faces, OldSmall, Medium, LinePrinter, OLDEST_SETS)?;
-    push(&mut faces, Elite, Medium, LetterGothic, TEXT_SETS)?;
-    push(&mut faces, Elite, Bold, LetterGothic, OLDEST_SETS)?;
-    push(&mut faces, Elite, Medium, BaseLetterGothic, OLDEST_SETS)?;
+    push_courier_faces(&mut faces, generation)?;
+    push_other_faces(&mut faces)?;
     Ok(faces)
+}
+
+/// Appends the faces of Courier.
+fn push_courier_faces<A: Allocator>(
+    faces: &mut Vec<FaceRow, A>,
+    generation: Generation,
+) -> Result<(), AllocError>
+    ensures { OnOk result (faces.new.items ≡ faces.old.items ++ courier_faces generation) }
+{
+    use Cut::{Ten, Twelve};
+    use FaceLook::{Bold, Italic, Medium};
+    use Typeface::{BaseCourier, Courier};
+
+    push(faces, Ten, Medium, BaseCourier, generation.panel_sets())?;
+    push(faces, Ten, Medium, BaseCourier, OTHER_SETS)?;
+    push(faces, Ten, Medium, Courier, ALL_SETS)?;
+    push_courier(faces, Ten, Bold, TEXT_SETS)?;
+    push_courier(faces, Twelve, Medium, TEXT_SETS)?;
+    push_courier(faces, Ten, Italic, USUAL_SETS)?;
+    push_courier(faces, Twelve, Bold, USUAL_SETS)
+}
+
+/// Appends the faces of Line Printer and Letter Gothic.
+fn push_other_faces<A: Allocator>(faces: &mut Vec<FaceRow, A>) -> Result<(), AllocError>
+    ensures { OnOk result (faces.new.items ≡ faces.old.items ++ other_faces) }
+{
+    use Cut::{Elite, OldSmall, Small};
+    use FaceLook::{Bold, Medium};
+    use Typeface::{BaseLetterGothic, LetterGothic, LinePrinter};
+
+    push(faces, Small, Medium, LinePrinter, LINE_PRINTER_SETS)?;
+    push(faces, OldSmall, Medium, LinePrinter, OLDEST_SETS)?;
+    push(faces, Elite, Medium, LetterGothic, TEXT_SETS)?;
+    push(faces, Elite, Bold, LetterGothic, OLDEST_SETS)?;
+    push(faces, Elite, Medium, BaseLetterGothic, OLDEST_SETS)
 }
 
 /// Appends Courier under both of its numbers, in these sets.

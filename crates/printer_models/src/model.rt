@@ -7,7 +7,7 @@ use crate::face::Generation;
 use crate::paper::{PAPERS, Paper};
 
 /// A model of a printer.
-#[derive(Clone, Copy, Debug, PartialEq, Eq)]
+#[derive(Clone, Copy)]
 pub enum Model {
     HpLaserJet4,
     HpLaserJet4Plus,
@@ -50,7 +50,7 @@ pub const MODELS: [Model; 17] = [
 ];
 
 /// What is known of a model.
-#[derive(Clone, Copy, Debug)]
+#[derive(Clone, Copy)]
 pub struct ModelRow {
     /// The word by which it is asked for, which is the printer's name in its profile.
     pub word: &'static str,
@@ -76,34 +76,34 @@ pub struct ModelRow {
 
 impl Model {
     /// What is known of the model.
-    pub fn row(self) -> ModelRow
-        ensures word { result.word.now ≡ (facts_of self).word }
-        ensures title { result.title.now ≡ (facts_of self).title }
-        ensures generation { result.generation ≡ (facts_of self).generation }
-        ensures papers { result.papers.now ≡ (facts_of self).papers }
-        ensures trays { result.trays.now ≡ (facts_of self).trays }
-        ensures panel_trays { result.panel_trays.now ≡ (facts_of self).panel_trays }
-        ensures duplex { result.has_duplex ≡ (facts_of self).has_duplex }
-        ensures memory { result.memory ≡ (facts_of self).memory }
+    pub fn row(self) -> &'static ModelRow
+        ensures word { result.now.word.now ≡ (facts_of self).word }
+        ensures title { result.now.title.now ≡ (facts_of self).title }
+        ensures generation { result.now.generation ≡ (facts_of self).generation }
+        ensures papers { result.now.papers.now ≡ (facts_of self).papers }
+        ensures trays { result.now.trays.now ≡ (facts_of self).trays }
+        ensures panel_trays { result.now.panel_trays.now ≡ (facts_of self).panel_trays }
+        ensures duplex { result.now.has_duplex ≡ (facts_of self).has_duplex }
+        ensures memory { result.now.memory ≡ (facts_of self).memory }
     {
         match self {
-            Model::HpLaserJet4 => HP_LASERJET_4,
-            Model::HpLaserJet4Plus => HP_LASERJET_4_PLUS,
-            Model::HpLaserJet5 => HP_LASERJET_5,
-            Model::HpLaserJet5Si => HP_LASERJET_5SI,
-            Model::HpLaserJet4000 => HP_LASERJET_4000,
-            Model::HpLaserJet4250 => HP_LASERJET_4250,
-            Model::HpLaserJet5000 => HP_LASERJET_5000,
-            Model::HpLaserJet8000 => HP_LASERJET_8000,
-            Model::HpLaserJet9000 => HP_LASERJET_9000,
-            Model::HpLaserJetP3005 => HP_LASERJET_P3005,
-            Model::HpLaserJetP3015 => HP_LASERJET_P3015,
-            Model::HpLaserJetM605 => HP_LASERJET_M605,
-            Model::BrotherHl5350Dn => BROTHER_HL_5350DN,
-            Model::KyoceraFs1020D => KYOCERA_FS_1020D,
-            Model::LexmarkMs520 => LEXMARK_MS520,
-            Model::RicohSp3710Dn => RICOH_SP_3710DN,
-            Model::Generic => GENERIC,
+            Model::HpLaserJet4 => &HP_LASERJET_4,
+            Model::HpLaserJet4Plus => &HP_LASERJET_4_PLUS,
+            Model::HpLaserJet5 => &HP_LASERJET_5,
+            Model::HpLaserJet5Si => &HP_LASERJET_5SI,
+            Model::HpLaserJet4000 => &HP_LASERJET_4000,
+            Model::HpLaserJet4250 => &HP_LASERJET_4250,
+            Model::HpLaserJet5000 => &HP_LASERJET_5000,
+            Model::HpLaserJet8000 => &HP_LASERJET_8000,
+            Model::HpLaserJet9000 => &HP_LASERJET_9000,
+            Model::HpLaserJetP3005 => &HP_LASERJET_P3005,
+            Model::HpLaserJetP3015 => &HP_LASERJET_P3015,
+            Model::HpLaserJetM605 => &HP_LASERJET_M605,
+            Model::BrotherHl5350Dn => &BROTHER_HL_5350DN,
+            Model::KyoceraFs1020D => &KYOCERA_FS_1020D,
+            Model::LexmarkMs520 => &LEXMARK_MS520,
+            Model::RicohSp3710Dn => &RICOH_SP_3710DN,
+            Model::Generic => &GENERIC,
         }
     }
 

@@ -9,7 +9,7 @@ use device_profile::Field;
 use std::alloc::{AllocError, Allocator};
 
 /// Whether people use the panel.
-#[derive(Clone, Copy, Debug, PartialEq, Eq)]
+#[derive(Clone, Copy)]
 pub enum PanelLists {
     /// Nobody does: each list has the one usual value.
     Fixed,

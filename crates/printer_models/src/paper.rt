@@ -1,11 +1,10 @@
 //! The papers that a page may be of.
 ghost use Rattle.std.specs.Prelude.{◌≡◌, ◌≤◌, find, IsTrue};
-ghost use Rattle.std.specs.Str.{str_eq_ignore_ascii_case};
 ghost use Rattle.printer_models.specs.Page.{portrait_left, landscape_left};
-ghost use Rattle.printer_models.specs.Paper.{code_of, dots_of, has_sides, inches, millimetres, paper_named, sheet_of, word_of};
+ghost use Rattle.printer_models.specs.Paper.{code_of, dots_of, has_sides, inches, is_named, millimetres, paper_named, sheet_of, word_of};
 
 /// A paper, by the name of its size.
-#[derive(Clone, Copy, Debug, PartialEq, Eq)]
+#[derive(Clone, Copy)]
 pub enum Paper {
     Executive,
     Letter,
@@ -44,7 +43,7 @@ pub const PAPERS: [Paper; 15] = [
 ];
 
 /// How a paper is cut.
-#[derive(Clone, Copy, Debug, PartialEq, Eq)]
+#[derive(Clone, Copy)]
 pub enum Measure {
     /// Its sides are told in thousandths of an inch.
     Inch,
@@ -53,7 +52,7 @@ pub enum Measure {
 }
 
 /// An upright sheet of paper.
-#[derive(Clone, Copy, Debug, PartialEq, Eq)]
+#[derive(Clone, Copy)]
 pub struct Sheet {
     /// The size, as `ESC &l#A` numbers it.
     pub code: u32,
@@ -191,15 +190,15 @@ impl Paper {
 
 /// The first of these papers with a name, in any letter case.
 fn first_named(papers: &[Paper], word: &str) -> Option<Paper>
-    ensures { result ≡ find
-        (λ paper. str_eq_ignore_ascii_case (word_of paper) word.now) papers.now }
+    ensures { result ≡ find (is_named word.now) papers.now }
 {
     papers.iter().copied().find(|paper| is_named(*paper, word))
 }
 
 /// Whether a paper has a name, in any letter case.
+#[tactic(auto, unfolding(crate::specs::Paper::is_named))]
 fn is_named(paper: Paper, word: &str) -> bool
-    ensures { result ≡ str_eq_ignore_ascii_case (word_of paper) word.now }
+    ensures { result ≡ is_named word.now paper }
 {
     paper.word().eq_ignore_ascii_case(word)
 }

@@ -19,9 +19,9 @@ pub(crate) fn profile_text<A: Allocator + Copy>(
 ) -> Result<Vec<u8, A>, AllocError> {
     let row = model.row();
     let mut text = Vec::new(alloc);
-    push_comments(&mut text, &row, lists)?;
+    push_comments(&mut text, row, lists)?;
     push_panel(&mut text, alloc, model, papers, lists)?;
-    push_device(&mut text, &row)?;
+    push_device(&mut text, row)?;
     for paper in papers {
         push_pages(&mut text, *paper)?;
     }
@@ -83,24 +83,31 @@ fn push_comments<A: Allocator>(
     row: &ModelRow,
     lists: PanelLists,
 ) -> Result<(), AllocError> {
-    push(text, "pclprofile 1\n# ")?;
-    push(text, row.title)?;
-    push(text, ", by 'pclcheck profile new ")?;
-    push(text, row.word)?;
-    push(text, "'.\n")?;
-    push(text, ORIGIN)?;
-    push(text, "#   which papers it can have: ")?;
-    push(text, row.papers_from)?;
-    push(text, CHECKS)?;
-    push(text, row.tray_words)?;
-    push(text, ".\n")?;
-    push(
+    push_all(
         text,
-        match lists {
-            PanelLists::Fixed => FIXED,
-            PanelLists::Free => FREE,
-        },
+        &[
+            "pclprofile 1\n# ",
+            row.title,
+            ", by 'pclcheck profile new ",
+            row.word,
+            "'.\n",
+            ORIGIN,
+            "#   which papers it can have: ",
+            row.papers_from,
+            CHECKS,
+            row.tray_words,
+            ".\n",
+            meaning_of(lists),
+        ],
     )
+}
+
+/// What a panel of these lists means.
+fn meaning_of(lists: PanelLists) -> &'static str {
+    match lists {
+        PanelLists::Fixed => FIXED,
+        PanelLists::Free => FREE,
+    }
 }
 
 /// Appends the lists of the panel.
@@ -111,16 +118,27 @@ fn push_panel<A: Allocator + Copy>(
     papers: &[Paper],
     lists: PanelLists,
 ) -> Result<(), AllocError> {
-    push(text, "name ")?;
-    push(text, model.row().word)?;
-    push(text, "\n")?;
+    push_all(text, &["name ", model.row().word, "\n"])?;
     for field in FIELDS {
-        if let Some(key) = key_of(field) {
-            let values = panel_values(alloc, model, papers, lists, field)?;
-            push_values(text, key, field, &values)?;
-        }
+        push_field(text, alloc, model, papers, lists, field)?;
     }
     Ok(())
+}
+
+/// Appends the list of a field, where version 1 of the text has a key for it.
+fn push_field<A: Allocator + Copy>(
+    text: &mut Vec<u8, A>,
+    alloc: A,
+    model: Model,
+    papers: &[Paper],
+    lists: PanelLists,
+    field: Field,
+) -> Result<(), AllocError> {
+    let Some(key) = key_of(field) else {
+        return Ok(());
+    };
+    let values = panel_values(alloc, model, papers, lists, field)?;
+    push_values(text, key, field, &values)
 }
 
 /// The key of a field; version 1 of the text has none for line termination.
@@ -161,10 +179,16 @@ fn push_list<A: Allocator>(
     values: &[u32],
 ) -> Result<(), AllocError> {
     push(text, key)?;
-    for value in values {
-        push_number(text, *value)?;
-    }
+    push_numbers(text, values)?;
     push(text, "\n")
+}
+
+/// Appends whole numbers, each behind a space.
+fn push_numbers<A: Allocator>(text: &mut Vec<u8, A>, numbers: &[u32]) -> Result<(), AllocError> {
+    for number in numbers {
+        push_number(text, *number)?;
+    }
+    Ok(())
 }
 
 /// Appends the lines on the device.
@@ -176,9 +200,7 @@ fn push_device<A: Allocator>(text: &mut Vec<u8, A>, row: &ModelRow) -> Result<()
 
 /// Appends the pages of a paper.
 fn push_pages<A: Allocator>(text: &mut Vec<u8, A>, paper: Paper) -> Result<(), AllocError> {
-    push(text, "# ")?;
-    push(text, paper.word())?;
-    push(text, "\n")?;
+    push_all(text, &["# ", paper.word(), "\n"])?;
     for orientation in 0..ORIENTATIONS {
         push_list(text, "geometry", &page_numbers(paper, orientation))?;
     }
@@ -214,12 +236,17 @@ fn push_face<A: Allocator>(
     push_set(text, face.set)?;
     push_amount(text, metrics.pitch)?;
     push_amount(text, metrics.height)?;
-    push_number(text, face.look.style())?;
-    push_number(text, face.look.weight())?;
-    push_number(text, face.typeface.number())?;
-    push_number(text, metrics.advance)?;
-    push_number(text, metrics.ascent)?;
-    push_number(text, metrics.descent)?;
+    push_numbers(
+        text,
+        &[
+            u32::from(face.look.style()),
+            u32::from(face.look.weight()),
+            u32::from(face.typeface.number()),
+            metrics.advance,
+            metrics.ascent,
+            metrics.descent,
+        ],
+    )?;
     push_codes(text, face.set)?;
     push(text, "\n")
 }
@@ -279,4 +306,12 @@ fn push_digits<A: Allocator, I: Integer>(
 /// Appends words.
 fn push<A: Allocator>(text: &mut Vec<u8, A>, words: &str) -> Result<(), AllocError> {
     text.extend_from_slice(words.as_bytes())
+}
+
+/// Appends words, one behind the other.
+fn push_all<A: Allocator>(text: &mut Vec<u8, A>, all: &[&str]) -> Result<(), AllocError> {
+    for words in all {
+        push(text, words)?;
+    }
+    Ok(())
 }

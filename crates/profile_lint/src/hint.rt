@@ -7,7 +7,7 @@ use printer_models::{CharacterSet, Cut, Paper};
 use tick_length::Length;
 
 /// An area of a page.
-#[derive(Clone, Copy, Debug, PartialEq, Eq)]
+#[derive(Clone, Copy)]
 pub enum Area {
     /// The physical page.
     Physical,
@@ -18,7 +18,7 @@ pub enum Area {
 }
 
 /// Something that is unusual in a profile, and may be right all the same.
-#[derive(Clone, Copy, Debug, PartialEq, Eq)]
+#[derive(Clone, Copy)]
 pub enum Hint {
     /// An area of this page is not that which the table of papers has for the paper of its size.
     OtherArea {
