@@ -36,12 +36,9 @@ length_names Physical = codes "width and height"
 length_names Logical = codes "left, top, width and height"
 length_names Printable = codes "left, top, right and bottom"
 
--- the line of a page or of a face in the profile
+-- the line of a page in the profile
 unfoldable pub page_place : Geometry → List ℕ
 page_place page = codes "geometry " ++ decimal page.size ++ codes " " ++ decimal page.orientation ++ codes ": the "
-
-unfoldable pub face_place : ℕ → List ℕ
-face_place face = codes "face " ++ decimal face ++ codes ": "
 
 -- the lengths of an area
 unfoldable pub area_words : Area → Geometry → List ℕ
@@ -64,15 +61,15 @@ area_hint_words area page paper = own_words area page ++ table_words area (page_
 
 abbrev pub advance_hint_words : ℕ → ℕ → ℕ → List ℕ
 advance_hint_words face pitch advance =
-    face_place face ++ codes "a character advances by " ++ decimal advance ++ codes ", but by its pitch it is " ++ decimal (advance_by pitch)
+    (codes "face " ++ decimal face ++ codes ": a character advances by ") ++ decimal advance ++ codes ", but by its pitch it is " ++ decimal (advance_by pitch)
     ++ codes " in 1/7200 inch"
 
 -- why it matters
 unfoldable pub differ_words : List ℕ
-differ_words = codes " in the table of faces: its letters will differ (33) from those of profiles that 'profile new' writes"
+differ_words = codes " for its pitch, height and typeface in the table of faces: its letters will differ (33) from those of profiles that 'profile new' writes"
 
 unfoldable pub lack_words : List ℕ
-lack_words = codes " in the table of faces: a job with a letter that it lacks fails (14)"
+lack_words = codes " of its symbol set in the table of faces: a job with a letter that it lacks fails (14)"
 
 -- advance, ascent and descent
 abbrev pub numbers_of : Metrics → Numbers
@@ -83,8 +80,8 @@ numbers_words numbers = decimal numbers.advance ++ codes " " ++ decimal numbers.
 
 abbrev pub number_hint_words : ℕ → Numbers → Numbers → List ℕ
 number_hint_words face own wanted =
-    face_place face ++ codes "advance, ascent and descent are " ++ numbers_words own ++ codes ", but " ++ numbers_words wanted
-    ++ codes " for its pitch, height and typeface" ++ differ_words
+    (codes "face " ++ decimal face ++ codes ": advance, ascent and descent are ") ++ numbers_words own ++ codes ", but " ++ numbers_words wanted
+    ++ differ_words
 
 -- ranges of codes, with commas between
 abbrev pub range_words : CodeRange → List ℕ
@@ -98,7 +95,7 @@ ranges_words [] = []
 ranges_words (range ∷ more) = range_words range ++ flat_map more_range_words more
 
 abbrev pub code_hint_words : ℕ → CharacterSet → List ℕ
-code_hint_words face set = face_place face ++ codes "its codes are not the " ++ ranges_words (codes_in set) ++ codes " of its symbol set" ++ lack_words
+code_hint_words face set = (codes "face " ++ decimal face ++ codes ": its codes are not the ") ++ ranges_words (codes_in set) ++ lack_words
 
 -- the command by which a job sets a field
 abbrev pub command_of : Field → List ℕ

@@ -5,6 +5,7 @@ ghost use Rattle.profile_lint.specs.Differences.{are_among, are_fonts_of, differ
 
 use crate::face_hints::are_same_codes;
 use crate::hint::Area;
+use crate::hint_line::push_hinted_file;
 use crate::key_rules::meaning_of;
 use crate::page_hints::is_same_area;
 use crate::shown::{push_number_in, push_numbers_in, push_word_in};
@@ -14,7 +15,7 @@ use shown_bytes::push_shown;
 use std::alloc::{AllocError, Allocator};
 
 /// What differs in two profiles.
-#[derive(Clone, Copy, Debug, PartialEq, Eq)]
+#[derive(Clone, Copy)]
 pub enum Difference {
     /// The pages of this size and orientation are not the same.
     Pages { size: u32, orientation: u32 },
@@ -26,7 +27,7 @@ pub enum Difference {
 }
 
 /// The first difference among profiles.
-#[derive(Clone, Copy, Debug, PartialEq, Eq)]
+#[derive(Clone, Copy)]
 pub struct FirstDifference {
     /// How many profiles stand before the one that differs from the first.
     pub other: usize,
@@ -240,8 +241,7 @@ pub fn push_difference<A: Allocator>(
 {
     push_shown(out, first)?;
     out.extend_from_slice(b" and ")?;
-    push_shown(out, other)?;
-    out.extend_from_slice(b": hint: ")?;
+    push_hinted_file(out, other)?;
     push_difference_words(out, difference)?;
     out.extend_from_slice(b"\n")
 }

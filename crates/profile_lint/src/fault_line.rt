@@ -3,6 +3,7 @@ ghost use Rattle.std.specs.Prelude.{◌≡◌, ◌++◌, codes, OnOk};
 ghost use Rattle.profile_lint.specs.FaultLines.{cause_word, fault_line, fault_words, line_words};
 ghost use Rattle.profile_lint.specs.Rules.{broken_rule};
 ghost use Rattle.profile_lint.specs.Shown.{quoted};
+ghost use Rattle.shown_bytes.specs.Shown.{shown};
 
 use crate::key_rules::{broken_rule, meaning_of};
 use crate::shown::{line_at, push_number_in, push_numbers_in, push_quoted, push_word_in};
@@ -26,12 +27,32 @@ pub fn push_fault<A: Allocator>(
 ) -> Result<(), AllocError>
     ensures { OnOk result (out.new.items ≡ out.old.items ++ fault_line file.now text.now fault) }
 {
-    push_shown(out, file)?;
-    push_line_words(out, fault.line())?;
-    out.extend_from_slice(b": ")?;
+    push_place(out, file, fault.line())?;
     push_fault_words(out, text, fault)?;
+    push_cause(out, fault.cause())
+}
+
+/// Appends a file and the number of a line in it.
+fn push_place<A: Allocator>(
+    out: &mut Vec<u8, A>,
+    file: &[u8],
+    number: u64,
+) -> Result<(), AllocError>
+    ensures { OnOk result
+        (out.new.items ≡ out.old.items ++ (shown file.now ++ line_words number ++ codes ": ")) }
+{
+    push_shown(out, file)?;
+    push_line_words(out, number)?;
+    out.extend_from_slice(b": ")
+}
+
+/// Appends a cause in brackets, and the end of the line.
+fn push_cause<A: Allocator>(out: &mut Vec<u8, A>, cause: Cause) -> Result<(), AllocError>
+    ensures { OnOk result
+        (out.new.items ≡ out.old.items ++ (codes " (" ++ cause_word cause ++ codes ")\n")) }
+{
     out.extend_from_slice(b" (")?;
-    out.extend_from_slice(cause_word(fault.cause()))?;
+    out.extend_from_slice(cause_word(cause))?;
     out.extend_from_slice(b")\n")
 }
 

@@ -1,7 +1,8 @@
 //! The line that is written for a hint.
-ghost use Rattle.std.specs.Prelude.{◌≡◌, ◌++◌, OnOk, flat_map};
+ghost use Rattle.std.specs.Prelude.{◌≡◌, ◌++◌, OnOk, codes, flat_map};
 ghost use Rattle.printer_models.specs.Face.{metrics_of};
-ghost use Rattle.profile_lint.specs.HintLines.{advance_hint_words, area_hint_words, area_name, area_words, code_hint_words, command_of, differ_words, face_place, hint_line, hint_words, lack_words, length_names, length_word, more_range_words, number_hint_words, numbers_of, numbers_words, own_words, page_place, paper_words, range_words, ranges_words, several_words, table_words};
+ghost use Rattle.shown_bytes.specs.Shown.{shown};
+ghost use Rattle.profile_lint.specs.HintLines.{advance_hint_words, area_hint_words, area_name, area_words, code_hint_words, command_of, differ_words, hint_line, hint_words, lack_words, length_names, length_word, more_range_words, number_hint_words, numbers_of, numbers_words, own_words, page_place, paper_words, range_words, ranges_words, several_words, table_words};
 
 use crate::face_hints::advance_by;
 use crate::hint::{Area, Hint, units_in};
@@ -25,10 +26,21 @@ pub fn push_hint<A: Allocator>(
 ) -> Result<(), AllocError>
     ensures { OnOk result (out.new.items ≡ out.old.items ++ hint_line file.now hint) }
 {
-    push_shown(out, file)?;
-    out.extend_from_slice(b": hint: ")?;
+    push_hinted_file(out, file)?;
     push_hint_words(out, hint)?;
     out.extend_from_slice(b"\n")
+}
+
+/// Appends the name of a file, before a hint on it.
+pub(crate) fn push_hinted_file<A: Allocator>(
+    out: &mut Vec<u8, A>,
+    file: &[u8],
+) -> Result<(), AllocError>
+    ensures { OnOk result
+        (out.new.items ≡ out.old.items ++ (shown file.now ++ codes ": hint: ")) }
+{
+    push_shown(out, file)?;
+    out.extend_from_slice(b": hint: ")
 }
 
 /// Appends what is unusual.
@@ -217,14 +229,6 @@ fn push_paper_words<A: Allocator>(
     )
 }
 
-/// Appends which face a hint is on.
-#[tactic(auto, unfolding(crate::specs::HintLines::face_place))]
-fn push_face_place<A: Allocator>(out: &mut Vec<u8, A>, face: u32) -> Result<(), AllocError>
-    ensures { OnOk result (out.new.items ≡ out.old.items ++ face_place face) }
-{
-    push_number_in(out, b"face ", face, b": ")
-}
-
 /// Appends an advance, and what it is by the pitch.
 fn push_advance_hint<A: Allocator>(
     out: &mut Vec<u8, A>,
@@ -235,8 +239,7 @@ fn push_advance_hint<A: Allocator>(
     ensures { OnOk result
         (out.new.items ≡ out.old.items ++ advance_hint_words face pitch advance) }
 {
-    push_face_place(out, face)?;
-    out.extend_from_slice(b"a character advances by ")?;
+    push_number_in(out, b"face ", face, b": a character advances by ")?;
     push_number(out, advance)?;
     out.extend_from_slice(b", but by its pitch it is ")?;
     push_number(out, advance_by(pitch))?;
@@ -249,8 +252,8 @@ fn push_differ<A: Allocator>(out: &mut Vec<u8, A>) -> Result<(), AllocError>
     ensures { OnOk result (out.new.items ≡ out.old.items ++ differ_words) }
 {
     out.extend_from_slice(
-        b" in the table of faces: its letters will differ (33) from those of profiles that \
-        'profile new' writes",
+        b" for its pitch, height and typeface in the table of faces: its letters will differ (33) \
+        from those of profiles that 'profile new' writes",
     )
 }
 
@@ -259,7 +262,9 @@ fn push_differ<A: Allocator>(out: &mut Vec<u8, A>) -> Result<(), AllocError>
 fn push_lack<A: Allocator>(out: &mut Vec<u8, A>) -> Result<(), AllocError>
     ensures { OnOk result (out.new.items ≡ out.old.items ++ lack_words) }
 {
-    out.extend_from_slice(b" in the table of faces: a job with a letter that it lacks fails (14)")
+    out.extend_from_slice(
+        b" of its symbol set in the table of faces: a job with a letter that it lacks fails (14)",
+    )
 }
 
 /// How the characters of a face lie, in 1/7200 inch.
@@ -292,12 +297,10 @@ fn push_number_hint<A: Allocator>(
     ensures { OnOk result
         (out.new.items ≡ out.old.items ++ number_hint_words face own wanted) }
 {
-    push_face_place(out, face)?;
-    out.extend_from_slice(b"advance, ascent and descent are ")?;
+    push_number_in(out, b"face ", face, b": advance, ascent and descent are ")?;
     push_numbers(out, own)?;
     out.extend_from_slice(b", but ")?;
     push_numbers(out, wanted)?;
-    out.extend_from_slice(b" for its pitch, height and typeface")?;
     push_differ(out)
 }
 
@@ -321,10 +324,8 @@ fn push_code_hint<A: Allocator>(
 ) -> Result<(), AllocError>
     ensures { OnOk result (out.new.items ≡ out.old.items ++ code_hint_words face set) }
 {
-    push_face_place(out, face)?;
-    out.extend_from_slice(b"its codes are not the ")?;
+    push_number_in(out, b"face ", face, b": its codes are not the ")?;
     push_ranges(out, set.codes())?;
-    out.extend_from_slice(b" of its symbol set")?;
     push_lack(out)
 }
 

@@ -81,9 +81,7 @@ pub(crate) fn push_numbers_in<A: Allocator>(
         (out.new.items ≡ out.old.items ++
         (before.now ++ decimal first ++ between.now ++ decimal second ++ behind.now)) }
 {
-    out.extend_from_slice(before)?;
-    push_number(out, u64::from(first))?;
-    out.extend_from_slice(between)?;
+    push_number_in(out, before, first, between)?;
     push_number(out, u64::from(second))?;
     out.extend_from_slice(behind)
 }

@@ -22,7 +22,7 @@ use std::alloc::{AllocError, Allocator};
 use tick_length::Length;
 
 /// What a length is told in.
-#[derive(Clone, Copy, Debug, PartialEq, Eq)]
+#[derive(Clone, Copy)]
 pub(crate) enum LengthUnit {
     /// Millimetres, with one decimal.
     Millimetres,

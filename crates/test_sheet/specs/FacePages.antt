@@ -1,6 +1,7 @@
 -- Pages with a line for each face.
 use Rattle.std.specs.Prelude.{ℕ, ◌+◌, ◌-◌, ◌/◌, ◌%◌, ◌==◌, min, max, List, [], ◌∷◌, ◌++◌, codes, decimal, flat_map, if◌then◌else◌}
 use Rattle.std.specs.List.{enumerate_from}
+use Rattle.device_profile.specs.declared.font.FontRequest.{FontRequest}
 use Rattle.device_profile.specs.declared.geometry.Geometry.{Geometry}
 use Rattle.device_profile.specs.Faces.{Face}
 use Rattle.test_sheet.specs.declared.area.Area.{Area}
@@ -18,16 +19,23 @@ faces_on area first = max 1 (min 98 ((area.bottom - (area.top + 12)) / line_heig
 abbrev pub line_of : ℕ → ℕ → ℕ
 line_of count index = 1 + index % count
 
+-- so many ten-thousandths behind a space
+abbrev pub amount_word : ℕ → List ℕ
+amount_word n = 32 ∷ amount n
+
+-- what selects a font, each part behind a space
+unfoldable pub request_words : FontRequest → List ℕ
+request_words request =
+    32 ∷ symbol_set request.symbol_set
+    ++ amount_word request.pitch
+    ++ amount_word request.height
+    ++ amount_word request.style
+    ++ 32 ∷ signed_amount request.weight
+    ++ amount_word request.typeface
+
 -- a face in words: its id, and what selects it
 unfoldable pub face_words : Face → List ℕ
-face_words face =
-    decimal face.id
-    ++ 32 ∷ symbol_set face.request.symbol_set
-    ++ 32 ∷ amount face.request.pitch
-    ++ 32 ∷ amount face.request.height
-    ++ 32 ∷ amount face.request.style
-    ++ 32 ∷ signed_amount face.request.weight
-    ++ 32 ∷ amount face.request.typeface
+face_words face = decimal face.id ++ request_words face.request
 
 -- letters and figures, and the ends of the ranges of its codes
 unfoldable pub sample_words : Face → List ℕ

@@ -107,6 +107,10 @@ ten_lines area face y =
 
 -- ---- the page
 
+-- which page it is, and how large
+unfoldable pub page_words : Area → Face → Geometry → List ℕ
+page_words area face page = words_on area face 1 (size_words page) ++ words_on area face 2 (paper_words page)
+
 -- its settings, its rules and what it is
 unfoldable pub page_head : List ℕ → Face → Geometry → List ℕ
 page_head name face page =
@@ -114,8 +118,7 @@ page_head name face page =
     ++ font_request face.request
     ++ edge_rules (area_of page)
     ++ words_on (area_of page) face 0 name
-    ++ words_on (area_of page) face 1 (size_words page)
-    ++ words_on (area_of page) face 2 (paper_words page)
+    ++ page_words (area_of page) face page
 
 unfoldable pub measured_page : List ℕ → Face → Geometry → List ℕ
 measured_page name face page =

@@ -1,13 +1,15 @@
 //! Pages with a line for each face.
 ghost use Rattle.std.specs.Prelude.{◌≡◌, ◌++◌, ◌∷◌, [], ◌≤◌, ◌<◌, OnOk, IfOk, flat_map};
-ghost use Rattle.test_sheet.specs.FacePages.{face_entries, face_entry, face_line, face_pages, face_words, faces_on, heading, last_line, line_of, sample_words};
+ghost use Rattle.test_sheet.specs.Lines.{indent};
+ghost use Rattle.test_sheet.specs.Marks.{words_at};
+ghost use Rattle.test_sheet.specs.FacePages.{amount_word, face_entries, face_entry, face_line, face_pages, face_words, faces_on, heading, last_line, line_of, request_words, sample_words};
 
 use crate::area::{Area, area_of};
 use crate::commands::{push_font_request, push_page_request};
 use crate::figures::{push_amount, push_signed_amount, push_symbol_set};
 use crate::lines::{baseline, indent, line_height, push_words_on};
 use crate::marks::push_words_at;
-use device_profile::{CodeRange, FontRow, Geometry};
+use device_profile::{CodeRange, FontRequest, FontRow, Geometry};
 use shown_bytes::push_number;
 use std::alloc::{AllocError, Allocator};
 
@@ -40,22 +42,36 @@ fn face_words<A: Allocator, P: Allocator>(
 ) -> Result<Vec<u8, A>, AllocError>
     ensures { IfOk result (λ words. words.items ≡ face_words face.now) }
 {
-    let request = face.request();
     let mut words = Vec::new(alloc);
     push_number(&mut words, u64::from(face.id()))?;
-    words.push(b' ')?;
-    push_symbol_set(&mut words, request.symbol_set)?;
-    words.push(b' ')?;
-    push_amount(&mut words, request.pitch)?;
-    words.push(b' ')?;
-    push_amount(&mut words, request.height)?;
-    words.push(b' ')?;
-    push_amount(&mut words, request.style)?;
-    words.push(b' ')?;
-    push_signed_amount(&mut words, request.weight)?;
-    words.push(b' ')?;
-    push_amount(&mut words, request.typeface)?;
+    push_request_words(&mut words, &face.request())?;
     Ok(words)
+}
+
+/// Appends what selects a font, each part behind a space.
+#[tactic(auto, unfolding(crate::specs::FacePages::request_words))]
+fn push_request_words<A: Allocator>(
+    words: &mut Vec<u8, A>,
+    request: &FontRequest,
+) -> Result<(), AllocError>
+    ensures { OnOk result (words.new.items ≡ words.old.items ++ request_words request.now) }
+{
+    words.push(b' ')?;
+    push_symbol_set(words, request.symbol_set)?;
+    push_amount_word(words, request.pitch)?;
+    push_amount_word(words, request.height)?;
+    push_amount_word(words, request.style)?;
+    words.push(b' ')?;
+    push_signed_amount(words, request.weight)?;
+    push_amount_word(words, request.typeface)
+}
+
+/// Appends so many ten-thousandths behind a space.
+fn push_amount_word<A: Allocator>(words: &mut Vec<u8, A>, n: u32) -> Result<(), AllocError>
+    ensures { OnOk result (words.new.items ≡ words.old.items ++ amount_word n) }
+{
+    words.push(b' ')?;
+    push_amount(words, n)
 }
 
 /// Appends the ends of ranges of codes.
@@ -96,14 +112,25 @@ fn push_face_line<A: Allocator + Copy, P: Allocator>(
     ensures { OnOk result
         (text.new.items ≡ text.old.items ++ face_line area first.now line face.now) }
 {
-    let words = face_words(alloc, face)?;
-    push_words_on(text, area.left_half(), first, line, &words)?;
+    push_words_on(text, area.left_half(), first, line, &face_words(alloc, face)?)?;
     push_font_request(text, &face.request())?;
-    let right = area.right_half();
-    let sample = sample_words(alloc, face)?;
-    let y = baseline(area, first, line);
-    push_words_at(text, right, face, indent(right), y, &sample)?;
+    push_sample(text, alloc, area.right_half(), face, baseline(area, first, line))?;
     push_font_request(text, &first.request())
+}
+
+/// Appends letters of a face with this baseline, where lines of the area begin.
+fn push_sample<A: Allocator + Copy, P: Allocator>(
+    text: &mut Vec<u8, A>,
+    alloc: A,
+    area: Area,
+    face: &FontRow<P>,
+    y: u32,
+) -> Result<(), AllocError>
+    ensures { OnOk result (text.new.items ≡
+        text.old.items ++ words_at area face.now (indent area) y (sample_words face.now)) }
+{
+    let sample = sample_words(alloc, face)?;
+    push_words_at(text, area, face, indent(area), y, &sample)
 }
 
 /// Appends what begins a page, by how many faces come before it.

@@ -1,6 +1,8 @@
 //! A page to which a ruler is laid.
 ghost use Rattle.std.specs.Prelude.{◌≡◌, ◌++◌, ◌≤◌, ◌<◌, ◌^◌, OnOk, IfOk, flat_map};
-ghost use Rattle.test_sheet.specs.MeasuredPage.{bottom_distance, column_count, column_digits, column_lines, column_tens, column_words, edge_lines, edge_rules, edge_words, is_measured, left_distance, measured_page, measured_pages, page_head, paper_words, right_distance, size_words, spaced_line, ten_lines, tens_digit, top_distance};
+ghost use Rattle.test_sheet.specs.Lines.{baseline, words_on};
+ghost use Rattle.test_sheet.specs.Marks.{words_at};
+ghost use Rattle.test_sheet.specs.MeasuredPage.{bottom_distance, column_count, column_digits, column_lines, column_tens, column_words, edge_lines, edge_rules, edge_words, is_measured, left_distance, measured_page, measured_pages, page_head, page_words, paper_words, right_distance, size_words, spaced_line, ten_lines, tens_digit, top_distance};
 
 use crate::area::{Area, area_of};
 use crate::commands::{push_font_request, push_move_across, push_move_to, push_page_request};
@@ -116,14 +118,28 @@ fn push_edge_lines<A: Allocator + Copy, P: Allocator>(
     ensures { OnOk result
         (text.new.items ≡ text.old.items ++ edge_lines area face.now page.now) }
 {
-    let top = edge_words(alloc, b"Top", top_distance(page))?;
-    push_words_on(text, area, face, 3, &top)?;
-    let bottom = edge_words(alloc, b"Bottom", bottom_distance(page))?;
-    push_words_on(text, area, face, 4, &bottom)?;
-    let left = edge_words(alloc, b"Left", left_distance(page))?;
-    push_words_on(text, area, face, 5, &left)?;
-    let right = edge_words(alloc, b"Right", right_distance(page))?;
-    push_words_on(text, area, face, 6, &right)
+    push_edge_line(text, alloc, area, face, 3, b"Top", top_distance(page))?;
+    push_edge_line(text, alloc, area, face, 4, b"Bottom", bottom_distance(page))?;
+    push_edge_line(text, alloc, area, face, 5, b"Left", left_distance(page))?;
+    push_edge_line(text, alloc, area, face, 6, b"Right", right_distance(page))
+}
+
+/// Appends, on a line, how far a rule is from the paper's edge.
+fn push_edge_line<A: Allocator + Copy, P: Allocator>(
+    text: &mut Vec<u8, A>,
+    alloc: A,
+    area: Area,
+    face: &FontRow<P>,
+    line: u8,
+    edge: &[u8],
+    distance: u64,
+) -> Result<(), AllocError>
+    requires { distance ≤ 2 ^ 62 }
+    ensures { OnOk result (text.new.items ≡
+        text.old.items ++ words_on area face.now line (edge_words edge.now distance)) }
+{
+    let words = edge_words(alloc, edge, distance)?;
+    push_words_on(text, area, face, line, &words)
 }
 
 /// The last digit of each column's number, from 1 on.
@@ -188,14 +204,24 @@ fn push_column_lines<A: Allocator + Copy, P: Allocator>(
 ) -> Result<(), AllocError>
     ensures { OnOk result (text.new.items ≡ text.old.items ++ column_lines area face.now) }
 {
-    let left = u32::from(area.left);
-    let columns = columns_from(area, face, left);
-    let tens = column_tens(alloc, columns)?;
-    push_words_at(text, area, face, left, baseline(area, face, 7), &tens)?;
-    let digits = column_digits(alloc, columns)?;
-    push_words_at(text, area, face, left, baseline(area, face, 8), &digits)?;
-    let words = column_words(alloc, face, columns)?;
-    push_words_on(text, area, face, 9, &words)
+    let columns = columns_from(area, face, u32::from(area.left));
+    push_from_left(text, area, face, 7, &column_tens(alloc, columns)?)?;
+    push_from_left(text, area, face, 8, &column_digits(alloc, columns)?)?;
+    push_words_on(text, area, face, 9, &column_words(alloc, face, columns)?)
+}
+
+/// Appends words on a line, from the left edge of the area.
+fn push_from_left<A: Allocator, P: Allocator>(
+    text: &mut Vec<u8, A>,
+    area: Area,
+    face: &FontRow<P>,
+    line: u8,
+    words: &[u8],
+) -> Result<(), AllocError>
+    ensures { OnOk result (text.new.items ≡ text.old.items
+        ++ words_at area face.now area.left (baseline area face.now line) words.now) }
+{
+    push_words_at(text, area, face, u32::from(area.left), baseline(area, face, line), words)
 }
 
 /// Appends lines of these numbers, each one line down from the one before.
@@ -276,10 +302,23 @@ fn push_page_head<A: Allocator + Copy, P: Allocator>(
     push_font_request(text, &face.request())?;
     push_edge_rules(text, area)?;
     push_words_on(text, area, face, 0, name)?;
-    let size = size_words(alloc, page)?;
-    push_words_on(text, area, face, 1, &size)?;
-    let paper = paper_words(alloc, page)?;
-    push_words_on(text, area, face, 2, &paper)
+    push_page_words(text, alloc, area, face, page)
+}
+
+/// Appends the lines that tell which page it is, and how large.
+#[tactic(auto, unfolding(crate::specs::MeasuredPage::page_words))]
+fn push_page_words<A: Allocator + Copy, P: Allocator>(
+    text: &mut Vec<u8, A>,
+    alloc: A,
+    area: Area,
+    face: &FontRow<P>,
+    page: &Geometry,
+) -> Result<(), AllocError>
+    ensures { OnOk result
+        (text.new.items ≡ text.old.items ++ page_words area face.now page.now) }
+{
+    push_words_on(text, area, face, 1, &size_words(alloc, page)?)?;
+    push_words_on(text, area, face, 2, &paper_words(alloc, page)?)
 }
 
 /// Appends the page, with the printer's name.

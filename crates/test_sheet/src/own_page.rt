@@ -131,10 +131,24 @@ fn push_numbered_lines<A: Allocator + Copy, P: Allocator>(
         ++ flat_map (λ n. own_line area face.now termination (numbered n)) numbers.now) }
 {
     for number in numbers {
-        let words = numbered(alloc, *number)?;
-        push_own_line(text, area, face, termination, &words)?;
+        push_numbered_line(text, alloc, area, face, termination, *number)?;
     }
     Ok(())
+}
+
+/// Appends a line of its number.
+fn push_numbered_line<A: Allocator + Copy, P: Allocator>(
+    text: &mut Vec<u8, A>,
+    alloc: A,
+    area: Area,
+    face: &FontRow<P>,
+    termination: u32,
+    number: u8,
+) -> Result<(), AllocError>
+    ensures { OnOk result (text.new.items ≡
+        text.old.items ++ own_line area face.now termination (numbered number)) }
+{
+    push_own_line(text, area, face, termination, &numbered(alloc, number)?)
 }
 
 /// Appends the lines of the page, and its end.
