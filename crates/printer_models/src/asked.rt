@@ -7,7 +7,7 @@ use crate::paper::Paper;
 use std::alloc::{AllocError, AllocFailed, Allocator};
 
 /// What is wrong with the name of a paper.
-#[derive(Clone, Copy)]
+#[derive(Clone, Copy, Debug, PartialEq, Eq)]
 pub enum PaperFault {
     /// No paper has this name.
     Unknown,
@@ -18,7 +18,7 @@ pub enum PaperFault {
 }
 
 /// The first word that is wrong.
-#[derive(Clone, Copy)]
+#[derive(Clone, Copy, Debug, PartialEq, Eq)]
 pub struct WordFault {
     /// How many words stand before it.
     pub index: usize,

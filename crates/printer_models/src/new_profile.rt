@@ -11,17 +11,22 @@ use crate::panel_lists::PanelLists;
 use crate::paper::Paper;
 use crate::text::profile_text;
 use std::alloc::{AllocError, Allocator};
+use thiserror::Error;
 
 /// Why there is no text.
-#[derive(Clone, Copy)]
+#[derive(Clone, Copy, Debug, PartialEq, Eq, Error)]
 pub enum NewError {
     /// No model has this word.
+    #[error("no model has this name")]
     UnknownModel,
     /// A word for a paper is wrong.
+    #[error("a paper is wrong: {0:?}")]
     Paper(WordFault),
     /// The text that was made is not that of the tables, which is a mistake in this program.
+    #[error("the text is not that of the tables")]
     Mismatch,
     /// The allocator refused a request.
+    #[error("out of memory")]
     Memory,
 }
 
