@@ -1,6 +1,6 @@
 use Rattle.std.proofs.Common.{◌≡◌, ◌∙◌, sym}
-use Rattle.tests_preflight.proofs.Definitions.{appended_in}
-use Rattle.tests_preflight.proofs.stores.append.Goals as goal
+use Rattle.tests_machine.proofs.Definitions.{appended_in}
+use Rattle.tests_machine.proofs.stores.append.Goals as goal
 
 pub returns-clause-ok : goal.returns-clause-ok
 returns-clause-ok g c =
