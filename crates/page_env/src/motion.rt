@@ -255,8 +255,8 @@ pub(crate) fn return_line<A: Allocator>(
 ) -> Result<Carried, Finding>
     ensures { CarriesOut (λ defaults s. return_line profile.now s) page.old page.new result }
 {
-    let termination = line_termination(page)?;
-    return_with(profile, page, termination)
+    let read = line_termination(page)?;
+    return_with(profile, page, read)
 }
 
 /// The cursor goes to the left margin, where line termination has it so before LF and FF.
