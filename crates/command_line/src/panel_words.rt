@@ -1,7 +1,7 @@
 //! What the words of `--panel` choose.
 
 use device_profile::Field;
-use requests::{Choice, PANEL_FIELDS, field_word};
+use requests::Choice;
 use std::alloc::{AllocError, Global};
 use thiserror::Error;
 
@@ -51,10 +51,10 @@ fn choice_of(word: &str) -> Result<Choice, ChoiceFault<'_>> {
 }
 
 fn field_of(name: &str) -> Option<Field> {
-    PANEL_FIELDS
+    Field::ALL
         .iter()
         .copied()
-        .find(|field| field_word(*field) == name)
+        .find(|field| field.key() == name.as_bytes())
 }
 
 /// The value of a field, as a profile's text has it.

@@ -8,6 +8,7 @@ pub mod Examples
 pub mod Finished
 pub mod GivenKeys
 mod LikePrinters
+mod Listed
 pub mod LineParts
 pub mod Order
 pub mod Parts

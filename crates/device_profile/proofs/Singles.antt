@@ -17,37 +17,21 @@ use Rattle.device_profile.specs.declared.fault.Cause.{Cause}
 use Rattle.device_profile.specs.Values.{is_between, is_value, are_values, are_choices, has_repeat, values_on_line, number_on_line, is_name}
 use Rattle.device_profile.specs.GeometryLine.{row_of_words}
 use Rattle.device_profile.specs.FaceLine.{face_of_words}
-use Rattle.device_profile.specs.Draft.{Draft, no_draft, keys, is_key_in, key_of, draft_after}
+use Rattle.device_profile.specs.Draft.{Draft, no_draft, is_key_in, key_of, draft_after}
+use Rattle.device_profile.specs.Key.{every_key, key_word}
 use Rattle.device_profile.specs.Words.{words_of}
 use Rattle.device_profile.specs.Text.{version_of, format_of, words_of_line, draft_of_lines, draft_of, is_given, is_complete}
-use Rattle.device_profile.specs.Laws.{has_key, single_keys}
+use Rattle.device_profile.specs.Laws.{common_keys, has_key, single_keys}
 use Rattle.device_profile.proofs.LineParts.{of_value, of_mapped}
 use Rattle.device_profile.proofs.Additions.{Addition, nothing, new_name, new_choice, new_device_trays, new_duplex, new_depth, new_memory, new_page, new_face, or_none, addition_of_key, addition_of, takes_list, takes, added, adds}
 use Rattle.device_profile.proofs.GivenKeys.{each_given}
 use Rattle.device_profile.proofs.Sound.{line_given, version_given}
 
-abbrev word_of : Key → List ℕ
-word_of Name = codes "name"
-word_of (Choice Size) = codes "size"
-word_of (Choice Orientation) = codes "orientation"
-word_of (Choice Vmi) = codes "vmi"
-word_of (Choice Font) = codes "font"
-word_of (Choice Copies) = codes "copies"
-word_of (Choice Sides) = codes "sides"
-word_of (Choice Tray) = codes "tray"
-word_of (Choice LineTerm) = codes "lineterm"
-word_of Trays = codes "trays"
-word_of Duplex = codes "duplex"
-word_of Depth = codes "depth"
-word_of Memory = codes "memory"
-word_of Page = codes "geometry"
-word_of FaceRow = codes "face"
-
 -- the key of an addition's line, by its word
 abbrev word_of_addition : Addition → List ℕ
 word_of_addition nothing = []
 word_of_addition new_name = codes "name"
-word_of_addition (new_choice field values) = word_of (Choice field)
+word_of_addition (new_choice field values) = key_word (Choice field)
 word_of_addition (new_device_trays values) = codes "trays"
 word_of_addition (new_duplex n) = codes "duplex"
 word_of_addition (new_depth n) = codes "depth"
@@ -59,22 +43,20 @@ kept_key : (is_kept : Bool) (found key : Key) → (if is_kept then Some found el
 kept_key true found key is = cc
 kept_key false found key is = cc
 
-found_word : (format : Format) (rows : List (List ℕ × Key)) (word : List ℕ) (key : Key) → IsTrue (list_all (λ row. bytes_eq (word_of row.1) row.0) rows)
-    → option_and_then (λ row. if is_key_in format row.1 then Some row.1 else None) (find (λ row. bytes_eq row.0 word) rows) ≡ Some key → word_of key ≡ word
-found_word format [] word key named is = cc
-found_word format (row ∷ rows) word key named is =
-    let parts = and_parts (bytes_eq (word_of row.1) row.0) (list_all (λ other. bytes_eq (word_of other.1) other.0) rows) named in
-    let own : word_of row.1 ≡ row.0 = (bytes_eq-Decides (word_of row.1) row.0).0 parts.0 in
-    cond_both (bytes_eq row.0 word) (Some row) (find (λ other. bytes_eq other.0 word) rows)
-    (λ found. option_and_then (λ other. if is_key_in format other.1 then Some other.1 else None) found ≡ Some key → word_of key ≡ word)
-    (λ yes got. ap word_of (sym (kept_key (is_key_in format row.1) row.1 key got)) ∙ (own ∙ (bytes_eq-Decides row.0 word).0 yes))
-    (λ no got. found_word format rows word key parts.1 got)
+found_word : (format : Format) (keys : List Key) (word : List ℕ) (key : Key)
+    → option_and_then (λ k. if is_key_in format k then Some k else None) (find (λ k. bytes_eq (key_word k) word) keys) ≡ Some key → key_word key ≡ word
+found_word format [] word key is = cc
+found_word format (other ∷ others) word key is =
+    cond_both (bytes_eq (key_word other) word) (Some other) (find (λ k. bytes_eq (key_word k) word) others)
+    (λ found. option_and_then (λ k. if is_key_in format k then Some k else None) found ≡ Some key → key_word key ≡ word)
+    (λ yes got. ap key_word (sym (kept_key (is_key_in format other) other key got)) ∙ (bytes_eq-Decides (key_word other) word).0 yes)
+    (λ no got. found_word format others word key got)
     is
 
 -- a key is the word that it is read from
-word_of_key : (format : Format) (word : List ℕ) (key : Key) → key_of format word ≡ Some key → word_of key ≡ word
+word_of_key : (format : Format) (word : List ℕ) (key : Key) → key_of format word ≡ Some key → key_word key ≡ word
 unfolding key_of
-word_of_key format word key is = found_word format keys word key refl is
+word_of_key format word key is = found_word format every_key word key is
 
 word_of_list : (word : List ℕ) (new : List ℕ → Addition) (given : Result (List ℕ) Cause) (addition : Addition) → ((values : List ℕ) → word_of_addition (new values) ≡ word)
     → or_none new given ≡ Some addition → word_of_addition addition ≡ word
@@ -95,9 +77,9 @@ word_of_name true addition told =
     ap word_of_addition (sym is)
 word_of_name false addition told = cc
 
-word_of_told : (key : Key) (words : List (List ℕ)) (addition : Addition) → addition_of_key key words ≡ Some addition → word_of_addition addition ≡ word_of key
+word_of_told : (key : Key) (words : List (List ℕ)) (addition : Addition) → addition_of_key key words ≡ Some addition → word_of_addition addition ≡ key_word key
 word_of_told Name words addition told = word_of_name (is_name words) addition told
-word_of_told (Choice field) words addition told = word_of_list (word_of (Choice field)) (new_choice field) (values_on_line field words) addition (λ v. refl) told
+word_of_told (Choice field) words addition told = word_of_list (key_word (Choice field)) (new_choice field) (values_on_line field words) addition (λ v. refl) told
 word_of_told Trays words addition told = word_of_list (codes "trays") new_device_trays (values_on_line Tray words) addition (λ v. refl) told
 word_of_told Duplex words addition told = word_of_mapped (codes "duplex") new_duplex (number_on_line 1 words) addition (λ n. refl) told
 word_of_told Depth words addition told = word_of_mapped (codes "depth") new_depth (number_on_line 8 words) addition (λ n. refl) told
@@ -147,7 +129,7 @@ number_counts is_held fits taken = (not-true is_held ((and_parts (not is_held) f
 
 -- (beside the keys of no field, a case with Size has all fields told apart)
 counts : (key : Key) (draft : Draft) (addition : Addition) → IsTrue (is_single key) → IsTrue (takes draft addition)
-    → Counts (bytes_eq (word_of key) (word_of_addition addition)) (is_given draft key) (is_given (added draft addition) key)
+    → Counts (bytes_eq (key_word key) (word_of_addition addition)) (is_given draft key) (is_given (added draft addition) key)
 counts Page draft addition single taken = absurd (false≢true single)
 counts FaceRow draft addition single taken = absurd (false≢true single)
 counts Name draft new_name single taken = (not-true draft.is_named taken, refl)
@@ -176,7 +158,7 @@ bit false = 0
 
 -- the lines with a key
 abbrev with_key : Key → List (List ℕ) → List (List ℕ)
-with_key key lines = filter (has_key (word_of key)) lines
+with_key key lines = filter (has_key (key_word key)) lines
 
 one_line : (has was now : Bool) (line : List ℕ) (rest : List (List ℕ)) (total : ℕ) → Counts has was now → bit now + length rest ≡ total → bit was + length (cond has (line ∷ rest) rest) ≡ total
 one_line true was now line rest total counted is =
@@ -196,15 +178,15 @@ count_lines format key single [] draft number last is =
 count_lines format key single (line ∷ lines) draft number last is =
     let given = line_given (draft_after format draft (words_of_line line)) (λ next. draft_of_lines format next (number + 1) lines) number last is in
     let step = adds format draft (words_of_line line) given.0 given.1 in
-    let here : Counts (has_key (word_of key) line) (is_given draft key) (is_given (added draft step.addition) key) =
-    subst (λ (word : List ℕ). Counts (bytes_eq (word_of key) word) (is_given draft key) (is_given (added draft step.addition) key)) (sym (first_word format (words_of_line line) step.addition step.told))
+    let here : Counts (has_key (key_word key) line) (is_given draft key) (is_given (added draft step.addition) key) =
+    subst (λ (word : List ℕ). Counts (bytes_eq (key_word key) word) (is_given draft key) (is_given (added draft step.addition) key)) (sym (first_word format (words_of_line line) step.addition step.told))
     (counts key draft step.addition single step.taken) in
-    let counted : Counts (has_key (word_of key) line) (is_given draft key) (is_given given.0 key) =
-    subst (λ (d : Draft). Counts (has_key (word_of key) line) (is_given draft key) (is_given d key)) step.is here in
-    one_line (has_key (word_of key) line) (is_given draft key) (is_given given.0 key) line (with_key key lines) (bit (is_given last key)) counted
+    let counted : Counts (has_key (key_word key) line) (is_given draft key) (is_given given.0 key) =
+    subst (λ (d : Draft). Counts (has_key (key_word key) line) (is_given draft key) (is_given d key)) step.is here in
+    one_line (has_key (key_word key) line) (is_given draft key) (is_given given.0 key) line (with_key key lines) (bit (is_given last key)) counted
     (count_lines format key single lines given.0 (number + 1) last given.2)
 
-no_key : (key : Key) → (bytes_eq (word_of key) [] ≡ false) × (bytes_eq (word_of key) (codes "pclprofile") ≡ false)
+no_key : (key : Key) → (bytes_eq (key_word key) [] ≡ false) × (bytes_eq (key_word key) (codes "pclprofile") ≡ false)
 no_key Name = (refl, refl)
 no_key (Choice Size) = (refl, refl)
 no_key (Choice Orientation) = (refl, refl)
@@ -232,11 +214,11 @@ named (name ∷ version ∷ []) format is =
 named (name ∷ version ∷ more ∷ words) format is = cc
 
 -- the first line has no key
-first_line : (key : Key) (first : List ℕ) (format : Format) → format_of (words_of first) ≡ Some format → has_key (word_of key) first ≡ false
+first_line : (key : Key) (first : List ℕ) (format : Format) → format_of (words_of first) ≡ Some format → has_key (key_word key) first ≡ false
 first_line key first format version =
-    cond_both (get_or first 0 0 == 35) [] (words_of first) (λ words. bytes_eq (word_of key) (get_or words 0 []) ≡ false)
+    cond_both (get_or first 0 0 == 35) [] (words_of first) (λ words. bytes_eq (key_word key) (get_or words 0 []) ≡ false)
     (λ comment. (no_key key).0)
-    (λ line. ap (bytes_eq (word_of key)) (named (words_of first) format version) ∙ (no_key key).1)
+    (λ line. ap (bytes_eq (key_word key)) (named (words_of first) format version) ∙ (no_key key).1)
 
 -- a key that was given stands on one of all lines, where nothing gave it before the lines
 stands_once : (key : Key) → IsTrue (is_single key) → (format : Format) → is_given (no_draft format) key ≡ false → (first : List ℕ) (later : List (List ℕ)) (draft : Draft)
@@ -255,22 +237,16 @@ StandsOnce all key = length (filter (has_key key) all) ≡ 1
 abbrev is_awaited : Format → Key → Bool
 is_awaited format key = is_single key && not (is_given (no_draft format) key)
 
--- the keys that come once in texts of every version
-abbrev common_singles : List Key
-common_singles =
-    Name ∷ Choice Size ∷ Choice Orientation ∷ Choice Vmi ∷ Choice Font ∷ Choice Copies ∷ Choice Sides ∷ Choice Tray
-    ∷ Trays ∷ Duplex ∷ Depth ∷ Memory ∷ []
-
-all_words : (P : List ℕ → Type 0) (format : Format) → ((key : Key) → IsTrue (is_awaited format key) → P (word_of key))
-    → (singles : List Key) → IsTrue (list_all (is_awaited format) singles) → AllByRecursion P (map word_of singles)
+all_words : (P : List ℕ → Type 0) (format : Format) → ((key : Key) → IsTrue (is_awaited format key) → P (key_word key))
+    → (singles : List Key) → IsTrue (list_all (is_awaited format) singles) → AllByRecursion P (map key_word singles)
 all_words P format holds [] awaited = tt
 all_words P format holds (key ∷ singles) awaited =
     let parts = and_parts (is_awaited format key) (list_all (is_awaited format) singles) awaited in
     (holds key parts.0, all_words P format holds singles parts.1)
 
-all_singles : (P : List ℕ → Type 0) (format : Format) → ((key : Key) → IsTrue (is_awaited format key) → P (word_of key)) → AllByRecursion P (single_keys format)
-all_singles P One holds = all_words P One holds common_singles refl
-all_singles P Two holds = all_words P Two holds (Choice LineTerm ∷ common_singles) refl
+all_singles : (P : List ℕ → Type 0) (format : Format) → ((key : Key) → IsTrue (is_awaited format key) → P (key_word key)) → AllByRecursion P (single_keys format)
+all_singles P One holds = all_words P One holds common_keys refl
+all_singles P Two holds = all_words P Two holds (Choice LineTerm ∷ common_keys) refl
 
 -- where each key was given, each that comes once stands on one line
 all_once_of : (format : Format) (first : List ℕ) (later : List (List ℕ)) (draft : Draft) → format_of (words_of first) ≡ Some format

@@ -16,7 +16,8 @@ use Rattle.device_profile.specs.declared.fault.ProfileFault.TheVariants.{Fault}
 use Rattle.device_profile.specs.Faces.{Face, has_face}
 use Rattle.device_profile.specs.Printer.{Printer, is_valid, has_size, has_orientation, has_row, has_every_pair, are_sides}
 use Rattle.device_profile.specs.Words.{words_of}
-use Rattle.device_profile.specs.Draft.{Draft, keys, no_draft}
+use Rattle.device_profile.specs.Draft.{Draft, no_draft}
+use Rattle.device_profile.specs.Key.{every_key}
 use Rattle.device_profile.specs.declared.format.Format.{Format}
 use Rattle.device_profile.specs.Text.{format_of, draft_of_lines, draft_of, is_given, is_complete, has_its_pages, is_duplex, has_its_choices, printer_of_draft, printer_of, printer_of_text}
 use Rattle.device_profile.specs.Laws.{IsSamePrinter, GivesValid, HasEachKeyOnce, OrderIsFree}
@@ -112,7 +113,7 @@ given_too a b s FaceRow = ap (nat_lt 0) (sym (length_permutation a.faces b.faces
 given_too a b s key = ap (λ d. is_given d key) s.others
 
 complete_too : (a b : Draft) → IsSimilar a b → is_complete a ≡ is_complete b
-complete_too a b s = agree (λ (row : List ℕ × Key). is_given a row.1) (λ (row : List ℕ × Key). is_given b row.1) keys (λ row. given_too a b s row.1)
+complete_too a b s = agree (is_given a) (is_given b) every_key (given_too a b s)
 
 pages_too : (a b : Draft) → IsSimilar a b → IsTrue (has_its_pages a) → IsTrue (has_its_pages b)
 unfolding has_size has_orientation

@@ -1,9 +1,9 @@
 -- What the lines of a profile's text have given so far.
-use Rattle.std.specs.Prelude.{ℕ, List, [], ◌∷◌, ◌++◌, Bool, true, false, not, ◌==◌, length, Option, None, Some, is_some, find, codes, if◌then◌else◌, Result, Ok, Err}
+use Rattle.std.specs.Prelude.{ℕ, List, [], ◌∷◌, ◌++◌, Bool, true, false, not, ◌==◌, length, Option, None, Some, is_some, find, if◌then◌else◌, Result, Ok, Err}
 use Rattle.std.specs.Option.{option_map_or, option_and_then}
 use Rattle.std.specs.Str.{bytes_eq}
 use Rattle.device_profile.specs.declared.field.Field.{Field}
-use Rattle.device_profile.specs.declared.field.Field.TheVariants.{Size, Orientation, Vmi, Font, Copies, Sides, Tray, LineTerm}
+use Rattle.device_profile.specs.declared.field.Field.TheVariants.{Tray, LineTerm}
 use Rattle.device_profile.specs.declared.format.Format.{Format}
 use Rattle.device_profile.specs.declared.format.Format.TheVariants.{One, Two}
 use Rattle.device_profile.specs.declared.geometry.Geometry.{Geometry}
@@ -11,31 +11,12 @@ use Rattle.device_profile.specs.declared.key.Key.{Key}
 use Rattle.device_profile.specs.declared.key.Key.TheVariants.{Name, Choice, Trays, Duplex, Depth, Memory, Page, Face as FaceRow}
 use Rattle.device_profile.specs.declared.fault.Cause.{Cause}
 use Rattle.device_profile.specs.declared.fault.Cause.TheVariants.{Unknown, Repeated, Range}
+use Rattle.device_profile.specs.Key.{every_key, key_word}
 use Rattle.device_profile.specs.Choices.{Choices, no_choices, values_in, with_values}
 use Rattle.device_profile.specs.Faces.{Face}
 use Rattle.device_profile.specs.Values.{values_on_line, number_on_line, is_name}
 use Rattle.device_profile.specs.GeometryLine.{geometry_on_line}
 use Rattle.device_profile.specs.FaceLine.{face_on_line}
-
--- the keys and their words
-abbrev pub keys : List (List ℕ × Key)
-keys =
-    (codes "name", Name)
-    ∷ (codes "size", Choice Size)
-    ∷ (codes "orientation", Choice Orientation)
-    ∷ (codes "vmi", Choice Vmi)
-    ∷ (codes "font", Choice Font)
-    ∷ (codes "copies", Choice Copies)
-    ∷ (codes "sides", Choice Sides)
-    ∷ (codes "tray", Choice Tray)
-    ∷ (codes "lineterm", Choice LineTerm)
-    ∷ (codes "trays", Trays)
-    ∷ (codes "duplex", Duplex)
-    ∷ (codes "depth", Depth)
-    ∷ (codes "memory", Memory)
-    ∷ (codes "geometry", Page)
-    ∷ (codes "face", FaceRow)
-    ∷ []
 
 -- whether texts of a version have a key: line termination came with the second
 abbrev pub is_key_in : Format → Key → Bool
@@ -46,7 +27,8 @@ is_key_in Two _ = true
 -- the key that a word is in texts of a version
 unfoldable pub key_of : Format → List ℕ → Option Key
 key_of format word =
-    option_and_then (λ row. if is_key_in format row.1 then Some row.1 else None) (find (λ row. bytes_eq row.0 word) keys)
+    option_and_then (λ key. if is_key_in format key then Some key else None)
+    (find (λ key. bytes_eq (key_word key) word) every_key)
 
 -- What the lines gave so far. A list that is empty was not given.
 pub record Draft : Type 0 where

@@ -1,24 +1,29 @@
 -- Laws of the texts of profiles.
-use Rattle.std.specs.Prelude.{◌≡◌, ℕ, ◌≤◌, List, [], ◌∷◌, All, Bool, IsTrue, length, filter, get_or, codes, Some, Ok}
+use Rattle.std.specs.Prelude.{◌≡◌, ℕ, ◌≤◌, List, [], ◌∷◌, All, Bool, IsTrue, length, map, filter, get_or, Some, Ok}
 use Rattle.std.specs.List.Sorted.{IsPermutation}
 use Rattle.std.specs.Str.{bytes_eq}
 use Rattle.std.specs.Str.Lines.{lines}
+use Rattle.device_profile.specs.Key.{key_word}
 use Rattle.device_profile.specs.Printer.{Printer, is_valid}
 use Rattle.device_profile.specs.Text.{format_of, words_of_line, printer_of_text}
 use Rattle.device_profile.specs.Words.{words_of}
+use Rattle.device_profile.specs.declared.field.Field.TheVariants.{Size, Orientation, Vmi, Font, Copies, Sides, Tray, LineTerm}
+use Rattle.device_profile.specs.declared.key.Key.{Key}
+use Rattle.device_profile.specs.declared.key.Key.TheVariants.{Name, Choice, Trays, Duplex, Depth, Memory}
 use Rattle.device_profile.specs.declared.format.Format.{Format}
 use Rattle.device_profile.specs.declared.format.Format.TheVariants.{One, Two}
 
--- the keys that come once in texts of every version, by their words
-abbrev pub common_keys : List (List ℕ)
+-- the keys that come once in texts of every version
+abbrev pub common_keys : List Key
 common_keys =
-    codes "name" ∷ codes "size" ∷ codes "orientation" ∷ codes "vmi" ∷ codes "font" ∷ codes "copies" ∷ codes "sides" ∷ codes "tray"
-    ∷ codes "trays" ∷ codes "duplex" ∷ codes "depth" ∷ codes "memory" ∷ []
+    Name ∷ Choice Size ∷ Choice Orientation ∷ Choice Vmi ∷ Choice Font
+    ∷ Choice Copies ∷ Choice Sides ∷ Choice Tray
+    ∷ Trays ∷ Duplex ∷ Depth ∷ Memory ∷ []
 
--- the keys that come once in texts of a version
+-- the keys that come once in texts of a version, by their words
 abbrev pub single_keys : Format → List (List ℕ)
-single_keys One = common_keys
-single_keys Two = codes "lineterm" ∷ common_keys
+single_keys One = map key_word common_keys
+single_keys Two = map key_word (Choice LineTerm ∷ common_keys)
 
 -- whether a line is no comment and begins with this key
 abbrev pub has_key : List ℕ → List ℕ → Bool

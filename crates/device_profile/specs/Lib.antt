@@ -1,3 +1,5 @@
+pub mod Field
+pub mod Key
 pub mod Choices
 pub mod ChoiceFields
 pub mod Printer

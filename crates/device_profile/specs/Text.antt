@@ -14,7 +14,8 @@ use Rattle.device_profile.specs.Faces.{has_face}
 use Rattle.device_profile.specs.Words.{words_of}
 use Rattle.device_profile.specs.declared.key.Key.{Key}
 use Rattle.device_profile.specs.declared.key.Key.TheVariants.{Name, Choice, Trays, Duplex, Depth, Memory as MemoryKey, Page, Face as FaceRow}
-use Rattle.device_profile.specs.Draft.{Draft, keys, no_draft, choice_of, draft_after}
+use Rattle.device_profile.specs.Key.{every_key}
+use Rattle.device_profile.specs.Draft.{Draft, no_draft, choice_of, draft_after}
 
 -- the version that a word names
 abbrev pub version_of : List ℕ → Option Format
@@ -56,7 +57,7 @@ is_given draft FaceRow = nat_lt 0 (length draft.faces)
 
 -- whether each key was given, and a page and a face
 abbrev pub is_complete : Draft → Bool
-is_complete draft = list_all (λ row. is_given draft row.1) keys
+is_complete draft = list_all (is_given draft) every_key
 
 -- whether each size and each orientation of the panel has a row, and each size of a row has one with each orientation of a row
 abbrev pub has_its_pages : Draft → Bool

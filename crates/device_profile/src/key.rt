@@ -1,7 +1,7 @@
 //! The keys of a profile's text.
-ghost use Rattle.std.specs.Prelude.{◌≡◌, find, option_map};
+ghost use Rattle.std.specs.Prelude.{◌≡◌, find};
 ghost use Rattle.std.specs.Str.{bytes_eq};
-ghost use Rattle.device_profile.specs.Draft.{keys};
+ghost use Rattle.device_profile.specs.Key.{key_word};
 
 use crate::field::Field;
 use crate::format::Format;
@@ -27,35 +27,43 @@ pub enum Key {
     Face,
 }
 
-/// The keys and their words.
-pub(crate) const KEYS: &[(&[u8], Key)] = &[
-    (b"name", Key::Name),
-    (b"size", Key::Choice(Field::Size)),
-    (b"orientation", Key::Choice(Field::Orientation)),
-    (b"vmi", Key::Choice(Field::Vmi)),
-    (b"font", Key::Choice(Field::Font)),
-    (b"copies", Key::Choice(Field::Copies)),
-    (b"sides", Key::Choice(Field::Sides)),
-    (b"tray", Key::Choice(Field::Tray)),
-    (b"lineterm", Key::Choice(Field::LineTerm)),
-    (b"trays", Key::Trays),
-    (b"duplex", Key::Duplex),
-    (b"depth", Key::Depth),
-    (b"memory", Key::Memory),
-    (b"geometry", Key::Page),
-    (b"face", Key::Face),
-];
-
-/// The row of a word that is a key.
-fn row_of(word: &[u8]) -> Option<&'static (&'static [u8], Key)>
-    ensures { option_map (λ row. (row.now.0.now, row.now.1)) result ≡
-        find (λ row. bytes_eq row.0 word.now) keys }
-{
-    KEYS.iter().find(|(name, _)| *name == word)
-}
-
 impl Key {
     ghost use Rattle.device_profile.specs.Draft.{is_key_in, key_of};
+
+    /// All keys, in the order in which those that no line gives are told.
+    pub const ALL: [Key; 15] = [
+        Key::Name,
+        Key::Choice(Field::Size),
+        Key::Choice(Field::Orientation),
+        Key::Choice(Field::Vmi),
+        Key::Choice(Field::Font),
+        Key::Choice(Field::Copies),
+        Key::Choice(Field::Sides),
+        Key::Choice(Field::Tray),
+        Key::Choice(Field::LineTerm),
+        Key::Trays,
+        Key::Duplex,
+        Key::Depth,
+        Key::Memory,
+        Key::Page,
+        Key::Face,
+    ];
+
+    /// The word that a line of this key begins with.
+    pub fn word(self) -> &'static [u8]
+        ensures { result.now ≡ key_word self }
+    {
+        match self {
+            Key::Name => b"name",
+            Key::Choice(field) => field.key(),
+            Key::Trays => b"trays",
+            Key::Duplex => b"duplex",
+            Key::Depth => b"depth",
+            Key::Memory => b"memory",
+            Key::Page => b"geometry",
+            Key::Face => b"face",
+        }
+    }
 
     /// Whether texts of this version have the key.
     fn is_in(self, format: Format) -> bool
@@ -69,9 +77,16 @@ impl Key {
     pub fn of(format: Format, word: &[u8]) -> Option<Key>
         ensures { result ≡ key_of format word.now }
     {
-        match row_of(word) {
-            Some((_, key)) if key.is_in(format) => Some(*key),
+        match first_key(&Key::ALL, word) {
+            Some(key) if key.is_in(format) => Some(key),
             _ => None,
         }
     }
+}
+
+/// The first of these keys whose word this is.
+fn first_key(keys: &[Key], word: &[u8]) -> Option<Key>
+    ensures { result ≡ find (λ key. bytes_eq (key_word key) word.now) keys.now }
+{
+    keys.iter().copied().find(|key| key.word() == word)
 }

@@ -10,7 +10,7 @@ use crate::fault::{Cause, ProfileFault};
 use crate::field::Field;
 use crate::font::FontRow;
 use crate::geometry::Geometry;
-use crate::key::KEYS;
+use crate::key::Key;
 use crate::profile::Profile;
 use crate::rows::{has_face, has_orientation, has_row, has_size};
 use std::alloc::Allocator;
@@ -40,7 +40,7 @@ impl<A: Allocator> Draft<A> {
     fn is_complete(&self) -> bool
         ensures { result ≡ is_complete self.now }
     {
-        KEYS.iter().all(|(_, key)| self.has(*key))
+        Key::ALL.iter().all(|key| self.has(*key))
     }
 
     /// Whether each size and each orientation of the panel has a page, and each size of a page has

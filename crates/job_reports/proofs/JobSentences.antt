@@ -32,7 +32,8 @@ use Rattle.verdict.specs.declared.verdict.Verdict.{Verdict}
 use Rattle.verdict.specs.declared.verdict.Verdict.TheVariants.{Pass, Fail}
 use Rattle.verdict.specs.Numbers.{cause_number, reason_number}
 use Rattle.line_words.specs.Figures.{escaped_byte, named}
-use Rattle.line_words.specs.Reason.{bare_cause_name, bare_finding_name, bare_name, brackets, field_name, name_words, reason_words, short_cause, short_finding, short_reason, named_byte}
+use Rattle.device_profile.specs.Field.{field_name}
+use Rattle.line_words.specs.Reason.{bare_cause_name, bare_finding_name, bare_name, brackets, name_words, reason_words, short_cause, short_finding, short_reason, named_byte}
 use Rattle.preflight.specs.declared.culprit.Culprit.{Culprit}
 use Rattle.preflight.specs.declared.culprit.Culprit.TheVariants.{Text, Simple, WithData, Line}
 use Rattle.preflight.specs.declared.culprit.Judgement.{Judgement}

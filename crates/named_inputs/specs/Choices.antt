@@ -4,12 +4,12 @@ use Rattle.std.specs.List.{list_any}
 use Rattle.device_profile.specs.declared.field.Field.{Field}
 use Rattle.device_profile.specs.declared.field.Field.TheVariants.{Size, Orientation, Vmi, Font, Copies, Sides, Tray, LineTerm}
 use Rattle.device_profile.specs.declared.panel.Panel.{Panel}
+use Rattle.device_profile.specs.Field.{field_key}
 use Rattle.device_profile.specs.Printer.{Printer, values_of, first_panel}
 use Rattle.line_words.specs.Figures.{number_word, value_word}
 use Rattle.streams.specs.declared.error.Error.TheVariants.{Memory}
 use Rattle.streams.specs.Outlet.{OutletState}
 use Rattle.streams.specs.Writing.{Writes}
-use Rattle.requests.specs.Choices.{field_word}
 use Rattle.requests.specs.declared.choices.Choice.{Choice}
 use Rattle.requests.specs.declared.status.Status.{Status}
 use Rattle.requests.specs.declared.status.Status.TheVariants.{NotAllowed, Stopped}
@@ -51,7 +51,7 @@ choice_word _ value = number_word value
 
 abbrev pub choice_line : Printer → Choice → List ℕ
 choice_line printer choice =
-    codes "error: --panel: PROFILE does not allow " ++ field_word choice.field ++ choice_word choice.field choice.value
+    codes "error: --panel: PROFILE does not allow " ++ field_key choice.field ++ choice_word choice.field choice.value
     ++ codes "; it allows" ++ flat_map (choice_word choice.field) (values_of printer choice.field) ++ codes "\n"
 
 -- what is told on standard error of a choice that the panel may not have: its line; without memory for it nothing

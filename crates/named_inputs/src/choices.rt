@@ -6,7 +6,7 @@ ghost use Rattle.requests.specs.Status.{is_refused_choice};
 
 use device_profile::{Field, Panel, Profile};
 use line_words::{push_number_word, push_value_word};
-use requests::{Choice, Status, field_word};
+use requests::{Choice, Status};
 use std::alloc::{AllocError, Allocator};
 use streams::{Error, Outlet, write_text};
 
@@ -89,7 +89,7 @@ fn choice_line<A: Allocator, P: Allocator>(
 {
     let mut line = Vec::new(alloc);
     line.extend_from_slice(b"error: --panel: PROFILE does not allow ")?;
-    line.extend_from_slice(field_word(choice.field).as_bytes())?;
+    line.extend_from_slice(choice.field.key())?;
     push_choice_word(&mut line, choice.field, choice.value)?;
     line.extend_from_slice(b"; it allows")?;
     push_choice_words(&mut line, choice.field, profile.allowed(choice.field))?;

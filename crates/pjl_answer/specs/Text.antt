@@ -8,27 +8,17 @@ use Rattle.device_profile.specs.declared.field.Field.{Field}
 use Rattle.device_profile.specs.declared.field.Field.TheVariants.{Size, Orientation, Vmi, Font, Copies, Sides, Tray, LineTerm}
 use Rattle.device_profile.specs.declared.format.Format.{Format}
 use Rattle.device_profile.specs.declared.format.Format.TheVariants.{One, Two}
+use Rattle.device_profile.specs.Field.{every_field, field_key}
 use Rattle.device_profile.specs.Printer.{Printer}
 use Rattle.device_profile.specs.Text.{format_of, words_of_line}
 use Rattle.device_profile.specs.Words.{words_of}
 use Rattle.pjl_answer.specs.declared.warning.Warning.{Warning}
-use Rattle.pjl_answer.specs.Told.{every_field, told}
+use Rattle.pjl_answer.specs.Told.{told}
 use Rattle.pjl_answer.specs.Warning.{warning_lines, warnings}
-
--- the word that begins the line of a field
-abbrev pub key_of : Field → List ℕ
-key_of Size = codes "size"
-key_of Orientation = codes "orientation"
-key_of Vmi = codes "vmi"
-key_of Font = codes "font"
-key_of Copies = codes "copies"
-key_of Sides = codes "sides"
-key_of Tray = codes "tray"
-key_of LineTerm = codes "lineterm"
 
 -- the field whose line begins with a word
 unfoldable pub field_of : List ℕ → Option Field
-field_of word = find (λ field. bytes_eq (key_of field) word) every_field
+field_of word = find (λ field. bytes_eq (field_key field) word) every_field
 
 -- four decimals behind a point, where there are some
 abbrev pub decimals : ℕ → List ℕ
@@ -53,7 +43,7 @@ value_word LineTerm n = decimal n
 
 -- the line of a field with these values
 abbrev pub field_line : Field → List ℕ → List ℕ
-field_line field values = key_of field ++ flat_map (λ n. 32 ∷ value_word field n) values
+field_line field values = field_key field ++ flat_map (λ n. 32 ∷ value_word field n) values
 
 -- the field of a line's words
 abbrev pub field_on : List (List ℕ) → Option Field

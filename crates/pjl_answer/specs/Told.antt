@@ -152,6 +152,3 @@ with_told printer answer = record printer {
 abbrev pub values_in : ToldValues → List ℕ
 values_in (One value) = value ∷ []
 values_in (Two first second) = first ∷ second ∷ []
-
-abbrev pub every_field : List Field
-every_field = Size ∷ Orientation ∷ Vmi ∷ Font ∷ Copies ∷ Sides ∷ Tray ∷ LineTerm ∷ []

@@ -5,6 +5,7 @@ use Rattle.std.specs.Option.{option_and_then, option_map_or, option_or}
 use Rattle.std.specs.Str.{bytes_eq}
 use Rattle.device_profile.specs.declared.field.Field.{Field}
 use Rattle.device_profile.specs.declared.field.Field.TheVariants.{Size, Orientation, Vmi, Font, Copies, Sides, Tray, LineTerm}
+use Rattle.device_profile.specs.Field.{every_field}
 use Rattle.device_profile.specs.Printer.{Printer}
 use Rattle.pjl_answer.specs.declared.variable.Variable.{Variable}
 use Rattle.pjl_answer.specs.declared.variable.Variable.TheVariants as variables
@@ -12,7 +13,7 @@ use Rattle.pjl_answer.specs.declared.warning.PjlNote.{PjlNote}
 use Rattle.pjl_answer.specs.declared.warning.PjlNote.TheVariants as pjl_notes
 use Rattle.pjl_answer.specs.declared.warning.Warning.{Warning}
 use Rattle.pjl_answer.specs.Answer.{entry_of, is_given, value_of}
-use Rattle.pjl_answer.specs.Told.{every_field, is_vmi_rounded, told}
+use Rattle.pjl_answer.specs.Told.{is_vmi_rounded, told}
 use Rattle.pjl_answer.specs.Values.{is_understood}
 use Rattle.shown_bytes.specs.Shown.{shown}
 use Rattle.pjl_answer.specs.Variable.{every_variable, word_of}

@@ -2,42 +2,24 @@
 ghost use Rattle.std.specs.Prelude.{◌≡◌, ◌++◌, ◌∷◌, [], ◌+◌, ◌%◌, decimal, find, flat_map, option_map, IfOk, OnOk};
 ghost use Rattle.std.specs.Str.{bytes_eq};
 ghost use Rattle.std.specs.Str.Lines.{lines};
+ghost use Rattle.device_profile.specs.Field.{field_key};
 ghost use Rattle.device_profile.specs.Text.{words_of_line};
-ghost use Rattle.pjl_answer.specs.Text.{added_line, amount, answered_text, behind_comments, behind_warnings, decimals, field_line, field_of, field_on, first_line, head_with, is_warning, key_of, line_after, origin, told_line, value_word, version};
+ghost use Rattle.pjl_answer.specs.Text.{added_line, amount, answered_text, behind_comments, behind_warnings, decimals, field_line, field_of, field_on, first_line, head_with, is_warning, line_after, origin, told_line, value_word, version};
 ghost use Rattle.pjl_answer.specs.Told.{values_in};
 ghost use Rattle.pjl_answer.specs.Warning.{warnings};
 
 use crate::told_values::{ToldValues, told};
-use crate::warning::{FIELDS, Warning};
+use crate::warning::Warning;
 use crate::warning_text::push_warning_lines;
 use device_profile::{Field, Format, Profile, format_of, next_line, next_word};
 use shown_bytes::push_number;
 use std::alloc::{AllocError, Allocator};
 
-/// The word that begins the line of a field.
-fn key_of(field: Field) -> &'static str
-    ensures { result.now ≡ key_of field }
-{
-    match field {
-        Field::Size => "size",
-        Field::Orientation => "orientation",
-        Field::Vmi => "vmi",
-        Field::Font => "font",
-        Field::Copies => "copies",
-        Field::Sides => "sides",
-        Field::Tray => "tray",
-        Field::LineTerm => "lineterm",
-    }
-}
-
 /// The first of these fields whose line begins with a word.
 fn first_field(fields: &[Field], word: &[u8]) -> Option<Field>
-    ensures { result ≡ find (λ field. bytes_eq (key_of field) word.now) fields.now }
+    ensures { result ≡ find (λ field. bytes_eq (field_key field) word.now) fields.now }
 {
-    fields
-        .iter()
-        .copied()
-        .find(|field| key_of(*field).as_bytes() == word)
+    fields.iter().copied().find(|field| field.key() == word)
 }
 
 /// The field whose line begins with a word.
@@ -45,7 +27,7 @@ fn first_field(fields: &[Field], word: &[u8]) -> Option<Field>
 fn field_of(word: &[u8]) -> Option<Field>
     ensures { result ≡ field_of word.now }
 {
-    first_field(&FIELDS, word)
+    first_field(&Field::ALL, word)
 }
 
 /// The field of a line; a comment, whose first byte is `#`, has none.
@@ -105,7 +87,7 @@ fn push_field<A: Allocator>(
     ensures { OnOk result
         (text.new.items ≡ text.old.items ++ field_line field (values_in values)) }
 {
-    text.extend_from_slice(key_of(field).as_bytes())?;
+    text.extend_from_slice(field.key())?;
     match values {
         ToldValues::One(value) => push_word(text, field, value),
         ToldValues::Two(first, second) => {

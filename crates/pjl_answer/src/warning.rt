@@ -55,18 +55,6 @@ impl Warning {
     }
 }
 
-/// The fields of a panel.
-pub(crate) const FIELDS: [Field; 8] = [
-    Field::Size,
-    Field::Orientation,
-    Field::Vmi,
-    Field::Font,
-    Field::Copies,
-    Field::Sides,
-    Field::Tray,
-    Field::LineTerm,
-];
-
 const FONT_VARIABLES: &[Variable] = &[
     Variable::FontSource,
     Variable::FontNumber,
@@ -213,7 +201,7 @@ pub fn warnings<A: Allocator, B: Allocator>(
     ensures { IfOk result (λ all. all.items ≡ warnings base.now answer.now) }
 {
     let mut all = Vec::new(alloc);
-    push_field_warnings(&mut all, base, answer, &FIELDS)?;
+    push_field_warnings(&mut all, base, answer, &Field::ALL)?;
     push_value_warnings(&mut all, answer, &VARIABLES)?;
     Ok(all)
 }

@@ -22,18 +22,6 @@ use device_profile::{
 use std::alloc::{AllocError, Allocator};
 use tick_length::Length;
 
-/// The fields of a panel.
-pub(crate) const FIELDS: [Field; 8] = [
-    Field::Size,
-    Field::Orientation,
-    Field::Vmi,
-    Field::Font,
-    Field::Copies,
-    Field::Sides,
-    Field::Tray,
-    Field::LineTerm,
-];
-
 /// How many levels of macros may run, one within the other.
 pub(crate) const DEPTH: u32 = 2;
 
@@ -100,7 +88,7 @@ fn has_values<A: Allocator + Copy>(
     ensures { IfOk result (λ has. IsTrue has → ((field : Field) →
         values_of profile.now field ≡ panel_values model papers.now lists field)) }
 {
-    has_values_in(alloc, profile, model, papers, lists, &FIELDS)
+    has_values_in(alloc, profile, model, papers, lists, &Field::ALL)
 }
 
 /// The same in these fields.

@@ -1,6 +1,6 @@
 //! Making the text of a model's profile.
 
-use crate::comparison::{DEPTH, FIELDS};
+use crate::comparison::DEPTH;
 use crate::face::{CharacterSet, FaceRow, Generation, faces_of};
 use crate::model::{Model, ModelRow};
 use crate::page::{ORIENTATIONS, page_numbers};
@@ -119,13 +119,13 @@ fn push_panel<A: Allocator + Copy>(
     lists: PanelLists,
 ) -> Result<(), AllocError> {
     push_all(text, &["name ", model.row().word, "\n"])?;
-    for field in FIELDS {
+    for field in Field::ALL {
         push_field(text, alloc, model, papers, lists, field)?;
     }
     Ok(())
 }
 
-/// Appends the list of a field, where version 1 of the text has a key for it.
+/// Appends the list of a field; version 1 of the text has none for line termination.
 fn push_field<A: Allocator + Copy>(
     text: &mut Vec<u8, A>,
     alloc: A,
@@ -134,40 +134,25 @@ fn push_field<A: Allocator + Copy>(
     lists: PanelLists,
     field: Field,
 ) -> Result<(), AllocError> {
-    let Some(key) = key_of(field) else {
+    if field == Field::LineTerm {
         return Ok(());
-    };
-    let values = panel_values(alloc, model, papers, lists, field)?;
-    push_values(text, key, field, &values)
-}
-
-/// The key of a field; version 1 of the text has none for line termination.
-fn key_of(field: Field) -> Option<&'static str> {
-    match field {
-        Field::Size => Some("size"),
-        Field::Orientation => Some("orientation"),
-        Field::Vmi => Some("vmi"),
-        Field::Font => Some("font"),
-        Field::Copies => Some("copies"),
-        Field::Sides => Some("sides"),
-        Field::Tray => Some("tray"),
-        Field::LineTerm => None,
     }
+    let values = panel_values(alloc, model, papers, lists, field)?;
+    push_values(text, field, &values)
 }
 
 /// Appends the line of a field: its key and its values, of which a VMI counts ten-thousandths.
 fn push_values<A: Allocator>(
     text: &mut Vec<u8, A>,
-    key: &str,
     field: Field,
     values: &[u32],
 ) -> Result<(), AllocError> {
-    if field != Field::Vmi {
-        return push_list(text, key, values);
-    }
-    push(text, key)?;
+    text.extend_from_slice(field.key())?;
     for value in values {
-        push_amount(text, *value)?;
+        match field {
+            Field::Vmi => push_amount(text, *value)?,
+            _ => push_number(text, *value)?,
+        }
     }
     push(text, "\n")
 }

@@ -14,13 +14,13 @@ use Rattle.device_profile.specs.declared.key.Key.{Key}
 use Rattle.device_profile.specs.declared.key.Key.TheVariants.{Trays, Duplex, Page, Face}
 use Rattle.device_profile.specs.Draft.{Draft, no_draft, draft_after}
 use Rattle.device_profile.specs.Faces.{has_face}
+use Rattle.device_profile.specs.Key.{every_key}
 use Rattle.device_profile.specs.Printer.{Printer, has_size, has_orientation, has_row, has_every_pair, are_sides}
 use Rattle.device_profile.specs.Text.{draft_of, draft_of_lines, format_of, has_its_choices, has_its_pages, is_complete, is_duplex, is_given, printer_of, printer_of_draft, printer_of_text, words_of_line}
 use Rattle.device_profile.specs.Words.{words_of}
 use Rattle.profile_faults.specs.declared.fault.TextFault.{TextFault}
 use Rattle.profile_faults.specs.declared.fault.TextFault.TheVariants.{TooLong, NoVersion, OnLine, Ungiven, NoPageOfSize, NoPageInOrientation, NoPair, NoFace, NoTray, NoSides}
 use Rattle.profile_faults.specs.Faults.{fault_of, draft_past_lines, faults_on_lines, given_or, key_on_line}
-use Rattle.profile_faults.specs.Keys.{every_key}
 use Rattle.profile_faults.specs.Laws.{BeginsWith, IsToldBy, TellsWhyRefused}
 use Rattle.profile_faults.specs.TextFaults.{faults_behind, faults_of, faults_of_lines}
 use Rattle.profile_faults.specs.Whole.{face_faults, faults_in, faults_of_size, faults_of_whole, orientation_faults, orientations_of, page_faults, pair_faults, sides_faults, size_faults, sizes_of, tray_faults, ungiven_faults, where_settled}

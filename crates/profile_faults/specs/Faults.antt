@@ -2,6 +2,7 @@
 use Rattle.std.specs.Prelude.{ℕ, ◌+◌, List, [], ◌∷◌, ◌++◌, Bool, false, Option, None, Result, Ok, Err}
 use Rattle.std.specs.List.{list_any}
 use Rattle.std.specs.Option.{option_map_or}
+use Rattle.std.specs.Str.{bytes_eq}
 use Rattle.device_profile.specs.declared.fault.Cause.{Cause}
 use Rattle.device_profile.specs.declared.fault.Cause.TheVariants.{Version, Range, Missing, NoGeometry}
 use Rattle.device_profile.specs.declared.fault.ProfileFault.{ProfileFault}
@@ -9,10 +10,10 @@ use Rattle.device_profile.specs.declared.fault.ProfileFault.TheVariants.{Fault}
 use Rattle.device_profile.specs.declared.format.Format.{Format}
 use Rattle.device_profile.specs.declared.key.Key.{Key}
 use Rattle.device_profile.specs.Draft.{Draft, draft_after, key_of}
+use Rattle.device_profile.specs.Key.{key_word}
 use Rattle.device_profile.specs.Text.{words_of_line}
 use Rattle.profile_faults.specs.declared.fault.TextFault.{TextFault}
 use Rattle.profile_faults.specs.declared.fault.TextFault.TheVariants.{TooLong, NoVersion, OnLine, Ungiven, NoPageOfSize, NoPageInOrientation, NoPair, NoFace, NoTray, NoSides}
-use Rattle.profile_faults.specs.Keys.{is_same_key}
 
 -- the line of a fault, or 0 for the whole
 abbrev pub line_of : TextFault → ℕ
@@ -73,6 +74,10 @@ abbrev pub faults_on_lines : Format → Draft → ℕ → List (List ℕ) → Li
 faults_on_lines format draft number [] = []
 faults_on_lines format draft number (line ∷ more) =
     fault_on_line format draft number line ++ faults_on_lines format (draft_past format draft line) (number + 1) more
+
+-- the two are the same key
+abbrev pub is_same_key : Key → Key → Bool
+is_same_key a b = bytes_eq (key_word a) (key_word b)
 
 -- the fault is one of a line of this key
 abbrev pub is_on_line_of : Key → TextFault → Bool

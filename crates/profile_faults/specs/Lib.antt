@@ -1,4 +1,3 @@
-pub mod Keys
 pub mod Faults
 pub mod Whole
 pub mod TextFaults

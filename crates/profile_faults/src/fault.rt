@@ -1,8 +1,7 @@
 //! What can be wrong with a profile's text.
 ghost use Rattle.std.specs.Prelude.{◌≡◌};
-ghost use Rattle.profile_faults.specs.Faults.{has_faulty_line, is_on_line_of};
+ghost use Rattle.profile_faults.specs.Faults.{has_faulty_line, is_on_line_of, is_same_key};
 
-use crate::key_words::is_same_key;
 use device_profile::{Cause, Key, ProfileFault};
 
 /// Something that is wrong with a profile's text.
@@ -80,6 +79,13 @@ impl TextFault {
             cause: self.cause(),
         }
     }
+}
+
+/// Whether the two are the same key.
+fn is_same_key(a: Key, b: Key) -> bool
+    ensures { result ≡ is_same_key a b }
+{
+    a.word() == b.word()
 }
 
 /// Whether a fault is one of a line of this key.

@@ -4,7 +4,6 @@ ghost use Rattle.device_profile.specs.Printer.{are_sides};
 ghost use Rattle.profile_faults.specs.Whole.{face_faults, faults_in, faults_of_size, faults_of_whole, is_settled, is_ungiven, orientation_faults, orientations_of, page_faults, pair_faults, sides_faults, size_faults, sizes_of, tray_faults, ungiven_faults, where_settled, with_new};
 
 use crate::fault::{TextFault, has_faulty_line};
-use crate::key_words::KEYS;
 use device_profile::{Draft, Field, Geometry, Key, has_face, has_orientation, has_row, has_size};
 use std::alloc::{AllocError, Allocator};
 
@@ -48,7 +47,8 @@ fn ungiven_faults<A: Allocator + Copy>(
 ) -> Result<Vec<TextFault, A>, AllocError>
     ensures { IfOk result (λ faults. faults.items ≡ ungiven_faults draft.now on_lines.now) }
 {
-    KEYS.iter()
+    Key::ALL
+        .iter()
         .filter(|key| is_ungiven(draft, on_lines, **key))
         .map(|key| TextFault::Ungiven(*key))
         .collect(alloc)

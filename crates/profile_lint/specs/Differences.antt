@@ -9,13 +9,13 @@ use Rattle.device_profile.specs.declared.font.FontRequest.{FontRequest}
 use Rattle.device_profile.specs.declared.geometry.Geometry.{Geometry}
 use Rattle.device_profile.specs.declared.key.Key.TheVariants.{Choice}
 use Rattle.device_profile.specs.Faces.{Face, face_at, face_for}
+use Rattle.device_profile.specs.Field.{field_key}
 use Rattle.device_profile.specs.Printer.{Printer, row_at}
 use Rattle.profile_lint.specs.declared.difference.Difference.{Difference}
 use Rattle.profile_lint.specs.declared.difference.Difference.TheVariants.{Pages, Faces, Lists}
 use Rattle.profile_lint.specs.declared.difference.FirstDifference.{FirstDifference}
 use Rattle.profile_lint.specs.declared.hint.Area.TheVariants.{Physical, Logical, Printable}
 use Rattle.profile_lint.specs.FaceHints.{are_same_codes}
-use Rattle.profile_faults.specs.Keys.{key_word}
 use Rattle.profile_lint.specs.PageHints.{is_same_area}
 use Rattle.profile_lint.specs.Rules.{meaning_of}
 use Rattle.shown_bytes.specs.Shown.{shown}
@@ -99,7 +99,7 @@ difference_words (Pages size orientation) =
     codes "their pages of size " ++ decimal size ++ codes " and orientation " ++ decimal orientation ++ codes " are not the same: jobs may differ (33)"
 difference_words (Faces face) =
     codes "face " ++ decimal face ++ codes " of the first has other numbers or codes than the face of that request of the other: letters may differ (33) or be missing (14)"
-difference_words (Lists field) = codes "their lists '" ++ key_word (Choice field) ++ codes "' are not the same: " ++ meaning_of (Choice field)
+difference_words (Lists field) = codes "their lists '" ++ field_key field ++ codes "' are not the same: " ++ meaning_of (Choice field)
 
 unfoldable pub difference_line : List ℕ → List ℕ → Difference → List ℕ
 difference_line first other difference =

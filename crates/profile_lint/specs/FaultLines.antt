@@ -5,7 +5,7 @@ use Rattle.device_profile.specs.declared.fault.Cause.TheVariants.{Version, Unkno
 use Rattle.profile_faults.specs.declared.fault.TextFault.{TextFault}
 use Rattle.profile_faults.specs.declared.fault.TextFault.TheVariants.{TooLong, NoVersion, OnLine, Ungiven, NoPageOfSize, NoPageInOrientation, NoPair, NoFace, NoTray, NoSides}
 use Rattle.profile_faults.specs.Faults.{cause_of, line_of}
-use Rattle.profile_faults.specs.Keys.{key_word}
+use Rattle.device_profile.specs.Key.{key_word}
 use Rattle.profile_lint.specs.Rules.{broken_rule, meaning_of}
 use Rattle.profile_lint.specs.Shown.{line_at, quoted}
 use Rattle.shown_bytes.specs.Shown.{shown}

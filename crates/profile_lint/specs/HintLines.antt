@@ -4,7 +4,7 @@ use Rattle.device_profile.specs.declared.field.Field.{Field}
 use Rattle.device_profile.specs.declared.field.Field.TheVariants.{Size, Orientation, Vmi, Font, Copies, Sides, Tray, LineTerm}
 use Rattle.device_profile.specs.declared.font.CodeRange.{CodeRange}
 use Rattle.device_profile.specs.declared.geometry.Geometry.{Geometry}
-use Rattle.device_profile.specs.declared.key.Key.TheVariants.{Choice}
+use Rattle.device_profile.specs.Field.{field_key}
 use Rattle.printer_models.specs.declared.face.CharacterSet.{CharacterSet}
 use Rattle.printer_models.specs.declared.face.Metrics.{Metrics}
 use Rattle.printer_models.specs.declared.paper.Paper.{Paper}
@@ -17,7 +17,6 @@ use Rattle.profile_lint.specs.declared.hint.Hint.{Hint}
 use Rattle.profile_lint.specs.declared.hint.Hint.TheVariants.{OtherArea, OddAdvance, OtherNumbers, OtherCodes, SeveralValues, FixedPanel}
 use Rattle.profile_lint.specs.declared.hint_line.Numbers.{Numbers}
 use Rattle.profile_lint.specs.FaceHints.{advance_by}
-use Rattle.profile_faults.specs.Keys.{key_word}
 use Rattle.profile_lint.specs.PageHints.{area_lengths, units_in}
 use Rattle.shown_bytes.specs.Shown.{shown}
 
@@ -109,7 +108,7 @@ command_of Tray = codes "ESC &l#H"
 command_of LineTerm = codes "ESC &k#G"
 
 unfoldable pub several_words : Field → List ℕ
-several_words field = codes "'" ++ key_word (Choice field) ++ codes "' has several values: each job has to send " ++ command_of field
+several_words field = codes "'" ++ field_key field ++ codes "' has several values: each job has to send " ++ command_of field
 
 abbrev pub fixed_hint_words : List ℕ
 fixed_hint_words = codes "each list has one value, which promises that nobody uses the panel"

@@ -2,7 +2,8 @@
 use Rattle.std.specs.Prelude.{◌==◌, nat_lt, Bool, if◌then◌else◌, List, [], ◌∷◌, ◌++◌, flat_map, length}
 use Rattle.std.specs.List.{list_all}
 use Rattle.device_profile.specs.declared.field.Field.{Field}
-use Rattle.device_profile.specs.declared.field.Field.TheVariants.{Size, Orientation, Vmi, Font, Copies, Sides, Tray, LineTerm}
+use Rattle.device_profile.specs.declared.field.Field.TheVariants.{Copies, Sides, Tray}
+use Rattle.device_profile.specs.Field.{every_field}
 use Rattle.device_profile.specs.Printer.{Printer, values_of}
 use Rattle.printer_models.specs.declared.face.Generation.TheVariants.{LaserJet5}
 use Rattle.printer_models.specs.Face.{faces_of}
@@ -10,9 +11,6 @@ use Rattle.profile_lint.specs.declared.hint.Hint.{Hint}
 use Rattle.profile_lint.specs.declared.hint.Hint.TheVariants.{SeveralValues, FixedPanel}
 use Rattle.profile_lint.specs.FaceHints.{face_hints}
 use Rattle.profile_lint.specs.PageHints.{page_hints}
-
-abbrev pub every_field : List Field
-every_field = Size ∷ Orientation ∷ Vmi ∷ Font ∷ Copies ∷ Sides ∷ Tray ∷ LineTerm ∷ []
 
 -- the panel may have several values in a field that jobs seldom set
 abbrev pub several_hints : Printer → Field → List Hint

@@ -10,7 +10,6 @@ use crate::key_rules::meaning_of;
 use crate::page_hints::is_same_area;
 use crate::shown::{push_number_in, push_numbers_in, push_word_in};
 use device_profile::{Field, FontRequest, FontRow, Geometry, Key, Profile};
-use profile_faults::key_word;
 use shown_bytes::push_shown;
 use std::alloc::{AllocError, Allocator};
 
@@ -267,13 +266,7 @@ fn push_difference_words<A: Allocator>(
         Difference::Lists(field) => {
             let key = Key::Choice(field);
             let behind = b"' are not the same: ";
-            push_word_in(
-                out,
-                b"their lists '",
-                key_word(key),
-                behind,
-                meaning_of(key),
-            )
+            push_word_in(out, b"their lists '", field.key(), behind, meaning_of(key))
         }
     }
 }

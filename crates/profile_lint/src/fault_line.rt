@@ -8,7 +8,7 @@ ghost use Rattle.shown_bytes.specs.Shown.{shown};
 use crate::key_rules::{broken_rule, meaning_of};
 use crate::shown::{line_at, push_number_in, push_numbers_in, push_quoted, push_word_in};
 use device_profile::{Cause, Key};
-use profile_faults::{TextFault, key_word};
+use profile_faults::TextFault;
 use shown_bytes::{push_number, push_shown};
 use std::alloc::{AllocError, Allocator};
 
@@ -87,8 +87,7 @@ fn push_fault_words<A: Allocator>(
             push_line_fault(out, line_at(text, number), key, cause)
         }
         TextFault::Ungiven(key) => {
-            let word = key_word(key);
-            push_word_in(out, b"no line gives '", word, b"', ", meaning_of(key))
+            push_word_in(out, b"no line gives '", key.word(), b"', ", meaning_of(key))
         }
         TextFault::NoPageOfSize(size) => {
             let behind = b", but no geometry line has it";

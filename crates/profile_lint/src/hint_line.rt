@@ -7,9 +7,8 @@ ghost use Rattle.profile_lint.specs.HintLines.{advance_hint_words, area_hint_wor
 use crate::face_hints::advance_by;
 use crate::hint::{Area, Hint, units_in};
 use crate::shown::{push_number_in, push_numbers_in, push_word_in};
-use device_profile::{CodeRange, Field, Geometry, Key};
+use device_profile::{CodeRange, Field, Geometry};
 use printer_models::{CharacterSet, Cut, Paper, page_of};
-use profile_faults::key_word;
 use shown_bytes::{push_number, push_shown};
 use std::alloc::{AllocError, Allocator};
 use tick_length::Length;
@@ -378,9 +377,8 @@ fn push_range<A: Allocator>(out: &mut Vec<u8, A>, range: CodeRange) -> Result<()
 fn push_several_values<A: Allocator>(out: &mut Vec<u8, A>, field: Field) -> Result<(), AllocError>
     ensures { OnOk result (out.new.items ≡ out.old.items ++ several_words field) }
 {
-    let word = key_word(Key::Choice(field));
     let behind = b"' has several values: each job has to send ";
-    push_word_in(out, b"'", word, behind, command_of(field))
+    push_word_in(out, b"'", field.key(), behind, command_of(field))
 }
 
 /// The command by which a job sets a field.

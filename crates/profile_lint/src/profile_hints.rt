@@ -29,18 +29,6 @@ pub fn hints<A: Allocator + Copy>(
     Ok(hints)
 }
 
-/// The fields of a panel.
-const FIELDS: [Field; 8] = [
-    Field::Size,
-    Field::Orientation,
-    Field::Vmi,
-    Field::Font,
-    Field::Copies,
-    Field::Sides,
-    Field::Tray,
-    Field::LineTerm,
-];
-
 /// Appends the hints on the panel.
 fn push_panel_hints<A: Allocator>(
     hints: &mut Vec<Hint, A>,
@@ -85,7 +73,7 @@ fn push_fixed_hints<A: Allocator>(
 fn is_fixed<A: Allocator>(profile: &Profile<A>) -> bool
     ensures { result ≡ is_fixed profile.now }
 {
-    has_one_value(profile, &FIELDS)
+    has_one_value(profile, &Field::ALL)
 }
 
 /// Whether the panel has one value in each of these fields.

@@ -4,33 +4,12 @@ use Rattle.std.specs.Option.{option_map_or}
 use Rattle.device_profile.specs.declared.field.Field.{Field}
 use Rattle.device_profile.specs.declared.field.Field.TheVariants.{Size, Orientation, Vmi, Font, Copies, Sides, Tray, LineTerm}
 use Rattle.device_profile.specs.declared.font.FontRequest.{FontRequest}
+use Rattle.device_profile.specs.Field.{every_field, field_key, field_name}
 use Rattle.device_profile.specs.Faces.{Face, face_at}
 use Rattle.device_profile.specs.Printer.{Printer, values_of}
 use Rattle.profile_show.specs.declared.label.Label.TheVariants.{Unset}
 use Rattle.profile_show.specs.Label.{label}
 use Rattle.profile_show.specs.Words.{numbered, size_words, orientation_words, vmi_words, sides_name, termination_name, set_words, cut_words}
-
--- the key of a field in a profile
-abbrev pub key_of : Field → List ℕ
-key_of Size = codes "size"
-key_of Orientation = codes "orientation"
-key_of Vmi = codes "vmi"
-key_of Font = codes "font"
-key_of Copies = codes "copies"
-key_of Sides = codes "sides"
-key_of Tray = codes "tray"
-key_of LineTerm = codes "lineterm"
-
--- its name in a verdict
-abbrev pub name_of : Field → List ℕ
-name_of Size = codes "Size"
-name_of Orientation = codes "Orientation"
-name_of Vmi = codes "Vmi"
-name_of Font = codes "Font"
-name_of Copies = codes "Copies"
-name_of Sides = codes "Sides"
-name_of Tray = codes "Tray"
-name_of LineTerm = codes "LineTerm"
 
 -- what selects a font
 unfoldable pub request_words : FontRequest → List ℕ
@@ -64,7 +43,7 @@ values_words faces field (value ∷ more) =
 
 -- the finding on a job that leaves a field unset
 unfoldable pub unset_finding : Field → List ℕ
-unset_finding field = codes "12 Unset(" ++ name_of field ++ codes ")"
+unset_finding field = codes "12 Unset(" ++ field_name field ++ codes ")"
 
 -- what a list of several values means
 unfoldable pub unset_words : Field → List ℕ
@@ -78,11 +57,8 @@ unset_line field values =
 -- the lines of a field
 unfoldable pub field_lines : Printer → Field → List ℕ
 field_lines printer field =
-    codes "  " ++ key_of field ++ codes ": " ++ values_words printer.faces field (values_of printer field) ++ codes "\n"
+    codes "  " ++ field_key field ++ codes ": " ++ values_words printer.faces field (values_of printer field) ++ codes "\n"
     ++ unset_line field (values_of printer field)
-
-abbrev pub every_field : List Field
-every_field = Size ∷ Orientation ∷ Vmi ∷ Font ∷ Copies ∷ Sides ∷ Tray ∷ LineTerm ∷ []
 
 unfoldable pub panel_lines : Printer → List ℕ
 panel_lines printer = codes "panel:\n" ++ flat_map (field_lines printer) every_field

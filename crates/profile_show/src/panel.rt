@@ -3,8 +3,6 @@ ghost use Rattle.std.specs.Prelude.{◌≡◌, ◌++◌, OnOk, flat_map};
 ghost use Rattle.profile_show.specs.Panel.{
   field_lines,
   font_words,
-  key_of,
-  name_of,
   other_words,
   panel_lines,
   request_words,
@@ -24,18 +22,6 @@ use device_profile::{Field, FontRequest, Profile};
 use shown_bytes::push_number;
 use std::alloc::{AllocError, Allocator};
 
-/// All fields, in the order in which a profile lists them.
-const FIELDS: [Field; 8] = [
-    Field::Size,
-    Field::Orientation,
-    Field::Vmi,
-    Field::Font,
-    Field::Copies,
-    Field::Sides,
-    Field::Tray,
-    Field::LineTerm,
-];
-
 /// Appends what the panel may have.
 #[tactic(auto, unfolding(crate::specs::Panel::panel_lines))]
 pub(crate) fn push_panel<A: Allocator, P: Allocator>(
@@ -45,7 +31,7 @@ pub(crate) fn push_panel<A: Allocator, P: Allocator>(
     ensures { OnOk result (text.new.items ≡ text.old.items ++ panel_lines profile.now) }
 {
     text.extend_from_slice(b"panel:\n")?;
-    push_fields(text, profile, &FIELDS)
+    push_fields(text, profile, &Field::ALL)
 }
 
 /// Appends the lines of fields.
@@ -74,7 +60,7 @@ fn push_field<A: Allocator, P: Allocator>(
 {
     let values = profile.allowed(field);
     text.extend_from_slice(b"  ")?;
-    text.extend_from_slice(key_of(field))?;
+    text.extend_from_slice(field.key())?;
     text.extend_from_slice(b": ")?;
     push_values(text, profile, field, values)?;
     text.extend_from_slice(b"\n")?;
@@ -160,7 +146,7 @@ fn push_unset_finding<A: Allocator>(text: &mut Vec<u8, A>, field: Field) -> Resu
     ensures { OnOk result (text.new.items ≡ text.old.items ++ unset_finding field) }
 {
     text.extend_from_slice(b"12 Unset(")?;
-    text.extend_from_slice(name_of(field))?;
+    text.extend_from_slice(field.name())?;
     text.extend_from_slice(b")")
 }
 
@@ -218,36 +204,4 @@ fn push_request<A: Allocator>(
     push_set(text, request.symbol_set)?;
     text.extend_from_slice(b", ")?;
     push_cut(text, request)
-}
-
-/// The key of a field in a profile.
-fn key_of(field: Field) -> &'static [u8]
-    ensures { result.now ≡ key_of field }
-{
-    match field {
-        Field::Size => b"size",
-        Field::Orientation => b"orientation",
-        Field::Vmi => b"vmi",
-        Field::Font => b"font",
-        Field::Copies => b"copies",
-        Field::Sides => b"sides",
-        Field::Tray => b"tray",
-        Field::LineTerm => b"lineterm",
-    }
-}
-
-/// The name of a field in a verdict.
-fn name_of(field: Field) -> &'static [u8]
-    ensures { result.now ≡ name_of field }
-{
-    match field {
-        Field::Size => b"Size",
-        Field::Orientation => b"Orientation",
-        Field::Vmi => b"Vmi",
-        Field::Font => b"Font",
-        Field::Copies => b"Copies",
-        Field::Sides => b"Sides",
-        Field::Tray => b"Tray",
-        Field::LineTerm => b"LineTerm",
-    }
 }

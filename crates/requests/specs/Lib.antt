@@ -1,4 +1,3 @@
-pub mod Choices
 pub mod ManyWords
 pub mod Selection
 pub mod Status

@@ -8,7 +8,7 @@ mod request;
 mod selection;
 mod status;
 
-pub use choices::{Choice, PANEL_FIELDS, PanelSetting, field_word};
+pub use choices::{Choice, PanelSetting};
 pub use many_words::{Form, ManyWords};
 pub use new_profile::NewProfile;
 pub use request::Request;

@@ -9,14 +9,9 @@ use std::alloc::Allocator;
 pub(crate) fn has_one_panel<P: Allocator>(profile: &Profile<P>) -> bool
     ensures { result ≡ has_one_panel profile.now }
 {
-    has_one_value(profile, Field::Size)
-        && has_one_value(profile, Field::Orientation)
-        && has_one_value(profile, Field::Vmi)
-        && has_one_value(profile, Field::Font)
-        && has_one_value(profile, Field::Copies)
-        && has_one_value(profile, Field::Sides)
-        && has_one_value(profile, Field::Tray)
-        && has_one_value(profile, Field::LineTerm)
+    Field::ALL
+        .iter()
+        .all(|field| has_one_value(profile, *field))
 }
 
 /// Whether the panel may have one value in this field.

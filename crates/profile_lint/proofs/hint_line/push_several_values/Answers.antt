@@ -1,7 +1,6 @@
 use Rattle.std.proofs.Common.{codes}
-use Rattle.device_profile.specs.declared.key.Key.TheVariants.{Choice}
+use Rattle.device_profile.specs.Field.{field_key}
 use Rattle.profile_lint.specs.HintLines.{command_of, several_words}
-use Rattle.profile_faults.specs.Keys.{key_word}
 use Rattle.profile_lint.proofs.Pushed.{word_is_pushed}
 use Rattle.profile_lint.proofs.hint_line.push_several_values.Goals as goal
 
@@ -9,5 +8,5 @@ pub returns : goal.returns
 unfolding several_words
 returns g c =
     word_is_pushed c.push_word_in.result c.push_word_in.new.out.items c.args.out.now.items
-    (codes "'") c.key_word-word.result.now (codes "' has several values: each job has to send ") c.command_of.result.now
-    (key_word (Choice c.args.field)) (command_of c.args.field) c.key_word-word.ensures c.command_of.ensures c.push_word_in.ensures
+    (codes "'") c.key.result.now (codes "' has several values: each job has to send ") c.command_of.result.now
+    (field_key c.args.field) (command_of c.args.field) c.key.ensures c.command_of.ensures c.push_word_in.ensures
