@@ -4,6 +4,13 @@
 ghost use Rattle.std.specs.Prelude.{◌≡◌, ◌<◌, ◌++◌, OnOk, decimal};
 ghost use Rattle.shown_bytes.specs.Shown.{hex_digit, shown, shown_byte};
 
+mod decimals;
+
+pub use decimals::{
+    digit, push_amount, push_with_four_decimals, push_with_hundredths, push_with_millionths,
+    push_with_tenth,
+};
+
 use itoa::Buffer;
 use std::alloc::{AllocError, Allocator};
 
