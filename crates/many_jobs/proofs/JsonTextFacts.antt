@@ -6,7 +6,7 @@ use Rattle.std.proofs.lemmas.Str.{IsAscii-append, IsUtf8-from_is_utf8, is_utf8-f
 use Rattle.std.proofs.lemmas.Str.Ascii.{IsAscii-nil, IsAscii-cons}
 use Rattle.std.proofs.lemmas.Bool.Decides.{nat_tests}
 use Rattle.std.proofs.lemmas.Grind.{flat_map-append}
-use Rattle.shown_bytes.specs.Shown.{hex_digit, shown, shown_byte}
+use Rattle.shown_bytes.specs.Shown.{hex_byte, hex_digit, shown, shown_byte}
 use Rattle.many_jobs.specs.JsonTexts.{backslash_doubled}
 
 -- ---- ASCII
@@ -14,7 +14,7 @@ use Rattle.many_jobs.specs.JsonTexts.{backslash_doubled}
 hex_digit-ascii : (d : ℕ) → d < 40 → hex_digit d < 128
 hex_digit-ascii d h = grind (arith, nat_tests)
 
-escaped-ascii : (plain : Bool) (b : ℕ) → (plain ≡ true → b < 128) → b < 256 → IsAscii (if plain then b ∷ [] else 92 ∷ 120 ∷ hex_digit (b / 16) ∷ hex_digit (b % 16) ∷ [])
+escaped-ascii : (plain : Bool) (b : ℕ) → (plain ≡ true → b < 128) → b < 256 → IsAscii (if plain then b ∷ [] else 92 ∷ 120 ∷ hex_byte b)
 escaped-ascii true b h l = IsAscii-cons b [] (h refl) IsAscii-nil
 escaped-ascii false b h l =
     let high = hex_digit (b / 16) in
