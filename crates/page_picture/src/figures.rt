@@ -1,6 +1,13 @@
 //! Numbers and lengths as they stand in a picture, whose unit is 1/7200 inch.
 ghost use Rattle.std.specs.Prelude.{◌≡◌, ◌≤◌, ◌<◌, ◌++◌, ◌^◌, OnOk, unsigned_abs};
-ghost use Rattle.page_picture.specs.Figures.{hundredths, inches, length_units, millionths, pair_units, units};
+ghost use Rattle.page_picture.specs.Figures.{
+  hundredths,
+  inches,
+  length_units,
+  millionths,
+  pair_units,
+  units,
+};
 
 use shown_bytes::{push_with_hundredths, push_with_millionths};
 use std::alloc::{AllocError, Allocator};

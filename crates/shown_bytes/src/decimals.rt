@@ -2,7 +2,17 @@
 //!
 //! An error means that the allocator refused a request.
 ghost use Rattle.std.specs.Prelude.{◌≡◌, ◌++◌, OnOk};
-ghost use Rattle.shown_bytes.specs.Decimals.{amount, digit, four_decimals, six_decimals, with_four_decimals, with_hundredths, with_millionths, with_tenth, without_zeros};
+ghost use Rattle.shown_bytes.specs.Decimals.{
+  amount,
+  digit,
+  four_decimals,
+  six_decimals,
+  with_four_decimals,
+  with_hundredths,
+  with_millionths,
+  with_tenth,
+  without_zeros,
+};
 
 use crate::push_number;
 use std::alloc::{AllocError, Allocator};
