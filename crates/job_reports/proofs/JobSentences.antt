@@ -34,17 +34,17 @@ use Rattle.verdict.specs.Numbers.{cause_number, reason_number}
 use Rattle.line_words.specs.Figures.{escaped_byte, named}
 use Rattle.device_profile.specs.Field.{field_name}
 use Rattle.line_words.specs.Reason.{bare_cause_name, bare_finding_name, bare_name, brackets, name_words, reason_words, short_cause, short_finding, short_reason, named_byte}
+use Rattle.shown_bytes.specs.Shown.{shown, shown_byte}
 use Rattle.preflight.specs.declared.culprit.Culprit.{Culprit}
 use Rattle.preflight.specs.declared.culprit.Culprit.TheVariants.{Text, Simple, WithData, Line}
 use Rattle.preflight.specs.declared.culprit.Judgement.{Judgement}
 use Rattle.streams.specs.declared.error.Error.{Error}
 use Rattle.streams.specs.declared.error.Error.TheVariants.{Memory, Read, Write, Turns, NoProfile, Items}
 use Rattle.job_reports.specs.CommandWords.{code_words, command_words}
-use Rattle.job_reports.specs.JobLines.{name_byte, shown_name}
 use Rattle.job_reports.specs.JobSentences.{AreNumbers, IsCulpritOfNumbers, IsOfParts, IsSentence, IsVerdictOfNumbers, IsWithin, answer_phrase, at_command, cause_phrase, error_phrase, first_of, for_printer, job_sentence, last_of, named_first, reason_phrase, subject, verdict_phrase}
 use Rattle.job_reports.specs.Reports.{Reported, culprit_of, number_told, verdict_of}
 use Rattle.requests.specs.Status.{error_words}
-use Rattle.job_reports.proofs.Within.{code_part, decimal_part, escaped_part, first_part, flat_part, joined, last_part, literal, name_at, name_part, named_part, nothing, one_of, shown_part, wider}
+use Rattle.job_reports.proofs.Within.{code_part, decimal_part, escaped_part, first_part, flat_part, joined, last_part, literal, name_at, named_part, nothing, one_of, shown_byte_part, shown_part, wider}
 
 -- ---- the item that a job fails at
 
@@ -221,7 +221,7 @@ for_part names number h = one_of 37 (number == 0) [] (codes " for " ++ get_or na
 
 cause_part : (cause : Option (List ℕ)) → IsWithin 205 (cause_phrase cause)
 cause_part None = nothing 205
-cause_part (Some words) = joined (codes ": ") (first_of 200 (shown_name words)) (literal 2 _ refl refl) (first_part 200 (shown_name words) (flat_part name_byte name_part words).shown)
+cause_part (Some words) = joined (codes ": ") (first_of 200 (shown words)) (literal 2 _ refl refl) (first_part 200 (shown words) (flat_part shown_byte shown_byte_part words).shown)
 
 answer_part : (report : Reported) (answer : Result Verdict Error) → AllByRecursion (IsWithin 32) report.names → IsCulpritOfNumbers (culprit_of report.answer) → IfOk answer IsVerdictOfNumbers → IsWithin 363 (answer_phrase report answer)
 answer_part report (Ok verdict) h k l = joined (subject report.names (number_told report.is_each (Ok verdict))) (verdict_phrase (culprit_of report.answer) verdict) (subject_part report.names _ h) (verdict_part (culprit_of report.answer) verdict k l)
@@ -245,7 +245,7 @@ verdict_numbers (Ok judgement) h = h.0
 verdict_numbers (Err error) h = tt
 
 named_first_part : (name : List ℕ) → IsWithin 505 (named_first name)
-named_first_part name = joined (last_of 500 (shown_name name)) (codes ": ") (last_part 500 (shown_name name) (flat_part name_byte name_part name).shown) (literal 2 _ refl refl)
+named_first_part name = joined (last_of 500 (shown name)) (codes ": ") (last_part 500 (shown name) (flat_part shown_byte shown_byte_part name).shown) (literal 2 _ refl refl)
 
 pub sentence_is_short : (report : Reported) → IsOfParts report → IsSentence (job_sentence report)
 sentence_is_short report h =

@@ -6,10 +6,9 @@ use Rattle.std.proofs.lemmas.Bool.{leb-true, and_parts}
 use Rattle.std.proofs.lemmas.Fmt.{decimal_by_steps, length-decimal-le}
 use Rattle.std.proofs.lemmas.List.{length-append, length-drop, length-take}
 use Rattle.line_words.specs.Figures.{escaped_byte, named}
-use Rattle.shown_bytes.specs.Shown.{hex_digit}
+use Rattle.shown_bytes.specs.Shown.{hex_byte, hex_digit, shown_byte}
 use Rattle.line_words.specs.Reason.{named_byte}
 use Rattle.job_reports.specs.CommandWords.{code_words}
-use Rattle.job_reports.specs.JobLines.{name_byte}
 use Rattle.job_reports.specs.JobSentences.{IsWithin, first_of, last_of}
 
 -- no control code
@@ -69,14 +68,18 @@ hex_shown d = elim (nat_lt d 10) as (λ b. 32 ≤ (if b then 48 + d else 87 + d)
 self_part : (n b : ℕ) → 1 ≤ n → 32 ≤ b → IsWithin n (b ∷ [])
 self_part n b l h = record { short = omega (arith, l); shown = (h, tt) }
 
-digits_part : (b : ℕ) → IsWithin 2 (hex_digit (b / 16) ∷ hex_digit (b % 16) ∷ [])
+digits_part : (b : ℕ) → IsWithin 2 (hex_byte b)
 digits_part b = record { short = omega arith; shown = (hex_shown _, (hex_shown _, tt)) }
 
-pub escaped_part : (b : ℕ) → IsWithin 4 (escaped_byte b)
-escaped_part b = one_of 4 (nat_le 33 b && nat_le b 126 && not (b == 92)) (b ∷ []) _ (λ e. self_part 4 b (omega arith) (let h : 33 ≤ b = leb-true 33 b (and_parts (nat_le 33 b) (nat_le b 126) (and_parts (nat_le 33 b && nat_le b 126) (not (b == 92)) e).0).0 in omega arith)) (joined (92 ∷ 120 ∷ []) _ (literal 2 _ refl refl) (digits_part b))
+-- a byte from the first on that stands as itself, or its digits
+byte_part : (first b : ℕ) → 32 ≤ first → IsWithin 4 (if nat_le first b && nat_le b 126 && not (b == 92) then b ∷ [] else 92 ∷ 120 ∷ hex_byte b)
+byte_part first b low = one_of 4 (nat_le first b && nat_le b 126 && not (b == 92)) (b ∷ []) _ (λ e. self_part 4 b (omega arith) (let h : first ≤ b = leb-true first b (and_parts (nat_le first b) (nat_le b 126) (and_parts (nat_le first b && nat_le b 126) (not (b == 92)) e).0).0 in omega (arith, low, h))) (joined (92 ∷ 120 ∷ []) _ (literal 2 _ refl refl) (digits_part b))
 
-pub name_part : (b : ℕ) → IsWithin 4 (name_byte b)
-name_part b = one_of 4 (b == 32) (32 ∷ []) _ (λ e. self_part 4 32 (omega arith) (omega arith)) (escaped_part b)
+pub escaped_part : (b : ℕ) → IsWithin 4 (escaped_byte b)
+escaped_part b = byte_part 33 b (omega arith)
+
+pub shown_byte_part : (b : ℕ) → IsWithin 4 (shown_byte b)
+shown_byte_part b = byte_part 32 b (omega arith)
 
 pub code_part : (b : ℕ) → IsWithin 4 (code_words b)
 code_part b =

@@ -1,19 +1,13 @@
 -- The line of a job, in a check of many jobs.
-use Rattle.std.specs.Prelude.{ℕ, ◌==◌, ◌-◌, List, [], ◌∷◌, ◌++◌, codes, flat_map, get_or, if◌then◌else◌, Option, None, Some, Result, Ok, Err}
+use Rattle.std.specs.Prelude.{ℕ, ◌==◌, ◌-◌, List, [], ◌∷◌, ◌++◌, codes, get_or, if◌then◌else◌, Option, None, Some, Result, Ok, Err}
 use Rattle.streams.specs.declared.error.Error.{Error}
 use Rattle.verdict.specs.declared.verdict.Verdict.{Verdict}
 use Rattle.verdict.specs.declared.verdict.Verdict.TheVariants.{Pass, Fail}
-use Rattle.line_words.specs.Figures.{escaped_byte, named}
+use Rattle.line_words.specs.Figures.{named}
 use Rattle.line_words.specs.Reason.{reason_words}
+use Rattle.shown_bytes.specs.Shown.{shown}
 use Rattle.job_reports.specs.Reports.{Reported, number_told, verdict_of}
 use Rattle.requests.specs.Status.{error_words}
-
--- a byte of a name as `list` writes it, but a blank is one
-abbrev pub name_byte : ℕ → List ℕ
-name_byte byte = if byte == 32 then 32 ∷ [] else escaped_byte byte
-
-abbrev pub shown_name : List ℕ → List ℕ
-shown_name name = flat_map name_byte name
 
 -- a verdict without what is wrong
 abbrev pub verdict_words : Verdict → List ℕ
@@ -37,11 +31,11 @@ reason_part (Err error) = []
 -- what the system says of a read that failed
 abbrev pub cause_part : Option (List ℕ) → List ℕ
 cause_part None = []
-cause_part (Some words) = codes ": " ++ shown_name words
+cause_part (Some words) = codes ": " ++ shown words
 
 -- a line begins with the verdict and ends with the job's name
 abbrev pub job_line : Reported → List ℕ
 job_line report =
     let result = verdict_of report.answer in
     result_words result ++ (printer_words report.names (number_told report.is_each result)
-    ++ (reason_part result ++ 32 ∷ (shown_name report.job ++ (cause_part report.cause ++ 10 ∷ []))))
+    ++ (reason_part result ++ 32 ∷ (shown report.job ++ (cause_part report.cause ++ 10 ∷ []))))

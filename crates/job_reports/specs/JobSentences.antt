@@ -6,13 +6,13 @@ use Rattle.line_words.specs.Reason.{reason_words, short_reason}
 use Rattle.preflight.specs.declared.culprit.Culprit.{Culprit}
 use Rattle.preflight.specs.declared.culprit.Culprit.TheVariants.{Text, Simple, WithData, Line}
 use Rattle.preflight.specs.declared.culprit.Judgement.{Judgement}
+use Rattle.shown_bytes.specs.Shown.{shown}
 use Rattle.streams.specs.declared.error.Error.{Error}
 use Rattle.streams.specs.declared.error.Error.TheVariants.{Memory, Read, Write, Turns, NoProfile, Items}
 use Rattle.verdict.specs.declared.reason.Reason.{Reason}
 use Rattle.verdict.specs.declared.verdict.Verdict.{Verdict}
 use Rattle.verdict.specs.declared.verdict.Verdict.TheVariants.{Pass, Fail}
 use Rattle.job_reports.specs.CommandWords.{command_words}
-use Rattle.job_reports.specs.JobLines.{shown_name}
 use Rattle.job_reports.specs.Reports.{Reported, culprit_of, number_told, verdict_of}
 use Rattle.requests.specs.Status.{error_words}
 
@@ -61,7 +61,7 @@ for_printer names number = if number == 0 then [] else codes " for " ++ get_or n
 -- what the system says of a read that failed
 abbrev pub cause_phrase : Option (List ℕ) → List ℕ
 cause_phrase None = []
-cause_phrase (Some words) = codes ": " ++ first_of 200 (shown_name words)
+cause_phrase (Some words) = codes ": " ++ first_of 200 (shown words)
 
 -- ---- the sentence
 
@@ -72,7 +72,7 @@ answer_phrase report (Err error) =
 
 -- a name that begins a sentence; of a long one the end tells more
 abbrev pub named_first : List ℕ → List ℕ
-named_first name = last_of 500 (shown_name name) ++ codes ": "
+named_first name = last_of 500 (shown name) ++ codes ": "
 
 -- a sentence begins with the job's name, and ends with the words by which a line begins or ends
 abbrev pub job_sentence : Reported → List ℕ

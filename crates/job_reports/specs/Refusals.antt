@@ -3,6 +3,7 @@ use Rattle.std.specs.Prelude.{◌≡◌, ℕ, ◌==◌, List, [], ◌∷◌, ◌
 use Rattle.device_profile.specs.declared.fault.Cause.{Cause}
 use Rattle.device_profile.specs.declared.fault.Cause.TheVariants.{Version, Unknown, Repeated, Range, Missing, NoGeometry}
 use Rattle.line_words.specs.Figures.{named}
+use Rattle.shown_bytes.specs.Shown.{shown}
 use Rattle.streams.specs.declared.error.Error.TheVariants.{Memory}
 use Rattle.streams.specs.Outlet.{OutletState}
 use Rattle.streams.specs.Writing.{Writes}
@@ -10,7 +11,7 @@ use Rattle.requests.specs.declared.status.Status.{Status}
 use Rattle.requests.specs.declared.status.Status.TheVariants.{Stopped, Told}
 use Rattle.requests.specs.declared.status.Trouble.{Trouble}
 use Rattle.requests.specs.declared.status.Trouble.TheVariants.{NoVerdict}
-use Rattle.job_reports.specs.JobLines.{cause_part, shown_name}
+use Rattle.job_reports.specs.JobLines.{cause_part}
 use Rattle.job_reports.specs.JobSentences.{cause_phrase, named_first}
 use Rattle.requests.specs.Status.{cause_name}
 
@@ -20,11 +21,11 @@ fault_part line cause = codes ":" ++ decimal line ++ 32 ∷ (cause_name cause ++
 
 -- the number of a profile, its word, the line in its text and what is wrong there
 abbrev pub refused_profile : ℕ → List ℕ → ℕ → Cause → List ℕ
-refused_profile number word line cause = codes "ERROR profile " ++ decimal number ++ 32 ∷ (shown_name word ++ fault_part line cause)
+refused_profile number word line cause = codes "ERROR profile " ++ decimal number ++ 32 ∷ (shown word ++ fault_part line cause)
 
 -- behind these words the word of what could not be read, and what the system says of that
 abbrev pub unread : List ℕ → List ℕ → Option (List ℕ) → List ℕ
-unread front word cause = front ++ (shown_name word ++ (cause_part cause ++ 10 ∷ []))
+unread front word cause = front ++ (shown word ++ (cause_part cause ++ 10 ∷ []))
 
 abbrev pub unread_profile : List ℕ → Option (List ℕ) → List ℕ
 unread_profile word cause = unread (codes "ERROR read profile ") word cause

@@ -1,12 +1,13 @@
 //! The line of a job, in a check of many.
 ghost use Rattle.std.specs.Prelude.{◌≡◌, ◌++◌, OnOk, option_map};
-ghost use Rattle.job_reports.specs.JobLines.{cause_part, job_line, name_byte, printer_words, reason_part, result_words, shown_name, verdict_words};
+ghost use Rattle.job_reports.specs.JobLines.{cause_part, job_line, printer_words, reason_part, result_words, verdict_words};
 ghost use Rattle.job_reports.specs.Reports.{number_told, verdict_of};
 
 use crate::reports::Report;
-use line_words::{push_escaped, push_named, push_reason};
+use line_words::{push_named, push_reason};
 use preflight::Verdict;
 use requests::error_words;
+use shown_bytes::push_shown;
 use std::alloc::{AllocError, Allocator};
 use streams::Error;
 
@@ -22,7 +23,7 @@ pub fn push_job_line<A: Allocator, B: Allocator>(
     push_printer(line, report)?;
     push_reason_part(line, report.verdict())?;
     line.push(b' ')?;
-    push_shown_name(line, report.job)?;
+    push_shown(line, report.job)?;
     push_cause(line, report.cause)?;
     line.push(b'\n')?;
     Ok(())
@@ -97,28 +98,8 @@ pub fn push_cause<A: Allocator>(
     match cause {
         Some(words) => {
             line.extend_from_slice(b": ")?;
-            push_shown_name(line, words)
+            push_shown(line, words)
         }
         None => Ok(()),
     }
-}
-
-/// Appends a name as `list` writes bytes, but a blank as itself.
-pub fn push_shown_name<A: Allocator>(line: &mut Vec<u8, A>, name: &[u8]) -> Result<(), AllocError>
-    ensures { OnOk result (line.new.items ≡ line.old.items ++ shown_name name.now) }
-{
-    for byte in name {
-        push_name_byte(line, *byte)?;
-    }
-    Ok(())
-}
-
-fn push_name_byte<A: Allocator>(line: &mut Vec<u8, A>, byte: u8) -> Result<(), AllocError>
-    ensures { OnOk result (line.new.items ≡ line.old.items ++ name_byte byte) }
-{
-    if byte == b' ' {
-        line.push(b' ')?;
-        return Ok(());
-    }
-    push_escaped(line, &[byte])
 }

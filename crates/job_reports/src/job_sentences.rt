@@ -4,11 +4,11 @@ ghost use Rattle.job_reports.specs.JobSentences.{IsOfParts, IsSentence, answer_p
 ghost use Rattle.job_reports.specs.Reports.{Reported, number_told, verdict_of};
 
 use crate::command_words::push_command_words;
-use crate::job_lines::push_shown_name;
 use crate::reports::Report;
 use line_words::{push_named, push_reason, short_reason};
 use preflight::{Culprit, Verdict};
 use requests::error_words;
+use shown_bytes::push_shown;
 use std::alloc::{AllocError, Allocator};
 use streams::Error;
 use verdict::Reason;
@@ -35,7 +35,7 @@ pub fn push_named_first<A: Allocator, B: Allocator>(
     ensures { OnOk result (line.new.items ≡ line.old.items ++ named_first name.now) }
 {
     let mut shown = Vec::new(alloc);
-    push_shown_name(&mut shown, name)?;
+    push_shown(&mut shown, name)?;
     push_last_of(line, 500, shown.as_slice())?;
     line.extend_from_slice(b": ")
 }
@@ -187,7 +187,7 @@ pub fn push_cause_phrase<A: Allocator + Copy>(
     match cause {
         Some(words) => {
             let mut shown = Vec::new(alloc);
-            push_shown_name(&mut shown, words)?;
+            push_shown(&mut shown, words)?;
             line.extend_from_slice(b": ")?;
             push_first_of(line, 200, shown.as_slice())
         }

@@ -12,7 +12,7 @@ mod reports;
 
 pub use command_words::push_command_words;
 pub use groups::PrinterGroup;
-pub use job_lines::{push_job_line, push_shown_name};
+pub use job_lines::push_job_line;
 pub use job_sentences::{push_job_sentence, push_named_first, sentences_are_short};
 pub use lines::line_of;
 pub use pipes::{is_pipe, refuse, refuse_pipe};

@@ -2,12 +2,13 @@
 ghost use Rattle.std.specs.Prelude.{◌≡◌, ◌++◌, IsFalse, OnOk, option_map};
 ghost use Rattle.job_reports.specs.Refusals.{fault_part, fault_phrase, line_phrase, refusal_words, refused_profile, refused_profile_sentence, unread, unread_profile, unread_profile_sentence, TellsUnread};
 
-use crate::job_lines::{push_cause, push_shown_name};
+use crate::job_lines::push_cause;
 use crate::job_sentences::{push_cause_phrase, push_named_first};
 use device_profile::Cause;
 use line_words::push_named;
 use named_inputs::system_words::system_words;
 use requests::{Status, Trouble, cause_name};
+use shown_bytes::push_shown;
 use std::alloc::{AllocError, Allocator};
 use std::io;
 use streams::{Error, Outlet, write_text};
@@ -25,7 +26,7 @@ pub fn push_refused_profile<A: Allocator>(
 {
     push_named(text, b"ERROR profile ", number)?;
     text.push(b' ')?;
-    push_shown_name(text, word.as_bytes())?;
+    push_shown(text, word.as_bytes())?;
     push_fault(text, line, cause)?;
     Ok(())
 }
@@ -68,7 +69,7 @@ pub fn push_unread<A: Allocator>(
         unread front.now word.now (option_map (λ words. words.now) cause.entry)) }
 {
     text.extend_from_slice(front)?;
-    push_shown_name(text, word.as_bytes())?;
+    push_shown(text, word.as_bytes())?;
     push_cause(text, cause)?;
     text.extend_from_slice(b"\n")
 }

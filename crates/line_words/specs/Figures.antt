@@ -1,8 +1,8 @@
 -- Numbers and bytes as they stand in lines of text.
-use Rattle.std.specs.Prelude.{ℕ, suc, ℤ, pos, negsuc, ◌+◌, ◌/◌, ◌%◌, ◌==◌, nat_le, not, ◌&&◌, if◌then◌else◌, List, [], ◌∷◌, ◌++◌, decimal}
+use Rattle.std.specs.Prelude.{ℕ, suc, ℤ, pos, negsuc, ◌==◌, nat_le, not, ◌&&◌, if◌then◌else◌, List, [], ◌∷◌, ◌++◌, decimal}
 use Rattle.std.specs.Fmt.{signed_decimal}
 use Rattle.pcl_items.specs.Spellings.Canon.{magnitude_text}
-use Rattle.shown_bytes.specs.Shown.{hex_digit}
+use Rattle.shown_bytes.specs.Shown.{hex_byte}
 
 -- a value behind its name
 abbrev pub named : List ℕ → ℕ → List ℕ
@@ -27,9 +27,6 @@ signed_word (negsuc n) = 32 ∷ 45 ∷ magnitude_text (suc n)
 
 -- ---- bytes
 
-abbrev pub hex_byte : ℕ → List ℕ
-hex_byte b = hex_digit (b / 16) ∷ hex_digit (b % 16) ∷ []
-
 -- a byte as itself; one that shows nothing, or a backslash, as \x and two hexadecimal digits
 abbrev pub escaped_byte : ℕ → List ℕ
-escaped_byte b = if nat_le 33 b && nat_le b 126 && not (b == 92) then b ∷ [] else 92 ∷ 120 ∷ hex_digit (b / 16) ∷ hex_digit (b % 16) ∷ []
+escaped_byte b = if nat_le 33 b && nat_le b 126 && not (b == 92) then b ∷ [] else 92 ∷ 120 ∷ hex_byte b

@@ -6,7 +6,8 @@ use Rattle.page_env.specs.declared.mark.Fill.{Fill}
 use Rattle.page_env.specs.declared.mark.Fill.TheVariants.{Solid, Erase, Shade, Hatch}
 use Rattle.page_env.specs.declared.mark.PageEnd.{PageEnd}
 use Rattle.page_env.specs.Mark.{Shape, Rectangle, Character, Row, Line, pixels_per_inch}
-use Rattle.line_words.specs.Figures.{number_word, length_word, value_word, signed_word, hex_byte, named}
+use Rattle.line_words.specs.Figures.{number_word, length_word, value_word, signed_word, named}
+use Rattle.shown_bytes.specs.Shown.{hex_byte}
 
 -- ---- words, each with a space before it
 

@@ -1,10 +1,11 @@
 //! Numbers and bytes as they stand in lines of text.
 ghost use Rattle.std.specs.Prelude.{◌≡◌, ◌++◌, ◌+◌, ◌%◌, ◌<◌, OnOk, decimal, flat_map};
-ghost use Rattle.line_words.specs.Figures.{escaped_byte, hex_byte, length_word, named, number_word, signed_word, value_word};
+ghost use Rattle.line_words.specs.Figures.{escaped_byte, length_word, named, number_word, signed_word, value_word};
+ghost use Rattle.shown_bytes.specs.Shown.{hex_byte};
 
 use itoa::Buffer;
 use pcl_spelling::spell_magnitude;
-use shown_bytes::{hex_digit, push_number};
+use shown_bytes::{hex_byte, push_number};
 use std::alloc::{AllocError, Allocator};
 use tick_length::Length;
 
@@ -68,19 +69,12 @@ pub fn push_signed_word<A: Allocator>(text: &mut Vec<u8, A>, n: i32) -> Result<(
     spell_magnitude(n.unsigned_abs(), text)
 }
 
-/// Appends a byte as two hexadecimal digits.
-fn push_hex_byte<A: Allocator>(text: &mut Vec<u8, A>, byte: u8) -> Result<(), AllocError>
-    ensures { OnOk result (text.new.items ≡ text.old.items ++ hex_byte byte) }
-{
-    text.extend_from_slice(&[hex_digit(byte / 16), hex_digit(byte % 16)])
-}
-
 /// Appends bytes as two hexadecimal digits each.
 pub fn push_hex<A: Allocator>(text: &mut Vec<u8, A>, bytes: &[u8]) -> Result<(), AllocError>
     ensures { OnOk result (text.new.items ≡ text.old.items ++ flat_map hex_byte bytes.now) }
 {
     for byte in bytes {
-        push_hex_byte(text, *byte)?;
+        text.extend_from_slice(&hex_byte(*byte))?;
     }
     Ok(())
 }
@@ -94,7 +88,8 @@ fn push_escaped_byte<A: Allocator>(text: &mut Vec<u8, A>, byte: u8) -> Result<()
         text.push(byte)?;
         return Ok(());
     }
-    text.extend_from_slice(&[b'\\', b'x', hex_digit(byte / 16), hex_digit(byte % 16)])
+    text.extend_from_slice(b"\\x")?;
+    text.extend_from_slice(&hex_byte(byte))
 }
 
 /// Appends bytes, and those that show nothing by their digits.

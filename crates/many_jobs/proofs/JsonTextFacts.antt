@@ -6,9 +6,7 @@ use Rattle.std.proofs.lemmas.Str.{IsAscii-append, IsUtf8-from_is_utf8, is_utf8-f
 use Rattle.std.proofs.lemmas.Str.Ascii.{IsAscii-nil, IsAscii-cons}
 use Rattle.std.proofs.lemmas.Bool.Decides.{nat_tests}
 use Rattle.std.proofs.lemmas.Grind.{flat_map-append}
-use Rattle.line_words.specs.Figures.{escaped_byte}
-use Rattle.shown_bytes.specs.Shown.{hex_digit}
-use Rattle.job_reports.specs.JobLines.{name_byte, shown_name}
+use Rattle.shown_bytes.specs.Shown.{hex_byte, hex_digit, shown, shown_byte}
 use Rattle.many_jobs.specs.JsonTexts.{backslash_doubled}
 
 -- ---- ASCII
@@ -16,7 +14,7 @@ use Rattle.many_jobs.specs.JsonTexts.{backslash_doubled}
 hex_digit-ascii : (d : ℕ) → d < 40 → hex_digit d < 128
 hex_digit-ascii d h = grind (arith, nat_tests)
 
-escaped-ascii : (shown : Bool) (b : ℕ) → (shown ≡ true → b < 128) → b < 256 → IsAscii (if shown then b ∷ [] else 92 ∷ 120 ∷ hex_digit (b / 16) ∷ hex_digit (b % 16) ∷ [])
+escaped-ascii : (plain : Bool) (b : ℕ) → (plain ≡ true → b < 128) → b < 256 → IsAscii (if plain then b ∷ [] else 92 ∷ 120 ∷ hex_byte b)
 escaped-ascii true b h l = IsAscii-cons b [] (h refl) IsAscii-nil
 escaped-ascii false b h l =
     let high = hex_digit (b / 16) in
@@ -24,19 +22,12 @@ escaped-ascii false b h l =
     IsAscii-cons 92 (120 ∷ high ∷ low ∷ []) (omega arith) (IsAscii-cons 120 (high ∷ low ∷ []) (omega arith)
     (IsAscii-cons high (low ∷ []) (hex_digit-ascii (b / 16) (omega arith)) (IsAscii-cons low [] (hex_digit-ascii (b % 16) (omega arith)) IsAscii-nil)))
 
-IsAscii-escaped_byte : (b : ℕ) → b < 256 → IsAscii (escaped_byte b)
-IsAscii-escaped_byte b h = escaped-ascii _ b (grind (arith, nat_tests)) h
+IsAscii-shown_byte : (b : ℕ) → b < 256 → IsAscii (shown_byte b)
+IsAscii-shown_byte b h = escaped-ascii _ b (grind (arith, nat_tests)) h
 
-blank_or : (is_blank : Bool) (b : ℕ) → IsAscii (escaped_byte b) → IsAscii (if is_blank then 32 ∷ [] else escaped_byte b)
-blank_or true b h = IsAscii-cons 32 [] (omega arith) IsAscii-nil
-blank_or false b h = h
-
-IsAscii-name_byte : (b : ℕ) → b < 256 → IsAscii (name_byte b)
-IsAscii-name_byte b h = blank_or _ b (IsAscii-escaped_byte b h)
-
-pub IsAscii-shown_name : (name : List ℕ) → ((k : ℕ) → get_or name k 0 < 256) → IsAscii (shown_name name)
-IsAscii-shown_name [] small = IsAscii-nil
-IsAscii-shown_name (b ∷ name) small = IsAscii-append (name_byte b) (shown_name name) (IsAscii-name_byte b (small 0)) (IsAscii-shown_name name (λ k. small (suc k)))
+pub IsAscii-shown : (name : List ℕ) → ((k : ℕ) → get_or name k 0 < 256) → IsAscii (shown name)
+IsAscii-shown [] small = IsAscii-nil
+IsAscii-shown (b ∷ name) small = IsAscii-append (shown_byte b) (shown name) (IsAscii-shown_byte b (small 0)) (IsAscii-shown name (λ k. small (suc k)))
 
 -- ---- backslashes
 
@@ -68,12 +59,12 @@ more_doubled c y old middle new same is first second =
 
 -- ---- bytes that are text, and other bytes
 
-pub text_of_utf8 : (bytes text : List ℕ) → IsUtf8 bytes → text ≡ (if is_utf8 bytes then text else shown_name bytes)
+pub text_of_utf8 : (bytes text : List ℕ) → IsUtf8 bytes → text ≡ (if is_utf8 bytes then text else shown bytes)
 text_of_utf8 bytes text valid = rw (is_utf8-from_IsUtf8 bytes valid)
 
-shown_at : (bytes text : List ℕ) (valid : Bool) → is_utf8 bytes ≡ valid → ¬ (IsUtf8 bytes) → shown_name bytes ≡ (if valid then text else shown_name bytes)
+shown_at : (bytes text : List ℕ) (valid : Bool) → is_utf8 bytes ≡ valid → ¬ (IsUtf8 bytes) → shown bytes ≡ (if valid then text else shown bytes)
 shown_at bytes text true e invalid = absurd (invalid (IsUtf8-from_is_utf8 bytes e))
 shown_at bytes text false e invalid = refl
 
-pub text_of_others : (bytes text : List ℕ) → ¬ (IsUtf8 bytes) → shown_name bytes ≡ (if is_utf8 bytes then text else shown_name bytes)
+pub text_of_others : (bytes text : List ℕ) → ¬ (IsUtf8 bytes) → shown bytes ≡ (if is_utf8 bytes then text else shown bytes)
 text_of_others bytes text invalid = shown_at bytes text _ refl invalid

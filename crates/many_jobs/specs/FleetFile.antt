@@ -6,7 +6,7 @@ use Rattle.many_jobs.specs.declared.fleet_file.FleetFault.TheVariants.{Unreadabl
 use Rattle.requests.specs.declared.status.Status.{Status}
 use Rattle.requests.specs.declared.status.Trouble.TheVariants.{Refused}
 use Rattle.job_reports.specs.Refusals.{TellsLine, unread}
-use Rattle.job_reports.specs.JobLines.{shown_name}
+use Rattle.shown_bytes.specs.Shown.{shown}
 
 -- behind those that stood there at least one more stands
 pub record AddsSome {X : Type 0} (old new : List X) : Type 0 where
@@ -16,7 +16,7 @@ pub record AddsSome {X : Type 0} (old new : List X) : Type 0 where
 
 -- a fleet by its path, and what is wrong with its text
 abbrev pub refused_text : List ℕ → List ℕ → List ℕ
-refused_text path words = codes "ERROR fleet " ++ (shown_name path ++ words)
+refused_text path words = codes "ERROR fleet " ++ (shown path ++ words)
 
 -- of one that cannot be read what the system says of that
 abbrev pub refused_fleet : List ℕ → FleetFault → Option (List ℕ) → List ℕ

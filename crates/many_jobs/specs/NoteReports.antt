@@ -7,7 +7,7 @@ use Rattle.notes.specs.declared.note.Note.{Note}
 use Rattle.notes.specs.Note.{Told, note_name, note_number, short_note}
 use Rattle.meanings.specs.Explanations.{explained_by}
 use Rattle.job_reports.specs.Groups.{Groups}
-use Rattle.job_reports.specs.JobLines.{shown_name}
+use Rattle.shown_bytes.specs.Shown.{shown}
 use Rattle.many_jobs.specs.JobObjects.{with_explanation}
 use Rattle.job_reports.specs.JobSentences.{named_first}
 use Rattle.many_jobs.specs.JsonObject.{with_number, with_text}
@@ -34,7 +34,7 @@ note_words note = decimal (note_number note) ++ codes " " ++ note_name note
 abbrev pub told_line : NoteSubject → Told → List ℕ
 told_line subject told =
     named (codes "NOTE at=") told.place ++ codes " printer=" ++ subject.printer
-    ++ codes " " ++ note_words told.note ++ codes " " ++ shown_name subject.job ++ codes "\n"
+    ++ codes " " ++ note_words told.note ++ codes " " ++ shown subject.job ++ codes "\n"
 
 -- ---- a sentence: the job's name, the printer, and the note in short words and as a line has it
 

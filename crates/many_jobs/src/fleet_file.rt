@@ -2,10 +2,11 @@
 ghost use Rattle.std.specs.Prelude.{◌≡◌, ◌++◌, IfErr, IfNone, IfOk, IsFalse, OnOk, option_map};
 ghost use Rattle.many_jobs.specs.FleetFile.{AddsSome, TellsOfFleet, refused_fleet, refused_text};
 
-use job_reports::{push_shown_name, push_unread};
+use job_reports::push_unread;
 use named_inputs::ProfileTexts;
 use named_inputs::system_words::system_words;
 use requests::{Status, Trouble};
+use shown_bytes::push_shown;
 use std::alloc::{AllocError, Allocator};
 use std::io;
 use std::path::Path;
@@ -139,7 +140,7 @@ fn push_refused<A: Allocator>(
     ensures { OnOk result (line.new.items ≡ line.old.items ++ refused_text path.now words.now) }
 {
     line.extend_from_slice(b"ERROR fleet ")?;
-    push_shown_name(line, path.as_bytes())?;
+    push_shown(line, path.as_bytes())?;
     line.extend_from_slice(words)?;
     Ok(())
 }

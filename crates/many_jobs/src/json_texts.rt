@@ -1,10 +1,10 @@
 //! Names and words as texts of JSON.
 ghost use Rattle.std.specs.Prelude.{◌≡◌, IfOk, flat_map, string_bytes};
 ghost use Rattle.std.specs.Str.{IsAscii};
-ghost use Rattle.job_reports.specs.JobLines.{shown_name};
 ghost use Rattle.many_jobs.specs.JsonTexts.{backslash_doubled, name_text, words_text};
+ghost use Rattle.shown_bytes.specs.Shown.{shown};
 
-use job_reports::push_shown_name;
+use shown_bytes::push_shown;
 use std::alloc::{AllocError, Global};
 
 /// A name as a text of JSON has it.
@@ -41,12 +41,12 @@ fn with_backslashes_doubled(memory: Global, text: &str) -> Result<String, AllocE
     Ok(doubled)
 }
 
-/// A name as `list` writes bytes.
+/// A name in which bytes that show nothing, and backslashes, stand by their digits.
 fn shown_text(memory: Global, name: &[u8]) -> Result<String, AllocError>
-    ensures { IfOk result (λ text. string_bytes text ≡ shown_name name.now) }
+    ensures { IfOk result (λ text. string_bytes text ≡ shown name.now) }
 {
     let mut words = Vec::new(memory);
-    push_shown_name(&mut words, name)?;
+    push_shown(&mut words, name)?;
     Ok(text_of(words))
 }
 

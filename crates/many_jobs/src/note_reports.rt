@@ -8,12 +8,12 @@ ghost use Rattle.many_jobs.specs.NoteReports.{note_phrase, note_words, told_in, 
 use crate::job_objects::put_explanation;
 use crate::json_object::Object;
 use crate::telling::Format;
-use job_reports::{push_named_first, push_shown_name};
+use job_reports::push_named_first;
 use line_words::push_named;
 use meanings::explain::explained_by;
 use notes::{Note, NoteText, note_name, short_note};
 use pcl_items::Place;
-use shown_bytes::push_number;
+use shown_bytes::{push_number, push_shown};
 use std::alloc::{AllocError, Allocator, Global};
 
 /// Tells the notes of a job on a printer, each with its explanation.
@@ -68,7 +68,7 @@ impl<B: Allocator + Copy> NoteReport<'_, B> {
         text.extend_from_slice(b" ")?;
         push_note_words(text, note)?;
         text.extend_from_slice(b" ")?;
-        push_shown_name(text, self.job)?;
+        push_shown(text, self.job)?;
         text.extend_from_slice(b"\n")
     }
 

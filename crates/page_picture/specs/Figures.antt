@@ -1,13 +1,6 @@
 -- Numbers and lengths as they stand in a picture, whose unit is 1/7200 inch.
-use Rattle.std.specs.Prelude.{ℕ, suc, ℤ, pos, negsuc, unsigned_abs, ◌+◌, ◌*◌, ◌/◌, ◌%◌, ◌==◌, if◌then◌else◌, List, [], ◌∷◌, ◌++◌, take, decimal, codes}
-
--- the last digit of a number
-abbrev pub digit : ℕ → ℕ
-digit n = 48 + n % 10
-
--- a number of so many hundredths: with two decimals, where it is not whole
-abbrev pub with_hundredths : ℕ → List ℕ
-with_hundredths n = decimal (n / 100) ++ (if n % 100 == 0 then [] else 46 ∷ digit (n / 10) ∷ digit n ∷ [])
+use Rattle.std.specs.Prelude.{ℕ, suc, ℤ, pos, negsuc, unsigned_abs, ◌+◌, ◌/◌, List, ◌∷◌, ◌++◌, codes}
+use Rattle.shown_bytes.specs.Decimals.{with_hundredths, with_millionths}
 
 -- ---- units
 
@@ -34,25 +27,6 @@ pair_units x y = length_units x ++ codes " " ++ length_units y
 -- how many millionths of an inch a length has, rounded; no side of a page is less than 0
 abbrev pub millionths : ℤ → ℕ
 millionths length = (unsigned_abs length + 18_288) / 36_576
-
--- the six decimals of so many millionths
-abbrev pub six_decimals : ℕ → List ℕ
-six_decimals n =
-    digit (n / 100_000) ∷ digit (n / 10_000) ∷ digit (n / 1_000) ∷ digit (n / 100) ∷ digit (n / 10) ∷ digit n ∷ []
-
--- how many of them there are up to the last that is not 0
-abbrev pub places : ℕ → ℕ
-places n =
-    if n % 100_000 == 0 then 1 else (if n % 10_000 == 0 then 2 else (if n % 1_000 == 0 then 3 else
-    (if n % 100 == 0 then 4 else (if n % 10 == 0 then 5 else 6))))
-
--- those behind a point; a whole number has none
-abbrev pub decimals : ℕ → List ℕ
-decimals n = if n % 1_000_000 == 0 then [] else 46 ∷ take (places n) (six_decimals n)
-
--- a number of so many millionths
-unfoldable pub with_millionths : ℕ → List ℕ
-with_millionths n = decimal (n / 1_000_000) ++ decimals n
 
 abbrev pub inches : ℤ → List ℕ
 inches length = with_millionths (millionths length)

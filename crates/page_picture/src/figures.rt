@@ -1,21 +1,15 @@
 //! Numbers and lengths as they stand in a picture, whose unit is 1/7200 inch.
-ghost use Rattle.std.specs.Prelude.{◌≡◌, ◌≤◌, ◌<◌, ◌++◌, ◌^◌, OnOk, decimal, unsigned_abs};
+ghost use Rattle.std.specs.Prelude.{◌≡◌, ◌≤◌, ◌<◌, ◌++◌, ◌^◌, OnOk, unsigned_abs};
 ghost use Rattle.page_picture.specs.Figures.{
-  decimals,
-  digit,
   hundredths,
   inches,
   length_units,
   millionths,
   pair_units,
-  places,
-  six_decimals,
   units,
-  with_hundredths,
-  with_millionths,
 };
 
-use shown_bytes::push_number;
+use shown_bytes::{push_with_hundredths, push_with_millionths};
 use std::alloc::{AllocError, Allocator};
 
 /// How many ticks a hundredth of a unit has.
@@ -23,24 +17,6 @@ const TICKS_PER_HUNDREDTH: u64 = 50_800;
 
 /// How many ticks a millionth of an inch has.
 const TICKS_PER_MILLIONTH_INCH: u64 = 36_576;
-
-/// The last digit of a number.
-fn digit(n: u64) -> u8
-    ensures { result ≡ digit n }
-{
-    b'0' + (n % 10) as u8
-}
-
-/// Appends a number of so many hundredths, with two decimals where it is not whole.
-fn push_with_hundredths<A: Allocator>(text: &mut Vec<u8, A>, n: u64) -> Result<(), AllocError>
-    ensures { OnOk result (text.new.items ≡ text.old.items ++ with_hundredths n) }
-{
-    push_number(text, n / 100)?;
-    if n % 100 == 0 {
-        return Ok(());
-    }
-    text.extend_from_slice(&[b'.', digit(n / 10), digit(n)])
-}
 
 // ---- units
 
@@ -95,60 +71,6 @@ fn millionths(ticks: i64) -> u64
     ensures { result ≡ millionths ticks }
 {
     (ticks.unsigned_abs() + TICKS_PER_MILLIONTH_INCH / 2) / TICKS_PER_MILLIONTH_INCH
-}
-
-/// How many decimals of millionths there are up to the last that is not 0.
-fn places(n: u64) -> usize
-    ensures value { result ≡ places n }
-    ensures small { result ≤ 6 }
-{
-    if n % 100_000 == 0 {
-        1
-    } else if n % 10_000 == 0 {
-        2
-    } else if n % 1_000 == 0 {
-        3
-    } else if n % 100 == 0 {
-        4
-    } else if n % 10 == 0 {
-        5
-    } else {
-        6
-    }
-}
-
-/// The six decimals of so many millionths.
-fn six_decimals(n: u64) -> [u8; 6]
-    ensures { result ≡ six_decimals n }
-{
-    [
-        digit(n / 100_000),
-        digit(n / 10_000),
-        digit(n / 1_000),
-        digit(n / 100),
-        digit(n / 10),
-        digit(n),
-    ]
-}
-
-/// Appends the point and the decimals of a number of so many millionths, where it has some.
-fn push_decimals<A: Allocator>(text: &mut Vec<u8, A>, n: u64) -> Result<(), AllocError>
-    ensures { OnOk result (text.new.items ≡ text.old.items ++ decimals n) }
-{
-    if n % 1_000_000 == 0 {
-        return Ok(());
-    }
-    text.push(b'.')?;
-    text.extend_from_slice(&six_decimals(n)[..places(n)])
-}
-
-/// Appends a number of so many millionths.
-#[tactic(auto, unfolding(crate::specs::Figures::with_millionths))]
-fn push_with_millionths<A: Allocator>(text: &mut Vec<u8, A>, n: u64) -> Result<(), AllocError>
-    ensures { OnOk result (text.new.items ≡ text.old.items ++ with_millionths n) }
-{
-    push_number(text, n / 1_000_000)?;
-    push_decimals(text, n)
 }
 
 /// Appends so many ticks in inches.

@@ -1,5 +1,5 @@
 -- The text of a profile with what a printer's answer tells.
-use Rattle.std.specs.Prelude.{ℕ, ◌+◌, ◌/◌, ◌%◌, ◌==◌, Bool, nat_eq, List, [], ◌∷◌, ◌++◌, Option, None, Some, find, codes, decimal, flat_map, option_map, unwrap_or, if◌then◌else◌}
+use Rattle.std.specs.Prelude.{ℕ, Bool, nat_eq, List, [], ◌∷◌, ◌++◌, Option, None, Some, find, codes, decimal, flat_map, option_map, unwrap_or, if◌then◌else◌}
 use Rattle.std.specs.List.{starts_with}
 use Rattle.std.specs.Option.{option_and_then, option_map_or}
 use Rattle.std.specs.Str.{bytes_eq}
@@ -12,6 +12,7 @@ use Rattle.device_profile.specs.Field.{every_field, field_key}
 use Rattle.device_profile.specs.Printer.{Printer}
 use Rattle.device_profile.specs.Text.{format_of, words_of_line}
 use Rattle.device_profile.specs.Words.{words_of}
+use Rattle.shown_bytes.specs.Decimals.{with_four_decimals}
 use Rattle.pjl_answer.specs.declared.warning.Warning.{Warning}
 use Rattle.pjl_answer.specs.Told.{told}
 use Rattle.pjl_answer.specs.Warning.{warning_lines, warnings}
@@ -20,19 +21,9 @@ use Rattle.pjl_answer.specs.Warning.{warning_lines, warnings}
 unfoldable pub field_of : List ℕ → Option Field
 field_of word = find (λ field. bytes_eq (field_key field) word) every_field
 
--- four decimals behind a point, where there are some
-abbrev pub decimals : ℕ → List ℕ
-decimals n =
-    if n % 10_000 == 0 then []
-    else 46 ∷ (48 + n / 1_000 % 10) ∷ (48 + n / 100 % 10) ∷ (48 + n / 10 % 10) ∷ (48 + n % 10) ∷ []
-
--- so many ten-thousandths
-abbrev pub amount : ℕ → List ℕ
-amount n = decimal (n / 10_000) ++ decimals n
-
 -- a value of a field; the VMI counts ten-thousandths
 abbrev pub value_word : Field → ℕ → List ℕ
-value_word Vmi n = amount n
+value_word Vmi n = with_four_decimals n
 value_word Size n = decimal n
 value_word Orientation n = decimal n
 value_word Font n = decimal n

@@ -1,10 +1,10 @@
 //! The text of a profile with what a printer's answer tells.
-ghost use Rattle.std.specs.Prelude.{◌≡◌, ◌++◌, ◌∷◌, [], ◌+◌, ◌%◌, decimal, find, flat_map, option_map, IfOk, OnOk};
+ghost use Rattle.std.specs.Prelude.{◌≡◌, ◌++◌, ◌∷◌, [], find, flat_map, option_map, IfOk, OnOk};
 ghost use Rattle.std.specs.Str.{bytes_eq};
 ghost use Rattle.std.specs.Str.Lines.{lines};
 ghost use Rattle.device_profile.specs.Field.{field_key};
 ghost use Rattle.device_profile.specs.Text.{words_of_line};
-ghost use Rattle.pjl_answer.specs.Text.{added_line, amount, answered_text, behind_comments, behind_warnings, decimals, field_line, field_of, field_on, first_line, head_with, is_warning, line_after, origin, told_line, value_word, version};
+ghost use Rattle.pjl_answer.specs.Text.{added_line, answered_text, behind_comments, behind_warnings, field_line, field_of, field_on, first_line, head_with, is_warning, line_after, origin, told_line, value_word, version};
 ghost use Rattle.pjl_answer.specs.Told.{values_in};
 ghost use Rattle.pjl_answer.specs.Warning.{warnings};
 
@@ -12,7 +12,7 @@ use crate::told_values::{ToldValues, told};
 use crate::warning::Warning;
 use crate::warning_text::push_warning_lines;
 use device_profile::{Field, Format, Profile, format_of, next_line, next_word};
-use shown_bytes::push_number;
+use shown_bytes::{push_number, push_with_four_decimals};
 use std::alloc::{AllocError, Allocator};
 
 /// The first of these fields whose line begins with a word.
@@ -41,28 +41,6 @@ fn field_on(line: &[u8]) -> Option<Field>
     field_of(word)
 }
 
-/// The last digit of a number.
-fn last_digit(number: u32) -> u8
-    ensures { result ≡ 48 + number % 10 }
-{
-    b'0' + (number % 10) as u8
-}
-
-/// Appends the decimals of so many ten-thousandths, where there are some.
-fn push_decimals<A: Allocator>(text: &mut Vec<u8, A>, amount: u32) -> Result<(), AllocError>
-    ensures { OnOk result (text.new.items ≡ text.old.items ++ decimals amount) }
-{
-    if amount % 10_000 == 0 {
-        return Ok(());
-    }
-    text.push(b'.')?;
-    text.push(last_digit(amount / 1_000))?;
-    text.push(last_digit(amount / 100))?;
-    text.push(last_digit(amount / 10))?;
-    text.push(last_digit(amount))?;
-    Ok(())
-}
-
 /// Appends a value of a field; the VMI counts ten-thousandths.
 fn push_value<A: Allocator>(
     text: &mut Vec<u8, A>,
@@ -74,8 +52,7 @@ fn push_value<A: Allocator>(
     if field != Field::Vmi {
         return push_number(text, u64::from(value));
     }
-    push_number(text, u64::from(value / 10_000))?;
-    push_decimals(text, value)
+    push_with_four_decimals(text, u64::from(value))
 }
 
 /// Appends the line of a field, without its end.

@@ -4,8 +4,7 @@ ghost use Rattle.pjl_answer.specs.Warning.{note_words, shown_value, warning_at, 
 
 use crate::entry::entry_of;
 use crate::warning::{PjlNote, Warning};
-use itoa::Buffer;
-use shown_bytes::push_shown;
+use shown_bytes::{push_number, push_shown};
 use std::alloc::{AllocError, Allocator};
 
 impl PjlNote {
@@ -56,9 +55,8 @@ fn push_warning_at<A: Allocator>(
     ensures { OnOk result
         (text.new.items ≡ text.old.items ++ warning_at warning (line, value.now)) }
 {
-    let mut digits = Buffer::new();
     text.extend_from_slice(b"line ")?;
-    text.extend_from_slice(digits.format(line).as_bytes())?;
+    push_number(text, line)?;
     text.extend_from_slice(b": ")?;
     text.extend_from_slice(warning.variable.word().as_bytes())?;
     text.extend_from_slice(b"=")?;

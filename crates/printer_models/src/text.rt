@@ -7,7 +7,7 @@ use crate::page::{ORIENTATIONS, page_numbers};
 use crate::panel_lists::{PanelLists, panel_values};
 use crate::paper::Paper;
 use device_profile::Field;
-use itoa::{Buffer, Integer};
+use shown_bytes::{push_amount, push_number};
 use std::alloc::{AllocError, Allocator};
 
 /// The text of the profile of a model, with these papers and a panel of these lists.
@@ -150,8 +150,8 @@ fn push_values<A: Allocator>(
     text.extend_from_slice(field.key())?;
     for value in values {
         match field {
-            Field::Vmi => push_amount(text, *value)?,
-            _ => push_number(text, *value)?,
+            Field::Vmi => push_amount_word(text, *value)?,
+            _ => push_number_word(text, *value)?,
         }
     }
     push(text, "\n")
@@ -171,7 +171,7 @@ fn push_list<A: Allocator>(
 /// Appends whole numbers, each behind a space.
 fn push_numbers<A: Allocator>(text: &mut Vec<u8, A>, numbers: &[u32]) -> Result<(), AllocError> {
     for number in numbers {
-        push_number(text, *number)?;
+        push_number_word(text, *number)?;
     }
     Ok(())
 }
@@ -216,11 +216,11 @@ fn push_face<A: Allocator>(
     face: FaceRow,
 ) -> Result<(), AllocError> {
     let metrics = face.cut.metrics();
-    push(text, "face")?;
-    push_number(text, id)?;
+    push(text, "face ")?;
+    push_number(text, id as u64)?;
     push_set(text, face.set)?;
-    push_amount(text, metrics.pitch)?;
-    push_amount(text, metrics.height)?;
+    push_amount_word(text, metrics.pitch)?;
+    push_amount_word(text, metrics.height)?;
     push_numbers(
         text,
         &[
@@ -239,23 +239,8 @@ fn push_face<A: Allocator>(
 /// Appends a symbol set behind a space.
 fn push_set<A: Allocator>(text: &mut Vec<u8, A>, set: CharacterSet) -> Result<(), AllocError> {
     let symbol_set = set.symbol_set();
-    push_number(text, symbol_set.number / 10_000)?;
+    push_number_word(text, symbol_set.number / 10_000)?;
     text.push(symbol_set.letter)?;
-    Ok(())
-}
-
-/// Appends ten-thousandths, as a number with at most two decimals behind a space.
-fn push_amount<A: Allocator>(text: &mut Vec<u8, A>, amount: u32) -> Result<(), AllocError> {
-    push_number(text, amount / 10_000)?;
-    let hundredths = amount / 100 % 100;
-    if hundredths == 0 {
-        return Ok(());
-    }
-    text.push(b'.')?;
-    text.push(b'0' + (hundredths / 10) as u8)?;
-    if hundredths % 10 != 0 {
-        text.push(b'0' + (hundredths % 10) as u8)?;
-    }
     Ok(())
 }
 
@@ -263,29 +248,23 @@ fn push_amount<A: Allocator>(text: &mut Vec<u8, A>, amount: u32) -> Result<(), A
 fn push_codes<A: Allocator>(text: &mut Vec<u8, A>, set: CharacterSet) -> Result<(), AllocError> {
     for (index, range) in set.codes().iter().enumerate() {
         text.push(if index == 0 { b' ' } else { b',' })?;
-        push_digits(text, range.first)?;
+        push_number(text, u64::from(range.first))?;
         text.push(b'-')?;
-        push_digits(text, range.last)?;
+        push_number(text, u64::from(range.last))?;
     }
     Ok(())
 }
 
 /// Appends a number behind a space.
-fn push_number<A: Allocator, I: Integer>(
-    text: &mut Vec<u8, A>,
-    number: I,
-) -> Result<(), AllocError> {
+fn push_number_word<A: Allocator>(text: &mut Vec<u8, A>, number: u32) -> Result<(), AllocError> {
     text.push(b' ')?;
-    push_digits(text, number)
+    push_number(text, u64::from(number))
 }
 
-/// Appends a number.
-fn push_digits<A: Allocator, I: Integer>(
-    text: &mut Vec<u8, A>,
-    number: I,
-) -> Result<(), AllocError> {
-    let mut digits = Buffer::new();
-    push(text, digits.format(number))
+/// Appends so many ten-thousandths behind a space.
+fn push_amount_word<A: Allocator>(text: &mut Vec<u8, A>, amount: u32) -> Result<(), AllocError> {
+    text.push(b' ')?;
+    push_amount(text, u64::from(amount))
 }
 
 /// Appends words.

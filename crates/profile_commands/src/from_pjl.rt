@@ -12,14 +12,13 @@ ghost use Rattle.job_reports.specs.Refusals.{TellsLine};
 use crate::new::tell_mismatch;
 use crate::profile_reading::read_text;
 use crate::whole_text::write_whole;
-use itoa::Buffer;
 use job_reports::tell_unread;
 use named_inputs::{ProfileTexts, read_front};
 use pjl_answer::{AnswerError, Answered, MOST_BYTES, answered_text, asked_papers};
 use printer_models::{NewError, PanelLists, Paper, new_text};
 use profile_lint::faults_text;
 use requests::{Status, Trouble};
-use shown_bytes::push_shown;
+use shown_bytes::{push_number, push_shown};
 use std::alloc::{AllocError, Allocator};
 use streams::{Error, Outlet, Source, write_text};
 
@@ -237,10 +236,9 @@ fn no_answer<A: Allocator>(alloc: A, word: &str, line: u64) -> Result<Vec<u8, A>
     ensures { IfOk result (λ lines. lines.items ≡ odd_answer word.now line) }
 {
     let mut lines = Vec::new(alloc);
-    let mut digits = Buffer::new();
     push_shown(&mut lines, word.as_bytes())?;
     lines.extend_from_slice(b":")?;
-    lines.extend_from_slice(digits.format(line).as_bytes())?;
+    push_number(&mut lines, line)?;
     lines.extend_from_slice(b": this is not a printer's answer to '@PJL INFO VARIABLES'\n")?;
     Ok(lines)
 }

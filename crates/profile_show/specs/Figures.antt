@@ -1,42 +1,15 @@
 -- Numbers and lengths as they stand in a text.
-use Rattle.std.specs.Prelude.{ℕ, suc, ℤ, pos, negsuc, unsigned_abs, ◌+◌, ◌*◌, ◌/◌, ◌%◌, ◌==◌, if◌then◌else◌, List, [], ◌∷◌, ◌++◌, take, decimal, codes}
+use Rattle.std.specs.Prelude.{ℕ, suc, ℤ, pos, negsuc, unsigned_abs, ◌+◌, ◌*◌, ◌/◌, ◌==◌, if◌then◌else◌, List, [], ◌∷◌, ◌++◌, decimal, codes}
+use Rattle.shown_bytes.specs.Decimals.{amount, with_hundredths, with_tenth}
 use Rattle.profile_show.specs.declared.figures.LengthUnit.{LengthUnit}
 use Rattle.profile_show.specs.declared.figures.LengthUnit.TheVariants.{Millimetres, Inches, Dots}
 
 -- ---- numbers
 
--- the last digit of a number
-abbrev pub digit : ℕ → ℕ
-digit n = 48 + n % 10
-
--- the four decimals of so many ten-thousandths
-abbrev pub four_decimals : ℕ → List ℕ
-four_decimals n = digit (n / 1_000) ∷ digit (n / 100) ∷ digit (n / 10) ∷ digit n ∷ []
-
--- how many of them there are up to the last that is not 0
-abbrev pub places : ℕ → ℕ
-places n = if n % 1_000 == 0 then 1 else (if n % 100 == 0 then 2 else (if n % 10 == 0 then 3 else 4))
-
--- those behind a point; a whole number has none
-abbrev pub decimals : ℕ → List ℕ
-decimals n = if n % 10_000 == 0 then [] else 46 ∷ take (places n) (four_decimals n)
-
--- a value of so many ten-thousandths
-unfoldable pub amount : ℕ → List ℕ
-amount n = decimal (n / 10_000) ++ decimals n
-
--- the same where it may be less than 0
+-- a value of so many ten-thousandths, which may be less than 0
 unfoldable pub signed_amount : ℤ → List ℕ
 signed_amount (pos n) = amount n
 signed_amount (negsuc n) = 45 ∷ amount (suc n)
-
--- a number with one decimal, of so many tenths
-abbrev pub with_tenth : ℕ → List ℕ
-with_tenth n = decimal (n / 10) ++ 46 ∷ digit n ∷ []
-
--- a number of so many hundredths: with two decimals, where it is not whole
-abbrev pub with_hundredths : ℕ → List ℕ
-with_hundredths n = decimal (n / 100) ++ (if n % 100 == 0 then [] else 46 ∷ digit (n / 10) ∷ digit n ∷ [])
 
 -- how many there are of something, as `1 level` or `2 levels`
 abbrev pub counted : ℕ → List ℕ → List ℕ

@@ -6,7 +6,8 @@ use Rattle.device_profile.specs.declared.font.FontRequest.{FontRequest}
 use Rattle.device_profile.specs.declared.font.SymbolSet.{SymbolSet}
 use Rattle.printer_models.specs.declared.paper.Paper.{Paper}
 use Rattle.printer_models.specs.Paper.{word_of, code_of, every_paper}
-use Rattle.profile_show.specs.Figures.{amount, signed_amount, counted}
+use Rattle.shown_bytes.specs.Decimals.{amount}
+use Rattle.profile_show.specs.Figures.{signed_amount, counted}
 
 -- a name, and its number in brackets
 abbrev pub numbered : List ℕ → ℕ → List ℕ

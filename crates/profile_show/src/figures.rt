@@ -1,23 +1,16 @@
 //! Numbers and lengths as they stand in a text.
-ghost use Rattle.std.specs.Prelude.{◌≡◌, ◌+◌, ◌++◌, ◌<◌, ◌≤◌, ◌^◌, OnOk, decimal};
+ghost use Rattle.std.specs.Prelude.{◌≡◌, ◌+◌, ◌++◌, ◌<◌, ◌≤◌, ◌^◌, OnOk};
 ghost use Rattle.profile_show.specs.Figures.{
-  amount,
   counted,
-  decimals,
-  digit,
-  four_decimals,
   in_7200ths,
   length_in,
   parts_of,
-  places,
   sides_in,
   signed_amount,
   unit_name,
-  with_hundredths,
-  with_tenth,
 };
 
-use shown_bytes::push_number;
+use shown_bytes::{push_amount, push_number, push_with_hundredths, push_with_tenth};
 use std::alloc::{AllocError, Allocator};
 use tick_length::Length;
 
@@ -44,56 +37,6 @@ const TICKS_PER_HUNDREDTH_DOT: u64 = 1_219_200;
 /// How many ticks 1/7200 inch has.
 const TICKS_PER_7200TH: u64 = 5_080_000;
 
-/// The last digit of a number.
-fn digit(n: u64) -> u8
-    ensures { result ≡ digit n }
-{
-    b'0' + (n % 10) as u8
-}
-
-/// How many decimals of ten-thousandths there are up to the last that is not 0.
-fn places(n: u64) -> usize
-    ensures value { result ≡ places n }
-    ensures small { result ≤ 4 }
-{
-    if n % 1_000 == 0 {
-        1
-    } else if n % 100 == 0 {
-        2
-    } else if n % 10 == 0 {
-        3
-    } else {
-        4
-    }
-}
-
-/// The four decimals of so many ten-thousandths.
-fn four_decimals(n: u64) -> [u8; 4]
-    ensures { result ≡ four_decimals n }
-{
-    [digit(n / 1_000), digit(n / 100), digit(n / 10), digit(n)]
-}
-
-/// Appends the point and the decimals of a value of so many ten-thousandths, where it has some.
-fn push_decimals<A: Allocator>(text: &mut Vec<u8, A>, n: u64) -> Result<(), AllocError>
-    ensures { OnOk result (text.new.items ≡ text.old.items ++ decimals n) }
-{
-    if n % 10_000 == 0 {
-        return Ok(());
-    }
-    text.push(b'.')?;
-    text.extend_from_slice(&four_decimals(n)[..places(n)])
-}
-
-/// Appends a value of so many ten-thousandths.
-#[tactic(auto, unfolding(crate::specs::Figures::amount))]
-pub(crate) fn push_amount<A: Allocator>(text: &mut Vec<u8, A>, n: u64) -> Result<(), AllocError>
-    ensures { OnOk result (text.new.items ≡ text.old.items ++ amount n) }
-{
-    push_number(text, n / 10_000)?;
-    push_decimals(text, n)
-}
-
 /// Appends a value of so many ten-thousandths, which may be less than 0.
 #[tactic(auto, unfolding(crate::specs::Figures::signed_amount))]
 pub(crate) fn push_signed_amount<A: Allocator>(
@@ -106,25 +49,6 @@ pub(crate) fn push_signed_amount<A: Allocator>(
         text.push(b'-')?;
     }
     push_amount(text, u64::from(n.unsigned_abs()))
-}
-
-/// Appends a number with one decimal, of so many tenths.
-fn push_with_tenth<A: Allocator>(text: &mut Vec<u8, A>, n: u64) -> Result<(), AllocError>
-    ensures { OnOk result (text.new.items ≡ text.old.items ++ with_tenth n) }
-{
-    push_number(text, n / 10)?;
-    text.extend_from_slice(&[b'.', digit(n)])
-}
-
-/// Appends a number of so many hundredths, with two decimals where it is not whole.
-fn push_with_hundredths<A: Allocator>(text: &mut Vec<u8, A>, n: u64) -> Result<(), AllocError>
-    ensures { OnOk result (text.new.items ≡ text.old.items ++ with_hundredths n) }
-{
-    push_number(text, n / 100)?;
-    if n % 100 == 0 {
-        return Ok(());
-    }
-    text.extend_from_slice(&[b'.', digit(n / 10), digit(n)])
 }
 
 /// Appends how many there are of something, as `1 level` or `2 levels`.

@@ -22,10 +22,10 @@ ghost use Rattle.profile_show.specs.Words.{
   weight_words,
 };
 
-use crate::figures::{push_amount, push_counted, push_signed_amount};
+use crate::figures::{push_counted, push_signed_amount};
 use device_profile::{FontRequest, SymbolSet};
 use printer_models::{PAPERS, Paper};
-use shown_bytes::push_number;
+use shown_bytes::{push_amount, push_number};
 use std::alloc::{AllocError, Allocator};
 
 /// Appends a name, and its number in brackets.

@@ -2,7 +2,14 @@
 #![tactic(auto)]
 
 ghost use Rattle.std.specs.Prelude.{◌≡◌, ◌<◌, ◌++◌, OnOk, decimal};
-ghost use Rattle.shown_bytes.specs.Shown.{hex_digit, shown, shown_byte};
+ghost use Rattle.shown_bytes.specs.Shown.{hex_byte, hex_digit, shown, shown_byte};
+
+mod decimals;
+
+pub use decimals::{
+    digit, push_amount, push_with_four_decimals, push_with_hundredths, push_with_millionths,
+    push_with_tenth,
+};
 
 use itoa::Buffer;
 use std::alloc::{AllocError, Allocator};
@@ -18,7 +25,7 @@ pub fn push_number<A: Allocator>(text: &mut Vec<u8, A>, number: u64) -> Result<(
 }
 
 /// A digit to base 16, in small letters.
-pub fn hex_digit(digit: u8) -> u8
+fn hex_digit(digit: u8) -> u8
     requires { digit < 16 }
     ensures { result ≡ hex_digit digit }
 {
@@ -27,6 +34,13 @@ pub fn hex_digit(digit: u8) -> u8
     } else {
         b'a' + (digit - 10)
     }
+}
+
+/// A byte by two digits to base 16.
+pub fn hex_byte(byte: u8) -> [u8; 2]
+    ensures { result ≡ hex_byte byte }
+{
+    [hex_digit(byte / 16), hex_digit(byte % 16)]
 }
 
 /// Appends a byte as itself, and one that shows nothing, or a backslash, as `\x` and two
@@ -38,7 +52,8 @@ fn push_shown_byte<A: Allocator>(out: &mut Vec<u8, A>, byte: u8) -> Result<(), A
         out.push(byte)?;
         return Ok(());
     }
-    out.extend_from_slice(&[b'\\', b'x', hex_digit(byte / 16), hex_digit(byte % 16)])
+    out.extend_from_slice(b"\\x")?;
+    out.extend_from_slice(&hex_byte(byte))
 }
 
 /// Appends bytes of a name or a line, and those that show nothing, and backslashes, by their

@@ -1,22 +1,12 @@
 -- Numbers as they stand in the sheet, in its commands and in print.
-use Rattle.std.specs.Prelude.{ℕ, ℤ, pos, int_lt, unsigned_abs, ◌+◌, ◌/◌, ◌%◌, ◌==◌, List, [], ◌∷◌, ◌++◌, decimal, if◌then◌else◌}
+use Rattle.std.specs.Prelude.{ℕ, ℤ, pos, int_lt, unsigned_abs, ◌/◌, ◌%◌, ◌==◌, List, [], ◌∷◌, ◌++◌, if◌then◌else◌}
 use Rattle.device_profile.specs.declared.font.SymbolSet.{SymbolSet}
+use Rattle.shown_bytes.specs.Decimals.{with_four_decimals, with_hundredths, with_tenth}
 use Rattle.test_sheet.specs.Dots.{tenths_of_millimetres}
 
--- a digit, from 0 to 9, as a byte
-abbrev pub digit : ℕ → ℕ
-digit n = 48 + n % 10
-
--- the point and the decimals of so many ten-thousandths: none, two or four
-abbrev pub decimals : ℕ → List ℕ
-decimals n =
-    if n % 10_000 == 0 then []
-    else (if n % 100 == 0 then 46 ∷ digit (n / 1_000) ∷ digit (n / 100) ∷ []
-    else 46 ∷ digit (n / 1_000) ∷ digit (n / 100) ∷ digit (n / 10) ∷ digit n ∷ [])
-
--- so many ten-thousandths
+-- so many ten-thousandths: with two or four decimals, where that is no whole number
 unfoldable pub amount : ℕ → List ℕ
-amount n = decimal (n / 10_000) ++ decimals n
+amount n = if n % 100 == 0 then with_hundredths (n / 100) else with_four_decimals n
 
 -- the same with its sign
 unfoldable pub signed_amount : ℤ → List ℕ
@@ -28,5 +18,4 @@ symbol_set set = amount set.number ++ set.letter ∷ []
 
 -- so many ticks in millimetres with one decimal
 unfoldable pub millimetres : ℕ → List ℕ
-millimetres ticks =
-    decimal (tenths_of_millimetres ticks / 10) ++ 46 ∷ digit (tenths_of_millimetres ticks) ∷ []
+millimetres ticks = with_tenth (tenths_of_millimetres ticks)

@@ -3,11 +3,12 @@ use Rattle.std.specs.Prelude.{ℕ, zero, suc, unsigned_abs, ◌+◌, ◌-◌, �
 use Rattle.std.specs.List.{list_any}
 use Rattle.device_profile.specs.declared.geometry.Geometry.{Geometry}
 use Rattle.device_profile.specs.Faces.{Face}
+use Rattle.shown_bytes.specs.Decimals.{digit}
 use Rattle.test_sheet.specs.declared.area.Area.{Area}
 use Rattle.test_sheet.specs.Area.{area_of}
 use Rattle.test_sheet.specs.Commands.{page_request, font_request, move_to, move_across, line_down, form_feed}
 use Rattle.test_sheet.specs.Dots.{dot, nearest_dots}
-use Rattle.test_sheet.specs.Figures.{digit, amount, millimetres}
+use Rattle.test_sheet.specs.Figures.{amount, millimetres}
 use Rattle.test_sheet.specs.Lines.{baseline, indent, line_top, words_on}
 use Rattle.test_sheet.specs.Marks.{columns_from, fits_at, rule_at, words_at, words_from}
 use Rattle.test_sheet.specs.OwnPage.{numbered, numbers}

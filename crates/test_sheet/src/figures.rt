@@ -1,48 +1,22 @@
 //! Numbers as they stand in the sheet, in its commands and in print.
-ghost use Rattle.std.specs.Prelude.{◌≡◌, ◌++◌, ◌≤◌, ◌^◌, OnOk, decimal};
-ghost use Rattle.test_sheet.specs.Figures.{amount, decimals, digit, millimetres, signed_amount, symbol_set};
+ghost use Rattle.std.specs.Prelude.{◌≡◌, ◌++◌, ◌≤◌, ◌^◌, OnOk};
+ghost use Rattle.test_sheet.specs.Figures.{amount, millimetres, signed_amount, symbol_set};
 
 use crate::dots::tenths_of_millimetres;
 use device_profile::SymbolSet;
-use shown_bytes::push_number;
+use shown_bytes::{push_with_four_decimals, push_with_hundredths, push_with_tenth};
 use std::alloc::{AllocError, Allocator};
 
-/// The last digit of a number, as a byte.
-pub(crate) fn digit(number: u64) -> u8
-    ensures { result ≡ digit number }
-{
-    b'0' + (number % 10) as u8
-}
-
-/// Appends the point and the decimals of so many ten-thousandths: none, two or four.
-fn push_decimals<A: Allocator>(text: &mut Vec<u8, A>, n: u32) -> Result<(), AllocError>
-    ensures { OnOk result (text.new.items ≡ text.old.items ++ decimals n) }
-{
-    if n % 10_000 == 0 {
-        return Ok(());
-    }
-    let n = u64::from(n);
-    let four = [
-        b'.',
-        digit(n / 1_000),
-        digit(n / 100),
-        digit(n / 10),
-        digit(n),
-    ];
-    if n % 100 == 0 {
-        text.extend_from_slice(&[b'.', digit(n / 1_000), digit(n / 100)])
-    } else {
-        text.extend_from_slice(&four)
-    }
-}
-
-/// Appends so many ten-thousandths.
+/// Appends so many ten-thousandths, with two or four decimals where that is no whole number.
 #[tactic(auto, unfolding(crate::specs::Figures::amount))]
 pub(crate) fn push_amount<A: Allocator>(text: &mut Vec<u8, A>, n: u32) -> Result<(), AllocError>
     ensures { OnOk result (text.new.items ≡ text.old.items ++ amount n) }
 {
-    push_number(text, u64::from(n / 10_000))?;
-    push_decimals(text, n)
+    if n % 100 == 0 {
+        push_with_hundredths(text, u64::from(n / 100))
+    } else {
+        push_with_four_decimals(text, u64::from(n))
+    }
 }
 
 /// Appends so many ten-thousandths, which may be less than 0.
@@ -81,7 +55,5 @@ pub(crate) fn push_millimetres<A: Allocator>(
     requires { ticks ≤ 2 ^ 62 }
     ensures { OnOk result (text.new.items ≡ text.old.items ++ millimetres ticks) }
 {
-    let tenths = tenths_of_millimetres(ticks);
-    push_number(text, tenths / 10)?;
-    text.extend_from_slice(&[b'.', digit(tenths)])
+    push_with_tenth(text, tenths_of_millimetres(ticks))
 }

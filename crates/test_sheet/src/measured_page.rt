@@ -7,12 +7,12 @@ ghost use Rattle.test_sheet.specs.MeasuredPage.{bottom_distance, column_count, c
 use crate::area::{Area, area_of};
 use crate::commands::{push_font_request, push_move_across, push_move_to, push_page_request};
 use crate::dots::{DOT, nearest_dots, ticks_of};
-use crate::figures::{digit, push_amount, push_millimetres};
+use crate::figures::{push_amount, push_millimetres};
 use crate::lines::{baseline, indent, line_top, push_words_on};
 use crate::marks::{columns_from, fits_at, push_rule_at, push_words_at, push_words_from};
 use crate::own_page::{NUMBERS, numbered};
 use device_profile::{FontRow, Geometry};
-use shown_bytes::push_number;
+use shown_bytes::{digit, push_number};
 use std::alloc::{AllocError, Allocator};
 
 /// Appends rules of two dots along the four edges of the area.

@@ -1,6 +1,6 @@
 use Rattle.std.proofs.Common.{◌≡◌, ◌++◌, take}
 use Rattle.std.specs.List.{flat_map}
-use Rattle.line_words.specs.Figures.{hex_byte}
+use Rattle.shown_bytes.specs.Shown.{hex_byte}
 use Rattle.line_words.proofs.figures.push_hex.Given as goal
 
 abbrev pub invariant-loop-byte : goal.invariant-loop-byte
