@@ -15,7 +15,7 @@ use Rattle.profile_lint.specs.declared.difference.Difference.TheVariants.{Pages,
 use Rattle.profile_lint.specs.declared.difference.FirstDifference.{FirstDifference}
 use Rattle.profile_lint.specs.declared.hint.Area.TheVariants.{Physical, Logical, Printable}
 use Rattle.profile_lint.specs.FaceHints.{are_same_codes}
-use Rattle.profile_faults.specs.Keys.{key_word}
+use Rattle.profile_lint.specs.Keys.{key_word}
 use Rattle.profile_lint.specs.PageHints.{is_same_area}
 use Rattle.profile_lint.specs.Rules.{meaning_of}
 use Rattle.shown_bytes.specs.Shown.{shown}

@@ -2,10 +2,10 @@
 use Rattle.std.specs.Prelude.{ℕ, ◌==◌, if◌then◌else◌, List, [], ◌∷◌, ◌++◌, codes, decimal}
 use Rattle.device_profile.specs.declared.fault.Cause.{Cause}
 use Rattle.device_profile.specs.declared.fault.Cause.TheVariants.{Version, Unknown, Repeated, Range, Missing, NoGeometry}
-use Rattle.profile_faults.specs.declared.fault.TextFault.{TextFault}
-use Rattle.profile_faults.specs.declared.fault.TextFault.TheVariants.{TooLong, NoVersion, OnLine, Ungiven, NoPageOfSize, NoPageInOrientation, NoPair, NoFace, NoTray, NoSides}
-use Rattle.profile_faults.specs.Faults.{cause_of, line_of}
-use Rattle.profile_faults.specs.Keys.{key_word}
+use Rattle.profile_lint.specs.declared.fault.TextFault.{TextFault}
+use Rattle.profile_lint.specs.declared.fault.TextFault.TheVariants.{TooLong, NoVersion, OnLine, Ungiven, NoPageOfSize, NoPageInOrientation, NoPair, NoFace, NoTray, NoSides}
+use Rattle.profile_lint.specs.Faults.{cause_of, line_of}
+use Rattle.profile_lint.specs.Keys.{key_word}
 use Rattle.profile_lint.specs.Rules.{broken_rule, meaning_of}
 use Rattle.profile_lint.specs.Shown.{line_at, quoted}
 use Rattle.shown_bytes.specs.Shown.{shown}

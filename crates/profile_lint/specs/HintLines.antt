@@ -17,7 +17,7 @@ use Rattle.profile_lint.specs.declared.hint.Hint.{Hint}
 use Rattle.profile_lint.specs.declared.hint.Hint.TheVariants.{OtherArea, OddAdvance, OtherNumbers, OtherCodes, SeveralValues, FixedPanel}
 use Rattle.profile_lint.specs.declared.hint_line.Numbers.{Numbers}
 use Rattle.profile_lint.specs.FaceHints.{advance_by}
-use Rattle.profile_faults.specs.Keys.{key_word}
+use Rattle.profile_lint.specs.Keys.{key_word}
 use Rattle.profile_lint.specs.PageHints.{area_lengths, units_in}
 use Rattle.shown_bytes.specs.Shown.{shown}
 

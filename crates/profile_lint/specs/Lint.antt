@@ -8,7 +8,7 @@ use Rattle.profile_lint.specs.Differences.{difference_line, first_difference}
 use Rattle.profile_lint.specs.FaultLines.{fault_line}
 use Rattle.profile_lint.specs.HintLines.{hint_line}
 use Rattle.profile_lint.specs.Hints.{hints_of}
-use Rattle.profile_faults.specs.TextFaults.{faults_of}
+use Rattle.profile_lint.specs.TextFaults.{faults_of}
 
 -- a text under the word that names it
 pub record Named : Type 0 where

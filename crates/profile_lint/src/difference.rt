@@ -7,10 +7,10 @@ use crate::face_hints::are_same_codes;
 use crate::hint::Area;
 use crate::hint_line::push_hinted_file;
 use crate::key_rules::meaning_of;
+use crate::key_words::key_word;
 use crate::page_hints::is_same_area;
 use crate::shown::{push_number_in, push_numbers_in, push_word_in};
 use device_profile::{Field, FontRequest, FontRow, Geometry, Key, Profile};
-use profile_faults::key_word;
 use shown_bytes::push_shown;
 use std::alloc::{AllocError, Allocator};
 

@@ -5,10 +5,11 @@ ghost use Rattle.profile_lint.specs.Rules.{broken_rule};
 ghost use Rattle.profile_lint.specs.Shown.{quoted};
 ghost use Rattle.shown_bytes.specs.Shown.{shown};
 
+use crate::fault::TextFault;
 use crate::key_rules::{broken_rule, meaning_of};
+use crate::key_words::key_word;
 use crate::shown::{line_at, push_number_in, push_numbers_in, push_quoted, push_word_in};
 use device_profile::{Cause, Key};
-use profile_faults::{TextFault, key_word};
 use shown_bytes::{push_number, push_shown};
 use std::alloc::{AllocError, Allocator};
 

@@ -6,10 +6,10 @@ ghost use Rattle.profile_lint.specs.HintLines.{advance_hint_words, area_hint_wor
 
 use crate::face_hints::advance_by;
 use crate::hint::{Area, Hint, units_in};
+use crate::key_words::key_word;
 use crate::shown::{push_number_in, push_numbers_in, push_word_in};
 use device_profile::{CodeRange, Field, Geometry, Key};
 use printer_models::{CharacterSet, Cut, Paper, page_of};
-use profile_faults::key_word;
 use shown_bytes::{push_number, push_shown};
 use std::alloc::{AllocError, Allocator};
 use tick_length::Length;

@@ -1,7 +1,7 @@
 use Rattle.std.proofs.Common.{codes}
 use Rattle.device_profile.specs.declared.key.Key.TheVariants.{Choice}
 use Rattle.profile_lint.specs.HintLines.{command_of, several_words}
-use Rattle.profile_faults.specs.Keys.{key_word}
+use Rattle.profile_lint.specs.Keys.{key_word}
 use Rattle.profile_lint.proofs.Pushed.{word_is_pushed}
 use Rattle.profile_lint.proofs.hint_line.push_several_values.Goals as goal
 

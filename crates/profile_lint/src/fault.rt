@@ -1,6 +1,6 @@
 //! What can be wrong with a profile's text.
 ghost use Rattle.std.specs.Prelude.{◌≡◌};
-ghost use Rattle.profile_faults.specs.Faults.{has_faulty_line, is_on_line_of};
+ghost use Rattle.profile_lint.specs.Faults.{has_faulty_line, is_on_line_of};
 
 use crate::key_words::is_same_key;
 use device_profile::{Cause, Key, ProfileFault};
@@ -40,7 +40,7 @@ pub enum TextFault {
 
 impl TextFault {
     ghost use Rattle.std.specs.Prelude.{◌≡◌};
-    ghost use Rattle.profile_faults.specs.Faults.{cause_of, fault_of, line_of};
+    ghost use Rattle.profile_lint.specs.Faults.{cause_of, fault_of, line_of};
 
     /// The number of the line, which counts from 1, or 0 where the whole is wrong.
     pub fn line(self) -> u64

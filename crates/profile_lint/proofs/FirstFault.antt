@@ -17,14 +17,14 @@ use Rattle.device_profile.specs.Faces.{has_face}
 use Rattle.device_profile.specs.Printer.{Printer, has_size, has_orientation, has_row, has_every_pair, are_sides}
 use Rattle.device_profile.specs.Text.{draft_of, draft_of_lines, format_of, has_its_choices, has_its_pages, is_complete, is_duplex, is_given, printer_of, printer_of_draft, printer_of_text, words_of_line}
 use Rattle.device_profile.specs.Words.{words_of}
-use Rattle.profile_faults.specs.declared.fault.TextFault.{TextFault}
-use Rattle.profile_faults.specs.declared.fault.TextFault.TheVariants.{TooLong, NoVersion, OnLine, Ungiven, NoPageOfSize, NoPageInOrientation, NoPair, NoFace, NoTray, NoSides}
-use Rattle.profile_faults.specs.Faults.{fault_of, draft_past_lines, faults_on_lines, given_or, key_on_line}
-use Rattle.profile_faults.specs.Keys.{every_key}
-use Rattle.profile_faults.specs.Laws.{BeginsWith, IsToldBy, TellsWhyRefused}
-use Rattle.profile_faults.specs.TextFaults.{faults_behind, faults_of, faults_of_lines}
-use Rattle.profile_faults.specs.Whole.{face_faults, faults_in, faults_of_size, faults_of_whole, orientation_faults, orientations_of, page_faults, pair_faults, sides_faults, size_faults, sizes_of, tray_faults, ungiven_faults, where_settled}
-use Rattle.profile_faults.proofs.Each.{every_pair}
+use Rattle.profile_lint.specs.declared.fault.TextFault.{TextFault}
+use Rattle.profile_lint.specs.declared.fault.TextFault.TheVariants.{TooLong, NoVersion, OnLine, Ungiven, NoPageOfSize, NoPageInOrientation, NoPair, NoFace, NoTray, NoSides}
+use Rattle.profile_lint.specs.Faults.{fault_of, draft_past_lines, faults_on_lines, given_or, key_on_line}
+use Rattle.profile_lint.specs.Keys.{every_key}
+use Rattle.profile_lint.specs.Laws.{BeginsWith, IsToldBy, TellsWhyRefused}
+use Rattle.profile_lint.specs.TextFaults.{faults_behind, faults_of, faults_of_lines}
+use Rattle.profile_lint.specs.Whole.{face_faults, faults_in, faults_of_size, faults_of_whole, orientation_faults, orientations_of, page_faults, pair_faults, sides_faults, size_faults, sizes_of, tray_faults, ungiven_faults, where_settled}
+use Rattle.profile_lint.proofs.Each.{every_pair}
 
 -- where a test holds there is no fault, and else the first is this one
 abbrev Tells : Bool → ProfileFault → List TextFault → Type 0

@@ -1,7 +1,7 @@
 use Rattle.std.proofs.Common.{◌≡◌, ◌+◌, ◌≤◌, ◌++◌, length}
 use Rattle.std.specs.Str.Lines.{lines}
-use Rattle.profile_faults.specs.Faults.{draft_past_lines, faults_on_lines}
-use Rattle.profile_faults.proofs.text_faults.faults_on_lines.Given as goal
+use Rattle.profile_lint.specs.Faults.{draft_past_lines, faults_on_lines}
+use Rattle.profile_lint.proofs.text_faults.faults_on_lines.Given as goal
 
 abbrev pub invariant-loop-line : goal.invariant-loop-line
 invariant-loop-line g l =

@@ -6,7 +6,7 @@ use Rattle.std.proofs.lemmas.Bool.{eqb-true}
 use Rattle.std.proofs.lemmas.List.Folds.{list_all-append}
 use Rattle.device_profile.specs.declared.geometry.Geometry.{Geometry}
 use Rattle.device_profile.specs.Printer.{has_row, has_every_pair}
-use Rattle.profile_faults.specs.Whole.{with_new, sizes_of, orientations_of}
+use Rattle.profile_lint.specs.Whole.{with_new, sizes_of, orientations_of}
 
 twice : (a b : Bool) → (a && b) ≡ ((a && b) && a)
 twice true true = refl

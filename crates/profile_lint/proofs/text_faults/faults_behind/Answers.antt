@@ -2,11 +2,11 @@ use Rattle.std.proofs.Common.{◌≡◌, ℕ, List, ◌++◌, ap, ◌∙◌}
 use Rattle.std.specs.Str.Lines.{lines}
 use Rattle.device_profile.specs.declared.format.Format.{Format}
 use Rattle.device_profile.specs.Draft.{Draft, no_draft}
-use Rattle.profile_faults.specs.declared.fault.TextFault.{TextFault}
-use Rattle.profile_faults.specs.Faults.{draft_past_lines, faults_on_lines}
-use Rattle.profile_faults.specs.TextFaults.{faults_behind}
-use Rattle.profile_faults.specs.Whole.{faults_of_whole}
-use Rattle.profile_faults.proofs.text_faults.faults_behind.Goals as goal
+use Rattle.profile_lint.specs.declared.fault.TextFault.{TextFault}
+use Rattle.profile_lint.specs.Faults.{draft_past_lines, faults_on_lines}
+use Rattle.profile_lint.specs.TextFaults.{faults_behind}
+use Rattle.profile_lint.specs.Whole.{faults_of_whole}
+use Rattle.profile_lint.proofs.text_faults.faults_behind.Goals as goal
 
 joined : (format : Format) (more : List (List ℕ)) (first past : Draft) (on_lines seen of_whole added all : List TextFault)
     → first ≡ no_draft format → on_lines ≡ faults_on_lines format first 2 more → past ≡ draft_past_lines format first more

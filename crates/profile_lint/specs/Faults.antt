@@ -10,9 +10,9 @@ use Rattle.device_profile.specs.declared.format.Format.{Format}
 use Rattle.device_profile.specs.declared.key.Key.{Key}
 use Rattle.device_profile.specs.Draft.{Draft, draft_after, key_of}
 use Rattle.device_profile.specs.Text.{words_of_line}
-use Rattle.profile_faults.specs.declared.fault.TextFault.{TextFault}
-use Rattle.profile_faults.specs.declared.fault.TextFault.TheVariants.{TooLong, NoVersion, OnLine, Ungiven, NoPageOfSize, NoPageInOrientation, NoPair, NoFace, NoTray, NoSides}
-use Rattle.profile_faults.specs.Keys.{is_same_key}
+use Rattle.profile_lint.specs.declared.fault.TextFault.{TextFault}
+use Rattle.profile_lint.specs.declared.fault.TextFault.TheVariants.{TooLong, NoVersion, OnLine, Ungiven, NoPageOfSize, NoPageInOrientation, NoPair, NoFace, NoTray, NoSides}
+use Rattle.profile_lint.specs.Keys.{is_same_key}
 
 -- the line of a fault, or 0 for the whole
 abbrev pub line_of : TextFault → ℕ

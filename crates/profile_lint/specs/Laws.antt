@@ -3,9 +3,9 @@ use Rattle.std.specs.Prelude.{◌≡◌, ℕ, List, [], Some, option_map, slice_
 use Rattle.device_profile.specs.declared.fault.ProfileFault.{ProfileFault}
 use Rattle.device_profile.specs.Printer.{Printer}
 use Rattle.device_profile.specs.Text.{printer_of_text}
-use Rattle.profile_faults.specs.declared.fault.TextFault.{TextFault}
-use Rattle.profile_faults.specs.Faults.{fault_of}
-use Rattle.profile_faults.specs.TextFaults.{faults_of}
+use Rattle.profile_lint.specs.declared.fault.TextFault.{TextFault}
+use Rattle.profile_lint.specs.Faults.{fault_of}
+use Rattle.profile_lint.specs.TextFaults.{faults_of}
 
 -- this fault is the first
 abbrev pub BeginsWith : List TextFault → ProfileFault → Type 0

@@ -6,10 +6,10 @@ use Rattle.device_profile.specs.declared.format.Format.{Format}
 use Rattle.device_profile.specs.Draft.{no_draft}
 use Rattle.device_profile.specs.Text.{format_of}
 use Rattle.device_profile.specs.Words.{words_of}
-use Rattle.profile_faults.specs.declared.fault.TextFault.{TextFault}
-use Rattle.profile_faults.specs.declared.fault.TextFault.TheVariants.{TooLong, NoVersion}
-use Rattle.profile_faults.specs.Faults.{draft_past_lines, faults_on_lines}
-use Rattle.profile_faults.specs.Whole.{faults_of_whole}
+use Rattle.profile_lint.specs.declared.fault.TextFault.{TextFault}
+use Rattle.profile_lint.specs.declared.fault.TextFault.TheVariants.{TooLong, NoVersion}
+use Rattle.profile_lint.specs.Faults.{draft_past_lines, faults_on_lines}
+use Rattle.profile_lint.specs.Whole.{faults_of_whole}
 
 -- of the lines behind the first of a text of this version, and then of the whole
 abbrev pub faults_behind : Format → List (List ℕ) → List TextFault

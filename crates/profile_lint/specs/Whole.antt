@@ -8,10 +8,10 @@ use Rattle.device_profile.specs.Draft.{Draft}
 use Rattle.device_profile.specs.Faces.{has_face}
 use Rattle.device_profile.specs.Printer.{has_size, has_orientation, has_row, are_sides}
 use Rattle.device_profile.specs.Text.{is_given, is_duplex}
-use Rattle.profile_faults.specs.declared.fault.TextFault.{TextFault}
-use Rattle.profile_faults.specs.declared.fault.TextFault.TheVariants.{Ungiven, NoPageOfSize, NoPageInOrientation, NoPair, NoFace, NoTray, NoSides}
-use Rattle.profile_faults.specs.Faults.{has_faulty_line}
-use Rattle.profile_faults.specs.Keys.{every_key}
+use Rattle.profile_lint.specs.declared.fault.TextFault.{TextFault}
+use Rattle.profile_lint.specs.declared.fault.TextFault.TheVariants.{Ungiven, NoPageOfSize, NoPageInOrientation, NoPair, NoFace, NoTray, NoSides}
+use Rattle.profile_lint.specs.Faults.{has_faulty_line}
+use Rattle.profile_lint.specs.Keys.{every_key}
 
 -- no line has this key, not even a faulty one
 abbrev pub is_ungiven : Draft → List TextFault → Key → Bool

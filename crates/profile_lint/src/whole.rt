@@ -1,7 +1,7 @@
 //! What is wrong with the whole of what the good lines of a text give.
 ghost use Rattle.std.specs.Prelude.{◌≡◌, IfOk, OnOk};
 ghost use Rattle.device_profile.specs.Printer.{are_sides};
-ghost use Rattle.profile_faults.specs.Whole.{face_faults, faults_in, faults_of_size, faults_of_whole, is_settled, is_ungiven, orientation_faults, orientations_of, page_faults, pair_faults, sides_faults, size_faults, sizes_of, tray_faults, ungiven_faults, where_settled, with_new};
+ghost use Rattle.profile_lint.specs.Whole.{face_faults, faults_in, faults_of_size, faults_of_whole, is_settled, is_ungiven, orientation_faults, orientations_of, page_faults, pair_faults, sides_faults, size_faults, sizes_of, tray_faults, ungiven_faults, where_settled, with_new};
 
 use crate::fault::{TextFault, has_faulty_line};
 use crate::key_words::KEYS;

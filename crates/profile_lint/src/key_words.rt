@@ -1,6 +1,6 @@
 //! The keys of a profile's text, by their words.
 ghost use Rattle.std.specs.Prelude.{◌≡◌};
-ghost use Rattle.profile_faults.specs.Keys.{is_same_key, key_word};
+ghost use Rattle.profile_lint.specs.Keys.{is_same_key, key_word};
 
 use device_profile::{Field, Key};
 
@@ -24,7 +24,7 @@ pub(crate) const KEYS: [Key; 15] = [
 ];
 
 /// The word that a line of this key begins with.
-pub fn key_word(key: Key) -> &'static [u8]
+pub(crate) fn key_word(key: Key) -> &'static [u8]
     ensures { result.now ≡ key_word key }
 {
     match key {

@@ -1,7 +1,7 @@
 //! A law of the faults of texts.
 
 ghost use Rattle.std.specs.Prelude.{List, ℕ};
-ghost use Rattle.profile_faults.specs.Laws.{TellsWhyRefused};
+ghost use Rattle.profile_lint.specs.Laws.{TellsWhyRefused};
 
 /// A text has no fault where it is read as a profile, and else its first fault is the one for which
 /// it is refused.

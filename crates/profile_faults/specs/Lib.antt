@@ -1,5 +1,0 @@
-pub mod Keys
-pub mod Faults
-pub mod Whole
-pub mod TextFaults
-pub mod Laws
