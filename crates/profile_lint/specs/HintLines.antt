@@ -61,8 +61,9 @@ area_hint_words area page paper = own_words area page ++ table_words area (page_
 
 abbrev pub advance_hint_words : ℕ → ℕ → ℕ → List ℕ
 advance_hint_words face pitch advance =
-    (codes "face " ++ decimal face ++ codes ": a character advances by ") ++ decimal advance ++ codes ", but by its pitch it is " ++ decimal (advance_by pitch)
-    ++ codes " in 1/7200 inch"
+    (codes "face " ++ decimal face ++ codes ": a character advances by ")
+    ++ (decimal advance ++ codes ", but by its pitch it is ")
+    ++ (decimal (advance_by pitch) ++ codes " in 1/7200 inch")
 
 -- why it matters
 unfoldable pub differ_words : List ℕ

@@ -6,7 +6,7 @@ use crate::key_words::is_same_key;
 use device_profile::{Cause, Key, ProfileFault};
 
 /// Something that is wrong with a profile's text.
-#[derive(Clone, Copy, PartialEq, Eq)]
+#[derive(Clone, Copy)]
 pub enum TextFault {
     /// The text has more than 65,536 bytes.
     TooLong,

@@ -1,5 +1,5 @@
 //! The line that is written for a hint.
-ghost use Rattle.std.specs.Prelude.{◌≡◌, ◌++◌, OnOk, codes, flat_map};
+ghost use Rattle.std.specs.Prelude.{◌≡◌, ◌++◌, OnOk, codes, decimal, flat_map};
 ghost use Rattle.printer_models.specs.Face.{metrics_of};
 ghost use Rattle.shown_bytes.specs.Shown.{shown};
 ghost use Rattle.profile_lint.specs.HintLines.{advance_hint_words, area_hint_words, area_name, area_words, code_hint_words, command_of, differ_words, hint_line, hint_words, lack_words, length_names, length_word, more_range_words, number_hint_words, numbers_of, numbers_words, own_words, page_place, paper_words, range_words, ranges_words, several_words, table_words};
@@ -240,10 +240,21 @@ fn push_advance_hint<A: Allocator>(
         (out.new.items ≡ out.old.items ++ advance_hint_words face pitch advance) }
 {
     push_number_in(out, b"face ", face, b": a character advances by ")?;
+    push_advance(out, advance, b", but by its pitch it is ")?;
+    push_advance(out, advance_by(pitch), b" in 1/7200 inch")
+}
+
+/// Appends an advance, and what follows.
+fn push_advance<A: Allocator>(
+    out: &mut Vec<u8, A>,
+    advance: u64,
+    behind: &[u8],
+) -> Result<(), AllocError>
+    ensures { OnOk result
+        (out.new.items ≡ out.old.items ++ (decimal advance ++ behind.now)) }
+{
     push_number(out, advance)?;
-    out.extend_from_slice(b", but by its pitch it is ")?;
-    push_number(out, advance_by(pitch))?;
-    out.extend_from_slice(b" in 1/7200 inch")
+    out.extend_from_slice(behind)
 }
 
 /// Appends why it matters that a face is not that of the table.

@@ -1,5 +1,5 @@
 //! What is wrong with the whole of what the good lines of a text give.
-ghost use Rattle.std.specs.Prelude.{◌≡◌, IfOk, OnOk};
+ghost use Rattle.std.specs.Prelude.{◌≡◌, ◌++◌, IfOk, OnOk};
 ghost use Rattle.device_profile.specs.Printer.{are_sides};
 ghost use Rattle.profile_lint.specs.Whole.{face_faults, faults_in, faults_of_size, faults_of_whole, is_settled, is_ungiven, orientation_faults, orientations_of, page_faults, pair_faults, sides_faults, size_faults, sizes_of, tray_faults, ungiven_faults, where_settled, with_new};
 
@@ -19,10 +19,10 @@ pub(crate) fn faults_of_whole<A: Allocator + Copy>(
     ensures { IfOk result (λ faults. faults.items ≡ faults_of_whole draft.now on_lines.now) }
 {
     let mut faults = ungiven_faults(alloc, draft, on_lines)?;
-    faults.extend_from_slice(&where_settled(alloc, draft, on_lines, Key::Page)?)?;
-    faults.extend_from_slice(&where_settled(alloc, draft, on_lines, Key::Face)?)?;
-    faults.extend_from_slice(&where_settled(alloc, draft, on_lines, Key::Trays)?)?;
-    faults.extend_from_slice(&where_settled(alloc, draft, on_lines, Key::Duplex)?)?;
+    push_where_settled(&mut faults, alloc, draft, on_lines, Key::Page)?;
+    push_where_settled(&mut faults, alloc, draft, on_lines, Key::Face)?;
+    push_where_settled(&mut faults, alloc, draft, on_lines, Key::Trays)?;
+    push_where_settled(&mut faults, alloc, draft, on_lines, Key::Duplex)?;
     Ok(faults)
 }
 
@@ -54,21 +54,21 @@ fn ungiven_faults<A: Allocator + Copy>(
         .collect(alloc)
 }
 
-/// What is wrong with the whole in what the lines of this key tell, where they give all.
-fn where_settled<A: Allocator + Copy>(
+/// Appends what is wrong with the whole in what the lines of this key tell, where they give all.
+fn push_where_settled<A: Allocator + Copy>(
+    faults: &mut Vec<TextFault, A>,
     alloc: A,
     draft: &Draft<A>,
     on_lines: &[TextFault],
     key: Key,
-) -> Result<Vec<TextFault, A>, AllocError>
-    ensures { IfOk result (λ faults.
-        faults.items ≡ where_settled draft.now on_lines.now key) }
+) -> Result<(), AllocError>
+    ensures { OnOk result (faults.new.items ≡
+        faults.old.items ++ where_settled draft.now on_lines.now key) }
 {
     if is_settled(draft, on_lines, key) {
-        faults_in(alloc, draft, key)
-    } else {
-        Ok(Vec::new(alloc))
+        faults.extend_from_slice(&faults_in(alloc, draft, key)?)?;
     }
+    Ok(())
 }
 
 /// What is wrong with the whole in what the lines of this key tell.

@@ -23,19 +23,16 @@ line_of count index = 1 + index % count
 abbrev pub amount_word : ℕ → List ℕ
 amount_word n = 32 ∷ amount n
 
--- what selects a font, each part behind a space
-unfoldable pub request_words : FontRequest → List ℕ
-request_words request =
-    32 ∷ symbol_set request.symbol_set
-    ++ amount_word request.pitch
-    ++ amount_word request.height
-    ++ amount_word request.style
-    ++ 32 ∷ signed_amount request.weight
-    ++ amount_word request.typeface
+-- the symbol set of a font, its pitch and its height, and what else selects it; each part behind a space
+unfoldable pub cut_words : FontRequest → List ℕ
+cut_words request = 32 ∷ symbol_set request.symbol_set ++ amount_word request.pitch ++ amount_word request.height
+
+unfoldable pub look_words : FontRequest → List ℕ
+look_words request = amount_word request.style ++ 32 ∷ signed_amount request.weight ++ amount_word request.typeface
 
 -- a face in words: its id, and what selects it
 unfoldable pub face_words : Face → List ℕ
-face_words face = decimal face.id ++ request_words face.request
+face_words face = decimal face.id ++ cut_words face.request ++ look_words face.request
 
 -- letters and figures, and the ends of the ranges of its codes
 unfoldable pub sample_words : Face → List ℕ

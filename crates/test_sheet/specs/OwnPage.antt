@@ -62,11 +62,16 @@ numbered n = codes "Line " ++ decimal n
 
 -- ---- the page
 
-abbrev pub own_lines : List ℕ → Area → Face → ℕ → List ℕ
-own_lines name area face termination =
+-- what it is
+unfoldable pub own_words : List ℕ → Area → Face → ℕ → List ℕ
+own_words name area face termination =
     own_line area face termination (codes "This page sets nothing: its paper,")
     ++ own_line area face termination (codes "font and lines are the panel's.")
     ++ own_line area face termination name
+
+unfoldable pub own_lines : List ℕ → Area → Face → ℕ → List ℕ
+own_lines name area face termination =
+    own_words name area face termination
     ++ own_line area face termination (codes "Ten lines:")
     ++ flat_map (λ n. own_line area face termination (numbered n)) numbers
     ++ form_feed

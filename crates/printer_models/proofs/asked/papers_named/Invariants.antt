@@ -1,6 +1,6 @@
 use Rattle.std.proofs.Common.{◌≡◌, [], drop, length, map}
 use Rattle.printer_models.specs.Asked.{papers_from}
-use Rattle.printer_models.proofs.asked.papers_asked.Given as goal
+use Rattle.printer_models.proofs.asked.papers_named.Given as goal
 
 abbrev pub invariant-loop-index : goal.invariant-loop-index
 invariant-loop-index g l =

@@ -1,7 +1,7 @@
 use Rattle.std.proofs.Common.{◌≡◌, take, drop}
 use Rattle.std.specs.List.{list_all}
 use Rattle.device_profile.specs.Values.{is_value}
-use Rattle.device_profile.proofs.values.field_values.Given as goal
+use Rattle.device_profile.proofs.values.each_value.Given as goal
 
 abbrev pub invariant-loop-number : goal.invariant-loop-number
 invariant-loop-number g l =
