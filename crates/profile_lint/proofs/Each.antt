@@ -1,12 +1,22 @@
 -- Numbers that are taken once each.
-use Rattle.std.proofs.Common.{◌≡◌, ℕ, List, [], ◌∷◌, ◌++◌, Bool, true, false, ◌&&◌, ◌||◌, ◌==◌, cond, refl, sym, ap, ◌∙◌, subst}
+use Rattle.std.proofs.Common.{◌≡◌, ◌<◌, ◌+◌, ℕ, List, [], ◌∷◌, ◌++◌, Bool, true, false, ◌&&◌, ◌||◌, ◌==◌, cond, get_or, length, take, refl, sym, ap, ◌∙◌, subst}
 use Rattle.std.specs.List.{fold, list_all, list_any}
 use Rattle.std.proofs.Math.Bool.{and_assoc, and-true}
 use Rattle.std.proofs.lemmas.Bool.{eqb-true}
 use Rattle.std.proofs.lemmas.List.Folds.{list_all-append}
+use Rattle.std.proofs.lemmas.List.Sums.{fold_more}
 use Rattle.device_profile.specs.declared.geometry.Geometry.{Geometry}
 use Rattle.device_profile.specs.Printer.{has_row, has_every_pair}
 use Rattle.profile_lint.specs.Whole.{with_new, sizes_of, orientations_of}
+
+-- the numbers of rows, and that of one row more
+pub one_more : (f : Geometry → ℕ) (rows : List Geometry) (i : ℕ) (d : Geometry) (before after : List ℕ) → i < length rows
+    → before ≡ fold (λ ns row. with_new ns (f row)) [] (take i rows) → after ≡ with_new before (f (get_or rows i d))
+    → after ≡ fold (λ ns row. with_new ns (f row)) [] (take (i + 1) rows)
+one_more f rows i d before after h is_before is_after =
+    is_after
+    ∙ ap (λ (ns : List ℕ). with_new ns (f (get_or rows i d))) is_before
+    ∙ sym (fold_more (λ ns row. with_new ns (f row)) [] rows i d h)
 
 twice : (a b : Bool) → (a && b) ≡ ((a && b) && a)
 twice true true = refl

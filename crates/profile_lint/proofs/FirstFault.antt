@@ -1,5 +1,5 @@
 -- The first fault of a text is the one for which it is refused.
-use Rattle.std.proofs.Common.{◌≡◌, ℕ, ◌+◌, List, [], ◌∷◌, ◌++◌, map, filter, flat_map, nat_lt, length, Bool, true, false, not, ◌&&◌, ◌==◌, cond, if◌then◌else◌, None, Some, Result, Ok, Err, arith, refl, sym, ap, ◌∙◌, subst, append_assoc}
+use Rattle.std.proofs.Common.{◌≡◌, ℕ, ◌+◌, List, [], ◌∷◌, ◌++◌, flat_map, nat_lt, length, Bool, true, false, not, ◌&&◌, ◌==◌, cond, if◌then◌else◌, None, Some, Result, Ok, Err, arith, refl, sym, ap, ◌∙◌, subst, append_assoc}
 use Rattle.std.specs.List.{AllPass, list_all, list_any}
 use Rattle.std.specs.Option.{option_map_or}
 use Rattle.std.specs.Str.Lines.{lines}
@@ -8,6 +8,7 @@ use Rattle.std.proofs.lemmas.List.Sums.{AllPass-from_list_all}
 use Rattle.device_profile.specs.declared.fault.Cause.TheVariants.{Version, Range, Missing, NoGeometry}
 use Rattle.device_profile.specs.declared.fault.ProfileFault.{ProfileFault}
 use Rattle.device_profile.specs.declared.fault.ProfileFault.TheVariants.{Fault}
+use Rattle.device_profile.specs.declared.field.Field.TheVariants.{Size, Orientation, Font, Sides, Tray}
 use Rattle.device_profile.specs.declared.format.Format.{Format}
 use Rattle.device_profile.specs.declared.geometry.Geometry.{Geometry}
 use Rattle.device_profile.specs.declared.key.Key.{Key}
@@ -23,7 +24,7 @@ use Rattle.profile_lint.specs.Faults.{fault_of, draft_past_lines, faults_on_line
 use Rattle.profile_lint.specs.Keys.{every_key}
 use Rattle.profile_lint.specs.Laws.{BeginsWith, IsToldBy, TellsWhyRefused}
 use Rattle.profile_lint.specs.TextFaults.{faults_behind, faults_of, faults_of_lines}
-use Rattle.profile_lint.specs.Whole.{face_faults, faults_in, faults_of_size, faults_of_whole, orientation_faults, orientations_of, page_faults, pair_faults, sides_faults, size_faults, sizes_of, tray_faults, ungiven_faults, where_settled}
+use Rattle.profile_lint.specs.Whole.{choice_faults, faults_in, faults_of_size, faults_of_whole, orientations_of, page_faults, pair_faults, sizes_of, ungiven_fault, ungiven_faults, unheld, unless, unpaired, where_settled}
 use Rattle.profile_lint.proofs.Each.{every_pair}
 
 -- where a test holds there is no fault, and else the first is this one
@@ -39,15 +40,10 @@ tells_both : (a b : Bool) (fault : ProfileFault) (xs ys : List TextFault) → Te
 tells_both true b fault xs ys none rest = subst (λ zs. Tells b fault (zs ++ ys)) (sym none) rest
 tells_both false b fault xs ys first rest = begins_more fault xs ys first
 
--- one fault for each of a list that fails a test
-tells_each : {X : Type 0} (p : X → Bool) (tell : X → TextFault) (fault : ProfileFault) → ((x : X) → fault_of (tell x) ≡ fault)
-    → (xs : List X) → Tells (list_all p xs) fault (map tell (filter (λ x. not (p x)) xs))
-tells_each p tell fault is [] = refl
-tells_each p tell fault is (x ∷ xs) =
-    elim (p x) as (λ b. Tells (b && list_all p xs) fault (map tell (cond (not b) (x ∷ filter (λ y. not (p y)) xs) (filter (λ y. not (p y)) xs)))) [
-      | true ↦ tells_each p tell fault is xs
-      | false ↦ ap Some (is x)
-    ]
+-- one fault, unless a test holds
+tells_unless : (holds : Bool) (told : TextFault) (fault : ProfileFault) → fault_of told ≡ fault → Tells holds fault (unless holds told)
+tells_unless true told fault is = refl
+tells_unless false told fault is = ap Some is
 
 tells_flat : {X : Type 0} (p : X → Bool) (tell : X → List TextFault) (fault : ProfileFault) → ((x : X) → Tells (p x) fault (tell x))
     → (xs : List X) → Tells (list_all p xs) fault (flat_map tell xs)
@@ -59,40 +55,50 @@ tells_flat p tell fault is (x ∷ xs) = tells_both (p x) (list_all p xs) fault (
 -- the keys are those of the table, in its order
 tells_ungiven : (draft : Draft) → Tells (is_complete draft) (Fault 0 Missing) (ungiven_faults draft [])
 tells_ungiven draft =
-    subst (λ (test : Key → Bool). Tells (is_complete draft) (Fault 0 Missing) (map Ungiven (filter test every_key))) (λ i key. sym (and-true (not (is_given draft key))) i)
-    (tells_each (is_given draft) Ungiven (Fault 0 Missing) (λ key. refl) every_key)
+    tells_flat (is_given draft) (ungiven_fault draft []) (Fault 0 Missing)
+    (λ key. elim (is_given draft key) as (λ given. Tells given (Fault 0 Missing) (cond (not given && true) (Ungiven key ∷ []) [])) [
+      | true ↦ refl
+      | false ↦ refl
+    ]) every_key
 
 tells_pairs : (rows : List Geometry) → Tells (has_every_pair rows) (Fault 0 NoGeometry) (pair_faults rows)
 tells_pairs rows =
     subst (λ b. Tells b (Fault 0 NoGeometry) (pair_faults rows)) (every_pair rows)
-    (tells_flat (λ size. list_all (λ turned. has_row rows size turned) (orientations_of rows)) (faults_of_size rows) (Fault 0 NoGeometry)
-    (λ size. tells_each (λ turned. has_row rows size turned) (λ turned. NoPair size turned) (Fault 0 NoGeometry) (λ turned. refl) (orientations_of rows))
+    (tells_flat (λ size. list_all (λ turned. has_row rows size turned) (orientations_of rows)) (faults_of_size rows (orientations_of rows)) (Fault 0 NoGeometry)
+    (λ size. tells_flat (λ turned. has_row rows size turned) (unpaired rows size) (Fault 0 NoGeometry)
+    (λ turned. tells_unless (has_row rows size turned) (NoPair size turned) (Fault 0 NoGeometry) refl) (orientations_of rows))
     (sizes_of rows))
 
 tells_pages : (draft : Draft) → Tells (has_its_pages draft) (Fault 0 NoGeometry) (page_faults draft)
 tells_pages draft =
     let sized : Bool = list_all (λ size. has_size draft.geometries size) draft.choices.sizes in
     let turned : Bool = list_all (λ orientation. has_orientation draft.geometries orientation) draft.choices.orientations in
-    tells_both (sized && turned) (has_every_pair draft.geometries) (Fault 0 NoGeometry) (size_faults draft ++ orientation_faults draft) (pair_faults draft.geometries)
-    (tells_both sized turned (Fault 0 NoGeometry) (size_faults draft) (orientation_faults draft)
-    (tells_each (λ size. has_size draft.geometries size) NoPageOfSize (Fault 0 NoGeometry) (λ size. refl) draft.choices.sizes)
-    (tells_each (λ orientation. has_orientation draft.geometries orientation) NoPageInOrientation (Fault 0 NoGeometry) (λ orientation. refl) draft.choices.orientations))
+    tells_both (sized && turned) (has_every_pair draft.geometries) (Fault 0 NoGeometry) (choice_faults draft Size ++ choice_faults draft Orientation) (pair_faults draft.geometries)
+    (tells_both sized turned (Fault 0 NoGeometry) (choice_faults draft Size) (choice_faults draft Orientation)
+    (tells_flat (λ size. has_size draft.geometries size) (unheld draft Size) (Fault 0 NoGeometry)
+    (λ size. tells_unless (has_size draft.geometries size) (NoPageOfSize size) (Fault 0 NoGeometry) refl) draft.choices.sizes)
+    (tells_flat (λ orientation. has_orientation draft.geometries orientation) (unheld draft Orientation) (Fault 0 NoGeometry)
+    (λ orientation. tells_unless (has_orientation draft.geometries orientation) (NoPageInOrientation orientation) (Fault 0 NoGeometry) refl)
+    draft.choices.orientations))
     (tells_pairs draft.geometries)
 
-tells_choices : (draft : Draft) → Tells (has_its_choices draft) (Fault 0 Range) (face_faults draft ++ tray_faults draft ++ sides_faults draft)
+tells_choices : (draft : Draft) → Tells (has_its_choices draft) (Fault 0 Range) (choice_faults draft Font ++ choice_faults draft Tray ++ choice_faults draft Sides)
 tells_choices draft =
     let faced : Bool = list_all (λ font. has_face draft.faces font) draft.choices.fonts in
     let held : Bool = list_all (λ tray. list_any (λ held. held == tray) draft.device_trays) draft.choices.trays in
     let sided : Bool = list_all (are_sides (is_duplex draft)) draft.choices.sides in
-    tells_both (faced && held) sided (Fault 0 Range) (face_faults draft ++ tray_faults draft) (sides_faults draft)
-    (tells_both faced held (Fault 0 Range) (face_faults draft) (tray_faults draft)
-    (tells_each (λ font. has_face draft.faces font) NoFace (Fault 0 Range) (λ font. refl) draft.choices.fonts)
-    (tells_each (λ tray. list_any (λ held. held == tray) draft.device_trays) NoTray (Fault 0 Range) (λ tray. refl) draft.choices.trays))
-    (tells_each (are_sides (is_duplex draft)) NoSides (Fault 0 Range) (λ sides. refl) draft.choices.sides)
+    tells_both (faced && held) sided (Fault 0 Range) (choice_faults draft Font ++ choice_faults draft Tray) (choice_faults draft Sides)
+    (tells_both faced held (Fault 0 Range) (choice_faults draft Font) (choice_faults draft Tray)
+    (tells_flat (λ font. has_face draft.faces font) (unheld draft Font) (Fault 0 Range)
+    (λ font. tells_unless (has_face draft.faces font) (NoFace font) (Fault 0 Range) refl) draft.choices.fonts)
+    (tells_flat (λ tray. list_any (λ held. held == tray) draft.device_trays) (unheld draft Tray) (Fault 0 Range)
+    (λ tray. tells_unless (list_any (λ held. held == tray) draft.device_trays) (NoTray tray) (Fault 0 Range) refl) draft.choices.trays))
+    (tells_flat (are_sides (is_duplex draft)) (unheld draft Sides) (Fault 0 Range)
+    (λ sides. tells_unless (are_sides (is_duplex draft) sides) (NoSides sides) (Fault 0 Range) refl) draft.choices.sides)
 
 -- a draft with each key, without faulty lines
 abbrev whole_faults : Draft → List TextFault
-whole_faults draft = ungiven_faults draft [] ++ page_faults draft ++ face_faults draft ++ tray_faults draft ++ sides_faults draft
+whole_faults draft = ungiven_faults draft [] ++ page_faults draft ++ choice_faults draft Font ++ choice_faults draft Tray ++ choice_faults draft Sides
 
 settled : (draft : Draft) (key : Key) → is_given draft key ≡ true → where_settled draft [] key ≡ faults_in draft key
 settled draft key is =
@@ -118,8 +124,8 @@ whole_where_complete draft has =
     let duplex = settled draft Duplex has.duplex in
     ap (λ (p : List TextFault). ungiven_faults draft [] ++ p ++ where_settled draft [] Face ++ where_settled draft [] Trays ++ where_settled draft [] Duplex) page
     ∙ ap (λ (f : List TextFault). ungiven_faults draft [] ++ page_faults draft ++ f ++ where_settled draft [] Trays ++ where_settled draft [] Duplex) face
-    ∙ ap (λ (t : List TextFault). ungiven_faults draft [] ++ page_faults draft ++ face_faults draft ++ t ++ where_settled draft [] Duplex) trays
-    ∙ ap (λ (d : List TextFault). ungiven_faults draft [] ++ page_faults draft ++ face_faults draft ++ tray_faults draft ++ d) duplex
+    ∙ ap (λ (t : List TextFault). ungiven_faults draft [] ++ page_faults draft ++ choice_faults draft Font ++ t ++ where_settled draft [] Duplex) trays
+    ∙ ap (λ (d : List TextFault). ungiven_faults draft [] ++ page_faults draft ++ choice_faults draft Font ++ choice_faults draft Tray ++ d) duplex
 
 -- what is wrong with the whole, or a printer
 abbrev printer_by : Bool → Bool → Bool → Printer → Result Printer ProfileFault
@@ -145,10 +151,10 @@ told_by_whole : (draft : Draft) (complete : Bool) → is_complete draft ≡ comp
     → IsToldBy (printer_by complete (has_its_pages draft) (has_its_choices draft) (printer_of_draft draft)) (faults_of_whole draft [])
 told_by_whole draft true is none =
     subst (λ faults. IsToldBy (printer_by true (has_its_pages draft) (has_its_choices draft) (printer_of_draft draft)) faults)
-    (regroup (ungiven_faults draft []) (page_faults draft) (face_faults draft) (tray_faults draft) (sides_faults draft)
+    (regroup (ungiven_faults draft []) (page_faults draft) (choice_faults draft Font) (choice_faults draft Tray) (choice_faults draft Sides)
     ∙ sym (whole_where_complete draft (has_rows draft is)))
     (told_where_complete (has_its_pages draft) (has_its_choices draft) (printer_of_draft draft) (ungiven_faults draft []) (page_faults draft)
-    (face_faults draft ++ tray_faults draft ++ sides_faults draft) none (tells_pages draft) (tells_choices draft))
+    (choice_faults draft Font ++ choice_faults draft Tray ++ choice_faults draft Sides) none (tells_pages draft) (tells_choices draft))
 told_by_whole draft false is first =
     begins_more (Fault 0 Missing) (ungiven_faults draft [] ++ where_settled draft [] Page ++ where_settled draft [] Face ++ where_settled draft [] Trays) (where_settled draft [] Duplex)
     (begins_more (Fault 0 Missing) (ungiven_faults draft [] ++ where_settled draft [] Page ++ where_settled draft [] Face) (where_settled draft [] Trays)

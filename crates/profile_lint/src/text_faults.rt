@@ -6,7 +6,7 @@ ghost use Rattle.device_profile.specs.Given.{Gives};
 ghost use Rattle.device_profile.specs.Text.{words_of_line};
 ghost use Rattle.device_profile.specs.Words.{words_of};
 ghost use Rattle.profile_lint.specs.Faults.{draft_past, draft_past_lines, fault_on_line, faults_on_lines, key_on_line};
-ghost use Rattle.profile_lint.specs.TextFaults.{faults_behind, faults_of};
+ghost use Rattle.profile_lint.specs.TextFaults.{faults_behind, faults_of, faults_past};
 
 use crate::fault::TextFault;
 use crate::whole::faults_of_whole;
@@ -46,8 +46,22 @@ fn faults_behind<A: Allocator + Copy>(
     ensures { IfOk result (λ faults. faults.items ≡ faults_behind format (lines text.now)) }
 {
     let mut draft = Draft::new(alloc, format)?;
-    let mut faults = faults_on_lines(&mut draft, alloc, format, text)?;
-    let of_whole = faults_of_whole(alloc, &draft, &faults)?;
+    faults_past(&mut draft, alloc, format, text)
+}
+
+/// The same, where a draft has what was given before.
+fn faults_past<A: Allocator + Copy>(
+    draft: &mut Draft<A>,
+    alloc: A,
+    format: Format,
+    text: &[u8],
+) -> Result<Vec<TextFault, A>, AllocError>
+    requires { length text.now ≤ 65_536 }
+    ensures { IfOk result (λ faults.
+        faults.items ≡ faults_past format draft.old (lines text.now)) }
+{
+    let mut faults = faults_on_lines(draft, alloc, format, text)?;
+    let of_whole = faults_of_whole(alloc, draft, &faults)?;
     faults.extend_from_slice(&of_whole)?;
     Ok(faults)
 }
