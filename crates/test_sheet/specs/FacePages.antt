@@ -1,6 +1,7 @@
 -- Pages with a line for each face.
 use Rattle.std.specs.Prelude.{ℕ, ◌+◌, ◌-◌, ◌/◌, ◌%◌, ◌==◌, min, max, List, [], ◌∷◌, ◌++◌, codes, decimal, flat_map, if◌then◌else◌}
 use Rattle.std.specs.List.{enumerate_from}
+use Rattle.device_profile.specs.declared.font.CodeRange.{CodeRange}
 use Rattle.device_profile.specs.declared.font.FontRequest.{FontRequest}
 use Rattle.device_profile.specs.declared.geometry.Geometry.{Geometry}
 use Rattle.device_profile.specs.Faces.{Face}
@@ -35,8 +36,11 @@ unfoldable pub face_words : Face → List ℕ
 face_words face = decimal face.id ++ cut_words face.request ++ look_words face.request
 
 -- letters and figures, and the ends of the ranges of its codes
+unfoldable pub ends_of : CodeRange → List ℕ
+ends_of range = range.first ∷ range.last ∷ []
+
 unfoldable pub sample_words : Face → List ℕ
-sample_words face = codes "ABCxyz019 " ++ flat_map (λ range. range.first ∷ range.last ∷ []) face.codes
+sample_words face = codes "ABCxyz019 " ++ flat_map ends_of face.codes
 
 -- its words in the first face at the left, and letters of its own at the right
 unfoldable pub face_line : Area → Face → ℕ → Face → List ℕ

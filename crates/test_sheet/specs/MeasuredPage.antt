@@ -90,7 +90,7 @@ column_lines area face =
 -- ---- ten lines
 
 -- one line down from the one before, which is 1/6 inch under the VMI of the page
-abbrev pub spaced_line : Area → Face → ℕ → List ℕ
+unfoldable pub spaced_line : Area → Face → ℕ → List ℕ
 spaced_line area face n = line_down ++ move_across (indent area) ++ words_from area face (indent area) (numbered n)
 
 -- how far the rules are apart
@@ -143,6 +143,8 @@ measured_page name face page =
 abbrev pub is_measured : List ℕ → Geometry → Bool
 is_measured sizes page = list_any (λ size. size == page.size) sizes && nat_le page.orientation 1
 
-unfoldable pub measured_pages : List ℕ → Face → List ℕ → List Geometry → List ℕ
-measured_pages name face sizes pages =
-    flat_map (λ page. if is_measured sizes page then measured_page name face page else []) pages
+unfoldable pub measured_part : List ℕ → Face → List ℕ → Geometry → List ℕ
+measured_part name face sizes page = if is_measured sizes page then measured_page name face page else []
+
+abbrev pub measured_pages : List ℕ → Face → List ℕ → List Geometry → List ℕ
+measured_pages name face sizes pages = flat_map (measured_part name face sizes) pages

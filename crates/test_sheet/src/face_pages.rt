@@ -1,8 +1,8 @@
 //! Pages with a line for each face.
-ghost use Rattle.std.specs.Prelude.{◌≡◌, ◌++◌, ◌∷◌, [], ◌≤◌, ◌<◌, OnOk, IfOk, flat_map};
+ghost use Rattle.std.specs.Prelude.{◌≡◌, ◌++◌, ◌≤◌, ◌<◌, OnOk, IfOk, flat_map};
 ghost use Rattle.test_sheet.specs.Lines.{indent};
 ghost use Rattle.test_sheet.specs.Marks.{words_at};
-ghost use Rattle.test_sheet.specs.FacePages.{amount_word, cut_words, face_entries, face_entry, face_line, face_pages, face_words, faces_on, heading, last_line, line_of, look_words, sample_words};
+ghost use Rattle.test_sheet.specs.FacePages.{amount_word, cut_words, ends_of, face_entries, face_entry, face_line, face_pages, face_words, faces_on, heading, last_line, line_of, look_words, sample_words};
 
 use crate::area::{Area, area_of};
 use crate::commands::{push_font_request, push_page_request};
@@ -87,14 +87,21 @@ fn push_amount_word<A: Allocator>(words: &mut Vec<u8, A>, n: u32) -> Result<(), 
 
 /// Appends the ends of ranges of codes.
 fn push_ends<A: Allocator>(words: &mut Vec<u8, A>, ranges: &[CodeRange]) -> Result<(), AllocError>
-    ensures { OnOk result (words.new.items ≡
-        words.old.items ++ flat_map (λ range. range.first ∷ range.last ∷ []) ranges.now) }
+    ensures { OnOk result
+        (words.new.items ≡ words.old.items ++ flat_map ends_of ranges.now) }
 {
     for range in ranges {
-        words.push(range.first)?;
-        words.push(range.last)?;
+        push_ends_of(words, *range)?;
     }
     Ok(())
+}
+
+/// Appends the ends of a range of codes.
+#[tactic(auto, unfolding(crate::specs::FacePages::ends_of))]
+fn push_ends_of<A: Allocator>(words: &mut Vec<u8, A>, range: CodeRange) -> Result<(), AllocError>
+    ensures { OnOk result (words.new.items ≡ words.old.items ++ ends_of range) }
+{
+    words.extend_from_slice(&[range.first, range.last])
 }
 
 /// Letters and figures, and the ends of the ranges of a face's codes.

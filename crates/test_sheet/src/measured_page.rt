@@ -2,7 +2,7 @@
 ghost use Rattle.std.specs.Prelude.{◌≡◌, ◌++◌, ◌≤◌, ◌<◌, ◌^◌, OnOk, IfOk, flat_map};
 ghost use Rattle.test_sheet.specs.Lines.{baseline, words_on};
 ghost use Rattle.test_sheet.specs.Marks.{words_at};
-ghost use Rattle.test_sheet.specs.MeasuredPage.{bottom_distance, column_count, column_digits, column_lines, column_tens, column_words, edge_lines, edge_rules, edge_words, has_ten_lines, inside_words, is_measured, left_distance, measured_page, measured_pages, page_head, page_words, paper_words, right_distance, size_words, spaced_line, ten_lines, ten_rules, tens_digit, top_distance};
+ghost use Rattle.test_sheet.specs.MeasuredPage.{bottom_distance, column_count, column_digits, column_lines, column_tens, column_words, edge_lines, edge_rules, edge_words, has_ten_lines, inside_words, is_measured, left_distance, measured_page, measured_pages, measured_part, page_head, page_words, paper_words, right_distance, size_words, spaced_line, ten_lines, ten_rules, tens_digit, top_distance};
 
 use crate::area::{Area, area_of};
 use crate::commands::{push_font_request, push_move_across, push_move_to, push_page_request};
@@ -251,6 +251,7 @@ fn push_spaced_lines<A: Allocator + Copy, P: Allocator>(
 }
 
 /// Appends a line one line down from the one before.
+#[tactic(auto, unfolding(crate::specs::MeasuredPage::spaced_line))]
 fn push_spaced_line<A: Allocator + Copy, P: Allocator>(
     text: &mut Vec<u8, A>,
     alloc: A,
@@ -380,8 +381,27 @@ fn is_measured(sizes: &[u32], page: &Geometry) -> bool
     sizes.contains(&page.size) && page.orientation <= 1
 }
 
+/// Appends a page, where it is of one of these sizes, in portrait or landscape.
+#[tactic(auto, unfolding(crate::specs::MeasuredPage::measured_part))]
+fn push_measured_part<A: Allocator + Copy, P: Allocator>(
+    text: &mut Vec<u8, A>,
+    alloc: A,
+    name: &[u8],
+    face: &FontRow<P>,
+    sizes: &[u32],
+    page: &Geometry,
+) -> Result<(), AllocError>
+    ensures { OnOk result (text.new.items ≡
+        text.old.items ++ measured_part name.now face.now sizes.now page.now) }
+{
+    if is_measured(sizes, page) {
+        push_measured_page(text, alloc, name, face, page)
+    } else {
+        Ok(())
+    }
+}
+
 /// Appends the pages of these sizes, in portrait and landscape.
-#[tactic(auto, unfolding(crate::specs::MeasuredPage::measured_pages))]
 pub(crate) fn push_measured_pages<A: Allocator + Copy, P: Allocator>(
     text: &mut Vec<u8, A>,
     alloc: A,
@@ -394,9 +414,7 @@ pub(crate) fn push_measured_pages<A: Allocator + Copy, P: Allocator>(
         text.old.items ++ measured_pages name.now face.now sizes.now pages.now) }
 {
     for page in pages {
-        if is_measured(sizes, page) {
-            push_measured_page(text, alloc, name, face, page)?;
-        }
+        push_measured_part(text, alloc, name, face, sizes, page)?;
     }
     Ok(())
 }
