@@ -20,6 +20,7 @@ use std::alloc::{AllocError, Allocator};
 /// line at most 40 bytes are quoted.
 ///
 /// An error means that the allocator refused a request.
+#[tactic(auto, unfolding(crate::specs::FaultLines::fault_line))]
 pub fn push_fault<A: Allocator>(
     out: &mut Vec<u8, A>,
     file: &[u8],
@@ -58,6 +59,7 @@ fn push_cause<A: Allocator>(out: &mut Vec<u8, A>, cause: Cause) -> Result<(), Al
 }
 
 /// Appends the number of a line behind its file, and nothing for the whole, which has 0.
+#[tactic(auto, unfolding(crate::specs::FaultLines::line_words))]
 fn push_line_words<A: Allocator>(out: &mut Vec<u8, A>, number: u64) -> Result<(), AllocError>
     ensures { OnOk result (out.new.items ≡ out.old.items ++ line_words number) }
 {
@@ -69,6 +71,7 @@ fn push_line_words<A: Allocator>(out: &mut Vec<u8, A>, number: u64) -> Result<()
 }
 
 /// Appends what is wrong with a text.
+#[tactic(auto, unfolding(crate::specs::FaultLines::fault_words))]
 fn push_fault_words<A: Allocator>(
     out: &mut Vec<u8, A>,
     text: &[u8],

@@ -203,6 +203,7 @@ fn push_lengths<A: Allocator>(out: &mut Vec<u8, A>, lengths: &[Length]) -> Resul
 }
 
 /// Appends a length in whole 7200ths of an inch, behind a space.
+#[tactic(auto, unfolding(crate::specs::HintLines::length_word))]
 fn push_length_word<A: Allocator>(out: &mut Vec<u8, A>, length: Length) -> Result<(), AllocError>
     ensures { OnOk result (out.new.items ≡ out.old.items ++ length_word length) }
 {
@@ -341,6 +342,7 @@ fn push_code_hint<A: Allocator>(
 }
 
 /// Appends ranges of codes, with commas between.
+#[tactic(auto, unfolding(crate::specs::HintLines::ranges_words))]
 fn push_ranges<A: Allocator>(out: &mut Vec<u8, A>, ranges: &[CodeRange]) -> Result<(), AllocError>
     ensures { OnOk result (out.new.items ≡ out.old.items ++ ranges_words ranges.now) }
 {
@@ -368,6 +370,7 @@ fn push_more_ranges<A: Allocator>(
 }
 
 /// Appends a range of codes behind a comma.
+#[tactic(auto, unfolding(crate::specs::HintLines::more_range_words))]
 fn push_more_range<A: Allocator>(out: &mut Vec<u8, A>, range: CodeRange) -> Result<(), AllocError>
     ensures { OnOk result (out.new.items ≡ out.old.items ++ more_range_words range) }
 {
@@ -376,6 +379,7 @@ fn push_more_range<A: Allocator>(out: &mut Vec<u8, A>, range: CodeRange) -> Resu
 }
 
 /// Appends a range of codes.
+#[tactic(auto, unfolding(crate::specs::HintLines::range_words))]
 fn push_range<A: Allocator>(out: &mut Vec<u8, A>, range: CodeRange) -> Result<(), AllocError>
     ensures { OnOk result (out.new.items ≡ out.old.items ++ range_words range) }
 {

@@ -87,6 +87,7 @@ fn push_hints<A: Allocator>(
 
 /// Appends what is found in a text; and where it has no fault, its word and its profile behind
 /// others.
+#[tactic(auto, unfolding(crate::specs::Lint::findings_text, crate::specs::Lint::sound_printers, crate::specs::Lint::sound_words))]
 fn take_findings<'w, A: Allocator + Copy>(
     alloc: A,
     lines: &mut Vec<u8, A>,

@@ -146,5 +146,5 @@ is_measured sizes page = list_any (λ size. size == page.size) sizes && nat_le p
 unfoldable pub measured_part : List ℕ → Face → List ℕ → Geometry → List ℕ
 measured_part name face sizes page = if is_measured sizes page then measured_page name face page else []
 
-abbrev pub measured_pages : List ℕ → Face → List ℕ → List Geometry → List ℕ
+unfoldable pub measured_pages : List ℕ → Face → List ℕ → List Geometry → List ℕ
 measured_pages name face sizes pages = flat_map (measured_part name face sizes) pages

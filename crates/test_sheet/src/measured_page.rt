@@ -402,6 +402,7 @@ fn push_measured_part<A: Allocator + Copy, P: Allocator>(
 }
 
 /// Appends the pages of these sizes, in portrait and landscape.
+#[tactic(auto, unfolding(crate::specs::MeasuredPage::measured_pages))]
 pub(crate) fn push_measured_pages<A: Allocator + Copy, P: Allocator>(
     text: &mut Vec<u8, A>,
     alloc: A,

@@ -1,9 +1,11 @@
 use Rattle.std.proofs.Common.{◌++◌, ℕ, List, ap, codes, decimal, ◌∙◌}
 use Rattle.profile_lint.specs.FaceHints.{advance_by}
+use Rattle.profile_lint.specs.HintLines.{advance_hint_words}
 use Rattle.profile_lint.proofs.Pushed.{joined, last_is_pushed}
 use Rattle.profile_lint.proofs.hint_line.push_advance_hint.Goals as goal
 
 pub returns : goal.returns
+unfolding advance_hint_words
 returns g c =
     let old = c.args.out.now.items in
     let start : List ℕ = codes "face " ++ decimal c.args.face ++ codes ": a character advances by " in
