@@ -102,9 +102,29 @@ fn field_values<A: Allocator>(
         (λ values. IsTrue (are_values field numbers.now) × (values.items ≡ numbers.now))
         (IsCauseOf (if are_values field numbers.now then Ok numbers.now else Err Range)) }
 {
-    if numbers.is_empty() || numbers.len() > MOST_VALUES {
+    if !is_count(numbers.len()) {
         return Err(LineFault::Wrong(Cause::Range));
     }
+    each_value(alloc, field, numbers)
+}
+
+/// Whether a field may have so many values.
+fn is_count(count: usize) -> bool
+    ensures { result ≡ is_between 1 16 count }
+{
+    (1..=MOST_VALUES).contains(&count)
+}
+
+/// The numbers as values of a field.
+fn each_value<A: Allocator>(
+    alloc: A,
+    field: Field,
+    numbers: &[u128],
+) -> Result<Vec<u32, A>, LineFault>
+    ensures { MatchResult result
+        (λ values. IsTrue (list_all (is_value field) numbers.now) × (values.items ≡ numbers.now))
+        (IsCauseOf (if list_all (is_value field) numbers.now then Ok numbers.now else Err Range)) }
+{
     let mut values = Vec::new(alloc);
     for number in numbers {
         let Some(value) = field_value(field, *number) else {

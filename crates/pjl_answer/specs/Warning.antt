@@ -113,10 +113,13 @@ abbrev pub shown_value : List ℕ → List ℕ
 shown_value value =
     if nat_lt most_shown (length value) then shown (take most_shown value) ++ codes ".." else shown value
 
--- the line of the answer, the variable, its value and the note
-abbrev pub warning_at : Warning → ℕ × List ℕ → List ℕ
-warning_at it entry =
-    codes "line " ++ decimal entry.0 ++ codes ": " ++ word_of it.variable ++ codes "=" ++ shown_value entry.1 ++ codes ": " ++ note_words it.note
+-- the line of the answer and the variable
+unfoldable pub variable_at : Variable → ℕ → List ℕ
+variable_at variable line = codes "line " ++ decimal line ++ codes ": " ++ word_of variable
+
+-- and its value and the note
+unfoldable pub warning_at : Warning → ℕ × List ℕ → List ℕ
+warning_at it entry = variable_at it.variable entry.0 ++ codes "=" ++ shown_value entry.1 ++ codes ": " ++ note_words it.note
 
 abbrev pub warning_words : List ℕ → Warning → List ℕ
 warning_words answer it = option_map_or (warning_at it) (entry_of answer it.variable) []

@@ -54,7 +54,7 @@ impl From<AllocError> for AnswerError {
 
 /// The text of a profile with what a printer's answer tells, and the lines of the warnings, which
 /// stand in the text's comments too.
-#[derive(Debug, Drop)]
+#[derive(Drop)]
 pub struct Answered<A: Allocator> {
     pub text: Vec<u8, A>,
     pub warnings: Vec<u8, A>,

@@ -7,7 +7,7 @@ ghost use Rattle.pjl_answer.specs.SetName.{set_named, symbol_set_of, word_of};
 use device_profile::SymbolSet;
 
 /// A symbol set that PJL has a name for.
-#[derive(Clone, Copy, Debug, PartialEq, Eq)]
+#[derive(Clone, Copy)]
 pub enum SetName {
     /// 8U.
     Roman8,

@@ -21,7 +21,7 @@ use printer_models::Paper;
 use std::alloc::Allocator;
 
 /// The values that are told for a field.
-#[derive(Clone, Copy, Debug, PartialEq, Eq)]
+#[derive(Clone, Copy)]
 pub enum ToldValues {
     One(u32),
     Two(u32, u32),

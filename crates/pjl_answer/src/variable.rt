@@ -3,7 +3,7 @@ ghost use Rattle.std.specs.Prelude.{◌≡◌};
 ghost use Rattle.pjl_answer.specs.Variable.{word_of};
 
 /// A variable of a printer's panel, or what the printer has.
-#[derive(Clone, Copy, Debug, PartialEq, Eq)]
+#[derive(Clone, Copy)]
 pub enum Variable {
     Paper,
     Orientation,

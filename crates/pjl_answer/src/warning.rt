@@ -13,7 +13,7 @@ use device_profile::{Field, Profile};
 use std::alloc::{AllocError, Allocator};
 
 /// What is to be known of a variable's value.
-#[derive(Clone, Copy, Debug, PartialEq, Eq)]
+#[derive(Clone, Copy)]
 pub enum PjlNote {
     /// The value is not known, and the profile keeps its list.
     NotUnderstood,
@@ -41,7 +41,7 @@ pub enum PjlNote {
 }
 
 /// A variable of an answer, and what is to be known of its value.
-#[derive(Clone, Copy, Debug, PartialEq, Eq)]
+#[derive(Clone, Copy)]
 pub struct Warning {
     pub variable: Variable,
     pub note: PjlNote,

@@ -1,8 +1,9 @@
 //! The lines in which a user is warned.
 ghost use Rattle.std.specs.Prelude.{◌≡◌, ◌++◌, OnOk};
-ghost use Rattle.pjl_answer.specs.Warning.{note_words, shown_value, warning_at, warning_line, warning_lines, warning_words};
+ghost use Rattle.pjl_answer.specs.Warning.{note_words, shown_value, variable_at, warning_at, warning_line, warning_lines, warning_words};
 
 use crate::entry::entry_of;
+use crate::variable::Variable;
 use crate::warning::{PjlNote, Warning};
 use shown_bytes::{push_number, push_shown};
 use std::alloc::{AllocError, Allocator};
@@ -45,7 +46,23 @@ fn push_shown_value<A: Allocator>(text: &mut Vec<u8, A>, value: &[u8]) -> Result
     text.extend_from_slice(b"..")
 }
 
+/// Appends the number of a line of the answer, and the variable that it gives.
+#[tactic(auto, unfolding(crate::specs::Warning::variable_at))]
+fn push_variable_at<A: Allocator>(
+    text: &mut Vec<u8, A>,
+    variable: Variable,
+    line: u64,
+) -> Result<(), AllocError>
+    ensures { OnOk result (text.new.items ≡ text.old.items ++ variable_at variable line) }
+{
+    text.extend_from_slice(b"line ")?;
+    push_number(text, line)?;
+    text.extend_from_slice(b": ")?;
+    text.extend_from_slice(variable.word().as_bytes())
+}
+
 /// Appends a warning of a value that stands in the line of this number.
+#[tactic(auto, unfolding(crate::specs::Warning::warning_at))]
 fn push_warning_at<A: Allocator>(
     text: &mut Vec<u8, A>,
     warning: Warning,
@@ -55,10 +72,7 @@ fn push_warning_at<A: Allocator>(
     ensures { OnOk result
         (text.new.items ≡ text.old.items ++ warning_at warning (line, value.now)) }
 {
-    text.extend_from_slice(b"line ")?;
-    push_number(text, line)?;
-    text.extend_from_slice(b": ")?;
-    text.extend_from_slice(warning.variable.word().as_bytes())?;
+    push_variable_at(text, warning.variable, line)?;
     text.extend_from_slice(b"=")?;
     push_shown_value(text, value)?;
     text.extend_from_slice(b": ")?;

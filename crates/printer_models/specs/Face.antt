@@ -101,7 +101,7 @@ face_of id row = record {
 }
 
 -- the faces of a cut, a look and a typeface in these sets
-abbrev pub in_sets : Cut → FaceLook → Typeface → List CharacterSet → List FaceRow
+unfoldable pub in_sets : Cut → FaceLook → Typeface → List CharacterSet → List FaceRow
 in_sets cut look typeface sets = map (λ set. record { set = set; cut = cut; look = look; typeface = typeface }) sets
 
 -- the set that the panel has at the factory, and the one that it had in the other generation
@@ -119,22 +119,26 @@ abbrev pub oldest_sets : List CharacterSet
 oldest_sets = Roman8 ∷ Pc8 ∷ []
 
 -- Courier under both of its numbers
-abbrev pub courier : Cut → FaceLook → List CharacterSet → List FaceRow
+unfoldable pub courier : Cut → FaceLook → List CharacterSet → List FaceRow
 courier cut look sets = in_sets cut look Courier sets ++ in_sets cut look BaseCourier sets
 
--- THE TABLE OF FACES, in the order of their ids, from 1 on: first those of Courier
-abbrev pub courier_faces : Generation → List FaceRow
-courier_faces generation =
+-- THE TABLE OF FACES, in the order of their ids, from 1 on: first those of Courier, and of these the usual ones
+unfoldable pub usual_courier_faces : Generation → List FaceRow
+usual_courier_faces generation =
     in_sets Ten Medium BaseCourier (panel_sets generation)
     ++ in_sets Ten Medium BaseCourier (Latin1 ∷ Windows ∷ Pc850 ∷ Ascii ∷ [])
     ++ in_sets Ten Medium Courier (text_sets ++ Ascii ∷ [])
+
+unfoldable pub courier_faces : Generation → List FaceRow
+courier_faces generation =
+    usual_courier_faces generation
     ++ courier Ten Bold text_sets
     ++ courier Twelve Medium text_sets
     ++ courier Ten Italic usual_sets
     ++ courier Twelve Bold usual_sets
 
 -- then those of Line Printer and Letter Gothic
-abbrev pub other_faces : List FaceRow
+unfoldable pub other_faces : List FaceRow
 other_faces =
     in_sets Small Medium LinePrinter (Roman8 ∷ Pc8 ∷ Latin1 ∷ Pc850 ∷ [])
     ++ in_sets OldSmall Medium LinePrinter oldest_sets

@@ -1,5 +1,5 @@
 //! The papers that a user asks for, by their names.
-ghost use Rattle.std.specs.Prelude.{◌≡◌, map, Ok, Err, MatchResult};
+ghost use Rattle.std.specs.Prelude.{◌≡◌, [], map, Ok, Err, MatchResult};
 ghost use Rattle.printer_models.specs.Asked.{held_paper, is_among, paper_asked, papers_asked, papers_from, IsWordFault};
 
 use crate::model::Model;
@@ -57,6 +57,19 @@ pub(crate) fn papers_asked<A: Allocator>(
     if words.is_empty() {
         return Ok(Vec::from_slice(alloc, &[Paper::Letter, Paper::A4])?);
     }
+    papers_named(alloc, model, words)
+}
+
+/// The papers of these words, or the first word that is wrong.
+fn papers_named<A: Allocator>(
+    alloc: A,
+    model: Model,
+    words: &[&str],
+) -> Result<Vec<Paper, A>, AskedError>
+    ensures { MatchResult result
+        (λ papers. papers_from model [] (map (λ word. word.now) words.now) ≡ Ok papers.items)
+        (IsWordFault (papers_from model [] (map (λ word. word.now) words.now))) }
+{
     let mut papers = Vec::new(alloc);
     for (index, word) in words.iter().enumerate() {
         match paper_asked(model, &papers, word) {

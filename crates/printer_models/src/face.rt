@@ -1,6 +1,6 @@
 //! The resident faces of a generation of printers.
 ghost use Rattle.std.specs.Prelude.{◌≡◌, ◌++◌, IfOk, OnOk};
-ghost use Rattle.printer_models.specs.Face.{codes_in, courier, courier_faces, faces_of, in_sets, metrics, metrics_of, oldest_sets, other_faces, panel_sets, request_of, set_of, style_of, symbol_set_of, text_sets, typeface_number, usual_sets, weight_of};
+ghost use Rattle.printer_models.specs.Face.{codes_in, courier, courier_faces, faces_of, in_sets, metrics, metrics_of, oldest_sets, other_faces, panel_sets, request_of, set_of, style_of, symbol_set_of, text_sets, typeface_number, usual_courier_faces, usual_sets, weight_of};
 
 use device_profile::{CodeRange, FontRequest, SymbolSet};
 use std::alloc::{AllocError, Allocator};
@@ -333,6 +333,7 @@ pub fn faces_of<A: Allocator>(
 }
 
 /// Appends the faces of Courier.
+#[tactic(auto, unfolding(crate::specs::Face::courier_faces))]
 fn push_courier_faces<A: Allocator>(
     faces: &mut Vec<FaceRow, A>,
     generation: Generation,
@@ -341,18 +342,34 @@ fn push_courier_faces<A: Allocator>(
 {
     use Cut::{Ten, Twelve};
     use FaceLook::{Bold, Italic, Medium};
-    use Typeface::{BaseCourier, Courier};
 
-    push(faces, Ten, Medium, BaseCourier, generation.panel_sets())?;
-    push(faces, Ten, Medium, BaseCourier, OTHER_SETS)?;
-    push(faces, Ten, Medium, Courier, ALL_SETS)?;
+    push_usual_courier_faces(faces, generation)?;
     push_courier(faces, Ten, Bold, TEXT_SETS)?;
     push_courier(faces, Twelve, Medium, TEXT_SETS)?;
     push_courier(faces, Ten, Italic, USUAL_SETS)?;
     push_courier(faces, Twelve, Bold, USUAL_SETS)
 }
 
+/// Appends the faces of Courier that are usual: 10 characters an inch, upright, of medium weight.
+#[tactic(auto, unfolding(crate::specs::Face::usual_courier_faces))]
+fn push_usual_courier_faces<A: Allocator>(
+    faces: &mut Vec<FaceRow, A>,
+    generation: Generation,
+) -> Result<(), AllocError>
+    ensures { OnOk result
+        (faces.new.items ≡ faces.old.items ++ usual_courier_faces generation) }
+{
+    use Cut::Ten;
+    use FaceLook::Medium;
+    use Typeface::{BaseCourier, Courier};
+
+    push(faces, Ten, Medium, BaseCourier, generation.panel_sets())?;
+    push(faces, Ten, Medium, BaseCourier, OTHER_SETS)?;
+    push(faces, Ten, Medium, Courier, ALL_SETS)
+}
+
 /// Appends the faces of Line Printer and Letter Gothic.
+#[tactic(auto, unfolding(crate::specs::Face::other_faces))]
 fn push_other_faces<A: Allocator>(faces: &mut Vec<FaceRow, A>) -> Result<(), AllocError>
     ensures { OnOk result (faces.new.items ≡ faces.old.items ++ other_faces) }
 {
@@ -368,6 +385,7 @@ fn push_other_faces<A: Allocator>(faces: &mut Vec<FaceRow, A>) -> Result<(), All
 }
 
 /// Appends Courier under both of its numbers, in these sets.
+#[tactic(auto, unfolding(crate::specs::Face::courier))]
 fn push_courier<A: Allocator>(
     faces: &mut Vec<FaceRow, A>,
     cut: Cut,
@@ -381,6 +399,7 @@ fn push_courier<A: Allocator>(
 }
 
 /// Appends a face in each of these sets.
+#[tactic(auto, unfolding(crate::specs::Face::in_sets))]
 fn push<A: Allocator>(
     faces: &mut Vec<FaceRow, A>,
     cut: Cut,

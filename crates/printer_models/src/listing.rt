@@ -1,6 +1,6 @@
 //! What is written of all models.
 ghost use Rattle.std.specs.Prelude.{◌≡◌, ◌++◌, flat_map, IfOk, OnOk};
-ghost use Rattle.printer_models.specs.Listing.{model_line, models_text, paper_words};
+ghost use Rattle.printer_models.specs.Listing.{model_line, model_words, models_text, paper_words};
 
 use crate::model::{MODELS, Model};
 use crate::paper::Paper;
@@ -28,16 +28,25 @@ fn push_models<A: Allocator>(text: &mut Vec<u8, A>, models: &[Model]) -> Result<
 }
 
 /// Appends the line of a model.
+#[tactic(auto, unfolding(crate::specs::Listing::model_line))]
 fn push_model<A: Allocator>(text: &mut Vec<u8, A>, model: Model) -> Result<(), AllocError>
     ensures { OnOk result (text.new.items ≡ text.old.items ++ model_line model) }
+{
+    push_model_words(text, model)?;
+    text.extend_from_slice(b"; papers:")?;
+    push_papers(text, model.row().papers)?;
+    text.extend_from_slice(b"\n")
+}
+
+/// Appends the word of a model, and what it is.
+#[tactic(auto, unfolding(crate::specs::Listing::model_words))]
+fn push_model_words<A: Allocator>(text: &mut Vec<u8, A>, model: Model) -> Result<(), AllocError>
+    ensures { OnOk result (text.new.items ≡ text.old.items ++ model_words model) }
 {
     let row = model.row();
     text.extend_from_slice(row.word.as_bytes())?;
     text.extend_from_slice(b": ")?;
-    text.extend_from_slice(row.title.as_bytes())?;
-    text.extend_from_slice(b"; papers:")?;
-    push_papers(text, row.papers)?;
-    text.extend_from_slice(b"\n")
+    text.extend_from_slice(row.title.as_bytes())
 }
 
 /// Appends the names of papers, each behind a space.

@@ -1,7 +1,7 @@
 //! The models of printers.
 ghost use Rattle.std.specs.Prelude.{◌≡◌, find};
 ghost use Rattle.std.specs.Str.{bytes_eq};
-ghost use Rattle.printer_models.specs.Model.{facts_of, model_named};
+ghost use Rattle.printer_models.specs.Model.{facts, facts_of, model_named};
 
 use crate::face::Generation;
 use crate::paper::{PAPERS, Paper};
@@ -85,6 +85,22 @@ impl Model {
         ensures panel_trays { result.now.panel_trays.now ≡ (facts_of self).panel_trays }
         ensures duplex { result.now.has_duplex ≡ (facts_of self).has_duplex }
         ensures memory { result.now.memory ≡ (facts_of self).memory }
+    {
+        self.table_row()
+    }
+
+    /// The model's row of the table.
+    fn table_row(self) -> &'static ModelRow
+        ensures { facts
+            result.now.word.now
+            result.now.title.now
+            result.now.generation
+            result.now.papers.now
+            result.now.trays.now
+            result.now.panel_trays.now
+            result.now.has_duplex
+            result.now.memory
+            ≡ facts_of self }
     {
         match self {
             Model::HpLaserJet4 => &HP_LASERJET_4,

@@ -1,3 +1,5 @@
+pub mod Each
+pub mod FirstFault
 pub mod Pushed
 mod WordsAt
 mod LintFacts

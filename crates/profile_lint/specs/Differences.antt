@@ -94,7 +94,7 @@ first_difference (first ∷ others) = difference_from 1 first others
 
 -- ---- words
 
-abbrev pub difference_words : Difference → List ℕ
+unfoldable pub difference_words : Difference → List ℕ
 difference_words (Pages size orientation) =
     codes "their pages of size " ++ decimal size ++ codes " and orientation " ++ decimal orientation ++ codes " are not the same: jobs may differ (33)"
 difference_words (Faces face) =

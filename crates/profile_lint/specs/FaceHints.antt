@@ -22,7 +22,7 @@ fits_pitch pitch advance = nat_le (advance * pitch) (72_000_000 + pitch) && nat_
 abbrev pub advance_by : ℕ → ℕ
 advance_by pitch = if pitch == 0 then 0 else (72_000_000 + pitch / 2) / pitch
 
-abbrev pub advance_hints : Face → List Hint
+unfoldable pub advance_hints : Face → List Hint
 advance_hints face =
     if fits_pitch face.request.pitch (units_in face.advance) then [] else OddAdvance face.id face.request.pitch (units_in face.advance) ∷ []
 
@@ -43,7 +43,7 @@ has_numbers metrics face =
     int_eq face.advance (of_7200ths metrics.advance) && int_eq face.ascent (of_7200ths metrics.ascent)
     && int_eq face.descent (of_7200ths metrics.descent)
 
-abbrev pub number_hints : List FaceRow → Face → List Hint
+unfoldable pub number_hints : List FaceRow → Face → List Hint
 number_hints rows face =
     option_map_or (λ row. if has_numbers (metrics_of row.cut) face then []
     else OtherNumbers face.id (units_in face.advance) (units_in face.ascent) (units_in face.descent) row.cut ∷ [])
@@ -56,10 +56,10 @@ is_same_range a b = (a.first == b.first) && (a.last == b.last)
 abbrev pub are_same_codes : List CodeRange → List CodeRange → Bool
 are_same_codes a b = pointwise is_same_range a b
 
-abbrev pub code_hints : List FaceRow → Face → List Hint
+unfoldable pub code_hints : List FaceRow → Face → List Hint
 code_hints rows face =
     option_map_or (λ row. if are_same_codes face.codes (codes_in row.set) then [] else OtherCodes face.id row.set ∷ [])
     (find (has_set face.request) rows) []
 
-abbrev pub face_hints : List FaceRow → Face → List Hint
+unfoldable pub face_hints : List FaceRow → Face → List Hint
 face_hints rows face = advance_hints face ++ number_hints rows face ++ code_hints rows face

@@ -21,7 +21,7 @@ use Rattle.profile_lint.specs.PageHints.{area_lengths, units_in}
 use Rattle.shown_bytes.specs.Shown.{shown}
 
 -- a length in whole 7200ths of an inch, behind a space
-abbrev pub length_word : ℤ → List ℕ
+unfoldable pub length_word : ℤ → List ℕ
 length_word length = 32 ∷ decimal (units_in length)
 
 abbrev pub area_name : Area → List ℕ
@@ -58,10 +58,11 @@ table_words area page paper = area_words area page ++ paper_words area paper ++ 
 abbrev pub area_hint_words : Area → Geometry → Paper → List ℕ
 area_hint_words area page paper = own_words area page ++ table_words area (page_of paper page.orientation) paper
 
-abbrev pub advance_hint_words : ℕ → ℕ → ℕ → List ℕ
+unfoldable pub advance_hint_words : ℕ → ℕ → ℕ → List ℕ
 advance_hint_words face pitch advance =
-    (codes "face " ++ decimal face ++ codes ": a character advances by ") ++ decimal advance ++ codes ", but by its pitch it is " ++ decimal (advance_by pitch)
-    ++ codes " in 1/7200 inch"
+    (codes "face " ++ decimal face ++ codes ": a character advances by ")
+    ++ (decimal advance ++ codes ", but by its pitch it is ")
+    ++ (decimal (advance_by pitch) ++ codes " in 1/7200 inch")
 
 -- why it matters
 unfoldable pub differ_words : List ℕ
@@ -77,23 +78,23 @@ numbers_of metrics = record { advance = metrics.advance; ascent = metrics.ascent
 unfoldable pub numbers_words : Numbers → List ℕ
 numbers_words numbers = decimal numbers.advance ++ codes " " ++ decimal numbers.ascent ++ codes " " ++ decimal numbers.descent
 
-abbrev pub number_hint_words : ℕ → Numbers → Numbers → List ℕ
+unfoldable pub number_hint_words : ℕ → Numbers → Numbers → List ℕ
 number_hint_words face own wanted =
     (codes "face " ++ decimal face ++ codes ": advance, ascent and descent are ") ++ numbers_words own ++ codes ", but " ++ numbers_words wanted
     ++ differ_words
 
 -- ranges of codes, with commas between
-abbrev pub range_words : CodeRange → List ℕ
+unfoldable pub range_words : CodeRange → List ℕ
 range_words range = decimal range.first ++ codes "-" ++ decimal range.last
 
-abbrev pub more_range_words : CodeRange → List ℕ
+unfoldable pub more_range_words : CodeRange → List ℕ
 more_range_words range = 44 ∷ range_words range
 
-abbrev pub ranges_words : List CodeRange → List ℕ
+unfoldable pub ranges_words : List CodeRange → List ℕ
 ranges_words [] = []
 ranges_words (range ∷ more) = range_words range ++ flat_map more_range_words more
 
-abbrev pub code_hint_words : ℕ → CharacterSet → List ℕ
+unfoldable pub code_hint_words : ℕ → CharacterSet → List ℕ
 code_hint_words face set = (codes "face " ++ decimal face ++ codes ": its codes are not the ") ++ ranges_words (codes_in set) ++ lack_words
 
 -- the command by which a job sets a field

@@ -1,3 +1,7 @@
+pub mod Faults
+pub mod Whole
+pub mod TextFaults
+pub mod Laws
 pub mod Lint
 pub mod Shown
 pub mod Rules

@@ -8,7 +8,7 @@ use Rattle.profile_lint.specs.Differences.{difference_line, first_difference}
 use Rattle.profile_lint.specs.FaultLines.{fault_line}
 use Rattle.profile_lint.specs.HintLines.{hint_line}
 use Rattle.profile_lint.specs.Hints.{hints_of}
-use Rattle.profile_faults.specs.TextFaults.{faults_of}
+use Rattle.profile_lint.specs.TextFaults.{faults_of}
 
 -- a text under the word that names it
 pub record Named : Type 0 where
@@ -24,15 +24,15 @@ abbrev pub hints_text : List ℕ → Printer → List ℕ
 hints_text word printer = flat_map (hint_line word) (hints_of printer)
 
 -- what is found in one text: its faults, or where it has none hints on its printer
-abbrev pub findings_text : Named → List ℕ
+unfoldable pub findings_text : Named → List ℕ
 findings_text named = elim (printer_of_text named.text) [ Ok printer ↦ hints_text named.word printer | Err fault ↦ faults_text named.word named.text ]
 
 -- the printer of a text that has no fault
-abbrev pub sound_printers : Named → List Printer
+unfoldable pub sound_printers : Named → List Printer
 sound_printers named = elim (printer_of_text named.text) [ Ok printer ↦ printer ∷ [] | Err fault ↦ [] ]
 
 -- the word of one
-abbrev pub sound_words : Named → List (List ℕ)
+unfoldable pub sound_words : Named → List (List ℕ)
 sound_words named = elim (printer_of_text named.text) [ Ok printer ↦ named.word ∷ [] | Err fault ↦ [] ]
 
 -- the word at a place, or none

@@ -32,16 +32,16 @@ is_same_area Printable a b =
     && int_eq a.printable_bottom b.printable_bottom
 
 -- the paper of a size
-abbrev pub paper_of : ℕ → Option Paper
+unfoldable pub paper_of : ℕ → Option Paper
 paper_of size = find (λ paper. code_of paper == size) every_paper
 
 -- an area that is not that of the paper
-abbrev pub area_hints : Geometry → Paper → Area → List Hint
+unfoldable pub area_hints : Geometry → Paper → Area → List Hint
 area_hints page paper area = if is_same_area area page (page_of paper page.orientation) then [] else OtherArea area page paper ∷ []
 
-abbrev pub paper_hints : Geometry → Paper → List Hint
+unfoldable pub paper_hints : Geometry → Paper → List Hint
 paper_hints page paper = area_hints page paper Physical ++ area_hints page paper Logical ++ area_hints page paper Printable
 
 -- a page of a size that no paper has gives none
-abbrev pub page_hints : Geometry → List Hint
+unfoldable pub page_hints : Geometry → List Hint
 page_hints page = option_map_or (paper_hints page) (paper_of page.size) []

@@ -8,7 +8,7 @@ abbrev pub dots_behind : List ℕ → List ℕ
 dots_behind line = if nat_lt 40 (length line) then codes ".." else []
 
 -- a line between quotes
-abbrev pub quoted : List ℕ → List ℕ
+unfoldable pub quoted : List ℕ → List ℕ
 quoted line = codes "'" ++ shown (take 40 line) ++ dots_behind line ++ codes "'"
 
 -- the line of a number, which counts from 1, without its end

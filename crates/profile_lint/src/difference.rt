@@ -246,6 +246,7 @@ pub fn push_difference<A: Allocator>(
 }
 
 /// Appends what differs.
+#[tactic(auto, unfolding(crate::specs::Differences::difference_words))]
 fn push_difference_words<A: Allocator>(
     out: &mut Vec<u8, A>,
     difference: Difference,

@@ -24,6 +24,7 @@ pub(crate) fn push_hints_of_faces<A: Allocator>(
 }
 
 /// Appends the hints on a face.
+#[tactic(auto, unfolding(crate::specs::FaceHints::face_hints))]
 fn push_face_hints<A: Allocator>(
     hints: &mut Vec<Hint, A>,
     face: &FontRow<A>,
@@ -37,6 +38,7 @@ fn push_face_hints<A: Allocator>(
 }
 
 /// Appends a hint where the advance does not fit the pitch.
+#[tactic(auto, unfolding(crate::specs::FaceHints::advance_hints))]
 fn push_advance_hints<A: Allocator>(
     hints: &mut Vec<Hint, A>,
     face: &FontRow<A>,
@@ -80,6 +82,7 @@ pub(crate) fn advance_by(pitch: u32) -> u64
 }
 
 /// Appends a hint where the table has other numbers for the pitch, the height and the typeface.
+#[tactic(auto, unfolding(crate::specs::FaceHints::number_hints))]
 fn push_number_hints<A: Allocator>(
     hints: &mut Vec<Hint, A>,
     face: &FontRow<A>,
@@ -104,6 +107,7 @@ fn push_number_hints<A: Allocator>(
 }
 
 /// Appends a hint where the table has other codes for the symbol set.
+#[tactic(auto, unfolding(crate::specs::FaceHints::code_hints))]
 fn push_code_hints<A: Allocator>(
     hints: &mut Vec<Hint, A>,
     face: &FontRow<A>,

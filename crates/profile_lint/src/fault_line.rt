@@ -5,10 +5,10 @@ ghost use Rattle.profile_lint.specs.Rules.{broken_rule};
 ghost use Rattle.profile_lint.specs.Shown.{quoted};
 ghost use Rattle.shown_bytes.specs.Shown.{shown};
 
+use crate::fault::TextFault;
 use crate::key_rules::{broken_rule, meaning_of};
 use crate::shown::{line_at, push_number_in, push_numbers_in, push_quoted, push_word_in};
 use device_profile::{Cause, Key};
-use profile_faults::TextFault;
 use shown_bytes::{push_number, push_shown};
 use std::alloc::{AllocError, Allocator};
 
@@ -19,6 +19,7 @@ use std::alloc::{AllocError, Allocator};
 /// line at most 40 bytes are quoted.
 ///
 /// An error means that the allocator refused a request.
+#[tactic(auto, unfolding(crate::specs::FaultLines::fault_line))]
 pub fn push_fault<A: Allocator>(
     out: &mut Vec<u8, A>,
     file: &[u8],
@@ -57,6 +58,7 @@ fn push_cause<A: Allocator>(out: &mut Vec<u8, A>, cause: Cause) -> Result<(), Al
 }
 
 /// Appends the number of a line behind its file, and nothing for the whole, which has 0.
+#[tactic(auto, unfolding(crate::specs::FaultLines::line_words))]
 fn push_line_words<A: Allocator>(out: &mut Vec<u8, A>, number: u64) -> Result<(), AllocError>
     ensures { OnOk result (out.new.items ≡ out.old.items ++ line_words number) }
 {
@@ -68,6 +70,7 @@ fn push_line_words<A: Allocator>(out: &mut Vec<u8, A>, number: u64) -> Result<()
 }
 
 /// Appends what is wrong with a text.
+#[tactic(auto, unfolding(crate::specs::FaultLines::fault_words))]
 fn push_fault_words<A: Allocator>(
     out: &mut Vec<u8, A>,
     text: &[u8],

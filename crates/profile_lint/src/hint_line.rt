@@ -1,5 +1,5 @@
 //! The line that is written for a hint.
-ghost use Rattle.std.specs.Prelude.{◌≡◌, ◌++◌, OnOk, codes, flat_map};
+ghost use Rattle.std.specs.Prelude.{◌≡◌, ◌++◌, OnOk, codes, decimal, flat_map};
 ghost use Rattle.printer_models.specs.Face.{metrics_of};
 ghost use Rattle.shown_bytes.specs.Shown.{shown};
 ghost use Rattle.profile_lint.specs.HintLines.{advance_hint_words, area_hint_words, area_name, area_words, code_hint_words, command_of, differ_words, hint_line, hint_words, lack_words, length_names, length_word, more_range_words, number_hint_words, numbers_of, numbers_words, own_words, page_place, paper_words, range_words, ranges_words, several_words, table_words};
@@ -202,6 +202,7 @@ fn push_lengths<A: Allocator>(out: &mut Vec<u8, A>, lengths: &[Length]) -> Resul
 }
 
 /// Appends a length in whole 7200ths of an inch, behind a space.
+#[tactic(auto, unfolding(crate::specs::HintLines::length_word))]
 fn push_length_word<A: Allocator>(out: &mut Vec<u8, A>, length: Length) -> Result<(), AllocError>
     ensures { OnOk result (out.new.items ≡ out.old.items ++ length_word length) }
 {
@@ -239,10 +240,21 @@ fn push_advance_hint<A: Allocator>(
         (out.new.items ≡ out.old.items ++ advance_hint_words face pitch advance) }
 {
     push_number_in(out, b"face ", face, b": a character advances by ")?;
+    push_advance(out, advance, b", but by its pitch it is ")?;
+    push_advance(out, advance_by(pitch), b" in 1/7200 inch")
+}
+
+/// Appends an advance, and what follows.
+fn push_advance<A: Allocator>(
+    out: &mut Vec<u8, A>,
+    advance: u64,
+    behind: &[u8],
+) -> Result<(), AllocError>
+    ensures { OnOk result
+        (out.new.items ≡ out.old.items ++ (decimal advance ++ behind.now)) }
+{
     push_number(out, advance)?;
-    out.extend_from_slice(b", but by its pitch it is ")?;
-    push_number(out, advance_by(pitch))?;
-    out.extend_from_slice(b" in 1/7200 inch")
+    out.extend_from_slice(behind)
 }
 
 /// Appends why it matters that a face is not that of the table.
@@ -329,6 +341,7 @@ fn push_code_hint<A: Allocator>(
 }
 
 /// Appends ranges of codes, with commas between.
+#[tactic(auto, unfolding(crate::specs::HintLines::ranges_words))]
 fn push_ranges<A: Allocator>(out: &mut Vec<u8, A>, ranges: &[CodeRange]) -> Result<(), AllocError>
     ensures { OnOk result (out.new.items ≡ out.old.items ++ ranges_words ranges.now) }
 {
@@ -356,6 +369,7 @@ fn push_more_ranges<A: Allocator>(
 }
 
 /// Appends a range of codes behind a comma.
+#[tactic(auto, unfolding(crate::specs::HintLines::more_range_words))]
 fn push_more_range<A: Allocator>(out: &mut Vec<u8, A>, range: CodeRange) -> Result<(), AllocError>
     ensures { OnOk result (out.new.items ≡ out.old.items ++ more_range_words range) }
 {
@@ -364,6 +378,7 @@ fn push_more_range<A: Allocator>(out: &mut Vec<u8, A>, range: CodeRange) -> Resu
 }
 
 /// Appends a range of codes.
+#[tactic(auto, unfolding(crate::specs::HintLines::range_words))]
 fn push_range<A: Allocator>(out: &mut Vec<u8, A>, range: CodeRange) -> Result<(), AllocError>
     ensures { OnOk result (out.new.items ≡ out.old.items ++ range_words range) }
 {

@@ -5,12 +5,13 @@ ghost use Rattle.profile_lint.specs.HintLines.{hint_line};
 ghost use Rattle.profile_lint.specs.Lint.{difference_text, faults_text, findings_text, have_faults, lint_text, sound_printers, sound_words, word_at};
 
 use crate::difference::{first_difference, push_difference};
+use crate::fault::TextFault;
 use crate::fault_line::push_fault;
 use crate::hint::Hint;
 use crate::hint_line::push_hint;
 use crate::profile_hints::hints;
+use crate::text_faults::faults;
 use device_profile::{Profile, ProfileFault};
-use profile_faults::{TextFault, faults};
 use std::alloc::{AllocError, Allocator};
 use std::marker::Model;
 
@@ -86,6 +87,7 @@ fn push_hints<A: Allocator>(
 
 /// Appends what is found in a text; and where it has no fault, its word and its profile behind
 /// others.
+#[tactic(auto, unfolding(crate::specs::Lint::findings_text, crate::specs::Lint::sound_printers, crate::specs::Lint::sound_words))]
 fn take_findings<'w, A: Allocator + Copy>(
     alloc: A,
     lines: &mut Vec<u8, A>,

@@ -21,6 +21,7 @@ pub(crate) fn push_hints_of_pages<A: Allocator>(
 }
 
 /// Appends the hints on a page. One of a size that no paper has gives none.
+#[tactic(auto, unfolding(crate::specs::PageHints::page_hints))]
 fn push_page_hints<A: Allocator>(
     hints: &mut Vec<Hint, A>,
     page: &Geometry,
@@ -34,6 +35,7 @@ fn push_page_hints<A: Allocator>(
 }
 
 /// The paper of a size.
+#[tactic(auto, unfolding(crate::specs::PageHints::paper_of))]
 fn paper_of(size: u32) -> Option<Paper>
     ensures { result ≡ paper_of size }
 {
@@ -41,6 +43,7 @@ fn paper_of(size: u32) -> Option<Paper>
 }
 
 /// Appends a hint for each area that is not that of the paper.
+#[tactic(auto, unfolding(crate::specs::PageHints::paper_hints))]
 fn push_paper_hints<A: Allocator>(
     hints: &mut Vec<Hint, A>,
     page: &Geometry,
@@ -54,6 +57,7 @@ fn push_paper_hints<A: Allocator>(
 }
 
 /// Appends a hint where an area is not that of the paper.
+#[tactic(auto, unfolding(crate::specs::PageHints::area_hints))]
 fn push_area_hints<A: Allocator>(
     hints: &mut Vec<Hint, A>,
     page: &Geometry,

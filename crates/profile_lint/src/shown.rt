@@ -28,6 +28,7 @@ fn dots_behind(line: &[u8]) -> &'static [u8]
 }
 
 /// Appends a line between quotes.
+#[tactic(auto, unfolding(crate::specs::Shown::quoted))]
 pub(crate) fn push_quoted<A: Allocator>(out: &mut Vec<u8, A>, line: &[u8]) -> Result<(), AllocError>
     ensures { OnOk result (out.new.items ≡ out.old.items ++ quoted line.now) }
 {

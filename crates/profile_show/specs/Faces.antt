@@ -50,11 +50,13 @@ abbrev pub ranges_words : List CodeRange → List ℕ
 ranges_words [] = codes "none"
 ranges_words (range ∷ more) = range_words range ++ flat_map other_range more
 
--- the codes that print
+-- the id of a face, and its symbol set
+unfoldable pub face_words : Face → List ℕ
+face_words face = codes "    face " ++ decimal face.id ++ codes ", " ++ set_words face.request.symbol_set
+
+-- and the codes that print
 unfoldable pub set_line : Face → List ℕ
-set_line face =
-    codes "    face " ++ decimal face.id ++ codes ", " ++ set_words face.request.symbol_set
-    ++ codes ": " ++ ranges_words face.codes ++ codes "\n"
+set_line face = face_words face ++ codes ": " ++ ranges_words face.codes ++ codes "\n"
 
 unfoldable pub face_lines : Option Face → Face → List ℕ
 face_lines before face = heading_behind before face ++ set_line face

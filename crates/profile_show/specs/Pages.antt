@@ -4,6 +4,7 @@ use Rattle.std.specs.Ordering.{int_eq}
 use Rattle.std.specs.Option.{option_map_or}
 use Rattle.device_profile.specs.declared.geometry.Geometry.{Geometry}
 use Rattle.device_profile.specs.Printer.{row_at}
+use Rattle.profile_show.specs.declared.figures.LengthUnit.{LengthUnit}
 use Rattle.profile_show.specs.declared.figures.LengthUnit.TheVariants.{Millimetres, Inches, Dots}
 use Rattle.profile_show.specs.Figures.{length_in, sides_in}
 use Rattle.profile_show.specs.declared.label.Label.TheVariants.{Pages, LogicalPage, FromLeft, FromTop, PrintableArea}
@@ -33,11 +34,14 @@ unfoldable pub orientations_words : Bool → Geometry → List ℕ
 orientations_words is_both page =
     orientation_words page.orientation ++ (if is_both then codes " and " ++ orientation_words (reverse_of page.orientation) else [])
 
+-- the sides of the physical page, and what follows
+abbrev pub sheet_words : LengthUnit → Geometry → List ℕ → List ℕ
+sheet_words unit page behind = sides_in unit page.page_width page.page_height ++ behind
+
 unfoldable pub page_line : Geometry → List ℕ
 page_line page =
-    codes "    page: " ++ sides_in Millimetres page.page_width page.page_height
-    ++ codes ", " ++ sides_in Inches page.page_width page.page_height
-    ++ codes ", " ++ sides_in Dots page.page_width page.page_height ++ codes "\n"
+    codes "    page: " ++ sheet_words Millimetres page (codes ", ")
+    ++ sheet_words Inches page (codes ", ") ++ sheet_words Dots page (codes "\n")
 
 -- a place on the page
 unfoldable pub place_words : ℤ → ℤ → List ℕ

@@ -30,8 +30,11 @@ device_lines printer =
     codes "device:\n" ++ trays_line printer.device_trays ++ sides_line printer.has_duplex
     ++ macros_line printer.depth printer.memory
 
+unfoldable pub name_line : List ℕ → List ℕ
+name_line name = codes "name: " ++ name ++ codes "\n"
+
 -- the name, the panel, the device, the pages and the faces
 unfoldable pub shown_profile : List ℕ → Printer → List ℕ
 shown_profile name printer =
-    codes "name: " ++ name ++ codes "\n" ++ panel_lines printer ++ device_lines printer
+    name_line name ++ panel_lines printer ++ device_lines printer
     ++ pages_lines printer.geometries ++ faces_lines printer.faces

@@ -3,6 +3,7 @@ ghost use Rattle.std.specs.Prelude.{◌≡◌, ◌++◌, OnOk, None, flat_map};
 ghost use Rattle.std.specs.Option.{option_copied};
 ghost use Rattle.profile_show.specs.Faces.{
   face_lines,
+  face_words,
   faces_lines,
   heading_behind,
   heading_lines,
@@ -145,6 +146,20 @@ fn push_metric<A: Allocator>(
     push_7200ths(text, length)
 }
 
+/// Appends the id of a face, and its symbol set.
+#[tactic(auto, unfolding(crate::specs::Faces::face_words))]
+fn push_face_words<A: Allocator, P: Allocator>(
+    text: &mut Vec<u8, A>,
+    face: &FontRow<P>,
+) -> Result<(), AllocError>
+    ensures { OnOk result (text.new.items ≡ text.old.items ++ face_words face.now) }
+{
+    text.extend_from_slice(b"    face ")?;
+    push_number(text, u64::from(face.id()))?;
+    text.extend_from_slice(b", ")?;
+    push_set(text, face.request().symbol_set)
+}
+
 /// Appends the id of a face, its symbol set, and the codes that print.
 #[tactic(auto, unfolding(crate::specs::Faces::set_line))]
 fn push_set_line<A: Allocator, P: Allocator>(
@@ -153,10 +168,7 @@ fn push_set_line<A: Allocator, P: Allocator>(
 ) -> Result<(), AllocError>
     ensures { OnOk result (text.new.items ≡ text.old.items ++ set_line face.now) }
 {
-    text.extend_from_slice(b"    face ")?;
-    push_number(text, u64::from(face.id()))?;
-    text.extend_from_slice(b", ")?;
-    push_set(text, face.request().symbol_set)?;
+    push_face_words(text, face)?;
     text.extend_from_slice(b": ")?;
     push_ranges(text, face.codes())?;
     text.extend_from_slice(b"\n")

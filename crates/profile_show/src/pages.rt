@@ -13,6 +13,7 @@ ghost use Rattle.profile_show.specs.Pages.{
   place_words,
   printable_line,
   reverse_of,
+  sheet_words,
   span_words,
 };
 
@@ -162,17 +163,23 @@ fn push_page_line<A: Allocator>(text: &mut Vec<u8, A>, page: &Geometry) -> Resul
     ensures { OnOk result (text.new.items ≡ text.old.items ++ page_line page.now) }
 {
     text.extend_from_slice(b"    page: ")?;
-    push_sides(
-        text,
-        LengthUnit::Millimetres,
-        page.page_width,
-        page.page_height,
-    )?;
-    text.extend_from_slice(b", ")?;
-    push_sides(text, LengthUnit::Inches, page.page_width, page.page_height)?;
-    text.extend_from_slice(b", ")?;
-    push_sides(text, LengthUnit::Dots, page.page_width, page.page_height)?;
-    text.extend_from_slice(b"\n")
+    push_sheet(text, LengthUnit::Millimetres, page, b", ")?;
+    push_sheet(text, LengthUnit::Inches, page, b", ")?;
+    push_sheet(text, LengthUnit::Dots, page, b"\n")
+}
+
+/// Appends the sides of the physical page, and what follows.
+fn push_sheet<A: Allocator>(
+    text: &mut Vec<u8, A>,
+    unit: LengthUnit,
+    page: &Geometry,
+    behind: &[u8],
+) -> Result<(), AllocError>
+    ensures { OnOk result
+        (text.new.items ≡ text.old.items ++ sheet_words unit page.now behind.now) }
+{
+    push_sides(text, unit, page.page_width, page.page_height)?;
+    text.extend_from_slice(behind)
 }
 
 /// Appends the line of the logical page.

@@ -3,6 +3,7 @@ ghost use Rattle.std.specs.Prelude.{◌≡◌, ◌++◌, IfOk, OnOk};
 ghost use Rattle.profile_show.specs.Shown.{
   device_lines,
   macros_line,
+  name_line,
   shown_profile,
   sides_held,
   sides_line,
@@ -33,14 +34,22 @@ pub fn profile_text<A: Allocator, P: Allocator>(
     ensures { IfOk result (λ text. text.items ≡ shown_profile name.now profile.now) }
 {
     let mut text = Vec::new(alloc);
-    text.extend_from_slice(b"name: ")?;
-    text.extend_from_slice(name)?;
-    text.extend_from_slice(b"\n")?;
+    push_name(&mut text, name)?;
     push_panel(&mut text, profile)?;
     push_device(&mut text, profile)?;
     push_pages(&mut text, profile)?;
     push_faces(&mut text, profile)?;
     Ok(text)
+}
+
+/// Appends the line of the name.
+#[tactic(auto, unfolding(crate::specs::Shown::name_line))]
+fn push_name<A: Allocator>(text: &mut Vec<u8, A>, name: &[u8]) -> Result<(), AllocError>
+    ensures { OnOk result (text.new.items ≡ text.old.items ++ name_line name.now) }
+{
+    text.extend_from_slice(b"name: ")?;
+    text.extend_from_slice(name)?;
+    text.extend_from_slice(b"\n")
 }
 
 /// Appends what the device has.

@@ -1,6 +1,7 @@
 -- Pages with a line for each face.
 use Rattle.std.specs.Prelude.{ℕ, ◌+◌, ◌-◌, ◌/◌, ◌%◌, ◌==◌, min, max, List, [], ◌∷◌, ◌++◌, codes, decimal, flat_map, if◌then◌else◌}
 use Rattle.std.specs.List.{enumerate_from}
+use Rattle.device_profile.specs.declared.font.CodeRange.{CodeRange}
 use Rattle.device_profile.specs.declared.font.FontRequest.{FontRequest}
 use Rattle.device_profile.specs.declared.geometry.Geometry.{Geometry}
 use Rattle.device_profile.specs.Faces.{Face}
@@ -23,23 +24,23 @@ line_of count index = 1 + index % count
 abbrev pub amount_word : ℕ → List ℕ
 amount_word n = 32 ∷ amount n
 
--- what selects a font, each part behind a space
-unfoldable pub request_words : FontRequest → List ℕ
-request_words request =
-    32 ∷ symbol_set request.symbol_set
-    ++ amount_word request.pitch
-    ++ amount_word request.height
-    ++ amount_word request.style
-    ++ 32 ∷ signed_amount request.weight
-    ++ amount_word request.typeface
+-- the symbol set of a font, its pitch and its height, and what else selects it; each part behind a space
+unfoldable pub cut_words : FontRequest → List ℕ
+cut_words request = 32 ∷ symbol_set request.symbol_set ++ amount_word request.pitch ++ amount_word request.height
+
+unfoldable pub look_words : FontRequest → List ℕ
+look_words request = amount_word request.style ++ 32 ∷ signed_amount request.weight ++ amount_word request.typeface
 
 -- a face in words: its id, and what selects it
 unfoldable pub face_words : Face → List ℕ
-face_words face = decimal face.id ++ request_words face.request
+face_words face = decimal face.id ++ cut_words face.request ++ look_words face.request
 
 -- letters and figures, and the ends of the ranges of its codes
+unfoldable pub ends_of : CodeRange → List ℕ
+ends_of range = range.first ∷ range.last ∷ []
+
 unfoldable pub sample_words : Face → List ℕ
-sample_words face = codes "ABCxyz019 " ++ flat_map (λ range. range.first ∷ range.last ∷ []) face.codes
+sample_words face = codes "ABCxyz019 " ++ flat_map ends_of face.codes
 
 -- its words in the first face at the left, and letters of its own at the right
 unfoldable pub face_line : Area → Face → ℕ → Face → List ℕ

@@ -46,10 +46,13 @@ paper_words page =
     codes "Paper " ++ millimetres (unsigned_abs page.page_width)
     ++ codes " by " ++ millimetres (unsigned_abs page.page_height) ++ codes " mm"
 
--- a rule, by its edge, and how far it is from the paper's edge
+-- how far a rule is from the paper's edge
+unfoldable pub inside_words : ℕ → List ℕ
+inside_words distance = millimetres distance ++ codes " mm, " ++ decimal (nearest_dots distance) ++ codes " dots inside"
+
+-- the rule, by its edge, and how far it is from there
 unfoldable pub edge_words : List ℕ → ℕ → List ℕ
-edge_words edge distance =
-    edge ++ codes " rule " ++ millimetres distance ++ codes " mm, " ++ decimal (nearest_dots distance) ++ codes " dots inside"
+edge_words edge distance = edge ++ codes " rule " ++ inside_words distance
 
 unfoldable pub edge_lines : Area → Face → Geometry → List ℕ
 edge_lines area face page =
@@ -88,22 +91,30 @@ column_lines area face =
 -- ---- ten lines
 
 -- one line down from the one before, which is 1/6 inch under the VMI of the page
-abbrev pub spaced_line : Area → Face → ℕ → List ℕ
+unfoldable pub spaced_line : Area → Face → ℕ → List ℕ
 spaced_line area face n = line_down ++ move_across (indent area) ++ words_from area face (indent area) (numbered n)
 
 -- how far the rules are apart
 abbrev pub distance_words : List ℕ
 distance_words = codes "Rule to rule 42.3 mm"
 
--- ten lines between two rules that are 500 dots apart, from a place down, where there is room for them
-unfoldable pub ten_lines : Area → Face → ℕ → List ℕ
-ten_lines area face y =
-    if fits_at area face (indent area) (y + 40) && fits_at area face (indent area) (y + 490) && nat_le (y + 502) area.bottom
-    then rule_at area (indent area) y 300 2
+-- two rules that are 500 dots apart, from a place down, and how far that is
+unfoldable pub ten_rules : Area → Face → ℕ → List ℕ
+ten_rules area face y =
+    rule_at area (indent area) y 300 2
     ++ rule_at area (indent area) (y + 500) 300 2
     ++ words_at area face (indent area + 330) (y + 40) distance_words
-    ++ move_to (indent area) (y - 10)
-    ++ flat_map (spaced_line area face) numbers
+
+-- whether there is room for ten lines between them
+unfoldable pub has_ten_lines : Area → Face → ℕ → Bool
+has_ten_lines area face y =
+    fits_at area face (indent area) (y + 40) && fits_at area face (indent area) (y + 490) && nat_le (y + 502) area.bottom
+
+-- the rules and the lines, where there is
+unfoldable pub ten_lines : Area → Face → ℕ → List ℕ
+ten_lines area face y =
+    if has_ten_lines area face y
+    then ten_rules area face y ++ move_to (indent area) (y - 10) ++ flat_map (spaced_line area face) numbers
     else []
 
 -- ---- the page
@@ -133,6 +144,8 @@ measured_page name face page =
 abbrev pub is_measured : List ℕ → Geometry → Bool
 is_measured sizes page = list_any (λ size. size == page.size) sizes && nat_le page.orientation 1
 
+unfoldable pub measured_part : List ℕ → Face → List ℕ → Geometry → List ℕ
+measured_part name face sizes page = if is_measured sizes page then measured_page name face page else []
+
 unfoldable pub measured_pages : List ℕ → Face → List ℕ → List Geometry → List ℕ
-measured_pages name face sizes pages =
-    flat_map (λ page. if is_measured sizes page then measured_page name face page else []) pages
+measured_pages name face sizes pages = flat_map (measured_part name face sizes) pages

@@ -60,15 +60,24 @@ numbers = 1 ∷ 2 ∷ 3 ∷ 4 ∷ 5 ∷ 6 ∷ 7 ∷ 8 ∷ 9 ∷ 10 ∷ []
 abbrev pub numbered : ℕ → List ℕ
 numbered n = codes "Line " ++ decimal n
 
+-- a line of its number
+unfoldable pub numbered_line : Area → Face → ℕ → ℕ → List ℕ
+numbered_line area face termination n = own_line area face termination (numbered n)
+
 -- ---- the page
 
-abbrev pub own_lines : List ℕ → Area → Face → ℕ → List ℕ
-own_lines name area face termination =
+-- what it is
+unfoldable pub own_words : List ℕ → Area → Face → ℕ → List ℕ
+own_words name area face termination =
     own_line area face termination (codes "This page sets nothing: its paper,")
     ++ own_line area face termination (codes "font and lines are the panel's.")
     ++ own_line area face termination name
+
+unfoldable pub own_lines : List ℕ → Area → Face → ℕ → List ℕ
+own_lines name area face termination =
+    own_words name area face termination
     ++ own_line area face termination (codes "Ten lines:")
-    ++ flat_map (λ n. own_line area face termination (numbered n)) numbers
+    ++ flat_map (numbered_line area face termination) numbers
     ++ form_feed
 
 unfoldable pub own_page : List ℕ → Geometry → Face → Panel → List ℕ

@@ -21,6 +21,7 @@ pub(crate) fn push_sheet_settings<A: Allocator>(
 }
 
 /// Appends a size and an orientation, lines of 8/48 inch, and no top margin.
+#[tactic(auto, unfolding(crate::specs::Commands::page_request))]
 pub(crate) fn push_page_request<A: Allocator>(
     text: &mut Vec<u8, A>,
     size: u32,
@@ -36,6 +37,7 @@ pub(crate) fn push_page_request<A: Allocator>(
 }
 
 /// Appends the pitch and the height of a font of fixed spacing.
+#[tactic(auto, unfolding(crate::specs::Commands::font_size))]
 fn push_font_size<A: Allocator>(
     text: &mut Vec<u8, A>,
     request: &FontRequest,
@@ -50,6 +52,7 @@ fn push_font_size<A: Allocator>(
 }
 
 /// Appends the style, the stroke weight and the typeface of a font.
+#[tactic(auto, unfolding(crate::specs::Commands::font_look))]
 fn push_font_look<A: Allocator>(
     text: &mut Vec<u8, A>,
     request: &FontRequest,
@@ -79,6 +82,7 @@ pub(crate) fn push_font_request<A: Allocator>(
 }
 
 /// Appends a move to a place, in dots from the logical page's corner.
+#[tactic(auto, unfolding(crate::specs::Commands::move_to))]
 pub(crate) fn push_move_to<A: Allocator>(
     text: &mut Vec<u8, A>,
     x: u32,
@@ -94,6 +98,7 @@ pub(crate) fn push_move_to<A: Allocator>(
 }
 
 /// Appends a move to a column of dots.
+#[tactic(auto, unfolding(crate::specs::Commands::move_across))]
 pub(crate) fn push_move_across<A: Allocator>(
     text: &mut Vec<u8, A>,
     x: u32,
@@ -106,6 +111,7 @@ pub(crate) fn push_move_across<A: Allocator>(
 }
 
 /// Appends a black rectangle of so many dots.
+#[tactic(auto, unfolding(crate::specs::Commands::rectangle))]
 pub(crate) fn push_rectangle<A: Allocator>(
     text: &mut Vec<u8, A>,
     width: u32,

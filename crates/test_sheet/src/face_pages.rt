@@ -1,8 +1,8 @@
 //! Pages with a line for each face.
-ghost use Rattle.std.specs.Prelude.{◌≡◌, ◌++◌, ◌∷◌, [], ◌≤◌, ◌<◌, OnOk, IfOk, flat_map};
+ghost use Rattle.std.specs.Prelude.{◌≡◌, ◌++◌, ◌≤◌, ◌<◌, OnOk, IfOk, flat_map};
 ghost use Rattle.test_sheet.specs.Lines.{indent};
 ghost use Rattle.test_sheet.specs.Marks.{words_at};
-ghost use Rattle.test_sheet.specs.FacePages.{amount_word, face_entries, face_entry, face_line, face_pages, face_words, faces_on, heading, last_line, line_of, request_words, sample_words};
+ghost use Rattle.test_sheet.specs.FacePages.{amount_word, cut_words, ends_of, face_entries, face_entry, face_line, face_pages, face_words, faces_on, heading, last_line, line_of, look_words, sample_words};
 
 use crate::area::{Area, area_of};
 use crate::commands::{push_font_request, push_page_request};
@@ -44,22 +44,33 @@ fn face_words<A: Allocator, P: Allocator>(
 {
     let mut words = Vec::new(alloc);
     push_number(&mut words, u64::from(face.id()))?;
-    push_request_words(&mut words, &face.request())?;
+    push_cut_words(&mut words, &face.request())?;
+    push_look_words(&mut words, &face.request())?;
     Ok(words)
 }
 
-/// Appends what selects a font, each part behind a space.
-#[tactic(auto, unfolding(crate::specs::FacePages::request_words))]
-fn push_request_words<A: Allocator>(
+/// Appends the symbol set of a font, its pitch and its height, each behind a space.
+#[tactic(auto, unfolding(crate::specs::FacePages::cut_words))]
+fn push_cut_words<A: Allocator>(
     words: &mut Vec<u8, A>,
     request: &FontRequest,
 ) -> Result<(), AllocError>
-    ensures { OnOk result (words.new.items ≡ words.old.items ++ request_words request.now) }
+    ensures { OnOk result (words.new.items ≡ words.old.items ++ cut_words request.now) }
 {
     words.push(b' ')?;
     push_symbol_set(words, request.symbol_set)?;
     push_amount_word(words, request.pitch)?;
-    push_amount_word(words, request.height)?;
+    push_amount_word(words, request.height)
+}
+
+/// Appends what else selects a font, each part behind a space.
+#[tactic(auto, unfolding(crate::specs::FacePages::look_words))]
+fn push_look_words<A: Allocator>(
+    words: &mut Vec<u8, A>,
+    request: &FontRequest,
+) -> Result<(), AllocError>
+    ensures { OnOk result (words.new.items ≡ words.old.items ++ look_words request.now) }
+{
     push_amount_word(words, request.style)?;
     words.push(b' ')?;
     push_signed_amount(words, request.weight)?;
@@ -76,14 +87,21 @@ fn push_amount_word<A: Allocator>(words: &mut Vec<u8, A>, n: u32) -> Result<(), 
 
 /// Appends the ends of ranges of codes.
 fn push_ends<A: Allocator>(words: &mut Vec<u8, A>, ranges: &[CodeRange]) -> Result<(), AllocError>
-    ensures { OnOk result (words.new.items ≡
-        words.old.items ++ flat_map (λ range. range.first ∷ range.last ∷ []) ranges.now) }
+    ensures { OnOk result
+        (words.new.items ≡ words.old.items ++ flat_map ends_of ranges.now) }
 {
     for range in ranges {
-        words.push(range.first)?;
-        words.push(range.last)?;
+        push_ends_of(words, *range)?;
     }
     Ok(())
+}
+
+/// Appends the ends of a range of codes.
+#[tactic(auto, unfolding(crate::specs::FacePages::ends_of))]
+fn push_ends_of<A: Allocator>(words: &mut Vec<u8, A>, range: CodeRange) -> Result<(), AllocError>
+    ensures { OnOk result (words.new.items ≡ words.old.items ++ ends_of range) }
+{
+    words.extend_from_slice(&[range.first, range.last])
 }
 
 /// Letters and figures, and the ends of the ranges of a face's codes.

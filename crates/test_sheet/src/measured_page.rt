@@ -2,7 +2,7 @@
 ghost use Rattle.std.specs.Prelude.{◌≡◌, ◌++◌, ◌≤◌, ◌<◌, ◌^◌, OnOk, IfOk, flat_map};
 ghost use Rattle.test_sheet.specs.Lines.{baseline, words_on};
 ghost use Rattle.test_sheet.specs.Marks.{words_at};
-ghost use Rattle.test_sheet.specs.MeasuredPage.{bottom_distance, column_count, column_digits, column_lines, column_tens, column_words, edge_lines, edge_rules, edge_words, is_measured, left_distance, measured_page, measured_pages, page_head, page_words, paper_words, right_distance, size_words, spaced_line, ten_lines, tens_digit, top_distance};
+ghost use Rattle.test_sheet.specs.MeasuredPage.{bottom_distance, column_count, column_digits, column_lines, column_tens, column_words, edge_lines, edge_rules, edge_words, has_ten_lines, inside_words, is_measured, left_distance, measured_page, measured_pages, measured_part, page_head, page_words, paper_words, right_distance, size_words, spaced_line, ten_lines, ten_rules, tens_digit, top_distance};
 
 use crate::area::{Area, area_of};
 use crate::commands::{push_font_request, push_move_across, push_move_to, push_page_request};
@@ -99,11 +99,20 @@ fn edge_words<A: Allocator>(alloc: A, edge: &[u8], distance: u64) -> Result<Vec<
 {
     let mut words = Vec::from_slice(alloc, edge)?;
     words.extend_from_slice(b" rule ")?;
-    push_millimetres(&mut words, distance)?;
-    words.extend_from_slice(b" mm, ")?;
-    push_number(&mut words, nearest_dots(distance))?;
-    words.extend_from_slice(b" dots inside")?;
+    push_inside(&mut words, distance)?;
     Ok(words)
+}
+
+/// Appends how far a rule is from the paper's edge.
+#[tactic(auto, unfolding(crate::specs::MeasuredPage::inside_words))]
+fn push_inside<A: Allocator>(words: &mut Vec<u8, A>, distance: u64) -> Result<(), AllocError>
+    requires { distance ≤ 2 ^ 62 }
+    ensures { OnOk result (words.new.items ≡ words.old.items ++ inside_words distance) }
+{
+    push_millimetres(words, distance)?;
+    words.extend_from_slice(b" mm, ")?;
+    push_number(words, nearest_dots(distance))?;
+    words.extend_from_slice(b" dots inside")
 }
 
 /// Appends how far the four rules are from the paper's edges.
@@ -242,6 +251,7 @@ fn push_spaced_lines<A: Allocator + Copy, P: Allocator>(
 }
 
 /// Appends a line one line down from the one before.
+#[tactic(auto, unfolding(crate::specs::MeasuredPage::spaced_line))]
 fn push_spaced_line<A: Allocator + Copy, P: Allocator>(
     text: &mut Vec<u8, A>,
     alloc: A,
@@ -258,6 +268,35 @@ fn push_spaced_line<A: Allocator + Copy, P: Allocator>(
     push_words_from(text, area, face, indent(area), &words)
 }
 
+/// Appends two rules that are 500 dots apart, from a place down, and how far that is.
+#[tactic(auto, unfolding(crate::specs::MeasuredPage::ten_rules))]
+fn push_ten_rules<A: Allocator, P: Allocator>(
+    text: &mut Vec<u8, A>,
+    area: Area,
+    face: &FontRow<P>,
+    y: u32,
+) -> Result<(), AllocError>
+    requires { y < 2 ^ 25 }
+    ensures { OnOk result (text.new.items ≡ text.old.items ++ ten_rules area face.now y) }
+{
+    let x = indent(area);
+    push_rule_at(text, area, x, y, 300, 2)?;
+    push_rule_at(text, area, x, y + 500, 300, 2)?;
+    push_words_at(text, area, face, x + 330, y + 40, b"Rule to rule 42.3 mm")
+}
+
+/// Whether there is room for ten lines between them.
+#[tactic(auto, unfolding(crate::specs::MeasuredPage::has_ten_lines))]
+fn has_ten_lines<P: Allocator>(area: Area, face: &FontRow<P>, y: u32) -> bool
+    requires { y < 2 ^ 25 }
+    ensures { result ≡ has_ten_lines area face.now y }
+{
+    let x = indent(area);
+    fits_at(area, face, x, y + 40)
+        && fits_at(area, face, x, y + 490)
+        && y + 502 <= u32::from(area.bottom)
+}
+
 /// Appends ten lines between two rules that are 500 dots apart, from a place down, where there is
 /// room for them.
 #[tactic(auto, unfolding(crate::specs::MeasuredPage::ten_lines))]
@@ -271,15 +310,9 @@ fn push_ten_lines<A: Allocator + Copy, P: Allocator>(
     requires { y < 2 ^ 25 }
     ensures { OnOk result (text.new.items ≡ text.old.items ++ ten_lines area face.now y) }
 {
-    let x = indent(area);
-    if fits_at(area, face, x, y + 40)
-        && fits_at(area, face, x, y + 490)
-        && y + 502 <= u32::from(area.bottom)
-    {
-        push_rule_at(text, area, x, y, 300, 2)?;
-        push_rule_at(text, area, x, y + 500, 300, 2)?;
-        push_words_at(text, area, face, x + 330, y + 40, b"Rule to rule 42.3 mm")?;
-        push_move_to(text, x, y.saturating_sub(10))?;
+    if has_ten_lines(area, face, y) {
+        push_ten_rules(text, area, face, y)?;
+        push_move_to(text, indent(area), y.saturating_sub(10))?;
         push_spaced_lines(text, alloc, area, face, &NUMBERS)?;
     }
     Ok(())
@@ -348,6 +381,26 @@ fn is_measured(sizes: &[u32], page: &Geometry) -> bool
     sizes.contains(&page.size) && page.orientation <= 1
 }
 
+/// Appends a page, where it is of one of these sizes, in portrait or landscape.
+#[tactic(auto, unfolding(crate::specs::MeasuredPage::measured_part))]
+fn push_measured_part<A: Allocator + Copy, P: Allocator>(
+    text: &mut Vec<u8, A>,
+    alloc: A,
+    name: &[u8],
+    face: &FontRow<P>,
+    sizes: &[u32],
+    page: &Geometry,
+) -> Result<(), AllocError>
+    ensures { OnOk result (text.new.items ≡
+        text.old.items ++ measured_part name.now face.now sizes.now page.now) }
+{
+    if is_measured(sizes, page) {
+        push_measured_page(text, alloc, name, face, page)
+    } else {
+        Ok(())
+    }
+}
+
 /// Appends the pages of these sizes, in portrait and landscape.
 #[tactic(auto, unfolding(crate::specs::MeasuredPage::measured_pages))]
 pub(crate) fn push_measured_pages<A: Allocator + Copy, P: Allocator>(
@@ -362,9 +415,7 @@ pub(crate) fn push_measured_pages<A: Allocator + Copy, P: Allocator>(
         text.old.items ++ measured_pages name.now face.now sizes.now pages.now) }
 {
     for page in pages {
-        if is_measured(sizes, page) {
-            push_measured_page(text, alloc, name, face, page)?;
-        }
+        push_measured_part(text, alloc, name, face, sizes, page)?;
     }
     Ok(())
 }

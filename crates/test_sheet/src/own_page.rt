@@ -1,6 +1,6 @@
 //! The page that sets nothing: it shows what the panel has.
 ghost use Rattle.std.specs.Prelude.{◌≡◌, ◌++◌, ◌≤◌, ◌^◌, OnOk, IfOk, flat_map, replicate};
-ghost use Rattle.test_sheet.specs.OwnPage.{baseline_behind, blank_columns, first_baseline, has_own_lines, last_baseline, line_end, numbered, own_line, own_lines, own_page};
+ghost use Rattle.test_sheet.specs.OwnPage.{baseline_behind, blank_columns, first_baseline, has_own_lines, last_baseline, line_end, numbered, numbered_line, own_line, own_lines, own_page, own_words};
 
 use crate::area::{Area, area_of};
 use crate::dots::{DOT, ticks_of};
@@ -128,7 +128,7 @@ fn push_numbered_lines<A: Allocator + Copy, P: Allocator>(
     numbers: &[u8],
 ) -> Result<(), AllocError>
     ensures { OnOk result (text.new.items ≡ text.old.items
-        ++ flat_map (λ n. own_line area face.now termination (numbered n)) numbers.now) }
+        ++ flat_map (numbered_line area face.now termination) numbers.now) }
 {
     for number in numbers {
         push_numbered_line(text, alloc, area, face, termination, *number)?;
@@ -137,6 +137,7 @@ fn push_numbered_lines<A: Allocator + Copy, P: Allocator>(
 }
 
 /// Appends a line of its number.
+#[tactic(auto, unfolding(crate::specs::OwnPage::numbered_line))]
 fn push_numbered_line<A: Allocator + Copy, P: Allocator>(
     text: &mut Vec<u8, A>,
     alloc: A,
@@ -145,13 +146,33 @@ fn push_numbered_line<A: Allocator + Copy, P: Allocator>(
     termination: u32,
     number: u8,
 ) -> Result<(), AllocError>
-    ensures { OnOk result (text.new.items ≡
-        text.old.items ++ own_line area face.now termination (numbered number)) }
+    ensures { OnOk result
+        (text.new.items ≡ text.old.items ++ numbered_line area face.now termination number) }
 {
     push_own_line(text, area, face, termination, &numbered(alloc, number)?)
 }
 
+/// Appends lines that tell what the page is.
+#[tactic(auto, unfolding(crate::specs::OwnPage::own_words))]
+fn push_own_words<A: Allocator, P: Allocator>(
+    text: &mut Vec<u8, A>,
+    name: &[u8],
+    area: Area,
+    face: &FontRow<P>,
+    termination: u32,
+) -> Result<(), AllocError>
+    ensures { OnOk result (text.new.items ≡
+        text.old.items ++ own_words name.now area face.now termination) }
+{
+    let nothing = b"This page sets nothing: its paper,";
+    push_own_line(text, area, face, termination, nothing)?;
+    let panel = b"font and lines are the panel's.";
+    push_own_line(text, area, face, termination, panel)?;
+    push_own_line(text, area, face, termination, name)
+}
+
 /// Appends the lines of the page, and its end.
+#[tactic(auto, unfolding(crate::specs::OwnPage::own_lines))]
 fn push_own_lines<A: Allocator + Copy, P: Allocator>(
     text: &mut Vec<u8, A>,
     alloc: A,
@@ -163,21 +184,7 @@ fn push_own_lines<A: Allocator + Copy, P: Allocator>(
     ensures { OnOk result (text.new.items ≡
         text.old.items ++ own_lines name.now area face.now termination) }
 {
-    push_own_line(
-        text,
-        area,
-        face,
-        termination,
-        b"This page sets nothing: its paper,",
-    )?;
-    push_own_line(
-        text,
-        area,
-        face,
-        termination,
-        b"font and lines are the panel's.",
-    )?;
-    push_own_line(text, area, face, termination, name)?;
+    push_own_words(text, name, area, face, termination)?;
     push_own_line(text, area, face, termination, b"Ten lines:")?;
     push_numbered_lines(text, alloc, area, face, termination, &NUMBERS)?;
     text.extend_from_slice(b"\x0c")

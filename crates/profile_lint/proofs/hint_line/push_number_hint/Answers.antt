@@ -1,9 +1,10 @@
 use Rattle.std.proofs.Common.{◌++◌, ℕ, List, codes, decimal, ◌∙◌}
-use Rattle.profile_lint.specs.HintLines.{differ_words, numbers_words}
+use Rattle.profile_lint.specs.HintLines.{differ_words, number_hint_words, numbers_words}
 use Rattle.profile_lint.proofs.Pushed.{joined, last_is_pushed}
 use Rattle.profile_lint.proofs.hint_line.push_number_hint.Goals as goal
 
 pub returns : goal.returns
+unfolding number_hint_words
 returns g c =
     let old = c.args.out.now.items in
     let start : List ℕ = codes "face " ++ decimal c.args.face ++ codes ": advance, ascent and descent are " in

@@ -1,5 +1,0 @@
-use Rattle.profile_faults.proofs.FirstFault as lemmas
-use Rattle.profile_faults.proofs.laws.first_fault_is_why_refused.Goals as goal
-
-pub returns : goal.returns
-returns c = lemmas.tells_why_refused

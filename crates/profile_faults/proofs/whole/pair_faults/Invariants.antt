@@ -1,6 +1,0 @@
-use Rattle.std.proofs.Common.{◌≡◌, flat_map, take}
-use Rattle.profile_faults.specs.Whole.{faults_of_size}
-use Rattle.profile_faults.proofs.whole.pair_faults.Given as goal
-
-abbrev pub invariant-loop-size : goal.invariant-loop-size
-invariant-loop-size g l = l.faults.items ≡ flat_map (faults_of_size l.rows) (take l.size-index l.size-items)

@@ -1,4 +1,0 @@
-pub mod Faults
-pub mod Whole
-pub mod TextFaults
-pub mod Laws
