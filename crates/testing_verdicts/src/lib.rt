@@ -6,10 +6,11 @@ ghost use Rattle.std.specs.Prelude.{◌≤◌, ◌<◌, length};
 use device_profile::Profile;
 use page_env::Finding;
 use pcl_items::LexCause;
-use preflight::{Error, Session, Verdict, Watched, check_job};
+use preflight::{Session, Verdict, check_job};
 use std::alloc::Global;
 use std::fmt;
 use std::test::Fail;
+use streams::{Error, Latched};
 use testing_failures::{CutSource, FailingSource};
 use verdict::Reason;
 
@@ -84,7 +85,7 @@ fn compare(answer: Result<Verdict, Error>, wanted: Verdict, way: Way) -> Result<
 
 /// The verdict on a job that is read whole.
 pub fn verdict_on(alloc: Global, fleet: &[Profile], job: &[u8]) -> Result<Verdict, Error> {
-    check_job(alloc, &mut Watched::new(job), fleet)
+    check_job(alloc, &mut Latched::new(job), fleet)
 }
 
 /// Checks a job whole and byte by byte.

@@ -2,10 +2,11 @@
 
 use crate::jobs::{FIVE_JOBS, PAGE, TWO_PAGES, WRAPPED};
 use device_profile::Profile;
-use preflight::{Error, Watched, check_job};
+use preflight::check_job;
 use std::alloc::Global;
 use std::process::Abort;
 use std::test::Fail;
+use streams::{Error, Latched};
 use testing_failures::Refusing;
 use testing_items::RECTANGLE;
 use testing_printers::{Printer, fleet_of};
@@ -62,7 +63,7 @@ fn requests_of(
 ) -> u64 {
     for requests in 0..1000 {
         let heap = Refusing::new(alloc, requests);
-        match check_job(&heap, &mut Watched::new(bytes), fleet) {
+        match check_job(&heap, &mut Latched::new(bytes), fleet) {
             Err(Error::Memory) => {}
             answer => {
                 assert_eq!(rt; answer, Ok(expected.verdict()));

@@ -4,10 +4,11 @@ use crate::jobs::FIVE_JOBS;
 use device_profile::Profile;
 use page_env::Finding::{DefinitionOpen, StackEmpty};
 use pcl_items::LexCause::{EndInFrame, Pjl, Truncated};
-use preflight::{Error, Session, Verdict, Watched, check_job};
+use preflight::{Session, Verdict, check_job};
 use std::alloc::{Allocator, Global};
 use std::process::Abort;
 use std::test::Fail;
+use streams::{Error, Latched};
 use testing_failures::Refusing;
 use testing_items::job_of;
 use testing_printers::Printer::{B, D};
@@ -36,7 +37,7 @@ fn check_front(
     front: &[u8],
 ) -> Result<(), Error> {
     let len = front.len() as u64;
-    let whole = check_job(alloc, &mut Watched::new(front), fleet)?;
+    let whole = check_job(alloc, &mut Latched::new(front), fleet)?;
     let by_bytes = feed_pieces(alloc, fleet, front, 1)?;
     assert!(rt;
         may_end_so(&whole, len) && by_bytes == whole,

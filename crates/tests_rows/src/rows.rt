@@ -5,8 +5,9 @@ use crate::lines::{Line, read_line};
 use crate::trouble::Trouble;
 use device_profile::Profile;
 use job_reports::line_of;
-use preflight::{Error, Verdict};
+use preflight::Verdict;
 use std::alloc::{AllocError, Global};
+use streams::Error;
 use testing_printers::{printer_named, profile_of, with_area};
 use testing_verdicts::{Other, Way, check_each_way, verdict_on};
 

@@ -2,11 +2,10 @@
 ghost use Rattle.std.specs.Prelude.{◌≡◌, false, IsFalse};
 
 use device_profile::Sample;
-use preflight::Source;
 use requests::{PanelSetting, Status, tell};
 use std::alloc::{Allocator, Global};
 use std::process::Abort;
-use streams::{Create, Open, Outlet};
+use streams::{Create, Open, Outlet, Source};
 use subcommands::check::check;
 use subcommands::job_notes::tell_notes;
 use subcommands::list::list;
