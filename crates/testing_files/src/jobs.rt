@@ -4,7 +4,7 @@ ghost use Rattle.std.specs.Prelude.{◌≡◌, [], None, false};
 use named_inputs::{Ended, JobEnd, Jobs};
 use std::io;
 use streams::Source;
-use testing_failures::FailingSource;
+use testing_jobs::FailingSource;
 
 /// A name, the bytes of its job, and how many reads of a byte succeed.
 pub type NamedJob = (&'static [u8], &'static [u8], u64);

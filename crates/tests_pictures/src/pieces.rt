@@ -9,7 +9,7 @@ use std::alloc::Global;
 use std::process::Abort;
 use std::test::Fail;
 use streams::{Error, Latched, Source};
-use testing_failures::{CutSource, FailingOutlet};
+use testing_jobs::{CutSource, FailingOutlet};
 
 /// Jobs with an area on the first page: one has a second page that is wider, one a finding behind
 /// its first page, and one a fault.

@@ -7,9 +7,9 @@ use preflight::{Judgement, Session, check_job_telling};
 use std::alloc::Global;
 use std::process::Abort;
 use std::test::Fail;
-use testing_printers::Printer::{B, D, Moved};
 use streams::{Error, Latched};
-use testing_printers::{Printer, fleet_of};
+use testing_jobs::Printer::{B, D, Moved};
+use testing_jobs::{Printer, fleet_of};
 
 /// Printers and a job. What is told of it stands in the row files of runs.
 type Row = (&'static [Printer], &'static [u8]);

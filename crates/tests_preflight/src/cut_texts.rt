@@ -8,9 +8,8 @@ use std::alloc::Global;
 use std::process::Abort;
 use std::test::Fail;
 use streams::{Error, Latched};
-use testing_failures::{FailingOutlet, FailingSource, Refusing};
-use testing_printers::Printer::B;
-use testing_printers::profile_of;
+use testing_jobs::Printer::B;
+use testing_jobs::{FailingOutlet, FailingSource, Refusing, profile_of};
 
 /// The text of the five jobs, whole.
 fn whole_text(rt: &impl Abort, alloc: Global, text: Text, profile: &Profile) -> FailingOutlet {

@@ -7,11 +7,8 @@ use std::alloc::Global;
 use std::process::Abort;
 use std::test::Fail;
 use streams::{Error, Latched};
-use testing_failures::Refusing;
-use testing_items::RECTANGLE;
-use testing_printers::{Printer, fleet_of};
-use testing_verdicts::Expected::{Differs, Pass};
-use testing_verdicts::{Expected, check_in_pieces};
+use testing_jobs::Expected::{Differs, Pass};
+use testing_jobs::{Expected, Printer, RECTANGLE, Refusing, check_in_pieces, fleet_of};
 
 /// A job with each control code and each command that sets pages, margins or lines, or moves the
 /// cursor, and a rectangle.

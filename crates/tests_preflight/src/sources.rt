@@ -8,11 +8,8 @@ use std::alloc::Global;
 use std::process::Abort;
 use std::test::Fail;
 use streams::{Error, Latched, Outlet, Source, write_text};
-use testing_failures::{FailingOutlet, FailingSource};
-use testing_items::RECTANGLE;
-use testing_printers::{Printer, fleet_of};
-use testing_verdicts::Expected;
-use testing_verdicts::Expected::{Differs, Found, Pass};
+use testing_jobs::Expected::{Differs, Found, Pass};
+use testing_jobs::{Expected, FailingOutlet, FailingSource, Printer, RECTANGLE, fleet_of};
 
 const LINE: &[u8] = b"PASS pages=5 marks=7\n";
 

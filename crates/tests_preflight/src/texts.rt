@@ -8,9 +8,8 @@ use std::alloc::{Allocator, Global};
 use std::process::Abort;
 use std::test::Fail;
 use streams::{Error, Latched, Source};
-use testing_failures::{CutSource, FailingOutlet, FailingSource};
-use testing_printers::Printer::B;
-use testing_printers::profile_of;
+use testing_jobs::Printer::B;
+use testing_jobs::{CutSource, FailingOutlet, FailingSource, profile_of};
 
 /// A text of a job.
 #[derive(Clone, Copy, Debug)]

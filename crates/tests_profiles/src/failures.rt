@@ -5,8 +5,8 @@ use requests::Status;
 use std::alloc::Global;
 use std::process::Abort;
 use streams::{Error, Latched};
-use testing_failures::{FailingOutlet, Refusing};
 use testing_files::File;
+use testing_jobs::{FailingOutlet, Refusing};
 
 /// How a command ended: with a status, and with so many bytes in OUT and on standard output.
 type Ended = (Status, (usize, usize));

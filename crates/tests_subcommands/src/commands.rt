@@ -12,8 +12,8 @@ use subcommands::list::list;
 use subcommands::pages::pages;
 use subcommands::pin::pin;
 use subcommands::plain::plain;
-use testing_failures::{FailingOutlet, FailingSource, Refusing};
 use testing_files::{File, KeptTexts, Named};
+use testing_jobs::{FailingOutlet, FailingSource, Refusing};
 
 /// A subcommand.
 #[derive(Clone, Copy)]

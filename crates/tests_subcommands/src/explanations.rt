@@ -4,7 +4,7 @@ use meanings::explain::explain;
 use requests::tell;
 use std::process::Abort;
 use streams::Latched;
-use testing_failures::FailingOutlet;
+use testing_jobs::FailingOutlet;
 
 #[test]
 fn each_write_of_an_explanation_fails_in_turn(rt: HostRuntime) {

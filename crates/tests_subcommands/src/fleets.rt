@@ -6,8 +6,8 @@ use requests::{Status, Trouble, tell};
 use std::alloc::Allocator;
 use std::process::Abort;
 use streams::{Error, Latched, Outlet};
-use testing_failures::Refusing;
 use testing_files::{KeptTexts, Named};
+use testing_jobs::Refusing;
 
 /// Words of texts, and the texts.
 const TEXTS: &[Named<'static>] = &[

@@ -12,9 +12,8 @@ use std::alloc::Global;
 use std::process::Abort;
 use std::test::Fail;
 use streams::{Latched, Source};
-use testing_failures::{CutSource, FailingOutlet, FailingSource};
-use testing_printers::Printer::B;
-use testing_printers::profile_of;
+use testing_jobs::Printer::B;
+use testing_jobs::{CutSource, FailingOutlet, FailingSource, profile_of};
 
 /// How a job ends.
 #[derive(Clone, Copy)]
