@@ -2,7 +2,7 @@ use Rattle.std.proofs.Common.{◌≡◌, sym, subst}
 use Rattle.pcl_lexer.specs.declared.lexer.first.Context.{Context}
 use Rattle.pcl_lexer.specs.Lexing.FirstView.{context_view, first_view}
 use Rattle.pcl_lexer.specs.Reader.{first_of}
-use Rattle.pcl_lexer.proofs.lexer.first.first_in.Goals as goal
+use Rattle.pcl_lexer.proofs.lexer.ahead.first_in.Goals as goal
 
 pub returns-in-Pcl-clause-first : goal.returns-in-Pcl-clause-first
 returns-in-Pcl-clause-first c =
