@@ -5,7 +5,8 @@ ghost use Rattle.requests.specs.Words.{NamesSome};
 use crate::profile_tool_words::{
     from_pjl_command, lint_command, sheet_command, show_command, tool_request,
 };
-use crate::text_commands::{required, with_command};
+use crate::text_commands::required;
+use crate::words::with_command;
 use clap::builder::ValueParser;
 use clap::{Arg, ArgAction, ArgMatches, Command};
 use printer_models::PanelLists;

@@ -91,14 +91,6 @@ Exit status:
   2  usage error, a value that the profile does not list, or the profile is refused
   3  a read or a write failed, memory ran out, or no end after 2^40 reads";
 
-/// A command with one more below it.
-pub(crate) fn with_command<'a>(
-    command: Command<'a>,
-    below: Result<Command<'a>, AllocError>,
-) -> Result<Command<'a>, AllocError> {
-    command.subcommand(below?)
-}
-
 /// A word that has to come.
 pub(crate) fn required<'a>(alloc: Global, name: &'a str, help: &'a str) -> Arg<'a> {
     Arg::new(alloc, name)

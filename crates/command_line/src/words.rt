@@ -9,7 +9,7 @@ use crate::picture_words::{picture_command, picture_request};
 use crate::profile_words::{profile_command, profile_request};
 use crate::text_commands::{
     list_command, notes_command, pages_command, pin_command, pin_request, plain_command,
-    text_request, with_command,
+    text_request,
 };
 use clap::error::ErrorKind;
 use clap::{Arg, ArgAction, ArgMatches, Command};
@@ -38,6 +38,14 @@ fn explain_command<'a>(alloc: Global) -> Result<Command<'a>, AllocError> {
         )
         .after_help(EXPLAIN_EXPLANATION)
         .arg(code)
+}
+
+/// A command with one more below it.
+pub(crate) fn with_command<'a>(
+    command: Command<'a>,
+    below: Result<Command<'a>, AllocError>,
+) -> Result<Command<'a>, AllocError> {
+    command.subcommand(below?)
 }
 
 /// The command line of the program.

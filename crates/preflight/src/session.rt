@@ -10,8 +10,8 @@ ghost use Rattle.preflight.specs.Verdict.{IsExact, KeepsPromise};
 ghost use Rattle.preflight.specs.Culprit.{IsRight, IsTold};
 ghost use Rattle.preflight.specs.Carriers.Lockstep.{AreIn, AreRunning, counts_of, machines_of};
 
+use crate::check::{execute_decided, finish};
 use crate::culprit::{Culprit, Judgement};
-use crate::executing::{execute_decided, finish};
 use crate::laws::fails_say;
 use crate::lockstep::Lockstep;
 use crate::standing::Standing;

@@ -4,7 +4,7 @@ use Rattle.preflight.specs.Carriers.Checking.{ComesThrough}
 use Rattle.preflight.specs.Carriers.Lockstep.{machines_of, counts_of}
 use Rattle.preflight.specs.Standing.{StandsBy, is_open}
 use Rattle.preflight.proofs.Answered.{IsFurther}
-use Rattle.preflight.proofs.executing.execute_decided.Given as goal
+use Rattle.preflight.proofs.check.execute_decided.Given as goal
 
 abbrev pub invariant-loop-is_open : goal.invariant-loop-is_open
 invariant-loop-is_open g l = record {

@@ -7,7 +7,7 @@ use Rattle.pcl_lexer.specs.Reading.{left}
 use Rattle.preflight.specs.Standing.{is_open}
 use Rattle.preflight.proofs.Answered.{all_admit_next, bytes_fail, bytes_whole, came_closed, comes_on, ends, further, further_by_text, further_here, item_takes, not_further, nothing_read, same_mode, stands_behind, text_through, through_here, through_open, wants_more}
 use Rattle.preflight.proofs.Standings.{closed_on, failed_by, open_by, open_is}
-use Rattle.preflight.proofs.executing.execute_decided.Goals as goal
+use Rattle.preflight.proofs.check.execute_decided.Goals as goal
 
 both : {b : Bool} → b ≡ true → b ≡ false → ⊥
 both is other = let same : true ≡ false = sym is ∙ other in absurd cc
