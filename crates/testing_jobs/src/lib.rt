@@ -1,5 +1,5 @@
-//! For the tests and for files of rows: jobs and printers, what runs and checks them, and memory,
-//! readers and writers that fail when they are told to.
+//! For the tests and for files of rows: jobs, printers and runs of a machine, and memory, readers
+//! and writers that fail when they are told to.
 #![tactic(auto)]
 
 mod events;
@@ -8,7 +8,6 @@ mod memory;
 mod outlets;
 mod printers;
 mod sources;
-mod verdicts;
 
 pub use events::{Outcome, letter, run, step_all};
 pub use items::{Last, RECTANGLE, items_of, job_of, read_on, read_whole};
@@ -18,6 +17,3 @@ pub use printers::{
     Printer, fleet_of, printer_named, profile_of, text_of_one_page, with_area, with_line,
 };
 pub use sources::{CutSource, FailingSource};
-pub use verdicts::{
-    Expected, Other, Way, check_each_way, check_in_pieces, check_in_sizes, feed_pieces, verdict_on,
-};

@@ -7,8 +7,9 @@ use std::alloc::Global;
 use std::process::Abort;
 use std::test::Fail;
 use streams::{Error, Latched};
-use testing_jobs::Expected::{Differs, Pass};
-use testing_jobs::{Expected, Printer, RECTANGLE, Refusing, check_in_pieces, fleet_of};
+use testing_checks::Expected::{Differs, Pass};
+use testing_checks::{Expected, check_in_pieces};
+use testing_jobs::{Printer, RECTANGLE, Refusing, fleet_of};
 
 /// A job with each control code and each command that sets pages, margins or lines, or moves the
 /// cursor, and a rectangle.

@@ -9,9 +9,10 @@ use std::alloc::{Allocator, Global};
 use std::process::Abort;
 use std::test::Fail;
 use streams::{Error, Latched};
-use testing_jobs::Expected::{Differs, Fault, Found, Pass};
+use testing_checks::Expected::{Differs, Fault, Found, Pass};
+use testing_checks::{Expected, check_in_sizes, feed_pieces};
 use testing_jobs::Printer::{B, D};
-use testing_jobs::{Expected, Refusing, check_in_sizes, feed_pieces, fleet_of, job_of};
+use testing_jobs::{Refusing, fleet_of, job_of};
 
 /// Whether a job of so many bytes, which is the front of one that passes, may come to this verdict.
 fn may_end_so(verdict: &Verdict, len: u64) -> bool {

@@ -8,8 +8,9 @@ use std::alloc::Global;
 use std::process::Abort;
 use std::test::Fail;
 use streams::{Error, Latched, Outlet, Source, write_text};
-use testing_jobs::Expected::{Differs, Found, Pass};
-use testing_jobs::{Expected, FailingOutlet, FailingSource, Printer, RECTANGLE, fleet_of};
+use testing_checks::Expected;
+use testing_checks::Expected::{Differs, Found, Pass};
+use testing_jobs::{FailingOutlet, FailingSource, Printer, RECTANGLE, fleet_of};
 
 const LINE: &[u8] = b"PASS pages=5 marks=7\n";
 

@@ -5,7 +5,7 @@ use requests::Status;
 use std::alloc::Global;
 use std::process::Abort;
 use streams::{Error, Latched};
-use testing_files::File;
+use testing_checks::File;
 use testing_jobs::{FailingOutlet, Refusing};
 
 /// How a command ended: with a status, and with so many bytes in OUT and on standard output.

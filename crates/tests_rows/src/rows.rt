@@ -8,7 +8,8 @@ use job_reports::line_of;
 use preflight::Verdict;
 use std::alloc::{AllocError, Global};
 use streams::Error;
-use testing_jobs::{Other, Way, check_each_way, printer_named, profile_of, verdict_on, with_area};
+use testing_checks::{Other, Way, check_each_way, verdict_on};
+use testing_jobs::{printer_named, profile_of, with_area};
 
 /// Checks the rows of a text, and counts them. An error has the number of its line, from 1.
 pub fn check_text(alloc: Global, text: &str) -> Result<u64, (u64, Trouble)> {

@@ -12,7 +12,7 @@ use subcommands::list::list;
 use subcommands::pages::pages;
 use subcommands::pin::pin;
 use subcommands::plain::plain;
-use testing_files::{File, KeptTexts, Named};
+use testing_checks::{File, KeptTexts, Named};
 use testing_jobs::{FailingOutlet, FailingSource, Refusing};
 
 /// A subcommand.

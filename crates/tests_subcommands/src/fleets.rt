@@ -6,7 +6,7 @@ use requests::{Status, Trouble, tell};
 use std::alloc::Allocator;
 use std::process::Abort;
 use streams::{Error, Latched, Outlet};
-use testing_files::{KeptTexts, Named};
+use testing_checks::{KeptTexts, Named};
 use testing_jobs::Refusing;
 
 /// Words of texts, and the texts.

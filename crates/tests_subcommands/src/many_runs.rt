@@ -7,7 +7,7 @@ use requests::tell;
 use std::alloc::{Allocator, Global};
 use std::process::Abort;
 use std::test::Fail;
-use testing_files::{Change, KeptJobs, KeptTexts, Named, NamedJob};
+use testing_checks::{Change, KeptJobs, KeptTexts, Named, NamedJob};
 use testing_jobs::{FailingOutlet, RECTANGLE};
 
 /// All reads succeed.

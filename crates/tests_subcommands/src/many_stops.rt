@@ -3,7 +3,7 @@
 use crate::many_runs::{EACH, Form, Manner, Run, run_of};
 use std::process::Abort;
 use std::test::Fail;
-use testing_files::Change;
+use testing_checks::Change;
 use testing_jobs::Refusing;
 
 const WRITE: &[u8] = b"ERROR write\n";

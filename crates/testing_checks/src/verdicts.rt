@@ -2,7 +2,6 @@
 
 ghost use Rattle.std.specs.Prelude.{◌≤◌, ◌<◌, length};
 
-use crate::sources::{CutSource, FailingSource};
 use device_profile::Profile;
 use page_env::Finding;
 use pcl_items::LexCause;
@@ -11,6 +10,7 @@ use std::alloc::Global;
 use std::fmt;
 use std::test::Fail;
 use streams::{Error, Latched};
+use testing_jobs::{CutSource, FailingSource};
 use verdict::Reason;
 
 /// What a row expects of a check.
