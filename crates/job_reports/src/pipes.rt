@@ -4,12 +4,11 @@ ghost use Rattle.streams.specs.Writing.{Writes};
 ghost use Rattle.job_reports.specs.Pipes.{RefusesPipe, pipe_again};
 
 use crate::job_sentences::push_named_first;
-use preflight::Error;
 use requests::Status;
 use std::alloc::{AllocError, Global};
 use std::fs;
 use std::rt::Files;
-use streams::{Outlet, write_text};
+use streams::{Error, Outlet, write_text};
 
 /// Whether what is at a path is gone once it is read, as the bytes of a pipe.
 pub fn is_pipe<R: Files>(rt: &R, name: &[u8]) -> bool {
@@ -29,7 +28,7 @@ pub fn refuse_pipe<E: Outlet>(alloc: Global, name: &[u8], why: &[u8], stderr: &m
         RefusesPipe jobs why.now result (E.state stderr.old) (E.state stderr.new) }
 {
     match pipe_again(alloc, name, why) {
-        Ok(line) => refuse(line.as_slice(), stderr),
+        Ok(line) => refuse_words(line.as_slice(), stderr),
         Err(_) => Status::Stopped(Error::Memory),
     }
 }
@@ -47,7 +46,7 @@ fn pipe_again(alloc: Global, name: &[u8], why: &[u8]) -> Result<Vec<u8>, AllocEr
 }
 
 /// Tells standard error why words are refused.
-pub fn refuse<E: Outlet>(text: &[u8], stderr: &mut E) -> Status
+pub fn refuse_words<E: Outlet>(text: &[u8], stderr: &mut E) -> Status
     requires { IsFalse (E.state stderr.old).failed }
     ensures status { result ≡ Status.Usage }
     ensures text { Writes (E.state stderr.old) (E.state stderr.new) text.now }

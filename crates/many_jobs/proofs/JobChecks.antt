@@ -15,8 +15,8 @@ use Rattle.preflight.specs.declared.culprit.Judgement.{Judgement}
 use Rattle.streams.specs.Outlet.{OutletState, Adds, AddsFront}
 use Rattle.streams.specs.Source.{SourceState}
 use Rattle.streams.proofs.OutletFacts.{Adds-none, Adds-trans}
-use Rattle.many_jobs.specs.declared.job_checks.Ending.{Ending}
-use Rattle.many_jobs.specs.declared.job_checks.Ending.TheVariants.{Passes, Fails, HasNoVerdict}
+use Rattle.many_jobs.specs.declared.ending.Ending.{Ending}
+use Rattle.many_jobs.specs.declared.ending.Ending.TheVariants.{Passes, Fails, HasNoVerdict}
 use Rattle.job_reports.specs.Groups.{Groups, group_at, group_count, of_group, reported}
 use Rattle.many_jobs.specs.JobChecks.{AddsTold, AreRightToCut, CutsNotes, CutsTold, IsErrorOfJob, IsErrorOfLine, IsRightAnswer, IsRightLine, CheckLine, TellsLines, TellsAll, TellsFront, TellsNotes, Work, afters, afters_of, due_of, ending_of, ending_of_line, keyed, line_text, worse, worst}
 use Rattle.many_jobs.specs.JobNoting.{IsRightlyNoted, Noted, ending_of_notes, note_printer, notes_text}

@@ -20,7 +20,7 @@ use Rattle.named_inputs.specs.KeptText.{kept_error}
 use Rattle.many_jobs.specs.JobNoting.{AreRightNotes, Comes, IsErrorOfNotes, Noted, ending_of_notes, notes_text}
 use Rattle.many_jobs.specs.NoteReports.{subject_of, told_note}
 use Rattle.many_jobs.specs.Telling.{HowTold}
-use Rattle.many_jobs.specs.declared.job_checks.Ending.{Ending}
+use Rattle.many_jobs.specs.declared.ending.Ending.{Ending}
 
 abbrev is_done : Outcome → Bool
 is_done AllDone = true

@@ -7,8 +7,8 @@ use Rattle.streams.specs.declared.error.Error.TheVariants.{Read}
 use Rattle.notes.specs.Notes.{with_most_items}
 use Rattle.streams.specs.Outlet.{OutletState}
 use Rattle.streams.specs.Source.{SourceState}
-use Rattle.many_jobs.specs.declared.job_checks.Ending.{Ending}
-use Rattle.many_jobs.specs.declared.job_checks.Ending.TheVariants.{Passes, Fails, HasNoVerdict}
+use Rattle.many_jobs.specs.declared.ending.Ending.{Ending}
+use Rattle.many_jobs.specs.declared.ending.Ending.TheVariants.{Passes, Fails, HasNoVerdict}
 use Rattle.requests.specs.declared.status.Status.{Status}
 use Rattle.requests.specs.declared.status.Status.TheVariants.{Pass, Fail, Profile, Stopped, Told}
 use Rattle.requests.specs.declared.status.Trouble.TheVariants.{Refused, NoVerdict}

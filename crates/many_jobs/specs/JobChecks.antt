@@ -20,8 +20,8 @@ use Rattle.many_jobs.specs.JobNoting.{AreRightNotes, IsRightlyNoted, Noted, endi
 use Rattle.many_jobs.specs.NoteReports.{subject_of, told_note}
 use Rattle.job_reports.specs.Reports.{verdict_of}
 use Rattle.many_jobs.specs.Telling.{HowTold, report_text}
-use Rattle.many_jobs.specs.declared.job_checks.Ending.{Ending}
-use Rattle.many_jobs.specs.declared.job_checks.Ending.TheVariants.{Passes, Fails, HasNoVerdict}
+use Rattle.many_jobs.specs.declared.ending.Ending.{Ending}
+use Rattle.many_jobs.specs.declared.ending.Ending.TheVariants.{Passes, Fails, HasNoVerdict}
 
 -- ---- one job, for one group of printers
 

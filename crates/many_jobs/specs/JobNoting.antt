@@ -14,8 +14,8 @@ use Rattle.notes.specs.Note.{Told}
 use Rattle.notes.specs.Notes.{notes_rendering}
 use Rattle.job_reports.specs.Groups.{Groups, reported}
 use Rattle.many_jobs.specs.Telling.{HowTold, report_text}
-use Rattle.many_jobs.specs.declared.job_checks.Ending.{Ending}
-use Rattle.many_jobs.specs.declared.job_checks.Ending.TheVariants.{Passes, HasNoVerdict}
+use Rattle.many_jobs.specs.declared.ending.Ending.{Ending}
+use Rattle.many_jobs.specs.declared.ending.Ending.TheVariants.{Passes, HasNoVerdict}
 
 -- the printer that notes are told for: the first of these, where the job passes
 abbrev pub note_printer : Result Verdict Error → List Printer → Option Printer

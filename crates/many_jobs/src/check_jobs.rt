@@ -8,7 +8,8 @@ ghost use Rattle.many_jobs.specs.JobChecks.{work};
 ghost use Rattle.named_inputs.specs.Texts.{IsErrorOfReading};
 
 use crate::copied_texts::{CopiedTexts, note_printers, printer_names};
-use crate::job_checks::{Ending, check_jobs};
+use crate::ending::Ending;
+use crate::job_checks::check_jobs;
 use crate::limited::limited_fleet;
 use crate::telling::{Format, Telling};
 use device_profile::Cause;

@@ -1,65 +1,19 @@
 //! A check of many jobs, which writes a line for each.
-ghost use Rattle.std.specs.Prelude.{◌≡◌, ◌≢◌, ◌∷◌, [], IfErr, IfOk, IsFalse, List, OnOk, Option, flat_map, map, ℕ};
+ghost use Rattle.std.specs.Prelude.{◌≡◌, ◌≢◌, ◌∷◌, [], IfErr, IfOk, IsFalse, flat_map, map};
 ghost use Rattle.streams.specs.Errors.{is_err_of_write};
 ghost use Rattle.many_jobs.specs.Asked.{told_by};
-ghost use Rattle.job_reports.specs.Groups.{group_at, reported};
-ghost use Rattle.many_jobs.specs.JobChecks.{AddsTold, CutsTold, IsErrorOfLine, IsRightAnswer, TellsAll, TellsFront, due_of, ending_of, keyed, work, worse};
-ghost use Rattle.job_reports.specs.Reports.{verdict_of};
-ghost use Rattle.many_jobs.specs.Telling.{report_text};
+ghost use Rattle.job_reports.specs.Groups.{group_at};
+ghost use Rattle.many_jobs.specs.JobChecks.{IsErrorOfLine, IsRightAnswer, TellsAll, TellsFront, due_of, keyed, work};
 
+use crate::ending::Ending;
 use crate::job_noting::{note_printer, tell_notes};
-use crate::telling::{Telling, push_report};
-use job_reports::{PrinterGroup, Report};
+use crate::telling::Telling;
+use crate::told_lines::tell_line;
+use job_reports::PrinterGroup;
 use named_inputs::Jobs;
-use named_inputs::system_words::system_words;
-use preflight::{Judgement, Verdict, check_job_within};
-use std::alloc::{AllocError, Allocator};
-use std::io;
-use streams::{Error, Outlet, Source, write_text};
-
-/// How jobs count for the exit status.
-#[derive(Clone, Copy, Debug, PartialEq, Eq)]
-pub enum Ending {
-    /// All pass, or a FAIL counts as a PASS.
-    Passes,
-    /// One fails.
-    Fails,
-    /// One has no verdict.
-    HasNoVerdict,
-}
-
-impl Ending {
-    /// How a job of this result counts; where `exit_zero` is set a FAIL counts as a PASS.
-    fn of(exit_zero: bool, answer: Result<Judgement, Error>) -> Ending
-        ensures { result ≡ ending_of exit_zero (verdict_of answer) }
-    {
-        match answer {
-            Ok(judgement) => Ending::of_verdict(exit_zero, judgement.verdict),
-            Err(_) => Ending::HasNoVerdict,
-        }
-    }
-
-    /// How a verdict counts.
-    fn of_verdict(exit_zero: bool, verdict: Verdict) -> Ending
-        ensures { result ≡ ending_of exit_zero (Ok verdict) }
-    {
-        match verdict {
-            Verdict::Fail { .. } if !exit_zero => Ending::Fails,
-            Verdict::Fail { .. } | Verdict::Pass { .. } => Ending::Passes,
-        }
-    }
-
-    /// The greater one.
-    fn worse(self, other: Ending) -> Ending
-        ensures { result ≡ worse self other }
-    {
-        match (self, other) {
-            (Ending::HasNoVerdict, _) | (_, Ending::HasNoVerdict) => Ending::HasNoVerdict,
-            (Ending::Fails, _) | (_, Ending::Fails) => Ending::Fails,
-            (Ending::Passes, Ending::Passes) => Ending::Passes,
-        }
-    }
-}
+use preflight::{Judgement, check_job_within};
+use std::alloc::Allocator;
+use streams::{Error, Outlet, Source};
 
 /// Checks jobs one after another for each group of the printers, and writes a line for each.
 ///
@@ -177,52 +131,4 @@ fn check_group<S: Source, A: Allocator + Copy>(
     ensures { IsRightAnswer group.now.fleet (S.state job.old) (S.state job.new) result }
 {
     check_job_within(alloc, job, group.profiles())
-}
-
-/// Writes what came of a job, with what the system says of an error, where it can be had.
-pub(crate) fn tell_line<'t, O: Outlet, A: Allocator + Copy>(
-    alloc: A,
-    group: &'t PrinterGroup<'t, A>,
-    name: &'t [u8],
-    answer: Result<Judgement, Error>,
-    error: Option<io::Error>,
-    telling: &Telling<'_>,
-    stdout: &mut O,
-) -> Result<(), Error>
-    requires { IsFalse (O.state stdout.old).failed }
-    ensures told { OnOk result (AddsTold
-        (λ cause. report_text (told_by telling.now) (reported group.now name.now answer cause))
-        (O.state stdout.old) (O.state stdout.new)) }
-    ensures cut { IfErr result (λ error. CutsTold error
-        (λ cause. report_text (told_by telling.now) (reported group.now name.now answer cause))
-        (O.state stdout.old) (O.state stdout.new)) }
-    ensures write { (O.state stdout.new).failed ≡ is_err_of_write result }
-{
-    let line = line_of_job(alloc, group, name, answer, error, telling)?;
-    write_text(stdout, line.as_slice())
-}
-
-/// What is told of a job, with what the system says of an error, where it can be had.
-fn line_of_job<'t, A: Allocator + Copy>(
-    alloc: A,
-    group: &'t PrinterGroup<'t, A>,
-    name: &'t [u8],
-    answer: Result<Judgement, Error>,
-    error: Option<io::Error>,
-    telling: &Telling<'_>,
-) -> Result<Vec<u8, A>, AllocError>
-    ensures { IfOk result (λ line. (cause : Option (List ℕ)) × (line.items ≡
-        report_text (told_by telling.now) (reported group.now name.now answer cause))) }
-{
-    let words = system_words(alloc, error);
-    let cause = words.as_ref().map(|words| words.as_bytes());
-    let report = Report {
-        printers: group,
-        job: name,
-        answer,
-        cause,
-    };
-    let mut line = Vec::new(alloc);
-    push_report(alloc, &mut line, &report, telling)?;
-    Ok(line)
 }

@@ -9,9 +9,10 @@ ghost use Rattle.many_jobs.specs.JobNoting.{AreRightNotes, Noted, ending_of_note
 ghost use Rattle.many_jobs.specs.NoteReports.{subject_of, told_note};
 ghost use Rattle.job_reports.specs.Reports.{verdict_of};
 
-use crate::job_checks::{Ending, tell_line};
+use crate::ending::Ending;
 use crate::note_reports::NoteReport;
 use crate::telling::Telling;
+use crate::told_lines::tell_line;
 use device_profile::Profile;
 use job_reports::PrinterGroup;
 use named_inputs::{Jobs, KeptText, kept_error};

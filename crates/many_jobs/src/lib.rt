@@ -3,6 +3,7 @@
 
 mod check_jobs;
 mod copied_texts;
+mod ending;
 mod fleet_file;
 mod job_checks;
 mod job_noting;
@@ -12,6 +13,7 @@ mod json_texts;
 mod limited;
 mod note_reports;
 mod telling;
+mod told_lines;
 
 pub use check_jobs::{ManyJobs, check_many};
 pub use fleet_file::read_fleet_file;

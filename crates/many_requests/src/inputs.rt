@@ -3,7 +3,7 @@ ghost use Rattle.std.specs.Prelude.{◌≡◌, ◌≤◌, Contains, IfNone, IfSo
 ghost use Rattle.many_requests.specs.Inputs.{RefusesInput, is_apart, is_input, reads_input_again};
 ghost use Rattle.many_jobs.specs.Asked.{asked_for};
 
-use job_reports::{is_pipe, refuse, refuse_pipe};
+use job_reports::{is_pipe, refuse_pipe, refuse_words};
 use many_jobs::ManyJobs;
 use requests::Status;
 use std::rt::Files;
@@ -33,7 +33,7 @@ pub fn refuse_inputs<R: Files + AllocGlobal, E: Outlet>(
         (E.state stderr.old) (E.state stderr.new)) }
 {
     if reads_input_again(names_from, many) {
-        return Some(refuse(INPUT_AGAIN, stderr));
+        return Some(refuse_words(INPUT_AGAIN, stderr));
     }
     if !is_apart(many) {
         return None;

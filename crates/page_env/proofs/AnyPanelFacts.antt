@@ -21,7 +21,7 @@ use Rattle.device_profile.specs.Printer.{Printer}
 use Rattle.page_env.specs.declared.motion.Feed.{Feed}
 use Rattle.page_env.specs.declared.motion.Feed.TheVariants.{Line as WholeLine, HalfLine}
 use Rattle.page_env.specs.declared.motion.LineTermination.{LineTermination as Termination}
-use Rattle.page_env.specs.declared.page.Cursor.{Cursor}
+use Rattle.page_env.specs.declared.cursor.Cursor.{Cursor}
 use Rattle.page_env.specs.declared.page.FontParts.{FontParts}
 use Rattle.page_env.specs.declared.page.PenPlace.{PenPlace}
 use Rattle.page_env.specs.FontInForce.{font_reads}

@@ -4,7 +4,7 @@ use Rattle.std.proofs.lemmas.Bool.{not-false}
 use Rattle.pcl_items.specs.Escapes.Value.{Amount}
 use Rattle.device_profile.specs.Printer.{Printer}
 use Rattle.page_env.specs.declared.finding.Finding.TheVariants.{BadValue, StackFull}
-use Rattle.page_env.specs.declared.page.Cursor.{Cursor}
+use Rattle.page_env.specs.declared.cursor.Cursor.{Cursor}
 use Rattle.page_env.specs.Settings.{State}
 use Rattle.page_env.specs.Numbers.{whole_of, is_whole_between}
 use Rattle.page_env.specs.CursorPositioning.{move_x, move_y, move_x_decipoints, move_y_decipoints, move_columns, move_rows, stack_room, push_cursor, pop_cursor, popped, use_stack}

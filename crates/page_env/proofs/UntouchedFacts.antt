@@ -15,7 +15,7 @@ use Rattle.pcl_items.specs.Escapes.Value.{Amount}
 use Rattle.device_profile.specs.Printer.{Printer}
 use Rattle.page_env.specs.declared.motion.Feed.{Feed}
 use Rattle.page_env.specs.declared.motion.Feed.TheVariants.{Line as WholeLine, HalfLine}
-use Rattle.page_env.specs.declared.page.Cursor.{Cursor}
+use Rattle.page_env.specs.declared.cursor.Cursor.{Cursor}
 use Rattle.page_env.specs.Settings.{Flags, Settings, State}
 use Rattle.page_env.specs.Numbers.{whole_of, is_absent}
 use Rattle.page_env.specs.CursorPositioning.{push_cursor, popped, pop_cursor, relative_reads}

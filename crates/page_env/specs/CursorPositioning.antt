@@ -6,7 +6,7 @@ use Rattle.device_profile.specs.declared.field.Field.{Field}
 use Rattle.device_profile.specs.declared.field.Field.TheVariants.{Size, Orientation}
 use Rattle.device_profile.specs.Printer.{Printer}
 use Rattle.page_env.specs.declared.finding.Finding.TheVariants.{BadValue, OffPage, StackFull, StackEmpty, Inexact}
-use Rattle.page_env.specs.declared.page.Cursor.{Cursor}
+use Rattle.page_env.specs.declared.cursor.Cursor.{Cursor}
 use Rattle.page_env.specs.Settings.{State}
 use Rattle.page_env.specs.Numbers.{is_absent, is_whole_between, whole_of}
 use Rattle.page_env.specs.Places.{unit_ticks, decipoint_ticks, times, geometry_of, column_width, column_reads, line_of, home_of, vertical_place, vertical_reads, page_reads, page_and_line_reads, target_of, is_between}

@@ -11,9 +11,10 @@ ghost use Rattle.page_env.specs.CursorPositioning.{push_cursor, pop_cursor, use_
 ghost use Rattle.page_env.specs.Answers.{CarriesOut, Leads, Steps};
 
 use crate::cell::Cell;
+use crate::cursor::Coordinate;
 use crate::finding::Finding;
 use crate::number::{is_whole_between, whole_of};
-use crate::page::{Coordinate, Page};
+use crate::page::Page;
 use crate::places::{
     first_line, first_of_page, geometry, geometry_and_column, geometry_and_vmi, target,
     target_down, ticks_in, times, vertical, vertical_with,

@@ -4,16 +4,16 @@
 
 ghost use Rattle.std.specs.Prelude.{◌≡◌, ◌+◌, ◌^◌, ◌+ℤ◌, ◌-ℤ◌, pos, cond, Some, None, Ok, Err};
 ghost use Rattle.pcl_items.specs.Items.{amount};
-ghost use Rattle.page_env.specs.Settings.{default_frame};
+ghost use Rattle.page_env.specs.Settings.{default_frame, origin};
 ghost use Rattle.page_env.specs.Numbers.{IsWithin, is_positive};
 ghost use Rattle.page_env.specs.Places.{decipoint_ticks};
 ghost use Rattle.page_env.specs.Frames.{frame_on, framed, set_frame_anchor, set_frame_width, set_frame_height, place_in, x_on_page, y_on_page, is_on_page, enter_at_pen, enter_at_cursor, enter_frame, leave_at_cursor, leave_at_pen, leave_frame};
 ghost use Rattle.page_env.specs.Answers.{Steps};
 
+use crate::cursor::{Coordinate, Cursor};
 use crate::finding::Finding;
 use crate::number::{is_positive, is_whole_between};
-use crate::page::{Coordinate, Cursor, JobSettings, Page, PenCoordinate, PenPlace, PictureFrame};
-use crate::pens::origin;
+use crate::page::{JobSettings, Page, PenCoordinate, PenPlace, PictureFrame};
 use crate::places::{
     geometry, geometry_and_vertical, half_inch, length_between, length_in, vertical,
 };
@@ -30,6 +30,16 @@ pub struct Frame {
     pub width: Length,
     /// It may be less than 0 where none is set: the page may have no inch for the margins.
     pub height: Coordinate,
+}
+
+/// The lower left corner of the picture frame.
+pub(crate) fn origin() -> PenPlace
+    ensures { result ≡ origin }
+{
+    PenPlace {
+        x: PenCoordinate::ZERO,
+        y: PenCoordinate::ZERO,
+    }
 }
 
 /// The picture frame where none of its parts is set.

@@ -12,9 +12,10 @@ ghost use Rattle.page_env.specs.Answers.{CarriesOut, Changes, Steps, Moves};
 
 use crate::cell::Cell;
 use crate::change::{Carried, PageChange};
+use crate::cursor::Cursor;
 use crate::finding::Finding;
 use crate::number::{is_whole_between, is_whole_from, whole_of};
-use crate::page::{Cursor, Page};
+use crate::page::Page;
 use device_profile::Profile;
 use pcl_items::Number;
 use std::alloc::Allocator;

@@ -10,9 +10,10 @@ ghost use Rattle.page_env.specs.Macros.{set_macro_id, control_of, control_checks
 ghost use Rattle.page_env.specs.Answers.{result_finding, Steps};
 
 use crate::cell::Cells;
+use crate::cursor::Cursor;
 use crate::finding::Finding;
 use crate::number::{is_whole_between, whole_of};
-use crate::page::{Cursor, Env, JobSettings, Page};
+use crate::page::{Env, JobSettings, Page};
 use crate::stack::CursorStack;
 use pcl_items::Number;
 

@@ -13,9 +13,10 @@ ghost use Rattle.page_env.specs.Answers.{CarriesOut, Changes, Steps, Moves};
 
 use crate::cell::Cell;
 use crate::change::{Carried, PageChange};
+use crate::cursor::Coordinate;
 use crate::finding::Finding;
 use crate::number::{is_up_to, is_whole_between, is_whole_from, whole_of};
-use crate::page::{Coordinate, Page};
+use crate::page::Page;
 use crate::places::{bottom_margin, geometry_and_vmi, ticks_in, vertical_with};
 use device_profile::{Field, Geometry, Profile};
 use pcl_items::Number;

@@ -9,10 +9,11 @@ ghost use Rattle.page_env.specs.Answers.{CarriesOut, Changes, Moves};
 
 use crate::cell::Cell;
 use crate::change::{Carried, PageChange};
+use crate::cursor::Cursor;
 use crate::finding::Finding;
 use crate::frames::{default_frame, set_frame};
 use crate::number::{is_whole_between, whole_of};
-use crate::page::{Cursor, Env, JobSettings, Page};
+use crate::page::{Env, JobSettings, Page};
 use crate::places::half_inch;
 use device_profile::Profile;
 use pcl_items::Number;

@@ -5,7 +5,7 @@
 ghost use Rattle.std.specs.Prelude.{◌≡◌, ◌≤◌, ◌+◌, ◌*◌, ◌^◌, pos, cond, ◌&&◌, ◌+ℤ◌, ◌-ℤ◌, Some, None, MatchResult};
 ghost use Rattle.std.specs.Int.{int_min, int_max};
 ghost use Rattle.page_env.specs.Numbers.{IsWithin};
-ghost use Rattle.page_env.specs.Settings.{default_pen, origin};
+ghost use Rattle.page_env.specs.Settings.{default_pen};
 ghost use Rattle.page_env.specs.Mark.{lines_of, line_bounds, is_inside};
 ghost use Rattle.page_env.specs.Places.{is_between};
 ghost use Rattle.page_env.specs.Effect.{first_finding};
@@ -13,10 +13,11 @@ ghost use Rattle.page_env.specs.Frames.{frame_on, is_in_frame};
 ghost use Rattle.page_env.specs.Pens.{place_of, initialize, select_pen, set_pen_width, set_pen, line_between, is_too_far, stays_in_frame, line_checks, draw, lower_pen, motion_step, reached, pen_target, carry_pen, move_pen};
 ghost use Rattle.page_env.specs.Answers.{Steps, Marks};
 
+use crate::cursor::Coordinate;
 use crate::finding::Finding;
-use crate::frames::{Frame, foot_of, frame_on};
+use crate::frames::{Frame, foot_of, frame_on, origin};
 use crate::mark::PenLine;
-use crate::page::{Coordinate, JobSettings, Page, Pen, PenCoordinate, PenPlace};
+use crate::page::{JobSettings, Page, Pen, PenCoordinate, PenPlace};
 use crate::places::{Origin, geometry_and_origin, length_at, length_in, lies_between, ticks_in};
 use crate::target::Target;
 use device_profile::{Geometry, Profile};
@@ -29,16 +30,6 @@ const PLOTTER_UNIT: i64 = 36_000_000;
 
 /// How far the pen may be from the origin along an axis: 8,388,607 plotter units.
 pub(crate) const FURTHEST: u64 = 8_388_607 * PLOTTER_UNIT as u64;
-
-/// The lower left corner of the picture frame.
-pub(crate) fn origin() -> PenPlace
-    ensures { result ≡ origin }
-{
-    PenPlace {
-        x: PenCoordinate::ZERO,
-        y: PenCoordinate::ZERO,
-    }
-}
 
 /// The pen as `IN` leaves it.
 pub(crate) fn initial_pen() -> Pen

@@ -13,12 +13,13 @@ ghost use Rattle.page_env.specs.Rasters.{passes_height, raster_behind, place_beh
 ghost use Rattle.page_env.specs.Effect.{first_finding};
 ghost use Rattle.page_env.specs.Answers.{Steps, Marks};
 
+use crate::cursor::Coordinate;
 use crate::finding::Finding;
 use crate::mark::{Mark, RasterRow};
 use crate::mask::first_set;
 use crate::motion::up_to;
 use crate::number::{is_whole_between, whole_of};
-use crate::page::{Coordinate, Page, RasterSettings, Resolution, StartedRaster};
+use crate::page::{Page, RasterSettings, Resolution, StartedRaster};
 use crate::places::{
     SheetPlace, geometry_and_vertical, geometry_origin_and_vertical, length_at, lies_between,
     on_sheet, span_between,

@@ -11,10 +11,11 @@ ghost use Rattle.page_env.specs.Places.{place_between, column_with, column_of, c
 ghost use Rattle.page_env.specs.Text.{edge_checks, character_checks, character_box, text_reads, space, transparent_space, character, print_byte, print_transparent};
 ghost use Rattle.page_env.specs.Answers.{Prints};
 
+use crate::cursor::{Coordinate, Cursor};
 use crate::finding::Finding;
 use crate::font_in_force::font_request;
 use crate::mark::{Bounds, Glyph};
-use crate::page::{Coordinate, Cursor, JobSettings, Page};
+use crate::page::{JobSettings, Page};
 use crate::places::{
     Origin, SheetPlace, column, column_width, geometry_and_vertical, geometry_origin_and_vertical,
     length_at, length_between, on_sheet, right_margin, span_between,

@@ -16,11 +16,12 @@ ghost use Rattle.page_env.specs.Places.{geometry_of, is_between, line_of, origin
 ghost use Rattle.page_env.specs.TextLines.{CanGoIn, GoAs, StandsAt, a_line_down, box_at, glyph_count, inked_count, page_behind_all, place_behind};
 ghost use Rattle.page_env.specs.TextMeasure.{AllHaveRoom, AreLinesFrom, HasLine, HasMeasure, HaveColumns, area_of, edge_from, lies_in};
 
+use crate::cursor::{Coordinate, Cursor};
 use crate::font_in_force::font_request;
 use crate::mark::Bounds;
 use crate::mask::first_set;
 use crate::motion::{LineTermination, feed_limit, line_termination};
-use crate::page::{Coordinate, Cursor, Page};
+use crate::page::Page;
 use crate::places::{
     Origin, column_width, known_geometry, length_at, length_in, lies_between, on_sheet,
     right_margin,

@@ -18,8 +18,8 @@ use Rattle.page_env.specs.Effect.{effect_of}
 use Rattle.page_env.specs.Rasters.{begun_by, is_of_raster}
 use Rattle.page_env.specs.Settings.{Settings, State, settings_at, state_at}
 use Rattle.page_env.specs.Table.{transition_of, coordinates_of}
-use Rattle.page_machine.specs.declared.machine.Stop.{Stop}
-use Rattle.page_machine.specs.declared.machine.Stop.TheVariants as stops
+use Rattle.page_machine.specs.declared.stop.Stop.{Stop}
+use Rattle.page_machine.specs.declared.stop.Stop.TheVariants as stops
 use Rattle.page_machine.specs.declared.steps.Halt.{Halt}
 use Rattle.page_machine.specs.Defining.{LeavesMacros, is_defining, macros_after}
 use Rattle.page_machine.specs.Event.{Event}

@@ -10,7 +10,7 @@ ghost use Rattle.page_env.specs.JobControl.{is_reset};
 ghost use Rattle.page_machine.specs.Defining.{control_in, defining_control, defining_of, begins, carried_after, controlled_after, StandsIn};
 ghost use Rattle.page_machine.specs.Machine.{Defines};
 
-use crate::machine::Stop;
+use crate::stop::Stop;
 use macro_store::{MacroStore, Refusal};
 use page_env::{Control, Finding, PageCommand, PageItem, control_of};
 use pcl_items::{Command, Item, SimpleItem};

@@ -5,6 +5,7 @@ ghost use Rattle.std.specs.Borrow.{sem};
 
 pub(crate) mod ahead;
 pub(crate) mod first;
+pub(crate) mod lexed;
 
 use crate::frame::Gap;
 use crate::frame::pair::{bare_motion_in, pair_in};
@@ -13,22 +14,12 @@ use crate::lexer::ahead::{
     with_its_data,
 };
 use crate::lexer::first::{Context, First, Numbers};
+use crate::lexer::lexed::Lexed;
 use crate::pcl::command_with_data::row_in;
 use crate::pcl::parameterized::parameterized_in;
 use pcl_items::{Data, Item, LexFault, LineEnd, Place, SimpleItem};
 use std::alloc::{AllocError, Allocator, Global};
 use std::marker::Model;
-
-/// What a lexer answers.
-#[derive(Clone, Copy, Debug, PartialEq, Eq)]
-pub enum Lexed<'a> {
-    /// The next item, and where it stands.
-    Item(Place, Item<'a>),
-    /// The bytes that were fed decide no further item and no fault.
-    NeedMore,
-    /// All bytes of the job are read.
-    End,
-}
 
 /// An item that is neither text nor has data, and where it stands.
 #[derive(Clone, Copy)]

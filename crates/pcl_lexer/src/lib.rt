@@ -18,6 +18,7 @@ pub use frame::{Gap, Kind};
 pub use laws::{decided_stays, one_reading, open_item_is_short, read_by_rules};
 pub use lexer::ahead::{Ahead, byte_in, next_ahead, with_its_data};
 pub use lexer::first::{Context, First, Head, Numbers, first_between};
-pub use lexer::{Lexed, Lexer, PlacedItem, PlacedLineEnd, PlacedRow};
+pub use lexer::lexed::Lexed;
+pub use lexer::{Lexer, PlacedItem, PlacedLineEnd, PlacedRow};
 pub use pcl::parameterized::{ReadCommand, parameterized_in};
 pub use pjl::first::{FirstPjl, MOST_IN_PJL_LINE, at_pjl, begins_pjl};

@@ -13,15 +13,15 @@ use std::os::fd::{AsRawFd, IntoRawFd, RawFd};
 use std::process::ExitCode;
 use std::rt::{Env, Files};
 use std::{env, fs, io};
-use streams::{Error, Latched as Watched, Outlet, write_text};
+use streams::{Error, Latched, Outlet, write_text};
 
 /// The descriptors of the standard streams are those below this one.
 const STANDARD_STREAMS: RawFd = 3;
 
 fn main(rt: HostRuntime) -> ExitCode {
     fill_closed_streams(&rt);
-    let mut stdout = Watched::new(rt.stdout());
-    let mut stderr = Watched::new(rt.stderr());
+    let mut stdout = Latched::new(rt.stdout());
+    let mut stderr = Latched::new(rt.stderr());
     let status = match gather_words(&rt) {
         Ok(words) => run(&rt, words.as_slice(), &mut stdout, &mut stderr),
         Err(kind) => refuse_usage(kind, &mut stderr),

@@ -13,8 +13,8 @@ use Rattle.device_profile.specs.Words.{amount_of}
 use Rattle.printer_models.specs.declared.paper.Paper.{Paper}
 use Rattle.printer_models.specs.Paper.{code_of}
 use Rattle.pjl_answer.specs.declared.variable.Variable.TheVariants as variables
-use Rattle.pjl_answer.specs.declared.told_values.ToldValues.{ToldValues}
-use Rattle.pjl_answer.specs.declared.told_values.ToldValues.TheVariants.{One, Two}
+use Rattle.pjl_answer.specs.declared.values.ToldValues.{ToldValues}
+use Rattle.pjl_answer.specs.declared.values.ToldValues.TheVariants.{One, Two}
 use Rattle.pjl_answer.specs.Answer.{value_of}
 use Rattle.pjl_answer.specs.FormLines.{text_height, is_whole_share, vmi_by}
 use Rattle.pjl_answer.specs.SetName.{set_named, symbol_set_of}

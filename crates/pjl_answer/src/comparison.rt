@@ -5,7 +5,8 @@ ghost use Rattle.device_profile.specs.Text.{printer_of_text};
 ghost use Rattle.pjl_answer.specs.Told.{values_after, values_in, with_told};
 ghost use Rattle.pjl_answer.specs.Same.{HasOtherValues, HasPageValues, IsSameDevice};
 
-use crate::told_values::{ToldValues, told};
+use crate::told_values::told;
+use crate::values::ToldValues;
 use device_profile::{Field, FontRow, Geometry, Profile, ProfileFault, are_same_ranges};
 use std::alloc::{AllocError, Allocator};
 

@@ -20,6 +20,7 @@ pub use answered::{AnswerError, Answered, MOST_BYTES, answered_text};
 pub use entry::{is_answer, odd_line};
 pub use papers::asked_papers;
 pub use set_name::SetName;
-pub use told_values::{ToldValues, told};
+pub use told_values::told;
+pub use values::ToldValues;
 pub use variable::{VARIABLES, Variable};
 pub use warning::{PjlNote, Warning, warnings};

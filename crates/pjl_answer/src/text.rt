@@ -8,7 +8,8 @@ ghost use Rattle.pjl_answer.specs.Text.{added_line, answered_text, behind_commen
 ghost use Rattle.pjl_answer.specs.Told.{values_in};
 ghost use Rattle.pjl_answer.specs.Warning.{warnings};
 
-use crate::told_values::{ToldValues, told};
+use crate::told_values::told;
+use crate::values::ToldValues;
 use crate::warning::Warning;
 use crate::warning_text::push_warning_lines;
 use device_profile::{Field, Format, Profile, format_of, next_line, next_word};

@@ -12,20 +12,13 @@ use crate::entry::value_of;
 use crate::form_lines::{is_whole_share, text_height, vmi_by};
 use crate::set_name::SetName;
 use crate::values::{
-    binding_of, copies_of, form_lines_of, is_first, is_internal, is_on, line_termination_of,
-    mp_trays_of, orientation_of, paper_of,
+    ToldValues, binding_of, copies_of, form_lines_of, is_first, is_internal, is_on,
+    line_termination_of, mp_trays_of, orientation_of, paper_of,
 };
 use crate::variable::Variable;
 use device_profile::{Field, FontRow, Profile, SymbolSet, amount};
 use printer_models::Paper;
 use std::alloc::Allocator;
-
-/// The values that are told for a field.
-#[derive(Clone, Copy)]
-pub enum ToldValues {
-    One(u32),
-    Two(u32, u32),
-}
 
 /// The greatest VMI that a panel can have, in ten-thousandths of 1/48 inch.
 const MOST_VMI: u64 = 3_350_000;

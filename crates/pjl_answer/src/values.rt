@@ -7,10 +7,16 @@ ghost use Rattle.pjl_answer.specs.Told.{values_in};
 ghost use Rattle.pjl_answer.specs.Values.{binding_of, copies_of, form_lines_of, is_first, is_internal, is_on, is_understood, kept, line_termination_of, mp_trays_of, orientation_of, paper_of, paper_word};
 
 use crate::set_name::SetName;
-use crate::told_values::ToldValues;
 use crate::variable::Variable;
 use device_profile::{amount, number};
 use printer_models::{PAPERS, Paper};
+
+/// The values that are told for a field.
+#[derive(Clone, Copy)]
+pub enum ToldValues {
+    One(u32),
+    Two(u32, u32),
+}
 
 /// The name of a paper in PJL.
 fn paper_word(paper: Paper) -> &'static str

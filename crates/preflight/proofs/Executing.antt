@@ -6,8 +6,8 @@ use Rattle.std.specs.List.{AllByRecursion}
 use Rattle.std.proofs.lemmas.List.{take_more_set, drop_more, drop-set-lt, drop-drop, take_all, drop_all}
 use Rattle.pcl_items.specs.Items.{Entry}
 use Rattle.page_env.specs.declared.finding.Finding.{Finding}
-use Rattle.page_machine.specs.declared.machine.Stop.{Stop}
-use Rattle.page_machine.specs.declared.machine.Stop.TheVariants as stops
+use Rattle.page_machine.specs.declared.stop.Stop.{Stop}
+use Rattle.page_machine.specs.declared.stop.Stop.TheVariants as stops
 use Rattle.page_machine.specs.Event.{Event, TakesAll}
 use Rattle.page_machine.specs.Run.{just, Done}
 use Rattle.page_machine.specs.Follows.{TakesUpTo}

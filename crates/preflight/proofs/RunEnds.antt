@@ -68,21 +68,11 @@ without_carried place events peaks (Halts finding) next rest = λ e. absurd cc
 pub ends_without : (printer : Printer) (flags : Flags) (panel : Panel) (reading : Reading) → EndsWithout (run_from printer flags panel reading)
 ends_without printer flags panel reading = of_every_run EndsWithout without_carried (λ s e. tt) printer flags panel reading
 
--- ---- and a run that comes to its end finds nothing
+-- ---- items that agree find nothing
 
 pub no_finding : (items : List ItemRun) → Agreed items → finding_of items ≡ None
 no_finding [] agreed = refl
 no_finding (x ∷ items) agreed = ap (λ o. found_at x.place o (finding_of items)) agreed.0 ∙ no_finding items agreed.1
-
-abbrev AgreesAtEnd : JobRun → Type 0
-AgreesAtEnd r = Ends r.ending → Agreed r.items
-
-agrees_carried : IsCarriedOn AgreesAtEnd
-agrees_carried place events peaks (Done s) next rest ends = (refl, rest s ends)
-agrees_carried place events peaks (Halts finding) next rest ends = absurd ends
-
-pub agrees_at_end : (printer : Printer) (flags : Flags) (panel : Panel) (reading : Reading) → AgreesAtEnd (run_from printer flags panel reading)
-agrees_at_end printer flags panel reading = of_every_run AgreesAtEnd agrees_carried (λ s ends. tt) printer flags panel reading
 
 -- ---- a finding ends a run
 

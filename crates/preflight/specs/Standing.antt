@@ -1,8 +1,8 @@
 -- How far a check has come.
 use Rattle.std.specs.Prelude.{◌≡◌, ℕ, Bool, true, false, Option, None, Some, Result, Ok, Err}
 use Rattle.page_env.specs.declared.finding.Finding.{Finding}
-use Rattle.page_machine.specs.declared.machine.Stop.{Stop}
-use Rattle.page_machine.specs.declared.machine.Stop.TheVariants as stops
+use Rattle.page_machine.specs.declared.stop.Stop.{Stop}
+use Rattle.page_machine.specs.declared.stop.Stop.TheVariants as stops
 use Rattle.streams.specs.declared.error.Error.TheVariants.{Memory}
 use Rattle.preflight.specs.declared.standing.Standing.{Standing}
 use Rattle.preflight.specs.declared.standing.Standing.TheVariants.{Open, Judged, Stopped}

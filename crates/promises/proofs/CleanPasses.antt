@@ -7,11 +7,12 @@ use Rattle.pcl_lexer.specs.Reading.{Reading, Whole}
 use Rattle.device_profile.specs.declared.panel.Panel.{Panel}
 use Rattle.device_profile.specs.Printer.{Printer, first_panel}
 use Rattle.device_profile.specs.declared.field.Field.TheVariants as fields
-use Rattle.page_env.specs.Settings.{has_choice, unwatched, watched}
+use Rattle.page_env.specs.Settings.{Flags, has_choice, unwatched, watched}
 use Rattle.page_machine.specs.Event.{Event}
 use Rattle.page_machine.specs.Job.{ItemRun, JobRun, events_of, run_from, plain_run, watched_run}
 use Rattle.page_machine.specs.Laws.{RunsPlainly}
 use Rattle.page_machine.specs.Pages.{pages}
+use Rattle.page_machine.specs.Run.{Done, Halts}
 use Rattle.page_machine.specs.Pinning.{finding_of}
 use Rattle.verdict.specs.declared.reason.Reason.TheVariants.{Differs}
 use Rattle.preflight.specs.Wrong.{Wrong, wrong, findings_in, differences_in, of_each, first_run, first_wrong, soonest}
@@ -22,7 +23,19 @@ use Rattle.preflight.proofs.Same.{same_events}
 use Rattle.preflight.proofs.Side.{Agreed, agreed_findings}
 use Rattle.preflight.proofs.Passing.{all_contained}
 use Rattle.preflight.proofs.Parts.{AreOne, are_one}
-use Rattle.preflight.proofs.RunEnds.{Ends, set_of, end_of, ends_without, no_finding, agrees_at_end}
+use Rattle.preflight.proofs.RunEnds.{IsCarriedOn, of_every_run, Ends, set_of, end_of, ends_without, no_finding}
+
+-- ---- a run that comes to its end finds nothing
+
+abbrev AgreesAtEnd : JobRun → Type 0
+AgreesAtEnd r = Ends r.ending → Agreed r.items
+
+agrees_carried : IsCarriedOn AgreesAtEnd
+agrees_carried place events peaks (Done s) next rest ends = (refl, rest s ends)
+agrees_carried place events peaks (Halts finding) next rest ends = absurd ends
+
+agrees_at_end : (printer : Printer) (flags : Flags) (panel : Panel) (reading : Reading) → AgreesAtEnd (run_from printer flags panel reading)
+agrees_at_end printer flags panel reading = of_every_run AgreesAtEnd agrees_carried (λ s ends. tt) printer flags panel reading
 
 -- ---- runs with the same events item by item
 

@@ -6,13 +6,12 @@ use Rattle.pcl_items.specs.declared.fault.LexFault.{LexFault}
 use Rattle.pcl_items.specs.declared.item.Item.{Item}
 use Rattle.pcl_items.specs.declared.item.Mode.{Mode}
 use Rattle.pcl_items.specs.Modes.{follows}
-use Rattle.pcl_lexer.specs.declared.lexer.Lexed.{Lexed}
-use Rattle.pcl_lexer.specs.declared.lexer.Lexed.TheVariants as answers
+use Rattle.pcl_lexer.specs.declared.lexer.lexed.Lexed.{Lexed}
+use Rattle.pcl_lexer.specs.declared.lexer.lexed.Lexed.TheVariants as answers
 use Rattle.pcl_items.specs.Items.{Entry, Placed, view, at}
 use Rattle.pcl_lexer.specs.Laws.{HasOneReading}
-use Rattle.pcl_lexer.specs.Modes.{mode_of}
 use Rattle.pcl_lexer.specs.Lexing.State.{LexerState}
-use Rattle.pcl_lexer.specs.Lexing.Meaning.{HasRead, MayBe, Decides, Settles, given, Tells as LexerTells, Undecided, IsNext, KeepsMode}
+use Rattle.pcl_lexer.specs.Lexing.Meaning.{HasRead, MayBe, Decides, Settles, given, Tells as LexerTells, Undecided, IsNext}
 use Rattle.pcl_lexer.specs.Reading.{Reading, Whole, Stopped, IsReading, items_of, read_on, reading_of, with_item}
 use Rattle.pcl_lexer.specs.Reader.{first_of}
 use Rattle.pcl_lexer.proofs.Reading.Readings.{one_reading}
@@ -293,10 +292,6 @@ module _ (first : Rendering) (start : OutletState) (bytes : List ℕ) (old : Lex
         (Stopped [] fault.place fault.cause, refl, subst (IsReading job) stopped (tells job (subst (λ w. MayBe w bytes job) (sym same) may)))
 
 -- ---- what an item came to
-
--- the mode before it admits an item that is read
-pub item_admitted : (old new : LexerState) (answer : Result Lexed LexFault) → IsNext old answer new → (place : ℕ) (item : Item) → answer ≡ Ok (answers.Item place item) → follows (mode_of old.context) (view item) ≡ Some (mode_of new.context)
-item_admitted old new answer next place item is = subst (λ a. KeepsMode old a new) is next.admits
 
 module _ (before after : Rendering) (x : Placed) (old new : OutletState) (kept kept' : List ℕ) (rendered : Option Outcome) (h : RendersItem before after x old new kept kept' (Ok rendered)) where
   pub renders_on : rendered ≡ None → (text : List ℕ) × Puts old new kept kept' text × RestGoesOn before after x text

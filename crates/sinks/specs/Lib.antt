@@ -1,3 +1,4 @@
 pub mod Comparer
 pub mod Counts
+pub mod Owned
 pub mod Recorder

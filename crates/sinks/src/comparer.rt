@@ -1,11 +1,12 @@
 //! Compares the events of a run with recorded ones.
 
 ghost use Rattle.std.specs.Prelude.{◌≡◌, ◌↔◌, None, Some, [], map, IsFalse};
-ghost use Rattle.page_machine.specs.Owned.{event_of};
+ghost use Rattle.sinks.specs.Owned.{event_of};
 ghost use Rattle.sinks.specs.Comparer.{Compares};
 
+use crate::owned::OwnedEvent;
 use page_env::{Mark, PageEnd};
-use page_machine::{MarkSink, OwnedEvent};
+use page_machine::MarkSink;
 use std::alloc::{Allocator, Global};
 use std::convert::Infallible;
 use std::marker::Model;
@@ -20,7 +21,7 @@ pub struct Comparer<'a, A: Allocator = Global> {
 impl<'a, A: Allocator> Model for Comparer<'a, A> {
     ghost use Rattle.std.specs.Prelude.{List, Option, map, option_map};
     ghost use Rattle.page_machine.specs.Event.{Event};
-    ghost use Rattle.page_machine.specs.Owned.{event_of};
+    ghost use Rattle.sinks.specs.Owned.{event_of};
 
     ghost Value = { Option (List Event) };
 

@@ -3,13 +3,14 @@
 ghost use Rattle.std.specs.Prelude.{◌≡◌, List, [], length, map, IfOk};
 ghost use Rattle.page_env.specs.Mark.{Shape, shape_of};
 ghost use Rattle.page_machine.specs.Event.{Marked};
-ghost use Rattle.page_machine.specs.Owned.{event_of, shape_of_owned};
+ghost use Rattle.sinks.specs.Owned.{event_of, shape_of_owned};
 ghost use Rattle.sinks.specs.Counts.{counts_after};
 ghost use Rattle.sinks.specs.Recorder.{nothing_recorded, recorded};
 
 use crate::counts::Counts;
+use crate::owned::{OwnedEvent, OwnedMark, OwnedRow};
 use page_env::{Mark, PageEnd};
-use page_machine::{MarkSink, OwnedEvent, OwnedMark, OwnedRow};
+use page_machine::MarkSink;
 use std::alloc::{AllocError, Allocator, Global};
 use std::marker::Model;
 use std::mem;
@@ -29,7 +30,7 @@ pub struct Recorder<A: Allocator + Copy = Global> {
 
 impl<A: Allocator + Copy> Model for Recorder<A> {
     ghost use Rattle.std.specs.Prelude.{map};
-    ghost use Rattle.page_machine.specs.Owned.{event_of};
+    ghost use Rattle.sinks.specs.Owned.{event_of};
     ghost use Rattle.sinks.specs.Recorder.{Recorded};
 
     ghost Value = { Recorded };

@@ -6,8 +6,7 @@ use pcl_items::{Item, OwnedItem, Place, SimpleItem};
 use pcl_lexer::{Lexed, Lexer};
 use std::alloc::{AllocError, Allocator, Global};
 use std::test::Fail;
-use testing_failures::Refusing;
-use testing_items::{Last, read_on};
+use testing_jobs::{Last, Refusing, read_on};
 
 /// A front of a job, how many items it decides, and the place of a fault. What they are stands in
 /// the row files of runs.

@@ -6,8 +6,7 @@ use sinks::Counts;
 use std::alloc::{Allocator, Global};
 use std::process::Abort;
 use std::test::Fail;
-use testing_events::step_all;
-use testing_items::items_of;
+use testing_jobs::{items_of, step_all};
 
 /// Carries out the first bytes that are known to go, and tells how many they are and how many make
 /// a mark.

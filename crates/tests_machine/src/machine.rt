@@ -7,8 +7,7 @@ use page_machine::{Machine, MarkSink, Start, Stop};
 use std::alloc::Global;
 use std::process::Abort;
 use std::test::Fail;
-use testing_events::step_all;
-use testing_items::items_of;
+use testing_jobs::{items_of, step_all};
 
 /// No room for a further event.
 #[derive(Drop)]

@@ -8,8 +8,7 @@ use sinks::Counts;
 use std::alloc::{Allocator, Global};
 use std::process::Abort;
 use std::test::Fail;
-use testing_events::step_all;
-use testing_items::{items_of, job_of};
+use testing_jobs::{items_of, job_of, step_all};
 
 /// Draws to the pair of an item, and tells whether it is known to go.
 fn draw<P: Allocator>(machine: &mut Machine<'_, P>, bounds: &PenBounds, item: &OwnedItem) -> bool {

@@ -8,8 +8,7 @@ use sinks::{Comparer, Counts, Recorder};
 use std::alloc::{AllocError, Global};
 use std::process::Abort;
 use std::test::Fail;
-use testing_events::{letter, run};
-use testing_failures::Refusing;
+use testing_jobs::{Refusing, letter, run};
 use tick_length::Length;
 
 /// An event of a row.

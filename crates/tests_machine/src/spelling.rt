@@ -3,8 +3,7 @@
 use pcl_items::{Mode, OwnedItem};
 use pcl_spelling::{item_at, spell};
 use std::test::Fail;
-use testing_failures::Refusing;
-use testing_items::items_of;
+use testing_jobs::{Refusing, items_of};
 
 /// Bytes, a mode, and how many of the bytes are the spelling of an item that the mode admits. What
 /// is no spelling stands in the row files of runs.

@@ -7,7 +7,7 @@ use macro_store::{MacroStore, Refusal};
 use pcl_items::{Command, Item, Mode, Number, Sign, SimpleItem};
 use std::alloc::{Allocator, Global};
 use std::process::Abort;
-use testing_failures::Refusing;
+use testing_jobs::Refusing;
 
 /// `ESC *p+7.5X`, eight bytes.
 const MOVE: Item<'static> = Item::Simple(SimpleItem::Parameterized(

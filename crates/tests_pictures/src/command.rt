@@ -8,8 +8,8 @@ use requests::{PanelSetting, Selection, tell};
 use std::alloc::{Allocator, Global};
 use std::process::Abort;
 use std::test::Fail;
-use testing_failures::{FailingOutlet, FailingSource, Refusing};
-use testing_files::KeptTexts;
+use testing_checks::KeptTexts;
+use testing_jobs::{FailingOutlet, FailingSource, Refusing};
 
 const READ: &[u8] = b"ERROR read\n";
 

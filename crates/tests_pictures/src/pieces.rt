@@ -3,13 +3,13 @@ ghost use Rattle.std.specs.Prelude.{IsFalse};
 
 use device_profile::{Profile, Sample};
 use job_picture::{Wanted, picture_of};
-use preflight::{Error, Source, Watched};
 use renderings::Outcome;
 use requests::Selection::All;
 use std::alloc::Global;
 use std::process::Abort;
 use std::test::Fail;
-use testing_failures::{CutSource, FailingOutlet};
+use streams::{Error, Latched, Source};
+use testing_jobs::{CutSource, FailingOutlet};
 
 /// Jobs with an area on the first page: one has a second page that is wider, one a finding behind
 /// its first page, and one a fault.
@@ -44,7 +44,7 @@ fn draw<S: Source>(alloc: Global, profile: &Profile, source: &mut S) -> Drawn
 fn pieces_are_drawn_as_the_whole(rt: HostRuntime) -> Result<(), Fail> {
     let profile = Sample::A.profile(rt.alloc())?;
     for job in JOBS {
-        let whole = draw(rt.alloc(), &profile, &mut Watched::new(*job));
+        let whole = draw(rt.alloc(), &profile, &mut Latched::new(*job));
         assert!(rt; whole.answer.is_ok() && whole.outlet.taken().ends_with(b"</html>\n"));
         for place in 0..job.len() {
             let (first, second) = job.split_at(place);

@@ -3,12 +3,13 @@
 ghost use Rattle.std.specs.Prelude.{◌<◌};
 
 use device_profile::Profile;
-use preflight::{Error, Judgement, Session, Watched, check_job_telling};
+use preflight::{Judgement, Session, check_job_telling};
 use std::alloc::Global;
 use std::process::Abort;
 use std::test::Fail;
-use testing_printers::Printer::{B, D, Moved};
-use testing_printers::{Printer, fleet_of};
+use streams::{Error, Latched};
+use testing_jobs::Printer::{B, D, Moved};
+use testing_jobs::{Printer, fleet_of};
 
 /// Printers and a job. What is told of it stands in the row files of runs.
 type Row = (&'static [Printer], &'static [u8]);
@@ -51,7 +52,7 @@ fn tell_pieces(
 }
 
 fn check_row(rt: &impl Abort, alloc: Global, fleet: &[Profile], job: &[u8]) -> Result<(), Error> {
-    let whole = check_job_telling(alloc, &mut Watched::new(job), fleet)?;
+    let whole = check_job_telling(alloc, &mut Latched::new(job), fleet)?;
     for size in 1..=job.len() {
         let fed = tell_pieces(rt, alloc, fleet, job, size)?;
         assert!(rt; fed == whole, "{job:?} in pieces of {size}");

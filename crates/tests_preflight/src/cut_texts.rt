@@ -3,19 +3,18 @@
 use crate::jobs::FIVE_JOBS;
 use crate::texts::{TEXTS, Text, write_text_of};
 use device_profile::Profile;
-use preflight::{Error, Watched};
 use renderings::Outcome;
 use std::alloc::Global;
 use std::process::Abort;
 use std::test::Fail;
-use testing_failures::{FailingOutlet, FailingSource, Refusing};
-use testing_printers::Printer::B;
-use testing_printers::profile_of;
+use streams::{Error, Latched};
+use testing_jobs::Printer::B;
+use testing_jobs::{FailingOutlet, FailingSource, Refusing, profile_of};
 
 /// The text of the five jobs, whole.
 fn whole_text(rt: &impl Abort, alloc: Global, text: Text, profile: &Profile) -> FailingOutlet {
     let mut outlet = FailingOutlet::new(alloc, u64::MAX);
-    let mut job = Watched::new(FIVE_JOBS);
+    let mut job = Latched::new(FIVE_JOBS);
     let answer = write_text_of(text, alloc, &mut job, profile, &mut outlet);
     assert_eq!(rt; answer, Ok(Outcome::Done), "{text:?}");
     assert!(rt; outlet.taken().len() > FIVE_JOBS.len(), "{text:?}");
@@ -63,7 +62,7 @@ fn writes_of(
     for writes in 0..1000 {
         let mut outlet = FailingOutlet::new(alloc, writes);
         let answer = if is_whole {
-            let mut job = Watched::new(FIVE_JOBS);
+            let mut job = Latched::new(FIVE_JOBS);
             write_text_of(text, alloc, &mut job, profile, &mut outlet)
         } else {
             let mut job = FailingSource::new(FIVE_JOBS, u64::MAX);
@@ -100,7 +99,7 @@ fn requests_of(rt: &impl Abort, alloc: Global, row: (Text, &[u8]), profile: &Pro
     for requests in 0..1000 {
         let heap = Refusing::new(alloc, requests);
         let mut outlet = FailingOutlet::new(alloc, u64::MAX);
-        let mut job = Watched::new(FIVE_JOBS);
+        let mut job = Latched::new(FIVE_JOBS);
         let answer = write_text_of(text, &heap, &mut job, profile, &mut outlet);
         if answer == Ok(Outcome::Done) {
             assert_eq!(rt; outlet.taken(), whole, "{text:?}");

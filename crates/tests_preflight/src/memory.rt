@@ -2,15 +2,14 @@
 
 use crate::jobs::{FIVE_JOBS, PAGE, TWO_PAGES, WRAPPED};
 use device_profile::Profile;
-use preflight::{Error, Watched, check_job};
+use preflight::check_job;
 use std::alloc::Global;
 use std::process::Abort;
 use std::test::Fail;
-use testing_failures::Refusing;
-use testing_items::RECTANGLE;
-use testing_printers::{Printer, fleet_of};
-use testing_verdicts::Expected::{Differs, Pass};
-use testing_verdicts::{Expected, check_in_pieces};
+use streams::{Error, Latched};
+use testing_checks::Expected::{Differs, Pass};
+use testing_checks::{Expected, check_in_pieces};
+use testing_jobs::{Printer, RECTANGLE, Refusing, fleet_of};
 
 /// A job with each control code and each command that sets pages, margins or lines, or moves the
 /// cursor, and a rectangle.
@@ -62,7 +61,7 @@ fn requests_of(
 ) -> u64 {
     for requests in 0..1000 {
         let heap = Refusing::new(alloc, requests);
-        match check_job(&heap, &mut Watched::new(bytes), fleet) {
+        match check_job(&heap, &mut Latched::new(bytes), fleet) {
             Err(Error::Memory) => {}
             answer => {
                 assert_eq!(rt; answer, Ok(expected.verdict()));

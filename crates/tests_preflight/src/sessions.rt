@@ -4,16 +4,15 @@ use crate::jobs::FIVE_JOBS;
 use device_profile::Profile;
 use page_env::Finding::{DefinitionOpen, StackEmpty};
 use pcl_items::LexCause::{EndInFrame, Pjl, Truncated};
-use preflight::{Error, Session, Verdict, Watched, check_job};
+use preflight::{Session, Verdict, check_job};
 use std::alloc::{Allocator, Global};
 use std::process::Abort;
 use std::test::Fail;
-use testing_failures::Refusing;
-use testing_items::job_of;
-use testing_printers::Printer::{B, D};
-use testing_printers::fleet_of;
-use testing_verdicts::Expected::{Differs, Fault, Found, Pass};
-use testing_verdicts::{Expected, check_in_sizes, feed_pieces};
+use streams::{Error, Latched};
+use testing_checks::Expected::{Differs, Fault, Found, Pass};
+use testing_checks::{Expected, check_in_sizes, feed_pieces};
+use testing_jobs::Printer::{B, D};
+use testing_jobs::{Refusing, fleet_of, job_of};
 
 /// Whether a job of so many bytes, which is the front of one that passes, may come to this verdict.
 fn may_end_so(verdict: &Verdict, len: u64) -> bool {
@@ -36,7 +35,7 @@ fn check_front(
     front: &[u8],
 ) -> Result<(), Error> {
     let len = front.len() as u64;
-    let whole = check_job(alloc, &mut Watched::new(front), fleet)?;
+    let whole = check_job(alloc, &mut Latched::new(front), fleet)?;
     let by_bytes = feed_pieces(alloc, fleet, front, 1)?;
     assert!(rt;
         may_end_so(&whole, len) && by_bytes == whole,

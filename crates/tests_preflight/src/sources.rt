@@ -3,16 +3,14 @@
 use crate::jobs::{FIVE_JOBS, PAGE, TWO_PAGES, WRAPPED};
 use device_profile::{Field, Profile};
 use page_env::Finding::Unset;
-use preflight::{Error, Source, Verdict, Watched, check_job};
+use preflight::{Verdict, check_job};
 use std::alloc::Global;
 use std::process::Abort;
 use std::test::Fail;
-use streams::{Outlet, write_text};
-use testing_failures::{FailingOutlet, FailingSource};
-use testing_items::RECTANGLE;
-use testing_printers::{Printer, fleet_of};
-use testing_verdicts::Expected;
-use testing_verdicts::Expected::{Differs, Found, Pass};
+use streams::{Error, Latched, Outlet, Source, write_text};
+use testing_checks::Expected;
+use testing_checks::Expected::{Differs, Found, Pass};
+use testing_jobs::{FailingOutlet, FailingSource, Printer, RECTANGLE, fleet_of};
 
 const LINE: &[u8] = b"PASS pages=5 marks=7\n";
 
@@ -91,7 +89,7 @@ fn each_read_fails_in_turn(rt: HostRuntime) -> Result<(), Fail> {
 #[test]
 fn a_fleet_of_none(rt: HostRuntime) {
     let fleet: [Profile; 0] = [];
-    let mut job = Watched::new(PAGE);
+    let mut job = Latched::new(PAGE);
     assert_eq!(rt;
         check_job(rt.alloc(), &mut job, &fleet),
         Err(Error::NoProfile)
@@ -117,11 +115,11 @@ fn each_write_fails_in_turn(rt: HostRuntime) {
 
 #[test]
 fn a_slice_and_a_vector_are_watched(rt: HostRuntime) {
-    let mut source = Watched::new(LINE);
+    let mut source = Latched::new(LINE);
     let mut piece = [0u8; 8];
     let count = source.read(&mut piece).ok();
     assert_eq!(rt; (count, piece.as_slice()), (Some(8), &LINE[..8]));
-    let mut outlet = Watched::new(Vec::new(rt.alloc()));
+    let mut outlet = Latched::new(Vec::new(rt.alloc()));
     let answer = write_text(&mut outlet, &piece);
     let has_failed = outlet.has_failed();
     assert_eq!(rt;

@@ -3,14 +3,13 @@ ghost use Rattle.std.specs.Prelude.{◌≡◌, false, IsFalse};
 
 use crate::jobs::{FIVE_JOBS, WRAPPED};
 use device_profile::Profile;
-use preflight::{Error, Source, Watched};
 use renderings::{Outcome, list_job, pages_of, pin_job, plain_job};
 use std::alloc::{Allocator, Global};
 use std::process::Abort;
 use std::test::Fail;
-use testing_failures::{CutSource, FailingOutlet, FailingSource};
-use testing_printers::Printer::B;
-use testing_printers::profile_of;
+use streams::{Error, Latched, Source};
+use testing_jobs::Printer::B;
+use testing_jobs::{CutSource, FailingOutlet, FailingSource, profile_of};
 
 /// A text of a job.
 #[derive(Clone, Copy, Debug)]
@@ -77,7 +76,7 @@ fn assert_text<S: Source>(
 /// of the job that is read whole.
 fn check_pieces(rt: &impl Abort, alloc: Global, text: Text, profile: &Profile, job: &[u8]) {
     let mut outlet = FailingOutlet::new(alloc, u64::MAX);
-    let answer = write_text_of(text, alloc, &mut Watched::new(job), profile, &mut outlet);
+    let answer = write_text_of(text, alloc, &mut Latched::new(job), profile, &mut outlet);
     let due = (answer, outlet.taken());
     let mut bytes = FailingSource::new(job, u64::MAX);
     assert_text(rt, alloc, text, profile, &mut bytes, due);

@@ -12,8 +12,8 @@ use profile_commands::show::profile_show;
 use requests::{Status, tell};
 use std::alloc::Allocator;
 use streams::{Create, Outlet};
-use testing_failures::FailingSource;
-use testing_files::{KeptTexts, Named};
+use testing_checks::{KeptTexts, Named};
+use testing_jobs::FailingSource;
 
 /// Texts of profiles.
 fn texts() -> [Named<'static>; 3] {

@@ -1,12 +1,12 @@
 //! Requests for memory that are refused, and writes that fail.
 
 use crate::commands::{Command, WRITERS, status_of};
-use preflight::{Error, Watched};
 use requests::Status;
 use std::alloc::Global;
 use std::process::Abort;
-use testing_failures::{FailingOutlet, Refusing};
-use testing_files::File;
+use streams::{Error, Latched};
+use testing_checks::File;
+use testing_jobs::{FailingOutlet, Refusing};
 
 /// How a command ended: with a status, and with so many bytes in OUT and on standard output.
 type Ended = (Status, (usize, usize));
@@ -14,9 +14,9 @@ type Ended = (Status, (usize, usize));
 /// How a command ends where so many requests for memory are taken, and how many of them are left.
 fn ended_at(alloc: Global, command: Command, requests: u64) -> (Ended, u64) {
     let heap = Refusing::new(alloc, requests);
-    let mut out = Watched::new(Vec::new(alloc));
-    let mut stdout = Watched::new(Vec::new(alloc));
-    let mut stderr = Watched::new(Vec::new(alloc));
+    let mut out = Latched::new(Vec::new(alloc));
+    let mut stdout = Latched::new(Vec::new(alloc));
+    let mut stderr = Latched::new(Vec::new(alloc));
     let status = status_of(command, &heap, &mut out, &mut stdout, &mut stderr);
     let written = (out.get_ref().len(), stdout.get_ref().len());
     ((status, written), heap.left())
@@ -46,7 +46,7 @@ fn a_write_fails(rt: HostRuntime) {
         for writes in [0, 1, 3] {
             let mut out = File::new(FailingOutlet::new(rt.alloc(), writes));
             let mut stdout = FailingOutlet::new(rt.alloc(), writes);
-            let mut stderr = Watched::new(Vec::new(rt.alloc()));
+            let mut stderr = Latched::new(Vec::new(rt.alloc()));
             let status = status_of(*command, rt.alloc(), &mut out, &mut stdout, &mut stderr);
             let told = (status, stderr.get_ref().as_slice());
             let due = (Status::Stopped(Error::Write), b"ERROR write\n".as_slice());
@@ -60,8 +60,8 @@ fn a_write_fails(rt: HostRuntime) {
 #[test]
 fn standard_error_takes_no_line(rt: HostRuntime) {
     for command in [Command::New("hp-laserjet-iii"), Command::Show("wrong")] {
-        let mut out = Watched::new(Vec::new(rt.alloc()));
-        let mut stdout = Watched::new(Vec::new(rt.alloc()));
+        let mut out = Latched::new(Vec::new(rt.alloc()));
+        let mut stdout = Latched::new(Vec::new(rt.alloc()));
         let mut stderr = FailingOutlet::new(rt.alloc(), 1);
         let status = status_of(command, rt.alloc(), &mut out, &mut stdout, &mut stderr);
         let told = (status.code(), stdout.get_ref().len(), stderr.taken().len());

@@ -5,10 +5,11 @@ use crate::lines::{Line, read_line};
 use crate::trouble::Trouble;
 use device_profile::Profile;
 use job_reports::line_of;
-use preflight::{Error, Verdict};
+use preflight::Verdict;
 use std::alloc::{AllocError, Global};
-use testing_printers::{printer_named, profile_of, with_area};
-use testing_verdicts::{Other, Way, check_each_way, verdict_on};
+use streams::Error;
+use testing_checks::{Other, Way, check_each_way, verdict_on};
+use testing_jobs::{printer_named, profile_of, with_area};
 
 /// Checks the rows of a text, and counts them. An error has the number of its line, from 1.
 pub fn check_text(alloc: Global, text: &str) -> Result<u64, (u64, Trouble)> {

@@ -2,7 +2,7 @@
 
 use device_profile::ProfileFault;
 use std::alloc::{AllocError, AllocFailed};
-use testing_verdicts::Way;
+use testing_checks::Way;
 use thiserror::Error;
 
 /// What is wrong with a line of a file of rows.

@@ -2,19 +2,18 @@
 ghost use Rattle.std.specs.Prelude.{◌≡◌, false, IsFalse};
 
 use device_profile::Sample;
-use preflight::Source;
 use requests::{PanelSetting, Status, tell};
 use std::alloc::{Allocator, Global};
 use std::process::Abort;
-use streams::{Create, Open, Outlet};
+use streams::{Create, Open, Outlet, Source};
 use subcommands::check::check;
 use subcommands::job_notes::tell_notes;
 use subcommands::list::list;
 use subcommands::pages::pages;
 use subcommands::pin::pin;
 use subcommands::plain::plain;
-use testing_failures::{FailingOutlet, FailingSource, Refusing};
-use testing_files::{File, KeptTexts, Named};
+use testing_checks::{File, KeptTexts, Named};
+use testing_jobs::{FailingOutlet, FailingSource, Refusing};
 
 /// A subcommand.
 #[derive(Clone, Copy)]

@@ -1,20 +1,20 @@
 //! The subcommand `explain`, where a write fails.
 
 use meanings::explain::explain;
-use preflight::Watched;
 use requests::tell;
 use std::process::Abort;
-use testing_failures::FailingOutlet;
+use streams::Latched;
+use testing_jobs::FailingOutlet;
 
 #[test]
 fn each_write_of_an_explanation_fails_in_turn(rt: HostRuntime) {
-    let mut stdout = Watched::new(Vec::new(rt.alloc()));
-    let mut stderr = Watched::new(Vec::new(rt.alloc()));
+    let mut stdout = Latched::new(Vec::new(rt.alloc()));
+    let mut stderr = Latched::new(Vec::new(rt.alloc()));
     explain(Some("30"), &mut stdout, &mut stderr);
     let text = stdout.get_ref().as_slice();
     for writes in 0..text.len().div_ceil(7) {
         let mut stdout = FailingOutlet::new(rt.alloc(), writes as u64);
-        let mut stderr = Watched::new(Vec::new(rt.alloc()));
+        let mut stderr = Latched::new(Vec::new(rt.alloc()));
         let status = explain(Some("30"), &mut stdout, &mut stderr);
         tell(status, &mut stderr);
         let told = (status.code(), stderr.get_ref().as_slice());

@@ -2,13 +2,12 @@
 ghost use Rattle.std.specs.Prelude.{◌≡◌, false, IsFalse};
 
 use many_jobs::read_fleet_file;
-use preflight::{Error, Watched};
 use requests::{Status, Trouble, tell};
 use std::alloc::Allocator;
 use std::process::Abort;
-use streams::Outlet;
-use testing_failures::Refusing;
-use testing_files::{KeptTexts, Named};
+use streams::{Error, Latched, Outlet};
+use testing_checks::{KeptTexts, Named};
+use testing_jobs::Refusing;
 
 /// Words of texts, and the texts.
 const TEXTS: &[Named<'static>] = &[
@@ -43,7 +42,7 @@ fn requests_of(rt: &(impl Abort + AllocGlobal), word: &str, wanted: Result<(), S
         let heap = Refusing::new(rt.alloc(), requests);
         let mut texts = KeptTexts::new(TEXTS);
         let mut words = Vec::new(&heap);
-        let mut stderr = Watched::new(Vec::new(rt.alloc()));
+        let mut stderr = Latched::new(Vec::new(rt.alloc()));
         let result = status_of(&heap, &mut texts, word, &mut words, &mut stderr);
         if result == wanted {
             return requests;

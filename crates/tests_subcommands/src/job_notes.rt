@@ -6,14 +6,14 @@ use device_profile::Profile;
 use notes::{NoteLine, notes_of};
 use page_env::Finding;
 use pcl_items::LexCause;
-use preflight::{Reason, Source, Watched};
+use preflight::Reason;
 use renderings::Outcome;
 use std::alloc::Global;
 use std::process::Abort;
 use std::test::Fail;
-use testing_failures::{CutSource, FailingOutlet, FailingSource};
-use testing_printers::Printer::B;
-use testing_printers::profile_of;
+use streams::{Latched, Source};
+use testing_jobs::Printer::B;
+use testing_jobs::{CutSource, FailingOutlet, FailingSource, profile_of};
 
 /// How a job ends.
 #[derive(Clone, Copy)]
@@ -162,7 +162,7 @@ fn assert_notes<S: Source>(
 
 /// Of a job that is read whole, byte by byte, and in two pieces that are cut at each place.
 fn check_notes(rt: &impl Abort, alloc: Global, profile: &Profile, job: &[u8], due: Due) {
-    assert_notes(rt, alloc, profile, &mut Watched::new(job), job, due);
+    assert_notes(rt, alloc, profile, &mut Latched::new(job), job, due);
     let mut bytes = FailingSource::new(job, u64::MAX);
     assert_notes(rt, alloc, profile, &mut bytes, job, due);
     for place in 0..job.len() {

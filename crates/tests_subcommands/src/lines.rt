@@ -1,10 +1,9 @@
 //! The lines that the program writes on standard error, where that takes little.
 
 use device_profile::Cause;
-use preflight::{Error, Watched};
 use requests::{Input, Status, tell};
 use std::process::Abort;
-use streams::Outlet;
+use streams::{Error, Latched, Outlet};
 
 /// Ends of the program, with the numbers that the system is told, and their lines.
 const ENDS: &[(Status, u8, &[u8])] = &[
@@ -28,12 +27,12 @@ const ENDS: &[(Status, u8, &[u8])] = &[
 /// Tells a status on a standard error that takes all, and on one of each smaller size, which takes
 /// the front of the line.
 fn check_line(rt: &(impl Abort + AllocGlobal), status: Status, code: u8, line: &[u8]) {
-    let mut stderr = Watched::new(Vec::new(rt.alloc()));
+    let mut stderr = Latched::new(Vec::new(rt.alloc()));
     tell(status, &mut stderr);
     assert_eq!(rt; (status.code(), stderr.get_ref().as_slice()), (code, line));
     let mut taken = [0u8; 64];
     for room in 0..line.len().min(taken.len()) {
-        let mut stderr = Watched::new(&mut taken[..room]);
+        let mut stderr = Latched::new(&mut taken[..room]);
         tell(status, &mut stderr);
         let answer = (status.code(), stderr.has_failed(), &taken[..room]);
         assert_eq!(rt; answer, (code, true, &line[..room]));

@@ -7,9 +7,8 @@ use requests::tell;
 use std::alloc::{Allocator, Global};
 use std::process::Abort;
 use std::test::Fail;
-use testing_failures::FailingOutlet;
-use testing_files::{Change, KeptJobs, KeptTexts, Named, NamedJob};
-use testing_items::RECTANGLE;
+use testing_checks::{Change, KeptJobs, KeptTexts, Named, NamedJob};
+use testing_jobs::{FailingOutlet, RECTANGLE};
 
 /// All reads succeed.
 const SOUND: u64 = u64::MAX;

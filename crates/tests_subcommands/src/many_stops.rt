@@ -3,8 +3,8 @@
 use crate::many_runs::{EACH, Form, Manner, Run, run_of};
 use std::process::Abort;
 use std::test::Fail;
-use testing_failures::Refusing;
-use testing_files::Change;
+use testing_checks::Change;
+use testing_jobs::Refusing;
 
 const WRITE: &[u8] = b"ERROR write\n";
 

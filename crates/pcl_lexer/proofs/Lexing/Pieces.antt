@@ -1,8 +1,8 @@
 -- What one answer leaves as it is.
 use Rattle.std.proofs.Common.{◌≡◌, ◌+◌, length, Result, Ok, subst, false}
 use Rattle.pcl_items.specs.declared.fault.LexFault.{LexFault}
-use Rattle.pcl_lexer.specs.declared.lexer.Lexed.{Lexed}
-use Rattle.pcl_lexer.specs.declared.lexer.Lexed.TheVariants as answers
+use Rattle.pcl_lexer.specs.declared.lexer.lexed.Lexed.{Lexed}
+use Rattle.pcl_lexer.specs.declared.lexer.lexed.Lexed.TheVariants as answers
 use Rattle.pcl_lexer.specs.Lexing.State.{LexerState, WantsMore}
 use Rattle.pcl_lexer.specs.Lexing.Meaning.{Allows, IsNext}
 

@@ -3,8 +3,8 @@ use Rattle.std.proofs.Common.{◌≡◌, ◌+◌, ◌-◌, ◌≤◌, ℕ, List,
 use Rattle.std.proofs.lemmas.List.{drop-drop}
 use Rattle.pcl_lexer.specs.declared.lexer.ahead.Ahead.{Ahead}
 use Rattle.pcl_items.specs.declared.fault.LexFault.{LexFault}
-use Rattle.pcl_lexer.specs.declared.lexer.Lexed.{Lexed}
-use Rattle.pcl_lexer.specs.declared.lexer.Lexed.TheVariants as answers
+use Rattle.pcl_lexer.specs.declared.lexer.lexed.Lexed.{Lexed}
+use Rattle.pcl_lexer.specs.declared.lexer.lexed.Lexed.TheVariants as answers
 use Rattle.pcl_items.specs.declared.item.Item.{Item}
 use Rattle.pcl_items.specs.declared.item.Item.TheVariants as items
 use Rattle.pcl_items.specs.declared.item.Mode.{Mode}

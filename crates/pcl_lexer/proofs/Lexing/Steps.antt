@@ -4,8 +4,9 @@ use Rattle.std.proofs.lemmas.List.{append-nil, length-append}
 use Rattle.pcl_items.specs.declared.fault.LexCause.{LexCause}
 use Rattle.pcl_items.specs.declared.fault.LexFault.{LexFault}
 use Rattle.pcl_lexer.specs.Lexing.Contexts.{Context, Pcl, Sequence, Frame, Letters, Numbered, Pjl, item_place}
-use Rattle.pcl_lexer.specs.declared.lexer.Lexed.{Lexed}
-use Rattle.pcl_lexer.specs.declared.lexer.Lexed.TheVariants as answers
+use Rattle.pcl_lexer.specs.declared.lexer.lexed.Lexed.{Lexed}
+use Rattle.pcl_lexer.specs.declared.lexer.lexed.Lexed.TheVariants as answers
+use Rattle.pcl_items.specs.declared.item.Item.{Item}
 use Rattle.pcl_items.specs.declared.item.Mode.{Mode}
 use Rattle.pcl_items.specs.Modes.{follows, mode_after}
 use Rattle.pcl_lexer.specs.Modes.{mode_of}
@@ -314,3 +315,7 @@ is_next old result new a =
       allows = allows old result new a;
       tells = tells old result new a;
     }
+
+-- the mode before it admits an item that is read
+pub item_admitted : (old new : LexerState) (answer : Result Lexed LexFault) → IsNext old answer new → (place : ℕ) (item : Item) → answer ≡ Ok (answers.Item place item) → follows (mode_of old.context) (view item) ≡ Some (mode_of new.context)
+item_admitted old new answer next place item is = subst (λ a. KeepsMode old a new) is next.admits

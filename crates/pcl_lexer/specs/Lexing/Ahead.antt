@@ -6,8 +6,8 @@ use Rattle.pcl_lexer.specs.Lexing.Contexts.{Context, Pcl, counted}
 use Rattle.pcl_lexer.specs.Lexing.FirstView.{context_view, first_view, Within, FirstHasPjl, len_of, counted_after}
 use Rattle.pcl_lexer.specs.Reading.{ReadsTo}
 use Rattle.pcl_items.specs.declared.item.Item.{Item}
-use Rattle.pcl_lexer.specs.declared.lexer.Lexed.{Lexed}
-use Rattle.pcl_lexer.specs.declared.lexer.Lexed.TheVariants as answers
+use Rattle.pcl_lexer.specs.declared.lexer.lexed.Lexed.{Lexed}
+use Rattle.pcl_lexer.specs.declared.lexer.lexed.Lexed.TheVariants as answers
 use Rattle.pcl_items.specs.Items.{view}
 use Rattle.pcl_lexer.specs.Reader.{Open, Passes, Begins, first_of}
 use Rattle.pcl_lexer.specs.Fault.{end_cause, IsFault}

@@ -1,8 +1,8 @@
 -- One answer of a lexer, by what stands first in its bytes.
 use Rattle.std.specs.Prelude.{◌≡◌, List, [], ◌∷◌, true, false, Result, Ok, Err}
 use Rattle.pcl_items.specs.declared.fault.LexFault.{LexFault}
-use Rattle.pcl_lexer.specs.declared.lexer.Lexed.{Lexed}
-use Rattle.pcl_lexer.specs.declared.lexer.Lexed.TheVariants as answers
+use Rattle.pcl_lexer.specs.declared.lexer.lexed.Lexed.{Lexed}
+use Rattle.pcl_lexer.specs.declared.lexer.lexed.Lexed.TheVariants as answers
 use Rattle.pcl_lexer.specs.Lexing.Contexts.{item_place, MayEndAt}
 use Rattle.pcl_items.specs.Items.{Placed, view, at}
 use Rattle.pcl_lexer.specs.Reader.{first_of}

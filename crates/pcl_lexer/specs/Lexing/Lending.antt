@@ -4,7 +4,7 @@ use Rattle.std.specs.Borrow.{MutBor, Fml, RattleType}
 use Rattle.std.specs.declared.alloc.Allocator.{Ghosts}
 use Rattle.std.specs.Io.BufRead.{Rests}
 use Rattle.pcl_items.specs.declared.fault.LexFault.{LexFault}
-use Rattle.pcl_lexer.specs.declared.lexer.Lexed.{Lexed}
+use Rattle.pcl_lexer.specs.declared.lexer.lexed.Lexed.{Lexed}
 use Rattle.pcl_lexer.specs.declared.lexer.PlacedRow.{PlacedRow}
 use Rattle.pcl_lexer.specs.contracts.lexer.Lexer.{the_row}
 use Rattle.pcl_lexer.specs.Lexing.State.{LexerState}

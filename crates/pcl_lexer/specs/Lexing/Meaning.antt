@@ -12,8 +12,8 @@ use Rattle.pcl_items.specs.declared.item.LineEnd.{LineEnd}
 use Rattle.pcl_items.specs.declared.item.LineEnd.TheVariants as ends
 use Rattle.pcl_items.specs.declared.item.SimpleItem.{SimpleItem}
 use Rattle.pcl_items.specs.declared.item.SimpleItem.TheVariants as simple
-use Rattle.pcl_lexer.specs.declared.lexer.Lexed.{Lexed}
-use Rattle.pcl_lexer.specs.declared.lexer.Lexed.TheVariants as answers
+use Rattle.pcl_lexer.specs.declared.lexer.lexed.Lexed.{Lexed}
+use Rattle.pcl_lexer.specs.declared.lexer.lexed.Lexed.TheVariants as answers
 use Rattle.pcl_lexer.specs.declared.lexer.PlacedItem.{PlacedItem}
 use Rattle.pcl_lexer.specs.declared.lexer.PlacedLineEnd.{PlacedLineEnd}
 use Rattle.pcl_lexer.specs.declared.lexer.PlacedRow.{PlacedRow}

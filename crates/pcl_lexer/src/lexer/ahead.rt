@@ -11,9 +11,11 @@ ghost use Rattle.pcl_items.specs.PjlLines.View.{pjl_view};
 ghost use Rattle.pcl_lexer.specs.Lexing.Ahead.{StandsFirst, StandsAhead, IsUndecided};
 ghost use Rattle.pcl_lexer.specs.Lexing.Meaning.{item_of_end};
 
-use crate::lexer::Lexed;
-use crate::lexer::first::{Context, First, Head, first_in};
+use crate::frame::first::{after_letters, after_numbers, at_frame};
+use crate::lexer::first::{Context, First, Head, command, first_between};
+use crate::lexer::lexed::Lexed;
 use crate::pcl::command_with_data::with_data_in;
+use crate::pjl::first::in_pjl;
 use crate::pjl::pjl_command_of;
 use pcl_items::{
     Data, DataCount, Item, LexFault, LineEnd, PjlLine, Place, SimpleItem, TextByte, control_at,
@@ -107,6 +109,23 @@ pub fn next_ahead(whole: bool, context: Context, start: usize, window: &[u8]) ->
                 };
             }
         }
+    }
+}
+
+/// What stands first in the bytes, which are all that come or not.
+#[tactic(auto, unfolding(crate::specs::Reader::first_of))]
+fn first_in(whole: bool, context: Context, bytes: &[u8]) -> First
+    requires { counted (context_view context) + length bytes.now ≤ 2 ^ 62 }
+    ensures first { first_view bytes.now result ≡ first_of whole (context_view context) bytes.now }
+    ensures within { Within (length bytes.now) result }
+{
+    match context {
+        Context::Pcl => first_between(bytes),
+        Context::Sequence(group) => command(group, bytes),
+        Context::Frame => at_frame(bytes),
+        Context::Letters(mnemonic, begun) => after_letters(whole, mnemonic, begun, bytes),
+        Context::Numbered(numbers, gap, begun) => after_numbers(whole, numbers, gap, begun, bytes),
+        Context::Pjl => in_pjl(bytes),
     }
 }
 

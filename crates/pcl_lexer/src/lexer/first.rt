@@ -1,6 +1,6 @@
 //! What stands first in bytes.
 
-ghost use Rattle.std.specs.Prelude.{◌≡◌, ◌≤◌, ◌<◌, ◌+◌, ◌^◌, ◌∷◌, [], List, ℕ, length, drop, Bool, Some};
+ghost use Rattle.std.specs.Prelude.{◌≡◌, ◌≤◌, ◌<◌, ◌+◌, ◌∷◌, [], List, ℕ, length, drop, Bool, Some};
 ghost use Rattle.std.specs.Option.{option_map};
 ghost use Rattle.pcl_lexer.specs.Reader.{command_in, behind_ungrouped, without_group, in_group, after_introducer, after_parenthesis, after_escape, first_of, behind, by_last_byte, by_last_letter, by_other_letter, by_termination, with_data};
 ghost use Rattle.pcl_items.specs.Escapes.Commands.{group_at, data_command_at};
@@ -13,10 +13,8 @@ ghost use Rattle.pcl_lexer.specs.Modes.{mode_of};
 ghost use Rattle.pcl_lexer.specs.Lexing.FirstView.{context_view, first_view, Within};
 
 use crate::frame::Gap;
-use crate::frame::first::{after_letters, after_numbers, at_frame};
 use crate::pcl::counting::{count_of, handover_of, is_three};
 use crate::pcl::field::{EndedField, FieldEnd, field_end};
-use crate::pjl::first::in_pjl;
 use pcl_items::{
     Command, DataCommand, DataCount, Group, LexCause, Magnitude, Mnemonic, Mode, Motion, Name,
     Number, Place, PlotterCoordinate, SetLetter, Setting, SimpleItem, TextByte, control_at,
@@ -119,23 +117,6 @@ pub enum First {
     Begins(usize, Head, Context),
     /// A fault, in the stead of an item.
     Faulty(LexCause),
-}
-
-/// What stands first in the bytes, which are all that come or not.
-#[tactic(auto, unfolding(crate::specs::Reader::first_of))]
-pub fn first_in(whole: bool, context: Context, bytes: &[u8]) -> First
-    requires { counted (context_view context) + length bytes.now ≤ 2 ^ 62 }
-    ensures first { first_view bytes.now result ≡ first_of whole (context_view context) bytes.now }
-    ensures within { Within (length bytes.now) result }
-{
-    match context {
-        Context::Pcl => first_between(bytes),
-        Context::Sequence(group) => command(group, bytes),
-        Context::Frame => at_frame(bytes),
-        Context::Letters(mnemonic, begun) => after_letters(whole, mnemonic, begun, bytes),
-        Context::Numbered(numbers, gap, begun) => after_numbers(whole, numbers, gap, begun, bytes),
-        Context::Pjl => in_pjl(bytes),
-    }
 }
 
 /// What stands first between the units of mode PCL.

@@ -1,6 +1,6 @@
 use Rattle.std.proofs.Common.{rules, arith, ◌≡◌, ℤ, pos, cond, Some, None}
 use Rattle.std.proofs.lemmas.Int.{ints, to_z-of_z}
-use Rattle.page_env.specs.declared.page.Cursor.{Cursor}
+use Rattle.page_env.specs.declared.cursor.Cursor.{Cursor}
 use Rattle.page_env.specs.Places.{is_between}
 use Rattle.page_env.specs.Frames.{x_on_page, y_on_page}
 use Rattle.page_env.proofs.Ends.{both_taken}

@@ -2,7 +2,7 @@ use Rattle.std.proofs.Common.{◌≡◌, false, ◌+◌, ℕ, List, [], get_or, 
 use Rattle.std.specs.Option.{option_or}
 use Rattle.std.specs.Bool.{then_some}
 use Rattle.page_machine.specs.Event.{Event, TakesAll}
-use Rattle.page_machine.specs.Owned.{event_of}
+use Rattle.sinks.specs.Owned.{event_of}
 use Rattle.sinks.specs.Comparer.{Compares}
 use Rattle.preflight.specs.Carriers.Lockstep.{action_of, ModeAdmits, WrongFrom}
 use Rattle.sinks.proofs.Recording.{differs_exactly}

@@ -1,5 +1,5 @@
 use Rattle.std.proofs.Common.{◌≡◌, map}
-use Rattle.page_machine.specs.Owned.{event_of}
+use Rattle.sinks.specs.Owned.{event_of}
 use Rattle.preflight.specs.Carriers.Lockstep.{action_of}
 use Rattle.preflight.specs.declared.standing.Standing.TheVariants.{Open}
 use Rattle.preflight.proofs.Executing.{SoFar}

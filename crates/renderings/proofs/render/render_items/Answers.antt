@@ -4,8 +4,9 @@ use Rattle.pcl_items.specs.Items.{at, view}
 use Rattle.pcl_lexer.specs.Lexing.Meaning.{IsNext, answer_of}
 use Rattle.pcl_lexer.specs.Modes.{mode_of}
 use Rattle.pcl_lexer.specs.Reading.{Whole, Stopped}
+use Rattle.pcl_lexer.proofs.Lexing.Steps.{item_admitted}
 use Rattle.renderings.specs.Carriers.Rendering.{StartsWith}
-use Rattle.renderings.proofs.Renderings.{came_err, end_there, fault_there, follows_on, item_admitted, item_there, renders_on, renders_over, rendered_all, rendered_ended, rendered_failed, rendered_item}
+use Rattle.renderings.proofs.Renderings.{came_err, end_there, fault_there, follows_on, item_there, renders_on, renders_over, rendered_all, rendered_ended, rendered_failed, rendered_item}
 use Rattle.renderings.proofs.render.render_items.Goals as goal
 
 pub loop-read-init : goal.loop-read-init

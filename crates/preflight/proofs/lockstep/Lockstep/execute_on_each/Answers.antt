@@ -1,7 +1,7 @@
 use Rattle.std.proofs.Common.{◌≡◌, ◌∷◌, [], List, map, take, drop, length, ◌++◌, refl, sym, ap, subst, ◌∙◌, inl, arith}
 use Rattle.page_machine.specs.Event.{Event}
 use Rattle.page_machine.specs.MachineState.{MachineState}
-use Rattle.page_machine.specs.Owned.{event_of}
+use Rattle.sinks.specs.Owned.{event_of}
 use Rattle.sinks.specs.Recorder.{Recorded}
 use Rattle.sinks.proofs.Recording.{recorder_takes}
 use Rattle.preflight.specs.Standing.{StandsBy}

@@ -1,0 +1,98 @@
+#!/usr/bin/env python3
+"""Compares crates.txt with the crates, and with the tables of ARCHITECTURE.md.
+
+A crate stands behind those on which it stands, and a file of it names each of these. Its modules
+stand in no circle. It has one row in the tables of crates, on the floor on which crates.txt has it.
+What differs is printed, and the status is 1.
+"""
+
+import re
+import sys
+from pathlib import Path
+
+ROOT = Path(__file__).resolve().parent.parent
+FLOOR = re.compile(r"# ---- (.+?):")
+# In code a crate begins a path; in definitions it stands behind the house's name.
+NAMED = re.compile(r"(?<![\w:.])([a-z]\w*)::|\bRattle\.(\w+)\.")
+USED = re.compile(r"\bcrate((?:::[a-z]\w*)+)")
+
+
+def crates_of_list():
+    """The crates in the order of crates.txt: their floor, and on what they stand."""
+    floor, crates = "", {}
+    for line in (ROOT / "crates.txt").read_text(encoding="utf-8").splitlines():
+        if found := FLOOR.match(line):
+            floor = found[1]
+        elif line and not line.startswith("#"):
+            words, _, below = line.partition(":")
+            crates[words.split()[0]] = (floor, below.split())
+    return crates
+
+
+def crates_of_document():
+    """The crates of the document's tables with their floors, as `ground: streams`."""
+    text = (ROOT / "docs" / "ARCHITECTURE.md").read_text(encoding="utf-8").partition("\n## ")[0]
+    rows, floor = [], ""
+    for first, crate in re.findall(r"(?m)^\| ([\w ]*?) ?\| `(\w+)` \|", text):
+        floor = first or floor
+        rows.append(f"{floor}: {crate}")
+    return rows
+
+
+def code_of(path):
+    """The text of a file without its comments."""
+    comment = r"--[^\n]*" if path.suffix == ".antt" else r"//[^\n]*"
+    return re.sub(comment, "", path.read_text(encoding="utf-8"))
+
+
+def names_of(crate):
+    """The names in a crate's files that may be those of crates."""
+    folders = [ROOT / "crates" / crate / part for part in ("src", "specs", "proofs", "must-fail")]
+    code = "\n".join(code_of(path) for folder in folders for path in folder.rglob("*.*"))
+    return {name for pair in NAMED.findall(code) for name in pair}
+
+
+def uses_of(crate):
+    """The modules of a crate, and which others each one uses."""
+    folder = ROOT / "crates" / crate / "src"
+    paths = {path.relative_to(folder).with_suffix("").parts: path for path in folder.rglob("*.rt")}
+    uses = {module: set() for module in paths}
+    for module, path in paths.items():
+        for found in USED.findall(code_of(path)):
+            parts = tuple(found.split("::")[1:])
+            while parts and parts not in paths:
+                parts = parts[:-1]
+            uses[module] |= {parts} - {(), module}
+    return uses
+
+
+def circles_of(crate):
+    """The modules of a crate that stand in a circle, or between two."""
+    left, before = uses_of(crate), None
+    while left != before:
+        before, used = left, set().union(*left.values())
+        left = {module: uses & left.keys() for module, uses in left.items()}
+        left = {module: uses for module, uses in left.items() if uses and module in used}
+    return sorted("::".join(module) for module in left)
+
+
+def main():
+    crates = crates_of_list()
+    said, order = [], list(crates)
+    for crate, (_, below) in crates.items():
+        unused = sorted(set(below) - names_of(crate))
+        later = sorted(set(below) & set(order[order.index(crate):]))
+        said += [f"{crate} stands on {other}, which no file of it names" for other in unused]
+        said += [f"{crate} stands before {other}, on which it stands" for other in later]
+        if circle := circles_of(crate):
+            said.append(f"{crate} has modules in a circle: {', '.join(circle)}")
+    listed = [f"{floor}: {crate}" for crate, (floor, _) in crates.items()]
+    shown = crates_of_document()
+    said += [f"ARCHITECTURE.md has no row `{row}`" for row in listed if row not in shown]
+    said += [f"crates.txt has no `{row}`" for row in shown if row not in listed]
+    print("\n".join(said) or f"check_crates: {len(crates)} crates are as they are listed")
+    return 1 if said else 0
+
+
+if __name__ == "__main__":
+    sys.exit(main())
