@@ -6,4 +6,5 @@ pub mod Formation
 pub mod TextInStep
 pub mod PairsInStep
 pub mod Checking
+pub mod Loops
 pub mod Rooms

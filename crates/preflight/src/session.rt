@@ -10,7 +10,7 @@ ghost use Rattle.preflight.specs.Verdict.{IsExact, KeepsPromise};
 ghost use Rattle.preflight.specs.Culprit.{IsRight, IsTold};
 ghost use Rattle.preflight.specs.Carriers.Lockstep.{AreIn, AreRunning, counts_of, machines_of};
 
-use crate::check::{execute_decided, finish};
+use crate::checking::Checking;
 use crate::culprit::{Culprit, Judgement};
 use crate::laws::fails_say;
 use crate::lockstep::Lockstep;
@@ -30,13 +30,9 @@ const MOST_BYTES: u64 = 1 << 62;
 /// Each item is executed on every printer as soon as the pieces decide it.
 #[derive(Drop)]
 pub struct Session<'p, A: Allocator + Copy, P: Allocator> {
-    lexer: Lexer<A>,
-    machines: Lockstep<'p, A, P>,
+    checking: Checking<'p, A, P>,
     /// How many bytes were fed.
     total: u64,
-    standing: Standing,
-    /// The item that the job fails at.
-    culprit: Option<Culprit>,
 }
 
 impl<'p, A: Allocator + Copy, P: Allocator> Model for Session<'p, A, P> {
@@ -50,21 +46,21 @@ impl<'p, A: Allocator + Copy, P: Allocator> Model for Session<'p, A, P> {
     ghost Value = { SessionState };
 
     ghost view = { λ session. record {
-      lexer = session.lexer;
-      machines = machines_of session.machines;
-      counts = counts_of session.machines;
+      lexer = session.checking.lexer;
+      machines = machines_of session.checking.machines;
+      counts = counts_of session.checking.machines;
       total = session.total;
-      standing = session.standing;
-      culprit = session.culprit;
+      standing = session.checking.standing;
+      culprit = session.checking.culprit;
     } };
 
-    ghost invariant = { λ session. session.standing ≡ Open →
-        (session.lexer.ended ≡ false) × WantsMore session.lexer
-        × AreRunning (machines_of session.machines)
-        × AreIn (mode_of session.lexer.context) (machines_of session.machines)
-        × (session.lexer.place + length session.lexer.rest ≡ session.total)
+    ghost invariant = { λ session. session.checking.standing ≡ Open →
+        (session.checking.lexer.ended ≡ false) × WantsMore session.checking.lexer
+        × AreRunning (machines_of session.checking.machines)
+        × AreIn (mode_of session.checking.lexer.context) (machines_of session.checking.machines)
+        × (session.checking.lexer.place + length session.checking.lexer.rest ≡ session.total)
         × (session.total ≤ 2 ^ 62)
-        × (session.culprit ≡ None) };
+        × (session.checking.culprit ≡ None) };
 }
 
 impl<'p, A: Allocator + Copy, P: Allocator> Session<'p, A, P> {
@@ -88,11 +84,13 @@ impl<'p, A: Allocator + Copy, P: Allocator> Session<'p, A, P> {
             [first, others @ ..] => {
                 let machines = Lockstep::new(alloc, first, others)?;
                 Ok(Session {
-                    lexer: Lexer::new(alloc),
-                    machines,
+                    checking: Checking {
+                        lexer: Lexer::new(alloc),
+                        machines,
+                        standing: Standing::Open,
+                        culprit: None,
+                    },
                     total: 0,
-                    standing: Standing::Open,
-                    culprit: None,
                 })
             }
         }
@@ -119,13 +117,13 @@ impl<'p, A: Allocator + Copy, P: Allocator> Session<'p, A, P> {
         ensures total { self.new.standing ≡ standings.Open → self.new.total ≡
             self.old.total + length piece.now }
     {
-        match self.standing {
+        match self.checking.standing {
             Standing::Open => {}
             Standing::Judged(_) => return Ok(()),
             Standing::Stopped(error) => return Err(error),
         }
         if piece.len() as u64 > MOST_BYTES - self.total {
-            self.standing = Standing::Stopped(Error::Turns);
+            self.checking.standing = Standing::Stopped(Error::Turns);
             return Err(Error::Turns);
         }
         let mut rest = piece;
@@ -148,7 +146,7 @@ impl<'p, A: Allocator + Copy, P: Allocator> Session<'p, A, P> {
         ensures value { result ≡ self.now.culprit }
         ensures open { self.now.standing ≡ standings.Open → result ≡ None }
     {
-        self.culprit
+        self.checking.culprit
     }
 
     /// The verdict on the job that was fed, whole.
@@ -189,7 +187,7 @@ impl<'p, A: Allocator + Copy, P: Allocator> Session<'p, A, P> {
         let verdict = self.verdict()?;
         Ok(Judgement {
             verdict,
-            culprit: self.culprit,
+            culprit: self.checking.culprit,
         })
     }
 
@@ -208,7 +206,7 @@ impl<'p, A: Allocator + Copy, P: Allocator> Session<'p, A, P> {
             IfErr result (λ error. error ≡ Error.Memory) }
     {
         fails_say();
-        match self.standing {
+        match self.checking.standing {
             Standing::Open => Consumer::end(self, &mut ()),
             Standing::Judged(verdict) => Ok(verdict),
             Standing::Stopped(error) => Err(error),
@@ -231,18 +229,13 @@ impl<A: Allocator + Copy, P: Allocator> Consumer<()> for Session<'_, A, P> {
 
     fn piece(&mut self, _outlet: &mut (), piece: &[u8]) -> Result<Option<Verdict>, Error> {
         fails_say();
-        if self.lexer.feed(piece).is_err() {
-            self.standing = Standing::Stopped(Error::Memory);
+        if self.checking.lexer.feed(piece).is_err() {
+            self.checking.standing = Standing::Stopped(Error::Memory);
             return Err(Error::Memory);
         }
         self.total += piece.len() as u64;
-        execute_decided(
-            &mut self.lexer,
-            &mut self.machines,
-            &mut self.standing,
-            &mut self.culprit,
-        );
-        match self.standing {
+        self.checking.execute_decided();
+        match self.checking.standing {
             Standing::Open => Ok(None),
             Standing::Judged(verdict) => Ok(Some(verdict)),
             Standing::Stopped(error) => Err(error),
@@ -250,14 +243,8 @@ impl<A: Allocator + Copy, P: Allocator> Consumer<()> for Session<'_, A, P> {
     }
 
     fn end(&mut self, _outlet: &mut ()) -> Result<Verdict, Error> {
-        finish(
-            &mut self.lexer,
-            &mut self.machines,
-            self.total,
-            &mut self.standing,
-            &mut self.culprit,
-        );
-        match self.standing {
+        self.checking.finish(self.total);
+        match self.checking.standing {
             Standing::Open => unreachable!(),
             Standing::Judged(verdict) => Ok(verdict),
             Standing::Stopped(error) => Err(error),

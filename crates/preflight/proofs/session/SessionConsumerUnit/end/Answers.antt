@@ -1,4 +1,4 @@
-use Rattle.std.proofs.Common.{sym, subst}
+use Rattle.std.proofs.Common.{ap, sym, subst, ◌∙◌}
 use Rattle.preflight.specs.Carriers.Lockstep.{counts_of, machines_of}
 use Rattle.preflight.specs.Session.{ChecksOn, SessionState}
 use Rattle.preflight.proofs.Sessions.{judged_at_end, out_of_memory}
@@ -6,11 +6,18 @@ use Rattle.preflight.proofs.Standings.{judged_ends, not_open_ends, stopped_ends}
 use Rattle.preflight.proofs.session.SessionConsumerUnit.end.Goals.{in-Judged, in-Stopped}
 use Rattle.preflight.proofs.session.SessionConsumerUnit.end.Goals as goal
 
+pub finish-requires-clause-may : goal.finish-requires-clause-may
+finish-requires-clause-may g c =
+    let is = ap (λ (s : SessionState). s.standing) c.self.view_is ∙ c.requires.room.0 in
+    let ready = c.self.invariant is in
+    record { running = ready.2; modes = ready.3; stands = is }
+
 pub returns : goal.returns
 returns g c = λ first bytes goes.
     let inside = c.self.inside in
-    let new = c.finish.new in
-    let old : SessionState = record { lexer = inside.lexer; machines = machines_of inside.machines; counts = counts_of inside.machines; total = inside.total; standing = inside.standing; culprit = inside.culprit } in
+    let before = inside.checking in
+    let new = c.finish.new.self in
+    let old : SessionState = record { lexer = before.lexer; machines = machines_of before.machines; counts = counts_of before.machines; total = inside.total; standing = before.standing; culprit = before.culprit } in
     let after : SessionState = record { lexer = new.lexer; machines = machines_of new.machines; counts = counts_of new.machines; total = inside.total; standing = new.standing; culprit = new.culprit } in
     elim c.match-self.branch [
       | in-Judged w ↦
@@ -22,4 +29,4 @@ returns g c = λ first bytes goes.
     ]
 
 pub unreachable-requires : goal.unreachable-requires
-unreachable-requires g c = not_open_ends c.finish.new.standing _ c.in-Open.is c.finish.ensures
+unreachable-requires g c = not_open_ends c.finish.new.self.standing _ c.in-Open.is c.finish.ensures

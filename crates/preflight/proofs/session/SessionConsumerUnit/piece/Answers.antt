@@ -1,11 +1,12 @@
 use Rattle.std.proofs.Common.{◌≡◌, ◌+◌, ◌++◌, ℕ, List, false, length, refl, ap, sym, ◌∙◌, subst, Result, Ok, Err, OnOk, is_err}
 use Rattle.pcl_lexer.specs.Lexing.State.{LexerState}
 use Rattle.pcl_lexer.specs.Lexing.Meaning.{MayBe}
+use Rattle.pcl_lexer.specs.Modes.{mode_of}
 use Rattle.preflight.specs.Standing.{is_open}
 use Rattle.preflight.specs.Verdict.{IsExact}
 use Rattle.preflight.specs.Culprit.{IsTold}
 use Rattle.verdict.specs.Failing.{failing}
-use Rattle.preflight.specs.Carriers.Lockstep.{counts_of, machines_of}
+use Rattle.preflight.specs.Carriers.Lockstep.{AreIn, counts_of, machines_of}
 use Rattle.preflight.specs.Session.{ChecksOn, SessionState}
 use Rattle.preflight.proofs.Answered.{came_open, goes_open}
 use Rattle.preflight.proofs.Sessions.{checks_more, judged_by_piece, out_of_memory}
@@ -19,12 +20,24 @@ fed_ok : {T E P : Type 0} (result : Result T E) → is_err result ≡ false → 
 fed_ok (Ok x) is h = h
 fed_ok (Err e) is h = absurd cc
 
+pub execute_decided-requires-clause-may : goal.execute_decided-requires-clause-may
+execute_decided-requires-clause-may g c =
+    let is = ap (λ (s : SessionState). s.standing) c.self.view_is ∙ c.requires.room.0 in
+    let ready = c.self.invariant is in
+    let fed = fed_ok c.feed.result (sym c.is_err.ensures.value ∙ c.if-is_err.false) c.feed.ensures.ok in
+    record {
+      running = ready.2;
+      modes = subst (λ (s : LexerState). AreIn (mode_of s.context) (machines_of c.self.inside.checking.machines)) (sym fed) ready.3;
+      stands = is;
+    }
+
 pub returns : goal.returns
 returns g c = λ first bytes goes.
     let inside = c.self.inside in
     let piece = c.args.piece.now in
-    let new = c.execute_decided.new in
-    let old : SessionState = record { lexer = inside.lexer; machines = machines_of inside.machines; counts = counts_of inside.machines; total = inside.total; standing = inside.standing; culprit = inside.culprit } in
+    let here = inside.checking in
+    let new = c.execute_decided.new.self in
+    let old : SessionState = record { lexer = here.lexer; machines = machines_of here.machines; counts = counts_of here.machines; total = inside.total; standing = here.standing; culprit = here.culprit } in
     let after : SessionState = record { lexer = new.lexer; machines = machines_of new.machines; counts = counts_of new.machines; total = inside.total + length piece; standing = new.standing; culprit = new.culprit } in
     let before : ChecksOn first.0 bytes old = subst (ChecksOn first.0 bytes) (sym c.self.view_is) goes in
     let fed = fed_ok c.feed.result (sym c.is_err.ensures.value ∙ c.if-is_err.false) c.feed.ensures.ok in
@@ -39,7 +52,7 @@ returns g c = λ first bytes goes.
           (checks_more first.0 old after bytes before piece w.in-Open.is refl (went.ended ∙ not_ended) on.0
           (λ fleet base executed.
           let came = came_open _ _ _ new.lexer _ (machines_of new.machines) _ (counts_of new.machines) new.standing is went.came fleet (base ++ piece)
-          (executed_fed fleet base piece inside.lexer c.feed.new.self (machines_of inside.machines) (counts_of inside.machines) reads executed) in
+          (executed_fed fleet base piece here.lexer c.feed.new.self (machines_of here.machines) (counts_of here.machines) reads executed) in
           came.0))
       | in-Judged w ↦
           let verdict = w.in-Judged.verdict in
@@ -48,7 +61,7 @@ returns g c = λ first bytes goes.
           (judged_by_piece first.0 old after bytes before c.fails_say.ensures piece judged.0 verdict judged.1 w.in-Judged.is
           (λ fleet base executed.
           subst (λ ended. (job : List ℕ) → MayBe ended (base ++ piece) job → IsExact fleet job (failing judged.0) × IsTold job (failing judged.0) new.culprit) not_ended
-          (judged.2 fleet (base ++ piece) (executed_fed fleet base piece inside.lexer c.feed.new.self (machines_of inside.machines) (counts_of inside.machines) reads executed))))
+          (judged.2 fleet (base ++ piece) (executed_fed fleet base piece here.lexer c.feed.new.self (machines_of here.machines) (counts_of here.machines) reads executed))))
       | in-Stopped w ↦
           let error = w.in-Stopped.error in
           rw w.result-is (out_of_memory new.standing error w.in-Stopped.is (stopped_stands new.standing _ error w.in-Stopped.is went.goes_on))
