@@ -2,13 +2,13 @@
 #![tactic(auto)]
 
 mod check_jobs;
-mod copied_texts;
 mod fleet_file;
 mod job_checks;
 mod job_noting;
 mod job_objects;
 mod json_object;
 mod json_texts;
+mod kept_texts;
 mod limited;
 mod note_reports;
 mod telling;
