@@ -1,4 +1,4 @@
-use Rattle.std.proofs.Common.{◌≤◌, ◌∙◌, ◌++◌, [], List, ℕ, ap, flat_map, inl, inr, length, map, option_map, refl, string_bytes, subst}
+use Rattle.std.proofs.Common.{◌≤◌, ◌∙◌, ◌++◌, List, ℕ, ap, inl, inr, length, map, option_map, refl, string_bytes, subst}
 use Rattle.many_jobs.specs.Asked.{told_by}
 use Rattle.many_jobs.specs.CheckMany.{Asked}
 use Rattle.named_inputs.specs.Texts.{text_named}
