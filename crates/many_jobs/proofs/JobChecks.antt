@@ -25,7 +25,7 @@ use Rattle.many_jobs.specs.NoteReports.{subject_of, told_note}
 use Rattle.device_profile.specs.Name.{printer_name}
 use Rattle.notes.specs.Notes.{with_most_items}
 use Rattle.many_jobs.specs.CheckMany.{AreOfTexts, limited}
-use Rattle.many_jobs.specs.CopiedTexts.{AreNotePrinters}
+use Rattle.many_jobs.specs.KeptTexts.{AreNotePrinters}
 use Rattle.device_profile.specs.Text.{printer_of_text}
 use Rattle.named_inputs.specs.Fleet.{DescribeBy, DescribeFleet, IsEndOfFleet}
 use Rattle.named_inputs.proofs.FleetFacts.{DescribeBy-more}
@@ -377,7 +377,7 @@ note_printers_more bytes texts i d printers printer h before is = (
 )
 
 -- an error for which there is no fleet is one of reading a text
-end_error : (known : List (Option (List ℕ))) (error : Error) → IsEndOfFleet known (Stopped error) → IsErrorOfReading error
+pub end_error : (known : List (Option (List ℕ))) (error : Error) → IsEndOfFleet known (Stopped error) → IsErrorOfReading error
 end_error known Memory end = tt
 end_error known Read end = tt
 end_error known Write end = absurd end

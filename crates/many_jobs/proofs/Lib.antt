@@ -1,6 +1,9 @@
+mod FleetWords
 mod JobChecks
 mod JobNoting
 mod JobObjectExamples
 mod JsonObjectFacts
 mod JsonTextFacts
+mod KeptFacts
 mod Limiting
+mod Stopping

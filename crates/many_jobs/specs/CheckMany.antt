@@ -1,5 +1,5 @@
 -- How a check of many jobs ends.
-use Rattle.std.specs.Prelude.{◌≡◌, ◌-◌, ◌⊎◌, ℕ, Bool, List, [], map, flat_map, get_or, Option, Some, if◌then◌else◌}
+use Rattle.std.specs.Prelude.{◌≡◌, ◌-◌, ◌⊎◌, ℕ, Bool, IsFalse, List, [], map, flat_map, get_or, Option, Some, if◌then◌else◌}
 use Rattle.device_profile.specs.Name.{printer_name}
 use Rattle.device_profile.specs.Printer.{Printer}
 use Rattle.streams.specs.declared.error.Error.{Error}
@@ -12,6 +12,7 @@ use Rattle.many_jobs.specs.declared.ending.Ending.TheVariants.{Passes, Fails, Ha
 use Rattle.requests.specs.declared.status.Status.{Status}
 use Rattle.requests.specs.declared.status.Status.TheVariants.{Pass, Fail, Profile, Stopped, Told}
 use Rattle.requests.specs.declared.status.Trouble.TheVariants.{Refused, NoVerdict}
+use Rattle.requests.specs.Status.{is_stop_of_read}
 use Rattle.named_inputs.specs.Fleet.{DescribeFleet, IsEndOfFleet}
 use Rattle.job_reports.specs.Groups.{Groups}
 use Rattle.many_jobs.specs.JobChecks.{IsErrorOfLine, TellsAll, TellsFront, Work, due_of}
@@ -81,8 +82,11 @@ TellsRefusal format (Profile number line cause) words status err err' = TellsLin
 TellsRefusal format (Stopped error) words status err err' = TellsStop format error status err err'
 TellsRefusal format end words status err err' = (status ≡ end) × (err' ≡ err)
 
--- the jobs are checked for the printers of these texts; or there is no fleet, and no line is written and no job read
-abbrev pub LeavesMany : List (Option (List ℕ)) → Asked → (List ℕ → SourceState) → Status → Work → Work → OutletState → OutletState → Type 0
-LeavesMany known asked start status old new err err' =
-    ((groups : Groups) × AreOfTexts known asked.most_items asked.tells_notes groups × (groups.is_each ≡ asked.is_each) × LeavesLines asked groups start status old new × (err' ≡ err))
-    ⊎ ((end : Status) × IsEndOfFleet known end × TellsRefusal asked.telling.format end asked.printers status err err' × (new ≡ old))
+-- The jobs are checked for the printers of these texts, all of which could be read. Or there is no fleet, and no line is written and no
+-- job read; that a text could not be read is why just where a read of one failed.
+abbrev pub LeavesMany : List (Option (List ℕ)) → (read_failed : Bool) → Asked → (List ℕ → SourceState) → Status → Work → Work → OutletState → OutletState → Type 0
+LeavesMany known read_failed asked start status old new err err' =
+    ((groups : Groups) × AreOfTexts known asked.most_items asked.tells_notes groups × (groups.is_each ≡ asked.is_each) × IsFalse read_failed
+    × LeavesLines asked groups start status old new × (err' ≡ err))
+    ⊎ ((end : Status) × IsEndOfFleet known end × (read_failed ≡ is_stop_of_read end)
+    × TellsRefusal asked.telling.format end asked.printers status err err' × (new ≡ old))

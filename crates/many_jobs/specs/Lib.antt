@@ -1,11 +1,11 @@
 pub mod Asked
 pub mod CheckMany
-pub mod CopiedTexts
 pub mod FleetFile
 pub mod JobChecks
 pub mod JobNoting
 pub mod JobObjects
 pub mod JsonObject
 pub mod JsonTexts
+pub mod KeptTexts
 pub mod NoteReports
 pub mod Telling

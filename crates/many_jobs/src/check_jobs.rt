@@ -1,15 +1,16 @@
 //! The command `check` for many jobs.
-ghost use Rattle.std.specs.Prelude.{◌≡◌, ◌≢◌, ◌-◌, ◌++◌, ℕ, List, [], Option, IsFalse, OnOk, get_or, map, option_map};
+ghost use Rattle.std.specs.Prelude.{◌≡◌, ◌≢◌, ◌-◌, ◌++◌, ℕ, List, [], Option, IsFalse, OnOk, false, get_or, map, option_map};
 ghost use Rattle.many_jobs.specs.Asked.{asked_for};
 ghost use Rattle.many_jobs.specs.CheckMany.{LeavesLines, LeavesMany, TellsRefusal, TellsStop, refusal_text, status_of, unread_text};
 ghost use Rattle.job_reports.specs.Refusals.{TellsLine};
 ghost use Rattle.named_inputs.specs.Fleet.{IsEndOfFleet};
 ghost use Rattle.many_jobs.specs.JobChecks.{work};
 ghost use Rattle.named_inputs.specs.Texts.{IsErrorOfReading};
+ghost use Rattle.requests.specs.Status.{is_stop_of_read, is_stop_of_write};
 
-use crate::copied_texts::{CopiedTexts, note_printers, printer_names};
 use crate::ending::Ending;
 use crate::job_checks::check_jobs;
+use crate::kept_texts::{note_printers, printer_names, read_kept_fleet};
 use crate::limited::limited_fleet;
 use crate::telling::{Format, Telling};
 use device_profile::Cause;
@@ -18,7 +19,7 @@ use job_reports::{
     push_unread_profile_sentence,
 };
 use named_inputs::system_words::system_words;
-use named_inputs::{Jobs, ProfileTexts, read_fleet};
+use named_inputs::{Jobs, ProfileTexts};
 use requests::{Status, Trouble};
 use std::alloc::{AllocError, Allocator};
 use streams::{Error, Outlet, write_text};
@@ -55,27 +56,28 @@ pub fn check_many<'n, J: Jobs<'n>, T: ProfileTexts, O: Outlet, E: Outlet, A: All
     requires stdout { IsFalse (O.state stdout.old).failed }
     requires stderr { IsFalse (E.state stderr.old).failed }
     requires some { asked.now.printers.now ≢ [] }
-    ensures { LeavesMany (map (λ word. T.text_of texts.old word.now) asked.now.printers.now)
-        (asked_for asked.now) (J.start jobs.old) result
+    ensures left { LeavesMany (map (λ word. T.text_of texts.old word.now) asked.now.printers.now)
+        (T.failed texts.new) (asked_for asked.now) (J.start jobs.old) result
         (work (O.state stdout.old) (J.ended jobs.old))
         (work (O.state stdout.new) (J.ended jobs.new))
         (E.state stderr.old) (E.state stderr.new) }
+    ensures read { is_stop_of_read result ≡ false }
+    ensures write { (O.state stdout.new).failed ≡ is_stop_of_write result }
 {
-    let mut copied = CopiedTexts::new(alloc, texts);
-    let read = match read_fleet(alloc, &mut copied, asked.printers) {
+    let mut kept = Vec::new(alloc);
+    let read = match read_kept_fleet(alloc, texts, asked.printers, &mut kept) {
         Ok(fleet) => fleet,
         Err(status) => {
-            let told = system_words(alloc, copied.error());
-            let word = word_of(asked.printers, copied.asked());
+            let told = system_words(alloc, texts.error());
+            let word = word_of(asked.printers, (kept.len() as u64).saturating_add(1));
             return tell_refusal(alloc, asked, word, told, status, stderr);
         }
     };
     let fleet = limited_fleet(read, asked.most_items);
-    let copies = copied.into_copies();
-    let Ok(names) = printer_names(alloc, copies.as_slice()) else {
+    let Ok(names) = printer_names(alloc, kept.as_slice()) else {
         return Status::Stopped(Error::Memory);
     };
-    let Ok(note_printers) = note_printers(alloc, asked.tells_notes, copies.as_slice()) else {
+    let Ok(note_printers) = note_printers(alloc, asked.tells_notes, kept.as_slice()) else {
         return Status::Stopped(Error::Memory);
     };
     let printers = PrinterGroup::new(
@@ -97,9 +99,10 @@ fn check_for<'n, J: Jobs<'n>, O: Outlet, A: Allocator + Copy>(
 ) -> Status
     requires stdout { IsFalse (O.state stdout.old).failed }
     requires some { printers.now.fleet ≢ [] }
-    ensures { LeavesLines (asked_for asked.now) printers.now (J.start jobs.old) result
+    ensures left { LeavesLines (asked_for asked.now) printers.now (J.start jobs.old) result
         (work (O.state stdout.old) (J.ended jobs.old))
         (work (O.state stdout.new) (J.ended jobs.new)) }
+    ensures write { (O.state stdout.new).failed ≡ is_stop_of_write result }
 {
     match check_jobs(alloc, jobs, asked.jobs, printers, &asked.telling, stdout) {
         Ok(ending) => status_of(ending),

@@ -1,6 +1,6 @@
 //! A fleet as a text: a profile a line.
-ghost use Rattle.std.specs.Prelude.{◌≡◌, ◌++◌, IfErr, IfNone, IfOk, IsFalse, OnOk, option_map};
-ghost use Rattle.many_jobs.specs.FleetFile.{AddsSome, TellsOfFleet, refused_fleet, refused_text};
+ghost use Rattle.std.specs.Prelude.{◌≡◌, ◌++◌, IfErr, IfNone, IfOk, IsFalse, OnOk, option_map, string_bytes};
+ghost use Rattle.many_jobs.specs.FleetFile.{AddsBytes, AddsFleet, TellsOfFleet, fleet_words, is_passed_over, is_sample, line_words, refused_fleet, refused_text, word_of};
 
 use job_reports::push_unread;
 use named_inputs::ProfileTexts;
@@ -36,7 +36,10 @@ pub fn read_fleet_file<T: ProfileTexts, E: Outlet, A: Allocator + Copy>(
 ) -> Result<(), Status>
     requires texts { IsFalse (T.failed texts.old) }
     requires stderr { IsFalse (E.state stderr.old).failed }
-    ensures named { OnOk result (AddsSome words.old.items words.new.items) }
+    ensures named { OnOk result (AddsFleet string_bytes (T.text_of texts.old) path.now
+        (T.given texts.old) (T.given texts.new) words.old.items words.new.items) }
+    ensures working { OnOk result (IsFalse (T.failed texts.new)) }
+    ensures same { T.text_of texts.new ≡ T.text_of texts.old }
     ensures quiet { OnOk result (stderr.new ≡ stderr.old) }
     ensures end { IfErr result (λ status. TellsOfFleet path.now status
         (E.state stderr.old) (E.state stderr.new)) }
@@ -56,7 +59,11 @@ fn gather_words<T: ProfileTexts, A: Allocator + Copy>(
     words: &mut Vec<String<A>, A>,
 ) -> Result<Option<FleetFault>, AllocError>
     requires { IsFalse (T.failed texts.old) }
-    ensures { IfOk result (λ fault. IfNone fault (AddsSome words.old.items words.new.items)) }
+    ensures named { IfOk result (λ fault. IfNone fault (AddsFleet string_bytes
+        (T.text_of texts.old) path.now (T.given texts.old) (T.given texts.new)
+        words.old.items words.new.items)) }
+    ensures working { IfOk result (λ fault. IfNone fault (IsFalse (T.failed texts.new))) }
+    ensures same { T.text_of texts.new ≡ T.text_of texts.old }
 {
     let text = match texts.read_text(alloc, path) {
         Ok(text) => text,
@@ -70,21 +77,66 @@ fn gather_words<T: ProfileTexts, A: Allocator + Copy>(
         return Ok(Some(FleetFault::NoText));
     };
     let before = words.len();
-    for line in text.lines() {
-        let line = line.trim();
-        if !line.is_empty() && !line.starts_with('#') {
-            words.push(word_of(alloc, path, line)?)?;
-        }
-    }
+    push_words(alloc, path, text, words)?;
     if words.len() == before {
         return Ok(Some(FleetFault::NoPrinter));
     }
     Ok(None)
 }
 
+/// Appends the words that a text at this path names, line by line.
+fn push_words<A: Allocator + Copy>(
+    alloc: A,
+    path: &str,
+    text: &str,
+    words: &mut Vec<String<A>, A>,
+) -> Result<(), AllocError>
+    ensures { OnOk result (AddsBytes string_bytes words.old.items words.new.items
+        (fleet_words path.now text.now)) }
+{
+    for line in text.lines() {
+        push_word(alloc, path, line.trim(), words)?;
+    }
+    Ok(())
+}
+
+/// Appends the word of a line, unless it is passed over.
+fn push_word<A: Allocator + Copy>(
+    alloc: A,
+    path: &str,
+    line: &str,
+    words: &mut Vec<String<A>, A>,
+) -> Result<(), AllocError>
+    ensures { OnOk result (AddsBytes string_bytes words.old.items words.new.items
+        (line_words path.now line.now)) }
+{
+    if is_passed_over(line) {
+        return Ok(());
+    }
+    let word = word_of(alloc, path, line)?;
+    words.push(word)?;
+    Ok(())
+}
+
+/// Whether a line is empty or a comment.
+fn is_passed_over(line: &str) -> bool
+    ensures { result ≡ is_passed_over line.now }
+{
+    line.is_empty() || line.starts_with('#')
+}
+
+/// Whether a word is that of a sample.
+fn is_sample(word: &str) -> bool
+    ensures { result ≡ is_sample word.now }
+{
+    word.starts_with('@')
+}
+
 /// The word of a line: a sample as it stands, and a path as seen from the folder of the text.
-fn word_of<A: Allocator + Copy>(alloc: A, path: &str, line: &str) -> Result<String<A>, AllocError> {
-    if line.starts_with('@') {
+fn word_of<A: Allocator + Copy>(alloc: A, path: &str, line: &str) -> Result<String<A>, AllocError>
+    ensures { IfOk result (λ word. string_bytes word ≡ word_of path.now line.now) }
+{
+    if is_sample(line) {
         return String::from_str(alloc, line);
     }
     let path = Path::new(path).with_file_name(alloc, line)?;

@@ -2,7 +2,6 @@
 #![tactic(auto)]
 
 mod check_jobs;
-mod copied_texts;
 mod ending;
 mod fleet_file;
 mod job_checks;
@@ -10,6 +9,7 @@ mod job_noting;
 mod job_objects;
 mod json_object;
 mod json_texts;
+mod kept_texts;
 mod limited;
 mod note_reports;
 mod telling;

@@ -14,23 +14,12 @@ names_lack fleets None status told err err' quiet ends = absurd ends
 names_lack fleets (Some word) status told err err' quiet ends =
     inr (inl (word.now, refl, subst (λ e. TellsOfNames word.now status e err') quiet ends))
 
--- there are no words where nothing is named
-pub no_words : {X Y : Type 0} (f : X → Y) (words : List X) → map f words ≡ [] → words ≡ []
-no_words f words none = nil_from_length words (simp length-map at (ap length none))
-
-pub no_word : {X Y : Type 0} (f : X → Y) (word : Option X) → option_map f word ≡ None → word ≡ None
-no_word f None none = refl
-no_word f (Some x) none = cc
-
--- fleets, of which each names one printer at least
-pub each_fleet : {S : Type 0} (bytes : S → List ℕ) (fleets : List (Bor (List ℕ))) (of_fleets : List S) → length fleets ≤ length of_fleets → length (map (λ word. word.now) fleets) ≤ length (map bytes of_fleets)
-each_fleet bytes fleets of_fleets each = simp length-map each
-
 -- words that name a printer or a fleet, of which each names one, name some printer
 pub some_printer : {S : Type 0} (printers fleets : List (Bor (List ℕ))) (of_fleets : List S) (bytes : S → List ℕ) (all : List (Bor (List ℕ)))
-    → printers ++ fleets ≢ [] → length fleets ≤ length of_fleets → map (λ word. word.now) all ≡ map (λ word. word.now) printers ++ map bytes of_fleets → all ≢ []
-some_printer printers fleets of_fleets bytes all some each are none =
+    → printers ++ fleets ≢ [] → length (map (λ word. word.now) fleets) ≤ length (map bytes of_fleets) → map (λ word. word.now) all ≡ map (λ word. word.now) printers ++ map bytes of_fleets → all ≢ []
+some_printer printers fleets of_fleets bytes all some counted are none =
     let now : Bor (List ℕ) → List ℕ = λ word. word.now in
+    let each : length fleets ≤ length of_fleets = simp length-map at counted in
     let lengths : length all ≡ length printers + length of_fleets =
     simp (length-append, length-map) at (ap length are) in
     let nothing : length all ≡ 0 = ap length none in

@@ -1,4 +1,5 @@
 mod AskedLeft
 mod Asking
 mod Contained
+mod Fleets
 mod NameFacts

@@ -1,5 +1,5 @@
 -- What is left of a check of many jobs. Nothing is known of files beforehand, so this is said for some texts of them.
-use Rattle.std.specs.Prelude.{◌≡◌, ◌⊎◌, ◌≤◌, ◌++◌, ℕ, Bool, List, [], length, map, option_map, Contains, IsFalse, Option, None, Some, if◌then◌else◌}
+use Rattle.std.specs.Prelude.{◌≡◌, ◌⊎◌, ◌++◌, ℕ, Bool, List, [], flat_map, map, option_map, Contains, IsFalse, Option, Some, if◌then◌else◌}
 use Rattle.std.specs.declared.alloc.Global.{Global}
 use Rattle.requests.specs.declared.many_words.Form.{Form}
 use Rattle.requests.specs.declared.many_words.Form.TheVariants.{Line as LineForm, Words as WordsForm, Json as JsonForm}
@@ -9,17 +9,18 @@ use Rattle.streams.specs.Files.{no_source}
 use Rattle.streams.specs.Outlet.{OutletState}
 use Rattle.streams.specs.Source.{SourceState}
 use Rattle.many_jobs.specs.CheckMany.{Asked, LeavesMany}
-use Rattle.many_jobs.specs.FleetFile.{TellsOfFleet}
+use Rattle.many_jobs.specs.FleetFile.{AreFleets, FleetText, TellsOfFleet, words_named}
 use Rattle.job_reports.specs.Refusals.{TellsOfNames}
 use Rattle.many_jobs.specs.JobChecks.{work}
 use Rattle.many_jobs.specs.Telling.{HowTold}
 use Rattle.named_inputs.specs.Texts.{text_named}
 use Rattle.requests.specs.declared.status.Status.{Status}
 use Rattle.requests.specs.declared.status.Status.TheVariants.{Stopped}
+use Rattle.requests.specs.Status.{is_stop_of_write}
 use Rattle.many_jobs.specs.declared.telling.Format.{Format}
 use Rattle.many_jobs.specs.declared.telling.Format.TheVariants.{Line, Words, Json}
 use Rattle.many_requests.specs.Inputs.{RefusesInput, reads_input_again}
-use Rattle.many_requests.specs.Names.{names_in}
+use Rattle.many_requests.specs.Names.{AreNamesAt, names_in}
 
 -- ---- what is asked for
 
@@ -66,19 +67,25 @@ pub record IsTelling (asking : Asking) (telling : HowTold) : Type 0 where
   pub exit_zero : telling.exit_zero ≡ asking.exit_zero
 
 -- What is checked: the jobs of the words and then those that the bytes of the file of names have, for the printers of the words and then
--- those that the texts of the fleets name, one at least each.
+-- those that the texts of the fleets name.
 pub record Completes (asking : Asking) (asked : Asked) : Type 0 where
   pub names : List ℕ
-  pub of_fleets : List (List ℕ)
+  pub fleets : List FleetText
   pub jobs : asked.jobs ≡ asking.jobs ++ names_in names
-  pub printers : asked.printers ≡ asking.printers ++ of_fleets
-  pub no_names : asking.names_from ≡ None → names ≡ []
-  pub no_fleets : asking.fleets ≡ [] → of_fleets ≡ []
-  pub each_fleet : length asking.fleets ≤ length of_fleets
+  pub printers : asked.printers ≡ asking.printers ++ flat_map words_named fleets
+  pub are_names : AreNamesAt asking.names_from names
+  pub are_fleets : AreFleets text_named asking.fleets fleets
   pub most_items : asked.most_items ≡ asking.most_items
   pub is_each : asked.is_each ≡ asking.is_each
   pub tells_notes : asked.tells_notes ≡ asking.tells_notes
   pub telling : IsTelling asking asked.telling
+
+-- the texts of the fleets at these paths were read, one after another, and name these words
+pub record ReadsFleets (text_of : List ℕ → Option (List ℕ)) (paths old new words : List (List ℕ)) : Type 0 where
+  pub fleets : List FleetText
+  pub are_fleets : AreFleets text_of paths fleets
+  pub given : new ≡ old ++ map (λ fleet. fleet.text) fleets
+  pub words_are : words ≡ flat_map words_named fleets
 
 -- ---- what is left
 
@@ -86,8 +93,9 @@ pub record Completes (asking : Asking) (asked : Asked) : Type 0 where
 -- written.
 abbrev pub LeavesAsked : Option (List ℕ) → Asked → Status → OutletState → OutletState → OutletState → OutletState → Type 0
 LeavesAsked names_from asked status out out' err err' =
-    (IsFalse (reads_input_again names_from asked) × (ended : List SourceState)
-    × LeavesMany (map text_named asked.printers) asked (λ name. no_source) status (work out []) (work out' ended) err err')
+    (IsFalse (reads_input_again names_from asked) × (ended : List SourceState) × (read_failed : Bool)
+    × LeavesMany (map text_named asked.printers) read_failed asked (λ name. no_source) status (work out []) (work out' ended) err err'
+    × (out'.failed ≡ is_stop_of_write status))
     ⊎ (RefusesInput names_from asked status err err' × (out' ≡ out))
 
 -- why there is nothing to check: one of these fleets is refused, or this file of names cannot be read, of which standard error is told;

@@ -1,5 +1,8 @@
--- The names that a file has.
-use Rattle.std.specs.Prelude.{◌≡◌, ◌<◌, ◌==◌, ℕ, List, [], ◌∷◌, length, if◌then◌else◌}
+-- The names that a file has, and its bytes.
+use Rattle.std.specs.Prelude.{◌≡◌, ◌<◌, ◌==◌, ◌-◌, ◌^◌, ℕ, List, [], ◌∷◌, length, take, if◌then◌else◌, Option, None, Some}
+use Rattle.streams.specs.Files.{no_source}
+use Rattle.streams.specs.Pieces.{ByReads}
+use Rattle.streams.specs.Source.{SourceState}
 
 -- the byte stands before the first of these names; where there is none, it is one
 abbrev pub with_byte : ℕ → List (List ℕ) → List (List ℕ)
@@ -15,3 +18,12 @@ names_in (byte ∷ bytes) = if byte == 0 then [] ∷ names_in bytes else with_by
 pub record LeadsTo (bytes name behind : List ℕ) : Type 0 where
   pub names : names_in bytes ≡ name ∷ names_in behind
   pub fewer : length behind < length bytes
+
+-- These are the bytes of a file that was read from the one state to the other: of each that may be by its reads all, or the first 2^64 - 1.
+abbrev pub AreBytesBy : SourceState → SourceState → List ℕ → Type 0
+AreBytesBy old new bytes = ByReads old new (λ file. bytes ≡ take (2 ^ 64 - 1) file)
+
+-- the bytes of the file of names at this path, or none where there is no such file
+abbrev pub AreNamesAt : Option (List ℕ) → List ℕ → Type 0
+AreNamesAt None bytes = bytes ≡ []
+AreNamesAt (Some path) bytes = (file : SourceState) × AreBytesBy no_source file bytes

@@ -1,7 +1,7 @@
 //! A check of many jobs by request, on files.
-ghost use Rattle.std.specs.Prelude.{◌≡◌, ◌≢◌, ◌≤◌, ◌++◌, [], List, ℕ, Contains, IfErr, IfOk, IsFalse, OnOk, length, map, option_map, string_bytes};
+ghost use Rattle.std.specs.Prelude.{◌≡◌, ◌≢◌, ◌++◌, [], List, ℕ, Contains, IfErr, IfOk, IsFalse, OnOk, map, option_map, string_bytes};
 ghost use Rattle.requests.specs.ManyWords.{NamesPrinter};
-ghost use Rattle.many_requests.specs.Checks.{IsTelling, LeavesAsked, LeavesChecks, asking};
+ghost use Rattle.many_requests.specs.Checks.{IsTelling, LeavesAsked, LeavesChecks, ReadsFleets, asking};
 ghost use Rattle.many_requests.specs.Names.{names_in};
 ghost use Rattle.many_jobs.specs.Asked.{asked_for, told_by};
 ghost use Rattle.many_jobs.specs.FleetFile.{TellsOfFleet};
@@ -10,7 +10,7 @@ use crate::inputs::refuse_inputs;
 use crate::names::{push_names, read_names};
 use many_jobs::{Format, ManyJobs, Telling, check_many, read_fleet_file};
 use meanings::EXPLANATIONS;
-use named_inputs::{FileJobs, FileTexts};
+use named_inputs::{FileJobs, FileTexts, ProfileTexts};
 use requests::{Form, ManyWords, Status};
 use std::alloc::{AllocError, Global};
 use std::io::Input;
@@ -31,7 +31,8 @@ pub fn check_asked<R: Files + Input + AllocGlobal, O: Outlet, E: Outlet>(
         (O.state stdout.old) (O.state stdout.new) (E.state stderr.old) (E.state stderr.new) }
 {
     let alloc = rt.alloc();
-    let fleets = match read_fleets(rt, words.fleets.as_slice(), stderr) {
+    let mut texts = FileTexts::new(rt);
+    let fleets = match read_fleets(alloc, &mut texts, words.fleets.as_slice(), stderr) {
         Ok(fleets) => fleets,
         Err(status) => return status,
     };
@@ -81,23 +82,25 @@ fn check_all<'r, R: Files + Input + AllocGlobal, O: Outlet, E: Outlet>(
 }
 
 /// The words that fleets name, one fleet behind another.
-fn read_fleets<R: Files + AllocGlobal, E: Outlet>(
-    rt: &R,
+fn read_fleets<T: ProfileTexts, E: Outlet>(
+    alloc: Global,
+    texts: &mut T,
     paths: &[&str],
     stderr: &mut E,
 ) -> Result<Vec<String>, Status>
-    requires { IsFalse (E.state stderr.old).failed }
-    ensures each { IfOk result (λ words. length paths.now ≤ length words.items) }
-    ensures none { IfOk result (λ words. paths.now ≡ [] → words.items ≡ []) }
+    requires texts { IsFalse (T.failed texts.old) }
+    requires stderr { IsFalse (E.state stderr.old).failed }
+    ensures read { IfOk result (λ words. ReadsFleets (T.text_of texts.old)
+        (map (λ path. path.now) paths.now) (T.given texts.old) (T.given texts.new)
+        (map string_bytes words.items)) }
     ensures quiet { OnOk result (stderr.new ≡ stderr.old) }
     ensures end { IfErr result (λ status. (path : List ℕ) ×
         Contains (map (λ path. path.now) paths.now) path ×
         TellsOfFleet path status (E.state stderr.old) (E.state stderr.new)) }
 {
-    let mut words = Vec::new(rt.alloc());
+    let mut words = Vec::new(alloc);
     for path in paths {
-        let mut texts = FileTexts::new(rt);
-        read_fleet_file(rt.alloc(), &mut texts, path, &mut words, stderr)?;
+        read_fleet_file(alloc, texts, path, &mut words, stderr)?;
     }
     Ok(words)
 }

@@ -1,12 +1,12 @@
 //! The file of the names of jobs.
-ghost use Rattle.std.specs.Prelude.{◌≡◌, ◌++◌, [], IfErr, IfOk, IsFalse, IsSomeAnd, MatchOption, OnOk, map};
-ghost use Rattle.many_requests.specs.Names.{LeadsTo, names_in};
+ghost use Rattle.std.specs.Prelude.{◌≡◌, ◌++◌, [], IfErr, IfOk, IsFalse, IsSomeAnd, MatchOption, OnOk, map, option_map};
+ghost use Rattle.many_requests.specs.Names.{AreBytesBy, AreNamesAt, LeadsTo, names_in};
 ghost use Rattle.job_reports.specs.Refusals.{TellsOfNames};
 
 use job_reports::tell_unread;
 use named_inputs::{FileJobs, Jobs, read_front};
 use requests::Status;
-use std::alloc::AllocError;
+use std::alloc::{AllocError, Allocator};
 use std::io::Input;
 use std::rt::Files;
 use streams::{Error, Outlet, Source};
@@ -18,7 +18,8 @@ pub fn read_names<R: Files + Input + AllocGlobal, E: Outlet>(
     stderr: &mut E,
 ) -> Result<Vec<u8>, Status>
     requires { IsFalse (E.state stderr.old).failed }
-    ensures none { IfOk result (λ names. path.entry ≡ None → names.items ≡ []) }
+    ensures read { IfOk result (λ names. AreNamesAt
+        (option_map (λ path. path.now) path.entry) names.items) }
     ensures quiet { OnOk result (stderr.new ≡ stderr.old) }
     ensures end { IfErr result (λ status. IsSomeAnd path.entry (λ path.
         TellsOfNames path.now status (E.state stderr.old) (E.state stderr.new))) }
@@ -27,11 +28,29 @@ pub fn read_names<R: Files + Input + AllocGlobal, E: Outlet>(
         return Ok(Vec::new(rt.alloc()));
     };
     let mut file = FileJobs::new(rt).job(path.as_bytes());
-    match read_front(rt.alloc(), &mut file, usize::MAX) {
+    read_bytes(rt.alloc(), &mut file, path, stderr)
+}
+
+/// The bytes of a file of names, which the words name so.
+fn read_bytes<S: Source, E: Outlet, A: Allocator + Copy>(
+    alloc: A,
+    file: &mut S,
+    path: &str,
+    stderr: &mut E,
+) -> Result<Vec<u8, A>, Status>
+    requires file { IsFalse (S.state file.old).failed }
+    requires stderr { IsFalse (E.state stderr.old).failed }
+    ensures read { IfOk result (λ names. AreBytesBy (S.state file.old) (S.state file.new)
+        names.items) }
+    ensures quiet { OnOk result (stderr.new ≡ stderr.old) }
+    ensures end { IfErr result (λ status. TellsOfNames path.now status
+        (E.state stderr.old) (E.state stderr.new)) }
+{
+    match read_front(alloc, file, usize::MAX) {
         Ok(names) => Ok(names),
         Err(Error::Read) => {
             let front = b"ERROR read names ";
-            Err(tell_unread(rt.alloc(), front, path, file.error(), stderr))
+            Err(tell_unread(alloc, front, path, file.error(), stderr))
         }
         Err(error) => Err(Status::Stopped(error)),
     }

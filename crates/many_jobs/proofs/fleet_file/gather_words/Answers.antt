@@ -1,12 +1,14 @@
-use Rattle.std.proofs.Common.{◌≡◌, ◌++◌, ◌∷◌, ◌∙◌, List, [], ap, append_assoc}
+use Rattle.std.proofs.Common.{rules, subst, ◌∙◌}
+use Rattle.std.specs.Prelude.{string_bytes}
+use Rattle.many_jobs.specs.FleetFile.{AddsBytes, fleet_words}
+use Rattle.many_jobs.proofs.FleetWords.{adds_fleet}
 use Rattle.many_jobs.proofs.fleet_file.gather_words.Goals as goal
 
--- what stands last is behind what stood first
-pushed : {X : Type 0} (first before after more last : List X) → before ≡ first ++ more → after ≡ before ++ last → after ≡ first ++ (more ++ last)
-pushed first before after more last e push = push ∙ ap (λ items. items ++ last) e ∙ append_assoc first more last
-
-pub loop-line-preserved-then-not-starts_with : goal.loop-line-preserved-then-not-starts_with
-loop-line-preserved-then-not-starts_with g c =
-    let before = c.loop-line.invariant in
-    let word = c.in_ok-word_of.field-0 ∷ [] in
-    (before.0 ++ word, pushed c.args.words.now.items _ _ before.0 word before.1 c.in_ok-push.ensures.items)
+pub returns-clause-named : goal.returns-clause-named
+returns-clause-named g c =
+    let path = c.args.path.now in
+    let old = c.args.words.now.items in
+    let new = c.push_words.new.words.items in
+    let adds = subst (λ text. AddsBytes string_bytes old new (fleet_words path text)) (c.in-Ok-from_utf8.ensures.cases.0 ∙ c.as_slice.ensures.value) c.in_ok-push_words.ensures in
+    adds_fleet string_bytes (g.T.ProfileTexts.text_of c.args.texts.now) path _ _ old new c.in-Ok.text.items
+    (search rules) (search rules) c.in-Ok.ensures.bytes adds (search rules)

@@ -1,8 +1,10 @@
-use Rattle.std.proofs.Common.{◌≤◌, ◌∙◌, ◌++◌, ap, inl, inr, length, map, option_map, refl, string_bytes, subst}
+use Rattle.std.proofs.Common.{◌≤◌, ◌∙◌, ◌++◌, List, ℕ, ap, inl, inr, length, map, option_map, refl, string_bytes, subst}
 use Rattle.many_jobs.specs.Asked.{told_by}
 use Rattle.many_jobs.specs.CheckMany.{Asked}
-use Rattle.many_requests.proofs.Asking.{each_fleet, names_lack, no_word, no_words, some_printer}
-use Rattle.many_requests.specs.Checks.{LeavesAsked}
+use Rattle.named_inputs.specs.Texts.{text_named}
+use Rattle.many_requests.proofs.Asking.{names_lack, some_printer}
+use Rattle.many_requests.proofs.Fleets.{fleets_count}
+use Rattle.many_requests.specs.Checks.{LeavesAsked, ReadsFleets}
 use Rattle.many_requests.specs.Names.{names_in}
 use Rattle.many_requests.proofs.many.check_asked.Goals as goal
 
@@ -17,7 +19,7 @@ returns-in-Err-read_names g c =
 pub check_all-requires-clause-some : goal.check_all-requires-clause-some
 check_all-requires-clause-some g c =
     let words = c.args.words.now in
-    let each = subst (λ fleets. length fleets ≤ length c.in-Ok.fleets.items) c.as_slice.ensures.value c.in-Ok.ensures.each in
+    let each = subst (λ fleets. length (map (λ word. word.now) fleets) ≤ length (map string_bytes c.in-Ok.fleets.items)) c.as_slice.ensures.value (fleets_count text_named _ _ _ _ c.in-Ok.ensures.read) in
     let printers = ap (map (λ word. word.now)) c.as_slice-7.ensures.value ∙ c.in-Ok-all_printers.ensures
     ∙ ap (λ all. map (λ word. word.now) all ++ map string_bytes c.as_slice-3.result.now) c.as_slice-2.ensures.value
     ∙ ap (λ fleets. map (λ word. word.now) words.printers.items ++ map string_bytes fleets) c.as_slice-3.ensures.value in
@@ -26,6 +28,9 @@ check_all-requires-clause-some g c =
 pub returns : goal.returns
 returns g c =
     let words = c.args.words.now in
+    let given = c.read_fleets.new.texts.given in
+    let reads =
+    subst (λ fleets. ReadsFleets text_named (map (λ word. word.now) fleets) c.new-texts.result.given given (map string_bytes c.in-Ok.fleets.items)) c.as_slice.ensures.value c.in-Ok.ensures.read in
     let asked : Asked = record {
       jobs = map (λ name. name.now) c.as_slice-6.result.now;
       printers = map (λ word. word.now) c.as_slice-7.result.now;
@@ -38,16 +43,16 @@ returns g c =
       asked,
       record {
         names = c.in-Ok-read_names.names.items;
-        of_fleets = map string_bytes c.in-Ok.fleets.items;
+        fleets = reads.fleets;
         jobs = ap (map (λ name. name.now)) c.as_slice-6.ensures.value ∙ c.in-Ok-all_jobs.ensures
             ∙ ap (λ all. map (λ word. word.now) all ++ names_in c.as_slice-5.result.now) c.as_slice-4.ensures.value
             ∙ ap (λ names. map (λ word. word.now) words.jobs.items ++ names_in names) c.as_slice-5.ensures.value;
         printers = ap (map (λ word. word.now)) c.as_slice-7.ensures.value ∙ c.in-Ok-all_printers.ensures
             ∙ ap (λ all. map (λ word. word.now) all ++ map string_bytes c.as_slice-3.result.now) c.as_slice-2.ensures.value
-            ∙ ap (λ fleets. map (λ word. word.now) words.printers.items ++ map string_bytes fleets) c.as_slice-3.ensures.value;
-        no_names = λ none. c.in-Ok-read_names.ensures.none (no_word (λ word. word.now) words.names_from none);
-        no_fleets = λ none. ap (map string_bytes) (c.in-Ok.ensures.none (c.as_slice.ensures.value ∙ no_words (λ word. word.now) words.fleets.items none));
-        each_fleet = each_fleet string_bytes words.fleets.items c.in-Ok.fleets.items (subst (λ fleets. length fleets ≤ length c.in-Ok.fleets.items) c.as_slice.ensures.value c.in-Ok.ensures.each);
+            ∙ ap (λ fleets. map (λ word. word.now) words.printers.items ++ map string_bytes fleets) c.as_slice-3.ensures.value
+            ∙ ap (λ (of_fleets : List (List ℕ)). map (λ word. word.now) words.printers.items ++ of_fleets) reads.words_are;
+        are_names = c.in-Ok-read_names.ensures.read;
+        are_fleets = reads.are_fleets;
         most_items = refl;
         is_each = refl;
         tells_notes = refl;

@@ -1,9 +1,9 @@
 use Rattle.std.proofs.Common.{◌+◌, [], ◌∷◌, ◌++◌, ◌≡◌, ◌∙◌, Ok, Vec, ap, get_or, map, rules, subst, sym, take, true, ℕ, List}
 use Rattle.device_profile.specs.Printer.{Printer}
 use Rattle.device_profile.specs.Text.{printer_of_text}
-use Rattle.many_jobs.specs.CopiedTexts.{AreNotePrinters}
+use Rattle.many_jobs.specs.KeptTexts.{AreNotePrinters}
 use Rattle.many_jobs.proofs.JobChecks.{note_printers_more}
-use Rattle.many_jobs.proofs.copied_texts.read_note_printers.Goals as goal
+use Rattle.many_jobs.proofs.kept_texts.read_note_printers.Goals as goal
 
 pub loop-text-preserved : goal.loop-text-preserved
 loop-text-preserved g c =

@@ -1,13 +1,8 @@
--- What texts of profiles stand for that are kept.
+-- The printers of texts of profiles that are kept.
 use Rattle.std.specs.Prelude.{◌≡◌, ℕ, Bool, List, [], map, MatchBool}
 use Rattle.device_profile.specs.Printer.{Printer}
 use Rattle.notes.specs.Notes.{with_most_items}
 use Rattle.named_inputs.specs.Fleet.{DescribeBy}
-
--- the texts themselves, and those that were read
-pub record CopiedTextsState (T : Type 0) : Type 0 where
-  pub texts : T
-  pub given : List (List ℕ)
 
 -- where notes are told, the printers of these texts, whose macros may carry out a million items of a job; else none
 abbrev pub AreNotePrinters : Bool → List (List ℕ) → List Printer → Type 0
