@@ -33,10 +33,7 @@ pub(crate) fn choices_of<'a>(
 }
 
 /// The choices that words name, as `size=26,vmi=7.5` does.
-fn read_choices<'a>(
-    alloc: Global,
-    words: &'a str,
-) -> Result<Vec<Choice>, ChoiceFault<'a>> {
+fn read_choices<'a>(alloc: Global, words: &'a str) -> Result<Vec<Choice>, ChoiceFault<'a>> {
     let mut choices: Vec<Choice> = Vec::new(alloc);
     for word in words.split(',') {
         let choice = choice_of(word)?;

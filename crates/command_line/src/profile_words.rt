@@ -138,10 +138,7 @@ pub fn profile_request<'a>(
 }
 
 /// The request of the words behind `profile new`.
-fn new_request<'a>(
-    alloc: Global,
-    found: &ArgMatches<'a>,
-) -> Result<Option<Request<'a>>, AllocError>
+fn new_request<'a>(alloc: Global, found: &ArgMatches<'a>) -> Result<Option<Request<'a>>, AllocError>
     ensures { IfOk result (λ request. IfSome request NamesSome) }
 {
     let Some(model) = found.get_str("MODEL") else {

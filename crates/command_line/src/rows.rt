@@ -126,10 +126,7 @@ impl WordRow {
 fn with_count<'a>(arg: Arg<'a>, count: &Count) -> Arg<'a> {
     match count {
         Count::One => arg.action(ArgAction::Set),
-        Count::Several(name) => arg
-            .action(ArgAction::Append)
-            .num_args(1..)
-            .value_name(name),
+        Count::Several(name) => arg.action(ArgAction::Append).num_args(1..).value_name(name),
     }
 }
 

@@ -33,7 +33,10 @@ impl<A: Allocator + Copy, P: Allocator> Checking<'_, A, P> {
             } else if let Some(read) = self.lexer.next_motion() {
                 let item = Item::Simple(read.item);
                 let (standing, culprit) = (&mut self.standing, &mut self.culprit);
-                if !self.machines.step_other(read.place, &item, standing, culprit) {
+                if !self
+                    .machines
+                    .step_other(read.place, &item, standing, culprit)
+                {
                     return false;
                 }
             } else {
@@ -77,7 +80,9 @@ impl<A: Allocator + Copy, P: Allocator> Checking<'_, A, P> {
             if !self.machines.draw_pair(&bounds, read.item) {
                 let item = Item::Simple(read.item);
                 let (standing, culprit) = (&mut self.standing, &mut self.culprit);
-                return self.machines.step_other(read.place, &item, standing, culprit);
+                return self
+                    .machines
+                    .step_other(read.place, &item, standing, culprit);
             }
         }
     }

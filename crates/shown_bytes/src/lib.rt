@@ -10,7 +10,6 @@ pub use decimals::{
     digit, push_amount, push_with_four_decimals, push_with_hundredths, push_with_millionths,
     push_with_tenth,
 };
-
 use itoa::Buffer;
 use std::alloc::{AllocError, Allocator};
 

@@ -130,9 +130,21 @@ fn push_face_line<A: Allocator + Copy, P: Allocator>(
     ensures { OnOk result
         (text.new.items ≡ text.old.items ++ face_line area first.now line face.now) }
 {
-    push_words_on(text, area.left_half(), first, line, &face_words(alloc, face)?)?;
+    push_words_on(
+        text,
+        area.left_half(),
+        first,
+        line,
+        &face_words(alloc, face)?,
+    )?;
     push_font_request(text, &face.request())?;
-    push_sample(text, alloc, area.right_half(), face, baseline(area, first, line))?;
+    push_sample(
+        text,
+        alloc,
+        area.right_half(),
+        face,
+        baseline(area, first, line),
+    )?;
     push_font_request(text, &first.request())
 }
 

@@ -230,7 +230,14 @@ fn push_from_left<A: Allocator, P: Allocator>(
     ensures { OnOk result (text.new.items ≡ text.old.items
         ++ words_at area face.now area.left (baseline area face.now line) words.now) }
 {
-    push_words_at(text, area, face, u32::from(area.left), baseline(area, face, line), words)
+    push_words_at(
+        text,
+        area,
+        face,
+        u32::from(area.left),
+        baseline(area, face, line),
+        words,
+    )
 }
 
 /// Appends lines of these numbers, each one line down from the one before.
