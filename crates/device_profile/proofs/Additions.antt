@@ -1,5 +1,6 @@
 -- What a line adds to a draft, and when the draft takes it.
-use Rattle.std.proofs.Common.{◌≡◌, ℕ, ◌==◌, ◌&&◌, Bool, true, false, not, List, [], ◌∷◌, ◌++◌, length, IsTrue, Option, None, Some, is_some, Result, Ok, Err, nat_le, if◌then◌else◌, refl, sym, ap, ◌∙◌}
+use Rattle.std.proofs.Common.{◌≡◌, ℕ, ◌==◌, ◌&&◌, Bool, true, false, not, List, [], ◌∷◌, ◌++◌, length, IsTrue, Option, None, Some, is_some}
+use Rattle.std.proofs.Common.{Result, Ok, Err, nat_le, if◌then◌else◌, refl, sym, ap, ◌∙◌}
 use Rattle.std.specs.Option.{option_map, option_map_or, option_and_then}
 use Rattle.std.proofs.lemmas.Bool.{and_parts, and_from, not-true, not-false, not_from_true, not_from_false}
 use Rattle.device_profile.specs.declared.field.Field.{Field}
@@ -15,7 +16,8 @@ use Rattle.device_profile.specs.Values.{are_choices, values_on_line, number_on_l
 use Rattle.device_profile.specs.GeometryLine.{row_of_words, geometry_on_line}
 use Rattle.device_profile.specs.FaceLine.{face_of_words, face_on_line}
 use Rattle.device_profile.specs.Draft.{Draft, choice_of, or_range, or_cause, once, draft_after_key, draft_after, with_choice, key_of}
-use Rattle.device_profile.proofs.LineParts.{passed, unrepeated, of_mapped, are_choices-on_line, at_most-on_line, room_for_row, row_on_line, line_of_row, room_for_face, face_of_line, line_of_face}
+use Rattle.device_profile.proofs.LineParts.{passed, unrepeated, of_mapped, are_choices-on_line, at_most-on_line, room_for_row, row_on_line}
+use Rattle.device_profile.proofs.LineParts.{line_of_row, room_for_face, face_of_line, line_of_face}
 
 -- what a line gives, whatever was given before it
 pub data Addition : Type 0 where
@@ -82,7 +84,8 @@ pub record Adds (draft : Draft) (given : Option Addition) (next : Draft) : Type 
   pub taken : IsTrue (takes draft addition)
   pub is : added draft addition ≡ next
 
-of_cause : {X : Type 0} (f : X → Draft) (given : Result X Cause) (draft : Draft) → or_cause f given ≡ Ok draft → (x : X) × (given ≡ Ok x) × (f x ≡ draft)
+of_cause : {X : Type 0} (f : X → Draft) (given : Result X Cause) (draft : Draft) → or_cause f given ≡ Ok draft →
+    (x : X) × (given ≡ Ok x) × (f x ≡ draft)
 of_cause f (Ok x) draft is = (x, refl, cc)
 of_cause f (Err cause) draft is = cc
 
@@ -92,12 +95,18 @@ of_number f None draft is = cc
 
 list_taken : (field : Field) (words : List (List ℕ)) (held : List ℕ) (new : List ℕ → Addition) (put : List ℕ → Draft) (next : Draft)
     → once (not (length held == 0)) (or_cause put (values_on_line field words)) ≡ Ok next
-    → (values : List ℕ) × (or_none new (values_on_line field words) ≡ Some (new values)) × IsTrue (takes_list field held values) × (put values ≡ next)
+    → (values : List ℕ) × (or_none new (values_on_line field words) ≡ Some (new values)) × IsTrue (takes_list field held values)
+    × (put values ≡ next)
 list_taken field words held new put next is =
     let single = unrepeated (not (length held == 0)) (or_cause put (values_on_line field words)) next is in
     let given = of_cause put (values_on_line field words) next single.1 in
     let are : IsTrue (are_choices field given.0) = are_choices-on_line field words given.0 given.1 in
-    (given.0, ap (or_none new) given.1, and_from (length held == 0) (are_choices field given.0) (not-false (length held == 0) single.0) are, given.2)
+    (
+      given.0,
+      ap (or_none new) given.1,
+      and_from (length held == 0) (are_choices field given.0) (not-false (length held == 0) single.0) are,
+      given.2,
+    )
 
 number_taken : (most : ℕ) (words : List (List ℕ)) (held : Option ℕ) (new : ℕ → Addition) (put : ℕ → Draft) (next : Draft)
     → once (is_some held) (or_range put (number_on_line most words)) ≡ Ok next
@@ -106,14 +115,25 @@ number_taken most words held new put next is =
     let single = unrepeated (is_some held) (or_range put (number_on_line most words)) next is in
     let given = of_number put (number_on_line most words) next single.1 in
     let few : IsTrue (nat_le given.0 most) = at_most-on_line most words given.0 given.1 in
-    (given.0, ap (option_map new) given.1, and_from (not (is_some held)) (nat_le given.0 most) (not_from_false (is_some held) single.0) few, given.2)
+    (
+      given.0,
+      ap (option_map new) given.1,
+      and_from (not (is_some held)) (nat_le given.0 most) (not_from_false (is_some held) single.0) few,
+      given.2,
+    )
 
-adds_key : (draft : Draft) (key : Key) (words : List (List ℕ)) (next : Draft) → draft_after_key draft key words ≡ Ok next → Adds draft (addition_of_key key words) next
+adds_key : (draft : Draft) (key : Key) (words : List (List ℕ)) (next : Draft) → draft_after_key draft key words ≡ Ok next →
+    Adds draft (addition_of_key key words) next
 adds_key draft Name words next is =
     let named : Draft = record draft { is_named = true } in
     let single = unrepeated draft.is_named (if is_name words then Ok named else Err Range) next is in
     let kept = passed (is_name words) named next Range single.1 in
-    record { addition = new_name; told = ap (λ b. if b then Some new_name else None) kept.0; taken = not_from_false draft.is_named single.0; is = kept.1 }
+    record {
+      addition = new_name;
+      told = ap (λ b. if b then Some new_name else None) kept.0;
+      taken = not_from_false draft.is_named single.0;
+      is = kept.1;
+    }
 adds_key draft (Choice field) words next is =
     let l = list_taken field words (choice_of draft field) (new_choice field) (with_choice draft field) next is in
     record { addition = new_choice field l.0; told = l.1; taken = l.2; is = l.3 }
@@ -130,7 +150,8 @@ adds_key draft Memory words next is =
     let l = number_taken 1_048_576 words draft.memory new_memory (λ n. record draft { memory = Some n }) next is in
     record { addition = new_memory l.0; told = l.1; taken = l.2; is = l.3 }
 adds_key draft Page words next is =
-    let given = of_cause (λ row. record draft { geometries = draft.geometries ++ row ∷ [] }) (geometry_on_line draft.geometries words) next is in
+    let given =
+    of_cause (λ row. record draft { geometries = draft.geometries ++ row ∷ [] }) (geometry_on_line draft.geometries words) next is in
     let row = row_on_line draft.geometries words given.0 given.1 in
     record { addition = new_page given.0; told = ap (option_map new_page) row.0; taken = row.1; is = given.2 }
 adds_key draft FaceRow words next is =
@@ -138,17 +159,20 @@ adds_key draft FaceRow words next is =
     let face = face_of_line draft.faces words given.0 given.1 in
     record { addition = new_face given.0; told = ap (option_map new_face) face.0; taken = face.1; is = given.2 }
 
-adds_some_key : (draft : Draft) (key : Option Key) (words : List (List ℕ)) (next : Draft) → option_map_or (λ k. draft_after_key draft k words) key (Err Unknown) ≡ Ok next
+adds_some_key : (draft : Draft) (key : Option Key) (words : List (List ℕ)) (next : Draft) →
+    option_map_or (λ k. draft_after_key draft k words) key (Err Unknown) ≡ Ok next
     → Adds draft (option_and_then (λ k. addition_of_key k words) key) next
 adds_some_key draft None words next is = cc
 adds_some_key draft (Some key) words next is = adds_key draft key words next is
 
 -- a line that is right adds what its words give, which the draft takes
-pub adds : (format : Format) (draft : Draft) (words : List (List ℕ)) (next : Draft) → draft_after format draft words ≡ Ok next → Adds draft (addition_of format words) next
+pub adds : (format : Format) (draft : Draft) (words : List (List ℕ)) (next : Draft) → draft_after format draft words ≡ Ok next →
+    Adds draft (addition_of format words) next
 adds format draft [] next is = record { addition = nothing; told = refl; taken = refl; is = cc }
 adds format draft (key ∷ words) next is = adds_some_key draft (key_of format key) words next is
 
-list_added : (draft : Draft) (field : Field) (held : List ℕ) (new : List ℕ → Addition) (put : List ℕ → Draft) (given : Result (List ℕ) Cause) (addition : Addition)
+list_added : (draft : Draft) (field : Field) (held : List ℕ) (new : List ℕ → Addition) (put : List ℕ → Draft)
+    (given : Result (List ℕ) Cause) (addition : Addition)
     → ((values : List ℕ) → takes draft (new values) ≡ takes_list field held values)
     → ((values : List ℕ) → added draft (new values) ≡ put values)
     → or_none new given ≡ Some addition → IsTrue (takes draft addition)
@@ -156,7 +180,8 @@ list_added : (draft : Draft) (field : Field) (held : List ℕ) (new : List ℕ �
 list_added draft field held new put (Ok values) addition test next told taken =
     let is : new values ≡ addition = cc in
     let fits : takes_list field held values ≡ true = sym (test values) ∙ (ap (takes draft) is ∙ taken) in
-    let free : not (length held == 0) ≡ false = not_from_true (length held == 0) ((and_parts (length held == 0) (are_choices field values) fits).0) in
+    let free : not (length held == 0) ≡ false =
+    not_from_true (length held == 0) ((and_parts (length held == 0) (are_choices field values) fits).0) in
     ap (λ was. once was (Ok (put values))) free ∙ ap Ok (sym (next values) ∙ ap (added draft) is)
 list_added draft field held new put (Err cause) addition test next told taken = cc
 
@@ -172,7 +197,8 @@ number_added draft most held new put (Some n) addition test next told taken =
     ap (λ was. once was (Ok (put n))) free ∙ ap Ok (sym (next n) ∙ ap (added draft) is)
 number_added draft most held new put None addition test next told taken = cc
 
-name_added : (draft : Draft) (is_right : Bool) (addition : Addition) → (if is_right then Some new_name else None) ≡ Some addition → IsTrue (takes draft addition)
+name_added : (draft : Draft) (is_right : Bool) (addition : Addition) → (if is_right then Some new_name else None) ≡ Some addition →
+    IsTrue (takes draft addition)
     → once draft.is_named (if is_right then Ok (record draft { is_named = true }) else Err Range) ≡ Ok (added draft addition)
 name_added draft true addition told taken =
     let is : new_name ≡ addition = cc in
@@ -180,19 +206,25 @@ name_added draft true addition told taken =
     ap (λ was. once was (Ok (record draft { is_named = true }))) free ∙ ap (λ a. Ok (added draft a)) is
 name_added draft false addition told taken = cc
 
-added_key : (draft : Draft) (key : Key) (words : List (List ℕ)) (addition : Addition) → addition_of_key key words ≡ Some addition → IsTrue (takes draft addition)
+added_key : (draft : Draft) (key : Key) (words : List (List ℕ)) (addition : Addition) → addition_of_key key words ≡ Some addition →
+    IsTrue (takes draft addition)
     → draft_after_key draft key words ≡ Ok (added draft addition)
 added_key draft Name words addition told taken = name_added draft (is_name words) addition told taken
 added_key draft (Choice field) words addition told taken =
-    list_added draft field (choice_of draft field) (new_choice field) (with_choice draft field) (values_on_line field words) addition (λ v. refl) (λ v. refl) told taken
+    list_added draft field (choice_of draft field) (new_choice field) (with_choice draft field) (values_on_line field words) addition
+    (λ v. refl) (λ v. refl) told taken
 added_key draft Trays words addition told taken =
-    list_added draft Tray draft.device_trays new_device_trays (λ trays. record draft { device_trays = trays }) (values_on_line Tray words) addition (λ v. refl) (λ v. refl) told taken
+    list_added draft Tray draft.device_trays new_device_trays (λ trays. record draft { device_trays = trays })
+    (values_on_line Tray words) addition (λ v. refl) (λ v. refl) told taken
 added_key draft Duplex words addition told taken =
-    number_added draft 1 draft.duplex new_duplex (λ n. record draft { duplex = Some n }) (number_on_line 1 words) addition (λ n. refl) (λ n. refl) told taken
+    number_added draft 1 draft.duplex new_duplex (λ n. record draft { duplex = Some n }) (number_on_line 1 words) addition
+    (λ n. refl) (λ n. refl) told taken
 added_key draft Depth words addition told taken =
-    number_added draft 8 draft.depth new_depth (λ n. record draft { depth = Some n }) (number_on_line 8 words) addition (λ n. refl) (λ n. refl) told taken
+    number_added draft 8 draft.depth new_depth (λ n. record draft { depth = Some n }) (number_on_line 8 words) addition
+    (λ n. refl) (λ n. refl) told taken
 added_key draft Memory words addition told taken =
-    number_added draft 1_048_576 draft.memory new_memory (λ n. record draft { memory = Some n }) (number_on_line 1_048_576 words) addition (λ n. refl) (λ n. refl) told taken
+    number_added draft 1_048_576 draft.memory new_memory (λ n. record draft { memory = Some n }) (number_on_line 1_048_576 words) addition
+    (λ n. refl) (λ n. refl) told taken
 added_key draft Page words addition told taken =
     let given = of_mapped new_page (row_of_words words) addition told in
     let fits : IsTrue (room_for_row draft.geometries given.0) = ap (takes draft) given.2 ∙ taken in
@@ -204,13 +236,15 @@ added_key draft FaceRow words addition told taken =
     let put : Face → Draft = λ face. record draft { faces = draft.faces ++ face ∷ [] } in
     ap (or_cause put) (line_of_face draft.faces words given.0 given.1 fits) ∙ ap (λ a. Ok (added draft a)) given.2
 
-added_some_key : (draft : Draft) (key : Option Key) (words : List (List ℕ)) (addition : Addition) → option_and_then (λ k. addition_of_key k words) key ≡ Some addition → IsTrue (takes draft addition)
+added_some_key : (draft : Draft) (key : Option Key) (words : List (List ℕ)) (addition : Addition) →
+    option_and_then (λ k. addition_of_key k words) key ≡ Some addition → IsTrue (takes draft addition)
     → option_map_or (λ k. draft_after_key draft k words) key (Err Unknown) ≡ Ok (added draft addition)
 added_some_key draft None words addition told taken = cc
 added_some_key draft (Some key) words addition told taken = added_key draft key words addition told taken
 
 -- a line whose addition the draft takes is right, and adds it
-pub added_after : (format : Format) (draft : Draft) (words : List (List ℕ)) (addition : Addition) → addition_of format words ≡ Some addition → IsTrue (takes draft addition)
+pub added_after : (format : Format) (draft : Draft) (words : List (List ℕ)) (addition : Addition) →
+    addition_of format words ≡ Some addition → IsTrue (takes draft addition)
     → draft_after format draft words ≡ Ok (added draft addition)
 added_after format draft [] addition told taken =
     let is : nothing ≡ addition = cc in

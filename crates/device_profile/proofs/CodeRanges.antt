@@ -1,5 +1,6 @@
 -- The ranges of codes of a face, read one after another.
-use Rattle.std.proofs.Common.{◌≡◌, ℕ, suc, ◌+◌, ◌<◌, ◌≤◌, ◌==◌, ◌&&◌, Bool, true, false, List, [], ◌∷◌, ◌++◌, length, Option, None, Some, is_some, Bor, if◌then◌else◌, append_assoc, arith, refl, sym, ap, ◌∙◌}
+use Rattle.std.proofs.Common.{◌≡◌, ℕ, suc, ◌+◌, ◌<◌, ◌≤◌, ◌==◌, ◌&&◌, Bool, true, false, List, [], ◌∷◌, ◌++◌, length, Option, None, Some}
+use Rattle.std.proofs.Common.{is_some, Bor, if◌then◌else◌, append_assoc, arith, refl, sym, ap, ◌∙◌}
 use Rattle.std.specs.List.{filter_map, cons_option, slice_split}
 use Rattle.std.specs.Option.{option_and_then, option_map_or}
 use Rattle.std.proofs.lemmas.Bool.{and_left, and_right, cond-false, cond_both, false≢true}
@@ -31,7 +32,8 @@ pub ranges-end : (read : List CodeRange) (least : ℕ) → ranges_with read leas
 unfolding ranges_with
 ranges-end read least = ap (λ l. Some l) (append-nil read)
 
-value-step : (read : List CodeRange) (least : ℕ) (value : Option CodeRange) (tail : List CodeRange) (parts : ℕ) (range : CodeRange) → from least value ≡ Some range
+value-step : (read : List CodeRange) (least : ℕ) (value : Option CodeRange) (tail : List CodeRange) (parts : ℕ) (range : CodeRange) →
+    from least value ≡ Some range
     → ranges_of read least (suc parts) (cons_option value tail) ≡ ranges_of (read ++ range ∷ []) (range.last + 1) parts tail
 value-step read least None tail parts range is = cc
 value-step read least (Some r) tail parts range is =
@@ -48,7 +50,8 @@ value-step read least (Some r) tail parts range is =
     (λ no got. cc)
     is
 
-value-stop : (read : List CodeRange) (least : ℕ) (value : Option CodeRange) (tail : List CodeRange) (parts : ℕ) → length tail ≤ parts → from least value ≡ None
+value-stop : (read : List CodeRange) (least : ℕ) (value : Option CodeRange) (tail : List CodeRange) (parts : ℕ) → length tail ≤ parts →
+    from least value ≡ None
     → ranges_of read least (suc parts) (cons_option value tail) ≡ None
 value-stop read least None tail parts few is =
     let fewer : (length tail == suc parts) ≡ false = grind (arith, nat_tests) in
@@ -77,7 +80,8 @@ pub ranges-stop : (read : List CodeRange) (least : ℕ) (parts : List (List ℕ)
     → ranges_with read least parts ≡ None
 unfolding ranges_with
 ranges-stop read least parts part rest are is =
-    ap (λ p. ranges_with read least p) are ∙ value-stop read least (range_of part) (filter_map range_of rest) (length rest) (length-filter_map-le range_of rest) (sym is)
+    ap (λ p. ranges_with read least p) are
+    ∙ value-stop read least (range_of part) (filter_map range_of rest) (length rest) (length-filter_map-le range_of rest) (sym is)
 
 three-none : (first last : List ℕ) (parts : List (List ℕ)) → 0 < length parts → range_of_parts (first ∷ last ∷ parts) ≡ None
 three-none first last [] some = absurd (omega arith)
@@ -85,10 +89,12 @@ three-none first last (more ∷ parts) some = refl
 
 -- more than two parts give no range
 pub no_third : (least : ℕ) (word first last : List ℕ) (more : Option (Bor (List ℕ)))
-    → slice_split (λ b. b == 45) word ≡ first ∷ last ∷ option_map_or (λ rest. slice_split (λ b. b == 45) rest.now) more [] → is_some more ≡ true
+    → slice_split (λ b. b == 45) word ≡ first ∷ last ∷ option_map_or (λ rest. slice_split (λ b. b == 45) rest.now) more []
+    → is_some more ≡ true
     → None ≡ from least (range_of word)
 no_third least word first last None parts some = absurd (false≢true some)
 no_third least word first last (Some rest) parts some =
     let others : List (List ℕ) = slice_split (λ b. b == 45) rest.now in
-    let none : range_of word ≡ None = ap range_of_parts parts ∙ three-none first last others (omega (arith, length-slice_split (λ b. b == 45) rest.now)) in
+    let none : range_of word ≡ None =
+    ap range_of_parts parts ∙ three-none first last others (omega (arith, length-slice_split (λ b. b == 45) rest.now)) in
     ap (λ r. from least r) (sym none)

@@ -18,7 +18,8 @@ use Rattle.device_profile.specs.Text.{printer_of_text}
 
 -- each sample's text describes its printer
 pub sample_is_read : (sample : Sample) → printer_of_text (sample_text sample) ≡ Ok (sample_printer sample)
-unfolding printer_of_text key_of values_on_line number_on_line is_name row_numbers_of geometry_on_line symbol_set_of weight_of request_of codes_of face_with_codes face_of_words face_on_line number_of amount_of has_size has_orientation has_face has_request
+unfolding printer_of_text key_of values_on_line number_on_line is_name row_numbers_of geometry_on_line symbol_set_of weight_of request_of
+    codes_of face_with_codes face_of_words face_on_line number_of amount_of has_size has_orientation has_face has_request
 sample_is_read A = refl
 sample_is_read B = refl
 sample_is_read C = refl
@@ -51,10 +52,12 @@ wrong_texts =
     ∷ []
 
 each_fault : map (λ row. printer_of_text row.0) wrong_texts ≡ map (λ row. Err row.1) wrong_texts
-unfolding printer_of_text key_of values_on_line number_on_line is_name row_numbers_of geometry_on_line symbol_set_of weight_of request_of codes_of face_with_codes face_of_words face_on_line number_of amount_of has_size has_orientation has_face has_request
+unfolding printer_of_text key_of values_on_line number_on_line is_name row_numbers_of geometry_on_line symbol_set_of weight_of request_of
+    codes_of face_with_codes face_of_words face_on_line number_of amount_of has_size has_orientation has_face has_request
 each_fault = refl
 
 -- a comment changes nothing
 a_comment : printer_of_text (sample_text B ++ codes "# x") ≡ Ok (sample_printer B)
-unfolding printer_of_text key_of values_on_line number_on_line is_name row_numbers_of geometry_on_line symbol_set_of weight_of request_of codes_of face_with_codes face_of_words face_on_line number_of amount_of has_size has_orientation has_face has_request
+unfolding printer_of_text key_of values_on_line number_on_line is_name row_numbers_of geometry_on_line symbol_set_of weight_of request_of
+    codes_of face_with_codes face_of_words face_on_line number_of amount_of has_size has_orientation has_face has_request
 a_comment = refl

@@ -16,7 +16,8 @@ choices_of p = record {
   line_terminations = p.line_terminations;
 }
 
-pub like_printers : (p q : Printer) → choices_of q ≡ choices_of p → q.most_items ≡ p.most_items → q.geometries ≡ p.geometries → q.faces ≡ p.faces → IsLike p q
+pub like_printers : (p q : Printer) → choices_of q ≡ choices_of p → q.most_items ≡ p.most_items → q.geometries ≡ p.geometries →
+    q.faces ≡ p.faces → IsLike p q
 like_printers p q choices limit pages faces = λ i. record q {
   sizes = (choices i).sizes;
   orientations = (choices i).orientations;

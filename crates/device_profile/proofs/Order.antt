@@ -1,12 +1,15 @@
 -- The lines of an accepted text may stand in any order.
-use Rattle.std.proofs.Common.{◌≡◌, ℕ, zero, suc, ◌+◌, ◌<◌, ◌==◌, ◌&&◌, ◌||◌, Bool, false, not, List, [], ◌∷◌, ◌++◌, length, get_or, set, swap, append_assoc, length-append, IsTrue, Some, Ok, inl, inr, nat_lt, nat_le, arith, refl, sym, subst, ap, ◌∙◌}
+use Rattle.std.proofs.Common.{◌≡◌, ℕ, zero, suc, ◌+◌, ◌<◌, ◌==◌, ◌&&◌, ◌||◌, Bool, false, not, List, [], ◌∷◌, ◌++◌, length, get_or, set}
+use Rattle.std.proofs.Common.{swap, append_assoc, length-append, IsTrue, Some, Ok, inl, inr, nat_lt, nat_le, arith, refl, sym, subst, ap}
+use Rattle.std.proofs.Common.{◌∙◌}
 use Rattle.std.specs.List.{list_any}
 use Rattle.std.specs.List.Sorted.{IsPermutation}
 use Rattle.std.proofs.lemmas.Bool.{and_parts, or_parts, or_from, and_from, not-true, not_from_false, false≢true, eqb-true}
 use Rattle.std.proofs.lemmas.Bool.Decides.{nat_tests}
 use Rattle.std.proofs.lemmas.Cmp.{nat_eq_equiv, int_eq_equiv}
 use Rattle.std.proofs.lemmas.List.Folds.{list_any-append}
-use Rattle.std.proofs.lemmas.List.Sorted.{IsPermutation-refl, IsPermutation-trans, IsPermutation-append_left, IsPermutation-append_right, IsPermutation-append_comm, IsPermutation-keeps, length_permutation, list_any-IsPermutation}
+use Rattle.std.proofs.lemmas.List.Sorted.{IsPermutation-refl, IsPermutation-trans, IsPermutation-append_left, IsPermutation-append_right}
+use Rattle.std.proofs.lemmas.List.Sorted.{IsPermutation-append_comm, IsPermutation-keeps, length_permutation, list_any-IsPermutation}
 use Rattle.device_profile.specs.declared.field.Field.{Field}
 use Rattle.device_profile.specs.declared.format.Format.{Format}
 use Rattle.device_profile.specs.declared.field.Field.TheVariants.{Tray}
@@ -19,7 +22,8 @@ use Rattle.device_profile.specs.Choices.{Choices}
 use Rattle.device_profile.specs.Draft.{Draft, choice_of, draft_after}
 use Rattle.device_profile.specs.Text.{words_of_line, draft_of_lines}
 use Rattle.device_profile.proofs.ChoiceFacts.{same_or_apart}
-use Rattle.device_profile.proofs.Additions.{Addition, nothing, new_name, new_choice, new_device_trays, new_duplex, new_depth, new_memory, new_page, new_face, addition_of, takes_list, takes_number, takes, added, adds, added_after}
+use Rattle.device_profile.proofs.Additions.{Addition, nothing, new_name, new_choice, new_device_trays, new_duplex, new_depth, new_memory}
+use Rattle.device_profile.proofs.Additions.{new_page, new_face, addition_of, takes_list, takes_number, takes, added, adds, added_after}
 use Rattle.device_profile.proofs.Sound.{or_fault, line_given}
 use Rattle.device_profile.proofs.Singles.{some_values}
 
@@ -44,12 +48,14 @@ takes-similar : (a b : Draft) → IsSimilar a b → (addition : Addition) → ta
 unfolding has_face has_request
 takes-similar a b s (new_page row) =
     let held : has_row a.geometries row.size row.orientation ≡ has_row b.geometries row.size row.orientation =
-    list_any-IsPermutation (λ (r : Geometry). (r.size == row.size) && (r.orientation == row.orientation)) a.geometries b.geometries s.geometries in
+    list_any-IsPermutation
+    (λ (r : Geometry). (r.size == row.size) && (r.orientation == row.orientation)) a.geometries b.geometries s.geometries in
     let long : length a.geometries ≡ length b.geometries = sym (length_permutation a.geometries b.geometries s.geometries) in
     ap (λ has. not has && nat_lt (length a.geometries) 64 && is_page row) held
     ∙ ap (λ n. not (has_row b.geometries row.size row.orientation) && nat_lt n 64 && is_page row) long
 takes-similar a b s (new_face face) =
-    let ids : has_face a.faces face.id ≡ has_face b.faces face.id = list_any-IsPermutation (λ (f : Face). f.id == face.id) a.faces b.faces s.faces in
+    let ids : has_face a.faces face.id ≡ has_face b.faces face.id =
+    list_any-IsPermutation (λ (f : Face). f.id == face.id) a.faces b.faces s.faces in
     let requests : has_request a.faces face.request ≡ has_request b.faces face.request =
     list_any-IsPermutation (λ (f : Face). is_same_request f.request face.request) a.faces b.faces s.faces in
     let long : length a.faces ≡ length b.faces = sym (length_permutation a.faces b.faces s.faces) in
@@ -85,11 +91,13 @@ new_alone is_like symmetric xs x y first second =
     let unlike : is_like x y ≡ false = (or_parts (is_like x y) false parts.1).0 in
     let other : is_like y x ≡ false = symmetric y x ∙ unlike in
     let all : list_any (λ z. is_like z x) (xs ++ y ∷ []) ≡ false =
-    list_any-append (λ z. is_like z x) xs (y ∷ []) ∙ or_from (list_any (λ z. is_like z x) xs) (is_like y x || false) none_x (or_from (is_like y x) false other refl) in
+    list_any-append (λ z. is_like z x) xs (y ∷ [])
+    ∙ or_from (list_any (λ z. is_like z x) xs) (is_like y x || false) none_x (or_from (is_like y x) false other refl) in
     (not_from_false (list_any (λ z. is_like z y) xs) parts.0, not_from_false (list_any (λ z. is_like z x) (xs ++ y ∷ [])) all)
 
 -- where there is room for two there is room for one, and then for the other
-room_alone : {X : Type 0} (xs : List X) (x y : X) → IsTrue (nat_lt (length (xs ++ x ∷ [])) 64) → IsTrue (nat_lt (length xs) 64) × IsTrue (nat_lt (length (xs ++ y ∷ [])) 64)
+room_alone : {X : Type 0} (xs : List X) (x y : X) → IsTrue (nat_lt (length (xs ++ x ∷ [])) 64) →
+    IsTrue (nat_lt (length xs) 64) × IsTrue (nat_lt (length (xs ++ y ∷ [])) 64)
 room_alone xs x y room =
     let with_x : length (xs ++ x ∷ []) ≡ length xs + 1 = length-append xs (x ∷ []) in
     let with_y : length (xs ++ y ∷ []) ≡ length xs + 1 = length-append xs (y ∷ []) in
@@ -97,7 +105,8 @@ room_alone xs x y room =
 
 same_page_symmetric : (a b : Geometry) → is_same_page a b ≡ is_same_page b a
 same_page_symmetric a b =
-    ap (λ t. t && (a.orientation == b.orientation)) (nat_eq_equiv.symm a.size b.size) ∙ ap (λ t. (b.size == a.size) && t) (nat_eq_equiv.symm a.orientation b.orientation)
+    ap (λ t. t && (a.orientation == b.orientation)) (nat_eq_equiv.symm a.size b.size)
+    ∙ ap (λ t. (b.size == a.size) && t) (nat_eq_equiv.symm a.orientation b.orientation)
 
 same_request_symmetric : (a b : FontRequest) → is_same_request a b ≡ is_same_request b a
 same_request_symmetric a b = rw (
@@ -128,18 +137,23 @@ record BothWays (draft : Draft) (x y : Addition) : Type 0 where
   second : IsTrue (takes (added draft y) x)
   similar : IsSimilar (added (added draft x) y) (added (added draft y) x)
 
-choices_both_ways : (draft : Draft) (f g : Field) (v w : List ℕ) → IsTrue (takes draft (new_choice f v)) → IsTrue (takes (added draft (new_choice f v)) (new_choice g w))
+choices_both_ways : (draft : Draft) (f g : Field) (v w : List ℕ) → IsTrue (takes draft (new_choice f v)) →
+    IsTrue (takes (added draft (new_choice f v)) (new_choice g w))
     → BothWays draft (new_choice f v) (new_choice g w)
 choices_both_ways draft f g v w one two =
     elim (same_or_apart f g) [
-      | inl are ↦ absurd (list_twice f g (choice_of draft f) v w one (subst (λ (held : List ℕ). IsTrue (takes_list g held w)) (are.set draft.choices v) two))
+      | inl are ↦
+          absurd (list_twice f g (choice_of draft f) v w one
+          (subst (λ (held : List ℕ). IsTrue (takes_list g held w)) (are.set draft.choices v) two))
       | inr are ↦ record {
         first = subst (λ (held : List ℕ). IsTrue (takes_list g held w)) (are.second_kept draft.choices v) two;
         second = subst (λ (held : List ℕ). IsTrue (takes_list f held v)) (sym (are.first_kept draft.choices w)) one;
         similar = record {
           geometries = IsPermutation-refl draft.geometries;
           faces = IsPermutation-refl draft.faces;
-          others = ap (λ (choices : Choices). record draft { choices = choices; geometries = []; faces = [] }) (are.either_order draft.choices v w);
+          others =
+              ap (λ (choices : Choices). record draft { choices = choices; geometries = []; faces = [] })
+              (are.either_order draft.choices v w);
         };
       }
     ]
@@ -169,14 +183,19 @@ both_orders draft (new_page row) (new_page other) one two =
 both_orders draft (new_face face) (new_face other) one two =
     let faces : List Face = draft.faces in
     let with_face : List Face = faces ++ face ∷ [] in
-    let a = and_parts (not (has_face faces face.id) && not (has_request faces face.request) && nat_lt (length faces) 64) (is_face face) one in
+    let a =
+    and_parts (not (has_face faces face.id) && not (has_request faces face.request) && nat_lt (length faces) 64) (is_face face) one in
     let b = and_parts (not (has_face faces face.id) && not (has_request faces face.request)) (nat_lt (length faces) 64) a.0 in
     let c = and_parts (not (has_face faces face.id)) (not (has_request faces face.request)) b.0 in
-    let d = and_parts (not (has_face with_face other.id) && not (has_request with_face other.request) && nat_lt (length with_face) 64) (is_face other) two in
+    let d =
+    and_parts
+    (not (has_face with_face other.id) && not (has_request with_face other.request) && nat_lt (length with_face) 64) (is_face other) two in
     let e = and_parts (not (has_face with_face other.id) && not (has_request with_face other.request)) (nat_lt (length with_face) 64) d.0 in
     let f = and_parts (not (has_face with_face other.id)) (not (has_request with_face other.request)) e.0 in
     let ids = new_alone (λ (g : Face) (h : Face). g.id == h.id) (λ g h. nat_eq_equiv.symm g.id h.id) faces face other c.0 f.0 in
-    let requests = new_alone (λ (g : Face) (h : Face). is_same_request g.request h.request) (λ g h. same_request_symmetric g.request h.request) faces face other c.1 f.1 in
+    let requests =
+    new_alone (λ (g : Face) (h : Face). is_same_request g.request h.request)
+    (λ g h. same_request_symmetric g.request h.request) faces face other c.1 f.1 in
     let room = room_alone faces face other e.1 in
     record {
       first = and_from _ _ (and_from _ _ (and_from _ _ ids.0 requests.0) room.0) d.1;
@@ -193,17 +212,22 @@ LeadsAlike format xs ys =
 
 -- a line whose addition is taken leads on
 leads_on : (format : Format) (draft : Draft) (number : ℕ) (line : List ℕ) (lines : List (List ℕ)) (addition : Addition) (last : Draft)
-    → addition_of format (words_of_line line) ≡ Some addition → IsTrue (takes draft addition) → draft_of_lines format (added draft addition) (number + 1) lines ≡ Ok last
+    → addition_of format (words_of_line line) ≡ Some addition → IsTrue (takes draft addition)
+    → draft_of_lines format (added draft addition) (number + 1) lines ≡ Ok last
     → draft_of_lines format draft number (line ∷ lines) ≡ Ok last
 leads_on format draft number line lines addition last told taken is =
-    ap (λ given. or_fault given (λ next. draft_of_lines format next (number + 1) lines) number) (added_after format draft (words_of_line line) addition told taken) ∙ is
+    ap (λ given. or_fault given (λ next. draft_of_lines format next (number + 1) lines) number)
+    (added_after format draft (words_of_line line) addition told taken)
+    ∙ is
 
-LeadsAlike-cons : (format : Format) (line : List ℕ) (xs ys : List (List ℕ)) → LeadsAlike format xs ys → LeadsAlike format (line ∷ xs) (line ∷ ys)
+LeadsAlike-cons : (format : Format) (line : List ℕ) (xs ys : List (List ℕ)) → LeadsAlike format xs ys →
+    LeadsAlike format (line ∷ xs) (line ∷ ys)
 LeadsAlike-cons format line xs ys alike a b n m last s is =
     let given = line_given (draft_after format a (words_of_line line)) (λ next. draft_of_lines format next (n + 1) xs) n last is in
     let step = adds format a (words_of_line line) given.0 given.1 in
     let taken : IsTrue (takes b step.addition) = sym (takes-similar a b s step.addition) ∙ step.taken in
-    let after : IsSimilar given.0 (added b step.addition) = subst (λ (d : Draft). IsSimilar d (added b step.addition)) step.is (added-similar a b s step.addition) in
+    let after : IsSimilar given.0 (added b step.addition) =
+    subst (λ (d : Draft). IsSimilar d (added b step.addition)) step.is (added-similar a b s step.addition) in
     let rest = alike given.0 (added b step.addition) (n + 1) (m + 1) last after given.2 in
     (rest.0, leads_on format b m line ys step.addition rest.0 step.told taken rest.1, rest.2)
 
@@ -211,9 +235,11 @@ LeadsAlike-refl : (format : Format) (xs : List (List ℕ)) → LeadsAlike format
 LeadsAlike-refl format [] a b n m last s is =
     let same : a ≡ last = cc in
     (b, refl, subst (λ (d : Draft). IsSimilar d b) same s)
-LeadsAlike-refl format (line ∷ lines) a b n m last s is = LeadsAlike-cons format line lines lines (LeadsAlike-refl format lines) a b n m last s is
+LeadsAlike-refl format (line ∷ lines) a b n m last s is =
+    LeadsAlike-cons format line lines lines (LeadsAlike-refl format lines) a b n m last s is
 
-LeadsAlike-trans : (format : Format) (xs ys zs : List (List ℕ)) → LeadsAlike format xs ys → LeadsAlike format ys zs → LeadsAlike format xs zs
+LeadsAlike-trans : (format : Format) (xs ys zs : List (List ℕ)) → LeadsAlike format xs ys → LeadsAlike format ys zs →
+    LeadsAlike format xs zs
 LeadsAlike-trans format xs ys zs f g a b n m last s is =
     let one = f a b n m last s is in
     let two = g b b m m one.0 (IsSimilar-refl b) one.1 in
@@ -224,7 +250,9 @@ LeadsAlike-neighbours : (format : Format) (x y : List ℕ) (lines : List (List �
 LeadsAlike-neighbours format x y lines a b n m last s is =
     let given_x = line_given (draft_after format a (words_of_line x)) (λ next. draft_of_lines format next (n + 1) (y ∷ lines)) n last is in
     let step_x = adds format a (words_of_line x) given_x.0 given_x.1 in
-    let given_y = line_given (draft_after format given_x.0 (words_of_line y)) (λ next. draft_of_lines format next (n + 1 + 1) lines) (n + 1) last given_x.2 in
+    let given_y =
+    line_given (draft_after format given_x.0 (words_of_line y))
+    (λ next. draft_of_lines format next (n + 1 + 1) lines) (n + 1) last given_x.2 in
     let step_y = adds format given_x.0 (words_of_line y) given_y.0 given_y.1 in
     let p : Addition = step_x.addition in
     let q : Addition = step_y.addition in
@@ -239,12 +267,14 @@ LeadsAlike-neighbours format x y lines a b n m last s is =
     let takes_q : IsTrue (takes b q) = sym (takes-similar a b s q) ∙ ways.first in
     let takes_p : IsTrue (takes (added b q) p) = sym (takes-similar (added a q) (added b q) after_y p) ∙ ways.second in (
       rest.0,
-      leads_on format b m y (x ∷ lines) q rest.0 step_y.told takes_q (leads_on format (added b q) (m + 1) x lines p rest.0 step_x.told takes_p rest.1),
+      leads_on format b m y (x ∷ lines) q rest.0 step_y.told takes_q
+          (leads_on format (added b q) (m + 1) x lines p rest.0 step_x.told takes_p rest.1),
       rest.2,
     )
 
 -- a line changes places with the first
-LeadsAlike-front : (format : Format) (x : List ℕ) (lines : List (List ℕ)) (j : ℕ) (d : List ℕ) → j < length lines → LeadsAlike format (x ∷ lines) (get_or lines j d ∷ set lines j x)
+LeadsAlike-front : (format : Format) (x : List ℕ) (lines : List (List ℕ)) (j : ℕ) (d : List ℕ) → j < length lines →
+    LeadsAlike format (x ∷ lines) (get_or lines j d ∷ set lines j x)
 LeadsAlike-front format x [] j d within = absurd (omega arith)
 LeadsAlike-front format x (y ∷ lines) zero d within = LeadsAlike-neighbours format x y lines
 LeadsAlike-front format x (y ∷ lines) (suc j) d within =
@@ -256,15 +286,18 @@ LeadsAlike-front format x (y ∷ lines) (suc j) d within =
     (LeadsAlike-neighbours format y z (set lines j x)))
 
 -- two lines change places
-LeadsAlike-exchange : (format : Format) (lines : List (List ℕ)) (i j : ℕ) (d : List ℕ) → i < length lines → j < length lines → LeadsAlike format lines (set (set lines i (get_or lines j d)) j (get_or lines i d))
+LeadsAlike-exchange : (format : Format) (lines : List (List ℕ)) (i j : ℕ) (d : List ℕ) → i < length lines → j < length lines →
+    LeadsAlike format lines (set (set lines i (get_or lines j d)) j (get_or lines i d))
 LeadsAlike-exchange format [] i j d first second = absurd (omega arith)
 LeadsAlike-exchange format (x ∷ lines) zero zero d first second = LeadsAlike-refl format (x ∷ lines)
 LeadsAlike-exchange format (x ∷ lines) zero (suc j) d first second = LeadsAlike-front format x lines j d (omega arith)
 LeadsAlike-exchange format (x ∷ lines) (suc i) zero d first second = LeadsAlike-front format x lines i d (omega arith)
 LeadsAlike-exchange format (x ∷ lines) (suc i) (suc j) d first second =
-    LeadsAlike-cons format x lines (set (set lines i (get_or lines j d)) j (get_or lines i d)) (LeadsAlike-exchange format lines i j d (omega arith) (omega arith))
+    LeadsAlike-cons format x lines (set (set lines i (get_or lines j d)) j (get_or lines i d))
+    (LeadsAlike-exchange format lines i j d (omega arith) (omega arith))
 
-LeadsAlike-swap : (format : Format) (lines : List (List ℕ)) (i j : ℕ) → i < length lines → j < length lines → LeadsAlike format lines (swap lines i j)
+LeadsAlike-swap : (format : Format) (lines : List (List ℕ)) (i j : ℕ) → i < length lines → j < length lines →
+    LeadsAlike format lines (swap lines i j)
 LeadsAlike-swap format [] i j first second = absurd (omega arith)
 LeadsAlike-swap format (x ∷ lines) i j first second = LeadsAlike-exchange format (x ∷ lines) i j x first second
 
@@ -272,4 +305,6 @@ LeadsAlike-swap format (x ∷ lines) i j first second = LeadsAlike-exchange form
 pub LeadsAlike-permutation : (format : Format) (xs ys : List (List ℕ)) → IsPermutation xs ys → LeadsAlike format xs ys
 LeadsAlike-permutation format xs ys moved =
     IsPermutation-keeps xs (LeadsAlike format xs) (LeadsAlike-refl format xs)
-    (λ lines i j first second alike. LeadsAlike-trans format xs lines (swap lines i j) alike (LeadsAlike-swap format lines i j first second)) ys moved
+    (λ lines i j first second alike.
+    LeadsAlike-trans format xs lines (swap lines i j) alike (LeadsAlike-swap format lines i j first second))
+    ys moved

@@ -1,5 +1,6 @@
 -- The twelve numbers of a row, read one after another.
-use Rattle.std.proofs.Common.{◌≡◌, ℕ, suc, ◌+◌, ◌<◌, ◌≤◌, ◌==◌, ◌&&◌, nat_le, true, false, List, [], ◌∷◌, ◌++◌, length, Option, None, Some, if◌then◌else◌, append_assoc, length-append, zero-add, arith, sym, ap, ◌∙◌}
+use Rattle.std.proofs.Common.{◌≡◌, ℕ, suc, ◌+◌, ◌<◌, ◌≤◌, ◌==◌, ◌&&◌, nat_le, true, false, List, [], ◌∷◌, ◌++◌, length, Option, None, Some}
+use Rattle.std.proofs.Common.{if◌then◌else◌, append_assoc, length-append, zero-add, arith, sym, ap, ◌∙◌}
 use Rattle.std.specs.List.{list_all, filter_map, cons_option}
 use Rattle.std.proofs.lemmas.Bool.{and_left, and_right, and_parts, and_from, cond-true, cond-false, cond_both, eq-eqb, ne_eqb}
 use Rattle.std.proofs.lemmas.Bool.Decides.{nat_tests}
@@ -43,7 +44,8 @@ value-step : (read : List ℕ) (value : Option ℕ) (tail : List ℕ) (count n :
 value-step read None tail count n is = cc
 value-step read (Some m) tail count n is =
     cond_both (is_between 0 720_000 m) (Some m) None
-    (λ got. got ≡ Some n → twelve (length read + suc count) (read ++ m ∷ tail) ≡ twelve (length (read ++ n ∷ []) + count) (read ++ n ∷ [] ++ tail))
+    (λ got.
+    got ≡ Some n → twelve (length read + suc count) (read ++ m ∷ tail) ≡ twelve (length (read ++ n ∷ []) + count) (read ++ n ∷ [] ++ tail))
     (λ fits got.
     let same : m ≡ n = cc in
     let total : length read + suc count ≡ length (read ++ m ∷ []) + count = omega (arith, length-append read (m ∷ [])) in
@@ -64,22 +66,26 @@ value-stop read (Some m) tail count few is =
     (λ no got.
     let large : is_row_number m ≡ false = grind (arith, nat_tests) in
     twelve-too_large (length read + suc count) (read ++ m ∷ tail)
-    (list_all-append is_row_number read (m ∷ tail) ∙ and_right (list_all is_row_number read) _ (and_left (is_row_number m) (list_all is_row_number tail) large)))
+    (list_all-append is_row_number read (m ∷ tail)
+        ∙ and_right (list_all is_row_number read) _ (and_left (is_row_number m) (list_all is_row_number tail) large)))
     is
 
 -- one more word gives a number
-pub row_numbers-step : (read : List ℕ) (words : List (List ℕ)) (word : List ℕ) (rest : List (List ℕ)) (n : ℕ) → words ≡ word ∷ rest → Some n ≡ between 0 720_000 (number_of word)
+pub row_numbers-step : (read : List ℕ) (words : List (List ℕ)) (word : List ℕ) (rest : List (List ℕ)) (n : ℕ) → words ≡ word ∷ rest →
+    Some n ≡ between 0 720_000 (number_of word)
     → row_numbers_with read words ≡ row_numbers_with (read ++ n ∷ []) rest
 unfolding row_numbers_with
 row_numbers-step read words word rest n are is =
     ap (λ w. row_numbers_with read w) are ∙ value-step read (number_of word) (filter_map number_of rest) (length rest) n (sym is)
 
 -- one more word gives none
-pub row_numbers-stop : (read : List ℕ) (words : List (List ℕ)) (word : List ℕ) (rest : List (List ℕ)) → words ≡ word ∷ rest → None ≡ between 0 720_000 (number_of word)
+pub row_numbers-stop : (read : List ℕ) (words : List (List ℕ)) (word : List ℕ) (rest : List (List ℕ)) → words ≡ word ∷ rest →
+    None ≡ between 0 720_000 (number_of word)
     → row_numbers_with read words ≡ None
 unfolding row_numbers_with
 row_numbers-stop read words word rest are is =
-    ap (λ w. row_numbers_with read w) are ∙ value-stop read (number_of word) (filter_map number_of rest) (length rest) (length-filter_map-le number_of rest) (sym is)
+    ap (λ w. row_numbers_with read w) are
+    ∙ value-stop read (number_of word) (filter_map number_of rest) (length rest) (length-filter_map-le number_of rest) (sym is)
 
 twelve-other : (words : ℕ) (numbers : List ℕ) → (words ≡ 12 → ⊥) → twelve words numbers ≡ None
 twelve-other words numbers other =
@@ -89,16 +95,20 @@ twelve-other words numbers other =
 -- the words end too soon
 pub row_numbers-short : (read : List ℕ) (words : List (List ℕ)) → length read < 12 → words ≡ [] → row_numbers_with read words ≡ None
 unfolding row_numbers_with
-row_numbers-short read words few are = ap (λ w. row_numbers_with read w) are ∙ twelve-other (length read + 0) (read ++ []) (λ e. omega arith)
+row_numbers-short read words few are =
+    ap (λ w. row_numbers_with read w) are ∙ twelve-other (length read + 0) (read ++ []) (λ e. omega arith)
 
 -- there are more words
-pub row_numbers-long : (read : List ℕ) (words : List (List ℕ)) (word : List ℕ) (rest : List (List ℕ)) → length read ≡ 12 → words ≡ word ∷ rest → row_numbers_with read words ≡ None
+pub row_numbers-long : (read : List ℕ) (words : List (List ℕ)) (word : List ℕ) (rest : List (List ℕ)) → length read ≡ 12 →
+    words ≡ word ∷ rest → row_numbers_with read words ≡ None
 unfolding row_numbers_with
 row_numbers-long read words word rest all are =
-    ap (λ w. row_numbers_with read w) are ∙ twelve-other (length read + suc (length rest)) (read ++ filter_map number_of (word ∷ rest)) (λ e. omega arith)
+    ap (λ w. row_numbers_with read w) are
+    ∙ twelve-other (length read + suc (length rest)) (read ++ filter_map number_of (word ∷ rest)) (λ e. omega arith)
 
 -- all twelve were read
-pub row_numbers-all : (read : List ℕ) (words : List (List ℕ)) → length read ≡ 12 → list_all is_row_number read ≡ true → words ≡ [] → row_numbers_with read words ≡ Some read
+pub row_numbers-all : (read : List ℕ) (words : List (List ℕ)) → length read ≡ 12 → list_all is_row_number read ≡ true → words ≡ [] →
+    row_numbers_with read words ≡ Some read
 unfolding row_numbers_with
 row_numbers-all read words all small are =
     let whole : read ++ [] ≡ read = append-nil read in

@@ -22,4 +22,5 @@ pub ranges_decide : (xs ys : List CodeRange) → Decides (pointwise is_same_rang
 ranges_decide [] [] = (λ h. refl, λ e. refl)
 ranges_decide [] (y ∷ ys) = never (λ e. cc)
 ranges_decide (x ∷ xs) [] = never (λ e. cc)
-ranges_decide (x ∷ xs) (y ∷ ys) = Decides-like _ (λ h. λ i. h.0 i ∷ h.1 i) (λ e. (cc, cc)) (Decides-and _ _ (range_decides x y) (ranges_decide xs ys))
+ranges_decide (x ∷ xs) (y ∷ ys) =
+    Decides-like _ (λ h. λ i. h.0 i ∷ h.1 i) (λ e. (cc, cc)) (Decides-and _ _ (range_decides x y) (ranges_decide xs ys))

@@ -1,5 +1,7 @@
 -- Keys that come once stand on one line of an accepted text.
-use Rattle.std.proofs.Common.{◌≡◌, ℕ, ◌+◌, ◌≤◌, ◌==◌, ◌&&◌, Bool, true, false, not, cond, List, [], ◌∷◌, length, get_or, map, filter, codes, All, IsTrue, MatchBool, Option, None, Some, is_some, find, Result, Ok, Err, nat_lt, nat_le, if◌then◌else◌, arith, refl, sym, subst, ap, ◌∙◌}
+use Rattle.std.proofs.Common.{◌≡◌, ℕ, ◌+◌, ◌≤◌, ◌==◌, ◌&&◌, Bool, true, false, not, cond, List, [], ◌∷◌, length, get_or, map, filter, codes}
+use Rattle.std.proofs.Common.{All, IsTrue, MatchBool, Option, None, Some, is_some, find, Result, Ok, Err, nat_lt, nat_le, if◌then◌else◌}
+use Rattle.std.proofs.Common.{arith, refl, sym, subst, ap, ◌∙◌}
 use Rattle.std.specs.Option.{option_map, option_and_then}
 use Rattle.std.specs.Str.{bytes_eq}
 use Rattle.std.specs.List.{list_all, AllByRecursion}
@@ -23,7 +25,8 @@ use Rattle.device_profile.specs.Words.{words_of}
 use Rattle.device_profile.specs.Text.{version_of, format_of, words_of_line, draft_of_lines, draft_of, is_given, is_complete}
 use Rattle.device_profile.specs.Laws.{common_keys, has_key, single_keys}
 use Rattle.device_profile.proofs.LineParts.{of_value, of_mapped}
-use Rattle.device_profile.proofs.Additions.{Addition, nothing, new_name, new_choice, new_device_trays, new_duplex, new_depth, new_memory, new_page, new_face, or_none, addition_of_key, addition_of, takes_list, takes, added, adds}
+use Rattle.device_profile.proofs.Additions.{Addition, nothing, new_name, new_choice, new_device_trays, new_duplex, new_depth, new_memory}
+use Rattle.device_profile.proofs.Additions.{new_page, new_face, or_none, addition_of_key, addition_of, takes_list, takes, added, adds}
 use Rattle.device_profile.proofs.GivenKeys.{each_given}
 use Rattle.device_profile.proofs.Sound.{line_given, version_given}
 
@@ -44,7 +47,8 @@ kept_key true found key is = cc
 kept_key false found key is = cc
 
 found_word : (format : Format) (keys : List Key) (word : List ℕ) (key : Key)
-    → option_and_then (λ k. if is_key_in format k then Some k else None) (find (λ k. bytes_eq (key_word k) word) keys) ≡ Some key → key_word key ≡ word
+    → option_and_then (λ k. if is_key_in format k then Some k else None) (find (λ k. bytes_eq (key_word k) word) keys) ≡ Some key
+    → key_word key ≡ word
 found_word format [] word key is = cc
 found_word format (other ∷ others) word key is =
     cond_both (bytes_eq (key_word other) word) (Some other) (find (λ k. bytes_eq (key_word k) word) others)
@@ -58,37 +62,44 @@ word_of_key : (format : Format) (word : List ℕ) (key : Key) → key_of format 
 unfolding key_of
 word_of_key format word key is = found_word format every_key word key is
 
-word_of_list : (word : List ℕ) (new : List ℕ → Addition) (given : Result (List ℕ) Cause) (addition : Addition) → ((values : List ℕ) → word_of_addition (new values) ≡ word)
+word_of_list : (word : List ℕ) (new : List ℕ → Addition) (given : Result (List ℕ) Cause) (addition : Addition) →
+    ((values : List ℕ) → word_of_addition (new values) ≡ word)
     → or_none new given ≡ Some addition → word_of_addition addition ≡ word
 word_of_list word new (Ok values) addition named told =
     let is : new values ≡ addition = cc in
     ap word_of_addition (sym is) ∙ named values
 word_of_list word new (Err cause) addition named told = cc
 
-word_of_mapped : {X : Type 0} (word : List ℕ) (new : X → Addition) (value : Option X) (addition : Addition) → ((x : X) → word_of_addition (new x) ≡ word)
+word_of_mapped : {X : Type 0} (word : List ℕ) (new : X → Addition) (value : Option X) (addition : Addition) →
+    ((x : X) → word_of_addition (new x) ≡ word)
     → option_map new value ≡ Some addition → word_of_addition addition ≡ word
 word_of_mapped word new value addition named told =
     let given = of_mapped new value addition told in
     ap word_of_addition (sym given.2) ∙ named given.0
 
-word_of_name : (is_right : Bool) (addition : Addition) → (if is_right then Some new_name else None) ≡ Some addition → word_of_addition addition ≡ codes "name"
+word_of_name : (is_right : Bool) (addition : Addition) → (if is_right then Some new_name else None) ≡ Some addition →
+    word_of_addition addition ≡ codes "name"
 word_of_name true addition told =
     let is : new_name ≡ addition = cc in
     ap word_of_addition (sym is)
 word_of_name false addition told = cc
 
-word_of_told : (key : Key) (words : List (List ℕ)) (addition : Addition) → addition_of_key key words ≡ Some addition → word_of_addition addition ≡ key_word key
+word_of_told : (key : Key) (words : List (List ℕ)) (addition : Addition) → addition_of_key key words ≡ Some addition →
+    word_of_addition addition ≡ key_word key
 word_of_told Name words addition told = word_of_name (is_name words) addition told
-word_of_told (Choice field) words addition told = word_of_list (key_word (Choice field)) (new_choice field) (values_on_line field words) addition (λ v. refl) told
+word_of_told (Choice field) words addition told =
+    word_of_list (key_word (Choice field)) (new_choice field) (values_on_line field words) addition (λ v. refl) told
 word_of_told Trays words addition told = word_of_list (codes "trays") new_device_trays (values_on_line Tray words) addition (λ v. refl) told
 word_of_told Duplex words addition told = word_of_mapped (codes "duplex") new_duplex (number_on_line 1 words) addition (λ n. refl) told
 word_of_told Depth words addition told = word_of_mapped (codes "depth") new_depth (number_on_line 8 words) addition (λ n. refl) told
-word_of_told Memory words addition told = word_of_mapped (codes "memory") new_memory (number_on_line 1_048_576 words) addition (λ n. refl) told
+word_of_told Memory words addition told =
+    word_of_mapped (codes "memory") new_memory (number_on_line 1_048_576 words) addition (λ n. refl) told
 word_of_told Page words addition told = word_of_mapped (codes "geometry") new_page (row_of_words words) addition (λ row. refl) told
 word_of_told FaceRow words addition told = word_of_mapped (codes "face") new_face (face_of_words words) addition (λ face. refl) told
 
 -- a line's first word is the key of what it adds
-first_word : (format : Format) (words : List (List ℕ)) (addition : Addition) → addition_of format words ≡ Some addition → get_or words 0 [] ≡ word_of_addition addition
+first_word : (format : Format) (words : List (List ℕ)) (addition : Addition) → addition_of format words ≡ Some addition →
+    get_or words 0 [] ≡ word_of_addition addition
 first_word format [] addition told =
     let is : nothing ≡ addition = cc in
     ap word_of_addition is
@@ -117,7 +128,8 @@ some_values field values are =
     let counted = and_parts (is_between 1 16 (length values)) (list_all (is_value field) values) fit.0 in
     leb-true 1 (length values) ((and_parts (nat_le 1 (length values)) (nat_le (length values) 16) counted.0).0)
 
-list_counts : (field : Field) (held values : List ℕ) → IsTrue (takes_list field held values) → (nat_lt 0 (length held) ≡ false) × (nat_lt 0 (length values) ≡ true)
+list_counts : (field : Field) (held values : List ℕ) → IsTrue (takes_list field held values) →
+    (nat_lt 0 (length held) ≡ false) × (nat_lt 0 (length values) ≡ true)
 list_counts field held values taken =
     let parts = and_parts (length held == 0) (are_choices field values) taken in
     let none : length held ≡ 0 = eqb-true (length held) 0 parts.0 in
@@ -135,7 +147,8 @@ counts FaceRow draft addition single taken = absurd (false≢true single)
 counts Name draft new_name single taken = (not-true draft.is_named taken, refl)
 counts Name draft (new_choice Size values) single taken = refl
 counts (Choice Size) draft (new_choice Size values) single taken = list_counts Size draft.choices.sizes values taken
-counts (Choice Orientation) draft (new_choice Orientation values) single taken = list_counts Orientation draft.choices.orientations values taken
+counts (Choice Orientation) draft (new_choice Orientation values) single taken =
+    list_counts Orientation draft.choices.orientations values taken
 counts (Choice Vmi) draft (new_choice Vmi values) single taken = list_counts Vmi draft.choices.vmis values taken
 counts (Choice Font) draft (new_choice Font values) single taken = list_counts Font draft.choices.fonts values taken
 counts (Choice Copies) draft (new_choice Copies values) single taken = list_counts Copies draft.choices.copies values taken
@@ -160,7 +173,8 @@ bit false = 0
 abbrev with_key : Key → List (List ℕ) → List (List ℕ)
 with_key key lines = filter (has_key (key_word key)) lines
 
-one_line : (has was now : Bool) (line : List ℕ) (rest : List (List ℕ)) (total : ℕ) → Counts has was now → bit now + length rest ≡ total → bit was + length (cond has (line ∷ rest) rest) ≡ total
+one_line : (has was now : Bool) (line : List ℕ) (rest : List (List ℕ)) (total : ℕ) → Counts has was now → bit now + length rest ≡ total →
+    bit was + length (cond has (line ∷ rest) rest) ≡ total
 one_line true was now line rest total counted is =
     let before : bit was ≡ 0 = ap bit counted.0 in
     let after : bit now ≡ 1 = ap bit counted.1 in
@@ -169,21 +183,25 @@ one_line false was now line rest total counted is =
     let same : bit now ≡ bit was = ap bit counted in
     omega arith
 
-count_lines : (format : Format) (key : Key) → IsTrue (is_single key) → (lines : List (List ℕ)) (draft : Draft) (number : ℕ) (last : Draft) → draft_of_lines format draft number lines ≡ Ok last
+count_lines : (format : Format) (key : Key) → IsTrue (is_single key) → (lines : List (List ℕ)) (draft : Draft) (number : ℕ) (last : Draft) →
+    draft_of_lines format draft number lines ≡ Ok last
     → bit (is_given draft key) + length (with_key key lines) ≡ bit (is_given last key)
 count_lines format key single [] draft number last is =
     let same : draft ≡ last = cc in
     let bits : bit (is_given draft key) ≡ bit (is_given last key) = ap (λ d. bit (is_given d key)) same in
     omega arith
 count_lines format key single (line ∷ lines) draft number last is =
-    let given = line_given (draft_after format draft (words_of_line line)) (λ next. draft_of_lines format next (number + 1) lines) number last is in
+    let given =
+    line_given (draft_after format draft (words_of_line line)) (λ next. draft_of_lines format next (number + 1) lines) number last is in
     let step = adds format draft (words_of_line line) given.0 given.1 in
     let here : Counts (has_key (key_word key) line) (is_given draft key) (is_given (added draft step.addition) key) =
-    subst (λ (word : List ℕ). Counts (bytes_eq (key_word key) word) (is_given draft key) (is_given (added draft step.addition) key)) (sym (first_word format (words_of_line line) step.addition step.told))
+    subst (λ (word : List ℕ). Counts (bytes_eq (key_word key) word) (is_given draft key) (is_given (added draft step.addition) key))
+    (sym (first_word format (words_of_line line) step.addition step.told))
     (counts key draft step.addition single step.taken) in
     let counted : Counts (has_key (key_word key) line) (is_given draft key) (is_given given.0 key) =
     subst (λ (d : Draft). Counts (has_key (key_word key) line) (is_given draft key) (is_given d key)) step.is here in
-    one_line (has_key (key_word key) line) (is_given draft key) (is_given given.0 key) line (with_key key lines) (bit (is_given last key)) counted
+    one_line (has_key (key_word key) line) (is_given draft key) (is_given given.0 key) line (with_key key lines)
+    (bit (is_given last key)) counted
     (count_lines format key single lines given.0 (number + 1) last given.2)
 
 no_key : (key : Key) → (bytes_eq (key_word key) [] ≡ false) × (bytes_eq (key_word key) (codes "pclprofile") ≡ false)
@@ -214,17 +232,21 @@ named (name ∷ version ∷ []) format is =
 named (name ∷ version ∷ more ∷ words) format is = cc
 
 -- the first line has no key
-first_line : (key : Key) (first : List ℕ) (format : Format) → format_of (words_of first) ≡ Some format → has_key (key_word key) first ≡ false
+first_line : (key : Key) (first : List ℕ) (format : Format) → format_of (words_of first) ≡ Some format →
+    has_key (key_word key) first ≡ false
 first_line key first format version =
     cond_both (get_or first 0 0 == 35) [] (words_of first) (λ words. bytes_eq (key_word key) (get_or words 0 []) ≡ false)
     (λ comment. (no_key key).0)
     (λ line. ap (bytes_eq (key_word key)) (named (words_of first) format version) ∙ (no_key key).1)
 
 -- a key that was given stands on one of all lines, where nothing gave it before the lines
-stands_once : (key : Key) → IsTrue (is_single key) → (format : Format) → is_given (no_draft format) key ≡ false → (first : List ℕ) (later : List (List ℕ)) (draft : Draft)
-    → format_of (words_of first) ≡ Some format → draft_of_lines format (no_draft format) 2 later ≡ Ok draft → is_given draft key ≡ true → length (with_key key (first ∷ later)) ≡ 1
+stands_once : (key : Key) → IsTrue (is_single key) → (format : Format) → is_given (no_draft format) key ≡ false → (first : List ℕ)
+    (later : List (List ℕ)) (draft : Draft)
+    → format_of (words_of first) ≡ Some format → draft_of_lines format (no_draft format) 2 later ≡ Ok draft → is_given draft key ≡ true
+    → length (with_key key (first ∷ later)) ≡ 1
 stands_once key single format none first later draft version is given =
-    let total : bit (is_given (no_draft format) key) + length (with_key key later) ≡ bit (is_given draft key) = count_lines format key single later (no_draft format) 2 draft is in
+    let total : bit (is_given (no_draft format) key) + length (with_key key later) ≡ bit (is_given draft key) =
+    count_lines format key single later (no_draft format) 2 draft is in
     let before : bit (is_given (no_draft format) key) ≡ 0 = ap bit none in
     let after : bit (is_given draft key) ≡ 1 = ap bit given in
     let rest : length (with_key key later) ≡ 1 = omega arith in
@@ -244,24 +266,29 @@ all_words P format holds (key ∷ singles) awaited =
     let parts = and_parts (is_awaited format key) (list_all (is_awaited format) singles) awaited in
     (holds key parts.0, all_words P format holds singles parts.1)
 
-all_singles : (P : List ℕ → Type 0) (format : Format) → ((key : Key) → IsTrue (is_awaited format key) → P (key_word key)) → AllByRecursion P (single_keys format)
+all_singles : (P : List ℕ → Type 0) (format : Format) → ((key : Key) → IsTrue (is_awaited format key) → P (key_word key)) →
+    AllByRecursion P (single_keys format)
 all_singles P One holds = all_words P One holds common_keys refl
 all_singles P Two holds = all_words P Two holds (Choice LineTerm ∷ common_keys) refl
 
 -- where each key was given, each that comes once stands on one line
 all_once_of : (format : Format) (first : List ℕ) (later : List (List ℕ)) (draft : Draft) → format_of (words_of first) ≡ Some format
-    → draft_of_lines format (no_draft format) 2 later ≡ Ok draft → IsTrue (is_complete draft) → AllByRecursion (StandsOnce (first ∷ later)) (single_keys format)
+    → draft_of_lines format (no_draft format) 2 later ≡ Ok draft → IsTrue (is_complete draft)
+    → AllByRecursion (StandsOnce (first ∷ later)) (single_keys format)
 all_once_of format first later draft version is complete =
     all_singles (StandsOnce (first ∷ later)) format
     (λ key awaited.
     let parts = and_parts (is_single key) (not (is_given (no_draft format) key)) awaited in
-    stands_once key parts.0 format (not-true (is_given (no_draft format) key) parts.1) first later draft version is (each_given draft complete key))
+    stands_once key parts.0 format (not-true (is_given (no_draft format) key) parts.1) first later draft version is
+        (each_given draft complete key))
 
-pub all_once : (all : List (List ℕ)) (draft : Draft) (format : Format) → draft_of all ≡ Ok draft → format_of (words_of (get_or all 0 [])) ≡ Some format → IsTrue (is_complete draft)
+pub all_once : (all : List (List ℕ)) (draft : Draft) (format : Format) → draft_of all ≡ Ok draft →
+    format_of (words_of (get_or all 0 [])) ≡ Some format → IsTrue (is_complete draft)
     → All (λ key. length (filter (has_key key) all) ≡ 1) (single_keys format)
 all_once [] draft format is version complete = cc
 all_once (first ∷ later) draft format is version complete =
     let parts = version_given (format_of (words_of first)) later draft is in
     let same : parts.0 ≡ format = cc in
     All-from_recursion (StandsOnce (first ∷ later)) (single_keys format)
-    (all_once_of format first later draft version (subst (λ (f : Format). draft_of_lines f (no_draft f) 2 later ≡ Ok draft) same parts.2) complete)
+    (all_once_of format first later draft version
+    (subst (λ (f : Format). draft_of_lines f (no_draft f) 2 later ≡ Ok draft) same parts.2) complete)

@@ -1,5 +1,6 @@
 -- What lines gave is as a valid printer has it.
-use Rattle.std.proofs.Common.{◌≡◌, ℕ, ◌+◌, ◌==◌, ◌&&◌, Bool, false, not, List, [], ◌∷◌, ◌++◌, length, IsTrue, Option, None, Some, Result, Ok, Err, nat_lt, nat_le, arith, refl, sym, subst, inl, inr}
+use Rattle.std.proofs.Common.{◌≡◌, ℕ, ◌+◌, ◌==◌, ◌&&◌, Bool, false, not, List, [], ◌∷◌, ◌++◌, length, IsTrue, Option, None, Some, Result}
+use Rattle.std.proofs.Common.{Ok, Err, nat_lt, nat_le, arith, refl, sym, subst, inl, inr}
 use Rattle.std.specs.Prelude.{unwrap_or}
 use Rattle.std.specs.List.{list_all, list_any}
 use Rattle.std.specs.Option.{option_map_or}
@@ -24,7 +25,8 @@ use Rattle.device_profile.specs.Choices.{Choices, values_in, with_values}
 use Rattle.device_profile.specs.Draft.{Draft, no_draft, choice_of, with_choice, draft_after}
 use Rattle.device_profile.specs.Text.{format_of, words_of_line, draft_of_lines, draft_of}
 use Rattle.device_profile.proofs.ChoiceFacts.{same_or_apart}
-use Rattle.device_profile.proofs.Additions.{Addition, nothing, new_name, new_choice, new_device_trays, new_duplex, new_depth, new_memory, new_page, new_face, takes, added, adds}
+use Rattle.device_profile.proofs.Additions.{Addition, nothing, new_name, new_choice, new_device_trays, new_duplex, new_depth, new_memory}
+use Rattle.device_profile.proofs.Additions.{new_page, new_face, takes, added, adds}
 
 -- one more row fits where there is room
 one_more : {X : Type 0} (xs : List X) (x : X) → IsTrue (nat_lt (length xs) 64) → IsTrue (nat_le (length (xs ++ x ∷ [])) 64)
@@ -35,7 +37,8 @@ one_more xs x room_left =
 all_more : {X : Type 0} (p : X → Bool) (xs : List X) (x : X) → IsTrue (list_all p xs) → IsTrue (p x) → IsTrue (list_all p (xs ++ x ∷ []))
 all_more p xs x all here = rw (list_all-append p xs (x ∷ []), all, here)
 
-alike_more : {X : Type 0} (is_like : X → X → Bool) (xs : List X) (x : X) → has_alike is_like xs ≡ false → list_any (λ y. is_like y x) xs ≡ false → has_alike is_like (xs ++ x ∷ []) ≡ false
+alike_more : {X : Type 0} (is_like : X → X → Bool) (xs : List X) (x : X) → has_alike is_like xs ≡ false →
+    list_any (λ y. is_like y x) xs ≡ false → has_alike is_like (xs ++ x ∷ []) ≡ false
 alike_more is_like [] x none fresh = refl
 alike_more is_like (y ∷ ys) x none fresh =
     let before = or_parts (list_any (is_like y) ys) (has_alike is_like ys) none in
@@ -45,9 +48,11 @@ alike_more is_like (y ∷ ys) x none fresh =
     (alike_more is_like ys x before.1 here.1)
 
 -- a row that is like none leaves none like another
-differ_more : {X : Type 0} (is_like : X → X → Bool) (xs : List X) (x : X) → IsTrue (not (has_alike is_like xs)) → IsTrue (not (list_any (λ y. is_like y x) xs)) → IsTrue (not (has_alike is_like (xs ++ x ∷ [])))
+differ_more : {X : Type 0} (is_like : X → X → Bool) (xs : List X) (x : X) → IsTrue (not (has_alike is_like xs)) →
+    IsTrue (not (list_any (λ y. is_like y x) xs)) → IsTrue (not (has_alike is_like (xs ++ x ∷ [])))
 differ_more is_like xs x differ fresh =
-    not_from_false (has_alike is_like (xs ++ x ∷ [])) (alike_more is_like xs x (not-true (has_alike is_like xs) differ) (not-true (list_any (λ y. is_like y x) xs) fresh))
+    not_from_false (has_alike is_like (xs ++ x ∷ []))
+    (alike_more is_like xs x (not-true (has_alike is_like xs) differ) (not-true (list_any (λ y. is_like y x) xs) fresh))
 
 -- the values of a field are allowed, where some were given
 abbrev Fits : Field → List ℕ → Type 0
@@ -88,11 +93,13 @@ Sound-none format = record {
 }
 
 -- where new values fit their field, and the others fitted theirs
-Fits-with : (choices : Choices) (field : Field) (values : List ℕ) → Fits field values → ((other : Field) → Fits other (values_in choices other))
+Fits-with : (choices : Choices) (field : Field) (values : List ℕ) → Fits field values →
+    ((other : Field) → Fits other (values_in choices other))
     → (other : Field) → Fits other (values_in (with_values choices field values) other)
 Fits-with choices field values new before other =
     elim (same_or_apart field other) [
-      | inl are ↦ subst (λ (held : List ℕ). Fits other held) (sym (are.set choices values)) (subst (λ (f : Field). Fits f values) are.same new)
+      | inl are ↦
+          subst (λ (held : List ℕ). Fits other held) (sym (are.set choices values)) (subst (λ (f : Field). Fits f values) are.same new)
       | inr are ↦ subst (λ (held : List ℕ). Fits other held) (sym (are.second_kept choices values)) (before other)
     ]
 
@@ -108,15 +115,19 @@ Sound-added draft (new_choice field values) taken s =
     let all : (other : Field) → Fits other (choice_of (with_choice draft field values) other) =
     Fits-with draft.choices field values (with_list field (choice_of draft field) values taken) s.choices in
     assumption all
-Sound-added draft (new_device_trays values) taken s = let new : Fits Tray values = with_list Tray draft.device_trays values taken in assumption new
+Sound-added draft (new_device_trays values) taken s =
+    let new : Fits Tray values = with_list Tray draft.device_trays values taken in assumption new
 Sound-added draft (new_duplex n) taken s = assumption s
 Sound-added draft (new_depth n) taken s = let new : IsTrue (nat_le n 8) = (and_parts _ (nat_le n 8) taken).1 in assumption new
-Sound-added draft (new_memory n) taken s = let new : IsTrue (nat_le n 1_048_576) = (and_parts _ (nat_le n 1_048_576) taken).1 in assumption new
+Sound-added draft (new_memory n) taken s =
+    let new : IsTrue (nat_le n 1_048_576) = (and_parts _ (nat_le n 1_048_576) taken).1 in assumption new
 Sound-added draft (new_page row) taken s =
-    let whole = and_parts (not (has_row draft.geometries row.size row.orientation) && nat_lt (length draft.geometries) 64) (is_page row) taken in
+    let whole =
+    and_parts (not (has_row draft.geometries row.size row.orientation) && nat_lt (length draft.geometries) 64) (is_page row) taken in
     let parts = and_parts (not (has_row draft.geometries row.size row.orientation)) (nat_lt (length draft.geometries) 64) whole.0 in
     let few : IsTrue (nat_le (length (draft.geometries ++ row ∷ [])) 64) = one_more draft.geometries row parts.1 in
-    let differ : IsTrue (not (has_alike is_same_page (draft.geometries ++ row ∷ []))) = differ_more is_same_page draft.geometries row s.new_pages parts.0 in
+    let differ : IsTrue (not (has_alike is_same_page (draft.geometries ++ row ∷ []))) =
+    differ_more is_same_page draft.geometries row s.new_pages parts.0 in
     let all : IsTrue (list_all is_page (draft.geometries ++ row ∷ [])) = all_more is_page draft.geometries row s.pages whole.1 in
     assumption (few, differ, all)
 Sound-added draft (new_face face) taken s =
@@ -126,7 +137,8 @@ Sound-added draft (new_face face) taken s =
     let b = and_parts (no_id && no_request) (nat_lt (length draft.faces) 64) a.0 in
     let c = and_parts no_id no_request b.0 in
     let few : IsTrue (nat_le (length (draft.faces ++ face ∷ [])) 64) = one_more draft.faces face b.1 in
-    let ids : IsTrue (not (has_alike (λ (a : Face) (b : Face). a.id == b.id) (draft.faces ++ face ∷ []))) = differ_more (λ (a : Face) (b : Face). a.id == b.id) draft.faces face s.new_ids c.0 in
+    let ids : IsTrue (not (has_alike (λ (a : Face) (b : Face). a.id == b.id) (draft.faces ++ face ∷ []))) =
+    differ_more (λ (a : Face) (b : Face). a.id == b.id) draft.faces face s.new_ids c.0 in
     let requests : IsTrue (not (has_alike (λ (a : Face) (b : Face). is_same_request a.request b.request) (draft.faces ++ face ∷ []))) =
     differ_more (λ (a : Face) (b : Face). is_same_request a.request b.request) draft.faces face s.new_requests c.1 in
     let all : IsTrue (list_all is_face (draft.faces ++ face ∷ [])) = all_more is_face draft.faces face s.faces a.1 in
@@ -143,10 +155,12 @@ pub line_given : (given : Result Draft Cause) (more : Draft → Result Draft Pro
 line_given (Ok next) more number last is = (next, refl, is)
 line_given (Err cause) more number last is = cc
 
-Sound-of_lines : (format : Format) (lines : List (List ℕ)) (draft : Draft) (number : ℕ) (last : Draft) → draft_of_lines format draft number lines ≡ Ok last → Sound draft → Sound last
+Sound-of_lines : (format : Format) (lines : List (List ℕ)) (draft : Draft) (number : ℕ) (last : Draft) →
+    draft_of_lines format draft number lines ≡ Ok last → Sound draft → Sound last
 Sound-of_lines format [] draft number last is s = let same : draft ≡ last = cc in subst Sound same s
 Sound-of_lines format (line ∷ lines) draft number last is s =
-    let given = line_given (draft_after format draft (words_of_line line)) (λ next. draft_of_lines format next (number + 1) lines) number last is in
+    let given =
+    line_given (draft_after format draft (words_of_line line)) (λ next. draft_of_lines format next (number + 1) lines) number last is in
     let step = adds format draft (words_of_line line) given.0 given.1 in
     Sound-of_lines format lines given.0 (number + 1) last given.2 (subst Sound step.is (Sound-added draft step.addition step.taken s))
 

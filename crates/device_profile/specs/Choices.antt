@@ -1,7 +1,8 @@
 -- The values that the panel may have in each field.
 use Rattle.std.specs.Prelude.{ℕ, List, []}
 use Rattle.device_profile.specs.declared.field.Field.{Field}
-use Rattle.device_profile.specs.declared.field.Field.TheVariants.{Size, Orientation, Vmi, Font, Copies, Sides, Tray, LineTerm}
+use Rattle.device_profile.specs.declared.field.Field.TheVariants.{Size, Orientation, Vmi, Font, Copies, Sides, Tray}
+use Rattle.device_profile.specs.declared.field.Field.TheVariants.{LineTerm}
 
 -- a list of values for each field
 pub record Choices : Type 0 where

@@ -1,5 +1,6 @@
 -- What the lines of a profile's text have given so far.
-use Rattle.std.specs.Prelude.{ℕ, List, [], ◌∷◌, ◌++◌, Bool, true, false, not, ◌==◌, length, Option, None, Some, is_some, find, if◌then◌else◌, Result, Ok, Err}
+use Rattle.std.specs.Prelude.{ℕ, List, [], ◌∷◌, ◌++◌, Bool, true, false, not, ◌==◌, length, Option, None, Some, is_some}
+use Rattle.std.specs.Prelude.{find, if◌then◌else◌, Result, Ok, Err}
 use Rattle.std.specs.Option.{option_map_or, option_and_then}
 use Rattle.std.specs.Str.{bytes_eq}
 use Rattle.device_profile.specs.declared.field.Field.{Field}
@@ -8,7 +9,8 @@ use Rattle.device_profile.specs.declared.format.Format.{Format}
 use Rattle.device_profile.specs.declared.format.Format.TheVariants.{One, Two}
 use Rattle.device_profile.specs.declared.geometry.Geometry.{Geometry}
 use Rattle.device_profile.specs.declared.key.Key.{Key}
-use Rattle.device_profile.specs.declared.key.Key.TheVariants.{Name, Choice, Trays, Duplex, Depth, Memory, Page, Face as FaceRow}
+use Rattle.device_profile.specs.declared.key.Key.TheVariants.{Name, Choice, Trays, Duplex, Depth, Memory, Page}
+use Rattle.device_profile.specs.declared.key.Key.TheVariants.{Face as FaceRow}
 use Rattle.device_profile.specs.declared.fault.Cause.{Cause}
 use Rattle.device_profile.specs.declared.fault.Cause.TheVariants.{Unknown, Repeated, Range}
 use Rattle.device_profile.specs.Key.{every_key, key_word}
@@ -41,7 +43,8 @@ pub record Draft : Type 0 where
   pub geometries : List Geometry
   pub faces : List Face
 
--- the line terminations that the panel may have before a line lists them: 0 in texts of version 1, which have no such line
+-- the line terminations that the panel may have before a line lists them:
+-- 0 in texts of version 1, which have no such line
 abbrev pub line_terminations_of : Format → List ℕ
 line_terminations_of One = 0 ∷ []
 line_terminations_of Two = []
@@ -82,20 +85,27 @@ once was_given given = if was_given then Err Repeated else given
 
 -- what was given after a line of this key and these words behind it, or why the line is wrong
 abbrev pub draft_after_key : Draft → Key → List (List ℕ) → Result Draft Cause
-draft_after_key draft Name words = once draft.is_named (if is_name words then Ok (record draft { is_named = true }) else Err Range)
+draft_after_key draft Name words =
+    once draft.is_named (if is_name words then Ok (record draft { is_named = true }) else Err Range)
 draft_after_key draft (Choice field) words =
     once (not (length (choice_of draft field) == 0)) (or_cause (with_choice draft field) (values_on_line field words))
 draft_after_key draft Trays words =
-    once (not (length draft.device_trays == 0)) (or_cause (λ trays. record draft { device_trays = trays }) (values_on_line Tray words))
-draft_after_key draft Duplex words = once (is_some draft.duplex) (or_range (λ n. record draft { duplex = Some n }) (number_on_line 1 words))
-draft_after_key draft Depth words = once (is_some draft.depth) (or_range (λ n. record draft { depth = Some n }) (number_on_line 8 words))
+    once (not (length draft.device_trays == 0))
+    (or_cause (λ trays. record draft { device_trays = trays }) (values_on_line Tray words))
+draft_after_key draft Duplex words =
+    once (is_some draft.duplex) (or_range (λ n. record draft { duplex = Some n }) (number_on_line 1 words))
+draft_after_key draft Depth words =
+    once (is_some draft.depth) (or_range (λ n. record draft { depth = Some n }) (number_on_line 8 words))
 draft_after_key draft Memory words =
     once (is_some draft.memory) (or_range (λ n. record draft { memory = Some n }) (number_on_line 1_048_576 words))
 draft_after_key draft Page words =
-    or_cause (λ row. record draft { geometries = draft.geometries ++ row ∷ [] }) (geometry_on_line draft.geometries words)
-draft_after_key draft FaceRow words = or_cause (λ face. record draft { faces = draft.faces ++ face ∷ [] }) (face_on_line draft.faces words)
+    or_cause (λ row. record draft { geometries = draft.geometries ++ row ∷ [] })
+    (geometry_on_line draft.geometries words)
+draft_after_key draft FaceRow words =
+    or_cause (λ face. record draft { faces = draft.faces ++ face ∷ [] }) (face_on_line draft.faces words)
 
 -- what was given after a line of these words in a text of a version, or why the line is wrong
 abbrev pub draft_after : Format → Draft → List (List ℕ) → Result Draft Cause
 draft_after format draft [] = Ok draft
-draft_after format draft (key ∷ words) = option_map_or (λ k. draft_after_key draft k words) (key_of format key) (Err Unknown)
+draft_after format draft (key ∷ words) =
+    option_map_or (λ k. draft_after_key draft k words) (key_of format key) (Err Unknown)

@@ -1,5 +1,7 @@
 -- What a line with a face gives.
-use Rattle.std.specs.Prelude.{ℕ, ℤ, pos, neg_ℤ, ◌-◌, ◌*◌, List, [], ◌∷◌, Bool, false, ◌&&◌, ◌||◌, ◌==◌, nat_lt, length, take, drop, get_or, Option, None, Some, option_map, option_and_then, filter_map, if◌then◌else◌, Result, Ok, Err}
+use Rattle.std.specs.Prelude.{ℕ, ℤ, pos, neg_ℤ, ◌-◌, ◌*◌, List, [], ◌∷◌, Bool, false, ◌&&◌, ◌||◌, ◌==◌, nat_lt, length}
+use Rattle.std.specs.Prelude.{take, drop, get_or, Option, None, Some, option_map, option_and_then, filter_map}
+use Rattle.std.specs.Prelude.{if◌then◌else◌, Result, Ok, Err}
 use Rattle.std.specs.List.{slice_split}
 use Rattle.std.specs.Option.{option_map_or}
 use Rattle.device_profile.specs.declared.font.CodeRange.{CodeRange}
@@ -28,7 +30,8 @@ measure_of word = between 0 655_350_000 (amount_of word)
 unfoldable pub symbol_set_of : List ℕ → Option SymbolSet
 symbol_set_of word =
     let letter : ℕ = get_or word (length word - 1) 0 in
-    option_and_then (λ n. if is_set_letter letter then Some (record { number = n; letter = letter }) else None) (whole_of 65_535 (take (length word - 1) word))
+    option_and_then (λ n. if is_set_letter letter then Some (record { number = n; letter = letter }) else None)
+    (whole_of 65_535 (take (length word - 1) word))
 
 -- a number up to 7, perhaps with a minus before it
 unfoldable pub weight_of : List ℕ → Option ℤ
@@ -40,8 +43,18 @@ weight_of word =
 -- the request that symbol set, pitch, height, style, weight and typeface are; spacing is fixed
 unfoldable pub request_of : List (List ℕ) → Option FontRequest
 request_of words =
-    option_and_then (λ symbol_set. option_and_then (λ pitch. option_and_then (λ height. option_and_then (λ style. option_and_then (λ weight. option_map (λ typeface.
-    record { symbol_set = symbol_set; spacing = 0; pitch = pitch; height = height; style = style; weight = weight; typeface = typeface })
+    option_and_then (λ symbol_set.
+    option_and_then
+    (λ pitch. option_and_then (λ height. option_and_then (λ style. option_and_then (λ weight. option_map (λ typeface.
+    record {
+          symbol_set = symbol_set;
+          spacing = 0;
+          pitch = pitch;
+          height = height;
+          style = style;
+          weight = weight;
+          typeface = typeface;
+        })
     (whole_of 65_535 (get_or words 5 [])))
     (weight_of (get_or words 4 [])))
     (whole_of 65_535 (get_or words 3 [])))
@@ -53,7 +66,8 @@ request_of words =
 abbrev pub range_of_parts : List (List ℕ) → Option CodeRange
 range_of_parts [] = None
 range_of_parts (first ∷ []) = None
-range_of_parts (first ∷ last ∷ []) = option_and_then (λ f. option_map (λ l. record { first = f; last = l }) (number_of last)) (number_of first)
+range_of_parts (first ∷ last ∷ []) =
+    option_and_then (λ f. option_map (λ l. record { first = f; last = l }) (number_of last)) (number_of first)
 range_of_parts (first ∷ last ∷ more ∷ parts) = None
 
 -- the range that a word gives: its two ends with a hyphen between
@@ -71,10 +85,12 @@ codes_of word =
 abbrev pub length_between : ℕ → ℕ → List ℕ → Option ℤ
 length_between least most word = option_map of_7200ths (between least most (number_of word))
 
--- the face of these codes that eleven words give: its id, six words of the request, advance, ascent and descent, and the codes
+-- the face of these codes that eleven words give:
+-- its id, six words of the request, advance, ascent and descent, and the codes
 unfoldable pub face_with_codes : List (List ℕ) → List CodeRange → Option Face
 face_with_codes words codes =
-    option_and_then (λ id. option_and_then (λ request. option_and_then (λ advance. option_and_then (λ ascent. option_map (λ descent.
+    option_and_then
+    (λ id. option_and_then (λ request. option_and_then (λ advance. option_and_then (λ ascent. option_map (λ descent.
     record { id = id; request = request; advance = advance; ascent = ascent; descent = descent; codes = codes })
     (length_between 0 720_000 (get_or words 9 [])))
     (length_between 0 720_000 (get_or words 8 [])))
@@ -84,7 +100,8 @@ face_with_codes words codes =
 
 -- the face that eleven words give
 unfoldable pub face_of_words : List (List ℕ) → Option Face
-face_of_words words = if length words == 11 then option_and_then (face_with_codes words) (codes_of (get_or words 10 [])) else None
+face_of_words words =
+    if length words == 11 then option_and_then (face_with_codes words) (codes_of (get_or words 10 [])) else None
 
 -- whether these words begin with the id of a face
 abbrev pub repeats_id : List Face → List (List ℕ) → Bool
@@ -98,9 +115,10 @@ repeats_request faces words = option_map_or (λ request. has_request faces reque
 abbrev pub repeats_face : List Face → List (List ℕ) → Bool
 repeats_face faces words = repeats_id faces words || repeats_request faces words
 
--- The face that the words behind `face` give. An id or a request that was given before comes before all else that is wrong; there
--- is room for 64 rows.
+-- The face that the words behind `face` give.
+-- An id or a request that was given before comes before all else that is wrong; there is room for 64 rows.
 unfoldable pub face_on_line : List Face → List (List ℕ) → Result Face Cause
 face_on_line faces words =
     if repeats_face faces words then Err Repeated
-    else option_map_or (λ face. if nat_lt (length faces) 64 then Ok face else Err Range) (face_of_words words) (Err Range)
+    else option_map_or (λ face. if nat_lt (length faces) 64 then Ok face else Err Range)
+    (face_of_words words) (Err Range)

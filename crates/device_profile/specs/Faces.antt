@@ -1,5 +1,6 @@
 -- The rows in which resident faces are described.
-use Rattle.std.specs.Prelude.{ℕ, ℤ, pos, unsigned_abs, ◌+◌, ◌*◌, ◌%◌, List, [], ◌∷◌, length, Bool, true, not, ◌&&◌, ◌||◌, ◌==◌, Option, find, nat_le, int_lt, int_le}
+use Rattle.std.specs.Prelude.{ℕ, ℤ, pos, unsigned_abs, ◌+◌, ◌*◌, ◌%◌, List, [], ◌∷◌, length, Bool, true, not, ◌&&◌}
+use Rattle.std.specs.Prelude.{◌||◌, ◌==◌, Option, find, nat_le, int_lt, int_le}
 use Rattle.std.specs.Ordering.{int_eq}
 use Rattle.std.specs.List.{list_all, list_any}
 use Rattle.device_profile.specs.declared.font.CodeRange.{CodeRange}
@@ -8,8 +9,8 @@ use Rattle.device_profile.specs.declared.field.Field.TheVariants.{Font}
 use Rattle.device_profile.specs.Rows.{has_alike}
 use Rattle.device_profile.specs.Values.{is_between, is_value}
 
--- A resident face: its id, the request that it answers, how far a character moves the cursor and how far it reaches above and
--- below the baseline, in ticks, and the codes that print.
+-- A resident face: its id, the request that it answers, how far a character moves the cursor and how far it reaches
+-- above and below the baseline, in ticks, and the codes that print.
 pub record Face : Type 0 where
   pub id : ℕ
   pub request : FontRequest
@@ -69,7 +70,8 @@ is_request request =
     && nat_le request.pitch 655_350_000 && nat_le request.height 655_350_000 && is_whole_up_to 65_535 request.style
     && is_whole_up_to 7 (unsigned_abs request.weight) && is_whole_up_to 65_535 request.typeface
 
--- the id is one that the panel may name, a job can send the request, the metrics are such, and the codes stand in order from 33 on
+-- the id is one that the panel may name, a job can send the request, the metrics are such, and the codes
+-- stand in order from 33 on
 abbrev pub is_face : Face → Bool
 is_face face = is_value Font face.id && is_request face.request && has_metrics face && are_ranges_from 33 face.codes
 

@@ -1,5 +1,6 @@
 -- What a line with a page gives.
-use Rattle.std.specs.Prelude.{ℕ, List, [], ◌∷◌, Bool, false, ◌&&◌, ◌==◌, nat_lt, nat_le, length, Option, None, Some, option_and_then, if◌then◌else◌, Result, Ok, Err}
+use Rattle.std.specs.Prelude.{ℕ, List, [], ◌∷◌, Bool, false, ◌&&◌, ◌==◌, nat_lt, nat_le, length, Option, None, Some}
+use Rattle.std.specs.Prelude.{option_and_then, if◌then◌else◌, Result, Ok, Err}
 use Rattle.std.specs.List.{list_all, filter_map}
 use Rattle.std.specs.Option.{option_map_or}
 use Rattle.device_profile.specs.declared.geometry.Geometry.{Geometry}
@@ -34,8 +35,8 @@ row_of_numbers numbers = if is_page (row_of numbers) then Some (row_of numbers) 
 abbrev pub row_of_words : List (List ℕ) → Option Geometry
 row_of_words words = option_and_then row_of_numbers (row_numbers_of words)
 
--- The row that the words behind `geometry` give. A pair that was given before comes before all else that is wrong; there is
--- room for 64 rows.
+-- The row that the words behind `geometry` give.
+-- A pair that was given before comes before all else that is wrong; there is room for 64 rows.
 unfoldable pub geometry_on_line : List Geometry → List (List ℕ) → Result Geometry Cause
 geometry_on_line rows words =
     if repeats_pair rows words then Err Repeated

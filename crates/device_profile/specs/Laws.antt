@@ -7,7 +7,8 @@ use Rattle.device_profile.specs.Key.{key_word}
 use Rattle.device_profile.specs.Printer.{Printer, is_valid}
 use Rattle.device_profile.specs.Text.{format_of, words_of_line, printer_of_text}
 use Rattle.device_profile.specs.Words.{words_of}
-use Rattle.device_profile.specs.declared.field.Field.TheVariants.{Size, Orientation, Vmi, Font, Copies, Sides, Tray, LineTerm}
+use Rattle.device_profile.specs.declared.field.Field.TheVariants.{Size, Orientation, Vmi, Font, Copies, Sides, Tray}
+use Rattle.device_profile.specs.declared.field.Field.TheVariants.{LineTerm}
 use Rattle.device_profile.specs.declared.key.Key.{Key}
 use Rattle.device_profile.specs.declared.key.Key.TheVariants.{Name, Choice, Trays, Duplex, Depth, Memory}
 use Rattle.device_profile.specs.declared.format.Format.{Format}
@@ -42,10 +43,12 @@ GivesValid text = (printer : Printer) → printer_of_text text ≡ Ok printer �
 -- where a text is accepted, each key that comes once stands on one line
 abbrev pub HasEachKeyOnce : List ℕ → Type 0
 HasEachKeyOnce text =
-    (printer : Printer) (format : Format) → printer_of_text text ≡ Ok printer → format_of (words_of (get_or (lines text) 0 [])) ≡ Some format →
+    (printer : Printer) (format : Format) → printer_of_text text ≡ Ok printer →
+    format_of (words_of (get_or (lines text) 0 [])) ≡ Some format →
     All (λ key. length (filter (has_key key) (lines text)) ≡ 1) (single_keys format)
 
--- where a text is accepted, so is another with the same first line and the others in any order, and gives the same printer
+-- where a text is accepted, so is another with the same first line and the others in any order, and gives
+-- the same printer
 abbrev pub OrderIsFree : List ℕ → List ℕ → Type 0
 OrderIsFree text other =
     (printer : Printer) (first : List ℕ) (later moved : List (List ℕ)) →

@@ -2,7 +2,8 @@
 use Rattle.std.specs.Prelude.{◌≡◌}
 use Rattle.device_profile.specs.Printer.{Printer}
 
--- a printer with the device of another: its trays, whether it prints on both sides, and the depth and memory of its macros
+-- a printer with the device of another:
+-- its trays, whether it prints on both sides, and the depth and memory of its macros
 abbrev pub with_device_of : Printer → Printer → Printer
 with_device_of device printer = record printer {
   device_trays = device.device_trays;

@@ -1,16 +1,18 @@
 -- What contracts know of a printer.
-use Rattle.std.specs.Prelude.{ℕ, ◌==◌, ◌&&◌, ◌||◌, nat_le, Bool, not, IsTrue, IsSome, IsSomeAnd, List, length, slice_index, Option, find, unwrap_or, Contains, pos, ◌+ℤ◌, int_lt, int_le}
+use Rattle.std.specs.Prelude.{ℕ, ◌==◌, ◌&&◌, ◌||◌, nat_le, Bool, not, IsTrue, IsSome, IsSomeAnd, List, length}
+use Rattle.std.specs.Prelude.{slice_index, Option, find, unwrap_or, Contains, pos, ◌+ℤ◌, int_lt, int_le}
 use Rattle.std.specs.List.{list_all, list_any}
 use Rattle.device_profile.specs.declared.field.Field.{Field}
-use Rattle.device_profile.specs.declared.field.Field.TheVariants.{Size, Orientation, Vmi, Font, Copies, Sides, Tray, LineTerm}
+use Rattle.device_profile.specs.declared.field.Field.TheVariants.{Size, Orientation, Vmi, Font, Copies, Sides, Tray}
+use Rattle.device_profile.specs.declared.field.Field.TheVariants.{LineTerm}
 use Rattle.device_profile.specs.declared.geometry.Geometry.{Geometry}
 use Rattle.device_profile.specs.declared.panel.Panel.{Panel}
 use Rattle.device_profile.specs.Faces.{Face, face_at, has_face, has_metrics, is_request, are_faces}
 use Rattle.device_profile.specs.Rows.{has_alike}
 use Rattle.device_profile.specs.Values.{is_value, are_choices}
 
--- the values that the panel may have in each field, what the device has, its pages, and how many items of a job its macros may carry
--- out, where that is limited
+-- the values that the panel may have in each field, what the device has, its pages, and how many items of a job its
+-- macros may carry out, where that is limited
 pub record Printer : Type 0 where
   pub sizes : List ℕ
   pub orientations : List ℕ
@@ -99,11 +101,14 @@ geometry_at rows size orientation = unwrap_or (row_at rows size orientation) no_
 
 -- each panel that the printer may have has a page
 abbrev pub HasPages : Printer → Type 0
-HasPages printer = (panel : Panel) → IsAllowed printer panel → IsSome (row_at printer.geometries panel.size panel.orientation)
+HasPages printer =
+    (panel : Panel) → IsAllowed printer panel → IsSome (row_at printer.geometries panel.size panel.orientation)
 
 -- each panel that the printer may have has a face, with its metrics
 abbrev pub HasFaces : Printer → Type 0
-HasFaces printer = (panel : Panel) → IsAllowed printer panel → IsSomeAnd (face_at printer.faces panel.font) (λ face. IsTrue (has_metrics face))
+HasFaces printer =
+    (panel : Panel) → IsAllowed printer panel →
+    IsSomeAnd (face_at printer.faces panel.font) (λ face. IsTrue (has_metrics face))
 
 -- each field of a panel has one of its values
 pub record HasItsValues (panel : Panel) : Type 0 where
@@ -120,7 +125,8 @@ abbrev pub has_choices : Printer → Bool
 has_choices printer =
     are_choices Size printer.sizes && are_choices Orientation printer.orientations && are_choices Vmi printer.vmis
     && are_choices Font printer.fonts && are_choices Copies printer.copies && are_choices Sides printer.sides
-    && are_choices Tray printer.trays && are_choices LineTerm printer.line_terminations && are_choices Tray printer.device_trays
+    && are_choices Tray printer.trays && are_choices LineTerm printer.line_terminations
+    && are_choices Tray printer.device_trays
 
 -- whether the device has this tray
 abbrev pub has_tray : Printer → ℕ → Bool
@@ -143,7 +149,8 @@ has_what_it_offers printer =
 abbrev pub are_sides : Bool → ℕ → Bool
 are_sides has_duplex sides = (sides == 0) || (has_duplex && ((sides == 1) || (sides == 2)))
 
--- a job can set all that a panel has: the values of its fields, which the device has, and the parts of its font's request
+-- a job can set all that a panel has:
+-- the values of its fields, which the device has, and the parts of its font's request
 pub record CanBeSetTo (printer : Printer) (panel : Panel) : Type 0 where
   pub values : HasItsValues panel
   pub size : IsTrue (has_size printer.geometries panel.size)

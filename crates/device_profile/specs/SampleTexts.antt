@@ -37,8 +37,22 @@ printer_b = record printer_a { sizes = 2 ∷ []; orientations = 0 ∷ [] }
 -- the faces with a narrower face 1
 abbrev pub faces_d : List Face
 faces_d =
-    record { id = 1; request = request_3 100_000 120_000; advance = of_7200ths 700; ascent = of_7200ths 900; descent = of_7200ths 300; codes = ascii_codes }
-    ∷ record { id = 2; request = request_3 120_000 100_000; advance = of_7200ths 600; ascent = of_7200ths 750; descent = of_7200ths 250; codes = ascii_codes }
+    record {
+      id = 1;
+      request = request_3 100_000 120_000;
+      advance = of_7200ths 700;
+      ascent = of_7200ths 900;
+      descent = of_7200ths 300;
+      codes = ascii_codes;
+    }
+    ∷ record {
+      id = 2;
+      request = request_3 120_000 100_000;
+      advance = of_7200ths 600;
+      ascent = of_7200ths 750;
+      descent = of_7200ths 250;
+      codes = ascii_codes;
+    }
     ∷ []
 
 -- the printer of a sample

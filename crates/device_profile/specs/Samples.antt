@@ -35,8 +35,22 @@ request_3 pitch height = record {
 -- 10 characters an inch, 12 points high; and 12 characters an inch, 10 points high
 abbrev pub faces_a : List Face
 faces_a =
-    record { id = 1; request = request_3 100_000 120_000; advance = of_7200ths 720; ascent = of_7200ths 900; descent = of_7200ths 300; codes = ascii_codes }
-    ∷ record { id = 2; request = request_3 120_000 100_000; advance = of_7200ths 600; ascent = of_7200ths 750; descent = of_7200ths 250; codes = ascii_codes }
+    record {
+      id = 1;
+      request = request_3 100_000 120_000;
+      advance = of_7200ths 720;
+      ascent = of_7200ths 900;
+      descent = of_7200ths 300;
+      codes = ascii_codes;
+    }
+    ∷ record {
+      id = 2;
+      request = request_3 120_000 100_000;
+      advance = of_7200ths 600;
+      ascent = of_7200ths 750;
+      descent = of_7200ths 250;
+      codes = ascii_codes;
+    }
     ∷ []
 
 -- a printer with these pages and faces, duplex and two trays

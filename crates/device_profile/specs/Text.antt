@@ -1,5 +1,6 @@
 -- The printer that a profile's text describes, or the first thing wrong with the text.
-use Rattle.std.specs.Prelude.{◌≡◌, ℕ, ◌+◌, List, [], ◌∷◌, Bool, not, ◌&&◌, ◌==◌, nat_lt, length, get_or, Option, None, Some, is_some, unwrap_or, codes, if◌then◌else◌, Result, Ok, Err}
+use Rattle.std.specs.Prelude.{◌≡◌, ℕ, ◌+◌, List, [], ◌∷◌, Bool, not, ◌&&◌, ◌==◌, nat_lt, length, get_or, Option, None}
+use Rattle.std.specs.Prelude.{Some, is_some, unwrap_or, codes, if◌then◌else◌, Result, Ok, Err}
 use Rattle.std.specs.List.{list_all, list_any}
 use Rattle.std.specs.Option.{option_map_or}
 use Rattle.std.specs.Str.{bytes_eq}
@@ -13,7 +14,8 @@ use Rattle.device_profile.specs.Printer.{Printer, has_size, has_orientation, has
 use Rattle.device_profile.specs.Faces.{has_face}
 use Rattle.device_profile.specs.Words.{words_of}
 use Rattle.device_profile.specs.declared.key.Key.{Key}
-use Rattle.device_profile.specs.declared.key.Key.TheVariants.{Name, Choice, Trays, Duplex, Depth, Memory as MemoryKey, Page, Face as FaceRow}
+use Rattle.device_profile.specs.declared.key.Key.TheVariants.{Name, Choice, Trays, Duplex, Depth, Memory as MemoryKey}
+use Rattle.device_profile.specs.declared.key.Key.TheVariants.{Page, Face as FaceRow}
 use Rattle.device_profile.specs.Key.{every_key}
 use Rattle.device_profile.specs.Draft.{Draft, no_draft, choice_of, draft_after}
 
@@ -36,13 +38,15 @@ words_of_line line = if get_or line 0 0 == 35 then [] else words_of line
 abbrev pub draft_of_lines : Format → Draft → ℕ → List (List ℕ) → Result Draft ProfileFault
 draft_of_lines format draft number [] = Ok draft
 draft_of_lines format draft number (line ∷ more) =
-    elim (draft_after format draft (words_of_line line)) [ Ok next ↦ draft_of_lines format next (number + 1) more | Err cause ↦ Err (Fault number cause) ]
+    elim (draft_after format draft (words_of_line line))
+    [ Ok next ↦ draft_of_lines format next (number + 1) more | Err cause ↦ Err (Fault number cause) ]
 
 -- what all lines give
 abbrev pub draft_of : List (List ℕ) → Result Draft ProfileFault
 draft_of [] = Err (Fault 1 Version)
 draft_of (first ∷ more) =
-    option_map_or (λ format. draft_of_lines format (no_draft format) 2 more) (format_of (words_of first)) (Err (Fault 1 Version))
+    option_map_or (λ format. draft_of_lines format (no_draft format) 2 more)
+    (format_of (words_of first)) (Err (Fault 1 Version))
 
 -- whether a key was given
 abbrev pub is_given : Draft → Key → Bool
@@ -59,7 +63,8 @@ is_given draft FaceRow = nat_lt 0 (length draft.faces)
 abbrev pub is_complete : Draft → Bool
 is_complete draft = list_all (is_given draft) every_key
 
--- whether each size and each orientation of the panel has a row, and each size of a row has one with each orientation of a row
+-- whether each size and each orientation of the panel has a row, and each size of a row has one with each
+-- orientation of a row
 abbrev pub has_its_pages : Draft → Bool
 has_its_pages draft =
     list_all (λ size. has_size draft.geometries size) draft.choices.sizes
@@ -104,8 +109,8 @@ printer_of draft =
     else (if not (has_its_pages draft) then Err (Fault 0 NoGeometry)
     else (if not (has_its_choices draft) then Err (Fault 0 Range) else Ok (printer_of_draft draft)))
 
--- The printer that a text describes, or what is wrong first: a text of more than 65536 bytes, then the first faulty line, then
--- what is wrong with the whole.
+-- The printer that a text describes, or what is wrong first:
+-- a text of more than 65536 bytes, then the first faulty line, then what is wrong with the whole.
 unfoldable pub printer_of_text : List ℕ → Result Printer ProfileFault
 printer_of_text text =
     if nat_lt 65_536 (length text) then Err (Fault 0 Range)

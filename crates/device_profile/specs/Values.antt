@@ -1,9 +1,11 @@
 -- The values that a key of a profile's text may have.
-use Rattle.std.specs.Prelude.{ℕ, List, [], ◌∷◌, Bool, false, not, ◌&&◌, ◌||◌, ◌==◌, nat_le, length, Option, None, Some, if◌then◌else◌, Result, Ok, Err}
+use Rattle.std.specs.Prelude.{ℕ, List, [], ◌∷◌, Bool, false, not, ◌&&◌, ◌||◌, ◌==◌, nat_le, length, Option, None, Some}
+use Rattle.std.specs.Prelude.{if◌then◌else◌, Result, Ok, Err}
 use Rattle.std.specs.List.{list_all, list_any, filter_map}
 use Rattle.std.specs.Option.{option_and_then}
 use Rattle.device_profile.specs.declared.field.Field.{Field}
-use Rattle.device_profile.specs.declared.field.Field.TheVariants.{Size, Orientation, Vmi, Font, Copies, Sides, Tray, LineTerm}
+use Rattle.device_profile.specs.declared.field.Field.TheVariants.{Size, Orientation, Vmi, Font, Copies, Sides, Tray}
+use Rattle.device_profile.specs.declared.field.Field.TheVariants.{LineTerm}
 use Rattle.device_profile.specs.declared.fault.Cause.{Cause}
 use Rattle.device_profile.specs.declared.fault.Cause.TheVariants.{Repeated, Range}
 use Rattle.device_profile.specs.Words.{number_of, amount_of}
@@ -47,8 +49,8 @@ are_values field values = is_between 1 16 (length values) && list_all (is_value 
 abbrev pub are_choices : Field → List ℕ → Bool
 are_choices field values = are_values field values && not (has_repeat values)
 
--- The values that the words behind a key list. A number that stands twice comes before all else that is wrong; words that are no
--- numbers are not compared.
+-- The values that the words behind a key list.
+-- A number that stands twice comes before all else that is wrong; words that are no numbers are not compared.
 unfoldable pub values_on_line : Field → List (List ℕ) → Result (List ℕ) Cause
 values_on_line field words =
     let numbers : List ℕ = filter_map (value_of field) words in

@@ -1,5 +1,6 @@
 -- Words and numbers of a profile's text.
-use Rattle.std.specs.Prelude.{ℕ, ◌+◌, ◌-◌, ◌*◌, ◌^◌, List, [], ◌∷◌, Bool, ◌&&◌, ◌==◌, nat_lt, nat_le, length, filter, Option, None, Some, if◌then◌else◌}
+use Rattle.std.specs.Prelude.{ℕ, ◌+◌, ◌-◌, ◌*◌, ◌^◌, List, [], ◌∷◌, Bool, ◌&&◌, ◌==◌, nat_lt, nat_le, length, filter}
+use Rattle.std.specs.Prelude.{Option, None, Some, if◌then◌else◌}
 use Rattle.std.specs.List.{slice_split, list_all}
 use Rattle.std.specs.Option.{option_and_then, option_map}
 
@@ -32,7 +33,8 @@ decimals_of word = if are_digits 4 word then Some (value_after 0 word * 10 ^ (4 
 abbrev pub amount_of_parts : List (List ℕ) → Option ℕ
 amount_of_parts [] = None
 amount_of_parts (whole ∷ []) = option_map (λ n. n * 10_000) (number_of whole)
-amount_of_parts (whole ∷ decimals ∷ []) = option_and_then (λ n. option_map (λ d. n * 10_000 + d) (decimals_of decimals)) (number_of whole)
+amount_of_parts (whole ∷ decimals ∷ []) =
+    option_and_then (λ n. option_map (λ d. n * 10_000 + d) (decimals_of decimals)) (number_of whole)
 amount_of_parts (whole ∷ decimals ∷ more ∷ parts) = None
 
 -- the ten-thousandths of an amount

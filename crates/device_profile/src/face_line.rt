@@ -1,6 +1,9 @@
 //! A line with a face.
 ghost use Rattle.std.specs.Prelude.{◌≡◌, ◌≤◌, ◌*◌, Ok, IfOk, IfSome, MatchResult};
-ghost use Rattle.device_profile.specs.FaceLine.{length_between, measure_of, request_of, symbol_set_of, weight_of, whole_of, face_of_words, face_on_line, face_with_codes, repeats_face, repeats_id, repeats_request};
+ghost use Rattle.device_profile.specs.FaceLine.{length_between, measure_of, request_of};
+ghost use Rattle.device_profile.specs.FaceLine.{symbol_set_of, weight_of, whole_of, face_of_words};
+ghost use Rattle.device_profile.specs.FaceLine.{face_on_line, face_with_codes, repeats_face};
+ghost use Rattle.device_profile.specs.FaceLine.{repeats_id, repeats_request};
 ghost use Rattle.device_profile.specs.Faces.{has_request, is_set_letter};
 ghost use Rattle.device_profile.specs.LineFault.{IsCauseOf};
 ghost use Rattle.device_profile.specs.Words.{words_of};

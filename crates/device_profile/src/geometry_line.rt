@@ -1,6 +1,7 @@
 //! A line with a page.
 ghost use Rattle.std.specs.Prelude.{◌≡◌, ◌+ℤ◌, int_le};
-ghost use Rattle.device_profile.specs.GeometryLine.{geometry_on_line, repeats_pair, row_numbers_of, row_of_numbers, row_of_words};
+ghost use Rattle.device_profile.specs.GeometryLine.{geometry_on_line, repeats_pair, row_numbers_of};
+ghost use Rattle.device_profile.specs.GeometryLine.{row_of_numbers, row_of_words};
 ghost use Rattle.device_profile.specs.Printer.{has_row, fits_logical_page, fits_printable_area};
 ghost use Rattle.device_profile.specs.Words.{words_of};
 

@@ -2,7 +2,8 @@
 ghost use Rattle.std.specs.Prelude.{◌≡◌, ◌≤◌, Ok, MatchResult, length};
 ghost use Rattle.std.specs.Str.Lines.{lines};
 ghost use Rattle.device_profile.specs.Words.{words_of};
-ghost use Rattle.device_profile.specs.Text.{format_of, version_of, words_of_line, draft_of_lines, draft_of, printer_of_text, IsErrorOfText};
+ghost use Rattle.device_profile.specs.Text.{format_of, version_of, words_of_line, draft_of_lines};
+ghost use Rattle.device_profile.specs.Text.{draft_of, printer_of_text, IsErrorOfText};
 ghost use Rattle.device_profile.specs.Draft.{no_draft, draft_after};
 ghost use Rattle.device_profile.specs.Given.{Gives, IsFaultOf, IsGiven};
 

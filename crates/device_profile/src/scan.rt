@@ -1,5 +1,6 @@
 //! Lines, words and numbers of a profile's text.
-ghost use Rattle.std.specs.Prelude.{◌≡◌, ◌≢◌, ◌<◌, ◌≤◌, ◌==◌, ◌^◌, ◌∷◌, [], Bool, false, MatchOption, IfSome, length, take, slice_index};
+ghost use Rattle.std.specs.Prelude.{◌≡◌, ◌≢◌, ◌<◌, ◌≤◌, ◌==◌, ◌^◌, ◌∷◌, [], Bool, false};
+ghost use Rattle.std.specs.Prelude.{MatchOption, IfSome, length, take, slice_index};
 ghost use Rattle.std.specs.List.{All};
 ghost use Rattle.std.specs.Str.Lines.{lines, strip_carriage_return};
 ghost use Rattle.device_profile.specs.Words.{words_of, number_of, decimals_of, amount_of};

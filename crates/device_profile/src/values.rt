@@ -1,9 +1,11 @@
 //! The values that a line of a profile's text gives.
-ghost use Rattle.std.specs.Prelude.{◌≡◌, ◌≢◌, ◌∷◌, [], ℕ, List, length, IfOk, IsTrue, MatchOption, MatchResult, SomeIff, Ok, Err, if◌then◌else◌};
+ghost use Rattle.std.specs.Prelude.{◌≡◌, ◌≢◌, ◌∷◌, [], ℕ, List, length, IfOk, IsTrue, MatchOption};
+ghost use Rattle.std.specs.Prelude.{MatchResult, SomeIff, Ok, Err, if◌then◌else◌};
 ghost use Rattle.std.specs.List.{filter_map, list_all};
 ghost use Rattle.device_profile.specs.LineFault.{IsCauseOf};
 ghost use Rattle.device_profile.specs.declared.fault.Cause.TheVariants.{Range};
-ghost use Rattle.device_profile.specs.Values.{value_of, is_between, is_value, are_values, has_repeat, values_on_line, number_on_line, is_name};
+ghost use Rattle.device_profile.specs.Values.{value_of, is_between, is_value, are_values};
+ghost use Rattle.device_profile.specs.Values.{has_repeat, values_on_line, number_on_line, is_name};
 ghost use Rattle.device_profile.specs.Words.{words_of};
 
 use crate::fault::{Cause, LineFault};

@@ -2,7 +2,8 @@
 ghost use Rattle.std.specs.Prelude.{◌≡◌, ◌==◌, IsTrue};
 ghost use Rattle.std.specs.List.{list_all, list_any};
 ghost use Rattle.device_profile.specs.declared.fault.ProfileFault.TheVariants.{Fault};
-ghost use Rattle.device_profile.specs.Printer.{has_size, has_orientation, has_row, has_every_pair, are_sides};
+ghost use Rattle.device_profile.specs.Printer.{has_size, has_orientation, has_row, has_every_pair};
+ghost use Rattle.device_profile.specs.Printer.{are_sides};
 ghost use Rattle.device_profile.specs.Faces.{has_face};
 
 use crate::draft::Draft;

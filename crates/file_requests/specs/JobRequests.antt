@@ -19,7 +19,8 @@ use Rattle.requests.specs.declared.status.Status.{Status}
 use Rattle.requests.specs.declared.status.Status.TheVariants.{Stopped}
 use Rattle.job_reports.specs.Pipes.{RefusesPipe}
 
--- a check for the printers of these texts, so far as they are known: the line of a verdict that is right for all of them
+-- a check for the printers of these texts, so far as they are known:
+-- the line of a verdict that is right for all of them
 pub record LeavesCheck (known : List (Option (List ℕ))) (status : Status) (out out' : OutletState) : Type 0 where
   pub job : SourceState
   pub texts : List (List ℕ)
@@ -30,32 +31,45 @@ pub record LeavesCheck (known : List (Option (List ℕ))) (status : Status) (out
 -- what is due of a job by this rendering
 pub record LeavesRendered (rendering : Rendering) (status : Status) (out out' : OutletState) : Type 0 where
   pub job : SourceState
-  pub ends : EndsBy status (λ old new. LeavesText status rendering old new out out') no_source job job.failed out'.failed
+  pub ends :
+      EndsBy status (λ old new. LeavesText status rendering old new out out') no_source job job.failed out'.failed
 
 -- the pages of a job on the printer that this word names
 pub record LeavesPagesFor (word : List ℕ) (status : Status) (out out' : OutletState) : Type 0 where
   pub job : SourceState
   pub texts : List (List ℕ)
-  pub ends : EndsBy status (λ old new. LeavesPages status (IsNamed (text_named word) [] texts) old new out out') no_source job (is_stop_of_read status) out'.failed
+  pub ends : EndsBy status (λ old new. LeavesPages status (IsNamed (text_named word) [] texts) old new out out')
+      no_source job (is_stop_of_read status) out'.failed
 
 -- what a job leaves to the printer that this word names
 pub record LeavesNotesFor (word : List ℕ) (status : Status) (out out' : OutletState) : Type 0 where
   pub job : SourceState
   pub texts : List (List ℕ)
-  pub ends : EndsBy status (λ old new. LeavesNotes status (IsNamed (text_named word) [] texts) old new out out') no_source job (is_stop_of_read status) out'.failed
+  pub ends : EndsBy status (λ old new. LeavesNotes status (IsNamed (text_named word) [] texts) old new out out')
+      no_source job (is_stop_of_read status) out'.failed
 
 -- why a picture reads its job again: to draw what was found
 abbrev pub read_to_draw : List ℕ
 read_to_draw = codes "a picture is drawn at a second reading\n"
 
--- Pages of a job as pictures, from the panel that is chosen of the printer that this word names. The job is read twice; the work stops
--- where one of these reads fails, and for its turns after 2^40 reads.
-pub record LeavesPictureOfFile (word : List ℕ) (choices : List Choice) (selection : Selection) (job : List ℕ) (status : Status) (out out' err err' : OutletState) : Type 0 where
+-- Pages of a job as pictures, from the panel that is chosen of the printer that this word names.
+-- The job is read twice; the work stops where one of these reads fails, and for its turns after 2^40 reads.
+pub record LeavesPictureOfFile (word : List ℕ) (choices : List Choice) (selection : Selection) (job : List ℕ)
+    (status : Status) (out out' err err' : OutletState) : Type 0 where
   pub first : SourceState
   pub second : SourceState
   pub texts : List (List ℕ)
   pub left : LeavesPicture status (IsNamedBy [] texts (IsNamed (text_named word) [] texts)) choices selection job
-      (record { first = no_source; first' = first; second = no_source; second' = second; out = out; out' = out'; err = err; err' = err' })
+      (record {
+        first = no_source;
+        first' = first;
+        second = no_source;
+        second' = second;
+        out = out;
+        out' = out';
+        err = err;
+        err' = err';
+      })
   pub read : IsTrue (first.failed || second.failed) → IsTrue (is_stop_of_read status)
   pub write : out'.failed ≡ is_stop_of_write status
   pub turns : status ≡ Stopped Turns → HasNoEnd no_source first ⊎ HasNoEnd no_source second
@@ -64,7 +78,8 @@ pub record LeavesPictureOfFile (word : List ℕ) (choices : List Choice) (select
   pub choice : TellsOfPin status (IsNamed (text_named word) [] texts) choices err err'
 
 -- the same, unless the job is no file and is refused, since it cannot be read twice
-abbrev pub LeavesPictureFor : (word : List ℕ) → List Choice → Selection → (job : List ℕ) → Status → OutletState → OutletState → OutletState → OutletState → Type 0
+abbrev pub LeavesPictureFor : (word : List ℕ) → List Choice → Selection → (job : List ℕ) → Status → OutletState →
+    OutletState → OutletState → OutletState → Type 0
 LeavesPictureFor word choices selection job status out out' err err' =
     LeavesPictureOfFile word choices selection job status out out' err err'
     ⊎ (RefusesPipe (job ∷ []) read_to_draw status err err' × (out' ≡ out))
@@ -73,12 +88,16 @@ LeavesPictureFor word choices selection job status out out' err err' =
 pub record LeavesPlain (status : Status) (out out' : OutletState) : Type 0 where
   pub job : SourceState
   pub file : OutletState
-  pub ends : EndsBy status (λ old new. LeavesOut status plain_rendering old new no_outlet file out out') no_source job job.failed (file.failed || out'.failed)
+  pub ends : EndsBy status (λ old new. LeavesOut status plain_rendering old new no_outlet file out out') no_source job
+      job.failed (file.failed || out'.failed)
 
 -- a job that is pinned to the panel that is chosen of the printer that this word names, in a file
-pub record LeavesPin (word : List ℕ) (choices : List Choice) (status : Status) (out out' err err' : OutletState) : Type 0 where
+pub record LeavesPin (word : List ℕ) (choices : List Choice) (status : Status)
+    (out out' err err' : OutletState) : Type 0 where
   pub job : SourceState
   pub texts : List (List ℕ)
   pub file : OutletState
-  pub ends : EndsBy status (λ old new. LeavesPinned status (IsNamed (text_named word) [] texts) choices old new no_outlet file out out') no_source job (is_stop_of_read status) (file.failed || out'.failed)
+  pub ends : EndsBy status
+      (λ old new. LeavesPinned status (IsNamed (text_named word) [] texts) choices old new no_outlet file out out')
+      no_source job (is_stop_of_read status) (file.failed || out'.failed)
   pub choice : TellsOfPin status (IsNamed (text_named word) [] texts) choices err err'

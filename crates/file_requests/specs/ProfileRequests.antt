@@ -1,5 +1,5 @@
--- What the commands on profiles come to. Nothing is known of files beforehand, so this is said for some reads of them: the texts that
--- these gave, and whether one has failed.
+-- What the commands on profiles come to. Nothing is known of files beforehand, so this is said for some reads of them:
+-- the texts that these gave, and whether one has failed.
 use Rattle.std.specs.Prelude.{[], ℕ, List, Bool, Option}
 use Rattle.profile_commands.specs.ProfileFromPjl.{LeavesAnswered}
 use Rattle.profile_commands.specs.ProfileLint.{LeavesLint}
@@ -31,7 +31,8 @@ pub record LeavesSheetFor (word : List ℕ) (status : Status) (err err' : Outlet
   pub left : LeavesSheet (text_named word) word [] texts failed status no_outlet file err err'
 
 -- a profile with what the answer tells that a word names
-pub record LeavesAnsweredFor (answer : List ℕ) (base : Option (List ℕ)) (status : Status) (out out' err err' : OutletState) : Type 0 where
+pub record LeavesAnsweredFor (answer : List ℕ) (base : Option (List ℕ)) (status : Status)
+    (out out' err err' : OutletState) : Type 0 where
   pub source : SourceState
   pub texts : List (List ℕ)
   pub failed : Bool

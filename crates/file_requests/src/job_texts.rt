@@ -1,7 +1,9 @@
 //! What the program does on texts of a job by request, on files.
 ghost use Rattle.renderings.specs.Due.{list_rendering};
 ghost use Rattle.std.specs.Prelude.{◌≢◌, [], IsFalse, map};
-ghost use Rattle.file_requests.specs.JobRequests.{LeavesCheck, LeavesNotesFor, LeavesPagesFor, LeavesPictureFor, LeavesPin, LeavesPlain, LeavesRendered};
+ghost use Rattle.file_requests.specs.JobRequests.{LeavesCheck, LeavesNotesFor, LeavesPagesFor};
+ghost use Rattle.file_requests.specs.JobRequests.{LeavesPictureFor, LeavesPin, LeavesPlain};
+ghost use Rattle.file_requests.specs.JobRequests.{LeavesRendered};
 ghost use Rattle.named_inputs.specs.Texts.{text_named};
 
 use job_reports::{is_pipe, refuse_pipe};

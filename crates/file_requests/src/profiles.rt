@@ -1,6 +1,7 @@
 //! What the program does on profiles by request, on files.
 ghost use Rattle.std.specs.Prelude.{IsFalse, map, option_map};
-ghost use Rattle.file_requests.specs.ProfileRequests.{LeavesAnsweredFor, LeavesLintFor, LeavesSheetFor, LeavesShownFor};
+ghost use Rattle.file_requests.specs.ProfileRequests.{LeavesAnsweredFor, LeavesLintFor};
+ghost use Rattle.file_requests.specs.ProfileRequests.{LeavesSheetFor, LeavesShownFor};
 
 use named_inputs::{FileJobs, FileTexts, Jobs};
 use profile_commands::from_pjl::profile_from_pjl;

@@ -1,5 +1,6 @@
 -- What a call of the renderer puts, and leaves due.
-use Rattle.std.proofs.Common.{◌≡◌, ℕ, Bool, true, false, Ok, Err, List, [], ◌++◌, Option, None, Some, Result, ap, sym, ◌∙◌, subst, append_assoc}
+use Rattle.std.proofs.Common.{◌≡◌, ℕ, Bool, true, false, Ok, Err, List, [], ◌++◌, Option, None, Some, Result, ap, sym, ◌∙◌, subst}
+use Rattle.std.proofs.Common.{append_assoc}
 use Rattle.std.specs.Result.{IsErr}
 use Rattle.pcl_items.specs.declared.fault.LexCause.{LexCause}
 use Rattle.pcl_items.specs.Items.{Placed}
@@ -34,19 +35,25 @@ use Rattle.job_picture.proofs.Drawings.{item_goes, item_over, item_found, item_b
 -- ---- what was put
 
 -- behind a text that was kept more was put
-pub puts_behind : (old new : OutletState) (kept mid kept' start more : List ℕ) → mid ≡ kept ++ start → Puts old new mid kept' more → Puts old new kept kept' (start ++ more)
-puts_behind old new kept mid kept' start more started puts = Puts-trans old old new kept mid kept' start more (Puts-kept old kept mid start started) puts
+pub puts_behind : (old new : OutletState) (kept mid kept' start more : List ℕ) → mid ≡ kept ++ start → Puts old new mid kept' more →
+    Puts old new kept kept' (start ++ more)
+puts_behind old new kept mid kept' start more started puts =
+    Puts-trans old old new kept mid kept' start more (Puts-kept old kept mid start started) puts
 
 -- and behind it a text was kept
-pub puts_before : (old new : OutletState) (kept mid kept' text more : List ℕ) → Puts old new kept mid text → kept' ≡ mid ++ more → Puts old new kept kept' (text ++ more)
-puts_before old new kept mid kept' text more puts told = Puts-trans old new new kept mid kept' text more puts (Puts-kept new mid kept' more told)
+pub puts_before : (old new : OutletState) (kept mid kept' text more : List ℕ) → Puts old new kept mid text → kept' ≡ mid ++ more →
+    Puts old new kept kept' (text ++ more)
+puts_before old new kept mid kept' text more puts told =
+    Puts-trans old new new kept mid kept' text more puts (Puts-kept new mid kept' more told)
 
 -- of a text behind one that was kept a front was written
-front_behind : (old new : OutletState) (kept mid start more : List ℕ) → mid ≡ kept ++ start → AddsFront old new (mid ++ more) → AddsFront old new (kept ++ (start ++ more))
+front_behind : (old new : OutletState) (kept mid start more : List ℕ) → mid ≡ kept ++ start → AddsFront old new (mid ++ more) →
+    AddsFront old new (kept ++ (start ++ more))
 front_behind old new kept mid start more started front =
     subst (AddsFront old new) (ap (λ t. t ++ more) started ∙ append_assoc kept start more) front
 
-module _ (selection : Selection) (sentence : List ℕ) (machine : MachineState) (p : Progress) (is_started : Bool) (old new : OutletState) (kept mid kept' : List ℕ) (started : mid ≡ kept ++ start_if_due selection sentence is_started) where
+module _ (selection : Selection) (sentence : List ℕ) (machine : MachineState) (p : Progress) (is_started : Bool) (old new : OutletState)
+    (kept mid kept' : List ℕ) (started : mid ≡ kept ++ start_if_due selection sentence is_started) where
   abbrev here : State
   here = state_at any_panel machine.page
 
@@ -69,7 +76,8 @@ module _ (selection : Selection) (sentence : List ℕ) (machine : MachineState) 
     item_run = (item_of machine x.item).run any_panel
 
     -- work stopped at it
-    pub tells_front : (after : Rendering) → DrawsFront here_sheet item_run old new mid p → (r : Result (Option Outcome) Error) → IsErr r → RendersItem rendering after x old new kept kept' r
+    pub tells_front : (after : Rendering) → DrawsFront here_sheet item_run old new mid p → (r : Result (Option Outcome) Error) → IsErr r →
+        RendersItem rendering after x old new kept kept' r
     tells_front after draws r is =
         let drawn : List ℕ = drawn_events here_sheet p draws.events in
         tells_err rendering after x old new kept kept' r is (start ++ drawn) (front_behind old new kept mid start drawn started draws.front)
@@ -77,18 +85,28 @@ module _ (selection : Selection) (sentence : List ℕ) (machine : MachineState) 
 
     module _ (mid' : List ℕ) (p' : Progress) where
       -- or behind its events
-      pub tells_cut : (finding : Finding) (after : Rendering) → Draws here_sheet item_run (Halts finding) old new mid mid' p p' → (r : Result (Option Outcome) Error) → IsErr r → RendersItem rendering after x old new kept kept' r
+      pub tells_cut : (finding : Finding) (after : Rendering) → Draws here_sheet item_run (Halts finding) old new mid mid' p p' →
+          (r : Result (Option Outcome) Error) → IsErr r → RendersItem rendering after x old new kept kept' r
       tells_cut finding after draws r is =
           let drawn : List ℕ = drawn_events here_sheet p draws.events in
-          tells_front after (record { events = draws.events; others = []; is = ap (λ (r : Run). r.events) draws.is; front = Puts-cut-front old new mid mid' drawn draws.puts }) r is
+          tells_front after
+          (record {
+            events = draws.events;
+            others = [];
+            is = ap (λ (r : Run). r.events) draws.is;
+            front = Puts-cut-front old new mid mid' drawn draws.puts;
+          })
+          r is
 
       -- it went
-      pub tells_goes : (machine' : MachineState) → kept' ≡ mid' → Steps here_sheet machine machine' x.item old new mid mid' p p' (Ok None) → is_behind selection p'.page ≡ false
+      pub tells_goes : (machine' : MachineState) → kept' ≡ mid' → Steps here_sheet machine machine' x.item old new mid mid' p p' (Ok None) →
+          is_behind selection p'.page ≡ false
           → RendersItem rendering (drawn_from selection sentence machine' p' true) x old new kept kept' (Ok None)
       tells_goes machine' same steps goes =
           let draws = steps.1 in
           let drawn : List ℕ = drawn_events here_sheet p draws.events in
-          let known : is_behind selection (progress_behind_all p draws.events).page ≡ false = ap (λ (q : Progress). is_behind selection q.page) (sym draws.progress_is) ∙ goes in (
+          let known : is_behind selection (progress_behind_all p draws.events).page ≡ false =
+          ap (λ (q : Progress). is_behind selection q.page) (sym draws.progress_is) ∙ goes in (
             start ++ drawn,
             subst (λ l. Puts old new kept l (start ++ drawn)) (sym same) (puts_behind old new kept mid mid' start drawn started draws.puts),
             subst (λ q. RestGoesOn rendering (drawn_from selection sentence machine' q true) x (start ++ drawn)) (sym draws.progress_is)
@@ -96,25 +114,30 @@ module _ (selection : Selection) (sentence : List ℕ) (machine : MachineState) 
           )
 
       -- all is drawn behind it
-      pub tells_over : kept' ≡ mid' → (ending : Ending) → Draws here_sheet item_run ending old new mid mid' p p' → is_behind selection p'.page ≡ true → Ended rendering (StartsWith x) old new kept kept' (Ok AllDone)
+      pub tells_over : kept' ≡ mid' → (ending : Ending) → Draws here_sheet item_run ending old new mid mid' p p' →
+          is_behind selection p'.page ≡ true → Ended rendering (StartsWith x) old new kept kept' (Ok AllDone)
       tells_over same ending draws over =
           let drawn : List ℕ = drawn_events here_sheet p draws.events in
-          let known : is_behind selection (progress_behind_all p draws.events).page ≡ true = ap (λ (q : Progress). is_behind selection q.page) (sym draws.progress_is) ∙ over in (
+          let known : is_behind selection (progress_behind_all p draws.events).page ≡ true =
+          ap (λ (q : Progress). is_behind selection q.page) (sym draws.progress_is) ∙ over in (
             start ++ drawn,
             subst (λ l. Puts old new kept l (start ++ drawn)) (sym same) (puts_behind old new kept mid mid' start drawn started draws.puts),
             item_over selection sentence machine p is_started x draws.events draws.peaks ending draws.is known,
           )
 
       -- it had a finding
-      pub tells_found : (finding : Finding) → kept' ≡ mid' ++ failing p' → Draws here_sheet item_run (Halts finding) old new mid mid' p p' → is_behind selection p'.page ≡ false
+      pub tells_found : (finding : Finding) → kept' ≡ mid' ++ failing p' → Draws here_sheet item_run (Halts finding) old new mid mid' p p' →
+          is_behind selection p'.page ≡ false
           → Ended rendering (StartsWith x) old new kept kept' (Ok (Fail x.place 1 (FindingOfRun finding)))
       tells_found finding told draws goes =
           let drawn : List ℕ = drawn_events here_sheet p draws.events in
           let q : Progress = progress_behind_all p draws.events in
-          let known : is_behind selection q.page ≡ false = ap (λ (q : Progress). is_behind selection q.page) (sym draws.progress_is) ∙ goes in
+          let known : is_behind selection q.page ≡ false =
+          ap (λ (q : Progress). is_behind selection q.page) (sym draws.progress_is) ∙ goes in
           let told_is : kept' ≡ mid' ++ failing q = told ∙ ap (λ q. mid' ++ failing q) draws.progress_is in (
             start ++ drawn ++ failing q,
-            puts_before old new kept mid' kept' (start ++ drawn) (failing q) (puts_behind old new kept mid mid' start drawn started draws.puts) told_is,
+            puts_before old new kept mid' kept' (start ++ drawn) (failing q)
+                (puts_behind old new kept mid mid' start drawn started draws.puts) told_is,
             item_found selection sentence machine p is_started x finding draws.events draws.peaks draws.is known,
           )
 
@@ -127,52 +150,70 @@ module _ (selection : Selection) (sentence : List ℕ) (machine : MachineState) 
     abbrev IsEnd : Reading → Type 0
     IsEnd reading = reading ≡ Whole [] place
 
-    pub tells_end_front : DrawsFront here_sheet end_run old new mid p → (r : Result Outcome Error) → IsErr r → Ended rendering IsEnd old new kept kept' r
+    pub tells_end_front : DrawsFront here_sheet end_run old new mid p → (r : Result Outcome Error) → IsErr r →
+        Ended rendering IsEnd old new kept kept' r
     tells_end_front draws r is =
         let drawn : List ℕ = drawn_events here_sheet p draws.events in
         ended_err rendering IsEnd old new kept kept' r is (start ++ drawn) (front_behind old new kept mid start drawn started draws.front)
         (end_begun selection sentence machine p is_started place draws.events draws.others draws.is)
 
     module _ (mid' : List ℕ) (p' : Progress) where
-      pub tells_end_cut : (ending : Ending) → Draws here_sheet end_run ending old new mid mid' p p' → (r : Result Outcome Error) → IsErr r → Ended rendering IsEnd old new kept kept' r
+      pub tells_end_cut : (ending : Ending) → Draws here_sheet end_run ending old new mid mid' p p' → (r : Result Outcome Error) → IsErr r →
+          Ended rendering IsEnd old new kept kept' r
       tells_end_cut ending draws r is =
           let drawn : List ℕ = drawn_events here_sheet p draws.events in
-          tells_end_front (record { events = draws.events; others = []; is = ap (λ (r : Run). r.events) draws.is; front = Puts-cut-front old new mid mid' drawn draws.puts }) r is
+          tells_end_front
+          (record {
+            events = draws.events;
+            others = [];
+            is = ap (λ (r : Run). r.events) draws.is;
+            front = Puts-cut-front old new mid mid' drawn draws.puts;
+          })
+          r is
 
-      pub tells_end_over : kept' ≡ mid' → (ending : Ending) → Draws here_sheet end_run ending old new mid mid' p p' → is_behind selection p'.page ≡ true → Ended rendering IsEnd old new kept kept' (Ok AllDone)
+      pub tells_end_over : kept' ≡ mid' → (ending : Ending) → Draws here_sheet end_run ending old new mid mid' p p' →
+          is_behind selection p'.page ≡ true → Ended rendering IsEnd old new kept kept' (Ok AllDone)
       tells_end_over same ending draws over =
           let drawn : List ℕ = drawn_events here_sheet p draws.events in
-          let known : is_behind selection (progress_behind_all p draws.events).page ≡ true = ap (λ (q : Progress). is_behind selection q.page) (sym draws.progress_is) ∙ over in (
+          let known : is_behind selection (progress_behind_all p draws.events).page ≡ true =
+          ap (λ (q : Progress). is_behind selection q.page) (sym draws.progress_is) ∙ over in (
             start ++ drawn,
             subst (λ l. Puts old new kept l (start ++ drawn)) (sym same) (puts_behind old new kept mid mid' start drawn started draws.puts),
             end_over selection sentence machine p is_started place draws.events draws.peaks ending draws.is known,
           )
 
-      pub tells_end_goes : (s : State) → kept' ≡ mid' ++ end_of_all selection → Draws here_sheet end_run (Done s) old new mid mid' p p' → is_behind selection p'.page ≡ false
+      pub tells_end_goes : (s : State) → kept' ≡ mid' ++ end_of_all selection → Draws here_sheet end_run (Done s) old new mid mid' p p' →
+          is_behind selection p'.page ≡ false
           → Ended rendering IsEnd old new kept kept' (Ok (late_end selection place))
       tells_end_goes s told draws goes =
           let drawn : List ℕ = drawn_events here_sheet p draws.events in
-          let known : is_behind selection (progress_behind_all p draws.events).page ≡ false = ap (λ (q : Progress). is_behind selection q.page) (sym draws.progress_is) ∙ goes in (
+          let known : is_behind selection (progress_behind_all p draws.events).page ≡ false =
+          ap (λ (q : Progress). is_behind selection q.page) (sym draws.progress_is) ∙ goes in (
             start ++ drawn ++ end_of_all selection,
-            puts_before old new kept mid' kept' (start ++ drawn) (end_of_all selection) (puts_behind old new kept mid mid' start drawn started draws.puts) told,
+            puts_before old new kept mid' kept' (start ++ drawn) (end_of_all selection)
+                (puts_behind old new kept mid mid' start drawn started draws.puts) told,
             end_goes selection sentence machine p is_started place s draws.events draws.peaks draws.is known,
           )
 
-      pub tells_end_found : (finding : Finding) → kept' ≡ mid' ++ failing p' → Draws here_sheet end_run (Halts finding) old new mid mid' p p' → is_behind selection p'.page ≡ false
+      pub tells_end_found : (finding : Finding) → kept' ≡ mid' ++ failing p' →
+          Draws here_sheet end_run (Halts finding) old new mid mid' p p' → is_behind selection p'.page ≡ false
           → Ended rendering IsEnd old new kept kept' (Ok (Fail place 1 (FindingOfRun finding)))
       tells_end_found finding told draws goes =
           let drawn : List ℕ = drawn_events here_sheet p draws.events in
           let q : Progress = progress_behind_all p draws.events in
-          let known : is_behind selection q.page ≡ false = ap (λ (q : Progress). is_behind selection q.page) (sym draws.progress_is) ∙ goes in
+          let known : is_behind selection q.page ≡ false =
+          ap (λ (q : Progress). is_behind selection q.page) (sym draws.progress_is) ∙ goes in
           let told_is : kept' ≡ mid' ++ failing q = told ∙ ap (λ q. mid' ++ failing q) draws.progress_is in (
             start ++ drawn ++ failing q,
-            puts_before old new kept mid' kept' (start ++ drawn) (failing q) (puts_behind old new kept mid mid' start drawn started draws.puts) told_is,
+            puts_before old new kept mid' kept' (start ++ drawn) (failing q)
+                (puts_behind old new kept mid mid' start drawn started draws.puts) told_is,
             end_found selection sentence machine p is_started place finding draws.events draws.peaks draws.is known,
           )
 
   -- ---- a fault of the bytes
 
-  pub tells_fault : (place : ℕ) (cause : LexCause) → kept' ≡ mid ++ failing p → Ended rendering (λ reading. reading ≡ Stopped [] place cause) old old kept kept' (Ok (Fail place 0 (FaultOfBytes cause)))
+  pub tells_fault : (place : ℕ) (cause : LexCause) → kept' ≡ mid ++ failing p →
+      Ended rendering (λ reading. reading ≡ Stopped [] place cause) old old kept kept' (Ok (Fail place 0 (FaultOfBytes cause)))
   tells_fault place cause told = (
     start ++ failing p,
     puts_before old old kept mid kept' start (failing p) (Puts-kept old kept mid start started) told,
@@ -182,83 +223,116 @@ module _ (selection : Selection) (sentence : List ℕ) (machine : MachineState) 
   -- ---- a call of the machine on this sheet
 
   module _ (sheet : Sheet) (sheet_is : sheet ≡ here_sheet) (spot : Spot) (spot_is : spot ≡ spot_of sheet.paper here) where
-    failing_is : (p' : Progress) (mid' : List ℕ) → kept' ≡ mid' ++ (drawn_failure sheet p' spot sentence ++ end_of_all selection) → kept' ≡ mid' ++ failing p'
+    failing_is : (p' : Progress) (mid' : List ℕ) → kept' ≡ mid' ++ (drawn_failure sheet p' spot sentence ++ end_of_all selection) →
+        kept' ≡ mid' ++ failing p'
     failing_is p' mid' told =
         told
         ∙ (ap (λ (q : Spot). mid' ++ (drawn_failure sheet p' q sentence ++ end_of_all selection)) spot_is
         ∙ ap (λ (s : Sheet). mid' ++ (drawn_failure s p' (spot_of s.paper here) sentence ++ end_of_all selection)) sheet_is)
 
     module _ (x : Placed) (machine' : MachineState) (mid' : List ℕ) (p' : Progress) where
-      item_here : (r : Result (Option Finding) Error) → Steps sheet machine machine' x.item old new mid mid' p p' r → Steps here_sheet machine machine' x.item old new mid mid' p p' r
+      item_here : (r : Result (Option Finding) Error) → Steps sheet machine machine' x.item old new mid mid' p p' r →
+          Steps here_sheet machine machine' x.item old new mid mid' p p' r
       item_here r steps = subst (λ (s : Sheet). Steps s machine machine' x.item old new mid mid' p p' r) sheet_is steps
 
-      item_some : (found : Option Finding) → Steps here_sheet machine machine' x.item old new mid mid' p p' (Ok found) → (ending : Ending) × Draws here_sheet ((item_of machine x.item).run any_panel) ending old new mid mid' p p'
+      item_some : (found : Option Finding) → Steps here_sheet machine machine' x.item old new mid mid' p p' (Ok found) →
+          (ending : Ending) × Draws here_sheet ((item_of machine x.item).run any_panel) ending old new mid mid' p p'
       item_some None steps = (Done (state_at any_panel machine'.page), steps.1)
       item_some (Some finding) steps = (Halts finding, steps)
 
-      item_halts : (found : Option Finding) (finding : Finding) → found ≡ Some finding → Steps sheet machine machine' x.item old new mid mid' p p' (Ok found) → Draws here_sheet ((item_of machine x.item).run any_panel) (Halts finding) old new mid mid' p p'
-      item_halts found finding is steps = subst (λ f. Steps here_sheet machine machine' x.item old new mid mid' p p' (Ok f)) is (item_here (Ok found) steps)
+      item_halts : (found : Option Finding) (finding : Finding) → found ≡ Some finding →
+          Steps sheet machine machine' x.item old new mid mid' p p' (Ok found) →
+          Draws here_sheet ((item_of machine x.item).run any_panel) (Halts finding) old new mid mid' p p'
+      item_halts found finding is steps =
+          subst (λ f. Steps here_sheet machine machine' x.item old new mid mid' p p' (Ok f)) is (item_here (Ok found) steps)
 
-      pub item_stops : (after : Rendering) (e : Error) → Steps sheet machine machine' x.item old new mid mid' p p' (Err e) → (r : Result (Option Outcome) Error) → IsErr r → RendersItem rendering after x old new kept kept' r
+      pub item_stops : (after : Rendering) (e : Error) → Steps sheet machine machine' x.item old new mid mid' p p' (Err e) →
+          (r : Result (Option Outcome) Error) → IsErr r → RendersItem rendering after x old new kept kept' r
       item_stops after e steps r is = tells_front x after (item_here (Err e) steps) r is
 
-      pub item_ends : (found : Option Finding) → kept' ≡ mid' → Steps sheet machine machine' x.item old new mid mid' p p' (Ok found) → true ≡ is_behind selection p'.page → Ended rendering (StartsWith x) old new kept kept' (Ok AllDone)
+      pub item_ends : (found : Option Finding) → kept' ≡ mid' → Steps sheet machine machine' x.item old new mid mid' p p' (Ok found) →
+          true ≡ is_behind selection p'.page → Ended rendering (StartsWith x) old new kept kept' (Ok AllDone)
       item_ends found same steps over =
           let some = item_some found (item_here (Ok found) steps) in
           tells_over x mid' p' same some.0 some.1 (sym over)
 
-      pub item_goes_on : (found : Option Finding) → found ≡ None → kept' ≡ mid' → Steps sheet machine machine' x.item old new mid mid' p p' (Ok found) → false ≡ is_behind selection p'.page → RendersItem rendering (drawn_from selection sentence machine' p' true) x old new kept kept' (Ok None)
+      pub item_goes_on : (found : Option Finding) → found ≡ None → kept' ≡ mid' →
+          Steps sheet machine machine' x.item old new mid mid' p p' (Ok found) → false ≡ is_behind selection p'.page →
+          RendersItem rendering (drawn_from selection sentence machine' p' true) x old new kept kept' (Ok None)
       item_goes_on found none same steps goes =
-          tells_goes x mid' p' machine' same (subst (λ f. Steps here_sheet machine machine' x.item old new mid mid' p p' (Ok f)) none (item_here (Ok found) steps)) (sym goes)
+          tells_goes x mid' p' machine' same
+          (subst (λ f. Steps here_sheet machine machine' x.item old new mid mid' p p' (Ok f)) none (item_here (Ok found) steps)) (sym goes)
 
-      pub item_fails : (found : Option Finding) (finding : Finding) → found ≡ Some finding → kept' ≡ mid' ++ (drawn_failure sheet p' spot sentence ++ end_of_all selection) → Steps sheet machine machine' x.item old new mid mid' p p' (Ok found) → false ≡ is_behind selection p'.page
-          → (outcome : Outcome) → outcome ≡ Fail x.place 1 (FindingOfRun finding) → Ended rendering (StartsWith x) old new kept kept' (Ok outcome)
+      pub item_fails : (found : Option Finding) (finding : Finding) → found ≡ Some finding →
+          kept' ≡ mid' ++ (drawn_failure sheet p' spot sentence ++ end_of_all selection) →
+          Steps sheet machine machine' x.item old new mid mid' p p' (Ok found) → false ≡ is_behind selection p'.page
+          → (outcome : Outcome) → outcome ≡ Fail x.place 1 (FindingOfRun finding)
+          → Ended rendering (StartsWith x) old new kept kept' (Ok outcome)
       item_fails found finding is told steps goes outcome outcome_is =
           subst (λ o. Ended rendering (StartsWith x) old new kept kept' (Ok o)) (sym outcome_is)
           (tells_found x mid' p' finding (failing_is p' mid' told) (item_halts found finding is steps) (sym goes))
 
-      pub item_cuts : (found : Option Finding) (finding : Finding) → found ≡ Some finding → (after : Rendering) → Steps sheet machine machine' x.item old new mid mid' p p' (Ok found) → (r : Result (Option Outcome) Error) → IsErr r → RendersItem rendering after x old new kept kept' r
+      pub item_cuts : (found : Option Finding) (finding : Finding) → found ≡ Some finding → (after : Rendering) →
+          Steps sheet machine machine' x.item old new mid mid' p p' (Ok found) → (r : Result (Option Outcome) Error) → IsErr r →
+          RendersItem rendering after x old new kept kept' r
       item_cuts found finding is after steps r err = tells_cut x mid' p' finding after (item_halts found finding is steps) r err
 
     module _ (place : ℕ) (mid' : List ℕ) (p' : Progress) where
-      end_here : (r : Result (Option Finding) Error) → Finishes sheet machine old new mid mid' p p' r → Finishes here_sheet machine old new mid mid' p p' r
+      end_here : (r : Result (Option Finding) Error) → Finishes sheet machine old new mid mid' p p' r →
+          Finishes here_sheet machine old new mid mid' p p' r
       end_here r finishes = subst (λ (s : Sheet). Finishes s machine old new mid mid' p p' r) sheet_is finishes
 
-      end_some : (found : Option Finding) → Finishes here_sheet machine old new mid mid' p p' (Ok found) → (ending : Ending) × Draws here_sheet ((end_of machine).run any_panel) ending old new mid mid' p p'
+      end_some : (found : Option Finding) → Finishes here_sheet machine old new mid mid' p p' (Ok found) →
+          (ending : Ending) × Draws here_sheet ((end_of machine).run any_panel) ending old new mid mid' p p'
       end_some None finishes = (Done finishes.0, finishes.1)
       end_some (Some finding) finishes = (Halts finding, finishes)
 
-      end_halts : (found : Option Finding) (finding : Finding) → found ≡ Some finding → Finishes sheet machine old new mid mid' p p' (Ok found) → Draws here_sheet ((end_of machine).run any_panel) (Halts finding) old new mid mid' p p'
-      end_halts found finding is finishes = subst (λ f. Finishes here_sheet machine old new mid mid' p p' (Ok f)) is (end_here (Ok found) finishes)
+      end_halts : (found : Option Finding) (finding : Finding) → found ≡ Some finding →
+          Finishes sheet machine old new mid mid' p p' (Ok found) →
+          Draws here_sheet ((end_of machine).run any_panel) (Halts finding) old new mid mid' p p'
+      end_halts found finding is finishes =
+          subst (λ f. Finishes here_sheet machine old new mid mid' p p' (Ok f)) is (end_here (Ok found) finishes)
 
-      pub end_stops : (e : Error) → Finishes sheet machine old new mid mid' p p' (Err e) → (r : Result Outcome Error) → IsErr r → Ended rendering (λ reading. reading ≡ Whole [] place) old new kept kept' r
+      pub end_stops : (e : Error) → Finishes sheet machine old new mid mid' p p' (Err e) → (r : Result Outcome Error) → IsErr r →
+          Ended rendering (λ reading. reading ≡ Whole [] place) old new kept kept' r
       end_stops e finishes r is = tells_end_front place (end_here (Err e) finishes) r is
 
-      pub end_ends : (found : Option Finding) → kept' ≡ mid' → Finishes sheet machine old new mid mid' p p' (Ok found) → true ≡ is_behind selection p'.page → Ended rendering (λ reading. reading ≡ Whole [] place) old new kept kept' (Ok AllDone)
+      pub end_ends : (found : Option Finding) → kept' ≡ mid' → Finishes sheet machine old new mid mid' p p' (Ok found) →
+          true ≡ is_behind selection p'.page → Ended rendering (λ reading. reading ≡ Whole [] place) old new kept kept' (Ok AllDone)
       end_ends found same finishes over =
           let some = end_some found (end_here (Ok found) finishes) in
           tells_end_over place mid' p' same some.0 some.1 (sym over)
 
-      pub end_goes_on : (found : Option Finding) → found ≡ None → kept' ≡ mid' ++ end_of_all selection → Finishes sheet machine old new mid mid' p p' (Ok found) → false ≡ is_behind selection p'.page
-          → (outcome : Outcome) → outcome ≡ late_end selection place → Ended rendering (λ reading. reading ≡ Whole [] place) old new kept kept' (Ok outcome)
+      pub end_goes_on : (found : Option Finding) → found ≡ None → kept' ≡ mid' ++ end_of_all selection →
+          Finishes sheet machine old new mid mid' p p' (Ok found) → false ≡ is_behind selection p'.page
+          → (outcome : Outcome) → outcome ≡ late_end selection place
+          → Ended rendering (λ reading. reading ≡ Whole [] place) old new kept kept' (Ok outcome)
       end_goes_on found none told finishes goes outcome outcome_is =
-          let done : Finishes here_sheet machine old new mid mid' p p' (Ok None) = subst (λ f. Finishes here_sheet machine old new mid mid' p p' (Ok f)) none (end_here (Ok found) finishes) in
+          let done : Finishes here_sheet machine old new mid mid' p p' (Ok None) =
+          subst (λ f. Finishes here_sheet machine old new mid mid' p p' (Ok f)) none (end_here (Ok found) finishes) in
           subst (λ o. Ended rendering (λ reading. reading ≡ Whole [] place) old new kept kept' (Ok o)) (sym outcome_is)
           (tells_end_goes place mid' p' done.0 told done.1 (sym goes))
 
-      pub end_fails : (found : Option Finding) (finding : Finding) → found ≡ Some finding → kept' ≡ mid' ++ (drawn_failure sheet p' spot sentence ++ end_of_all selection) → Finishes sheet machine old new mid mid' p p' (Ok found) → false ≡ is_behind selection p'.page
-          → (outcome : Outcome) → outcome ≡ Fail place 1 (FindingOfRun finding) → Ended rendering (λ reading. reading ≡ Whole [] place) old new kept kept' (Ok outcome)
+      pub end_fails : (found : Option Finding) (finding : Finding) → found ≡ Some finding →
+          kept' ≡ mid' ++ (drawn_failure sheet p' spot sentence ++ end_of_all selection) →
+          Finishes sheet machine old new mid mid' p p' (Ok found) → false ≡ is_behind selection p'.page
+          → (outcome : Outcome) → outcome ≡ Fail place 1 (FindingOfRun finding)
+          → Ended rendering (λ reading. reading ≡ Whole [] place) old new kept kept' (Ok outcome)
       end_fails found finding is told finishes goes outcome outcome_is =
           subst (λ o. Ended rendering (λ reading. reading ≡ Whole [] place) old new kept kept' (Ok o)) (sym outcome_is)
           (tells_end_found place mid' p' finding (failing_is p' mid' told) (end_halts found finding is finishes) (sym goes))
 
-      pub end_cuts : (found : Option Finding) → Finishes sheet machine old new mid mid' p p' (Ok found) → (r : Result Outcome Error) → IsErr r → Ended rendering (λ reading. reading ≡ Whole [] place) old new kept kept' r
+      pub end_cuts : (found : Option Finding) → Finishes sheet machine old new mid mid' p p' (Ok found) → (r : Result Outcome Error) →
+          IsErr r → Ended rendering (λ reading. reading ≡ Whole [] place) old new kept kept' r
       end_cuts found finishes r err =
           let some = end_some found (end_here (Ok found) finishes) in
           tells_end_cut place mid' p' some.0 some.1 r err
 
     -- and a fault of the bytes
-    pub fault_fails : (place : ℕ) (cause : LexCause) → old ≡ new → kept' ≡ mid ++ (drawn_failure sheet p spot sentence ++ end_of_all selection) → (outcome : Outcome) → outcome ≡ Fail place 0 (FaultOfBytes cause)
+    pub fault_fails : (place : ℕ) (cause : LexCause) → old ≡ new →
+        kept' ≡ mid ++ (drawn_failure sheet p spot sentence ++ end_of_all selection) → (outcome : Outcome) →
+        outcome ≡ Fail place 0 (FaultOfBytes cause)
         → Ended rendering (λ reading. reading ≡ Stopped [] place cause) old old kept kept' (Ok outcome)
     fault_fails place cause same told outcome outcome_is =
-        subst (λ o. Ended rendering (λ reading. reading ≡ Stopped [] place cause) old old kept kept' (Ok o)) (sym outcome_is) (tells_fault place cause (failing_is p mid told))
+        subst (λ o. Ended rendering (λ reading. reading ≡ Stopped [] place cause) old old kept kept' (Ok o)) (sym outcome_is)
+        (tells_fault place cause (failing_is p mid told))

@@ -22,7 +22,8 @@ use Rattle.requests.specs.declared.selection.Selection.{Selection}
 use Rattle.requests.specs.declared.selection.Selection.TheVariants.{All, One}
 use Rattle.job_picture.specs.Progress.{first_page, progress_behind_all}
 use Rattle.requests.specs.Selection.{is_behind}
-use Rattle.job_picture.specs.Sheet.{drawn_events, drawn_failure, end_of_all, sheet_of, spot_of, start_if_due, start_of_all}
+use Rattle.job_picture.specs.Sheet.{drawn_events, drawn_failure, end_of_all, sheet_of, spot_of, start_if_due}
+use Rattle.job_picture.specs.Sheet.{start_of_all}
 
 -- what is written from somewhere on, and what comes of it
 pub record Drawing : Type 0 where
@@ -39,7 +40,8 @@ then_draws text drawing = record { text = text ++ drawing.text; outcome = drawin
 abbrev pub drawn_out : Drawing
 drawn_out = record { text = []; outcome = AllDone }
 
--- What the end of a job comes to behind which more would be drawn: a job that ends before the page that is wanted is too short.
+-- What the end of a job comes to behind which more would be drawn:
+-- a job that ends before the page that is wanted is too short.
 abbrev pub late_end : Selection → ℕ → Outcome
 late_end All place = AllDone
 late_end (One number) place = Fail place 0 (FaultOfBytes Truncated)
@@ -51,7 +53,9 @@ at_the_end selection place = record { text = end_of_all selection; outcome = lat
 -- a failure, which ends the page that is open, where the cursor stood so
 abbrev pub at_failure : Selection → (sentence : List ℕ) → Printer → State → Progress → Outcome → Drawing
 at_failure selection sentence printer s p outcome = record {
-  text = drawn_failure (sheet_of selection sentence printer s) p (spot_of (geometry_of printer s) s) sentence ++ end_of_all selection;
+  text =
+      drawn_failure (sheet_of selection sentence printer s) p (spot_of (geometry_of printer s) s) sentence
+      ++ end_of_all selection;
   outcome = outcome;
 }
 
@@ -62,27 +66,32 @@ abbrev pub behind_ending : Ending → (State → Drawing) → (Finding → Drawi
 behind_ending (Done t) next failed = next t
 behind_ending (Halts finding) next failed = failed finding
 
--- Of an item, or of the end of the bytes, at a place, that ran so from this state; and then what follows. It draws on the sheet that the
--- page has before it: an item that changes the sheet ends its page first, and marks nothing behind that. Behind the last page that is drawn
--- nothing matters.
-abbrev pub run_drawing : Selection → (sentence : List ℕ) → Printer → Progress → State → ℕ → Run → (Progress → State → Drawing) → Drawing
+-- Of an item, or of the end of the bytes, at a place, that ran so from this state; and then what follows. It draws on
+-- the sheet that the page has before it: an item that changes the sheet ends its page first, and marks nothing behind
+-- that. Behind the last page that is drawn nothing matters.
+abbrev pub run_drawing : Selection → (sentence : List ℕ) → Printer → Progress → State → ℕ → Run →
+    (Progress → State → Drawing) → Drawing
 run_drawing selection sentence printer p s place r next =
     let p' = progress_behind_all p r.events in
     then_draws (drawn_events (sheet_of selection sentence printer s) p r.events)
     (if is_behind selection p'.page then drawn_out
-    else (behind_ending r.ending (next p') (λ finding. at_failure selection sentence printer s p' (Fail place 1 (FindingOfRun finding)))))
+    else (behind_ending r.ending (next p') (λ finding.
+        at_failure selection sentence printer s p' (Fail place 1 (FindingOfRun finding)))))
 
 -- of items, and then what comes last
-abbrev pub items_drawing : Selection → (sentence : List ℕ) → Printer → Settings → (Progress → Store → State → Drawing) → Progress → List Placed → Store → State → Drawing
+abbrev pub items_drawing : Selection → (sentence : List ℕ) → Printer → Settings → (Progress → Store → State → Drawing) →
+    Progress → List Placed → Store → State → Drawing
 items_drawing selection sentence printer defaults finally p [] macros s = finally p macros s
 items_drawing selection sentence printer defaults finally p (x ∷ items) macros s =
     run_drawing selection sentence printer p s x.place (job_item_run (with_macros printer defaults macros) x.item s)
-    (λ p' t. items_drawing selection sentence printer defaults finally p' items (macros_after s.settings.job.macro_id x.item macros) t)
+    (λ p' t. items_drawing selection sentence printer defaults finally p' items
+    (macros_after s.settings.job.macro_id x.item macros) t)
 
 -- of the end of the bytes
 abbrev pub end_drawing : Selection → (sentence : List ℕ) → Printer → Settings → ℕ → Progress → Store → State → Drawing
 end_drawing selection sentence printer defaults place p macros s =
-    run_drawing selection sentence printer p s place (job_end_run (with_macros printer defaults macros) s) (λ p' t. at_the_end selection place)
+    run_drawing selection sentence printer p s place (job_end_run (with_macros printer defaults macros) s)
+    (λ p' t. at_the_end selection place)
 
 -- of a fault of the bytes
 abbrev pub fault_drawing : Selection → (sentence : List ℕ) → Printer → ℕ → LexCause → Progress → Store → State → Drawing
@@ -90,11 +99,14 @@ fault_drawing selection sentence printer place cause p macros s =
     at_failure selection sentence printer s p (Fail place 0 (FaultOfBytes cause))
 
 -- of the items of a job and its end, or of the items before a fault and of the fault
-abbrev pub reading_drawing : Selection → (sentence : List ℕ) → Printer → Settings → Progress → Reading → Store → State → Drawing
+abbrev pub reading_drawing : Selection → (sentence : List ℕ) → Printer → Settings → Progress → Reading → Store → State →
+    Drawing
 reading_drawing selection sentence printer defaults p (Whole items place) macros s =
-    items_drawing selection sentence printer defaults (end_drawing selection sentence printer defaults place) p items macros s
+    items_drawing selection sentence printer defaults
+    (end_drawing selection sentence printer defaults place) p items macros s
 reading_drawing selection sentence printer defaults p (Stopped items place cause) macros s =
-    items_drawing selection sentence printer defaults (fault_drawing selection sentence printer place cause) p items macros s
+    items_drawing selection sentence printer defaults
+    (fault_drawing selection sentence printer place cause) p items macros s
 
 -- ---- what a fault adds
 
@@ -105,14 +117,18 @@ added_at_ending (Halts finding) next = []
 -- a text behind a run that goes on; behind one that ends the drawing none is added
 abbrev pub added_behind : Selection → Progress → Run → (Progress → State → List ℕ) → List ℕ
 added_behind selection p r next =
-    let p' = progress_behind_all p r.events in if is_behind selection p'.page then [] else (added_at_ending r.ending (next p'))
+    let p' = progress_behind_all p r.events in
+    if is_behind selection p'.page then [] else (added_at_ending r.ending (next p'))
 
 -- the failure, behind items
-abbrev pub fault_behind : Selection → (sentence : List ℕ) → Printer → Settings → ℕ → LexCause → Progress → List Placed → Store → State → List ℕ
-fault_behind selection sentence printer defaults place cause p [] macros s = (fault_drawing selection sentence printer place cause p macros s).text
+abbrev pub fault_behind : Selection → (sentence : List ℕ) → Printer → Settings → ℕ → LexCause → Progress → List Placed →
+    Store → State → List ℕ
+fault_behind selection sentence printer defaults place cause p [] macros s =
+    (fault_drawing selection sentence printer place cause p macros s).text
 fault_behind selection sentence printer defaults place cause p (x ∷ items) macros s =
     added_behind selection p (job_item_run (with_macros printer defaults macros) x.item s)
-    (λ p' t. fault_behind selection sentence printer defaults place cause p' items (macros_after s.settings.job.macro_id x.item macros) t)
+    (λ p' t. fault_behind selection sentence printer defaults place cause p' items
+    (macros_after s.settings.job.macro_id x.item macros) t)
 
 -- what stands before all pages is put with the first item
 abbrev pub started_behind : Bool → List Placed → Bool
@@ -126,7 +142,8 @@ abbrev pub job_drawing : Printer → Panel → Selection → (sentence : List �
 job_drawing printer panel selection sentence reading =
     let defaults : Settings = user_defaults unwatched panel in
     then_draws (start_of_all selection sentence)
-    (reading_drawing selection sentence printer defaults first_page reading (no_macros printer.memory) (start_state printer.most_items defaults))
+    (reading_drawing selection sentence printer defaults first_page reading (no_macros printer.memory)
+    (start_state printer.most_items defaults))
 
 abbrev pub picture_rendering : Printer → Panel → Selection → (sentence : List ℕ) → Rendering
 picture_rendering printer panel selection sentence = record {
@@ -135,5 +152,6 @@ picture_rendering printer panel selection sentence = record {
   at_fault = λ items place cause.
       let defaults : Settings = user_defaults unwatched panel in
       start_if_due selection sentence (started_behind false items)
-      ++ fault_behind selection sentence printer defaults place cause first_page items (no_macros printer.memory) (start_state printer.most_items defaults);
+      ++ fault_behind selection sentence printer defaults place cause first_page items (no_macros printer.memory)
+          (start_state printer.most_items defaults);
 }

@@ -6,7 +6,8 @@ use Rattle.page_env.specs.Places.{geometry_of}
 use Rattle.page_env.specs.Settings.{State}
 use Rattle.page_machine.specs.Event.{Event, Marked, Ended}
 use Rattle.page_picture.specs.Marks.{mark_picture}
-use Rattle.page_picture.specs.Sheet.{head_picture, foot_picture, failure_picture, sentence_picture, document_start, document_end}
+use Rattle.page_picture.specs.Sheet.{head_picture, foot_picture, failure_picture, sentence_picture, document_start}
+use Rattle.page_picture.specs.Sheet.{document_end}
 use Rattle.job_picture.specs.declared.progress.Progress.{Progress}
 use Rattle.requests.specs.declared.selection.Selection.{Selection}
 use Rattle.requests.specs.declared.selection.Selection.TheVariants.{All, One}
@@ -39,7 +40,8 @@ spot_of paper s = record { x = cursor_x paper s; y = cursor_y paper s }
 
 -- the head of a page stands before the first that is drawn of it
 abbrev pub due_head : Sheet → Progress → List ℕ
-due_head sheet p = if p.is_marked then [] else head_picture sheet.paper sheet.has_sentence (has_patterns sheet.selection p.page)
+due_head sheet p =
+    if p.is_marked then [] else head_picture sheet.paper sheet.has_sentence (has_patterns sheet.selection p.page)
 
 abbrev pub event_picture : Event → List ℕ
 event_picture (Marked mark) = mark_picture mark

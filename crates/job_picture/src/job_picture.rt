@@ -6,7 +6,8 @@ ghost use Rattle.renderings.specs.Carriers.PageRendering.{any_panel};
 ghost use Rattle.renderings.specs.Due.{Renders};
 ghost use Rattle.job_picture.specs.Carriers.Rest.{drawn_from};
 ghost use Rattle.job_picture.specs.JobPicture.{late_end, picture_rendering};
-ghost use Rattle.job_picture.specs.Sheet.{drawn_failure, end_of_all, sheet_of, spot_of, start_if_due};
+ghost use Rattle.job_picture.specs.Sheet.{drawn_failure, end_of_all, sheet_of, spot_of};
+ghost use Rattle.job_picture.specs.Sheet.{start_if_due};
 
 use crate::drawing::{finish_on, step_on};
 use crate::places::{cursor_x, cursor_y, paper_of};

@@ -12,11 +12,14 @@ three_appended (Ok x) old one two new a b c text first second third is =
 three_appended (Err e) old one two new a b c text first second third is = tt
 
 pub four_appended : {T E : Type 0} (answer : Result T E) (old one two three new a b c d text : List ℕ) →
-    one ≡ old ++ a → two ≡ one ++ b → three ≡ two ++ c → new ≡ (if is_ok answer then three ++ d else three) → text ≡ a ++ b ++ c ++ d → OnOk answer (new ≡ old ++ text)
+    one ≡ old ++ a → two ≡ one ++ b → three ≡ two ++ c → new ≡ (if is_ok answer then three ++ d else three) → text ≡ a ++ b ++ c ++ d →
+    OnOk answer (new ≡ old ++ text)
 four_appended answer old one two three new a b c d text first second third fourth is =
     three_appended answer old two three new (a ++ b) c d text (second ∙ ap (λ l. l ++ b) first ∙ append_assoc old a b) third fourth is
 
 pub five_appended : {T E : Type 0} (answer : Result T E) (old one two three four new a b c d e text : List ℕ) →
-    one ≡ old ++ a → two ≡ one ++ b → three ≡ two ++ c → four ≡ three ++ d → new ≡ (if is_ok answer then four ++ e else four) → text ≡ a ++ b ++ c ++ d ++ e → OnOk answer (new ≡ old ++ text)
+    one ≡ old ++ a → two ≡ one ++ b → three ≡ two ++ c → four ≡ three ++ d → new ≡ (if is_ok answer then four ++ e else four) →
+    text ≡ a ++ b ++ c ++ d ++ e → OnOk answer (new ≡ old ++ text)
 five_appended answer old one two three four new a b c d e text first second third fourth fifth is =
-    four_appended answer old two three four new (a ++ b) c d e text (second ∙ ap (λ l. l ++ b) first ∙ append_assoc old a b) third fourth fifth is
+    four_appended answer old two three four new (a ++ b) c d e text
+    (second ∙ ap (λ l. l ++ b) first ∙ append_assoc old a b) third fourth fifth is

@@ -58,7 +58,8 @@ line_of_fault : job_line (report_of false faulty None) ≡ codes "FAIL at=9 1 Sy
 unfolding digits
 line_of_fault = refl
 
-line_of_unread : job_line (report_of true (Err Read) gone) ≡ codes "ERROR read printer=counter in/note 4712.pcl: No such file or directory\n"
+line_of_unread :
+    job_line (report_of true (Err Read) gone) ≡ codes "ERROR read printer=counter in/note 4712.pcl: No such file or directory\n"
 line_of_unread = refl
 
 sentence_of_pass : job_sentence (report_of false passed None) ≡ codes "in/note 4712.pcl: each printer prints this job (pages=1 marks=22)\n"
@@ -66,15 +67,18 @@ unfolding digits
 sentence_of_pass = refl
 
 sentence_of_finding : job_sentence (report_of false refused None)
-    ≡ codes "in/note 4712.pcl: export-desk refuses this job at byte 134, ESC &l2A: the printer does not have this size, orientation, tray or sides (11 NotOnDevice)\n"
+    ≡ codes
+    "in/note 4712.pcl: export-desk refuses this job at byte 134, ESC &l2A: the printer does not have this size, orientation, tray or sides (11 NotOnDevice)\n"
 unfolding digits
 sentence_of_finding = refl
 
-sentence_of_fault : job_sentence (report_of false faulty None) ≡ codes "in/note 4712.pcl: each printer refuses this job at byte 9: the bytes here are no command (1 Syntax)\n"
+sentence_of_fault : job_sentence (report_of false faulty None)
+    ≡ codes "in/note 4712.pcl: each printer refuses this job at byte 9: the bytes here are no command (1 Syntax)\n"
 unfolding digits
 sentence_of_fault = refl
 
-sentence_of_unread : job_sentence (report_of true (Err Read) gone) ≡ codes "in/note 4712.pcl: this job cannot be read for counter: No such file or directory (ERROR read)\n"
+sentence_of_unread : job_sentence (report_of true (Err Read) gone)
+    ≡ codes "in/note 4712.pcl: this job cannot be read for counter: No such file or directory (ERROR read)\n"
 sentence_of_unread = refl
 
 refused_at_line : refused_profile_sentence 1 (codes "bad.profile") 3 Repeated
@@ -87,5 +91,6 @@ refused_as_whole : refused_profile_sentence 2 (codes "bad.profile") 0 Range
 unfolding digits
 refused_as_whole = refl
 
-unread : unread_profile_sentence (codes "gone.profile") gone ≡ codes "gone.profile: this profile cannot be read: No such file or directory (ERROR read)\n"
+unread : unread_profile_sentence (codes "gone.profile") gone
+    ≡ codes "gone.profile: this profile cannot be read: No such file or directory (ERROR read)\n"
 unread = refl

@@ -1,5 +1,6 @@
 -- A sentence is short, and has no control code before its end.
-use Rattle.std.proofs.Common.{ℕ, ◌-◌, ◌^◌, ◌==◌, ◌<◌, ◌≤◌, List, [], ◌∷◌, ◌++◌, length, codes, refl, arith, get_or, Option, None, Some, Result, Ok, Err}
+use Rattle.std.proofs.Common.{ℕ, ◌-◌, ◌^◌, ◌==◌, ◌<◌, ◌≤◌, List, [], ◌∷◌, ◌++◌, length, codes, refl, arith, get_or, Option, None, Some}
+use Rattle.std.proofs.Common.{Result, Ok, Err}
 use Rattle.std.specs.Prelude.{IfOk, decimal, flat_map}
 use Rattle.std.specs.Fmt.{signed_decimal}
 use Rattle.std.specs.List.{AllByRecursion}
@@ -33,7 +34,8 @@ use Rattle.verdict.specs.declared.verdict.Verdict.TheVariants.{Pass, Fail}
 use Rattle.verdict.specs.Numbers.{cause_number, reason_number}
 use Rattle.line_words.specs.Figures.{escaped_byte, named}
 use Rattle.device_profile.specs.Field.{field_name}
-use Rattle.line_words.specs.Reason.{bare_cause_name, bare_finding_name, bare_name, brackets, name_words, reason_words, short_cause, short_finding, short_reason, named_byte}
+use Rattle.line_words.specs.Reason.{bare_cause_name, bare_finding_name, bare_name, brackets, name_words, reason_words, short_cause}
+use Rattle.line_words.specs.Reason.{short_finding, short_reason, named_byte}
 use Rattle.shown_bytes.specs.Shown.{shown, shown_byte}
 use Rattle.preflight.specs.declared.culprit.Culprit.{Culprit}
 use Rattle.preflight.specs.declared.culprit.Culprit.TheVariants.{Text, Simple, WithData, Line}
@@ -41,10 +43,13 @@ use Rattle.preflight.specs.declared.culprit.Judgement.{Judgement}
 use Rattle.streams.specs.declared.error.Error.{Error}
 use Rattle.streams.specs.declared.error.Error.TheVariants.{Memory, Read, Write, Turns, NoProfile, Items}
 use Rattle.job_reports.specs.CommandWords.{code_words, command_words}
-use Rattle.job_reports.specs.JobSentences.{AreNumbers, IsCulpritOfNumbers, IsOfParts, IsSentence, IsVerdictOfNumbers, IsWithin, answer_phrase, at_command, cause_phrase, error_phrase, first_of, for_printer, job_sentence, last_of, named_first, reason_phrase, subject, verdict_phrase}
+use Rattle.job_reports.specs.JobSentences.{AreNumbers, IsCulpritOfNumbers, IsOfParts, IsSentence, IsVerdictOfNumbers, IsWithin}
+use Rattle.job_reports.specs.JobSentences.{answer_phrase, at_command, cause_phrase, error_phrase, first_of, for_printer, job_sentence}
+use Rattle.job_reports.specs.JobSentences.{last_of, named_first, reason_phrase, subject, verdict_phrase}
 use Rattle.job_reports.specs.Reports.{Reported, culprit_of, number_told, verdict_of}
 use Rattle.requests.specs.Status.{error_words}
-use Rattle.job_reports.proofs.Within.{code_part, decimal_part, escaped_part, first_part, flat_part, joined, last_part, literal, name_at, named_part, nothing, one_of, shown_byte_part, shown_part, wider}
+use Rattle.job_reports.proofs.Within.{code_part, decimal_part, escaped_part, first_part, flat_part, joined, last_part, literal, name_at}
+use Rattle.job_reports.proofs.Within.{named_part, nothing, one_of, shown_byte_part, shown_part, wider}
 
 -- ---- the item that a job fails at
 
@@ -55,7 +60,8 @@ sign_short Minus = omega arith
 
 number_short : (number : Number) → length (amount_text (amount number)) ≤ 17
 number_short number =
-    omega (arith, length-append (sign_text number.sign) (magnitude_text number.ten_thousandths), sign_short number.sign, (setting_spelled number.ten_thousandths number.within).field.short)
+    omega (arith, length-append (sign_text number.sign) (magnitude_text number.ten_thousandths), sign_short number.sign,
+    (setting_spelled number.ten_thousandths number.within).field.short)
 
 simple_short : (item : SimpleItem) → length (canon (simple_view item)) ≤ 36
 simple_short simple.CarriageReturn = omega arith
@@ -81,7 +87,8 @@ simple_short (simple.Move motion None) = omega arith
 simple_short (simple.Move motion (Some to)) =
     let x : List ℕ = signed_decimal to.x.units in
     let y : List ℕ = signed_decimal to.y.units in
-    omega (arith, length-append x (44 ∷ y), length-append (x ++ 44 ∷ y) (59 ∷ []), (coordinate_spelled to.x.units to.x.within).numeral.short, (coordinate_spelled to.y.units to.y.within).numeral.short)
+    omega (arith, length-append x (44 ∷ y), length-append (x ++ 44 ∷ y) (59 ∷ []),
+    (coordinate_spelled to.x.units to.x.within).numeral.short, (coordinate_spelled to.y.units to.y.within).numeral.short)
 simple_short simple.ExitLanguage = omega arith
 
 simple_part : (item : SimpleItem) → IsWithin 144 (flat_map code_words (canon (simple_view item)))
@@ -90,11 +97,16 @@ simple_part item =
     wider 144 (flat_map code_words text) (omega (arith, simple_short item)) (flat_part code_words code_part text)
 
 counting_part : (command : DataCommand) (count : ℕ) → count < 2 ^ 64 → IsWithin 144 (command_words (WithData command count))
-counting_part TransparentText count h = wider 144 _ (omega arith) (joined (codes "ESC &p") _ (literal 6 _ refl refl) (joined (decimal count) (88 ∷ []) (decimal_part count h) (literal 1 _ refl refl)))
-counting_part RasterRow count h = wider 144 _ (omega arith) (joined (codes "ESC *b") _ (literal 6 _ refl refl) (joined (decimal count) (87 ∷ []) (decimal_part count h) (literal 1 _ refl refl)))
+counting_part TransparentText count h =
+    wider 144 _ (omega arith)
+    (joined (codes "ESC &p") _ (literal 6 _ refl refl) (joined (decimal count) (88 ∷ []) (decimal_part count h) (literal 1 _ refl refl)))
+counting_part RasterRow count h =
+    wider 144 _ (omega arith)
+    (joined (codes "ESC *b") _ (literal 6 _ refl refl) (joined (decimal count) (87 ∷ []) (decimal_part count h) (literal 1 _ refl refl)))
 
 command_part : (culprit : Culprit) → IsCulpritOfNumbers (Some culprit) → IsWithin 144 (command_words culprit)
-command_part (Text code) h = wider 144 _ (omega arith) (joined (codes "character ") (escaped_byte code) (literal 10 _ refl refl) (escaped_part code))
+command_part (Text code) h =
+    wider 144 _ (omega arith) (joined (codes "character ") (escaped_byte code) (literal 10 _ refl refl) (escaped_part code))
 command_part (Simple item) h = simple_part item
 command_part (WithData command count) h = counting_part command count h
 command_part Line h = literal 144 _ refl refl
@@ -145,14 +157,19 @@ name_words_part : (name : Name) → IsWithin 9 (name_words name)
 name_words_part (fault_names.Byte b) = wider 9 _ (omega arith) (shown_part b)
 name_words_part (fault_names.Pair a b) = wider 9 _ (omega arith) (joined (named_byte a) (named_byte b) (shown_part a) (shown_part b))
 name_words_part (fault_names.Command group letter) =
-    joined (named_byte (introducer_of group) ++ named_byte (character_of group)) (named_byte letter) (joined (named_byte (introducer_of group)) (named_byte (character_of group)) (shown_part (introducer_of group)) (shown_part (character_of group))) (shown_part letter)
+    joined (named_byte (introducer_of group) ++ named_byte (character_of group)) (named_byte letter)
+    (joined (named_byte (introducer_of group)) (named_byte (character_of group)) (shown_part (introducer_of group))
+    (shown_part (character_of group)))
+    (shown_part letter)
 
 field_part : (field : Field) → IsWithin 11 (field_name field)
 field_part Size = literal 11 _ refl refl
 field_part _ = literal 11 _ refl refl
 
 in_brackets : (n : ℕ) (text : List ℕ) → IsWithin n text → n ≤ 11 → IsWithin 13 (codes "(" ++ text ++ codes ")")
-in_brackets n text h l = wider 13 _ (omega (arith, l)) (joined (codes "(" ++ text) (codes ")") (joined (codes "(") text (literal 1 _ refl refl) h) (literal 1 _ refl refl))
+in_brackets n text h l =
+    wider 13 _ (omega (arith, l))
+    (joined (codes "(" ++ text) (codes ")") (joined (codes "(") text (literal 1 _ refl refl) h) (literal 1 _ refl refl))
 
 brackets_part : (reason : Reason) → IsWithin 13 (brackets reason)
 brackets_part (Fault (NotInProfile name)) = in_brackets 9 (name_words name) (name_words_part name) (omega arith)
@@ -183,22 +200,34 @@ reason_phrase_part : (reason : Reason) → IsWithin 139 (reason_phrase reason)
 reason_phrase_part reason =
     let front : List ℕ = codes ": " ++ short_reason reason in
     joined ((front ++ codes " (") ++ reason_words reason) (codes ")")
-    (joined (front ++ codes " (") (reason_words reason) (joined front (codes " (") (joined (codes ": ") (short_reason reason) (literal 2 _ refl refl) (short_part reason)) (literal 2 _ refl refl)) (reason_part reason))
+    (joined (front ++ codes " (") (reason_words reason)
+    (joined front (codes " (")
+    (joined (codes ": ") (short_reason reason) (literal 2 _ refl refl) (short_part reason)) (literal 2 _ refl refl))
+    (reason_part reason))
     (literal 1 _ refl refl)
 
 -- ---- the answer
 
-verdict_part : (culprit : Option Culprit) (verdict : Verdict) → IsCulpritOfNumbers culprit → IsVerdictOfNumbers verdict → IsWithin 331 (verdict_phrase culprit verdict)
+verdict_part : (culprit : Option Culprit) (verdict : Verdict) → IsCulpritOfNumbers culprit → IsVerdictOfNumbers verdict →
+    IsWithin 331 (verdict_phrase culprit verdict)
 verdict_part culprit (Pass pages marks) h k =
     let front : List ℕ = named (codes " prints this job (pages=") pages in
     let back : List ℕ = named (codes " marks=") marks in
-    wider 331 _ (omega arith) (joined (front ++ back) (codes ")") (joined front back (named_part 24 (codes " prints this job (pages=") pages refl refl k.0) (named_part 7 (codes " marks=") marks refl refl k.1)) (literal 1 _ refl refl))
+    wider 331 _ (omega arith)
+    (joined (front ++ back) (codes ")")
+    (joined front back (named_part 24 (codes " prints this job (pages=") pages refl refl k.0)
+    (named_part 7 (codes " marks=") marks refl refl k.1))
+    (literal 1 _ refl refl))
 verdict_part culprit (Fail place profile reason) h k =
     let front : List ℕ = named (codes " refuses this job at byte ") place in
-    joined (front ++ at_command culprit) (reason_phrase reason) (joined front (at_command culprit) (named_part 26 (codes " refuses this job at byte ") place refl refl k) (at_part culprit h)) (reason_phrase_part reason)
+    joined (front ++ at_command culprit) (reason_phrase reason)
+    (joined front (at_command culprit) (named_part 26 (codes " refuses this job at byte ") place refl refl k) (at_part culprit h))
+    (reason_phrase_part reason)
 
 subject_part : (names : List (List ℕ)) (number : ℕ) → AllByRecursion (IsWithin 32) names → IsWithin 32 (subject names number)
-subject_part names number h = one_of 32 (number == 0) (codes "each printer") (get_or names (number - 1) []) (λ e. literal 32 _ refl refl) (name_at names (number - 1) h)
+subject_part names number h =
+    one_of 32 (number == 0) (codes "each printer") (get_or names (number - 1) []) (λ e. literal 32 _ refl refl)
+    (name_at names (number - 1) h)
 
 error_part : (error : Error) → IsWithin 40 (error_phrase error)
 error_part Memory = literal 40 _ refl refl
@@ -217,21 +246,29 @@ error_words_part NoProfile = literal 20 _ refl refl
 error_words_part Items = literal 20 _ refl refl
 
 for_part : (names : List (List ℕ)) (number : ℕ) → AllByRecursion (IsWithin 32) names → IsWithin 37 (for_printer names number)
-for_part names number h = one_of 37 (number == 0) [] (codes " for " ++ get_or names (number - 1) []) (λ e. nothing 37) (joined (codes " for ") _ (literal 5 _ refl refl) (name_at names (number - 1) h))
+for_part names number h =
+    one_of 37 (number == 0) [] (codes " for " ++ get_or names (number - 1) []) (λ e. nothing 37)
+    (joined (codes " for ") _ (literal 5 _ refl refl) (name_at names (number - 1) h))
 
 cause_part : (cause : Option (List ℕ)) → IsWithin 205 (cause_phrase cause)
 cause_part None = nothing 205
-cause_part (Some words) = joined (codes ": ") (first_of 200 (shown words)) (literal 2 _ refl refl) (first_part 200 (shown words) (flat_part shown_byte shown_byte_part words).shown)
+cause_part (Some words) =
+    joined (codes ": ") (first_of 200 (shown words)) (literal 2 _ refl refl)
+    (first_part 200 (shown words) (flat_part shown_byte shown_byte_part words).shown)
 
-answer_part : (report : Reported) (answer : Result Verdict Error) → AllByRecursion (IsWithin 32) report.names → IsCulpritOfNumbers (culprit_of report.answer) → IfOk answer IsVerdictOfNumbers → IsWithin 363 (answer_phrase report answer)
-answer_part report (Ok verdict) h k l = joined (subject report.names (number_told report.is_each (Ok verdict))) (verdict_phrase (culprit_of report.answer) verdict) (subject_part report.names _ h) (verdict_part (culprit_of report.answer) verdict k l)
+answer_part : (report : Reported) (answer : Result Verdict Error) → AllByRecursion (IsWithin 32) report.names →
+    IsCulpritOfNumbers (culprit_of report.answer) → IfOk answer IsVerdictOfNumbers → IsWithin 363 (answer_phrase report answer)
+answer_part report (Ok verdict) h k l =
+    joined (subject report.names (number_told report.is_each (Ok verdict))) (verdict_phrase (culprit_of report.answer) verdict)
+    (subject_part report.names _ h) (verdict_part (culprit_of report.answer) verdict k l)
 answer_part report (Err error) h k l =
     let front : List ℕ = error_phrase error ++ for_printer report.names (number_told report.is_each (Err error)) in
     wider 363 _ (omega arith)
     (joined (((front ++ cause_phrase report.cause) ++ codes " (") ++ error_words error) (codes ")")
     (joined ((front ++ cause_phrase report.cause) ++ codes " (") (error_words error)
     (joined (front ++ cause_phrase report.cause) (codes " (")
-    (joined front (cause_phrase report.cause) (joined (error_phrase error) _ (error_part error) (for_part report.names _ h)) (cause_part report.cause))
+    (joined front (cause_phrase report.cause) (joined (error_phrase error) _ (error_part error) (for_part report.names _ h))
+        (cause_part report.cause))
     (literal 2 _ refl refl)) (error_words_part error)) (literal 1 _ refl refl))
 
 -- ---- the sentence
@@ -245,9 +282,18 @@ verdict_numbers (Ok judgement) h = h.0
 verdict_numbers (Err error) h = tt
 
 named_first_part : (name : List ℕ) → IsWithin 505 (named_first name)
-named_first_part name = joined (last_of 500 (shown name)) (codes ": ") (last_part 500 (shown name) (flat_part shown_byte shown_byte_part name).shown) (literal 2 _ refl refl)
+named_first_part name =
+    joined (last_of 500 (shown name)) (codes ": ")
+    (last_part 500 (shown name) (flat_part shown_byte shown_byte_part name).shown) (literal 2 _ refl refl)
 
 pub sentence_is_short : (report : Reported) → IsOfParts report → IsSentence (job_sentence report)
 sentence_is_short report h =
     let answer : List ℕ = answer_phrase report (verdict_of report.answer) in
-    (named_first report.job ++ answer, refl, wider 999 _ (omega arith) (joined (named_first report.job) answer (named_first_part report.job) (answer_part report (verdict_of report.answer) h.names (culprit_numbers report.answer h.numbers) (verdict_numbers report.answer h.numbers))))
+    (
+      named_first report.job ++ answer,
+      refl,
+      wider 999 _ (omega arith)
+          (joined (named_first report.job) answer (named_first_part report.job)
+          (answer_part report (verdict_of report.answer) h.names (culprit_numbers report.answer h.numbers)
+          (verdict_numbers report.answer h.numbers))),
+    )

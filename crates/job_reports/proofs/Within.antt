@@ -1,5 +1,6 @@
 -- Texts of at most so many bytes, of which none is a control code.
-use Rattle.std.proofs.Common.{◌≡◌, ℕ, zero, suc, ◌+◌, ◌-◌, ◌*◌, ◌/◌, ◌%◌, ◌^◌, ◌==◌, ◌<◌, ◌≤◌, Bool, true, false, List, [], ◌∷◌, ◌++◌, length, take, drop, codes, refl, arith, get_or}
+use Rattle.std.proofs.Common.{◌≡◌, ℕ, zero, suc, ◌+◌, ◌-◌, ◌*◌, ◌/◌, ◌%◌, ◌^◌, ◌==◌, ◌<◌, ◌≤◌, Bool, true, false, List, [], ◌∷◌, ◌++◌}
+use Rattle.std.proofs.Common.{length, take, drop, codes, refl, arith, get_or}
 use Rattle.std.specs.Prelude.{decimal, flat_map, nat_le, nat_lt, not, ◌&&◌, if◌then◌else◌}
 use Rattle.std.specs.List.{AllByRecursion}
 use Rattle.std.proofs.lemmas.Bool.{leb-true, and_parts}
@@ -43,7 +44,8 @@ wider n text l h = record { short = omega (arith, l, h.short); shown = h.shown }
 pub nothing : (n : ℕ) → IsWithin n []
 nothing n = record { short = omega arith; shown = tt }
 
-pub one_of : (most : ℕ) (test : Bool) (a b : List ℕ) → (test ≡ true → IsWithin most a) → IsWithin most b → IsWithin most (if test then a else b)
+pub one_of : (most : ℕ) (test : Bool) (a b : List ℕ) → (test ≡ true → IsWithin most a) → IsWithin most b →
+    IsWithin most (if test then a else b)
 one_of most true a b h k = h refl
 one_of most false a b h k = k
 
@@ -72,8 +74,15 @@ digits_part : (b : ℕ) → IsWithin 2 (hex_byte b)
 digits_part b = record { short = omega arith; shown = (hex_shown _, (hex_shown _, tt)) }
 
 -- a byte from the first on that stands as itself, or its digits
-byte_part : (first b : ℕ) → 32 ≤ first → IsWithin 4 (if nat_le first b && nat_le b 126 && not (b == 92) then b ∷ [] else 92 ∷ 120 ∷ hex_byte b)
-byte_part first b low = one_of 4 (nat_le first b && nat_le b 126 && not (b == 92)) (b ∷ []) _ (λ e. self_part 4 b (omega arith) (let h : first ≤ b = leb-true first b (and_parts (nat_le first b) (nat_le b 126) (and_parts (nat_le first b && nat_le b 126) (not (b == 92)) e).0).0 in omega (arith, low, h))) (joined (92 ∷ 120 ∷ []) _ (literal 2 _ refl refl) (digits_part b))
+byte_part : (first b : ℕ) → 32 ≤ first →
+    IsWithin 4 (if nat_le first b && nat_le b 126 && not (b == 92) then b ∷ [] else 92 ∷ 120 ∷ hex_byte b)
+byte_part first b low =
+    one_of 4 (nat_le first b && nat_le b 126 && not (b == 92)) (b ∷ []) _
+    (λ e. self_part 4 b (omega arith)
+    (let h : first ≤ b =
+    leb-true first b (and_parts (nat_le first b) (nat_le b 126) (and_parts (nat_le first b && nat_le b 126) (not (b == 92)) e).0).0
+    in omega (arith, low, h)))
+    (joined (92 ∷ 120 ∷ []) _ (literal 2 _ refl refl) (digits_part b))
 
 pub escaped_part : (b : ℕ) → IsWithin 4 (escaped_byte b)
 escaped_part b = byte_part 33 b (omega arith)
@@ -89,7 +98,10 @@ code_part b =
     (one_of 4 (b == 12) (codes "FF") _ (λ e. literal 4 _ refl refl) (escaped_part b))))
 
 pub shown_part : (b : ℕ) → IsWithin 3 (named_byte b)
-shown_part b = one_of 3 (nat_le 33 b && nat_le b 126) (b ∷ []) _ (λ e. self_part 3 b (omega arith) (let h : 33 ≤ b = leb-true 33 b (and_parts (nat_le 33 b) (nat_le b 126) e).0 in omega arith)) (joined (120 ∷ []) _ (literal 1 _ refl refl) (digits_part b))
+shown_part b =
+    one_of 3 (nat_le 33 b && nat_le b 126) (b ∷ []) _
+    (λ e. self_part 3 b (omega arith) (let h : 33 ≤ b = leb-true 33 b (and_parts (nat_le 33 b) (nat_le b 126) e).0 in omega arith))
+    (joined (120 ∷ []) _ (literal 1 _ refl refl) (digits_part b))
 
 -- ---- texts of many bytes
 
@@ -99,13 +111,17 @@ flat_part f each (b ∷ bytes) = wider _ _ (omega arith) (joined (f b) (flat_map
 
 pub last_part : (most : ℕ) (text : List ℕ) → IsShown text → IsWithin (3 + most) (last_of most text)
 last_part most text h =
-    one_of (3 + most) (nat_le (length text) most) text _ (λ e. record { short = let l : length text ≤ most = leb-true (length text) most e in omega arith; shown = h })
-    (joined (codes "...") _ (literal 3 _ refl refl) (record { short = omega (arith, length-drop (length text - most) text); shown = shown-drop _ text h }))
+    one_of (3 + most) (nat_le (length text) most) text _
+    (λ e. record { short = let l : length text ≤ most = leb-true (length text) most e in omega arith; shown = h })
+    (joined (codes "...") _ (literal 3 _ refl refl)
+    (record { short = omega (arith, length-drop (length text - most) text); shown = shown-drop _ text h }))
 
 pub first_part : (most : ℕ) (text : List ℕ) → IsShown text → IsWithin (most + 3) (first_of most text)
 first_part most text h =
-    one_of (most + 3) (nat_le (length text) most) text _ (λ e. record { short = let l : length text ≤ most = leb-true (length text) most e in omega arith; shown = h })
-    (joined (take most text) (codes "...") (record { short = omega (arith, length-take most text); shown = shown-take most text h }) (literal 3 _ refl refl))
+    one_of (most + 3) (nat_le (length text) most) text _
+    (λ e. record { short = let l : length text ≤ most = leb-true (length text) most e in omega arith; shown = h })
+    (joined (take most text) (codes "...")
+    (record { short = omega (arith, length-take most text); shown = shown-take most text h }) (literal 3 _ refl refl))
 
 pub decimal_part : (n : ℕ) → n < 2 ^ 64 → IsWithin 20 (decimal n)
 decimal_part n h = record {
@@ -118,5 +134,6 @@ name_at [] i h = nothing 32
 name_at (name ∷ names) zero h = h.0
 name_at (name ∷ names) (suc i) h = name_at names i h.1
 
-pub named_part : (most : ℕ) (name : List ℕ) (n : ℕ) → nat_le (length name) most ≡ true → are_shown name ≡ true → n < 2 ^ 64 → IsWithin (most + 20) (named name n)
+pub named_part : (most : ℕ) (name : List ℕ) (n : ℕ) → nat_le (length name) most ≡ true → are_shown name ≡ true → n < 2 ^ 64 →
+    IsWithin (most + 20) (named name n)
 named_part most name n l e h = joined name (decimal n) (literal most name l e) (decimal_part n h)

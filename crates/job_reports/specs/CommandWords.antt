@@ -19,5 +19,7 @@ code_words byte =
 abbrev pub command_words : Culprit → List ℕ
 command_words (Text code) = codes "character " ++ escaped_byte code
 command_words (Simple item) = flat_map code_words (canon (simple_view item))
-command_words (WithData command count) = codes "ESC " ++ introducer_of (data_group_of command) ∷ character_of (data_group_of command) ∷ (decimal count ++ data_letter_of command ∷ [])
+command_words (WithData command count) =
+    codes "ESC " ++ introducer_of (data_group_of command) ∷ character_of (data_group_of command)
+    ∷ (decimal count ++ data_letter_of command ∷ [])
 command_words Line = codes "@PJL"

@@ -30,4 +30,5 @@ group_at groups number = record {
 
 -- what is told of a job for a group: what came of it, and what the system said of a read that failed
 abbrev pub reported : Groups → List ℕ → Result Judgement Error → Option (List ℕ) → Reported
-reported group job answer cause = record { is_each = group.is_each; names = group.names; job = job; answer = answer; cause = cause }
+reported group job answer cause =
+    record { is_each = group.is_each; names = group.names; job = job; answer = answer; cause = cause }

@@ -1,5 +1,6 @@
 -- The sentence of a job, in a check of many jobs.
-use Rattle.std.specs.Prelude.{◌≡◌, ℕ, ◌==◌, ◌-◌, ◌^◌, ◌<◌, ◌≤◌, nat_le, List, [], ◌∷◌, ◌++◌, codes, drop, take, length, get_or, if◌then◌else◌, Option, None, Some, Result, Ok, Err, IfOk, ⊤}
+use Rattle.std.specs.Prelude.{◌≡◌, ℕ, ◌==◌, ◌-◌, ◌^◌, ◌<◌, ◌≤◌, nat_le, List, [], ◌∷◌, ◌++◌, codes, drop, take, length}
+use Rattle.std.specs.Prelude.{get_or, if◌then◌else◌, Option, None, Some, Result, Ok, Err, IfOk, ⊤}
 use Rattle.std.specs.List.{AllByRecursion}
 use Rattle.line_words.specs.Figures.{named}
 use Rattle.line_words.specs.Reason.{reason_words, short_reason}
@@ -42,8 +43,10 @@ reason_phrase reason = codes ": " ++ short_reason reason ++ codes " (" ++ reason
 
 -- what stands behind the subject
 abbrev pub verdict_phrase : Option Culprit → Verdict → List ℕ
-verdict_phrase culprit (Pass pages marks) = named (codes " prints this job (pages=") pages ++ named (codes " marks=") marks ++ codes ")"
-verdict_phrase culprit (Fail place profile reason) = named (codes " refuses this job at byte ") place ++ at_command culprit ++ reason_phrase reason
+verdict_phrase culprit (Pass pages marks) =
+    named (codes " prints this job (pages=") pages ++ named (codes " marks=") marks ++ codes ")"
+verdict_phrase culprit (Fail place profile reason) =
+    named (codes " refuses this job at byte ") place ++ at_command culprit ++ reason_phrase reason
 
 -- ---- why there is none
 
@@ -66,9 +69,11 @@ cause_phrase (Some words) = codes ": " ++ first_of 200 (shown words)
 -- ---- the sentence
 
 abbrev pub answer_phrase : Reported → Result Verdict Error → List ℕ
-answer_phrase report (Ok verdict) = subject report.names (number_told report.is_each (Ok verdict)) ++ verdict_phrase (culprit_of report.answer) verdict
+answer_phrase report (Ok verdict) =
+    subject report.names (number_told report.is_each (Ok verdict)) ++ verdict_phrase (culprit_of report.answer) verdict
 answer_phrase report (Err error) =
-    error_phrase error ++ for_printer report.names (number_told report.is_each (Err error)) ++ cause_phrase report.cause ++ codes " (" ++ error_words error ++ codes ")"
+    error_phrase error ++ for_printer report.names (number_told report.is_each (Err error)) ++ cause_phrase report.cause
+    ++ codes " (" ++ error_words error ++ codes ")"
 
 -- a name that begins a sentence; of a long one the end tells more
 abbrev pub named_first : List ℕ → List ℕ

@@ -9,7 +9,8 @@ use Rattle.job_reports.specs.JobSentences.{named_first}
 
 -- the job of this name is no file; this is why it would be read again
 abbrev pub pipe_again : (name why : List ℕ) → List ℕ
-pipe_again name why = codes "error: " ++ named_first name ++ codes "a job that is no file can be read only once; " ++ why
+pipe_again name why =
+    codes "error: " ++ named_first name ++ codes "a job that is no file can be read only once; " ++ why
 
 -- One of these jobs is refused, of which standard error is told; without memory for its name nothing is.
 abbrev pub RefusesPipe : (jobs : List (List ℕ)) → (why : List ℕ) → Status → OutletState → OutletState → Type 0

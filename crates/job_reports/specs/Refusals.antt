@@ -1,7 +1,8 @@
 -- What standard error is told of printers that are refused or cannot be read.
 use Rattle.std.specs.Prelude.{◌≡◌, ℕ, ◌==◌, List, [], ◌∷◌, ◌++◌, codes, decimal, if◌then◌else◌, Option}
 use Rattle.device_profile.specs.declared.fault.Cause.{Cause}
-use Rattle.device_profile.specs.declared.fault.Cause.TheVariants.{Version, Unknown, Repeated, Range, Missing, NoGeometry}
+use Rattle.device_profile.specs.declared.fault.Cause.TheVariants.{Version, Unknown, Repeated, Range, Missing}
+use Rattle.device_profile.specs.declared.fault.Cause.TheVariants.{NoGeometry}
 use Rattle.line_words.specs.Figures.{named}
 use Rattle.shown_bytes.specs.Shown.{shown}
 use Rattle.streams.specs.declared.error.Error.TheVariants.{Memory}
@@ -21,7 +22,8 @@ fault_part line cause = codes ":" ++ decimal line ++ 32 ∷ (cause_name cause ++
 
 -- the number of a profile, its word, the line in its text and what is wrong there
 abbrev pub refused_profile : ℕ → List ℕ → ℕ → Cause → List ℕ
-refused_profile number word line cause = codes "ERROR profile " ++ decimal number ++ 32 ∷ (shown word ++ fault_part line cause)
+refused_profile number word line cause =
+    codes "ERROR profile " ++ decimal number ++ 32 ∷ (shown word ++ fault_part line cause)
 
 -- behind these words the word of what could not be read, and what the system says of that
 abbrev pub unread : List ℕ → List ℕ → Option (List ℕ) → List ℕ
@@ -53,11 +55,13 @@ refusal_words number cause = named (codes " (ERROR profile ") number ++ codes " 
 
 -- the number of a profile, its word, the line in its text and what is wrong there
 abbrev pub refused_profile_sentence : ℕ → List ℕ → ℕ → Cause → List ℕ
-refused_profile_sentence number word line cause = named_first word ++ line_phrase line ++ fault_phrase line cause ++ refusal_words number cause
+refused_profile_sentence number word line cause =
+    named_first word ++ line_phrase line ++ fault_phrase line cause ++ refusal_words number cause
 
 -- the word of a profile, and what the system says of the read that failed
 abbrev pub unread_profile_sentence : List ℕ → Option (List ℕ) → List ℕ
-unread_profile_sentence word cause = named_first word ++ codes "this profile cannot be read" ++ cause_phrase cause ++ codes " (ERROR read)\n"
+unread_profile_sentence word cause =
+    named_first word ++ codes "this profile cannot be read" ++ cause_phrase cause ++ codes " (ERROR read)\n"
 
 -- ---- what is left of them
 
@@ -69,7 +73,8 @@ TellsLine _ trouble line err err' = ⊥
 
 -- standard error is told that what this word names cannot be read, behind these words, or there was no memory for that
 abbrev pub TellsUnread : List ℕ → List ℕ → Status → OutletState → OutletState → Type 0
-TellsUnread front word status err err' = (cause : Option (List ℕ)) × TellsLine status NoVerdict (unread front word cause) err err'
+TellsUnread front word status err err' =
+    (cause : Option (List ℕ)) × TellsLine status NoVerdict (unread front word cause) err err'
 
 -- so it is told of the names of jobs
 abbrev pub TellsOfNames : List ℕ → Status → OutletState → OutletState → Type 0

@@ -6,8 +6,8 @@ use Rattle.streams.specs.declared.error.Error.{Error}
 use Rattle.verdict.specs.declared.verdict.Verdict.{Verdict}
 use Rattle.verdict.specs.declared.verdict.Verdict.TheVariants.{Pass, Fail}
 
--- whether each printer is told of by itself, the names of the printers, the job's name, what came of the job, and what the system said
--- of a read that failed
+-- whether each printer is told of by itself, the names of the printers, the job's name, what came of the job, and what
+-- the system said of a read that failed
 pub record Reported : Type 0 where
   pub is_each : Bool
   pub names : List (List ℕ)
@@ -25,8 +25,8 @@ abbrev pub culprit_of : Result Judgement Error → Option Culprit
 culprit_of (Ok judgement) = judgement.culprit
 culprit_of (Err error) = None
 
--- The number of the printer that this is about: where each printer is told of by itself, the only one; else the one that the job fails
--- for. 0 is none.
+-- The number of the printer that this is about: where each printer is told of by itself, the only one;
+-- else the one that the job fails for. 0 is none.
 abbrev pub number_told : Bool → Result Verdict Error → ℕ
 number_told true answer = 1
 number_told false (Ok (Fail place profile reason)) = profile

@@ -1,6 +1,7 @@
 //! The line of a job, in a check of many.
 ghost use Rattle.std.specs.Prelude.{◌≡◌, ◌++◌, OnOk, option_map};
-ghost use Rattle.job_reports.specs.JobLines.{cause_part, job_line, printer_words, reason_part, result_words, verdict_words};
+ghost use Rattle.job_reports.specs.JobLines.{cause_part, job_line, printer_words, reason_part};
+ghost use Rattle.job_reports.specs.JobLines.{result_words, verdict_words};
 ghost use Rattle.job_reports.specs.Reports.{number_told, verdict_of};
 
 use crate::reports::Report;

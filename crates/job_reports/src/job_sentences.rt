@@ -1,6 +1,9 @@
 //! The sentence of a job, in a check of many.
 ghost use Rattle.std.specs.Prelude.{◌≡◌, ◌++◌, OnOk, option_map};
-ghost use Rattle.job_reports.specs.JobSentences.{IsOfParts, IsSentence, answer_phrase, at_command, cause_phrase, error_phrase, first_of, for_printer, job_sentence, last_of, named_first, reason_phrase, subject, verdict_phrase};
+ghost use Rattle.job_reports.specs.JobSentences.{IsOfParts, IsSentence, answer_phrase, at_command};
+ghost use Rattle.job_reports.specs.JobSentences.{cause_phrase, error_phrase, first_of, for_printer};
+ghost use Rattle.job_reports.specs.JobSentences.{job_sentence, last_of, named_first, reason_phrase};
+ghost use Rattle.job_reports.specs.JobSentences.{subject, verdict_phrase};
 ghost use Rattle.job_reports.specs.Reports.{Reported, number_told, verdict_of};
 
 use crate::command_words::push_command_words;

@@ -1,6 +1,8 @@
 //! What standard error is told of printers that are refused or cannot be read.
 ghost use Rattle.std.specs.Prelude.{◌≡◌, ◌++◌, IsFalse, OnOk, option_map};
-ghost use Rattle.job_reports.specs.Refusals.{fault_part, fault_phrase, line_phrase, refusal_words, refused_profile, refused_profile_sentence, unread, unread_profile, unread_profile_sentence, TellsUnread};
+ghost use Rattle.job_reports.specs.Refusals.{fault_part, fault_phrase, line_phrase, refusal_words};
+ghost use Rattle.job_reports.specs.Refusals.{refused_profile, refused_profile_sentence, unread};
+ghost use Rattle.job_reports.specs.Refusals.{unread_profile, unread_profile_sentence, TellsUnread};
 
 use crate::job_lines::push_cause;
 use crate::job_sentences::{push_cause_phrase, push_named_first};

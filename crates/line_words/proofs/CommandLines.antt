@@ -1,5 +1,6 @@
 -- The line of a command in the list: of its spelling only the escape character shows nothing.
-use Rattle.std.proofs.Common.{◌≡◌, ◌+◌, ◌<◌, ◌≤◌, ◌/◌, ◌%◌, ◌^◌, ℕ, List, [], ◌∷◌, ◌++◌, refl, ap, sym, ◌∙◌, arith, append_assoc, not, ◌&&◌, ◌==◌, Result, Ok, Err, OnOk}
+use Rattle.std.proofs.Common.{◌≡◌, ◌+◌, ◌<◌, ◌≤◌, ◌/◌, ◌%◌, ◌^◌, ℕ, List, [], ◌∷◌, ◌++◌, refl, ap, sym, ◌∙◌, arith, append_assoc, not, ◌&&◌}
+use Rattle.std.proofs.Common.{◌==◌, Result, Ok, Err, OnOk}
 use Rattle.std.specs.Prelude.{decimal, length, nat_le}
 use Rattle.std.specs.List.{flat_map}
 use Rattle.std.proofs.lemmas.Bool.{cond-true, cond_both, and_from, le-leb, ne_eqb}
@@ -28,7 +29,8 @@ IsShown text = flat_map escaped_byte text ≡ text
 shown_byte : (b : ℕ) → 33 ≤ b → b ≤ 91 → escaped_byte b ≡ b ∷ []
 shown_byte b low high =
     cond-true (nat_le 33 b && nat_le b 126 && not (b == 92)) _ _
-    (and_from _ _ (and_from _ _ (le-leb 33 b low) (le-leb b 126 (omega (arith, high)))) (ap not (ne_eqb b 92 (λ e. omega (arith, high, e)))))
+    (and_from _ _ (and_from _ _ (le-leb 33 b low) (le-leb b 126 (omega (arith, high))))
+    (ap not (ne_eqb b 92 (λ e. omega (arith, high, e)))))
 
 shown_first : (b : ℕ) (text : List ℕ) → escaped_byte b ≡ b ∷ [] → IsShown text → IsShown (b ∷ text)
 shown_first b text h k = ap (λ l. l ++ flat_map escaped_byte text) h ∙ ap (λ l. b ∷ l) k
@@ -96,7 +98,9 @@ shown_letter _ = refl
 -- its place, the escape character by its digits, and the bytes behind it as they are
 command_line : (place : ℕ) (command : Command) (a : Amount) → a.ten_thousandths ≤ most →
     item_line (at place (Parameterized command a))
-    ≡ decimal place ++ (32 ∷ 92 ∷ 120 ∷ 49 ∷ 98 ∷ introducer_of (group_of command) ∷ character_of (group_of command) ∷ (amount_text a ++ letter_of command ∷ 10 ∷ []))
+    ≡ decimal place
+    ++ (32 ∷ 92 ∷ 120 ∷ 49 ∷ 98 ∷ introducer_of (group_of command) ∷ character_of (group_of command)
+    ∷ (amount_text a ++ letter_of command ∷ 10 ∷ []))
 command_line place command a h =
     let i = introducer_of (group_of command) in
     let c = character_of (group_of command) in
@@ -111,8 +115,14 @@ command_line place command a h =
     ∙ append_assoc (decimal place) (32 ∷ 92 ∷ 120 ∷ 49 ∷ 98 ∷ i ∷ c ∷ (amount_text a ++ letter ∷ [])) (10 ∷ [])
     ∙ ap (λ (l : List ℕ). decimal place ++ 32 ∷ 92 ∷ 120 ∷ 49 ∷ 98 ∷ i ∷ c ∷ l) (append_assoc (amount_text a) (letter ∷ []) (10 ∷ []))
 
-pub line_is_pushed : {E : Type 0} (place : ℕ) (command : Command) (a : Amount) (old new : List ℕ) (result : Result Unit E) → a.ten_thousandths ≤ most →
-    OnOk result (new ≡ old ++ (decimal place ++ (32 ∷ 92 ∷ 120 ∷ 49 ∷ 98 ∷ introducer_of (group_of command) ∷ character_of (group_of command) ∷ (amount_text a ++ letter_of command ∷ 10 ∷ []))))
+pub line_is_pushed : {E : Type 0} (place : ℕ) (command : Command) (a : Amount) (old new : List ℕ) (result : Result Unit E) →
+    a.ten_thousandths ≤ most →
+    OnOk result
+    (new
+    ≡ old
+    ++ (decimal place
+    ++ (32 ∷ 92 ∷ 120 ∷ 49 ∷ 98 ∷ introducer_of (group_of command) ∷ character_of (group_of command)
+    ∷ (amount_text a ++ letter_of command ∷ 10 ∷ []))))
     → OnOk result (new ≡ old ++ item_line (at place (Parameterized command a)))
 line_is_pushed place command a old new (Ok u) h pushed = pushed ∙ ap (λ (l : List ℕ). old ++ l) (sym (command_line place command a h))
 line_is_pushed place command a old new (Err e) h pushed = tt
@@ -126,19 +136,27 @@ sign_is_short Minus = omega arith
 whole_amount : (a : Amount) → a.ten_thousandths % 10000 ≡ 0 → amount_text a ≡ sign_text a.sign ++ decimal (a.ten_thousandths / 10000)
 whole_amount a whole =
     let w = decimal (a.ten_thousandths / 10000) in
-    ap (λ (l : List ℕ). sign_text a.sign ++ (w ++ l)) (no_decimals a.ten_thousandths whole) ∙ ap (λ (l : List ℕ). sign_text a.sign ++ l) (append-nil w)
+    ap (λ (l : List ℕ). sign_text a.sign ++ (w ++ l)) (no_decimals a.ten_thousandths whole)
+    ∙ ap (λ (l : List ℕ). sign_text a.sign ++ l) (append-nil w)
 
 -- the line of a command whose number is whole
-pub whole_line_is_pushed : {E : Type 0} (place : ℕ) (command : Command) (a : Amount) (old new line : List ℕ) (result : Result Unit E) → a.ten_thousandths ≤ most → a.ten_thousandths % 10000 ≡ 0 →
-    line ≡ decimal place ++ (32 ∷ 92 ∷ 120 ∷ 49 ∷ 98 ∷ introducer_of (group_of command) ∷ character_of (group_of command) ∷ (sign_text a.sign ++ (decimal (a.ten_thousandths / 10000) ++ letter_of command ∷ 10 ∷ [])))
+pub whole_line_is_pushed : {E : Type 0} (place : ℕ) (command : Command) (a : Amount) (old new line : List ℕ) (result : Result Unit E) →
+    a.ten_thousandths ≤ most → a.ten_thousandths % 10000 ≡ 0 →
+    line
+    ≡ decimal place
+    ++ (32 ∷ 92 ∷ 120 ∷ 49 ∷ 98 ∷ introducer_of (group_of command) ∷ character_of (group_of command)
+    ∷ (sign_text a.sign ++ (decimal (a.ten_thousandths / 10000) ++ letter_of command ∷ 10 ∷ [])))
     → OnOk result (new ≡ old ++ line)
     → OnOk result (new ≡ old ++ item_line (at place (Parameterized command a)))
 whole_line_is_pushed place command a old new line (Ok u) h whole is pushed =
     let end = letter_of command ∷ 10 ∷ [] in
     let number : sign_text a.sign ++ (decimal (a.ten_thousandths / 10000) ++ end) ≡ amount_text a ++ end =
-    sym (append_assoc (sign_text a.sign) (decimal (a.ten_thousandths / 10000)) end) ∙ ap (λ (l : List ℕ). l ++ end) (sym (whole_amount a whole)) in
+    sym (append_assoc (sign_text a.sign) (decimal (a.ten_thousandths / 10000)) end)
+    ∙ ap (λ (l : List ℕ). l ++ end) (sym (whole_amount a whole)) in
     let line_is = is
-    ∙ ap (λ (l : List ℕ). decimal place ++ (32 ∷ 92 ∷ 120 ∷ 49 ∷ 98 ∷ introducer_of (group_of command) ∷ character_of (group_of command) ∷ l)) number
+    ∙ ap
+    (λ (l : List ℕ). decimal place ++ (32 ∷ 92 ∷ 120 ∷ 49 ∷ 98 ∷ introducer_of (group_of command) ∷ character_of (group_of command) ∷ l))
+    number
     ∙ sym (command_line place command a h) in
     pushed ∙ ap (λ (l : List ℕ). old ++ l) line_is
 whole_line_is_pushed place command a old new line (Err e) h whole is pushed = tt

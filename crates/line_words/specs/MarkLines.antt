@@ -31,10 +31,16 @@ fill_words (Hatch pattern) = codes " 3" ++ number_word pattern
 -- ---- lines
 
 abbrev pub mark_words : Shape → List ℕ
-mark_words (Character glyph) = codes "glyph" ++ number_word glyph.code ++ font_words glyph.request ++ length_word glyph.y ++ bounds_words glyph.bounds
+mark_words (Character glyph) =
+    codes "glyph" ++ number_word glyph.code ++ font_words glyph.request ++ length_word glyph.y
+    ++ bounds_words glyph.bounds
 mark_words (Rectangle area) = codes "rect" ++ fill_words area.fill ++ bounds_words area.bounds
-mark_words (Row row) = codes "row" ++ number_word (pixels_per_inch row.resolution) ++ length_word row.x ++ length_word row.y ++ 32 ∷ flat_map hex_byte row.bytes
-mark_words (Line line) = codes "line" ++ length_word line.width ++ length_word line.x0 ++ length_word line.y0 ++ length_word line.x1 ++ length_word line.y1
+mark_words (Row row) =
+    codes "row" ++ number_word (pixels_per_inch row.resolution) ++ length_word row.x ++ length_word row.y ++ 32
+    ∷ flat_map hex_byte row.bytes
+mark_words (Line line) =
+    codes "line" ++ length_word line.width ++ length_word line.x0 ++ length_word line.y0 ++ length_word line.x1
+    ++ length_word line.y1
 
 abbrev pub mark_line : Shape → List ℕ
 mark_line mark = mark_words mark ++ 10 ∷ []
@@ -43,4 +49,5 @@ mark_line mark = mark_words mark ++ 10 ∷ []
 abbrev pub page_line : ℕ → PageEnd → List ℕ
 page_line n end =
     codes "page" ++ number_word n ++ named (codes " size=") end.size ++ named (codes " orientation=") end.orientation
-    ++ named (codes " sides=") end.sides ++ named (codes " tray=") end.tray ++ named (codes " copies=") end.copies ++ 10 ∷ []
+    ++ named (codes " sides=") end.sides ++ named (codes " tray=") end.tray ++ named (codes " copies=") end.copies
+    ++ 10 ∷ []

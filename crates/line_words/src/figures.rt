@@ -1,6 +1,7 @@
 //! Numbers and bytes as they stand in lines of text.
 ghost use Rattle.std.specs.Prelude.{◌≡◌, ◌++◌, ◌+◌, ◌%◌, ◌<◌, OnOk, decimal, flat_map};
-ghost use Rattle.line_words.specs.Figures.{escaped_byte, length_word, named, number_word, signed_word, value_word};
+ghost use Rattle.line_words.specs.Figures.{escaped_byte, length_word, named, number_word};
+ghost use Rattle.line_words.specs.Figures.{signed_word, value_word};
 ghost use Rattle.shown_bytes.specs.Shown.{hex_byte};
 
 use itoa::Buffer;

@@ -1,5 +1,6 @@
 //! The lines of items and of faults.
-ghost use Rattle.std.specs.Prelude.{◌≡◌, ◌≤◌, ◌<◌, ◌+◌, ◌%◌, ◌++◌, ◌∷◌, [], OnOk, decimal, drop, length};
+ghost use Rattle.std.specs.Prelude.{◌≡◌, ◌≤◌, ◌<◌, ◌+◌, ◌%◌, ◌++◌, ◌∷◌, [], OnOk, decimal, drop};
+ghost use Rattle.std.specs.Prelude.{length};
 ghost use Rattle.pcl_items.specs.Escapes.Commands.{introducer_of, character_of};
 ghost use Rattle.pcl_items.specs.Escapes.ValueField.{sign_text};
 ghost use Rattle.pcl_items.specs.Items.{Entry, amount, at, view};

@@ -1,8 +1,10 @@
 //! The lines of marks and of the ends of pages.
 ghost use Rattle.std.specs.Prelude.{◌≡◌, ◌++◌, OnOk};
-ghost use Rattle.page_env.specs.Mark.{Rectangle, Character, Row, Line, pixels_per_inch, row_of, shape_of};
+ghost use Rattle.page_env.specs.Mark.{Rectangle, Character, Row, Line, pixels_per_inch, row_of};
+ghost use Rattle.page_env.specs.Mark.{shape_of};
 ghost use Rattle.line_words.specs.Figures.{named};
-ghost use Rattle.line_words.specs.MarkLines.{bounds_words, fill_words, font_words, mark_line, mark_words, page_line};
+ghost use Rattle.line_words.specs.MarkLines.{bounds_words, fill_words, font_words, mark_line};
+ghost use Rattle.line_words.specs.MarkLines.{mark_words, page_line};
 
 use crate::figures::{
     push_hex, push_length_word, push_named, push_number_word, push_signed_word, push_ticks_word,

@@ -1,5 +1,6 @@
 -- The commands that are kept of the pool.
-use Rattle.std.proofs.Common.{◌≡◌, ℕ, ◌+◌, ◌-◌, ◌<◌, ◌≤◌, ◌^◌, length, take, drop, List, [], ◌∷◌, ◌++◌, Result, Ok, Err, OnOk, OnErr, Some, refl, sym, ap, subst, ◌∙◌, append_assoc, arith}
+use Rattle.std.proofs.Common.{◌≡◌, ℕ, ◌+◌, ◌-◌, ◌<◌, ◌≤◌, ◌^◌, length, take, drop, List, [], ◌∷◌, ◌++◌, Result, Ok, Err, OnOk, OnErr, Some}
+use Rattle.std.proofs.Common.{refl, sym, ap, subst, ◌∙◌, append_assoc, arith}
 use Rattle.std.specs.List.{remove_range}
 use Rattle.std.proofs.Math.Seq.{drop-append_seam, take-append-add}
 use Rattle.std.proofs.lemmas.List.{length-append, length-drop, length-take-le, drop-append-le, drop-drop, drop-take, append-nil}
@@ -52,7 +53,8 @@ module _ {mode next : Mode} (pool : List ℕ) (at end : ℕ) (item : Entry) (s :
       }
 
 -- an item stands behind the pool to which its spelling is appended
-pub stands_behind : (pool : List ℕ) (item : Entry) → IsItem item → follows Pcl item ≡ Some Pcl → (at end : ℕ) → at ≡ length pool → end ≡ length (pool ++ canon item) → StandsAt Pcl (pool ++ canon item) at item end Pcl
+pub stands_behind : (pool : List ℕ) (item : Entry) → IsItem item → follows Pcl item ≡ Some Pcl → (at end : ℕ) → at ≡ length pool →
+    end ≡ length (pool ++ canon item) → StandsAt Pcl (pool ++ canon item) at item end Pcl
 stands_behind pool item is admitted at end begins ends = record {
   is_item = is;
   admitted = admitted;
@@ -66,21 +68,28 @@ pub stored_more : (pool more : List ℕ) (commands : List StoredCommand) → Are
 stored_more pool more commands stored k d h = stands_before pool _ _ _ (stored k d h) more
 
 -- so do those before a body that is taken out
-pub stored_cut : (pool : List ℕ) (start end : ℕ) (commands : List StoredCommand) → AreStored pool commands → EndBefore start commands → AreStored (remove_range pool start end) commands
+pub stored_cut : (pool : List ℕ) (start end : ℕ) (commands : List StoredCommand) → AreStored pool commands → EndBefore start commands →
+    AreStored (remove_range pool start end) commands
 stored_cut pool start end commands stored before k d h =
     stands_before (take start pool) _ _ _ (stands_in_front pool _ _ _ (stored k d h) start (before k d h)) (drop end pool)
 
 -- and one more
-pub stored_push : (pool : List ℕ) (commands : List StoredCommand) (new : StoredCommand) → AreStored pool commands → IsStored pool new → AreStored pool (commands ++ new ∷ [])
+pub stored_push : (pool : List ℕ) (commands : List StoredCommand) (new : StoredCommand) → AreStored pool commands → IsStored pool new →
+    AreStored pool (commands ++ new ∷ [])
 stored_push pool commands new stored is = All-push (IsStored pool) commands new stored is
 
 -- whatever comes of the spelling of an item
-pub stored_spelled : {E : Type 0} (pool new more : List ℕ) (commands : List StoredCommand) (result : Result Unit E) → OnOk result (new ≡ pool ++ more) → OnErr result (new ≡ pool) → AreStored pool commands → AreStored new commands
-stored_spelled pool new more commands (Ok u) ok err stored = subst (λ bytes. AreStored bytes commands) (sym ok) (stored_more pool more commands stored)
+pub stored_spelled : {E : Type 0} (pool new more : List ℕ) (commands : List StoredCommand) (result : Result Unit E) →
+    OnOk result (new ≡ pool ++ more) → OnErr result (new ≡ pool) → AreStored pool commands → AreStored new commands
+stored_spelled pool new more commands (Ok u) ok err stored =
+    subst (λ bytes. AreStored bytes commands) (sym ok) (stored_more pool more commands stored)
 stored_spelled pool new more commands (Err e) ok err stored = subst (λ bytes. AreStored bytes commands) (sym err) stored
 
 -- a command that is spelled behind the pool is stored
-pub command_stored : (pool new : List ℕ) (old commands : List StoredCommand) (stored : StoredCommand) → new ≡ pool ++ canon (Parameterized stored.command (amount stored.number)) → IsItem (Parameterized stored.command (amount stored.number)) → stored.at ≡ length pool → stored.end ≡ length new → commands ≡ old ++ stored ∷ [] → AreStored pool old → AreStored new commands
+pub command_stored : (pool new : List ℕ) (old commands : List StoredCommand) (stored : StoredCommand) →
+    new ≡ pool ++ canon (Parameterized stored.command (amount stored.number)) →
+    IsItem (Parameterized stored.command (amount stored.number)) → stored.at ≡ length pool → stored.end ≡ length new →
+    commands ≡ old ++ stored ∷ [] → AreStored pool old → AreStored new commands
 command_stored pool new old commands stored is is_item begins ends more all =
     let item = Parameterized stored.command (amount stored.number) in
     let text = canon item in
@@ -111,7 +120,8 @@ module _ (at : ℕ) (rest : List ℕ) (commands : List StoredCommand) (lies : Li
       }
 
   -- a command that stands at its place is its first item
-  pub stands_first : (stored : StoredCommand) → IsStored lies.pool stored → stored.at ≡ at → (len : ℕ) → stored.end ≡ stored.at + len → len ≤ length rest →
+  pub stands_first : (stored : StoredCommand) → IsStored lies.pool stored → stored.at ≡ at → (len : ℕ) → stored.end ≡ stored.at + len →
+      len ≤ length rest →
       StandsAt Pcl rest 0 (Parameterized stored.command (amount stored.number)) len Pcl
   stands_first stored s here len ends short =
       let item = Parameterized stored.command (amount stored.number) in
@@ -131,7 +141,8 @@ module _ (at : ℕ) (rest : List ℕ) (commands : List StoredCommand) (lies : Li
       }
 
 -- a body keeps other commands of the pool
-pub lies_with : (at : ℕ) (rest : List ℕ) (old : List StoredCommand) (lies : LiesInPool at rest old) (commands : List StoredCommand) → AreStored lies.pool commands → LiesInPool at rest commands
+pub lies_with : (at : ℕ) (rest : List ℕ) (old : List StoredCommand) (lies : LiesInPool at rest old) (commands : List StoredCommand) →
+    AreStored lies.pool commands → LiesInPool at rest commands
 lies_with at rest old lies commands stored = record {
   pool = lies.pool;
   few = lies.few;
@@ -141,10 +152,14 @@ lies_with at rest old lies commands stored = record {
 }
 
 -- the bytes of a span lie in the pool
-pub lies_at : (pool : List ℕ) (span : Span) (commands : List StoredCommand) → length pool < 2 ^ 64 → span.start ≤ span.end → span.end ≤ length pool → AreStored pool commands →
+pub lies_at : (pool : List ℕ) (span : Span) (commands : List StoredCommand) → length pool < 2 ^ 64 → span.start ≤ span.end →
+    span.end ≤ length pool → AreStored pool commands →
     (rest : List ℕ) → rest ≡ bytes_at pool span → LiesInPool span.start rest commands
 lies_at pool span commands few forward within stored rest is =
-    let size : length rest ≡ span.end - span.start = ap length is ∙ length-take-le (span.end - span.start) (drop span.start pool) (omega (arith, length-drop span.start pool, forward, within)) in record {
+    let size : length rest ≡ span.end - span.start =
+    ap length is
+    ∙ length-take-le (span.end - span.start) (drop span.start pool)
+    (omega (arith, length-drop span.start pool, forward, within)) in record {
       pool = pool;
       few = few;
       within = omega (arith, size, forward, within);

@@ -13,12 +13,14 @@ pub mode_defined : (definition : Option (ℕ × List Entry)) (item : Entry) → 
 mode_defined None item h = absurd h
 mode_defined (Some m) item h = refl
 
-one_more : {mode : Mode} (item : Entry) (next : Option Mode) → follows mode item ≡ next → IsSome next → IsItem item → AreAdmitted mode (item ∷ [])
+one_more : {mode : Mode} (item : Entry) (next : Option Mode) → follows mode item ≡ next → IsSome next → IsItem item →
+    AreAdmitted mode (item ∷ [])
 one_more item None e h is = absurd cc
 one_more item (Some next) e h is = some is e none
 
 -- an item more is admitted by the mode behind the others
-pub admitted_more : {mode : Mode} (items : List Entry) (item : Entry) → AreAdmitted mode items → IsItem item → IsAdmittedIn (mode_behind mode items) item → AreAdmitted mode (items ++ item ∷ [])
+pub admitted_more : {mode : Mode} (items : List Entry) (item : Entry) → AreAdmitted mode items → IsItem item →
+    IsAdmittedIn (mode_behind mode items) item → AreAdmitted mode (items ++ item ∷ [])
 admitted_more {mode} [] item h is admits = one_more item (follows mode item) refl admits is
 admitted_more (x ∷ xs) item (some is_item e others) is admits =
     some is_item e (admitted_more xs item others is (subst (λ o. IsAdmittedIn (mode_after o xs) item) e admits))
@@ -28,7 +30,8 @@ none_after None = refl
 none_after (Some mode) = refl
 
 -- the mode behind an item more
-pub mode_after-more : (o : Option Mode) (items : List Entry) (item : Entry) → mode_after o (items ++ item ∷ []) ≡ option_and_then (λ m. follows m item) (mode_after o items)
+pub mode_after-more : (o : Option Mode) (items : List Entry) (item : Entry) →
+    mode_after o (items ++ item ∷ []) ≡ option_and_then (λ m. follows m item) (mode_after o items)
 mode_after-more None items item = refl
 mode_after-more (Some mode) [] item = none_after (follows mode item)
 mode_after-more (Some mode) (x ∷ xs) item = mode_after-more (follows mode x) xs item

@@ -1,6 +1,7 @@
 //! The store.
 
-ghost use Rattle.std.specs.Prelude.{◌≡◌, ◌+◌, ◌<◌, ◌≤◌, ◌↔◌, None, Some, Err, IsSome, is_some, nat_eq, true, OnOk, OnErr, length};
+ghost use Rattle.std.specs.Prelude.{◌≡◌, ◌+◌, ◌<◌, ◌≤◌, ◌↔◌, None, Some, Err, IsSome, is_some};
+ghost use Rattle.std.specs.Prelude.{nat_eq, true, OnOk, OnErr, length};
 ghost use Rattle.std.specs.List.{remove_range};
 ghost use Rattle.std.specs.Map.{lookup, remove_entry};
 ghost use Rattle.indexmap.specs.IndexMap.{spare};
@@ -8,7 +9,8 @@ ghost use Rattle.pcl_items.specs.Items.{view as entry_of};
 ghost use Rattle.pcl_items.specs.Spellings.Canon.{canon};
 ghost use Rattle.macro_store.specs.Layout.{moved_down, down, bodies_in, IsLaidOut};
 ghost use Rattle.macro_store.specs.Commands.{AreStored};
-ghost use Rattle.macro_store.specs.Store.{no_macros, body_of, stored_bytes, Admits, began, appended, committed, deleted, cleared};
+ghost use Rattle.macro_store.specs.Store.{no_macros, body_of, stored_bytes, Admits, began};
+ghost use Rattle.macro_store.specs.Store.{appended, committed, deleted, cleared};
 
 use crate::body::Body;
 use crate::commands::{StoredCommand, commands_from, forget_from, spell_behind};

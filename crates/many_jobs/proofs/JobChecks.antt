@@ -1,5 +1,7 @@
 -- Lemmas on the lines of many jobs.
-use Rattle.std.proofs.Common.{◌≡◌, ◌≢◌, ◌<◌, ◌+◌, ◌-◌, suc, if◌then◌else◌, IfOk, IfErr, IsErrOf, length-drop, zero, ℕ, List, [], ◌∷◌, ◌++◌, map, flat_map, fold, take, drop, length, get_or, Bool, true, false, Option, None, Some, Result, Ok, Err, refl, sym, ◌∙◌, ap, append_assoc, append-nil, inl, inr, subst, arith}
+use Rattle.std.proofs.Common.{◌≡◌, ◌≢◌, ◌<◌, ◌+◌, ◌-◌, suc, if◌then◌else◌, IfOk, IfErr, IsErrOf, length-drop, zero, ℕ, List, [], ◌∷◌, ◌++◌}
+use Rattle.std.proofs.Common.{map, flat_map, fold, take, drop, length, get_or, Bool, true, false, Option, None, Some, Result, Ok, Err, refl}
+use Rattle.std.proofs.Common.{sym, ◌∙◌, ap, append_assoc, append-nil, inl, inr, subst, arith}
 use Rattle.std.proofs.Math.Seq.{split_at}
 use Rattle.std.specs.List.{AllByRecursion, range_with_len}
 use Rattle.std.proofs.lemmas.List.{length-take, map-append, map_more}
@@ -18,7 +20,9 @@ use Rattle.streams.proofs.OutletFacts.{Adds-none, Adds-trans}
 use Rattle.many_jobs.specs.declared.ending.Ending.{Ending}
 use Rattle.many_jobs.specs.declared.ending.Ending.TheVariants.{Passes, Fails, HasNoVerdict}
 use Rattle.job_reports.specs.Groups.{Groups, group_at, group_count, of_group, reported}
-use Rattle.many_jobs.specs.JobChecks.{AddsTold, AreRightToCut, CutsNotes, CutsTold, IsErrorOfJob, IsErrorOfLine, IsRightAnswer, IsRightLine, CheckLine, TellsLines, TellsAll, TellsFront, TellsNotes, Work, afters, afters_of, due_of, ending_of, ending_of_line, keyed, line_text, worse, worst}
+use Rattle.many_jobs.specs.JobChecks.{AddsTold, AreRightToCut, CutsNotes, CutsTold, IsErrorOfJob, IsErrorOfLine, IsRightAnswer, IsRightLine}
+use Rattle.many_jobs.specs.JobChecks.{CheckLine, TellsLines, TellsAll, TellsFront, TellsNotes, Work, afters, afters_of, due_of, ending_of}
+use Rattle.many_jobs.specs.JobChecks.{ending_of_line, keyed, line_text, worse, worst}
 use Rattle.many_jobs.specs.JobNoting.{IsRightlyNoted, Noted, ending_of_notes, note_printer, notes_text}
 use Rattle.notes.specs.Note.{Told as ToldNote}
 use Rattle.many_jobs.specs.NoteReports.{subject_of, told_note}
@@ -76,7 +80,8 @@ key line = (line.job, line.group)
 
 module _ (groups : Groups) (telling : HowTold) (start : List ℕ → SourceState) where
   -- lines that are right, and then some of which the last may lack its notes
-  right_behind : (xs ys : List CheckLine) → AllByRecursion (IsRightLine groups telling start) xs → AreRightToCut groups telling start ys → AreRightToCut groups telling start (xs ++ ys)
+  right_behind : (xs ys : List CheckLine) → AllByRecursion (IsRightLine groups telling start) xs → AreRightToCut groups telling start ys →
+      AreRightToCut groups telling start (xs ++ ys)
   right_behind [] ys first second = second
   right_behind (x ∷ xs) ys first second = (inl first.0, right_behind xs ys first.1 second)
 
@@ -84,25 +89,30 @@ module _ (groups : Groups) (telling : HowTold) (start : List ℕ → SourceState
   tells_none old = ([], record { in_order = refl; right = tt; written = Adds-none old.out; ended = sym (append-nil old.ended) }, refl)
 
   module _ (due due' : List (List ℕ × ℕ)) (old mid new : Work) where
-    tells_both : (lines lines' : List CheckLine) → TellsLines groups telling start due lines old mid → TellsLines groups telling start due' lines' mid new → TellsLines groups telling start (due ++ due') (lines ++ lines') old new
+    tells_both : (lines lines' : List CheckLine) → TellsLines groups telling start due lines old mid →
+        TellsLines groups telling start due' lines' mid new → TellsLines groups telling start (due ++ due') (lines ++ lines') old new
     tells_both lines lines' first second = record {
       in_order = map-append key lines lines' ∙ ap (λ ks. ks ++ map key lines') first.in_order ∙ ap (λ ks. due ++ ks) second.in_order;
       right = All-append (IsRightLine groups telling start) lines lines' first.right second.right;
       written = subst (Adds old.out new.out) (sym (flat_map-append (line_text groups telling) lines lines'))
-          (Adds-trans old.out mid.out new.out (flat_map (line_text groups telling) lines) (flat_map (line_text groups telling) lines') first.written second.written);
+          (Adds-trans old.out mid.out new.out (flat_map (line_text groups telling) lines)
+              (flat_map (line_text groups telling) lines') first.written second.written);
       ended = second.ended ∙ ap (λ es. es ++ afters lines') first.ended ∙ append_assoc old.ended (afters lines) (afters lines')
           ∙ ap (λ es. old.ended ++ es) (sym (flat_map-append afters_of lines lines'));
     }
 
-    pub tells_more : (ending ending' : Ending) → TellsAll groups telling due start ending old mid → TellsAll groups telling due' start ending' mid new → TellsAll groups telling (due ++ due') start (worse ending ending') old new
+    pub tells_more : (ending ending' : Ending) → TellsAll groups telling due start ending old mid →
+        TellsAll groups telling due' start ending' mid new → TellsAll groups telling (due ++ due') start (worse ending ending') old new
     tells_more ending ending' first second = (
       first.0 ++ second.0,
       tells_both first.0 second.0 first.1 second.1,
-      ap (λ e. worse e ending') first.2 ∙ ap (worse (worst telling.exit_zero first.0)) second.2 ∙ sym (worst-append telling.exit_zero first.0 second.0),
+      ap (λ e. worse e ending') first.2 ∙ ap (worse (worst telling.exit_zero first.0)) second.2
+          ∙ sym (worst-append telling.exit_zero first.0 second.0),
     )
 
     -- behind lines that stand there some front was written
-    pub front_behind : (later : List (List ℕ × ℕ)) (ending : Ending) → TellsAll groups telling due start ending old mid → TellsFront groups telling start due' mid new → TellsFront groups telling start (due ++ (due' ++ later)) old new
+    pub front_behind : (later : List (List ℕ × ℕ)) (ending : Ending) → TellsAll groups telling due start ending old mid →
+        TellsFront groups telling start due' mid new → TellsFront groups telling start (due ++ (due' ++ later)) old new
     front_behind later ending first second =
         let text = flat_map (line_text groups telling) first.0 in
         let more = second.written in
@@ -111,24 +121,30 @@ module _ (groups : Groups) (telling : HowTold) (start : List ℕ → SourceState
           later = second.later ++ later;
           untold = second.untold;
           in_order =
-              ap (λ ks. ks ++ (second.later ++ later)) (map-append key first.0 second.lines ∙ ap (λ ks. ks ++ map key second.lines) first.1.in_order)
+              ap (λ ks. ks ++ (second.later ++ later))
+                  (map-append key first.0 second.lines ∙ ap (λ ks. ks ++ map key second.lines) first.1.in_order)
               ∙ append_assoc due (map key second.lines) (second.later ++ later)
-              ∙ ap (λ ks. due ++ ks) (sym (append_assoc (map key second.lines) second.later later) ∙ ap (λ ks. ks ++ later) second.in_order);
+              ∙ ap (λ ks. due ++ ks)
+                  (sym (append_assoc (map key second.lines) second.later later) ∙ ap (λ ks. ks ++ later) second.in_order);
           right = right_behind first.0 second.lines first.1.right second.right;
           written = (
             text ++ more.0,
             more.1,
-            flat_map-append (line_text groups telling) first.0 second.lines ∙ ap (λ t. text ++ t) more.2 ∙ sym (append_assoc text more.0 more.1),
+            flat_map-append (line_text groups telling) first.0 second.lines ∙ ap (λ t. text ++ t) more.2
+                ∙ sym (append_assoc text more.0 more.1),
             Adds-trans old.out mid.out new.out text more.0 first.1.written more.3,
           );
           ended = second.ended ∙ ap (λ es. es ++ (afters second.lines ++ second.untold)) first.1.ended
               ∙ append_assoc old.ended (afters first.0) (afters second.lines ++ second.untold)
-              ∙ ap (λ es. old.ended ++ es) (sym (append_assoc (afters first.0) (afters second.lines) second.untold) ∙ ap (λ es. es ++ second.untold) (sym (flat_map-append afters_of first.0 second.lines)));
+              ∙ ap (λ es. old.ended ++ es)
+                  (sym (append_assoc (afters first.0) (afters second.lines) second.untold)
+                  ∙ ap (λ es. es ++ second.untold) (sym (flat_map-append afters_of first.0 second.lines)));
         }
 
   -- ---- one line
 
-  module _ (job : List ℕ) (number : ℕ) (after : SourceState) (answer : Result Judgement Error) (right : IsRightAnswer (group_at groups number).fleet (start job) after answer) where
+  module _ (job : List ℕ) (number : ℕ) (after : SourceState) (answer : Result Judgement Error)
+      (right : IsRightAnswer (group_at groups number).fleet (start job) after answer) where
     abbrev group : Groups
     group = group_at groups number
 
@@ -146,7 +162,8 @@ module _ (groups : Groups) (telling : HowTold) (start : List ℕ → SourceState
 
     module _ (old new : Work) (ended : new.ended ≡ old.ended ++ after ∷ []) where
       -- no notes are told
-      pub tells_alone : (ending : Ending) → printer_of_notes ≡ None → AddsTold told old.out new.out → ending ≡ ending_of telling.exit_zero (verdict_of answer) → TellsAll groups telling ((job, number) ∷ []) start ending old new
+      pub tells_alone : (ending : Ending) → printer_of_notes ≡ None → AddsTold told old.out new.out →
+          ending ≡ ending_of telling.exit_zero (verdict_of answer) → TellsAll groups telling ((job, number) ∷ []) start ending old new
       tells_alone ending none adds is =
           let text = told adds.0 in (
             line_with adds.0 None ∷ [],
@@ -186,9 +203,12 @@ module _ (groups : Groups) (telling : HowTold) (start : List ℕ → SourceState
       cuts_line NoProfile cut = absurd cut
       cuts_line Items cut = absurd cut
 
-    module _ (printer : Printer) (has : printer_of_notes ≡ Some printer) (old mid new : Work) (ended : mid.ended ≡ old.ended ++ after ∷ []) (adds : AddsTold told old.out mid.out) where
+    module _ (printer : Printer) (has : printer_of_notes ≡ Some printer) (old mid new : Work) (ended : mid.ended ≡ old.ended ++ after ∷ [])
+        (adds : AddsTold told old.out mid.out) where
       -- notes are told
-      pub tells_noted : (noted : Noted) (ending ending' : Ending) → TellsNotes group telling printer (start job) job mid new (Adds mid.out new.out) noted → ending ≡ ending_of telling.exit_zero (verdict_of answer) → ending' ≡ ending_of_notes noted.notes
+      pub tells_noted : (noted : Noted) (ending ending' : Ending) →
+          TellsNotes group telling printer (start job) job mid new (Adds mid.out new.out) noted →
+          ending ≡ ending_of telling.exit_zero (verdict_of answer) → ending' ≡ ending_of_notes noted.notes
           → TellsAll groups telling ((job, number) ∷ []) start (worse ending ending') old new
       tells_noted noted ending ending' tells is is' =
           let text = told adds.0 in
@@ -197,14 +217,17 @@ module _ (groups : Groups) (telling : HowTold) (start : List ℕ → SourceState
             record {
               in_order = refl;
               right = ((right, subst (λ printer. IsRightlyNoted write_note (start job) printer (Some noted)) (sym has) tells.right), tt);
-              written = subst (Adds old.out new.out) (sym (append-nil (text ++ notes))) (Adds-trans old.out mid.out new.out text notes adds.1 tells.written);
+              written =
+                  subst (Adds old.out new.out) (sym (append-nil (text ++ notes)))
+                  (Adds-trans old.out mid.out new.out text notes adds.1 tells.written);
               ended = tells.ended ∙ ap (λ es. es ++ noted.after ∷ []) ended ∙ append_assoc old.ended (after ∷ []) (noted.after ∷ []);
             },
             ap (λ e. worse e ending') is ∙ ap (worse (ending_of telling.exit_zero (verdict_of answer))) is',
           )
 
       -- what is told of them is not there whole
-      pub cuts_notes : (error : Error) → CutsNotes error group telling printer (start job) job mid new → TellsFront groups telling start ((job, number) ∷ []) old new
+      pub cuts_notes : (error : Error) → CutsNotes error group telling printer (start job) job mid new →
+          TellsFront groups telling start ((job, number) ∷ []) old new
       cuts_notes Memory cut =
           let text = told adds.0 in
           record {
@@ -213,7 +236,12 @@ module _ (groups : Groups) (telling : HowTold) (start : List ℕ → SourceState
             untold = cut.0 ∷ [];
             in_order = refl;
             right = (inr (right, refl, refl), tt);
-            written = (text ++ [], [], refl, subst (λ o. Adds old.out o (text ++ [])) (sym cut.1) (subst (Adds old.out mid.out) (sym (append-nil text)) adds.1));
+            written = (
+              text ++ [],
+              [],
+              refl,
+              subst (λ o. Adds old.out o (text ++ [])) (sym cut.1) (subst (Adds old.out mid.out) (sym (append-nil text)) adds.1),
+            );
             ended = cut.2 ∙ ap (λ es. es ++ cut.0 ∷ []) ended ∙ append_assoc old.ended (after ∷ []) (cut.0 ∷ []);
           }
       cuts_notes Write cut =
@@ -244,11 +272,13 @@ module _ (groups : Groups) (telling : HowTold) (start : List ℕ → SourceState
   -- ---- the lines of a job, and those of all
 
   -- the group of this number is the next one
-  pub next_group : (job : List ℕ) (number : ℕ) → map (keyed job) (range_with_len 0 (number + 1)) ≡ map (keyed job) (range_with_len 0 number) ++ (job, number) ∷ []
+  pub next_group : (job : List ℕ) (number : ℕ) →
+      map (keyed job) (range_with_len 0 (number + 1)) ≡ map (keyed job) (range_with_len 0 number) ++ (job, number) ∷ []
   next_group job number = map-range_with_len_more (keyed job) 0 number number (omega arith)
 
   -- and there are others behind it
-  pub groups_behind : (job : List ℕ) (first number count : ℕ) → first + number ≡ count → map (keyed job) (range_with_len 0 count) ≡ map (keyed job) (range_with_len 0 first) ++ map (keyed job) (range_with_len first number)
+  pub groups_behind : (job : List ℕ) (first number count : ℕ) → first + number ≡ count →
+      map (keyed job) (range_with_len 0 count) ≡ map (keyed job) (range_with_len 0 first) ++ map (keyed job) (range_with_len first number)
   groups_behind job first zero count is =
       ap (λ k. map (keyed job) (range_with_len 0 k)) (let same : count ≡ first = omega (arith, is) in same) ∙ sym (append-nil _)
   groups_behind job first (suc number) count is =
@@ -256,13 +286,18 @@ module _ (groups : Groups) (telling : HowTold) (start : List ℕ → SourceState
       ∙ ap (λ ks. ks ++ map (keyed job) (range_with_len (first + 1) number)) (next_group job first)
       ∙ append_assoc (map (keyed job) (range_with_len 0 first)) ((job, first) ∷ []) (map (keyed job) (range_with_len (first + 1) number))
 
-  pub next_job : {X : Type 0} (name : X → List ℕ) (names : List X) (i : ℕ) (d : X) → i < length names → flat_map (due_of groups) (map name (take (i + 1) names)) ≡ flat_map (due_of groups) (map name (take i names)) ++ due_of groups (name (get_or names i d))
+  pub next_job : {X : Type 0} (name : X → List ℕ) (names : List X) (i : ℕ) (d : X) → i < length names →
+      flat_map (due_of groups) (map name (take (i + 1) names))
+      ≡ flat_map (due_of groups) (map name (take i names)) ++ due_of groups (name (get_or names i d))
   next_job name names i d h =
       ap (flat_map (due_of groups)) (map_more name names i d h)
       ∙ flat_map-append (due_of groups) (map name (take i names)) (name (get_or names i d) ∷ [])
       ∙ ap (λ ks. flat_map (due_of groups) (map name (take i names)) ++ ks) (append-nil (due_of groups (name (get_or names i d))))
 
-  pub jobs_behind : {X : Type 0} (name : X → List ℕ) (names : List X) (i : ℕ) (d : X) → i < length names → flat_map (due_of groups) (map name names) ≡ flat_map (due_of groups) (map name (take i names)) ++ (due_of groups (name (get_or names i d)) ++ flat_map (due_of groups) (map name (drop (suc i) names)))
+  pub jobs_behind : {X : Type 0} (name : X → List ℕ) (names : List X) (i : ℕ) (d : X) → i < length names →
+      flat_map (due_of groups) (map name names)
+      ≡ flat_map (due_of groups) (map name (take i names))
+      ++ (due_of groups (name (get_or names i d)) ++ flat_map (due_of groups) (map name (drop (suc i) names)))
   jobs_behind name names i d h =
       ap (λ l. flat_map (due_of groups) (map name l)) (split_at names i d h)
       ∙ ap (flat_map (due_of groups)) (map-append name (take i names) (get_or names i d ∷ drop (suc i) names))
@@ -271,7 +306,8 @@ module _ (groups : Groups) (telling : HowTold) (start : List ℕ → SourceState
 -- ---- what a check answers
 
 -- why a job has no verdict, where there are printers
-pub error_of_job : {T : Type 0} (fleet : List Printer) (r : Result T Error) → IfErr r (λ error. error ≢ Write) → (IsErrOf r NoProfile → fleet ≡ []) → fleet ≢ [] → IfErr r IsErrorOfJob
+pub error_of_job : {T : Type 0} (fleet : List Printer) (r : Result T Error) → IfErr r (λ error. error ≢ Write) →
+    (IsErrOf r NoProfile → fleet ≡ []) → fleet ≢ [] → IfErr r IsErrorOfJob
 error_of_job fleet (Ok x) never none some = tt
 error_of_job fleet (Err Memory) never none some = tt
 error_of_job fleet (Err Read) never none some = tt
@@ -282,43 +318,57 @@ error_of_job fleet (Err Items) never none some = tt
 
 -- it is right for the fleet, where it has a verdict
 pub right_verdict : (fleet : List Printer) (start after : SourceState) (r : Result Judgement Error)
-    → IfOk r (λ answer. ByReads start after (λ job. IsExact fleet job answer.verdict)) → IfOk r (λ answer. ByReads start after (λ job. KeepsPromise fleet job answer.verdict)) → IfOk r (λ answer. NeedsEachRead fleet start after)
+    → IfOk r (λ answer. ByReads start after (λ job. IsExact fleet job answer.verdict))
+    → IfOk r (λ answer. ByReads start after (λ job. KeepsPromise fleet job answer.verdict))
+    → IfOk r (λ answer. NeedsEachRead fleet start after)
     → IfOk r (λ answer. IsRight start after fleet answer.verdict)
 right_verdict fleet start after (Ok answer) exact promise needed = record { exact = exact; promise = promise; needed = needed }
 right_verdict fleet start after (Err error) exact promise needed = tt
 
 -- a group has printers where there are some
-pub of_group-some : {X : Type 0} (is_each : Bool) (all : List X) (number : ℕ) → all ≢ [] → number < (if is_each then length all else 1) → of_group is_each all number ≢ []
-of_group-some true all number some inside = λ none. absurd (omega (arith, inside, ap length none, length-take 1 (drop number all), length-drop number all))
+pub of_group-some : {X : Type 0} (is_each : Bool) (all : List X) (number : ℕ) → all ≢ [] → number < (if is_each then length all else 1) →
+    of_group is_each all number ≢ []
+of_group-some true all number some inside =
+    λ none. absurd (omega (arith, inside, ap length none, length-take 1 (drop number all), length-drop number all))
 of_group-some false all number some inside = some
 
 -- ---- a loop over the jobs, and over the groups of one
 
 module _ (groups : Groups) (telling : HowTold) (start : List ℕ → SourceState) where
-  pub jobs_more : {X : Type 0} (name : X → List ℕ) (names : List X) (i : ℕ) (d : X) (old mid new : Work) (ending ending' : Ending) → i < length names → (start' : List ℕ → SourceState) → start' ≡ start
-      → TellsAll groups telling (flat_map (due_of groups) (map name (take i names))) start ending old mid → TellsAll groups telling (due_of groups (name (get_or names i d))) start' ending' mid new
+  pub jobs_more : {X : Type 0} (name : X → List ℕ) (names : List X) (i : ℕ) (d : X) (old mid new : Work) (ending ending' : Ending) →
+      i < length names → (start' : List ℕ → SourceState) → start' ≡ start
+      → TellsAll groups telling (flat_map (due_of groups) (map name (take i names))) start ending old mid
+      → TellsAll groups telling (due_of groups (name (get_or names i d))) start' ending' mid new
       → TellsAll groups telling (flat_map (due_of groups) (map name (take (i + 1) names))) start (worse ending ending') old new
   jobs_more name names i d old mid new ending ending' h start' same before more =
       subst (λ due. TellsAll groups telling due start (worse ending ending') old new) (sym (next_job groups telling start name names i d h))
-      (tells_more groups telling start (flat_map (due_of groups) (map name (take i names))) (due_of groups (name (get_or names i d))) old mid new ending ending' before
+      (tells_more groups telling start (flat_map (due_of groups) (map name (take i names)))
+      (due_of groups (name (get_or names i d))) old mid new ending ending' before
       (subst (λ s. TellsAll groups telling (due_of groups (name (get_or names i d))) s ending' mid new) same more))
 
-  pub jobs_cut : {X : Type 0} (name : X → List ℕ) (names : List X) (i : ℕ) (d : X) (old mid new : Work) (ending : Ending) → i < length names → (start' : List ℕ → SourceState) → start' ≡ start
-      → TellsAll groups telling (flat_map (due_of groups) (map name (take i names))) start ending old mid → TellsFront groups telling start' (due_of groups (name (get_or names i d))) mid new
+  pub jobs_cut : {X : Type 0} (name : X → List ℕ) (names : List X) (i : ℕ) (d : X) (old mid new : Work) (ending : Ending) →
+      i < length names → (start' : List ℕ → SourceState) → start' ≡ start
+      → TellsAll groups telling (flat_map (due_of groups) (map name (take i names))) start ending old mid
+      → TellsFront groups telling start' (due_of groups (name (get_or names i d))) mid new
       → TellsFront groups telling start (flat_map (due_of groups) (map name names)) old new
   jobs_cut name names i d old mid new ending h start' same before cut =
       subst (λ due. TellsFront groups telling start due old new) (sym (jobs_behind groups telling start name names i d h))
-      (front_behind groups telling start (flat_map (due_of groups) (map name (take i names))) (due_of groups (name (get_or names i d))) old mid new (flat_map (due_of groups) (map name (drop (suc i) names))) ending before
+      (front_behind groups telling start (flat_map (due_of groups) (map name (take i names)))
+      (due_of groups (name (get_or names i d))) old mid new (flat_map (due_of groups) (map name (drop (suc i) names))) ending before
       (subst (λ s. TellsFront groups telling s (due_of groups (name (get_or names i d))) mid new) same cut))
 
-  module _ (job : List ℕ) (number : ℕ) (old mid new : Work) (ending : Ending) (before : TellsAll groups telling (map (keyed job) (range_with_len 0 number)) start ending old mid) (start' : List ℕ → SourceState) (same : start' ≡ start) where
-    pub groups_more : (ending' : Ending) → TellsAll groups telling (keyed job number ∷ []) start' ending' mid new → TellsAll groups telling (map (keyed job) (range_with_len 0 (number + 1))) start (worse ending ending') old new
+  module _ (job : List ℕ) (number : ℕ) (old mid new : Work) (ending : Ending)
+      (before : TellsAll groups telling (map (keyed job) (range_with_len 0 number)) start ending old mid)
+      (start' : List ℕ → SourceState) (same : start' ≡ start) where
+    pub groups_more : (ending' : Ending) → TellsAll groups telling (keyed job number ∷ []) start' ending' mid new →
+        TellsAll groups telling (map (keyed job) (range_with_len 0 (number + 1))) start (worse ending ending') old new
     groups_more ending' more =
         subst (λ due. TellsAll groups telling due start (worse ending ending') old new) (sym (next_group groups telling start job number))
         (tells_more groups telling start (map (keyed job) (range_with_len 0 number)) ((job, number) ∷ []) old mid new ending ending' before
         (subst (λ s. TellsAll groups telling (keyed job number ∷ []) s ending' mid new) same more))
 
-    pub groups_cut : number < group_count groups → TellsFront groups telling start' (keyed job number ∷ []) mid new → TellsFront groups telling start (due_of groups job) old new
+    pub groups_cut : number < group_count groups → TellsFront groups telling start' (keyed job number ∷ []) mid new →
+        TellsFront groups telling start (due_of groups job) old new
     groups_cut inside cut =
         let rest : number + 1 + (group_count groups - (number + 1)) ≡ group_count groups = omega (arith, inside) in
         let later : List (List ℕ × ℕ) = map (keyed job) (range_with_len (number + 1) (group_count groups - (number + 1))) in
@@ -337,7 +387,8 @@ where_err (Err error) P p = p
 -- ---- the printers of texts
 
 -- texts describe one fleet
-same_fleet : (texts : List (List ℕ)) (fleet other : List Printer) → DescribeFleet (map (λ text. Some text) texts) fleet → DescribeFleet (map (λ text. Some text) texts) other → fleet ≡ other
+same_fleet : (texts : List (List ℕ)) (fleet other : List Printer) → DescribeFleet (map (λ text. Some text) texts) fleet →
+    DescribeFleet (map (λ text. Some text) texts) other → fleet ≡ other
 same_fleet [] [] [] first second = refl
 same_fleet [] [] (q ∷ other) first second = absurd second
 same_fleet [] (p ∷ fleet) other first second = absurd first
@@ -350,13 +401,19 @@ same_fleet (text ∷ texts) (p ∷ fleet) (q ∷ other) first second =
     cc
 
 -- the printers that notes are told for are those of the fleet
-same_printers : (tells_notes : Bool) (given : List (List ℕ)) (fleet printers : List Printer) → DescribeBy [] given fleet → AreNotePrinters tells_notes given printers → printers ≡ (if tells_notes then map with_most_items fleet else [])
+same_printers : (tells_notes : Bool) (given : List (List ℕ)) (fleet printers : List Printer) → DescribeBy [] given fleet →
+    AreNotePrinters tells_notes given printers → printers ≡ (if tells_notes then map with_most_items fleet else [])
 same_printers true given fleet printers by are =
     let texts : are.1.0 ≡ by.0 = sym are.1.1 ∙ by.1 in
-    are.2 ∙ ap (map with_most_items) (same_fleet by.0 are.0 fleet (subst (λ ts. DescribeFleet (map (λ text. Some text) ts) are.0) texts are.1.2) by.2)
+    are.2
+    ∙ ap (map with_most_items)
+    (same_fleet by.0 are.0 fleet (subst (λ ts. DescribeFleet (map (λ text. Some text) ts) are.0) texts are.1.2) by.2)
 same_printers false given fleet printers by are = are
 
-pub of_texts : (known : List (Option (List ℕ))) (most : Option ℕ) (tells_notes : Bool) (groups : Groups) (fleet printers : List Printer) (names given : List (List ℕ)) → groups.fleet ≡ map (limited most) fleet → groups.note_printers ≡ printers → groups.names ≡ names → DescribeFleet known fleet → DescribeBy [] given fleet → AreNotePrinters tells_notes given printers → names ≡ map printer_name given → AreOfTexts known most tells_notes groups
+pub of_texts : (known : List (Option (List ℕ))) (most : Option ℕ) (tells_notes : Bool) (groups : Groups) (fleet printers : List Printer)
+    (names given : List (List ℕ)) → groups.fleet ≡ map (limited most) fleet → groups.note_printers ≡ printers → groups.names ≡ names →
+    DescribeFleet known fleet → DescribeBy [] given fleet → AreNotePrinters tells_notes given printers → names ≡ map printer_name given →
+    AreOfTexts known most tells_notes groups
 of_texts known most tells_notes groups fleet printers names given fleet_is printers_are names_are described by are named = record {
   fleet = fleet;
   described = described;
@@ -368,11 +425,13 @@ of_texts known most tells_notes groups fleet printers names given fleet_is print
 }
 
 -- one more text gives one more of these printers
-pub note_printers_more : {X : Type 0} (bytes : X → List ℕ) (texts : List X) (i : ℕ) (d : X) (printers : List Printer) (printer : Printer) → i < length texts → AreNotePrinters true (map bytes (take i texts)) printers → printer_of_text (bytes (get_or texts i d)) ≡ Ok printer
+pub note_printers_more : {X : Type 0} (bytes : X → List ℕ) (texts : List X) (i : ℕ) (d : X) (printers : List Printer) (printer : Printer) →
+    i < length texts → AreNotePrinters true (map bytes (take i texts)) printers → printer_of_text (bytes (get_or texts i d)) ≡ Ok printer
     → AreNotePrinters true (map bytes (take (i + 1) texts)) (printers ++ with_most_items printer ∷ [])
 note_printers_more bytes texts i d printers printer h before is = (
   before.0 ++ printer ∷ [],
-  DescribeBy-more [] (map bytes (take i texts)) (map bytes (take (i + 1) texts)) before.0 (printer ∷ []) before.1 (bytes (get_or texts i d) ∷ [], map_more bytes texts i d h, (is, tt)),
+  DescribeBy-more [] (map bytes (take i texts)) (map bytes (take (i + 1) texts)) before.0 (printer ∷ []) before.1
+      (bytes (get_or texts i d) ∷ [], map_more bytes texts i d h, (is, tt)),
   ap (λ (ps : List Printer). ps ++ with_most_items printer ∷ []) before.2 ∙ sym (map-append with_most_items before.0 (printer ∷ [])),
 )
 
@@ -385,5 +444,6 @@ end_error known Turns end = absurd end
 end_error known NoProfile end = absurd end
 end_error known Items end = absurd end
 
-pub error_of_end : (known : List (Option (List ℕ))) (status : Status) (error : Error) → status ≡ Stopped error → IsEndOfFleet known status → IsErrorOfReading error
+pub error_of_end : (known : List (Option (List ℕ))) (status : Status) (error : Error) → status ≡ Stopped error → IsEndOfFleet known status →
+    IsErrorOfReading error
 error_of_end known status error is end = end_error known error (subst (IsEndOfFleet known) is end)

@@ -1,5 +1,6 @@
 -- Lemmas on the notes of a job, in a check of many jobs.
-use Rattle.std.proofs.Common.{◌≡◌, ℕ, Bool, true, false, List, [], ◌∷◌, ◌++◌, Option, Result, Ok, Err, IfOk, IfErr, refl, sym, ◌∙◌, ap, subst, inl, inr, true≢false}
+use Rattle.std.proofs.Common.{◌≡◌, ℕ, Bool, true, false, List, [], ◌∷◌, ◌++◌, Option, Result, Ok, Err, IfOk, IfErr, refl, sym, ◌∙◌, ap}
+use Rattle.std.proofs.Common.{subst, inl, inr, true≢false}
 use Rattle.device_profile.specs.declared.panel.Panel.{Panel}
 use Rattle.device_profile.specs.Printer.{Printer, first_panel}
 use Rattle.streams.specs.declared.error.Error.{Error}
@@ -26,9 +27,11 @@ abbrev is_done : Outcome → Bool
 is_done AllDone = true
 is_done (Fail place profile reason) = false
 
-module _ (write : Told → List ℕ) (printer : Printer) (panel : Panel) (first : panel ≡ first_panel printer) (job job' : SourceState) (kept kept' : OutletState) where
+module _ (write : Told → List ℕ) (printer : Printer) (panel : Panel) (first : panel ≡ first_panel printer) (job job' : SourceState)
+    (kept kept' : OutletState) where
   -- what came of the job that was gone through
-  comes : (outcome : Outcome) (text : List ℕ) → Renders (notes_rendering write printer panel) job job' kept kept' (Ok outcome) → kept.taken ≡ [] → text ≡ kept'.taken → Comes write printer job job' text outcome
+  comes : (outcome : Outcome) (text : List ℕ) → Renders (notes_rendering write printer panel) job job' kept kept' (Ok outcome) →
+      kept.taken ≡ [] → text ≡ kept'.taken → Comes write printer job job' text outcome
   comes outcome text rendered empty is =
       let due = rendered.written in
       let text_is : due.text ≡ text = sym (is ∙ (due.adds.taken ∙ ap (λ l. l ++ due.text) empty)) in
@@ -36,7 +39,8 @@ module _ (write : Told → List ℕ) (printer : Printer) (panel : Panel) (first 
       (subst (λ (t : List ℕ). ByReads job job' (λ bytes. IsDue (notes_rendering write printer panel) bytes t outcome)) text_is due.due)
 
   -- to its end
-  pub notes_had : (text : List ℕ) → Renders (notes_rendering write printer panel) job job' kept kept' (Ok AllDone) → kept.taken ≡ [] → text ≡ kept'.taken → AreRightNotes write printer job job' (Ok text)
+  pub notes_had : (text : List ℕ) → Renders (notes_rendering write printer panel) job job' kept kept' (Ok AllDone) → kept.taken ≡ [] →
+      text ≡ kept'.taken → AreRightNotes write printer job job' (Ok text)
   notes_had text rendered empty is = record {
     text = comes AllDone text rendered empty is;
     error = tt;
@@ -45,16 +49,25 @@ module _ (write : Told → List ℕ) (printer : Printer) (panel : Panel) (first 
   }
 
   -- to a failure
-  pub notes_lost : (place profile : ℕ) (reason : Reason) → Renders (notes_rendering write printer panel) job job' kept kept' (Ok (Fail place profile reason)) → kept.taken ≡ [] → AreRightNotes write printer job job' (Err Read)
+  pub notes_lost : (place profile : ℕ) (reason : Reason) →
+      Renders (notes_rendering write printer panel) job job' kept kept' (Ok (Fail place profile reason)) → kept.taken ≡ [] →
+      AreRightNotes write printer job job' (Err Read)
   notes_lost place profile reason rendered empty = record {
     text = tt;
     error = tt;
     failed = λ failed. refl;
-    read = λ it. inr (kept'.taken, Fail place profile reason, λ is. true≢false (sym (ap is_done is)), comes (Fail place profile reason) kept'.taken rendered empty refl);
+    read =
+        λ it. inr (
+          kept'.taken,
+          Fail place profile reason,
+          λ is. true≢false (sym (ap is_done is)),
+          comes (Fail place profile reason) kept'.taken rendered empty refl,
+        );
   }
 
   -- it was not gone through, for this error, and no read failed
-  stopped_by : (error : Error) → IsErrorOfNotes error → is_read error ≡ false → job'.failed ≡ false → AreRightNotes write printer job job' (Err error)
+  stopped_by : (error : Error) → IsErrorOfNotes error → is_read error ≡ false → job'.failed ≡ false →
+      AreRightNotes write printer job job' (Err error)
   stopped_by error is other read = record {
     text = tt;
     error = is;
@@ -62,7 +75,8 @@ module _ (write : Told → List ℕ) (printer : Printer) (panel : Panel) (first 
     read = λ it. absurd (true≢false (sym (ap is_err_of_read it) ∙ other));
   }
 
-  pub notes_stopped : (error : Error) → Renders (notes_rendering write printer panel) job job' kept kept' (Err error) → AreRightNotes write printer job job' (Err (kept_error error))
+  pub notes_stopped : (error : Error) → Renders (notes_rendering write printer panel) job job' kept kept' (Err error) →
+      AreRightNotes write printer job job' (Err (kept_error error))
   notes_stopped Memory rendered = stopped_by Memory tt refl rendered.read
   notes_stopped Read rendered = record { text = tt; error = tt; failed = λ failed. refl; read = λ it. inl rendered.read }
   notes_stopped Write rendered = stopped_by Memory tt refl rendered.read
@@ -72,14 +86,19 @@ module _ (write : Told → List ℕ) (printer : Printer) (panel : Panel) (first 
 
 -- ---- what was written of them
 
-module _ (group : Groups) (telling : HowTold) (printer : Printer) (start after : SourceState) (job : List ℕ) (old new : Work) (notes : Result (List ℕ) Error)
-    (right : AreRightNotes (told_note telling (subject_of group job)) printer start after notes) (ended : new.ended ≡ old.ended ++ after ∷ []) where
+module _ (group : Groups) (telling : HowTold) (printer : Printer) (start after : SourceState) (job : List ℕ) (old new : Work)
+    (notes : Result (List ℕ) Error)
+    (right : AreRightNotes (told_note telling (subject_of group job)) printer start after notes)
+    (ended : new.ended ≡ old.ended ++ after ∷ []) where
   abbrev noted_with : Option (List ℕ) → Noted
   noted_with cause = record { after = after; notes = notes; cause = cause }
 
   -- all of it
-  pub notes_told : (r : Result Ending Error) → IfOk r (λ ending. (ending ≡ ending_of_notes notes) × AddsTold (notes_text telling group job notes) old.out new.out)
-      → IfOk r (λ ending. (noted : Noted) × (ending ≡ ending_of_notes noted.notes) × TellsNotes group telling printer start job old new (Adds old.out new.out) noted)
+  pub notes_told : (r : Result Ending Error) →
+      IfOk r (λ ending. (ending ≡ ending_of_notes notes) × AddsTold (notes_text telling group job notes) old.out new.out)
+      → IfOk r (λ ending.
+      (noted : Noted) × (ending ≡ ending_of_notes noted.notes)
+      × TellsNotes group telling printer start job old new (Adds old.out new.out) noted)
   notes_told (Ok ending) told = (noted_with told.1.0, told.0, record { right = right; written = told.1.1; ended = ended })
   notes_told (Err error) told = tt
 

@@ -39,17 +39,21 @@ unset = Ok (record {
   culprit = Some (Simple (Parameterized PageSize (record { sign = Absent; ten_thousandths = 20000; within = lit≤ tt })));
 })
 
-object_of_pass : job_object [] (report_of false (codes "in/note 4712.pcl") passed None) ≡ codes "{\"job\":\"in/note 4712.pcl\",\"marks\":22,\"pages\":1,\"verdict\":\"PASS\"}\n"
+object_of_pass : job_object [] (report_of false (codes "in/note 4712.pcl") passed None)
+    ≡ codes "{\"job\":\"in/note 4712.pcl\",\"marks\":22,\"pages\":1,\"verdict\":\"PASS\"}\n"
 unfolding serde_json_on_literals is_utf8 chars encode_utf8 digits
 object_of_pass = refl
 
 object_of_fail : job_object [] (report_of false (codes "a.pcl") unset None)
-    ≡ codes "{\"at\":134,\"code\":12,\"command\":\"ESC &l2A\",\"field\":\"Size\",\"finding\":\"Unset\",\"job\":\"a.pcl\",\"printer\":\"export-desk\",\"profile\":2,\"verdict\":\"FAIL\"}\n"
+    ≡ codes
+    "{\"at\":134,\"code\":12,\"command\":\"ESC &l2A\",\"field\":\"Size\",\"finding\":\"Unset\",\"job\":\"a.pcl\",\"printer\":\"export-desk\",\"profile\":2,\"verdict\":\"FAIL\"}\n"
 unfolding serde_json_on_literals is_utf8 chars encode_utf8 digits
 object_of_fail = refl
 
-explained : job_object (codes "12 Unset\nset it\n") (report_of true (codes "a.pcl") (Ok (record { verdict = Fail 134 1 (Finding (Unset Size)); culprit = None })) None)
-    ≡ codes "{\"at\":134,\"code\":12,\"explanation\":\"12 Unset\\nset it\\n\",\"field\":\"Size\",\"finding\":\"Unset\",\"job\":\"a.pcl\",\"printer\":\"counter\",\"profile\":1,\"verdict\":\"FAIL\"}\n"
+explained : job_object (codes "12 Unset\nset it\n")
+    (report_of true (codes "a.pcl") (Ok (record { verdict = Fail 134 1 (Finding (Unset Size)); culprit = None })) None)
+    ≡ codes
+    "{\"at\":134,\"code\":12,\"explanation\":\"12 Unset\\nset it\\n\",\"field\":\"Size\",\"finding\":\"Unset\",\"job\":\"a.pcl\",\"printer\":\"counter\",\"profile\":1,\"verdict\":\"FAIL\"}\n"
 unfolding serde_json_on_literals is_utf8 chars encode_utf8 digits
 explained = refl
 
@@ -67,11 +71,13 @@ unfolding serde_json_on_literals is_utf8 chars encode_utf8 digits
 letter_and_backslash = refl
 
 -- a byte that is no UTF-8, and a backslash
-no_text : job_object [] (report_of false (codes "caf" ++ 233 ∷ codes "\\ x.pcl") passed None) ≡ codes "{\"job\":\"caf\\\\xe9\\\\x5c x.pcl\",\"marks\":22,\"pages\":1,\"verdict\":\"PASS\"}\n"
+no_text : job_object [] (report_of false (codes "caf" ++ 233 ∷ codes "\\ x.pcl") passed None)
+    ≡ codes "{\"job\":\"caf\\\\xe9\\\\x5c x.pcl\",\"marks\":22,\"pages\":1,\"verdict\":\"PASS\"}\n"
 unfolding serde_json_on_literals is_utf8 chars encode_utf8 digits
 no_text = refl
 
 -- quotes and the end of a line
-quoted_name : job_object [] (report_of false (codes "\"a\"\n") passed None) ≡ codes "{\"job\":\"\\\"a\\\"\\n\",\"marks\":22,\"pages\":1,\"verdict\":\"PASS\"}\n"
+quoted_name : job_object [] (report_of false (codes "\"a\"\n") passed None)
+    ≡ codes "{\"job\":\"\\\"a\\\"\\n\",\"marks\":22,\"pages\":1,\"verdict\":\"PASS\"}\n"
 unfolding serde_json_on_literals is_utf8 chars encode_utf8 digits
 quoted_name = refl

@@ -1,5 +1,6 @@
 -- Members without floats.
-use Rattle.std.proofs.Common.{◌≡◌, ℕ, List, Bool, true, false, ◌||◌, Result, Ok, Err, OnOk, OnErr, Ordering, Less, Equal, Greater, refl, arith, true≢false}
+use Rattle.std.proofs.Common.{◌≡◌, ℕ, List, Bool, true, false, ◌||◌, Result, Ok, Err, OnOk, OnErr, Ordering, Less, Equal, Greater, refl}
+use Rattle.std.proofs.Common.{arith, true≢false}
 use Rattle.std.specs.Ordering.{nat_cmp, match_ordering}
 use Rattle.std.specs.Cmp.Lexicographic.{slice_cmp}
 use Rattle.std.proofs.lemmas.Bool.Decides.{nat_tests}
@@ -19,12 +20,14 @@ first : (a b : Bool) → (a || b) ≡ false → a ≡ false
 first true b e = e
 first false b e = refl
 
-chosen : (o : Ordering) (a b c : Members) → members_have_float a ≡ false → members_have_float b ≡ false → members_have_float c ≡ false → members_have_float (match_ordering o a b c) ≡ false
+chosen : (o : Ordering) (a b c : Members) → members_have_float a ≡ false → members_have_float b ≡ false → members_have_float c ≡ false →
+    members_have_float (match_ordering o a b c) ≡ false
 chosen Less a b c p q r = p
 chosen Equal a b c p q r = q
 chosen Greater a b c p q r = r
 
-members_have_float-put : (k : List ℕ) (d : Data) (ms : Members) → has_float d ≡ false → members_have_float ms ≡ false → members_have_float (put k d ms) ≡ false
+members_have_float-put : (k : List ℕ) (d : Data) (ms : Members) → has_float d ≡ false → members_have_float ms ≡ false →
+    members_have_float (put k d ms) ≡ false
 members_have_float-put k d no_members p q = neither (has_float d) false p refl
 members_have_float-put k d (member l e ms) p q =
     let here = first (has_float e) (members_have_float ms) q in
@@ -33,7 +36,8 @@ members_have_float-put k d (member l e ms) p q =
     (neither (has_float e) _ here (members_have_float-put k d ms p rest))
 
 -- a put that fails leaves the members
-pub no_float-put : {T E : Type 0} (r : Result T E) (k : List ℕ) (d : Data) (old new : List Entry) → OnOk r (members_view new ≡ put k d (members_view old)) → OnErr r (new ≡ old)
+pub no_float-put : {T E : Type 0} (r : Result T E) (k : List ℕ) (d : Data) (old new : List Entry) →
+    OnOk r (members_view new ≡ put k d (members_view old)) → OnErr r (new ≡ old)
     → has_float d ≡ false → members_have_float (members_view old) ≡ false → members_have_float (members_view new) ≡ false
 no_float-put (Ok x) k d old new ok err p q = rw ok (members_have_float-put k d (members_view old) p q)
 no_float-put (Err e) k d old new ok err p q = rw err q

@@ -1,5 +1,6 @@
 -- Names and words as texts of JSON.
-use Rattle.std.proofs.Common.{◌≡◌, ◌≢◌, ℕ, suc, ◌<◌, ◌/◌, ◌%◌, if◌then◌else◌, Bool, true, false, List, [], ◌∷◌, ◌++◌, length, get_or, flat_map, refl, sym, ap, ◌∙◌, arith, append-nil, append_assoc}
+use Rattle.std.proofs.Common.{◌≡◌, ◌≢◌, ℕ, suc, ◌<◌, ◌/◌, ◌%◌, if◌then◌else◌, Bool, true, false, List, [], ◌∷◌, ◌++◌, length, get_or}
+use Rattle.std.proofs.Common.{flat_map, refl, sym, ap, ◌∙◌, arith, append-nil, append_assoc}
 use Rattle.std.specs.Char.{encode_utf8}
 use Rattle.std.specs.Str.{IsAscii, IsUtf8, encode_utf8_all, is_utf8}
 use Rattle.std.proofs.lemmas.Str.{IsAscii-append, IsUtf8-from_is_utf8, is_utf8-from_IsUtf8, inside_one, encode_ascii, encodes-append}
@@ -20,14 +21,16 @@ escaped-ascii false b h l =
     let high = hex_digit (b / 16) in
     let low = hex_digit (b % 16) in
     IsAscii-cons 92 (120 ∷ high ∷ low ∷ []) (omega arith) (IsAscii-cons 120 (high ∷ low ∷ []) (omega arith)
-    (IsAscii-cons high (low ∷ []) (hex_digit-ascii (b / 16) (omega arith)) (IsAscii-cons low [] (hex_digit-ascii (b % 16) (omega arith)) IsAscii-nil)))
+    (IsAscii-cons high (low ∷ []) (hex_digit-ascii (b / 16) (omega arith))
+        (IsAscii-cons low [] (hex_digit-ascii (b % 16) (omega arith)) IsAscii-nil)))
 
 IsAscii-shown_byte : (b : ℕ) → b < 256 → IsAscii (shown_byte b)
 IsAscii-shown_byte b h = escaped-ascii _ b (grind (arith, nat_tests)) h
 
 pub IsAscii-shown : (name : List ℕ) → ((k : ℕ) → get_or name k 0 < 256) → IsAscii (shown name)
 IsAscii-shown [] small = IsAscii-nil
-IsAscii-shown (b ∷ name) small = IsAscii-append (shown_byte b) (shown name) (IsAscii-shown_byte b (small 0)) (IsAscii-shown name (λ k. small (suc k)))
+IsAscii-shown (b ∷ name) small =
+    IsAscii-append (shown_byte b) (shown name) (IsAscii-shown_byte b (small 0)) (IsAscii-shown name (λ k. small (suc k)))
 
 -- ---- backslashes
 
@@ -37,12 +40,17 @@ one_byte x h = grind (arith, nat_tests)
 -- without a backslash nothing is doubled
 unchanged : (xs : List ℕ) → ((k : ℕ) → k < length xs → get_or xs k 0 ≢ 92) → flat_map backslash_doubled xs ≡ xs
 unchanged [] h = refl
-unchanged (x ∷ xs) h = ap (λ front. front ++ flat_map backslash_doubled xs) (one_byte x (h 0 (omega arith))) ∙ ap (λ rest. x ∷ rest) (unchanged xs (λ k w. h (suc k) (omega arith)))
+unchanged (x ∷ xs) h =
+    ap (λ front. front ++ flat_map backslash_doubled xs) (one_byte x (h 0 (omega arith)))
+    ∙ ap (λ rest. x ∷ rest) (unchanged xs (λ k w. h (suc k) (omega arith)))
 
 unchanged_char : (c : ℕ) → c ≢ 92 → flat_map backslash_doubled (encode_utf8 c) ≡ encode_utf8 c
-unchanged_char c other = unchanged (encode_utf8 c) (λ k w e. other (inside_one c [] (encode_utf8 c) k (sym (append-nil (encode_utf8 c))) w (omega arith) ∙ e))
+unchanged_char c other =
+    unchanged (encode_utf8 c) (λ k w e. other (inside_one c [] (encode_utf8 c) k (sym (append-nil (encode_utf8 c))) w (omega arith) ∙ e))
 
-more : (y : List ℕ) (c : ℕ) → flat_map backslash_doubled (encode_utf8_all (y ++ c ∷ [])) ≡ flat_map backslash_doubled (encode_utf8_all y) ++ flat_map backslash_doubled (encode_utf8 c)
+more : (y : List ℕ) (c : ℕ) →
+    flat_map backslash_doubled (encode_utf8_all (y ++ c ∷ []))
+    ≡ flat_map backslash_doubled (encode_utf8_all y) ++ flat_map backslash_doubled (encode_utf8 c)
 more y c = rw (encodes-append, append-nil) (flat_map-append backslash_doubled (encode_utf8_all y) (encode_utf8 c))
 
 -- the next character is no backslash
@@ -51,10 +59,12 @@ pub more_plain : (c : ℕ) (y old new : List ℕ) → c ≢ 92 → old ≡ flat_
 more_plain c y old new other is step = step ∙ rw (more, unchanged_char c other) (ap (λ front. front ++ encode_utf8 c) is)
 
 -- the next character is a backslash, and one is written before it
-pub more_doubled : (c : ℕ) (y old middle new : List ℕ) → c ≡ 92 → old ≡ flat_map backslash_doubled (encode_utf8_all y) → middle ≡ old ++ encode_utf8 92 → new ≡ middle ++ encode_utf8 c
+pub more_doubled : (c : ℕ) (y old middle new : List ℕ) → c ≡ 92 → old ≡ flat_map backslash_doubled (encode_utf8_all y) →
+    middle ≡ old ++ encode_utf8 92 → new ≡ middle ++ encode_utf8 c
     → new ≡ flat_map backslash_doubled (encode_utf8_all (y ++ c ∷ []))
 more_doubled c y old middle new same is first second =
-    let twice : flat_map backslash_doubled (encode_utf8 c) ≡ encode_utf8 92 ++ encode_utf8 c = rw (same, encode_ascii 92 (omega arith)) refl in
+    let twice : flat_map backslash_doubled (encode_utf8 c) ≡ encode_utf8 92 ++ encode_utf8 c =
+    rw (same, encode_ascii 92 (omega arith)) refl in
     second ∙ rw (first, more, twice, append_assoc) (ap (λ front. front ++ (encode_utf8 92 ++ encode_utf8 c)) is)
 
 -- ---- bytes that are text, and other bytes
@@ -62,7 +72,8 @@ more_doubled c y old middle new same is first second =
 pub text_of_utf8 : (bytes text : List ℕ) → IsUtf8 bytes → text ≡ (if is_utf8 bytes then text else shown bytes)
 text_of_utf8 bytes text valid = rw (is_utf8-from_IsUtf8 bytes valid)
 
-shown_at : (bytes text : List ℕ) (valid : Bool) → is_utf8 bytes ≡ valid → ¬ (IsUtf8 bytes) → shown bytes ≡ (if valid then text else shown bytes)
+shown_at : (bytes text : List ℕ) (valid : Bool) → is_utf8 bytes ≡ valid → ¬ (IsUtf8 bytes) →
+    shown bytes ≡ (if valid then text else shown bytes)
 shown_at bytes text true e invalid = absurd (invalid (IsUtf8-from_is_utf8 bytes e))
 shown_at bytes text false e invalid = refl
 

@@ -6,6 +6,7 @@ use Rattle.device_profile.specs.Text.{printer_of_text}
 use Rattle.named_inputs.specs.Fleet.{DescribeBy}
 
 -- one more text is kept, which describes this printer
-pub kept_more : {X : Type 0} (bytes : X → List ℕ) (old new : List X) (text : X) (printer : Printer) → new ≡ old ++ text ∷ [] → printer_of_text (bytes text) ≡ Ok printer → DescribeBy (map bytes old) (map bytes new) (printer ∷ [])
+pub kept_more : {X : Type 0} (bytes : X → List ℕ) (old new : List X) (text : X) (printer : Printer) → new ≡ old ++ text ∷ [] →
+    printer_of_text (bytes text) ≡ Ok printer → DescribeBy (map bytes old) (map bytes new) (printer ∷ [])
 kept_more bytes old new text printer push is =
     (bytes text ∷ [], ap (map bytes) push ∙ map-append bytes old (text ∷ []), (is, tt))

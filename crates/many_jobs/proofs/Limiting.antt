@@ -1,5 +1,6 @@
 -- Printers whose macros get a limit, one after another.
-use Rattle.std.proofs.Common.{◌≡◌, ◌≢◌, ◌<◌, ◌≤◌, ◌+◌, ℕ, Option, List, [], ◌∷◌, ◌++◌, length, take, drop, map, get_or, set, refl, ap, sym, ◌∙◌, append-nil, arith}
+use Rattle.std.proofs.Common.{◌≡◌, ◌≢◌, ◌<◌, ◌≤◌, ◌+◌, ℕ, Option, List, [], ◌∷◌, ◌++◌, length, take, drop, map, get_or, set, refl, ap, sym}
+use Rattle.std.proofs.Common.{◌∙◌, append-nil, arith}
 use Rattle.std.proofs.lemmas.List.{drop_all, drop_more, drop-set-lt, length-set, map_more, take_all, take_more_set}
 use Rattle.device_profile.specs.Printer.{Printer}
 use Rattle.many_jobs.specs.CheckMany.{limited}
@@ -9,21 +10,25 @@ abbrev pub AreLimitedUpTo : Option ℕ → ℕ → List Printer → List Printer
 AreLimitedUpTo most n old new =
     (length new ≡ length old) × (take n new ≡ map (limited most) (take n old)) × (drop n new ≡ drop n old)
 
-pub limited_more : (most : Option ℕ) (i : ℕ) (old new : List Printer) (d : Printer) → AreLimitedUpTo most i old new → i < length new → AreLimitedUpTo most (i + 1) old (set new i (limited most (get_or new i d)))
+pub limited_more : (most : Option ℕ) (i : ℕ) (old new : List Printer) (d : Printer) → AreLimitedUpTo most i old new → i < length new →
+    AreLimitedUpTo most (i + 1) old (set new i (limited most (get_or new i d)))
 limited_more most i old new d h inside =
     let there : i < length old = omega (arith, h.0, inside) in
-    let both : get_or new i d ∷ drop (i + 1) new ≡ get_or old i d ∷ drop (i + 1) old = sym (drop_more new i d inside) ∙ (h.2 ∙ drop_more old i d there) in
+    let both : get_or new i d ∷ drop (i + 1) new ≡ get_or old i d ∷ drop (i + 1) old =
+    sym (drop_more new i d inside) ∙ (h.2 ∙ drop_more old i d there) in
     let first : get_or new i d ≡ get_or old i d = cc in
     let behind : drop (i + 1) new ≡ drop (i + 1) old = cc in
     let it : Printer = limited most (get_or new i d) in (
       length-set new i it ∙ h.0,
       take_more_set new i it inside
           ∙ (ap (λ (front : List Printer). front ++ it ∷ []) h.1
-          ∙ (ap (λ (p : Printer). map (limited most) (take i old) ++ limited most p ∷ []) first ∙ sym (map_more (limited most) old i d there))),
+          ∙ (ap (λ (p : Printer). map (limited most) (take i old) ++ limited most p ∷ []) first
+              ∙ sym (map_more (limited most) old i d there))),
       drop-set-lt (i + 1) new i it (omega arith) ∙ behind,
     )
 
-pub limited_all : (most : Option ℕ) (n : ℕ) (old new : List Printer) → AreLimitedUpTo most n old new → length new ≤ n → new ≡ map (limited most) old
+pub limited_all : (most : Option ℕ) (n : ℕ) (old new : List Printer) → AreLimitedUpTo most n old new → length new ≤ n →
+    new ≡ map (limited most) old
 limited_all most n old new h past =
     sym (take_all n new past) ∙ (h.1 ∙ ap (map (limited most)) (take_all n old (omega (arith, h.0, past))))
 

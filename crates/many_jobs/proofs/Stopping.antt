@@ -25,18 +25,21 @@ use Rattle.many_jobs.proofs.JobChecks.{end_error}
 abbrev pub IsNoFailure : Status → Type 0
 IsNoFailure status = (is_stop_of_read status ≡ false) × (is_stop_of_write status ≡ false)
 
-line_told : (status : Status) (trouble : Trouble) (line : List ℕ) (err err' : OutletState) → TellsLine status trouble line err err' → IsNoFailure status
+line_told : (status : Status) (trouble : Trouble) (line : List ℕ) (err err' : OutletState) → TellsLine status trouble line err err' →
+    IsNoFailure status
 line_told (Told told) trouble line err err' tells = (refl, refl)
 line_told (Stopped Memory) trouble line err err' tells = (refl, refl)
 line_told _ trouble line err err' tells = absurd tells
 
-stop_told : (format : Format) (error : Error) (status : Status) (err err' : OutletState) → IsErrorOfReading error → TellsStop format error status err err' → IsNoFailure status
+stop_told : (format : Format) (error : Error) (status : Status) (err err' : OutletState) → IsErrorOfReading error →
+    TellsStop format error status err err' → IsNoFailure status
 stop_told format Memory status err err' reading tells = subst IsNoFailure (sym tells.0) (refl, refl)
 stop_told format Read status err err' reading tells = line_told status NoVerdict (unread_text format tells.0 tells.1) err err' tells.2
 stop_told format _ status err err' reading tells = absurd reading
 
 -- where there is no fleet, and that is told
-pub refusal_told : (known : List (Option (List ℕ))) (format : Format) (end : Status) (words : List (List ℕ)) (status : Status) (err err' : OutletState) → IsEndOfFleet known end → TellsRefusal format end words status err err' → IsNoFailure status
+pub refusal_told : (known : List (Option (List ℕ))) (format : Format) (end : Status) (words : List (List ℕ)) (status : Status)
+    (err err' : OutletState) → IsEndOfFleet known end → TellsRefusal format end words status err err' → IsNoFailure status
 refusal_told known format (Profile number line cause) words status err err' ends tells =
     line_told status Refused (refusal_text format number (get_or words (number - 1) []) line cause) err err' tells
 refusal_told known format (Stopped error) words status err err' ends tells =
@@ -55,6 +58,7 @@ no_read Write line = refl
 no_read _ line = absurd line
 
 -- where the lines are told of, all or a front
-pub lines_told : (asked : Asked) (groups : Groups) (start : List ℕ → SourceState) (status : Status) (old new : Work) → LeavesLines asked groups start status old new → is_stop_of_read status ≡ false
+pub lines_told : (asked : Asked) (groups : Groups) (start : List ℕ → SourceState) (status : Status) (old new : Work) →
+    LeavesLines asked groups start status old new → is_stop_of_read status ≡ false
 lines_told asked groups start status old new (inl all) = ap is_stop_of_read all.1 ∙ (ending_told all.0).0
 lines_told asked groups start status old new (inr front) = ap is_stop_of_read front.1 ∙ no_read front.0 front.2

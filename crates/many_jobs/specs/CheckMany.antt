@@ -1,5 +1,6 @@
 -- How a check of many jobs ends.
-use Rattle.std.specs.Prelude.{◌≡◌, ◌-◌, ◌⊎◌, ℕ, Bool, IsFalse, List, [], map, flat_map, get_or, Option, Some, if◌then◌else◌}
+use Rattle.std.specs.Prelude.{◌≡◌, ◌-◌, ◌⊎◌, ℕ, Bool, IsFalse, List, [], map, flat_map, get_or, Option, Some}
+use Rattle.std.specs.Prelude.{if◌then◌else◌}
 use Rattle.device_profile.specs.Name.{printer_name}
 use Rattle.device_profile.specs.Printer.{Printer}
 use Rattle.streams.specs.declared.error.Error.{Error}
@@ -17,7 +18,8 @@ use Rattle.named_inputs.specs.Fleet.{DescribeFleet, IsEndOfFleet}
 use Rattle.job_reports.specs.Groups.{Groups}
 use Rattle.many_jobs.specs.JobChecks.{IsErrorOfLine, TellsAll, TellsFront, Work, due_of}
 use Rattle.many_jobs.specs.Telling.{HowTold}
-use Rattle.job_reports.specs.Refusals.{TellsLine, refused_profile, refused_profile_sentence, unread_profile, unread_profile_sentence}
+use Rattle.job_reports.specs.Refusals.{TellsLine, refused_profile, refused_profile_sentence, unread_profile}
+use Rattle.job_reports.specs.Refusals.{unread_profile_sentence}
 use Rattle.many_jobs.specs.declared.telling.Format.{Format}
 use Rattle.many_jobs.specs.declared.telling.Format.TheVariants.{Line, Words, Json}
 use Rattle.device_profile.specs.declared.fault.Cause.{Cause}
@@ -32,9 +34,11 @@ status_of HasNoVerdict = Told NoVerdict
 abbrev pub limited : Option ℕ → Printer → Printer
 limited most printer = record printer { most_items = most }
 
--- these are the printers of texts, with this limit: of those that are known, and of those that were read, which also give their names;
--- where notes are told they are told for the same printers, whose macros may carry out a million items
-pub record AreOfTexts (known : List (Option (List ℕ))) (most : Option ℕ) (tells_notes : Bool) (groups : Groups) : Type 0 where
+-- these are the printers of texts, with this limit: of those that are known, and of those that were read,
+-- which also give their names; where notes are told they are told for the same printers, whose macros may
+-- carry out a million items
+pub record AreOfTexts (known : List (Option (List ℕ))) (most : Option ℕ) (tells_notes : Bool)
+    (groups : Groups) : Type 0 where
   pub fleet : List Printer
   pub described : DescribeFleet known fleet
   pub texts : List (List ℕ)
@@ -43,8 +47,9 @@ pub record AreOfTexts (known : List (Option (List ℕ))) (most : Option ℕ) (te
   pub note_printers : groups.note_printers ≡ (if tells_notes then map with_most_items fleet else [])
   pub names_are : groups.names ≡ map printer_name texts
 
--- what is asked for: the names of the jobs, the words of the printers, how many items macros may carry out where that is limited,
--- whether each printer is told of by itself, whether the notes of a job that passes are told, and how it is told
+-- what is asked for: the names of the jobs, the words of the printers, how many items macros may carry out
+-- where that is limited, whether each printer is told of by itself, whether the notes of a job that passes
+-- are told, and how it is told
 pub record Asked : Type 0 where
   pub jobs : List (List ℕ)
   pub printers : List (List ℕ)
@@ -58,7 +63,8 @@ abbrev pub LeavesLines : Asked → Groups → (List ℕ → SourceState) → Sta
 LeavesLines asked groups start status old new =
     let due = flat_map (due_of groups) asked.jobs in
     ((ending : Ending) × (status ≡ status_of ending) × TellsAll groups asked.telling due start ending old new)
-    ⊎ ((error : Error) × (status ≡ Stopped error) × IsErrorOfLine error × TellsFront groups asked.telling start due old new)
+    ⊎ ((error : Error) × (status ≡ Stopped error) × IsErrorOfLine error
+    × TellsFront groups asked.telling start due old new)
 
 -- what is told of a profile that is refused, or that could not be read
 abbrev pub refusal_text : Format → ℕ → List ℕ → ℕ → Cause → List ℕ
@@ -73,20 +79,24 @@ unread_text (Json alloc) word cause = unread_profile word cause
 
 -- of a profile that could not be read standard error is told, with its word; of want of memory it is not
 abbrev pub TellsStop : Format → Error → Status → OutletState → OutletState → Type 0
-TellsStop format Read status err err' = (word : List ℕ) × (cause : Option (List ℕ)) × TellsLine status NoVerdict (unread_text format word cause) err err'
+TellsStop format Read status err err' =
+    (word : List ℕ) × (cause : Option (List ℕ)) × TellsLine status NoVerdict (unread_text format word cause) err err'
 TellsStop format error status err err' = (status ≡ Stopped error) × (err' ≡ err)
 
 -- of the profile for which there is no fleet standard error is told, with its word
 abbrev pub TellsRefusal : Format → Status → List (List ℕ) → Status → OutletState → OutletState → Type 0
-TellsRefusal format (Profile number line cause) words status err err' = TellsLine status Refused (refusal_text format number (get_or words (number - 1) []) line cause) err err'
+TellsRefusal format (Profile number line cause) words status err err' =
+    TellsLine status Refused (refusal_text format number (get_or words (number - 1) []) line cause) err err'
 TellsRefusal format (Stopped error) words status err err' = TellsStop format error status err err'
 TellsRefusal format end words status err err' = (status ≡ end) × (err' ≡ err)
 
--- The jobs are checked for the printers of these texts, all of which could be read. Or there is no fleet, and no line is written and no
--- job read; that a text could not be read is why just where a read of one failed.
-abbrev pub LeavesMany : List (Option (List ℕ)) → (read_failed : Bool) → Asked → (List ℕ → SourceState) → Status → Work → Work → OutletState → OutletState → Type 0
+-- The jobs are checked for the printers of these texts, all of which could be read. Or there is no fleet, and no line
+-- is written and no job read; that a text could not be read is why just where a read of one failed.
+abbrev pub LeavesMany : List (Option (List ℕ)) → (read_failed : Bool) → Asked → (List ℕ → SourceState) → Status → Work →
+    Work → OutletState → OutletState → Type 0
 LeavesMany known read_failed asked start status old new err err' =
-    ((groups : Groups) × AreOfTexts known asked.most_items asked.tells_notes groups × (groups.is_each ≡ asked.is_each) × IsFalse read_failed
+    ((groups : Groups) × AreOfTexts known asked.most_items asked.tells_notes groups × (groups.is_each ≡ asked.is_each)
+    × IsFalse read_failed
     × LeavesLines asked groups start status old new × (err' ≡ err))
     ⊎ ((end : Status) × IsEndOfFleet known end × (read_failed ≡ is_stop_of_read end)
     × TellsRefusal asked.telling.format end asked.printers status err err' × (new ≡ old))

@@ -1,5 +1,6 @@
 -- The words of the text of a fleet, and what standard error is told of fleets.
-use Rattle.std.specs.Prelude.{◌≡◌, ◌≢◌, ◌≤◌, ◌==◌, ◌||◌, ℕ, Bool, List, [], ◌∷◌, ◌++◌, codes, flat_map, length, map, slice_index, take, if◌then◌else◌, Option, IfSome}
+use Rattle.std.specs.Prelude.{◌≡◌, ◌≢◌, ◌≤◌, ◌==◌, ◌||◌, ℕ, Bool, List, [], ◌∷◌, ◌++◌, codes, flat_map, length, map}
+use Rattle.std.specs.Prelude.{slice_index, take, if◌then◌else◌, Option, IfSome}
 use Rattle.std.specs.List.{AllByRecursion}
 use Rattle.std.specs.Path.{path_with_file_name}
 use Rattle.std.specs.Str.{trim}
@@ -57,7 +58,8 @@ pub record IsFleet (text_of : List ℕ → Option (List ℕ)) (fleet : FleetText
   pub front : IfSome (text_of fleet.path) (λ known. fleet.text ≡ take 65_537 known)
 
 -- these are the fleets at these paths, in their order
-pub record AreFleets (text_of : List ℕ → Option (List ℕ)) (paths : List (List ℕ)) (fleets : List FleetText) : Type 0 where
+pub record AreFleets (text_of : List ℕ → Option (List ℕ)) (paths : List (List ℕ))
+    (fleets : List FleetText) : Type 0 where
   pub paths_are : map (λ fleet. fleet.path) fleets ≡ paths
   pub each : AllByRecursion (IsFleet text_of) fleets
 
@@ -70,7 +72,8 @@ pub record AddsBytes {S : Type 0} (bytes : S → List ℕ) (old new : List S) (a
   pub bytes_are : map bytes more ≡ added
 
 -- the text at a path was read, and behind the words that stood there stand those that it names
-pub record AddsFleet {S : Type 0} (bytes : S → List ℕ) (text_of : List ℕ → Option (List ℕ)) (path : List ℕ) (given given' : List (List ℕ)) (old new : List S) : Type 0 where
+pub record AddsFleet {S : Type 0} (bytes : S → List ℕ) (text_of : List ℕ → Option (List ℕ)) (path : List ℕ)
+    (given given' : List (List ℕ)) (old new : List S) : Type 0 where
   pub text : List ℕ
   pub read : given' ≡ given ++ text ∷ []
   pub is_fleet : IsFleet text_of (fleet_at path text)
@@ -91,4 +94,6 @@ refused_fleet path NoPrinter cause = refused_text path (codes ": names no printe
 
 -- standard error is told why a fleet is refused, or there was no memory for that
 abbrev pub TellsOfFleet : List ℕ → Status → OutletState → OutletState → Type 0
-TellsOfFleet path status err err' = (fault : FleetFault) × (cause : Option (List ℕ)) × TellsLine status Refused (refused_fleet path fault cause) err err'
+TellsOfFleet path status err err' =
+    (fault : FleetFault) × (cause : Option (List ℕ))
+    × TellsLine status Refused (refused_fleet path fault cause) err err'

@@ -1,5 +1,6 @@
 -- What a check of many jobs leaves.
-use Rattle.std.specs.Prelude.{◌≡◌, ◌⊎◌, ℕ, Bool, false, List, [], ◌∷◌, ◌++◌, flat_map, map, fold, IsErrOf, Option, None, Some, Result, Ok, Err, IfOk, IfErr, ⊤, if◌then◌else◌}
+use Rattle.std.specs.Prelude.{◌≡◌, ◌⊎◌, ℕ, Bool, false, List, [], ◌∷◌, ◌++◌, flat_map, map, fold, IsErrOf, Option, None}
+use Rattle.std.specs.Prelude.{Some, Result, Ok, Err, IfOk, IfErr, ⊤, if◌then◌else◌}
 use Rattle.std.specs.List.{AllByRecursion, range_with_len}
 use Rattle.device_profile.specs.Printer.{Printer}
 use Rattle.streams.specs.declared.error.Error.{Error}
@@ -16,7 +17,8 @@ use Rattle.streams.specs.Outlet.{OutletState, Adds, AddsFront}
 use Rattle.streams.specs.Source.{SourceState}
 use Rattle.job_reports.specs.Right.{IsRight}
 use Rattle.job_reports.specs.Groups.{Groups, group_at, group_count, reported}
-use Rattle.many_jobs.specs.JobNoting.{AreRightNotes, IsRightlyNoted, Noted, ending_of_noted, note_printer, noted_after, noted_text, notes_text}
+use Rattle.many_jobs.specs.JobNoting.{AreRightNotes, IsRightlyNoted, Noted, ending_of_noted, note_printer, noted_after}
+use Rattle.many_jobs.specs.JobNoting.{noted_text, notes_text}
 use Rattle.many_jobs.specs.NoteReports.{subject_of, told_note}
 use Rattle.job_reports.specs.Reports.{verdict_of}
 use Rattle.many_jobs.specs.Telling.{HowTold, report_text}
@@ -34,10 +36,11 @@ IsErrorOfJob Write = ⊥
 IsErrorOfJob NoProfile = ⊥
 IsErrorOfJob Items = ⊤
 
--- What came of a job of which the reads led from the one state to the other: a verdict that is right for this fleet, with the item that
--- stands at its place; or an error, which is that of a read exactly where one failed. Where the verdict is that macros carry out more items
--- than the printers allow, it is an error.
-pub record IsRightAnswer (fleet : List Printer) (start after : SourceState) (answer : Result Judgement Error) : Type 0 where
+-- What came of a job of which the reads led from the one state to the other: a verdict that is right for this fleet,
+-- with the item that stands at its place; or an error, which is that of a read exactly where one failed. Where the
+-- verdict is that macros carry out more items than the printers allow, it is an error.
+pub record IsRightAnswer (fleet : List Printer) (start after : SourceState)
+    (answer : Result Judgement Error) : Type 0 where
   pub verdict : IfOk answer (λ judgement. IsRight start after fleet judgement.verdict)
   pub item : IfOk answer (λ judgement. ByReads start after (λ job. IsTold job judgement.verdict judgement.culprit))
   pub error : IfErr answer IsErrorOfJob
@@ -78,8 +81,8 @@ pub record Work : Type 0 where
 abbrev pub work : OutletState → List SourceState → Work
 work out ended = record { out = out; ended = ended }
 
--- a line, and what stands below it: the job, the number of the group from 0, what reading the job led to, what came of it, what the
--- system said of a read that failed, and what came of the notes where they are told
+-- a line, and what stands below it: the job, the number of the group from 0, what reading the job led to, what came of
+-- it, what the system said of a read that failed, and what came of the notes where they are told
 pub record CheckLine : Type 0 where
   pub job : List ℕ
   pub group : ℕ
@@ -102,7 +105,8 @@ abbrev pub IsRightLine : Groups → HowTold → (List ℕ → SourceState) → C
 IsRightLine groups telling start line =
     let group = group_at groups line.group in
     IsAnswered groups start line
-    × IsRightlyNoted (told_note telling (subject_of group line.job)) (start line.job) (note_printer (verdict_of line.answer) group.note_printers) line.noted
+    × IsRightlyNoted (told_note telling (subject_of group line.job)) (start line.job)
+    (note_printer (verdict_of line.answer) group.note_printers) line.noted
 
 abbrev pub keyed : List ℕ → ℕ → List ℕ × ℕ
 keyed job number = (job, number)
@@ -119,7 +123,8 @@ abbrev pub afters : List CheckLine → List SourceState
 afters lines = flat_map afters_of lines
 
 -- these lines stand there, one for each that is due, each right for what its job gave
-pub record TellsLines (groups : Groups) (telling : HowTold) (start : List ℕ → SourceState) (due : List (List ℕ × ℕ)) (lines : List CheckLine) (old new : Work) : Type 0 where
+pub record TellsLines (groups : Groups) (telling : HowTold) (start : List ℕ → SourceState) (due : List (List ℕ × ℕ))
+    (lines : List CheckLine) (old new : Work) : Type 0 where
   pub in_order : map (λ line. (line.job, line.group)) lines ≡ due
   pub right : AllByRecursion (IsRightLine groups telling start) lines
   pub written : Adds old.out new.out (flat_map (line_text groups telling) lines)
@@ -135,7 +140,8 @@ worst exit_zero lines = fold (λ ending line. worse ending (ending_of_line exit_
 -- all lines that are due stand there, and the ending is the worst of theirs
 abbrev pub TellsAll : Groups → HowTold → List (List ℕ × ℕ) → (List ℕ → SourceState) → Ending → Work → Work → Type 0
 TellsAll groups telling due start ending old new =
-    (lines : List CheckLine) × TellsLines groups telling start due lines old new × (ending ≡ worst telling.exit_zero lines)
+    (lines : List CheckLine) × TellsLines groups telling start due lines old new
+    × (ending ≡ worst telling.exit_zero lines)
 
 -- each line is right, but the last one may lack its notes
 abbrev pub AreRightToCut : Groups → HowTold → (List ℕ → SourceState) → List CheckLine → Type 0
@@ -144,9 +150,10 @@ AreRightToCut groups telling start (line ∷ lines) =
     (IsRightLine groups telling start line ⊎ (IsAnswered groups start line × (line.noted ≡ None) × (lines ≡ [])))
     × AreRightToCut groups telling start lines
 
--- Some first lines of those that are due are right, and a front of their text stands there; of the next job, or of the notes of the last
--- one, perhaps there was no memory for the line.
-pub record TellsFront (groups : Groups) (telling : HowTold) (start : List ℕ → SourceState) (due : List (List ℕ × ℕ)) (old new : Work) : Type 0 where
+-- Some first lines of those that are due are right, and a front of their text stands there;
+-- of the next job, or of the notes of the last one, perhaps there was no memory for the line.
+pub record TellsFront (groups : Groups) (telling : HowTold) (start : List ℕ → SourceState) (due : List (List ℕ × ℕ))
+    (old new : Work) : Type 0 where
   pub lines : List CheckLine
   pub later : List (List ℕ × ℕ)
   pub untold : List SourceState
@@ -168,13 +175,16 @@ CutsTold Write text out out' = (cause : Option (List ℕ)) × AddsFront out out'
 CutsTold _ text out out' = ⊥
 
 -- what came of the notes of a job for this printer is right, and so is what was written of it
-pub record TellsNotes (group : Groups) (telling : HowTold) (printer : Printer) (start : SourceState) (job : List ℕ) (old new : Work) (Written : List ℕ → Type 0) (noted : Noted) : Type 0 where
+pub record TellsNotes (group : Groups) (telling : HowTold) (printer : Printer) (start : SourceState) (job : List ℕ)
+    (old new : Work) (Written : List ℕ → Type 0) (noted : Noted) : Type 0 where
   pub right : AreRightNotes (told_note telling (subject_of group job)) printer start noted.after noted.notes
   pub written : Written (notes_text telling group job noted.notes noted.cause)
   pub ended : new.ended ≡ old.ended ++ noted.after ∷ []
 
 -- there was no memory for the line of an error, and nothing was written; or a front of what is due was
 abbrev pub CutsNotes : Error → Groups → HowTold → Printer → SourceState → List ℕ → Work → Work → Type 0
-CutsNotes Memory group telling printer start job old new = (after : SourceState) × (new.out ≡ old.out) × (new.ended ≡ old.ended ++ after ∷ [])
-CutsNotes Write group telling printer start job old new = (noted : Noted) × TellsNotes group telling printer start job old new (AddsFront old.out new.out) noted
+CutsNotes Memory group telling printer start job old new =
+    (after : SourceState) × (new.out ≡ old.out) × (new.ended ≡ old.ended ++ after ∷ [])
+CutsNotes Write group telling printer start job old new =
+    (noted : Noted) × TellsNotes group telling printer start job old new (AddsFront old.out new.out) noted
 CutsNotes _ group telling printer start job old new = ⊥

@@ -1,5 +1,6 @@
 -- The notes of a job that passes, in a check of many jobs.
-use Rattle.std.specs.Prelude.{◌≡◌, ◌≢◌, ◌⊎◌, ℕ, List, [], ◌∷◌, slice_get, Option, None, Some, Result, Ok, Err, IfOk, IfErr, IsErrOf, IsTrue, ⊤}
+use Rattle.std.specs.Prelude.{◌≡◌, ◌≢◌, ◌⊎◌, ℕ, List, [], ◌∷◌, slice_get, Option, None, Some, Result, Ok, Err, IfOk}
+use Rattle.std.specs.Prelude.{IfErr, IsErrOf, IsTrue, ⊤}
 use Rattle.device_profile.specs.Printer.{Printer, first_panel}
 use Rattle.streams.specs.declared.error.Error.{Error}
 use Rattle.streams.specs.declared.error.Error.TheVariants.{Memory, Read, Turns}
@@ -23,8 +24,8 @@ note_printer (Ok (Pass pages marks)) printers = slice_get printers 0
 note_printer (Ok (Fail place profile reason)) printers = None
 note_printer (Err error) printers = None
 
--- what reading a job a second time came to: what it led to, the text of the notes or why there is none, and what is said of a read that
--- failed
+-- what reading a job a second time came to:
+-- what it led to, the text of the notes or why there is none, and what is said of a read that failed
 pub record Noted : Type 0 where
   pub after : SourceState
   pub notes : Result (List ℕ) Error
@@ -42,7 +43,8 @@ IsErrorOfNotes Read = ⊤
 IsErrorOfNotes Turns = ⊤
 IsErrorOfNotes _ = ⊥
 
--- Of every job that may be by what the second reading gave, this is what is due on this printer from its first panel, and what it comes to.
+-- Of every job that may be by what the second reading gave, this is what is due on this printer from its
+-- first panel, and what it comes to.
 abbrev pub Comes : (Told → List ℕ) → Printer → (start after : SourceState) → (text : List ℕ) → Outcome → Type 0
 Comes write printer start after text outcome =
     ByReads start after (λ job. IsDue (notes_rendering write printer (first_panel printer)) job text outcome)
@@ -52,8 +54,10 @@ abbrev pub IsAnother : (Told → List ℕ) → Printer → (start after : Source
 IsAnother write printer start after =
     (text : List ℕ) × (outcome : Outcome) × (outcome ≢ Done) × Comes write printer start after text outcome
 
--- The text is what is due, of a job that comes to its end. An error is that of a read where one failed, and where the job was another.
-pub record AreRightNotes (write : Told → List ℕ) (printer : Printer) (start after : SourceState) (notes : Result (List ℕ) Error) : Type 0 where
+-- The text is what is due, of a job that comes to its end.
+-- An error is that of a read where one failed, and where the job was another.
+pub record AreRightNotes (write : Told → List ℕ) (printer : Printer) (start after : SourceState)
+    (notes : Result (List ℕ) Error) : Type 0 where
   pub text : IfOk notes (λ text. Comes write printer start after text Done)
   pub error : IfErr notes IsErrorOfNotes
   pub failed : IsTrue after.failed → IsErrOf notes Read

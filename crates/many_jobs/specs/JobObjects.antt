@@ -1,5 +1,6 @@
 -- The object of a job, in a check of many jobs: a line of JSON.
-use Rattle.std.specs.Prelude.{ℕ, ◌==◌, ◌-◌, List, [], ◌∷◌, ◌++◌, codes, get_or, length, if◌then◌else◌, Option, None, Some, Result, Ok, Err}
+use Rattle.std.specs.Prelude.{ℕ, ◌==◌, ◌-◌, List, [], ◌∷◌, ◌++◌, codes, get_or, length, if◌then◌else◌, Option, None}
+use Rattle.std.specs.Prelude.{Some, Result, Ok, Err}
 use Rattle.serde_json.specs.Data.{object, Members, no_members}
 use Rattle.serde_json.specs.Written.{compact_text}
 use Rattle.line_words.specs.Reason.{bare_name, field_words}
@@ -18,17 +19,26 @@ use Rattle.job_reports.specs.Reports.{Reported, culprit_of, number_told, verdict
 -- ---- what came of a job
 
 abbrev pub with_pass : ℕ → ℕ → Members → Members
-with_pass pages marks members = with_number (codes "marks") marks (with_number (codes "pages") pages (with_text (codes "verdict") (codes "PASS") members))
+with_pass pages marks members =
+    with_number (codes "marks") marks
+    (with_number (codes "pages") pages (with_text (codes "verdict") (codes "PASS") members))
 
 abbrev pub with_field : Reason → Members → Members
-with_field reason members = if length (field_words reason) == 0 then members else with_text (codes "field") (words_text (field_words reason)) members
+with_field reason members =
+    if length (field_words reason) == 0 then members
+    else with_text (codes "field") (words_text (field_words reason)) members
 
 abbrev pub with_finding : Reason → Members → Members
-with_finding reason members = with_field reason (with_text (codes "finding") (words_text (bare_name reason)) (with_number (codes "code") (reason_number reason) members))
+with_finding reason members =
+    with_field reason
+    (with_text (codes "finding") (words_text (bare_name reason))
+    (with_number (codes "code") (reason_number reason) members))
 
 abbrev pub with_fail : ℕ → ℕ → Reason → Members → Members
 with_fail place profile reason members =
-    with_finding reason (with_number (codes "profile") profile (with_number (codes "at") place (with_text (codes "verdict") (codes "FAIL") members)))
+    with_finding reason
+    (with_number (codes "profile") profile
+    (with_number (codes "at") place (with_text (codes "verdict") (codes "FAIL") members)))
 
 abbrev pub with_command : Option Culprit → Members → Members
 with_command None members = members
@@ -36,7 +46,8 @@ with_command (Some culprit) members = with_text (codes "command") (words_text (c
 
 -- what the program tells of what is wrong, nothing where that is not asked for
 abbrev pub with_explanation : List ℕ → Members → Members
-with_explanation explanation members = if length explanation == 0 then members else with_text (codes "explanation") explanation members
+with_explanation explanation members =
+    if length explanation == 0 then members else with_text (codes "explanation") explanation members
 
 abbrev pub error_name : Error → List ℕ
 error_name Memory = codes "memory"
@@ -52,24 +63,29 @@ with_cause None members = members
 with_cause (Some words) members = with_text (codes "cause") (name_text words) members
 
 abbrev pub with_error : Error → Option (List ℕ) → Members → Members
-with_error error cause members = with_cause cause (with_text (codes "error") (error_name error) (with_text (codes "verdict") (codes "ERROR") members))
+with_error error cause members =
+    with_cause cause
+    (with_text (codes "error") (error_name error) (with_text (codes "verdict") (codes "ERROR") members))
 
 abbrev pub with_answer : List ℕ → Reported → Result Verdict Error → Members → Members
 with_answer explanation report (Ok (Pass pages marks)) members = with_pass pages marks members
-with_answer explanation report (Ok (Fail place profile reason)) members = with_explanation explanation (with_command (culprit_of report.answer) (with_fail place profile reason members))
+with_answer explanation report (Ok (Fail place profile reason)) members =
+    with_explanation explanation (with_command (culprit_of report.answer) (with_fail place profile reason members))
 with_answer explanation report (Err error) members = with_error error report.cause members
 
 -- ---- the whole object
 
 -- the printer that this is about
 abbrev pub with_printer : List (List ℕ) → ℕ → Members → Members
-with_printer names number members = if number == 0 then members else with_text (codes "printer") (name_text (get_or names (number - 1) [])) members
+with_printer names number members =
+    if number == 0 then members else with_text (codes "printer") (name_text (get_or names (number - 1) [])) members
 
 abbrev pub report_members : List ℕ → Reported → Members
 report_members explanation report =
     let verdict = verdict_of report.answer in
     with_answer explanation report verdict
-    (with_printer report.names (number_told report.is_each verdict) (with_text (codes "job") (name_text report.job) no_members))
+    (with_printer report.names (number_told report.is_each verdict)
+    (with_text (codes "job") (name_text report.job) no_members))
 
 -- the object on one line; its members stand in the order of their names
 abbrev pub job_object : List ℕ → Reported → List ℕ

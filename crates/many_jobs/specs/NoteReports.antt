@@ -43,7 +43,8 @@ note_phrase note = codes ": " ++ short_note note ++ codes " (" ++ note_words not
 
 abbrev pub told_sentence : NoteSubject → Told → List ℕ
 told_sentence subject told =
-    named_first subject.job ++ subject.printer ++ named (codes " has a note at byte ") told.place ++ note_phrase told.note ++ codes "\n"
+    named_first subject.job ++ subject.printer ++ named (codes " has a note at byte ") told.place
+    ++ note_phrase told.note ++ codes "\n"
 
 -- ---- an object of JSON on a line
 
@@ -52,7 +53,8 @@ told_members explanation subject told =
     with_explanation explanation
     (with_text (codes "note") (words_text (note_name told.note)) (with_number (codes "code") (note_number told.note)
     (with_number (codes "at") told.place
-    (with_text (codes "printer") (name_text subject.printer) (with_text (codes "job") (name_text subject.job) no_members)))))
+    (with_text (codes "printer") (name_text subject.printer)
+        (with_text (codes "job") (name_text subject.job) no_members)))))
 
 abbrev pub told_object : List ℕ → NoteSubject → Told → List ℕ
 told_object explanation subject told = compact_text (object (told_members explanation subject told)) ++ 10 ∷ []
@@ -65,4 +67,5 @@ told_in Words below subject told = told_sentence subject told ++ below
 told_in (Json alloc) below subject told = told_object below subject told
 
 abbrev pub told_note : HowTold → NoteSubject → Told → List ℕ
-told_note telling subject told = told_in telling.format (explained_by (decimal (note_number told.note)) telling.explanations) subject told
+told_note telling subject told =
+    told_in telling.format (explained_by (decimal (note_number told.note)) telling.explanations) subject told

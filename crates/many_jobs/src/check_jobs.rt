@@ -1,7 +1,9 @@
 //! The command `check` for many jobs.
-ghost use Rattle.std.specs.Prelude.{◌≡◌, ◌≢◌, ◌-◌, ◌++◌, ℕ, List, [], Option, IsFalse, OnOk, false, get_or, map, option_map};
+ghost use Rattle.std.specs.Prelude.{◌≡◌, ◌≢◌, ◌-◌, ◌++◌, ℕ, List, [], Option, IsFalse, OnOk, false};
+ghost use Rattle.std.specs.Prelude.{get_or, map, option_map};
 ghost use Rattle.many_jobs.specs.Asked.{asked_for};
-ghost use Rattle.many_jobs.specs.CheckMany.{LeavesLines, LeavesMany, TellsRefusal, TellsStop, refusal_text, status_of, unread_text};
+ghost use Rattle.many_jobs.specs.CheckMany.{LeavesLines, LeavesMany, TellsRefusal, TellsStop};
+ghost use Rattle.many_jobs.specs.CheckMany.{refusal_text, status_of, unread_text};
 ghost use Rattle.job_reports.specs.Refusals.{TellsLine};
 ghost use Rattle.named_inputs.specs.Fleet.{IsEndOfFleet};
 ghost use Rattle.many_jobs.specs.JobChecks.{work};

@@ -1,6 +1,9 @@
 //! A fleet as a text: a profile a line.
-ghost use Rattle.std.specs.Prelude.{◌≡◌, ◌++◌, IfErr, IfNone, IfOk, IsFalse, OnOk, option_map, string_bytes};
-ghost use Rattle.many_jobs.specs.FleetFile.{AddsBytes, AddsFleet, TellsOfFleet, fleet_words, is_passed_over, is_sample, line_words, refused_fleet, refused_text, word_of};
+ghost use Rattle.std.specs.Prelude.{◌≡◌, ◌++◌, IfErr, IfNone, IfOk, IsFalse, OnOk, option_map};
+ghost use Rattle.std.specs.Prelude.{string_bytes};
+ghost use Rattle.many_jobs.specs.FleetFile.{AddsBytes, AddsFleet, TellsOfFleet, fleet_words};
+ghost use Rattle.many_jobs.specs.FleetFile.{is_passed_over, is_sample, line_words, refused_fleet};
+ghost use Rattle.many_jobs.specs.FleetFile.{refused_text, word_of};
 
 use job_reports::push_unread;
 use named_inputs::ProfileTexts;

@@ -3,7 +3,8 @@ ghost use Rattle.std.specs.Prelude.{◌≡◌, ◌≢◌, ◌∷◌, [], IfErr, 
 ghost use Rattle.streams.specs.Errors.{is_err_of_write};
 ghost use Rattle.many_jobs.specs.Asked.{told_by};
 ghost use Rattle.job_reports.specs.Groups.{group_at};
-ghost use Rattle.many_jobs.specs.JobChecks.{IsErrorOfLine, IsRightAnswer, TellsAll, TellsFront, due_of, keyed, work};
+ghost use Rattle.many_jobs.specs.JobChecks.{IsErrorOfLine, IsRightAnswer, TellsAll, TellsFront};
+ghost use Rattle.many_jobs.specs.JobChecks.{due_of, keyed, work};
 
 use crate::ending::Ending;
 use crate::job_noting::{note_printer, tell_notes};

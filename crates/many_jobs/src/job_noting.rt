@@ -5,7 +5,8 @@ ghost use Rattle.streams.specs.Errors.{is_err_of_write};
 ghost use Rattle.streams.specs.Outlet.{Adds};
 ghost use Rattle.many_jobs.specs.Asked.{told_by};
 ghost use Rattle.many_jobs.specs.JobChecks.{AddsTold, CutsNotes, CutsTold, TellsNotes, work};
-ghost use Rattle.many_jobs.specs.JobNoting.{AreRightNotes, Noted, ending_of_notes, kept_notes, note_printer, notes_text};
+ghost use Rattle.many_jobs.specs.JobNoting.{AreRightNotes, Noted, ending_of_notes, kept_notes};
+ghost use Rattle.many_jobs.specs.JobNoting.{note_printer, notes_text};
 ghost use Rattle.many_jobs.specs.NoteReports.{subject_of, told_note};
 ghost use Rattle.job_reports.specs.Reports.{verdict_of};
 

@@ -2,7 +2,8 @@
 ghost use Rattle.std.specs.Prelude.{◌≡◌, ◌∷◌, [], IfOk, IsFalse, MatchResult, map, true};
 ghost use Rattle.device_profile.specs.Name.{printer_name};
 ghost use Rattle.many_jobs.specs.KeptTexts.{AreNotePrinters};
-ghost use Rattle.named_inputs.specs.Fleet.{DescribeBy, DescribeFleet, Describes, IsEndOfFleet, IsEndOfProfile};
+ghost use Rattle.named_inputs.specs.Fleet.{DescribeBy, DescribeFleet, Describes, IsEndOfFleet};
+ghost use Rattle.named_inputs.specs.Fleet.{IsEndOfProfile};
 ghost use Rattle.requests.specs.Status.{is_err_at_read};
 
 use device_profile::{Profile, printer_name};
@@ -11,8 +12,8 @@ use notes::MOST_ITEMS;
 use requests::Status;
 use std::alloc::{AllocError, Allocator};
 
-/// The profiles that words name, in their order, of each of which the text is kept. Each is read and
-/// judged before the next one.
+/// The profiles that words name, in their order, of each of which the text is kept.
+/// Each is read and judged before the next one.
 ///
 /// An error is the first refusal, or why the work stopped: `Memory`, or `Read` where a text could
 /// not be read.

@@ -3,7 +3,8 @@ ghost use Rattle.std.specs.Prelude.{◌≡◌, ◌++◌, IfOk, OnOk, decimal, ma
 ghost use Rattle.notes.specs.Note.{note_number};
 ghost use Rattle.meanings.specs.Explanations.{explained_by};
 ghost use Rattle.many_jobs.specs.JsonObject.{members_of};
-ghost use Rattle.many_jobs.specs.NoteReports.{note_phrase, note_words, told_in, told_line, told_members, told_object, told_sentence};
+ghost use Rattle.many_jobs.specs.NoteReports.{note_phrase, note_words, told_in, told_line};
+ghost use Rattle.many_jobs.specs.NoteReports.{told_members, told_object, told_sentence};
 
 use crate::job_objects::put_explanation;
 use crate::json_object::Object;

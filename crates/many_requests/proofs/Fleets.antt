@@ -1,5 +1,6 @@
 -- Fleets that are read one after another.
-use Rattle.std.proofs.Common.{◌≡◌, ◌≢◌, ◌≤◌, ◌<◌, ◌+◌, ℕ, Bor, List, [], ◌∷◌, ◌++◌, append-nil, append_assoc, ap, arith, flat_map, get_or, length, length-append, map, refl, subst, sym, take, ◌∙◌}
+use Rattle.std.proofs.Common.{◌≡◌, ◌≢◌, ◌≤◌, ◌<◌, ◌+◌, ℕ, Bor, List, [], ◌∷◌, ◌++◌, append-nil, append_assoc, ap, arith, flat_map, get_or}
+use Rattle.std.proofs.Common.{length, length-append, map, refl, subst, sym, take, ◌∙◌}
 use Rattle.std.specs.List.{AllByRecursion}
 use Rattle.std.specs.Prelude.{Option}
 use Rattle.std.proofs.lemmas.Grind.{flat_map-append}
@@ -21,9 +22,11 @@ each_more P [] x each more = (more, tt)
 each_more P (y ∷ xs) x each more = (each.0, each_more P xs x each.1 more)
 
 -- one more fleet
-pub reads_more : {S : Type 0} (bytes : S → List ℕ) (text_of now_of : List ℕ → Option (List ℕ)) (paths : List (Bor (List ℕ))) (i : ℕ) (path : Bor (List ℕ)) (start old new : List (List ℕ)) (words words' : List S)
+pub reads_more : {S : Type 0} (bytes : S → List ℕ) (text_of now_of : List ℕ → Option (List ℕ)) (paths : List (Bor (List ℕ))) (i : ℕ)
+    (path : Bor (List ℕ)) (start old new : List (List ℕ)) (words words' : List S)
     → i < length paths → path ≡ get_or paths i path → now_of ≡ text_of
-    → ReadsFleets text_of (map (λ path. path.now) (take i paths)) start old (map bytes words) → AddsFleet bytes now_of path.now old new words words'
+    → ReadsFleets text_of (map (λ path. path.now) (take i paths)) start old (map bytes words)
+    → AddsFleet bytes now_of path.now old new words words'
     → ReadsFleets text_of (map (λ path. path.now) (take (i + 1) paths)) start new (map bytes words')
 reads_more bytes text_of now_of paths i path start old new words words' within here same reads adds =
     let fleet : FleetText = fleet_at path.now adds.text in
@@ -33,31 +36,39 @@ reads_more bytes text_of now_of paths i path start old new words words' within h
     record {
       fleets = reads.fleets ++ fleet ∷ [];
       are_fleets = record {
-        paths_are = map-append (λ fleet. fleet.path) reads.fleets (fleet ∷ []) ∙ ap (λ named. named ++ path.now ∷ []) reads.are_fleets.paths_are ∙ next;
+        paths_are =
+            map-append (λ fleet. fleet.path) reads.fleets (fleet ∷ [])
+            ∙ ap (λ named. named ++ path.now ∷ []) reads.are_fleets.paths_are ∙ next;
         each = each_more (IsFleet text_of) reads.fleets fleet reads.are_fleets.each (subst (λ of. IsFleet of fleet) same adds.is_fleet);
       };
       given =
-          adds.read ∙ ap (λ texts. texts ++ adds.text ∷ []) reads.given ∙ append_assoc start (map (λ fleet. fleet.text) reads.fleets) (adds.text ∷ [])
+          adds.read ∙ ap (λ texts. texts ++ adds.text ∷ []) reads.given
+              ∙ append_assoc start (map (λ fleet. fleet.text) reads.fleets) (adds.text ∷ [])
           ∙ ap (λ texts. start ++ texts) (sym (map-append (λ fleet. fleet.text) reads.fleets (fleet ∷ [])));
       words_are =
-          ap (map bytes) adds.adds.behind ∙ map-append bytes words adds.adds.more ∙ ap (λ front. front ++ map bytes adds.adds.more) reads.words_are
+          ap (map bytes) adds.adds.behind ∙ map-append bytes words adds.adds.more
+              ∙ ap (λ front. front ++ map bytes adds.adds.more) reads.words_are
           ∙ ap (λ named. flat_map words_named reads.fleets ++ named) (adds.adds.bytes_are ∙ sym (append-nil (words_named fleet)))
           ∙ sym (flat_map-append words_named reads.fleets (fleet ∷ []));
     }
 
 -- of all paths
-pub reads_all : (text_of : List ℕ → Option (List ℕ)) (paths : List (Bor (List ℕ))) (i : ℕ) (old new words : List (List ℕ)) → take i paths ≡ paths
-    → ReadsFleets text_of (map (λ path. path.now) (take i paths)) old new words → ReadsFleets text_of (map (λ path. path.now) paths) old new words
+pub reads_all : (text_of : List ℕ → Option (List ℕ)) (paths : List (Bor (List ℕ))) (i : ℕ) (old new words : List (List ℕ)) →
+    take i paths ≡ paths
+    → ReadsFleets text_of (map (λ path. path.now) (take i paths)) old new words
+    → ReadsFleets text_of (map (λ path. path.now) paths) old new words
 reads_all text_of paths i old new words all reads = subst (λ ps. ReadsFleets text_of (map (λ path. path.now) ps) old new words) all reads
 
 -- each names one word at least
-words_count : (text_of : List ℕ → Option (List ℕ)) (fleets : List FleetText) → AllByRecursion (IsFleet text_of) fleets → length fleets ≤ length (flat_map words_named fleets)
+words_count : (text_of : List ℕ → Option (List ℕ)) (fleets : List FleetText) → AllByRecursion (IsFleet text_of) fleets →
+    length fleets ≤ length (flat_map words_named fleets)
 words_count text_of [] each = omega arith
 words_count text_of (fleet ∷ fleets) each =
     let some : length (words_named fleet) ≢ 0 = λ none. each.0.some (nil_from_length (words_named fleet) none) in
     omega (arith, some, words_count text_of fleets each.1, length-append (words_named fleet) (flat_map words_named fleets))
 
-pub fleets_count : (text_of : List ℕ → Option (List ℕ)) (paths words : List (List ℕ)) (old new : List (List ℕ)) → ReadsFleets text_of paths old new words → length paths ≤ length words
+pub fleets_count : (text_of : List ℕ → Option (List ℕ)) (paths words : List (List ℕ)) (old new : List (List ℕ)) →
+    ReadsFleets text_of paths old new words → length paths ≤ length words
 fleets_count text_of paths words old new reads =
     omega (
       arith,

@@ -4,7 +4,8 @@ use Rattle.std.proofs.lemmas.Bool.{ne_eqb}
 use Rattle.many_requests.specs.Names.{names_in, with_byte}
 
 -- no byte of a front is zero, and the one behind it is
-pub names_in-cut : (bytes : List ℕ) (end : ℕ) → end < length bytes → ((k : ℕ) → k < end → get_or bytes k 0 ≢ 0) → get_or bytes end 0 ≡ 0 → names_in bytes ≡ take end bytes ∷ names_in (drop (suc end) bytes)
+pub names_in-cut : (bytes : List ℕ) (end : ℕ) → end < length bytes → ((k : ℕ) → k < end → get_or bytes k 0 ≢ 0) → get_or bytes end 0 ≡ 0 →
+    names_in bytes ≡ take end bytes ∷ names_in (drop (suc end) bytes)
 names_in-cut [] end within front here = absurd (omega arith)
 names_in-cut (byte ∷ bytes) zero within front here = rw (eq-eqb byte 0 here) refl
 names_in-cut (byte ∷ bytes) (suc end) within front here =

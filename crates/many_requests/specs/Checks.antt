@@ -1,5 +1,6 @@
 -- What is left of a check of many jobs. Nothing is known of files beforehand, so this is said for some texts of them.
-use Rattle.std.specs.Prelude.{◌≡◌, ◌⊎◌, ◌++◌, ℕ, Bool, List, [], flat_map, map, option_map, Contains, IsFalse, Option, Some, if◌then◌else◌}
+use Rattle.std.specs.Prelude.{◌≡◌, ◌⊎◌, ◌++◌, ℕ, Bool, List, [], flat_map, map, option_map, Contains, IsFalse, Option}
+use Rattle.std.specs.Prelude.{Some, if◌then◌else◌}
 use Rattle.std.specs.declared.alloc.Global.{Global}
 use Rattle.requests.specs.declared.many_words.Form.{Form}
 use Rattle.requests.specs.declared.many_words.Form.TheVariants.{Line as LineForm, Words as WordsForm, Json as JsonForm}
@@ -24,9 +25,9 @@ use Rattle.many_requests.specs.Names.{AreNamesAt, names_in}
 
 -- ---- what is asked for
 
--- by the words: the jobs, the file of their names, the printers, the fleets, how many items macros may carry out, whether each printer is
--- told of by itself, whether the notes of a job that passes are told, the form, the explanations of which a FAIL and a note get their own,
--- and whether a FAIL counts as a PASS
+-- by the words: the jobs, the file of their names, the printers, the fleets, how many items macros may carry out,
+-- whether each printer is told of by itself, whether the notes of a job that passes are told, the form, the
+-- explanations of which a FAIL and a note get their own, and whether a FAIL counts as a PASS
 pub record Asking : Type 0 where
   pub jobs : List (List ℕ)
   pub names_from : Option (List ℕ)
@@ -66,8 +67,8 @@ pub record IsTelling (asking : Asking) (telling : HowTold) : Type 0 where
   pub explanations : telling.explanations ≡ asking.explanations
   pub exit_zero : telling.exit_zero ≡ asking.exit_zero
 
--- What is checked: the jobs of the words and then those that the bytes of the file of names have, for the printers of the words and then
--- those that the texts of the fleets name.
+-- What is checked: the jobs of the words and then those that the bytes of the file of names have, for the printers of
+-- the words and then those that the texts of the fleets name.
 pub record Completes (asking : Asking) (asked : Asked) : Type 0 where
   pub names : List ℕ
   pub fleets : List FleetText
@@ -89,17 +90,19 @@ pub record ReadsFleets (text_of : List ℕ → Option (List ℕ)) (paths old new
 
 -- ---- what is left
 
--- The jobs are checked, where standard input is read once at most; or they are refused for what can be read only once, and no line is
--- written.
-abbrev pub LeavesAsked : Option (List ℕ) → Asked → Status → OutletState → OutletState → OutletState → OutletState → Type 0
+-- The jobs are checked, where standard input is read once at most;
+-- or they are refused for what can be read only once, and no line is written.
+abbrev pub LeavesAsked : Option (List ℕ) → Asked → Status → OutletState → OutletState → OutletState → OutletState →
+    Type 0
 LeavesAsked names_from asked status out out' err err' =
     (IsFalse (reads_input_again names_from asked) × (ended : List SourceState) × (read_failed : Bool)
-    × LeavesMany (map text_named asked.printers) read_failed asked (λ name. no_source) status (work out []) (work out' ended) err err'
+    × LeavesMany (map text_named asked.printers) read_failed asked (λ name. no_source) status (work out [])
+        (work out' ended) err err'
     × (out'.failed ≡ is_stop_of_write status))
     ⊎ (RefusesInput names_from asked status err err' × (out' ≡ out))
 
--- why there is nothing to check: one of these fleets is refused, or this file of names cannot be read, of which standard error is told;
--- or there is no memory
+-- why there is nothing to check: one of these fleets is refused, or this file of names cannot be read, of which
+-- standard error is told; or there is no memory
 abbrev pub LacksSome : List (List ℕ) → Option (List ℕ) → Status → OutletState → OutletState → Type 0
 LacksSome fleets names_from status err err' =
     ((path : List ℕ) × Contains fleets path × TellsOfFleet path status err err')

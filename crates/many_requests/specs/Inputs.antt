@@ -1,5 +1,6 @@
 -- Which jobs would be read again whose bytes are gone once they are read.
-use Rattle.std.specs.Prelude.{◌≡◌, ◌⊎◌, ◌&&◌, ◌||◌, ◌++◌, ℕ, Bool, List, Option, IsTrue, codes, count_by, length, nat_lt, option_to_list}
+use Rattle.std.specs.Prelude.{◌≡◌, ◌⊎◌, ◌&&◌, ◌||◌, ◌++◌, ℕ, Bool, List, Option, IsTrue, codes, count_by, length}
+use Rattle.std.specs.Prelude.{nat_lt, option_to_list}
 use Rattle.std.specs.Str.{bytes_eq}
 use Rattle.streams.specs.Writing.{Writes}
 use Rattle.streams.specs.Outlet.{OutletState}
@@ -22,19 +23,22 @@ input_count names_from jobs = count_by is_input (option_to_list names_from ++ jo
 
 -- standard input would be read more than once
 abbrev pub reads_input_again : Option (List ℕ) → Asked → Bool
-reads_input_again names_from asked = nat_lt 1 (input_count names_from asked.jobs) || (is_apart asked && nat_lt 0 (count_by is_input asked.jobs))
+reads_input_again names_from asked =
+    nat_lt 1 (input_count names_from asked.jobs) || (is_apart asked && nat_lt 0 (count_by is_input asked.jobs))
 
 -- ---- what is told
 
 -- standard input cannot be read again
 abbrev pub input_again : List ℕ
-input_again = codes "error: standard input can be read only once; --each reads a job for each printer, and --notes once more\n"
+input_again =
+    codes "error: standard input can be read only once; --each reads a job for each printer, and --notes once more\n"
 
 -- for each printer, or for its notes
 abbrev pub read_apart : List ℕ
 read_apart = codes "--each reads it for each printer, and --notes once more\n"
 
--- Standard input that would be read again is refused, and so may be a job that is no file where each job is read more than once.
+-- Standard input that would be read again is refused, and so may be a job that is no file where each job is
+-- read more than once.
 abbrev pub RefusesInput : Option (List ℕ) → Asked → Status → OutletState → OutletState → Type 0
 RefusesInput names_from asked status err err' =
     (IsTrue (reads_input_again names_from asked) × (status ≡ Usage) × Writes err err' input_again)

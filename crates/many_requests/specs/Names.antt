@@ -1,5 +1,6 @@
 -- The names that a file has, and its bytes.
-use Rattle.std.specs.Prelude.{◌≡◌, ◌<◌, ◌==◌, ◌-◌, ◌^◌, ℕ, List, [], ◌∷◌, length, take, if◌then◌else◌, Option, None, Some}
+use Rattle.std.specs.Prelude.{◌≡◌, ◌<◌, ◌==◌, ◌-◌, ◌^◌, ℕ, List, [], ◌∷◌, length, take, if◌then◌else◌, Option, None}
+use Rattle.std.specs.Prelude.{Some}
 use Rattle.streams.specs.Files.{no_source}
 use Rattle.streams.specs.Pieces.{ByReads}
 use Rattle.streams.specs.Source.{SourceState}
@@ -19,7 +20,8 @@ pub record LeadsTo (bytes name behind : List ℕ) : Type 0 where
   pub names : names_in bytes ≡ name ∷ names_in behind
   pub fewer : length behind < length bytes
 
--- These are the bytes of a file that was read from the one state to the other: of each that may be by its reads all, or the first 2^64 - 1.
+-- These are the bytes of a file that was read from the one state to the other:
+-- of each that may be by its reads all, or the first 2^64 - 1.
 abbrev pub AreBytesBy : SourceState → SourceState → List ℕ → Type 0
 AreBytesBy old new bytes = ByReads old new (λ file. bytes ≡ take (2 ^ 64 - 1) file)
 

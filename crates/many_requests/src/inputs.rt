@@ -1,5 +1,6 @@
 //! Jobs whose bytes are gone once they are read.
-ghost use Rattle.std.specs.Prelude.{◌≡◌, ◌≤◌, Contains, IfNone, IfSome, IsFalse, count_by, length, map, option_map};
+ghost use Rattle.std.specs.Prelude.{◌≡◌, ◌≤◌, Contains, IfNone, IfSome, IsFalse, count_by, length};
+ghost use Rattle.std.specs.Prelude.{map, option_map};
 ghost use Rattle.many_requests.specs.Inputs.{RefusesInput, is_apart, is_input, reads_input_again};
 ghost use Rattle.many_jobs.specs.Asked.{asked_for};
 

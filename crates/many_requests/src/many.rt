@@ -1,7 +1,9 @@
 //! A check of many jobs by request, on files.
-ghost use Rattle.std.specs.Prelude.{◌≡◌, ◌≢◌, ◌++◌, [], List, ℕ, Contains, IfErr, IfOk, IsFalse, OnOk, map, option_map, string_bytes};
+ghost use Rattle.std.specs.Prelude.{◌≡◌, ◌≢◌, ◌++◌, [], List, ℕ, Contains, IfErr, IfOk, IsFalse};
+ghost use Rattle.std.specs.Prelude.{OnOk, map, option_map, string_bytes};
 ghost use Rattle.requests.specs.ManyWords.{NamesPrinter};
-ghost use Rattle.many_requests.specs.Checks.{IsTelling, LeavesAsked, LeavesChecks, ReadsFleets, asking};
+ghost use Rattle.many_requests.specs.Checks.{IsTelling, LeavesAsked, LeavesChecks, ReadsFleets};
+ghost use Rattle.many_requests.specs.Checks.{asking};
 ghost use Rattle.many_requests.specs.Names.{names_in};
 ghost use Rattle.many_jobs.specs.Asked.{asked_for, told_by};
 ghost use Rattle.many_jobs.specs.FleetFile.{TellsOfFleet};

@@ -1,5 +1,6 @@
 //! The file of the names of jobs.
-ghost use Rattle.std.specs.Prelude.{◌≡◌, ◌++◌, [], IfErr, IfOk, IsFalse, IsSomeAnd, MatchOption, OnOk, map, option_map};
+ghost use Rattle.std.specs.Prelude.{◌≡◌, ◌++◌, [], IfErr, IfOk, IsFalse, IsSomeAnd, MatchOption};
+ghost use Rattle.std.specs.Prelude.{OnOk, map, option_map};
 ghost use Rattle.many_requests.specs.Names.{AreBytesBy, AreNamesAt, LeadsTo, names_in};
 ghost use Rattle.job_reports.specs.Refusals.{TellsOfNames};
 

@@ -97,7 +97,8 @@ each_note note_kinds.LongRun = of refl refl refl
 
 abbrev notes : List Note
 notes =
-    note_kinds.OpenStart ∷ note_kinds.OpenEnd ∷ note_kinds.NoPage ∷ note_kinds.PjlAsText ∷ note_kinds.SameOrientation ∷ note_kinds.RoundedColumn
+    note_kinds.OpenStart ∷ note_kinds.OpenEnd ∷ note_kinds.NoPage ∷ note_kinds.PjlAsText ∷ note_kinds.SameOrientation
+    ∷ note_kinds.RoundedColumn
     ∷ note_kinds.FractionOfUnit ∷ note_kinds.LaterLanguage ∷ note_kinds.ShortRaster ∷ note_kinds.BlankOverflow ∷ note_kinds.SourceMovesLeft
     ∷ note_kinds.LongRun ∷ []
 

@@ -1,5 +1,6 @@
 -- What the command `explain` writes.
-use Rattle.std.specs.Prelude.{◌≡◌, ℕ, List, [], ◌∷◌, ◌++◌, decimal, filter, map, codes, Bool, true, false, not, ◌||◌, ◌==◌, Option, Some, None, if◌then◌else◌}
+use Rattle.std.specs.Prelude.{◌≡◌, ℕ, List, [], ◌∷◌, ◌++◌, decimal, filter, map, codes, Bool, true, false, not, ◌||◌}
+use Rattle.std.specs.Prelude.{◌==◌, Option, Some, None, if◌then◌else◌}
 use Rattle.std.specs.List.{before_first, after_first, concat, list_any}
 use Rattle.std.specs.Str.{bytes_eq, str_eq_ignore_ascii_case}
 use Rattle.verdict.specs.declared.reason.Reason.{Reason}
@@ -48,7 +49,9 @@ end_of_explain unknown failed = if unknown then Usage else (if failed then Stopp
 -- what it tells on standard error of a code that is unknown
 abbrev pub complaint : Option (List ℕ) → List ℕ
 complaint None = []
-complaint (Some code) = codes "error: no fault, finding or note has the number or the name '" ++ code ++ codes "'; 'pclcheck explain' writes all\n"
+complaint (Some code) =
+    codes "error: no fault, finding or note has the number or the name '" ++ code
+    ++ codes "'; 'pclcheck explain' writes all\n"
 
 -- ---- of what they tell
 

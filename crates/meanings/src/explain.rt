@@ -1,8 +1,10 @@
 //! The program's command `explain`.
-ghost use Rattle.std.specs.Prelude.{◌≡◌, ◌==◌, ◌<◌, decimal, map, option_map, is_err, IfErr, IsFalse, IsTrue};
+ghost use Rattle.std.specs.Prelude.{◌≡◌, ◌==◌, ◌<◌, decimal, map, option_map, is_err, IfErr};
+ghost use Rattle.std.specs.Prelude.{IsFalse, IsTrue};
 ghost use Rattle.std.specs.List.{before_first, after_first, list_any};
 ghost use Rattle.streams.specs.Writing.{Writes};
-ghost use Rattle.meanings.specs.Explanations.{complaint, end_of_explain, explained_by, explanation, is_about, is_asked, is_unknown};
+ghost use Rattle.meanings.specs.Explanations.{complaint, end_of_explain, explained_by, explanation};
+ghost use Rattle.meanings.specs.Explanations.{is_about, is_asked, is_unknown};
 
 use crate::explanations::EXPLANATIONS;
 use itoa::Buffer;

@@ -1,5 +1,6 @@
 -- A profile's text is judged by its front.
-use Rattle.std.proofs.Common.{◌≡◌, ◌≤◌, ◌<◌, ◌⊎◌, inl, inr, ℕ, List, take, length, nat_lt, Option, Some, None, IfSome, Result, Err, refl, subst, sym, ◌∙◌, ap, arith}
+use Rattle.std.proofs.Common.{◌≡◌, ◌≤◌, ◌<◌, ◌⊎◌, inl, inr, ℕ, List, take, length, nat_lt, Option, Some, None, IfSome, Result, Err, refl}
+use Rattle.std.proofs.Common.{subst, sym, ◌∙◌, ap, arith}
 use Rattle.std.proofs.lemmas.Bool.{cases_lt, cond-true, lt-ltb}
 use Rattle.std.proofs.lemmas.List.{take_all, length-take}
 use Rattle.device_profile.specs.declared.fault.Cause.TheVariants.{Range}
@@ -26,11 +27,15 @@ front_judged text = go (cases_lt 65_536 (length text))
     go (inr fits) = ap printer_of_text (take_all 65_537 text (omega arith))
 
 -- what is said of the bytes that were read of a text is said of the text
-pub read_judged : (text : Option (List ℕ)) (bytes : List ℕ) (r : Result Printer ProfileFault) → IfSome text (λ known. bytes ≡ take 65_537 known) → printer_of_text bytes ≡ r → IfSome text (λ known. printer_of_text known ≡ r)
+pub read_judged : (text : Option (List ℕ)) (bytes : List ℕ) (r : Result Printer ProfileFault) →
+    IfSome text (λ known. bytes ≡ take 65_537 known) → printer_of_text bytes ≡ r → IfSome text (λ known. printer_of_text known ≡ r)
 read_judged None bytes r read judged = tt
 read_judged (Some known) bytes r read judged = sym (front_judged known) ∙ ap printer_of_text (sym read) ∙ judged
 
 -- a fault in the bytes that were read of a text is the text's
-pub read_refused : (text : Option (List ℕ)) (bytes : List ℕ) (number : ℕ) (fault : ProfileFault) (status : Status) → IfSome text (λ known. bytes ≡ take 65_537 known) → IsErrorOfText bytes fault → status ≡ refusal_of number fault → IsEndOfProfile number text status
-read_refused text bytes number (Fault line cause) status read refused is = subst (IsEndOfProfile number text) (sym is) (refl, read_judged text bytes (Err (Fault line cause)) read refused)
+pub read_refused : (text : Option (List ℕ)) (bytes : List ℕ) (number : ℕ) (fault : ProfileFault) (status : Status) →
+    IfSome text (λ known. bytes ≡ take 65_537 known) → IsErrorOfText bytes fault → status ≡ refusal_of number fault →
+    IsEndOfProfile number text status
+read_refused text bytes number (Fault line cause) status read refused is =
+    subst (IsEndOfProfile number text) (sym is) (refl, read_judged text bytes (Err (Fault line cause)) read refused)
 read_refused text bytes number Memory status read refused is = subst (IsEndOfProfile number text) (sym is) tt

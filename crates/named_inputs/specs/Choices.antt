@@ -1,8 +1,10 @@
 -- What is chosen at the panel of a printer, and what is told of a choice that it may not have.
-use Rattle.std.specs.Prelude.{◌≡◌, ℕ, ◌==◌, Bool, List, [], ◌∷◌, ◌++◌, flat_map, codes, Result, Ok, Err, ⊤, if◌then◌else◌}
+use Rattle.std.specs.Prelude.{◌≡◌, ℕ, ◌==◌, Bool, List, [], ◌∷◌, ◌++◌, flat_map, codes, Result, Ok, Err, ⊤}
+use Rattle.std.specs.Prelude.{if◌then◌else◌}
 use Rattle.std.specs.List.{list_any}
 use Rattle.device_profile.specs.declared.field.Field.{Field}
-use Rattle.device_profile.specs.declared.field.Field.TheVariants.{Size, Orientation, Vmi, Font, Copies, Sides, Tray, LineTerm}
+use Rattle.device_profile.specs.declared.field.Field.TheVariants.{Size, Orientation, Vmi, Font, Copies, Sides, Tray}
+use Rattle.device_profile.specs.declared.field.Field.TheVariants.{LineTerm}
 use Rattle.device_profile.specs.declared.panel.Panel.{Panel}
 use Rattle.device_profile.specs.Field.{field_key}
 use Rattle.device_profile.specs.Printer.{Printer, values_of, first_panel}
@@ -63,5 +65,6 @@ TellsOfChoice _ printer choice old new = ⊥
 -- what `pin` writes on standard error where it ends for a choice, for a printer with this fact
 abbrev pub TellsOfPin : Status → (Printer → Type 0) → List Choice → OutletState → OutletState → Type 0
 TellsOfPin (NotAllowed choice) IsPrinter choices old new =
-    (printer : Printer) × IsPrinter printer × (chosen_panel printer choices ≡ Err choice) × Writes old new (choice_line printer choice)
+    (printer : Printer) × IsPrinter printer × (chosen_panel printer choices ≡ Err choice)
+    × Writes old new (choice_line printer choice)
 TellsOfPin _ IsPrinter choices old new = ⊤

@@ -25,7 +25,8 @@ DescribeFleet (text ∷ texts) (printer ∷ printers) = Describes text printer �
 
 -- the texts that were read between old and new describe these printers, in their order
 abbrev pub DescribeBy : List (List ℕ) → List (List ℕ) → List Printer → Type 0
-DescribeBy old new printers = (texts : List (List ℕ)) × (new ≡ old ++ texts) × DescribeFleet (map (λ text. Some text) texts) printers
+DescribeBy old new printers =
+    (texts : List (List ℕ)) × (new ≡ old ++ texts) × DescribeFleet (map (λ text. Some text) texts) printers
 
 -- The text of this number, counted from 1, is reached: each one before it describes a printer. Of that text this holds.
 pub record IsReached (texts : List (Option (List ℕ))) (number : ℕ) (P : Option (List ℕ) → Type 0) : Type 0 where
@@ -38,8 +39,8 @@ pub record IsReached (texts : List (Option (List ℕ))) (number : ℕ) (P : Opti
   pub accepted : DescribeFleet before printers
   pub holds : P text
 
--- Of the texts that were read between old and new all but the last describe printers; the last is refused at this line, for this
--- cause, and its number is their count.
+-- Of the texts that were read between old and new all but the last describe printers;
+-- the last is refused at this line, for this cause, and its number is their count.
 pub record RefusesLast (old new : List (List ℕ)) (number line : ℕ) (cause : Cause) : Type 0 where
   pub before : List (List ℕ)
   pub text : List ℕ
@@ -56,7 +57,8 @@ RefusesBy old new _ = ⊤
 
 -- where the profile of this number is refused, its text was read, and that is what is wrong with it
 abbrev pub RefusesRead : List (List ℕ) → List (List ℕ) → ℕ → Status → Type 0
-RefusesRead old new number (Profile refused line cause) = (refused ≡ number) × (text : List ℕ) × (new ≡ old ++ text ∷ []) × (printer_of_text text ≡ Err (Fault line cause))
+RefusesRead old new number (Profile refused line cause) =
+    (refused ≡ number) × (text : List ℕ) × (new ≡ old ++ text ∷ []) × (printer_of_text text ≡ Err (Fault line cause))
 RefusesRead old new number _ = ⊤
 
 -- some text is reached
@@ -68,7 +70,8 @@ abbrev pub RefusesFirst : List (Option (List ℕ)) → Status → Type 0
 RefusesFirst texts (Profile number line cause) = IsReached texts number (IsRefused line cause)
 RefusesFirst texts _ = ⊤
 
--- why there is no fleet: the first profile that is refused, no memory, or a profile that was reached and could not be read
+-- why there is no fleet: the first profile that is refused, no memory, or a profile that was reached and
+-- could not be read
 abbrev pub IsEndOfFleet : List (Option (List ℕ)) → Status → Type 0
 IsEndOfFleet texts (Profile number line cause) = IsReached texts number (IsRefused line cause)
 IsEndOfFleet texts (Stopped Memory) = ⊤

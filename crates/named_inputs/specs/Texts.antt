@@ -1,5 +1,6 @@
 -- The texts of profiles, and the words that name them.
-use Rattle.std.specs.Prelude.{◌≡◌, [], ◌∷◌, take, Result, Ok, Err, ℕ, List, Option, Some, None, option_map, codes, if◌then◌else◌, ⊤}
+use Rattle.std.specs.Prelude.{◌≡◌, [], ◌∷◌, take, Result, Ok, Err, ℕ, List, Option, Some, None, option_map, codes}
+use Rattle.std.specs.Prelude.{if◌then◌else◌, ⊤}
 use Rattle.std.specs.Str.{bytes_eq}
 use Rattle.device_profile.specs.declared.sample.Sample.{Sample}
 use Rattle.device_profile.specs.declared.sample.Sample.TheVariants.{A, B, C, D}

@@ -1,7 +1,8 @@
 //! What is chosen at the panel of a printer, in place of the first value of a field.
 ghost use Rattle.std.specs.Prelude.{◌≡◌, ◌++◌, IfOk, IsFalse, OnOk, flat_map};
 ghost use Rattle.device_profile.specs.Printer.{IsAllowed};
-ghost use Rattle.named_inputs.specs.Choices.{TellsOfChoice, choice_line, choice_word, chosen_panel, is_choice, with_choice};
+ghost use Rattle.named_inputs.specs.Choices.{TellsOfChoice, choice_line, choice_word, chosen_panel};
+ghost use Rattle.named_inputs.specs.Choices.{is_choice, with_choice};
 ghost use Rattle.requests.specs.Status.{is_refused_choice};
 
 use device_profile::{Field, Panel, Profile};

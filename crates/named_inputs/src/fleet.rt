@@ -1,6 +1,8 @@
 //! The fleet that the words name.
-ghost use Rattle.std.specs.Prelude.{◌≡◌, ◌+◌, ◌<◌, ◌^◌, [], ◌∷◌, map, length, IfSome, IsFalse, MatchResult};
-ghost use Rattle.named_inputs.specs.Fleet.{DescribeBy, DescribeFleet, Describes, IsEndOfFleet, IsEndOfProfile, RefusesBy, RefusesRead};
+ghost use Rattle.std.specs.Prelude.{◌≡◌, ◌+◌, ◌<◌, ◌^◌, [], ◌∷◌, map, length, IfSome, IsFalse};
+ghost use Rattle.std.specs.Prelude.{MatchResult};
+ghost use Rattle.named_inputs.specs.Fleet.{DescribeBy, DescribeFleet, Describes, IsEndOfFleet};
+ghost use Rattle.named_inputs.specs.Fleet.{IsEndOfProfile, RefusesBy, RefusesRead};
 ghost use Rattle.requests.specs.Status.{is_err_at_read, refusal_of};
 
 use crate::texts::ProfileTexts;

@@ -1,5 +1,6 @@
 //! What the texts of profiles are read from.
-ghost use Rattle.std.specs.Prelude.{◌≡◌, ◌≤◌, ℕ, Bool, List, [], ◌++◌, Option, take, length, IfOk, IfErr, IfSome, IsFalse};
+ghost use Rattle.std.specs.Prelude.{◌≡◌, ◌≤◌, ℕ, Bool, List, [], ◌++◌, Option, take, length, IfOk};
+ghost use Rattle.std.specs.Prelude.{IfErr, IfSome, IsFalse};
 ghost use Rattle.streams.specs.Errors.{is_err_of_read};
 ghost use Rattle.named_inputs.specs.Texts.{IsErrorOfReading, IsTextBy, text_read};
 

@@ -7,7 +7,8 @@ use Rattle.notes.specs.declared.past.Past.{Past}
 use Rattle.notes.specs.declared.past.Spelled.{Spelled}
 use Rattle.notes.specs.declared.past.Spelled.TheVariants.{Nothing, At, AtP, AtPj, Other}
 use Rattle.notes.specs.Note.{told_if}
-use Rattle.notes.specs.ItemNotes.{acts, is_line, has_reset, is_text, is_byte, ends_word, is_job_word, is_fraction, is_later, is_open_end, item_notes}
+use Rattle.notes.specs.ItemNotes.{acts, is_line, has_reset, is_text, is_byte, ends_word, is_job_word, is_fraction, is_later, is_open_end}
+use Rattle.notes.specs.ItemNotes.{item_notes}
 use Rattle.notes.specs.Carriers.Past.{spelled_with, spelled_behind, past_behind, past_of, ends_job_word, ends_open, past_notes}
 
 and_false : (b : Bool) → b && false ≡ false
@@ -52,7 +53,8 @@ nothing_is (x ∷ before) = nothing_behind (past_of before).spelled x.item
 at_with : (spelled : Spelled) (code : ℕ) → is_at (spelled_with spelled code) ≡ (code == 64) && is_nothing spelled
 at_with Nothing code = elim (code == 64) as (λ b. is_at (cond b At Other) ≡ b && true) [ true ↦ refl | false ↦ refl ]
 at_with At code = elim (code == 80) as (λ b. is_at (cond b AtP Other) ≡ false) [ true ↦ refl | false ↦ refl ] ∙ sym (and_false (code == 64))
-at_with AtP code = elim (code == 74) as (λ b. is_at (cond b AtPj Other) ≡ false) [ true ↦ refl | false ↦ refl ] ∙ sym (and_false (code == 64))
+at_with AtP code =
+    elim (code == 74) as (λ b. is_at (cond b AtPj Other) ≡ false) [ true ↦ refl | false ↦ refl ] ∙ sym (and_false (code == 64))
 at_with AtPj code = sym (and_false (code == 64))
 at_with Other code = sym (and_false (code == 64))
 
@@ -65,9 +67,11 @@ at_is [] = refl
 at_is (x ∷ before) = at_behind (past_of before).spelled x.item ∙ ap (λ b. is_byte 64 x.item && b) (nothing_is before)
 
 at_p_with : (spelled : Spelled) (code : ℕ) → is_at_p (spelled_with spelled code) ≡ (code == 80) && is_at spelled
-at_p_with Nothing code = elim (code == 64) as (λ b. is_at_p (cond b At Other) ≡ false) [ true ↦ refl | false ↦ refl ] ∙ sym (and_false (code == 80))
+at_p_with Nothing code =
+    elim (code == 64) as (λ b. is_at_p (cond b At Other) ≡ false) [ true ↦ refl | false ↦ refl ] ∙ sym (and_false (code == 80))
 at_p_with At code = elim (code == 80) as (λ b. is_at_p (cond b AtP Other) ≡ b && true) [ true ↦ refl | false ↦ refl ]
-at_p_with AtP code = elim (code == 74) as (λ b. is_at_p (cond b AtPj Other) ≡ false) [ true ↦ refl | false ↦ refl ] ∙ sym (and_false (code == 80))
+at_p_with AtP code =
+    elim (code == 74) as (λ b. is_at_p (cond b AtPj Other) ≡ false) [ true ↦ refl | false ↦ refl ] ∙ sym (and_false (code == 80))
 at_p_with AtPj code = sym (and_false (code == 80))
 at_p_with Other code = sym (and_false (code == 80))
 
@@ -80,8 +84,10 @@ at_p_is [] = refl
 at_p_is (x ∷ before) = at_p_behind (past_of before).spelled x.item ∙ ap (λ b. is_byte 80 x.item && b) (at_is before)
 
 at_pj_with : (spelled : Spelled) (code : ℕ) → is_at_pj (spelled_with spelled code) ≡ (code == 74) && is_at_p spelled
-at_pj_with Nothing code = elim (code == 64) as (λ b. is_at_pj (cond b At Other) ≡ false) [ true ↦ refl | false ↦ refl ] ∙ sym (and_false (code == 74))
-at_pj_with At code = elim (code == 80) as (λ b. is_at_pj (cond b AtP Other) ≡ false) [ true ↦ refl | false ↦ refl ] ∙ sym (and_false (code == 74))
+at_pj_with Nothing code =
+    elim (code == 64) as (λ b. is_at_pj (cond b At Other) ≡ false) [ true ↦ refl | false ↦ refl ] ∙ sym (and_false (code == 74))
+at_pj_with At code =
+    elim (code == 80) as (λ b. is_at_pj (cond b AtP Other) ≡ false) [ true ↦ refl | false ↦ refl ] ∙ sym (and_false (code == 74))
 at_pj_with AtP code = elim (code == 74) as (λ b. is_at_pj (cond b AtPj Other) ≡ b && true) [ true ↦ refl | false ↦ refl ]
 at_pj_with AtPj code = sym (and_false (code == 74))
 at_pj_with Other code = sym (and_false (code == 74))
@@ -121,7 +127,9 @@ past_is before x = λ i.
 
 -- ---- behind the last reset
 
-open_step : (line resets kept later others : Bool) → (kept && not (resets || later)) || (((not line && not resets) && not later) || others) ≡ ((not resets && (kept || (not line && not resets))) && not later) || others
+open_step : (line resets kept later others : Bool) →
+    (kept && not (resets || later)) || (((not line && not resets) && not later) || others)
+    ≡ ((not resets && (kept || (not line && not resets))) && not later) || others
 open_step true true true true o = refl
 open_step true true true false o = refl
 open_step true true false true o = refl
@@ -139,7 +147,8 @@ open_step false false true false o = refl
 open_step false false false true o = refl
 open_step false false false false o = refl
 
-pub ends_open_more : (past : Past) (x : Placed) (items : List Placed) → ends_open past (x ∷ items) ≡ ends_open (past_behind past x.item) items
+pub ends_open_more : (past : Past) (x : Placed) (items : List Placed) →
+    ends_open past (x ∷ items) ≡ ends_open (past_behind past x.item) items
 ends_open_more past x items = open_step (is_line x.item) (is_reset x.item) past.is_open (has_reset items) (is_open_end items)
 
 pub ends_open_none : (past : Past) → ends_open past [] ≡ past.is_open

@@ -1,5 +1,6 @@
 -- Notes that are told one after another.
-use Rattle.std.proofs.Common.{◌≡◌, ℕ, Bool, true, false, cond, List, [], ◌∷◌, ◌++◌, refl, ap, sym, ◌∙◌, subst, append-nil, append_assoc, flat_map}
+use Rattle.std.proofs.Common.{◌≡◌, ℕ, Bool, true, false, cond, List, [], ◌∷◌, ◌++◌, refl, ap, sym, ◌∙◌, subst, append-nil, append_assoc}
+use Rattle.std.proofs.Common.{flat_map}
 use Rattle.std.proofs.lemmas.Grind.{flat_map-append}
 use Rattle.notes.specs.declared.note.Note.{Note}
 use Rattle.notes.specs.Note.{Told, told_if, firsts, is_among, among_behind}
@@ -17,15 +18,18 @@ told_behind-append told [] ys = refl
 told_behind-append told (x ∷ xs) ys = told_behind-append (among_behind told x.note) xs ys
 
 -- what is told of notes, and then of others
-pub lines-then : (write : Told → List ℕ) (told : List Note) (xs ys : List Told) → flat_map write (firsts told (xs ++ ys)) ≡ flat_map write (firsts told xs) ++ flat_map write (firsts (told_behind told xs) ys)
-lines-then write told xs ys = ap (flat_map write) (firsts-append told xs ys) ∙ flat_map-append write (firsts told xs) (firsts (told_behind told xs) ys)
+pub lines-then : (write : Told → List ℕ) (told : List Note) (xs ys : List Told) →
+    flat_map write (firsts told (xs ++ ys)) ≡ flat_map write (firsts told xs) ++ flat_map write (firsts (told_behind told xs) ys)
+lines-then write told xs ys =
+    ap (flat_map write) (firsts-append told xs ys) ∙ flat_map-append write (firsts told xs) (firsts (told_behind told xs) ys)
 
 -- nothing was told
 pub WritesNotes-none : (write : Told → List ℕ) (told : List Note) (text : List ℕ) → WritesNotes write told told text text []
 WritesNotes-none write told text = record { text_is = sym (append-nil text); told_is = refl }
 
 -- notes were told, and then others
-pub WritesNotes-then : {write : Told → List ℕ} {a b c : List Note} {k l m : List ℕ} {xs ys : List Told} → WritesNotes write a b k l xs → WritesNotes write b c l m ys → WritesNotes write a c k m (xs ++ ys)
+pub WritesNotes-then : {write : Told → List ℕ} {a b c : List Note} {k l m : List ℕ} {xs ys : List Told} → WritesNotes write a b k l xs →
+    WritesNotes write b c l m ys → WritesNotes write a c k m (xs ++ ys)
 WritesNotes-then {write = write} {a = a} {b = b} {c = c} {k = k} {l = l} {m = m} {xs = xs} {ys = ys} p q = record {
   text_is =
       q.text_is
@@ -61,7 +65,8 @@ module _ (write : Told → List ℕ) (told : List Note) (text : List ℕ) (holds
       ]
 
   -- it was told now
-  pub tells_now : (told' : List Note) (text' : List ℕ) → holds ≡ true → is_among told note ≡ false → text' ≡ text ++ write one → told' ≡ told ++ note ∷ [] → WritesNotes write told told' text text' (told_if holds place note)
+  pub tells_now : (told' : List Note) (text' : List ℕ) → holds ≡ true → is_among told note ≡ false → text' ≡ text ++ write one →
+      told' ≡ told ++ note ∷ [] → WritesNotes write told told' text text' (told_if holds place note)
   tells_now told' text' e new text_is told_is =
       subst (λ b. WritesNotes write told told' text text' (told_if b place note)) (sym e) (record {
         text_is =
@@ -72,5 +77,8 @@ module _ (write : Told → List ℕ) (told : List Note) (text : List ℕ) (holds
       })
 
 -- the same note by other words
-pub tells_at : (write : Told → List ℕ) (a b : List Note) (k l : List ℕ) (holds holds' : Bool) (place place' : ℕ) (note : Note) → holds ≡ holds' → place ≡ place' → WritesNotes write a b k l (told_if holds place note) → WritesNotes write a b k l (told_if holds' place' note)
-tells_at write a b k l holds holds' place place' note e f h = subst (λ n. WritesNotes write a b k l (told_if holds' n note)) f (subst (λ v. WritesNotes write a b k l (told_if v place note)) e h)
+pub tells_at : (write : Told → List ℕ) (a b : List Note) (k l : List ℕ) (holds holds' : Bool) (place place' : ℕ) (note : Note) →
+    holds ≡ holds' → place ≡ place' → WritesNotes write a b k l (told_if holds place note) →
+    WritesNotes write a b k l (told_if holds' place' note)
+tells_at write a b k l holds holds' place place' note e f h =
+    subst (λ n. WritesNotes write a b k l (told_if holds' n note)) f (subst (λ v. WritesNotes write a b k l (told_if v place note)) e h)

@@ -1,7 +1,8 @@
 -- The notes that hold by the items of a job alone, wherever these stand: in the job, or in a macro definition.
 use Rattle.std.specs.Prelude.{ℕ, ◌-◌, ◌%◌, ◌==◌, Bool, true, false, not, ◌&&◌, ◌||◌, List, [], ◌∷◌, ◌++◌}
 use Rattle.std.specs.List.{list_any}
-use Rattle.pcl_items.specs.declared.pcl.command.Command.TheVariants.{HorizontalUnits, VerticalUnits, UnitOfMeasure, RasterResolution}
+use Rattle.pcl_items.specs.declared.pcl.command.Command.TheVariants.{HorizontalUnits, VerticalUnits, UnitOfMeasure}
+use Rattle.pcl_items.specs.declared.pcl.command.Command.TheVariants.{RasterResolution}
 use Rattle.pcl_items.specs.Items.{Entry, Placed, Text, Parameterized, PjlLine}
 use Rattle.pcl_items.specs.Escapes.Value.{Amount}
 use Rattle.page_env.specs.JobControl.{is_reset}
@@ -85,7 +86,8 @@ is_later _ = false
 
 -- ---- all of these
 
--- The notes of an item by what stands before it, the nearest first. What begins `@PJL` stands three bytes before the last of it.
+-- The notes of an item by what stands before it, the nearest first.
+-- What begins `@PJL` stands three bytes before the last of it.
 abbrev pub item_notes : List Placed → Placed → List Told
 item_notes before x =
     told_if (is_open_start before x.item) x.place OpenStart

@@ -59,7 +59,8 @@ told_if holds place note = cond holds (record { place = place; note = note } ∷
 
 -- the place, the number and the name
 abbrev pub note_line : Told → List ℕ
-note_line told = decimal told.place ++ codes " " ++ decimal (note_number told.note) ++ codes " " ++ note_name told.note ++ codes "\n"
+note_line told =
+    decimal told.place ++ codes " " ++ decimal (note_number told.note) ++ codes " " ++ note_name told.note ++ codes "\n"
 
 -- ---- each note once
 

@@ -33,8 +33,10 @@ abbrev pub ended_notes : Printer → Store → Placed → State → Ending → (
 ended_notes printer macros x s (Done t) next = carried_notes printer macros x s t ++ next t
 ended_notes printer macros x s (Halts finding) next = []
 
--- of items behind these, the nearest first, from these macros and this state; and then what comes last, of the state behind them
-abbrev pub notes_of_items : Printer → Settings → (finally : State → List Told) → (before : List Placed) → List Placed → Store → State → List Told
+-- of items behind these, the nearest first, from these macros and this state;
+-- and then what comes last, of the state behind them
+abbrev pub notes_of_items : Printer → Settings → (finally : State → List Told) → (before : List Placed) → List Placed →
+    Store → State → List Told
 notes_of_items printer defaults finally before [] macros s = finally s
 notes_of_items printer defaults finally before (x ∷ items) macros s =
     item_notes before x
@@ -60,12 +62,14 @@ is_done (Halts finding) = false
 
 -- the notes of the end, at the number of bytes
 abbrev pub notes_at_end : (is_open no_page is_short : Bool) → ℕ → List Told
-notes_at_end is_open no_page is_short place = told_if is_open place OpenEnd ++ told_if no_page place NoPage ++ told_if is_short place ShortRaster
+notes_at_end is_open no_page is_short place =
+    told_if is_open place OpenEnd ++ told_if no_page place NoPage ++ told_if is_short place ShortRaster
 
--- where the bytes are items to their end, and the run of them comes to its end: 109 ShortRaster where in the state behind the items
--- a raster has rows left
+-- where the bytes are items to their end, and the run of them comes to its end:
+-- 109 ShortRaster where in the state behind the items a raster has rows left
 abbrev pub end_notes : Reading → JobRun → State → List Told
-end_notes (Whole items place) run s = cond (is_done run.ending) (notes_at_end (is_open_end items) (has_no_page run) (has_rows_left s.raster) place) []
+end_notes (Whole items place) run s =
+    cond (is_done run.ending) (notes_at_end (is_open_end items) (has_no_page run) (has_rows_left s.raster) place) []
 end_notes (Stopped items place cause) run s = []
 
 -- ---- a run that is too long (the manual's "Macro Control Command")
@@ -90,7 +94,8 @@ noted_outcome (Fail place profile reason) = cond (is_many_items reason) AllDone 
 abbrev pub notes_of : Printer → Panel → Reading → List Told
 notes_of printer panel reading =
     let defaults : Settings = user_defaults unwatched panel in
-    notes_of_items printer defaults (end_notes reading (plain_run printer panel reading)) [] (items_of reading) (no_macros printer.memory) (start_state printer.most_items defaults)
+    notes_of_items printer defaults (end_notes reading (plain_run printer panel reading)) [] (items_of reading)
+    (no_macros printer.memory) (start_state printer.most_items defaults)
     ++ long_run (pages_outcome printer panel reading)
 
 -- what is told so of the first of each

@@ -1,10 +1,12 @@
 -- The notes that hold by the state of a printer before an item that the job carries out, and by the state behind it.
-use Rattle.std.specs.Prelude.{ℕ, pos, ◌%◌, ◌==◌, nat_lt, length, Bool, true, false, not, ◌&&◌, ◌||◌, is_some, is_none, List, ◌++◌, Option}
+use Rattle.std.specs.Prelude.{ℕ, pos, ◌%◌, ◌==◌, nat_lt, length, Bool, true, false, not, ◌&&◌, ◌||◌, is_some, is_none}
+use Rattle.std.specs.Prelude.{List, ◌++◌, Option}
 use Rattle.std.specs.Option.{option_map_or}
 use Rattle.std.specs.Ordering.{int_eq}
 use Rattle.tick_length.specs.declared.unit.Unit.TheVariants.{PclUnit}
 use Rattle.tick_length.specs.Unit.{ticks_of}
-use Rattle.pcl_items.specs.declared.pcl.command.Command.TheVariants.{Orientation, Column, LeftMargin, RightMargin, Source, Sides}
+use Rattle.pcl_items.specs.declared.pcl.command.Command.TheVariants.{Orientation, Column, LeftMargin, RightMargin}
+use Rattle.pcl_items.specs.declared.pcl.command.Command.TheVariants.{Source, Sides}
 use Rattle.pcl_items.specs.declared.pcl.command.DataCommand.TheVariants.{TransparentText}
 use Rattle.pcl_items.specs.Items.{Entry, Placed, Text, CarriageReturn, LineFeed, HalfLineFeed, Parameterized, WithData}
 use Rattle.device_profile.specs.Printer.{Printer}
@@ -15,7 +17,8 @@ use Rattle.page_env.specs.Numbers.{whole_of}
 use Rattle.page_env.specs.Places.{column_of}
 use Rattle.page_env.specs.Rasters.{is_of_raster}
 use Rattle.page_env.specs.Settings.{State, half_inch}
-use Rattle.notes.specs.declared.note.Note.TheVariants.{SameOrientation, RoundedColumn, ShortRaster, BlankOverflow, SourceMovesLeft}
+use Rattle.notes.specs.declared.note.Note.TheVariants.{SameOrientation, RoundedColumn, ShortRaster, BlankOverflow}
+use Rattle.notes.specs.declared.note.Note.TheVariants.{SourceMovesLeft}
 use Rattle.notes.specs.Note.{Told, told_if}
 
 -- ---- 105 SameOrientation (the manual's "Logical Page Orientation Command")
@@ -28,7 +31,8 @@ sets_same_orientation _ s = false
 -- the HMI is set, or a margin is another than its default
 abbrev pub has_spacing : JobSettings → Bool
 has_spacing job =
-    is_some job.hmi || not (int_eq job.top_margin half_inch) || is_some job.bottom_margin || not (int_eq job.left_margin (pos 0))
+    is_some job.hmi || not (int_eq job.top_margin half_inch) || is_some job.bottom_margin
+    || not (int_eq job.left_margin (pos 0))
     || is_some job.right_margin
 
 -- where the HMI, a margin or the VMI is not what the command returns it to
@@ -53,7 +57,8 @@ is_rounded units_per_inch column = not (column % ticks_of (PclUnit units_per_inc
 
 -- the column in force is used, and is no whole number of the PCL units in force
 abbrev pub is_rounded_column : Printer → Entry → State → Bool
-is_rounded_column printer item s = uses_column item && option_map_or (is_rounded s.settings.job.units_per_inch) (column_of printer s) false
+is_rounded_column printer item s =
+    uses_column item && option_map_or (is_rounded s.settings.job.units_per_inch) (column_of printer s) false
 
 -- ---- 109 ShortRaster (the manual's "End Raster Graphics Command")
 

@@ -1,7 +1,8 @@
 //! The notes that hold by the state before an item and the state behind it.
 ghost use Rattle.std.specs.Prelude.{◌≡◌, ◌==◌, not, ◌&&◌, ◌||◌, is_none, OnOk};
 ghost use Rattle.notes.specs.Carriers.Rest.{WritesNotes};
-ghost use Rattle.notes.specs.Carriers.StateBefore.{behind_notes, state_before_at, before_notes, state_before_of};
+ghost use Rattle.notes.specs.Carriers.StateBefore.{behind_notes, state_before_at, before_notes};
+ghost use Rattle.notes.specs.Carriers.StateBefore.{state_before_of};
 ghost use Rattle.notes.specs.StateNotes.{
   feeds_line,
   has_rows,

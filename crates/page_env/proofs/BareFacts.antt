@@ -2,7 +2,8 @@
 use Rattle.std.proofs.Common.{◌≡◌, ◌==◌, ℕ, ℤ, Bool, true, false, cond, List, [], ◌∷◌, Option, Some, None, refl, ap, sym, ◌∙◌}
 use Rattle.std.proofs.lemmas.Bool.{false≢true}
 use Rattle.pcl_items.specs.declared.pcl.command.Command.{Command}
-use Rattle.pcl_items.specs.declared.pcl.command.Command.TheVariants.{Copies, Sides, Source, PageSize, Orientation, VerticalMotionIndex, LineSpacing, LineTermination, CursorStack, MacroControl}
+use Rattle.pcl_items.specs.declared.pcl.command.Command.TheVariants.{Copies, Sides, Source, PageSize, Orientation, VerticalMotionIndex}
+use Rattle.pcl_items.specs.declared.pcl.command.Command.TheVariants.{LineSpacing, LineTermination, CursorStack, MacroControl}
 use Rattle.pcl_items.specs.declared.pcl.command.DataCommand.TheVariants.{TransparentText, RasterRow}
 use Rattle.pcl_items.specs.declared.frame.Handover.{Handover}
 use Rattle.pcl_items.specs.declared.frame.Handover.TheVariants.{Previous, Current}
@@ -10,11 +11,13 @@ use Rattle.pcl_items.specs.declared.frame.Motion.{Motion}
 use Rattle.pcl_items.specs.declared.frame.Motion.TheVariants.{Up, Down, Absolute, Relative}
 use Rattle.pcl_items.specs.declared.frame.Setting.{Setting}
 use Rattle.pcl_items.specs.declared.frame.Setting.TheVariants as settings
-use Rattle.pcl_items.specs.Items.{Entry, Text, CarriageReturn, LineFeed, FormFeed, Reset, ClearMargins, HalfLineFeed, Parameterized, SymbolSet, DefaultFont, EnterFrame, LeaveFrame, Initialize, Set, Move, WithData, ExitLanguage, PjlLine}
+use Rattle.pcl_items.specs.Items.{Entry, Text, CarriageReturn, LineFeed, FormFeed, Reset, ClearMargins, HalfLineFeed, Parameterized}
+use Rattle.pcl_items.specs.Items.{SymbolSet, DefaultFont, EnterFrame, LeaveFrame, Initialize, Set, Move, WithData, ExitLanguage, PjlLine}
 use Rattle.pcl_items.specs.Escapes.Value.{Amount}
 use Rattle.device_profile.specs.Printer.{Printer}
 use Rattle.page_env.specs.declared.macros.Control.{Control}
-use Rattle.page_env.specs.declared.macros.Control.TheVariants.{Begin, End, Execute, Call, EnableOverlay, DisableOverlay, DeleteAll, Delete, MakeTemporary}
+use Rattle.page_env.specs.declared.macros.Control.TheVariants.{Begin, End, Execute, Call, EnableOverlay, DisableOverlay, DeleteAll, Delete}
+use Rattle.page_env.specs.declared.macros.Control.TheVariants.{MakeTemporary}
 use Rattle.page_env.specs.declared.motion.Feed.{Feed}
 use Rattle.page_env.specs.declared.motion.Feed.TheVariants.{Line as WholeLine, HalfLine}
 use Rattle.page_env.specs.declared.cursor.Cursor.{Cursor}
@@ -31,7 +34,8 @@ use Rattle.page_env.specs.Table.{command_transition}
 use Rattle.page_env.specs.Macros.{control_of, overlay_without}
 use Rattle.page_env.specs.Text.{print_byte}
 use Rattle.page_env.specs.CursorPositioning.{use_stack}
-use Rattle.page_env.specs.Pinned.{enables_overlay, returns_to_panel, AreBare, IsBare, KeepsBare, IsBareItem, IsBareControl, IsBareByte, IsBareMove}
+use Rattle.page_env.specs.Pinned.{enables_overlay, returns_to_panel, AreBare, IsBare, KeepsBare, IsBareItem, IsBareControl, IsBareByte}
+use Rattle.page_env.specs.Pinned.{IsBareMove}
 
 bare_line : (b : Bool) (l m : TableLine) → IsBare l.state → IsBare m.state → IsBare (cond b l m).state
 bare_line true l m h k = h
@@ -51,7 +55,8 @@ stack_bare n s e = bare_line (whole_of n == 0) (push_cursor s n) (pop_cursor s n
 module _ (printer : Printer) where
   feed_bare : (by : Feed) (s : State) → IsBare s → KeepsBare (feed_by printer s by)
   feed_bare by s e =
-      bare_either (is_past_bottom printer s (fed_to s by)) (Closes (reading s page_and_line_reads) false at_home) (Step (feed_down printer s (fed_to s by))) (e, λ u k. k) e
+      bare_either (is_past_bottom printer s (fed_to s by)) (Closes (reading s page_and_line_reads) false at_home)
+      (Step (feed_down printer s (fed_to s by))) (e, λ u k. k) e
 
   fed_bare : (b : Bool) (s : State) → IsBare s → KeepsBare (feed_by printer (cond b (carriage_return s) s) WholeLine)
   fed_bare true s e = feed_bare WholeLine (carriage_return s) e
@@ -114,12 +119,21 @@ fed_from true u e = e
 fed_from false u e = ap (λ (f : Flags). record f { tray = false }) e
 
 module _ (printer : Printer) (defaults : Settings) where
-  command_keeps : (command : Command) (n : Amount) (s : State) → returns_to_panel (Parameterized command n) ≡ false → AreBare defaults → IsBare s → KeepsBare (command_transition printer defaults s command n)
+  command_keeps : (command : Command) (n : Amount) (s : State) → returns_to_panel (Parameterized command n) ≡ false → AreBare defaults →
+      IsBare s → KeepsBare (command_transition printer defaults s command n)
   command_keeps Copies n s r d e = (e.0, ap (λ (u : Flags). record u { copies = false }) e.1, e.2)
   command_keeps Sides n s r d e = (e, λ t k. (k.0, ap (λ (u : Flags). record u { sides = false }) k.1, k.2))
   command_keeps Source n s r d e = (e, λ t k. (k.0, fed_from (whole_of n == 0) t.settings.unset k.1, k.2))
   command_keeps PageSize n s r d e = (e, λ t k. (refl, ap (λ (u : Flags). record u { size = false }) k.1, k.2))
-  command_keeps Orientation n s r d e = (e, λ t k. (refl, ap (λ (u : Flags). record u { orientation = false; vmi = defaults.unset.vmi }) k.1 ∙ ap (λ (u : Flags). record unwatched { orientation = false; vmi = u.vmi }) d.1, k.2))
+  command_keeps Orientation n s r d e = (
+    e,
+    λ t k. (
+          refl,
+          ap (λ (u : Flags). record u { orientation = false; vmi = defaults.unset.vmi }) k.1
+              ∙ ap (λ (u : Flags). record unwatched { orientation = false; vmi = u.vmi }) d.1,
+          k.2,
+        ),
+  )
   command_keeps VerticalMotionIndex n s r d e = (e.0, ap (λ (u : Flags). record u { vmi = false }) e.1, e.2)
   command_keeps LineSpacing n s r d e = (e.0, ap (λ (u : Flags). record u { vmi = false }) e.1, e.2)
   command_keeps LineTermination n s r d e = (e.0, ap (λ (u : Flags). record u { line_termination = false }) e.1, e.2)
@@ -131,7 +145,8 @@ module _ (printer : Printer) (defaults : Settings) where
 pub item_bare : (printer : Printer) (item : Entry) → IsBareItem printer item
 item_bare printer (Text code) defaults s r d e = byte_bare printer code s e
 item_bare printer CarriageReturn defaults s r d e =
-    bare_either (line_termination s).feeds_at_return (feed_by printer (carriage_return s) WholeLine) (Step (moving (carriage_return s))) (feed_bare printer WholeLine (carriage_return s) e) e
+    bare_either (line_termination s).feeds_at_return (feed_by printer (carriage_return s) WholeLine) (Step (moving (carriage_return s)))
+    (feed_bare printer WholeLine (carriage_return s) e) e
 item_bare printer LineFeed defaults s r d e = fed_bare printer (line_termination s).returns_at_feed s e
 item_bare printer FormFeed defaults s r d e = ended_bare printer (line_termination s).returns_at_feed s e
 item_bare printer Reset defaults s r d e = (e, λ t k. (d.0, d.1, k.2))

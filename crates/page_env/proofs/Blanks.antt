@@ -1,5 +1,6 @@
 -- Bytes without a black pixel, many at once.
-use Rattle.std.proofs.Common.{◌≡◌, ℕ, suc, ◌+◌, ◌-◌, ◌*◌, ◌^◌, ◌<◌, ◌≤◌, ◌++◌, eqb, eq-eqb, Bool, true, false, not, cond, List, [], ◌∷◌, map, length, take, drop, Some, None, refl, ap, sym, subst, ◌∙◌, arith}
+use Rattle.std.proofs.Common.{◌≡◌, ℕ, suc, ◌+◌, ◌-◌, ◌*◌, ◌^◌, ◌<◌, ◌≤◌, ◌++◌, eqb, eq-eqb, Bool, true, false, not, cond, List, [], ◌∷◌}
+use Rattle.std.proofs.Common.{map, length, take, drop, Some, None, refl, ap, sym, subst, ◌∙◌, arith}
 use Rattle.std.specs.Prelude.{nat_lt, reverse}
 use Rattle.std.specs.Int.{w16, leading_zeros}
 use Rattle.std.specs.Int.Count.{leading_unique}
@@ -8,7 +9,8 @@ use Rattle.std.proofs.Math.Nat.{pow-suc}
 use Rattle.std.proofs.Math.Seq.{drop-append_seam, take-append_seam}
 use Rattle.std.proofs.lemmas.Bool.{cond-true, cond-false, ne_eqb, lt-ltb, le-ltb, ltb-true, ltb-false}
 use Rattle.std.proofs.lemmas.Option.{same_Some, none-some}
-use Rattle.std.proofs.lemmas.List.{take-append-drop, drop-drop, drop-take, length-take-le, length-drop, length-map, length-reverse, reverse-append, reverse-reverse, map-append}
+use Rattle.std.proofs.lemmas.List.{take-append-drop, drop-drop, drop-take, length-take-le, length-drop, length-map, length-reverse}
+use Rattle.std.proofs.lemmas.List.{reverse-append, reverse-reverse, map-append}
 use Rattle.std.proofs.lemmas.List.Folds.{prefix_len-append}
 use Rattle.std.proofs.lemmas.List.Sums.{prefix_len-le-length}
 use Rattle.std.proofs.lemmas.Simd.{mask_l-lt}
@@ -21,12 +23,14 @@ blank bytes = position_or_len is_black bytes
 
 blank_append : (xs ys : List ℕ) → blank xs ≡ length xs → blank (xs ++ ys) ≡ length xs + blank ys
 blank_append xs ys e =
-    prefix_len-append (λ x. not (is_black x)) xs ys ∙ cond-true (eqb (blank xs) (length xs)) (length xs + blank ys) (blank xs) (eq-eqb (blank xs) (length xs) e)
+    prefix_len-append (λ x. not (is_black x)) xs ys
+    ∙ cond-true (eqb (blank xs) (length xs)) (length xs + blank ys) (blank xs) (eq-eqb (blank xs) (length xs) e)
 
 blank_before : (xs ys : List ℕ) → blank xs < length xs → blank (xs ++ ys) ≡ blank xs
 blank_before xs ys h =
     prefix_len-append (λ x. not (is_black x)) xs ys
-    ∙ cond-false (eqb (blank xs) (length xs)) (length xs + blank ys) (blank xs) (ne_eqb (blank xs) (length xs) (λ e. absurd (omega (arith, h, e))))
+    ∙ cond-false (eqb (blank xs) (length xs)) (length xs + blank ys) (blank xs)
+    (ne_eqb (blank xs) (length xs) (λ e. absurd (omega (arith, h, e))))
 
 -- ---- lanes
 
@@ -53,7 +57,8 @@ AreBlank xs start = (start ≤ length xs) × (blank xs ≡ start + blank (drop s
 pub none_blank : (xs : List ℕ) → AreBlank xs 0
 none_blank xs = (omega arith, omega arith)
 
-module _ (n : ℕ) (xs : List ℕ) (start k : ℕ) (so_far : AreBlank xs start) (room : n ≤ length xs - start) (is : k ≡ blank (take n (drop start xs))) where
+module _ (n : ℕ) (xs : List ℕ) (start k : ℕ) (so_far : AreBlank xs start) (room : n ≤ length xs - start)
+    (is : k ≡ blank (take n (drop start xs))) where
   here : n ≤ length (drop start xs)
   here = omega (arith, room, length-drop start xs)
 
@@ -70,7 +75,8 @@ module _ (n : ℕ) (xs : List ℕ) (start k : ℕ) (so_far : AreBlank xs start) 
 
 pub found : (xs : List ℕ) (n : ℕ) → blank xs ≡ n → n < length xs → Some n ≡ position is_black xs
 found xs n e less =
-    ap Some (sym e) ∙ sym (cond-true (nat_lt (blank xs) (length xs)) (Some (blank xs)) None (lt-ltb (blank xs) (length xs) (omega (arith, e, less))))
+    ap Some (sym e)
+    ∙ sym (cond-true (nat_lt (blank xs) (length xs)) (Some (blank xs)) None (lt-ltb (blank xs) (length xs) (omega (arith, e, less))))
 
 found_at : (xs : List ℕ) (k : ℕ) → Some k ≡ position is_black xs → (k ≡ blank xs) × (k < length xs)
 found_at xs k h = by (nat_lt (blank xs) (length xs)) refl h
@@ -90,7 +96,8 @@ found_nowhere xs h = by (nat_lt (blank xs) (length xs)) refl h
 
 module _ (xs : List ℕ) (start : ℕ) (so_far : AreBlank xs start) where
   -- among the bytes behind those that are blank
-  pub found_behind : (k : ℕ) → Some k ≡ position is_black (drop start xs) → (Some (start + k) ≡ position is_black xs) × (start + k < length xs)
+  pub found_behind : (k : ℕ) → Some k ≡ position is_black (drop start xs) →
+      (Some (start + k) ≡ position is_black xs) × (start + k < length xs)
   found_behind k h =
       let there = found_at (drop start xs) k h in
       let less : start + k < length xs = omega (arith, so_far.0, there.1, length-drop start xs) in
@@ -124,7 +131,8 @@ highest_set ms =
     record { below = omega (arith, is, low, twice); above = omega (arith, is, twice) }
 
 -- with a lane behind the others
-highest_more : (ms : List Bool) (n k : ℕ) → length ms ≡ n → IsHighest (mask_l ms) (n - k) → (b : Bool) → IsHighest (mask_l (ms ++ b ∷ [])) (suc n - cond (not b) (1 + k) 0)
+highest_more : (ms : List Bool) (n k : ℕ) → length ms ≡ n → IsHighest (mask_l ms) (n - k) → (b : Bool) →
+    IsHighest (mask_l (ms ++ b ∷ [])) (suc n - cond (not b) (1 + k) 0)
 highest_more ms n k size h true =
     let same : suc (length ms) ≡ suc n - 0 = omega (arith, size) in
     subst (λ j. IsHighest (mask_l (ms ++ true ∷ [])) j) same (highest_set ms)
@@ -145,7 +153,8 @@ highest p (x ∷ xs) =
 pub lanes_behind_last : (v : List ℕ) → length v ≡ 16 → leading_zeros w16 (mask_l (map is_black v)) ≡ blank (reverse v)
 lanes_behind_last v long =
     let k = length (reverse v) - blank (reverse v) in
-    let h : IsHighest (mask_l (map is_black v)) k = subst (λ l. IsHighest (mask_l (map is_black l)) k) (reverse-reverse v) (highest is_black (reverse v)) in
+    let h : IsHighest (mask_l (map is_black v)) k =
+    subst (λ l. IsHighest (mask_l (map is_black l)) k) (reverse-reverse v) (highest is_black (reverse v)) in
     let size : length (reverse v) ≡ 16 = length-reverse v ∙ long in
     let most : blank (reverse v) ≤ length (reverse v) = prefix_len-le-length (λ x. not (is_black x)) (reverse v) in
     sym (leading_unique 16 (mask_l (map is_black v)) (blank (reverse v)) k (omega (arith, size, most)) h.below h.above)
@@ -158,7 +167,8 @@ pub front_reverse : (xs : List ℕ) (n : ℕ) → n ≤ length xs → reverse (t
 front_reverse xs n room =
     let front : List ℕ = take (length xs - n) xs in
     let last : List ℕ = drop (length xs - n) xs in
-    let all : reverse xs ≡ reverse last ++ reverse front = sym (ap reverse (take-append-drop (length xs - n) xs)) ∙ reverse-append front last in
+    let all : reverse xs ≡ reverse last ++ reverse front =
+    sym (ap reverse (take-append-drop (length xs - n) xs)) ∙ reverse-append front last in
     let size : length (reverse last) ≡ n = omega (arith, room, length-reverse last, length-drop (length xs - n) xs) in
     sym (ap (drop n) all ∙ ap (λ m. drop m (reverse last ++ reverse front)) (sym size) ∙ drop-append_seam (reverse last) (reverse front))
 
@@ -167,16 +177,19 @@ last_reverse : (xs : List ℕ) (n : ℕ) → n ≤ length xs → reverse (drop (
 last_reverse xs n room =
     let front : List ℕ = take (length xs - n) xs in
     let last : List ℕ = drop (length xs - n) xs in
-    let all : reverse xs ≡ reverse last ++ reverse front = sym (ap reverse (take-append-drop (length xs - n) xs)) ∙ reverse-append front last in
+    let all : reverse xs ≡ reverse last ++ reverse front =
+    sym (ap reverse (take-append-drop (length xs - n) xs)) ∙ reverse-append front last in
     let size : length (reverse last) ≡ n = omega (arith, room, length-reverse last, length-drop (length xs - n) xs) in
     sym (ap (take n) all ∙ ap (λ m. take m (reverse last ++ reverse front)) (sym size) ∙ take-append_seam (reverse last) (reverse front))
 
 -- bytes before so many that are left out, in reverse
-pub lanes_reverse : (n : ℕ) (xs : List ℕ) (behind : ℕ) → behind ≤ length xs → n ≤ length xs - behind → reverse (take n (drop (length xs - behind - n) xs)) ≡ take n (drop behind (reverse xs))
+pub lanes_reverse : (n : ℕ) (xs : List ℕ) (behind : ℕ) → behind ≤ length xs → n ≤ length xs - behind →
+    reverse (take n (drop (length xs - behind - n) xs)) ≡ take n (drop behind (reverse xs))
 lanes_reverse n xs behind within room =
     let front : List ℕ = take (length xs - behind) xs in
     let size : length front ≡ length xs - behind = length-take-le (length xs - behind) xs (omega arith) in
     let whole : length xs - behind - n + n ≡ length xs - behind = omega (arith, room) in
     let there : drop (length front - n) front ≡ take n (drop (length xs - behind - n) xs) =
-    ap (λ m. drop (m - n) front) size ∙ ap (λ m. drop (length xs - behind - n) (take m xs)) (sym whole) ∙ drop-take (length xs - behind - n) n xs in
+    ap (λ m. drop (m - n) front) size ∙ ap (λ m. drop (length xs - behind - n) (take m xs)) (sym whole)
+    ∙ drop-take (length xs - behind - n) n xs in
     sym (ap reverse there) ∙ last_reverse front n (omega (arith, room, size)) ∙ ap (take n) (front_reverse xs behind within)

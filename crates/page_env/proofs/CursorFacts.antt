@@ -7,7 +7,8 @@ use Rattle.page_env.specs.declared.finding.Finding.TheVariants.{BadValue, StackF
 use Rattle.page_env.specs.declared.cursor.Cursor.{Cursor}
 use Rattle.page_env.specs.Settings.{State}
 use Rattle.page_env.specs.Numbers.{whole_of, is_whole_between}
-use Rattle.page_env.specs.CursorPositioning.{move_x, move_y, move_x_decipoints, move_y_decipoints, move_columns, move_rows, stack_room, push_cursor, pop_cursor, popped, use_stack}
+use Rattle.page_env.specs.CursorPositioning.{move_x, move_y, move_x_decipoints, move_y_decipoints, move_columns, move_rows, stack_room}
+use Rattle.page_env.specs.CursorPositioning.{push_cursor, pop_cursor, popped, use_stack}
 use Rattle.page_env.specs.Sound.{plain_state, HasRoom, IsSound}
 use Rattle.page_env.proofs.Sound.{quiet, either_line, page_rises, page_and_line_rises, columns_rise, vertical_rises, relative_rises}
 use Rattle.page_env.proofs.Rows.{second_finds_nothing}
@@ -18,7 +19,9 @@ room_for_one n e = ltb-true n 20 (not-false (nat_lt n 20) e)
 one_fewer : (n : ℕ) → suc n ≤ 20 → n ≤ 20
 one_fewer n h = omega arith
 
-popped_is : (s : State) (stack : List Cursor) → (popped (plain_state s) stack ≡ plain_state (popped s stack)) × ((popped s stack).marked ≡ s.marked) × ((popped s stack).settings ≡ s.settings)
+popped_is : (s : State) (stack : List Cursor) →
+    (popped (plain_state s) stack ≡ plain_state (popped s stack)) × ((popped s stack).marked ≡ s.marked)
+    × ((popped s stack).settings ≡ s.settings)
 popped_is s [] = (refl, refl, refl)
 popped_is s (cursor ∷ stack) = (refl, refl, refl)
 
@@ -30,7 +33,8 @@ module _ (printer : Printer) (s : State) where
   pub move_x_is_sound : (n : Amount) → IsSound printer s (move_x printer s n) (move_x printer (plain_state s) n)
   move_x_is_sound n = quiet page_rises refl refl refl refl refl refl refl
 
-  pub move_x_decipoints_is_sound : (n : Amount) → IsSound printer s (move_x_decipoints printer s n) (move_x_decipoints printer (plain_state s) n)
+  pub move_x_decipoints_is_sound : (n : Amount) →
+      IsSound printer s (move_x_decipoints printer s n) (move_x_decipoints printer (plain_state s) n)
   move_x_decipoints_is_sound n = quiet page_rises refl refl refl refl refl refl refl
 
   pub move_columns_is_sound : (n : Amount) → IsSound printer s (move_columns printer s n) (move_columns printer (plain_state s) n)
@@ -39,7 +43,8 @@ module _ (printer : Printer) (s : State) where
   pub move_y_is_sound : (n : Amount) → IsSound printer s (move_y printer s n) (move_y printer (plain_state s) n)
   move_y_is_sound n = quiet (relative_rises n.sign s.cursor.y) refl refl refl refl refl refl refl
 
-  pub move_y_decipoints_is_sound : (n : Amount) → IsSound printer s (move_y_decipoints printer s n) (move_y_decipoints printer (plain_state s) n)
+  pub move_y_decipoints_is_sound : (n : Amount) →
+      IsSound printer s (move_y_decipoints printer s n) (move_y_decipoints printer (plain_state s) n)
   move_y_decipoints_is_sound n = quiet (relative_rises n.sign s.cursor.y) refl refl refl refl refl refl refl
 
   pub move_rows_is_sound : (n : Amount) → IsSound printer s (move_rows printer s n) (move_rows printer (plain_state s) n)
@@ -54,7 +59,9 @@ module _ (printer : Printer) (s : State) where
     inside = λ none. tt;
     size = refl;
     orientation = refl;
-    room = λ none h. room_for_one (length s.stack) (second_finds_nothing (not (is_whole_between 0 1 n)) (not (nat_lt (length s.stack) stack_room)) BadValue StackFull none);
+    room =
+        λ none h. room_for_one (length s.stack)
+        (second_finds_nothing (not (is_whole_between 0 1 n)) (not (nat_lt (length s.stack) stack_room)) BadValue StackFull none);
   }
 
   pop_is_sound : (n : Amount) → IsSound printer s (pop_cursor s n) (pop_cursor (plain_state s) n)
@@ -73,4 +80,5 @@ module _ (printer : Printer) (s : State) where
 
   pub stack_is_sound : (n : Amount) → IsSound printer s (use_stack s n) (use_stack (plain_state s) n)
   stack_is_sound n =
-      either_line (whole_of n == 0) s (push_cursor s n) (pop_cursor s n) (push_cursor (plain_state s) n) (pop_cursor (plain_state s) n) (push_is_sound n) (pop_is_sound n)
+      either_line (whole_of n == 0) s (push_cursor s n) (pop_cursor s n) (push_cursor (plain_state s) n) (pop_cursor (plain_state s) n)
+      (push_is_sound n) (pop_is_sound n)

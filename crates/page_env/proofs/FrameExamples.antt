@@ -54,53 +54,67 @@ abbrev marked : Pen → State
 marked pen = record (holding pen) { marked = true }
 
 -- the origin is half an inch above the foot of the logical page, at its left edge
-dot_at_the_origin : effect (holding pen_1) (lower_pen printer_a (holding pen_1)) ≡ Goes (marked (lowered pen_1)) (Drawn (thin 9_144_000_000 384_048_000_000 9_144_000_000 384_048_000_000) ∷ [])
+dot_at_the_origin : effect (holding pen_1) (lower_pen printer_a (holding pen_1))
+    ≡ Goes (marked (lowered pen_1)) (Drawn (thin 9_144_000_000 384_048_000_000 9_144_000_000 384_048_000_000) ∷ [])
 unfolding geometry_at row_at page_reads is_inside is_between
 dot_at_the_origin = refl
 
 -- from the origin, and then from the pen
-line_to_100_100 : effect (holding (lowered pen_1)) (move_pen printer_a (holding (lowered pen_1)) (pos 100, pos 100)) ≡ Goes (marked (units 100 100 (lowered pen_1))) (Drawn (thin 9_144_000_000 384_048_000_000 12_744_000_000 380_448_000_000) ∷ [])
+line_to_100_100 : effect (holding (lowered pen_1)) (move_pen printer_a (holding (lowered pen_1)) (pos 100, pos 100))
+    ≡ Goes (marked (units 100 100 (lowered pen_1))) (Drawn (thin 9_144_000_000 384_048_000_000 12_744_000_000 380_448_000_000) ∷ [])
 unfolding geometry_at row_at page_reads is_inside is_between
 line_to_100_100 = refl
 
-line_from_100_100 : effect (holding (units 100 100 (lowered pen_1))) (move_pen printer_a (holding (units 100 100 (lowered pen_1))) (pos 0, pos 200)) ≡ Goes (marked (units 0 200 (lowered pen_1))) (Drawn (thin 12_744_000_000 380_448_000_000 9_144_000_000 376_848_000_000) ∷ [])
+line_from_100_100 :
+    effect (holding (units 100 100 (lowered pen_1))) (move_pen printer_a (holding (units 100 100 (lowered pen_1))) (pos 0, pos 200))
+    ≡ Goes (marked (units 0 200 (lowered pen_1))) (Drawn (thin 12_744_000_000 380_448_000_000 9_144_000_000 376_848_000_000) ∷ [])
 unfolding geometry_at row_at page_reads is_inside is_between
 line_from_100_100 = refl
 
-raised_pens_go_on_from_their_place : effect (holding (relative (units 5 5 default_pen))) (move_pen printer_a (holding (relative (units 5 5 default_pen))) (pos 5, pos 5)) ≡ Goes (holding (relative (units 10 10 default_pen))) []
+raised_pens_go_on_from_their_place :
+    effect (holding (relative (units 5 5 default_pen))) (move_pen printer_a (holding (relative (units 5 5 default_pen))) (pos 5, pos 5))
+    ≡ Goes (holding (relative (units 10 10 default_pen))) []
 raised_pens_go_on_from_their_place = refl
 
 -- pen 0 draws nothing, and a lowered pen is not lowered again
 pen_0_draws_nothing : effect (holding default_pen) (lower_pen printer_a (holding default_pen)) ≡ Fails NoPen
 pen_0_draws_nothing = refl
 
-lowered_pens_stay : effect (holding (lowered default_pen)) (lower_pen printer_a (holding (lowered default_pen))) ≡ Goes (holding (lowered default_pen)) []
+lowered_pens_stay :
+    effect (holding (lowered default_pen)) (lower_pen printer_a (holding (lowered default_pen))) ≡ Goes (holding (lowered default_pen)) []
 lowered_pens_stay = refl
 
 -- a line that leaves the frame, and one that leaves the printable area, too
-left_of_the_frame : effect (holding (lowered pen_1)) (move_pen printer_a (holding (lowered pen_1)) (pos 0 -ℤ pos 1, pos 0)) ≡ Fails OutsideFrame
+left_of_the_frame :
+    effect (holding (lowered pen_1)) (move_pen printer_a (holding (lowered pen_1)) (pos 0 -ℤ pos 1, pos 0)) ≡ Fails OutsideFrame
 unfolding geometry_at row_at page_reads is_inside is_between
 left_of_the_frame = refl
 
-left_of_the_paper : effect (holding (lowered pen_1)) (move_pen printer_a (holding (lowered pen_1)) (pos 0 -ℤ pos 1_500, pos 0)) ≡ Fails NotPrintable
+left_of_the_paper :
+    effect (holding (lowered pen_1)) (move_pen printer_a (holding (lowered pen_1)) (pos 0 -ℤ pos 1_500, pos 0)) ≡ Fails NotPrintable
 unfolding geometry_at row_at page_reads is_inside is_between
 left_of_the_paper = refl
 
 -- how far the pen goes, and no further
-at_the_limit : effect (holding default_pen) (move_pen printer_a (holding default_pen) (pos 8_388_607, pos 0)) ≡ Goes (holding (units 8_388_607 0 default_pen)) []
+at_the_limit : effect (holding default_pen) (move_pen printer_a (holding default_pen) (pos 8_388_607, pos 0))
+    ≡ Goes (holding (units 8_388_607 0 default_pen)) []
 at_the_limit = refl
 
-past_the_limit : effect (holding (relative (units 8_388_607 0 default_pen))) (move_pen printer_a (holding (relative (units 8_388_607 0 default_pen))) (pos 1, pos 0)) ≡ Fails OutsideFrame
+past_the_limit : effect (holding (relative (units 8_388_607 0 default_pen)))
+    (move_pen printer_a (holding (relative (units 8_388_607 0 default_pen))) (pos 1, pos 0))
+    ≡ Fails OutsideFrame
 past_the_limit = refl
 
 -- the part of a unit that the cursor left counts
 abbrev behind_the_cursor : Pen
 behind_the_cursor = record (relative default_pen) { place = record { x = pos 12_192_000_000; y = pos 0 } }
 
-part_of_a_unit_past_the_limit : effect (holding behind_the_cursor) (move_pen printer_a (holding behind_the_cursor) (pos 8_388_269, pos 0)) ≡ Fails OutsideFrame
+part_of_a_unit_past_the_limit :
+    effect (holding behind_the_cursor) (move_pen printer_a (holding behind_the_cursor) (pos 8_388_269, pos 0)) ≡ Fails OutsideFrame
 part_of_a_unit_past_the_limit = refl
 
-part_of_a_unit_below_the_limit : effect (holding behind_the_cursor) (move_pen printer_a (holding behind_the_cursor) (pos 8_388_268, pos 0)) ≡ Goes (holding (record behind_the_cursor { place = record { x = pos (12_192_000_000 + 8_388_268 * 36_000_000); y = pos 0 } })) []
+part_of_a_unit_below_the_limit : effect (holding behind_the_cursor) (move_pen printer_a (holding behind_the_cursor) (pos 8_388_268, pos 0))
+    ≡ Goes (holding (record behind_the_cursor { place = record { x = pos (12_192_000_000 + 8_388_268 * 36_000_000); y = pos 0 } })) []
 part_of_a_unit_below_the_limit = refl
 
 -- half the width of a line must fit, too: the origin is 1/12 inch from the edge of the printable area
@@ -108,7 +122,8 @@ abbrev wide : ℕ → Pen
 wide width = record pen_1 { width = width }
 
 dot_at_the_edge : effect (holding (wide 42_333)) (lower_pen printer_a (holding (wide 42_333)))
-    ≡ Goes (marked (lowered (wide 42_333))) (Drawn (record (thin 9_144_000_000 384_048_000_000 9_144_000_000 384_048_000_000) { width = pos 6_095_952_000 }) ∷ [])
+    ≡ Goes (marked (lowered (wide 42_333)))
+    (Drawn (record (thin 9_144_000_000 384_048_000_000 9_144_000_000 384_048_000_000) { width = pos 6_095_952_000 }) ∷ [])
 unfolding geometry_at row_at page_reads is_inside is_between
 dot_at_the_edge = refl
 
@@ -118,7 +133,11 @@ dot_past_the_edge = refl
 
 -- a frame so far down that its origin lies below the page
 abbrev low : State
-low = record (with_job start (record start.settings.job { frame = record start.settings.job.frame { top = pos 91_440_000_000 }; pen = pen_1 })) { in_frame = true }
+low =
+    record
+    (with_job start (record start.settings.job { frame = record start.settings.job.frame { top = pos 91_440_000_000 }; pen = pen_1 })) {
+      in_frame = true
+    }
 
 no_cursor_below_the_page : effect low (leave_frame printer_a low Current) ≡ Fails OffPage
 unfolding geometry_at row_at page_reads is_between
@@ -131,7 +150,9 @@ no_line_below_the_page = refl
 -- an anchor puts the pen at the origin, and the cursor's home becomes a number
 anchored : effect (holding (units 9 9 pen_1)) (set_frame_anchor (holding (units 9 9 pen_1)) (number 0))
     ≡ Goes (record start {
-      settings = record start.settings { job = record start.settings.job { frame = record start.settings.job.frame { top = pos 22_860_000_000 }; pen = pen_1 } };
+      settings = record start.settings {
+        job = record start.settings.job { frame = record start.settings.job.frame { top = pos 22_860_000_000 }; pen = pen_1 }
+      };
       cursor = record start.cursor { y = Some (pos 22_860_000_000) };
     }) []
 anchored = refl
@@ -147,13 +168,24 @@ abbrev at_100 : State
 at_100 = record start { cursor = record { x = pos 12_192_000_000; y = Some (pos 30_480_000_000) } }
 
 pen_comes_to_the_cursor : effect at_100 (enter_frame printer_a at_100 Current)
-    ≡ Goes (record (with_pen at_100 (record default_pen { place = record { x = pos 12_192_000_000; y = pos 353_568_000_000 } })) { in_frame = true }) []
+    ≡ Goes
+    (record (with_pen at_100 (record default_pen { place = record { x = pos 12_192_000_000; y = pos 353_568_000_000 } })) {
+      in_frame = true
+    })
+    []
 unfolding geometry_at row_at
 pen_comes_to_the_cursor = refl
 
 -- the cursor goes back to where the pen came from
-cursor_comes_to_the_pen : effect (record (with_pen start (record default_pen { place = record { x = pos 12_192_000_000; y = pos 353_568_000_000 } })) { in_frame = true })
-    (leave_frame printer_a (record (with_pen start (record default_pen { place = record { x = pos 12_192_000_000; y = pos 353_568_000_000 } })) { in_frame = true }) Current)
+cursor_comes_to_the_pen :
+    effect (record (with_pen start (record default_pen { place = record { x = pos 12_192_000_000; y = pos 353_568_000_000 } })) {
+      in_frame = true
+    })
+    (leave_frame printer_a
+    (record (with_pen start (record default_pen { place = record { x = pos 12_192_000_000; y = pos 353_568_000_000 } })) {
+      in_frame = true
+    })
+    Current)
     ≡ Goes (with_pen at_100 (record default_pen { place = record { x = pos 12_192_000_000; y = pos 353_568_000_000 } })) []
 unfolding geometry_at row_at page_reads is_between
 cursor_comes_to_the_pen = refl
@@ -162,7 +194,8 @@ outside_a_frame_nothing_is_left : effect start (leave_frame printer_a start Curr
 outside_a_frame_nothing_is_left = refl
 
 -- `IN` leaves the frame alone
-initialized : effect (holding (relative (lowered (units 9 9 pen_1)))) (initialize (holding (relative (lowered (units 9 9 pen_1))))) ≡ Goes (holding default_pen) []
+initialized : effect (holding (relative (lowered (units 9 9 pen_1)))) (initialize (holding (relative (lowered (units 9 9 pen_1)))))
+    ≡ Goes (holding default_pen) []
 initialized = refl
 
 pens_above_1_are_none : effect start (select_pen start 20_000) ≡ Fails BadValue

@@ -14,7 +14,8 @@ module _ (printer : Printer) (s : State) where
   pub anchor_is_sound : (n : Amount) → IsSound printer s (set_frame_anchor s n) (set_frame_anchor (plain_state s) n)
   anchor_is_sound n = quiet (vertical_rises s.cursor.y) refl refl refl refl refl refl refl
 
-  pub enter_is_sound : (handover : Handover) → IsSound printer s (enter_frame printer s handover) (enter_frame printer (plain_state s) handover)
+  pub enter_is_sound : (handover : Handover) →
+      IsSound printer s (enter_frame printer s handover) (enter_frame printer (plain_state s) handover)
   enter_is_sound Previous = quiet refl refl refl refl refl refl refl refl
   enter_is_sound Current = quiet (page_and_vertical_rise s.cursor.y) refl refl refl refl refl refl refl
 
@@ -24,6 +25,9 @@ module _ (printer : Printer) (s : State) where
   unmoved_is_sound : IsSound printer s (moving s) (moving (plain_state s))
   unmoved_is_sound = quiet refl refl refl refl refl refl refl refl
 
-  pub leave_is_sound : (handover : Handover) → IsSound printer s (leave_frame printer s handover) (leave_frame printer (plain_state s) handover)
+  pub leave_is_sound : (handover : Handover) →
+      IsSound printer s (leave_frame printer s handover) (leave_frame printer (plain_state s) handover)
   leave_is_sound Previous = quiet refl refl refl refl refl refl refl refl
-  leave_is_sound Current = either_line s.in_frame s (leave_at_pen printer s) (moving s) (leave_at_pen printer (plain_state s)) (moving (plain_state s)) at_pen_is_sound unmoved_is_sound
+  leave_is_sound Current =
+      either_line s.in_frame s (leave_at_pen printer s) (moving s) (leave_at_pen printer (plain_state s))
+      (moving (plain_state s)) at_pen_is_sound unmoved_is_sound

@@ -12,7 +12,9 @@ empty_has_room : 0 ≤ 20
 empty_has_room = omega arith
 
 module _ (printer : Printer) (defaults : Settings) (s : State) where
-  pub sides_are_sound : (n : Amount) → IsSoundTransition printer defaults s (Closes (checking s (sides_checks printer n)) true (λ t. set_sides t n)) (Closes (checking (plain_state s) (sides_checks printer n)) true (λ t. set_sides t n))
+  pub sides_are_sound : (n : Amount) →
+      IsSoundTransition printer defaults s (Closes (checking s (sides_checks printer n)) true (λ t. set_sides t n))
+      (Closes (checking (plain_state s) (sides_checks printer n)) true (λ t. set_sides t n))
   sides_are_sound n = (checks_are_sound s (sides_checks printer n) refl, calm (λ t. refl) (λ t. refl) (λ t. refl) (λ t. refl), refl)
 
   pub reset_is_sound : IsSoundTransition printer defaults s (reset defaults s) (reset (plain_settings defaults) (plain_state s))

@@ -1,7 +1,8 @@
 -- Facts of macros.
 use Rattle.std.proofs.Common.{None, Some, refl}
 use Rattle.device_profile.specs.Printer.{Printer}
-use Rattle.page_env.specs.declared.macros.Control.TheVariants.{Begin, End, Execute, Call, EnableOverlay, DisableOverlay, DeleteAll, Delete, MakeTemporary}
+use Rattle.page_env.specs.declared.macros.Control.TheVariants.{Begin, End, Execute, Call, EnableOverlay, DisableOverlay, DeleteAll, Delete}
+use Rattle.page_env.specs.declared.macros.Control.TheVariants.{MakeTemporary}
 use Rattle.page_env.specs.Sound.{IsSoundControl}
 use Rattle.page_env.proofs.Sound.{quiet}
 

@@ -22,10 +22,14 @@ source-plain n t =
     ap (λ b. record u { settings = record u.settings { unset = record unwatched { tray = b } } }) (same_flag (whole_of n == 0))
 
 module _ (printer : Printer) (defaults : Settings) (s : State) where
-  pub source_is_sound : (n : Amount) → IsSoundTransition printer defaults s (Closes (checking s (source_checks printer n)) true (λ t. set_source t n)) (Closes (checking (plain_state s) (source_checks printer n)) true (λ t. set_source t n))
+  pub source_is_sound : (n : Amount) →
+      IsSoundTransition printer defaults s (Closes (checking s (source_checks printer n)) true (λ t. set_source t n))
+      (Closes (checking (plain_state s) (source_checks printer n)) true (λ t. set_source t n))
   source_is_sound n = (checks_are_sound s (source_checks printer n) refl, calm (source-plain n) (λ t. refl) (λ t. refl) (λ t. refl), refl)
 
-  pub size_is_sound : (n : Amount) → IsSoundTransition printer defaults s (Closes (checking s (size_checks printer n)) true (λ t. set_size t n)) (Closes (checking (plain_state s) (size_checks printer n)) true (λ t. set_size t n))
+  pub size_is_sound : (n : Amount) →
+      IsSoundTransition printer defaults s (Closes (checking s (size_checks printer n)) true (λ t. set_size t n))
+      (Closes (checking (plain_state s) (size_checks printer n)) true (λ t. set_size t n))
   size_is_sound n = (
     checks_are_sound s (size_checks printer n) refl,
     record {
@@ -34,12 +38,17 @@ module _ (printer : Printer) (defaults : Settings) (s : State) where
       keeps = λ e. absurd cc;
       page = λ pairs begun none t h.
           size_is_found printer.geometries pairs t.settings.fields.size (whole_of n) t.settings.fields.orientation
-          (was_true (has_size printer.geometries (whole_of n)) (second_finds_nothing (not (is_whole_between 1 999 n)) (not (has_size printer.geometries (whole_of n))) BadValue NotOnDevice none)) h;
+          (was_true (has_size printer.geometries (whole_of n))
+              (second_finds_nothing (not (is_whole_between 1 999 n))
+              (not (has_size printer.geometries (whole_of n))) BadValue NotOnDevice none))
+              h;
     },
     refl,
   )
 
-  pub orientation_is_sound : (n : Amount) → IsSoundTransition printer defaults s (Closes (checking s (orientation_checks printer n)) true (λ t. set_orientation defaults t n)) (Closes (checking (plain_state s) (orientation_checks printer n)) true (λ t. set_orientation (plain_settings defaults) t n))
+  pub orientation_is_sound : (n : Amount) →
+      IsSoundTransition printer defaults s (Closes (checking s (orientation_checks printer n)) true (λ t. set_orientation defaults t n))
+      (Closes (checking (plain_state s) (orientation_checks printer n)) true (λ t. set_orientation (plain_settings defaults) t n))
   orientation_is_sound n = (
     checks_are_sound s (orientation_checks printer n) refl,
     record {
@@ -48,7 +57,10 @@ module _ (printer : Printer) (defaults : Settings) (s : State) where
       keeps = λ e. absurd cc;
       page = λ pairs begun none t h.
           orientation_is_found printer.geometries pairs t.settings.fields.size t.settings.fields.orientation (whole_of n)
-          (was_true (has_orientation printer.geometries (whole_of n)) (second_finds_nothing (not (is_whole_between 0 3 n)) (not (has_orientation printer.geometries (whole_of n))) BadValue NotOnDevice none)) h;
+          (was_true (has_orientation printer.geometries (whole_of n))
+              (second_finds_nothing (not (is_whole_between 0 3 n))
+              (not (has_orientation printer.geometries (whole_of n))) BadValue NotOnDevice none))
+              h;
     },
     refl,
   )

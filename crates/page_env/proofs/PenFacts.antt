@@ -18,7 +18,8 @@ use Rattle.page_env.specs.Sound.{plain_state, IsSound, IsSoundMove}
 use Rattle.page_env.proofs.Sound.{quiet, either_line, page_rises}
 
 -- a line of which nothing is found lies in the printable area
-drawn_inside : (inside within : Bool) → cond (not inside) (Some NotPrintable) (cond (not within) (Some OutsideFrame) None) ≡ None → inside ≡ true
+drawn_inside : (inside within : Bool) → cond (not inside) (Some NotPrintable) (cond (not within) (Some OutsideFrame) None) ≡ None →
+    inside ≡ true
 drawn_inside true within none = refl
 drawn_inside false within none = absurd cc
 
@@ -36,7 +37,11 @@ module _ (printer : Printer) (s : State) where
         ordered = refl;
         reads_ordered = page_rises;
         unmarked = λ e. absurd cc;
-        inside = λ none. (drawn_inside (is_inside (geometry_of printer s) (line_bounds line)) (stays_in_frame (frame_of printer s) pen.place to) none, tt);
+        inside =
+            λ none. (
+              drawn_inside (is_inside (geometry_of printer s) (line_bounds line)) (stays_in_frame (frame_of printer s) pen.place to) none,
+              tt,
+            );
         size = refl;
         orientation = refl;
         room = λ none h. h;
@@ -54,13 +59,15 @@ module _ (printer : Printer) (s : State) where
   motion_is_sound Relative = quiet refl refl refl refl refl refl refl refl
   motion_is_sound Down =
       let pen : Pen = s.settings.job.pen in
-      either_line pen.is_down s (moving s) (draw printer s pen.place) (moving (plain_state s)) (draw printer (plain_state s) pen.place) unmoved_is_sound (draw_is_sound pen.place)
+      either_line pen.is_down s (moving s) (draw printer s pen.place) (moving (plain_state s))
+      (draw printer (plain_state s) pen.place) unmoved_is_sound (draw_is_sound pen.place)
 
   move_is_sound : (to : ℤ × ℤ) → IsSound printer s (move_pen printer s to) (move_pen printer (plain_state s) to)
   move_is_sound to =
       let pen : Pen = s.settings.job.pen in
       let target = pen_target pen to in
-      either_line pen.is_down s (draw printer s target) (carry_pen s target) (draw printer (plain_state s) target) (carry_pen (plain_state s) target) (draw_is_sound target) (carry_is_sound target)
+      either_line pen.is_down s (draw printer s target) (carry_pen s target) (draw printer (plain_state s) target)
+      (carry_pen (plain_state s) target) (draw_is_sound target) (carry_is_sound target)
 
 pub each_move_is_sound : (printer : Printer) (to : ℤ × ℤ) → IsSoundMove printer to
 each_move_is_sound printer to = λ s. move_is_sound printer s to

@@ -1,5 +1,6 @@
 -- Where the diagonal of a box goes, each line in the box does.
-use Rattle.std.proofs.Common.{◌≡◌, ◌==◌, ℕ, ℤ, pos, ◌/◌, ◌≤◌, Bool, true, false, not, ◌&&◌, ◌||◌, cond, Some, None, [], ◌∷◌, refl, ap, sym, ◌∙◌, arith}
+use Rattle.std.proofs.Common.{◌≡◌, ◌==◌, ℕ, ℤ, pos, ◌/◌, ◌≤◌, Bool, true, false, not, ◌&&◌, ◌||◌, cond, Some, None, [], ◌∷◌, refl, ap, sym}
+use Rattle.std.proofs.Common.{◌∙◌, arith}
 use Rattle.std.specs.Prelude.{◌+ℤ◌, ◌-ℤ◌, ◌≤ℤ◌, int_lt, nat_lt, unsigned_abs}
 use Rattle.std.specs.Int.{int_min, int_max}
 use Rattle.std.proofs.lemmas.Int.{ints}
@@ -52,23 +53,28 @@ high_end' p q a h true e = h
 high_end' p q a h false e = omega (arith, ints)
 
 -- with half a width about them, they lie between bounds where the least and the greatest do
-both_fit : (low high least most a b : ℤ) (half : ℕ) → least ≤ℤ a → a ≤ℤ most → least ≤ℤ b → b ≤ℤ most → low ≤ℤ (least -ℤ pos half) → (most +ℤ pos half) ≤ℤ high → (turned : Bool) → int_lt b a ≡ turned →
+both_fit : (low high least most a b : ℤ) (half : ℕ) → least ≤ℤ a → a ≤ℤ most → least ≤ℤ b → b ≤ℤ most → low ≤ℤ (least -ℤ pos half) →
+    (most +ℤ pos half) ≤ℤ high → (turned : Bool) → int_lt b a ≡ turned →
     (is_between low high (cond turned b a -ℤ pos half) && is_between low high (cond turned a b +ℤ pos half)) ≡ true
 both_fit low high least most a b half la am lb bm h k true e =
-    and_from _ _ (is_between-of low high (b -ℤ pos half) (omega (arith, ints)) (omega (arith, ints))) (is_between-of low high (a +ℤ pos half) (omega (arith, ints)) (omega (arith, ints)))
+    and_from _ _ (is_between-of low high (b -ℤ pos half) (omega (arith, ints)) (omega (arith, ints)))
+    (is_between-of low high (a +ℤ pos half) (omega (arith, ints)) (omega (arith, ints)))
 both_fit low high least most a b half la am lb bm h k false e =
-    and_from _ _ (is_between-of low high (a -ℤ pos half) (omega (arith, ints)) (omega (arith, ints))) (is_between-of low high (b +ℤ pos half) (omega (arith, ints)) (omega (arith, ints)))
+    and_from _ _ (is_between-of low high (a -ℤ pos half) (omega (arith, ints)) (omega (arith, ints)))
+    (is_between-of low high (b +ℤ pos half) (omega (arith, ints)) (omega (arith, ints)))
 
 -- where two ends fit, so do all between them
 between_ends : (low high p q a b : ℤ) (half : ℕ) → int_min p q ≤ℤ a → a ≤ℤ int_max p q → int_min p q ≤ℤ b → b ≤ℤ int_max p q →
-    (is_between low high (int_min p q -ℤ pos half) && is_between low high (int_max p q +ℤ pos half)) ≡ true → (is_between low high (int_min a b -ℤ pos half) && is_between low high (int_max a b +ℤ pos half)) ≡ true
+    (is_between low high (int_min p q -ℤ pos half) && is_between low high (int_max p q +ℤ pos half)) ≡ true →
+    (is_between low high (int_min a b -ℤ pos half) && is_between low high (int_max a b +ℤ pos half)) ≡ true
 between_ends low high p q a b half la am lb bm e =
     let parts = and_parts (is_between low high (int_min p q -ℤ pos half)) (is_between low high (int_max p q +ℤ pos half)) e in
     both_fit low high (int_min p q) (int_max p q) a b half la am lb bm
     (between_low low high (int_min p q -ℤ pos half) parts.0) (between_high low high (int_max p q +ℤ pos half) parts.1) (int_lt b a) refl
 
 -- what lies between places that lie between bounds does, too
-between_more : (low high p q x : ℤ) → is_between low high p ≡ true → is_between low high q ≡ true → is_between p q x ≡ true → is_between low high x ≡ true
+between_more : (low high p q x : ℤ) → is_between low high p ≡ true → is_between low high q ≡ true → is_between p q x ≡ true →
+    is_between low high x ≡ true
 between_more low high p q x hp hq hx =
     let l = between_low low high p hp in
     let h = between_high low high q hq in
@@ -77,7 +83,8 @@ between_more low high p q x hp hq hx =
     is_between-of low high x (omega (arith, ints, l, a)) (omega (arith, ints, h, b))
 
 -- a place that is not past a limit, nor is one before it
-not_further : (limit : ℕ) (size high p x : ℤ) → is_between (pos 0) size p ≡ true → is_between p high x ≡ true → nat_lt limit (unsigned_abs high) ≡ false → nat_lt limit (unsigned_abs x) ≡ false
+not_further : (limit : ℕ) (size high p x : ℤ) → is_between (pos 0) size p ≡ true → is_between p high x ≡ true →
+    nat_lt limit (unsigned_abs high) ≡ false → nat_lt limit (unsigned_abs x) ≡ false
 not_further limit size high p x hp hx e =
     let l = between_low (pos 0) size p hp in
     let a = between_low p high x hx in
@@ -87,7 +94,8 @@ not_further limit size high p x hp hx e =
 
 -- ---- lines
 
-module _ (g : Geometry) (origin : Origin) (frame : Frame) (width : ℕ) (box : PenBounds) (from to : PenPlace) (in_from : lies_within box from ≡ true) (in_to : lies_within box to ≡ true) where
+module _ (g : Geometry) (origin : Origin) (frame : Frame) (width : ℕ) (box : PenBounds) (from to : PenPlace)
+    (in_from : lies_within box from ≡ true) (in_to : lies_within box to ≡ true) where
   from_x : is_between box.low.x box.high.x from.x ≡ true
   from_x = (and_parts (is_between box.low.x box.high.x from.x) (is_between box.low.y box.high.y from.y) in_from).0
 
@@ -107,68 +115,101 @@ module _ (g : Geometry) (origin : Origin) (frame : Frame) (width : ℕ) (box : P
   y_at y = origin.y +ℤ y_on_page frame y
 
   x_low : (x : ℤ) → is_between box.low.x box.high.x x ≡ true → int_min (x_at box.low.x) (x_at box.high.x) ≤ℤ x_at x
-  x_low x h = let l = between_low box.low.x box.high.x x h in low_end (x_at box.low.x) (x_at box.high.x) (x_at x) (omega (arith, ints, l)) (int_lt (x_at box.high.x) (x_at box.low.x)) refl
+  x_low x h =
+      let l = between_low box.low.x box.high.x x h in
+      low_end (x_at box.low.x) (x_at box.high.x) (x_at x) (omega (arith, ints, l)) (int_lt (x_at box.high.x) (x_at box.low.x)) refl
 
   x_high : (x : ℤ) → is_between box.low.x box.high.x x ≡ true → x_at x ≤ℤ int_max (x_at box.low.x) (x_at box.high.x)
-  x_high x h = let l = between_high box.low.x box.high.x x h in high_end (x_at box.low.x) (x_at box.high.x) (x_at x) (omega (arith, ints, l)) (int_lt (x_at box.high.x) (x_at box.low.x)) refl
+  x_high x h =
+      let l = between_high box.low.x box.high.x x h in
+      high_end (x_at box.low.x) (x_at box.high.x) (x_at x) (omega (arith, ints, l)) (int_lt (x_at box.high.x) (x_at box.low.x)) refl
 
   -- y grows upwards
   y_low : (y : ℤ) → is_between box.low.y box.high.y y ≡ true → int_min (y_at box.low.y) (y_at box.high.y) ≤ℤ y_at y
-  y_low y h = let l = between_high box.low.y box.high.y y h in low_end' (y_at box.high.y) (y_at box.low.y) (y_at y) (omega (arith, ints, l)) (int_lt (y_at box.high.y) (y_at box.low.y)) refl
+  y_low y h =
+      let l = between_high box.low.y box.high.y y h in
+      low_end' (y_at box.high.y) (y_at box.low.y) (y_at y) (omega (arith, ints, l)) (int_lt (y_at box.high.y) (y_at box.low.y)) refl
 
   y_high : (y : ℤ) → is_between box.low.y box.high.y y ≡ true → y_at y ≤ℤ int_max (y_at box.low.y) (y_at box.high.y)
-  y_high y h = let l = between_low box.low.y box.high.y y h in high_end' (y_at box.high.y) (y_at box.low.y) (y_at y) (omega (arith, ints, l)) (int_lt (y_at box.high.y) (y_at box.low.y)) refl
+  y_high y h =
+      let l = between_low box.low.y box.high.y y h in
+      high_end' (y_at box.high.y) (y_at box.low.y) (y_at y) (omega (arith, ints, l)) (int_lt (y_at box.high.y) (y_at box.low.y)) refl
 
-  inside_too : is_inside g (line_bounds (line_between origin frame width box.low box.high)) ≡ true → is_inside g (line_bounds (line_between origin frame width from to)) ≡ true
+  inside_too : is_inside g (line_bounds (line_between origin frame width box.low box.high)) ≡ true →
+      is_inside g (line_bounds (line_between origin frame width from to)) ≡ true
   unfolding is_inside
   inside_too e =
       let half = unsigned_abs (pos (ticks_in Millimetre width)) / 2 in
       let parts = and_parts _ _ e in
       and_from _ _
-      (between_ends g.printable_left g.printable_right (x_at box.low.x) (x_at box.high.x) (x_at from.x) (x_at to.x) half (x_low from.x from_x) (x_high from.x from_x) (x_low to.x to_x) (x_high to.x to_x) parts.0)
-      (between_ends g.printable_top g.printable_bottom (y_at box.low.y) (y_at box.high.y) (y_at from.y) (y_at to.y) half (y_low from.y from_y) (y_high from.y from_y) (y_low to.y to_y) (y_high to.y to_y) parts.1)
+      (between_ends g.printable_left g.printable_right (x_at box.low.x) (x_at box.high.x) (x_at from.x) (x_at to.x) half
+      (x_low from.x from_x) (x_high from.x from_x) (x_low to.x to_x) (x_high to.x to_x) parts.0)
+      (between_ends g.printable_top g.printable_bottom (y_at box.low.y) (y_at box.high.y) (y_at from.y) (y_at to.y) half
+      (y_low from.y from_y) (y_high from.y from_y) (y_low to.y to_y) (y_high to.y to_y) parts.1)
 
-  in_frame_too : (place : PenPlace) → is_between box.low.x box.high.x place.x ≡ true → is_between box.low.y box.high.y place.y ≡ true → is_in_frame frame box.low ≡ true → is_in_frame frame box.high ≡ true → is_in_frame frame place ≡ true
+  in_frame_too : (place : PenPlace) → is_between box.low.x box.high.x place.x ≡ true → is_between box.low.y box.high.y place.y ≡ true →
+      is_in_frame frame box.low ≡ true → is_in_frame frame box.high ≡ true → is_in_frame frame place ≡ true
   in_frame_too place hx hy low high =
       let l = and_parts _ _ low in
       let h = and_parts _ _ high in
-      and_from _ _ (between_more (pos 0) frame.width box.low.x box.high.x place.x l.0 h.0 hx) (between_more (pos 0) frame.height box.low.y box.high.y place.y l.1 h.1 hy)
+      and_from _ _ (between_more (pos 0) frame.width box.low.x box.high.x place.x l.0 h.0 hx)
+      (between_more (pos 0) frame.height box.low.y box.high.y place.y l.1 h.1 hy)
 
   near_too : is_in_frame frame box.low ≡ true → not (is_too_far box.high) ≡ true → not (is_too_far to) ≡ true
   near_too low high =
       let l = and_parts _ _ low in
       let far = neither (nat_lt furthest (unsigned_abs box.high.x)) (nat_lt furthest (unsigned_abs box.high.y)) high in
       not_either (nat_lt furthest (unsigned_abs to.x)) (nat_lt furthest (unsigned_abs to.y))
-      (not_further furthest frame.width box.high.x box.low.x to.x l.0 to_x far.0) (not_further furthest frame.height box.high.y box.low.y to.y l.1 to_y far.1)
+      (not_further furthest frame.width box.high.x box.low.x to.x l.0 to_x far.0)
+      (not_further furthest frame.height box.high.y box.low.y to.y l.1 to_y far.1)
 
   stays_too : stays_in_frame frame box.low box.high ≡ true → stays_in_frame frame from to ≡ true
   stays_too e =
       let parts = and_parts (is_in_frame frame box.low && is_in_frame frame box.high) (not (is_too_far box.high)) e in
       let ends = and_parts (is_in_frame frame box.low) (is_in_frame frame box.high) parts.0 in
-      and_from _ _ (and_from _ _ (in_frame_too from from_x from_y ends.0 ends.1) (in_frame_too to to_x to_y ends.0 ends.1)) (near_too ends.0 parts.1)
+      and_from _ _ (and_from _ _ (in_frame_too from from_x from_y ends.0 ends.1) (in_frame_too to to_x to_y ends.0 ends.1))
+      (near_too ends.0 parts.1)
 
-  pub line_passes_too : is_inside g (line_bounds (line_between origin frame width box.low box.high)) ≡ true → stays_in_frame frame box.low box.high ≡ true → first_finding (line_checks g origin frame width from to) ≡ None
+  pub line_passes_too : is_inside g (line_bounds (line_between origin frame width box.low box.high)) ≡ true →
+      stays_in_frame frame box.low box.high ≡ true → first_finding (line_checks g origin frame width from to) ≡ None
   line_passes_too inside stays =
-      ap (λ (b : Bool). cond (not b) (Some NotPrintable) (cond (not (stays_in_frame frame from to)) (Some OutsideFrame) None)) (inside_too inside)
+      ap (λ (b : Bool). cond (not b) (Some NotPrintable) (cond (not (stays_in_frame frame from to)) (Some OutsideFrame) None))
+      (inside_too inside)
       ∙ ap (λ (b : Bool). cond (not b) (Some OutsideFrame) None) (stays_too stays)
 
 -- ---- what the pen draws
 
-module _ (printer : Printer) (page : Page) (box : PenBounds) (g : Geometry) (origin : Origin) (frame : Frame) (down : page.env.job.pen.is_down ≡ true) (selected : (page.env.job.pen.number == 0) ≡ false) (known : (panel : Panel) → (first_unset (settings_at panel page.env) page_reads ≡ None) × (geometry_of printer (state_at panel page) ≡ g) × (origin_of printer (state_at panel page) ≡ origin)) (is_frame : frame ≡ frame_on g page.env.job.frame) (go : LinesGo g origin frame page.env.job.pen.width box) where
-  pub draws_within : (from target : PenPlace) → lies_within box from ≡ true → lies_within box target ≡ true → DrawsLine printer page from target (line_between origin frame page.env.job.pen.width from target)
+module _ (printer : Printer) (page : Page) (box : PenBounds) (g : Geometry) (origin : Origin) (frame : Frame)
+    (down : page.env.job.pen.is_down ≡ true) (selected : (page.env.job.pen.number == 0) ≡ false)
+    (known : (panel : Panel) →
+    (first_unset (settings_at panel page.env) page_reads ≡ None) × (geometry_of printer (state_at panel page) ≡ g)
+    × (origin_of printer (state_at panel page) ≡ origin))
+    (is_frame : frame ≡ frame_on g page.env.job.frame) (go : LinesGo g origin frame page.env.job.pen.width box) where
+  pub draws_within : (from target : PenPlace) → lies_within box from ≡ true → lies_within box target ≡ true →
+      DrawsLine printer page from target (line_between origin frame page.env.job.pen.width from target)
   unfolding page_reads
   draws_within from target in_from in_target panel marked to leads =
       let pen : Pen = page.env.job.pen in
       let s = state_at panel (page_at from marked page) in
-      let drawn : Bool → State = λ (is_down : Bool). state_at panel (page_at target true (record page { env = record page.env { job = record page.env.job { pen = record pen { is_down = is_down } } } })) in
-      let judges : Geometry → Origin → Frame → Effect = λ g' origin' frame'. fails_or (first_finding (line_checks g' origin' frame' pen.width from target)) (Goes (drawn true) (Line (line_between origin' frame' pen.width from target) ∷ [])) in
-      let effect : Bool → PenPlace → Effect = λ is_down place. effect_of s.settings (Step (cond is_down (draw printer s place) (carry_pen s place))) in
+      let drawn : Bool → State =
+      λ (is_down : Bool). state_at panel (page_at target true (record page {
+        env = record page.env { job = record page.env.job { pen = record pen { is_down = is_down } } }
+      })) in
+      let judges : Geometry → Origin → Frame → Effect =
+      λ g' origin' frame'. fails_or (first_finding (line_checks g' origin' frame' pen.width from target))
+      (Goes (drawn true) (Line (line_between origin' frame' pen.width from target) ∷ [])) in
+      let effect : Bool → PenPlace → Effect =
+      λ is_down place. effect_of s.settings (Step (cond is_down (draw printer s place) (carry_pen s place))) in
       ap (λ place. effect pen.is_down place) leads
       ∙ ap (λ is_down. effect is_down target) down
-      ∙ ap (λ none. fails_or (first_finding (check none NoPen ∷ [])) (unset_or (first_unset s.settings page_reads) (judges (geometry_of printer s) (origin_of printer s) (frame_of printer s)))) selected
+      ∙ ap
+      (λ none. fails_or (first_finding (check none NoPen ∷ []))
+      (unset_or (first_unset s.settings page_reads) (judges (geometry_of printer s) (origin_of printer s) (frame_of printer s))))
+      selected
       ∙ ap (λ unset. unset_or unset (judges (geometry_of printer s) (origin_of printer s) (frame_of printer s))) (known panel).0
       ∙ ap (λ origin'. judges (geometry_of printer s) origin' (frame_of printer s)) (known panel).2
       ∙ ap (λ g'. judges g' origin (frame_on g' page.env.job.frame)) (known panel).1
       ∙ ap (λ frame'. judges g origin frame') (sym is_frame)
-      ∙ ap (λ finding. fails_or finding (Goes (drawn true) (Line (line_between origin frame pen.width from target) ∷ []))) (go from target in_from in_target)
+      ∙ ap (λ finding. fails_or finding (Goes (drawn true) (Line (line_between origin frame pen.width from target) ∷ [])))
+      (go from target in_from in_target)
       ∙ ap (λ is_down. Goes (drawn is_down) (Line (line_between origin frame pen.width from target) ∷ [])) (sym down)

@@ -12,7 +12,8 @@ use Rattle.page_env.specs.Sound.{plain_state, AreInside, IsSound}
 use Rattle.page_env.proofs.Sound.{quiet, page_and_vertical_rise}
 
 -- a row of which nothing is found lies inside
-row_inside : (off black inside : Bool) (g : Geometry) (row : PixelRow) → is_inside g (row_bounds row) ≡ inside → cond off (Some OffPage) (cond (black && not inside) (Some NotPrintable) None) ≡ None → AreInside g (cond black (Row row ∷ []) [])
+row_inside : (off black inside : Bool) (g : Geometry) (row : PixelRow) → is_inside g (row_bounds row) ≡ inside →
+    cond off (Some OffPage) (cond (black && not inside) (Some NotPrintable) None) ≡ None → AreInside g (cond black (Row row ∷ []) [])
 row_inside true black inside g row is none = absurd cc
 row_inside false false inside g row is none = tt
 row_inside false true true g row is none = (is, tt)

@@ -20,7 +20,8 @@ marked_inside true e = refl
 marked_inside false e = absurd cc
 
 -- so does the area, with whatever it is filled
-filled_inside : (g : Geometry) (box : Bounds) (fill : Option Fill) → is_inside g box ≡ true → AreInside g (option_map_or (λ f. Rectangle (record { fill = f; bounds = box }) ∷ []) fill [])
+filled_inside : (g : Geometry) (box : Bounds) (fill : Option Fill) → is_inside g box ≡ true →
+    AreInside g (option_map_or (λ f. Rectangle (record { fill = f; bounds = box }) ∷ []) fill [])
 filled_inside g box None h = tt
 filled_inside g box (Some fill) h = (h, tt)
 

@@ -21,14 +21,44 @@ eq_set_decides a b =
 abbrev eq_request : FontRequest → FontRequest → Bool
 eq_request a b =
     ((a.symbol_set.number == b.symbol_set.number) && (a.symbol_set.letter == b.symbol_set.letter))
-    && ((a.spacing == b.spacing) && ((a.pitch == b.pitch) && ((a.height == b.height) && ((a.style == b.style) && (int_eq a.weight b.weight && (a.typeface == b.typeface))))))
+    && ((a.spacing == b.spacing)
+    && ((a.pitch == b.pitch)
+    && ((a.height == b.height) && ((a.style == b.style) && (int_eq a.weight b.weight && (a.typeface == b.typeface))))))
 
 eq_request_decides : (a b : FontRequest) → Decides (eq_request a b) (a ≡ b)
 eq_request_decides a b =
     Decides-like _
-    (λ h. λ i. record { symbol_set = h.0 i; spacing = h.1.0 i; pitch = h.1.1.0 i; height = h.1.1.1.0 i; style = h.1.1.1.1.0 i; weight = h.1.1.1.1.1.0 i; typeface = h.1.1.1.1.1.1 i })
-    (λ e. (ap (λ (x : FontRequest). x.symbol_set) e, (ap (λ (x : FontRequest). x.spacing) e, (ap (λ (x : FontRequest). x.pitch) e, (ap (λ (x : FontRequest). x.height) e, (ap (λ (x : FontRequest). x.style) e, (ap (λ (x : FontRequest). x.weight) e, ap (λ (x : FontRequest). x.typeface) e)))))))
-    (Decides-and _ _ (eq_set_decides a.symbol_set b.symbol_set) (Decides-and _ _ (Decides-eqb a.spacing b.spacing) (Decides-and _ _ (Decides-eqb a.pitch b.pitch) (Decides-and _ _ (Decides-eqb a.height b.height) (Decides-and _ _ (Decides-eqb a.style b.style) (Decides-and _ _ (Decides-int_eq a.weight b.weight) (Decides-eqb a.typeface b.typeface)))))))
+    (λ h. λ i. record {
+      symbol_set = h.0 i;
+      spacing = h.1.0 i;
+      pitch = h.1.1.0 i;
+      height = h.1.1.1.0 i;
+      style = h.1.1.1.1.0 i;
+      weight = h.1.1.1.1.1.0 i;
+      typeface = h.1.1.1.1.1.1 i;
+    })
+    (λ e. (
+      ap (λ (x : FontRequest). x.symbol_set) e,
+      (
+            ap (λ (x : FontRequest). x.spacing) e,
+            (
+                  ap (λ (x : FontRequest). x.pitch) e,
+                  (
+                        ap (λ (x : FontRequest). x.height) e,
+                        (
+                              ap (λ (x : FontRequest). x.style) e,
+                              (ap (λ (x : FontRequest). x.weight) e, ap (λ (x : FontRequest). x.typeface) e),
+                            ),
+                      ),
+                ),
+          ),
+    ))
+    (Decides-and _ _ (eq_set_decides a.symbol_set b.symbol_set)
+    (Decides-and _ _ (Decides-eqb a.spacing b.spacing)
+    (Decides-and _ _ (Decides-eqb a.pitch b.pitch)
+    (Decides-and _ _ (Decides-eqb a.height b.height)
+    (Decides-and _ _ (Decides-eqb a.style b.style)
+    (Decides-and _ _ (Decides-int_eq a.weight b.weight) (Decides-eqb a.typeface b.typeface)))))))
 
 abbrev eq_box : Bounds → Bounds → Bool
 eq_box a b = int_eq a.left b.left && (int_eq a.top b.top && (int_eq a.right b.right && int_eq a.bottom b.bottom))
@@ -36,8 +66,10 @@ eq_box a b = int_eq a.left b.left && (int_eq a.top b.top && (int_eq a.right b.ri
 eq_box_decides : (a b : Bounds) → Decides (eq_box a b) (a ≡ b)
 eq_box_decides a b =
     Decides-like _ (λ h. λ i. record { left = h.0 i; top = h.1.0 i; right = h.1.1.0 i; bottom = h.1.1.1 i })
-    (λ e. (ap (λ (x : Bounds). x.left) e, (ap (λ (x : Bounds). x.top) e, (ap (λ (x : Bounds). x.right) e, ap (λ (x : Bounds). x.bottom) e))))
-    (Decides-and _ _ (Decides-int_eq a.left b.left) (Decides-and _ _ (Decides-int_eq a.top b.top) (Decides-and _ _ (Decides-int_eq a.right b.right) (Decides-int_eq a.bottom b.bottom))))
+    (λ e.
+    (ap (λ (x : Bounds). x.left) e, (ap (λ (x : Bounds). x.top) e, (ap (λ (x : Bounds). x.right) e, ap (λ (x : Bounds). x.bottom) e))))
+    (Decides-and _ _ (Decides-int_eq a.left b.left)
+    (Decides-and _ _ (Decides-int_eq a.top b.top) (Decides-and _ _ (Decides-int_eq a.right b.right) (Decides-int_eq a.bottom b.bottom))))
 
 abbrev eq_origin : Origin → Origin → Bool
 eq_origin a b = int_eq a.x b.x && int_eq a.y b.y
@@ -58,7 +90,8 @@ eq_termination_decides a b =
 
 abbrev pub eq_look : Look → Look → Bool
 eq_look a b =
-    eq_request a.request b.request && (eq_origin a.origin b.origin && (int_eq a.advance b.advance && (int_eq a.ascent b.ascent && (int_eq a.descent b.descent
+    eq_request a.request b.request
+    && (eq_origin a.origin b.origin && (int_eq a.advance b.advance && (int_eq a.ascent b.ascent && (int_eq a.descent b.descent
     && ((a.column == b.column) && (int_eq a.left b.left && (int_eq a.line b.line && eq_termination a.termination b.termination)))))))
 
 pub eq_look_decides : (a b : Look) → Decides (eq_look a b) (a ≡ b)
@@ -75,15 +108,48 @@ eq_look_decides a b =
       line = h.1.1.1.1.1.1.1.0 i;
       termination = h.1.1.1.1.1.1.1.1 i;
     })
-    (λ e. (ap (λ (x : Look). x.request) e, (ap (λ (x : Look). x.origin) e, (ap (λ (x : Look). x.advance) e, (ap (λ (x : Look). x.ascent) e, (ap (λ (x : Look). x.descent) e, (ap (λ (x : Look). x.column) e, (ap (λ (x : Look). x.left) e, (ap (λ (x : Look). x.line) e, ap (λ (x : Look). x.termination) e)))))))))
-    (Decides-and _ _ (eq_request_decides a.request b.request) (Decides-and _ _ (eq_origin_decides a.origin b.origin) (Decides-and _ _ (Decides-int_eq a.advance b.advance) (Decides-and _ _ (Decides-int_eq a.ascent b.ascent) (Decides-and _ _ (Decides-int_eq a.descent b.descent)
-    (Decides-and _ _ (Decides-eqb a.column b.column) (Decides-and _ _ (Decides-int_eq a.left b.left) (Decides-and _ _ (Decides-int_eq a.line b.line) (eq_termination_decides a.termination b.termination)))))))))
+    (λ e. (
+      ap (λ (x : Look). x.request) e,
+      (
+            ap (λ (x : Look). x.origin) e,
+            (
+                  ap (λ (x : Look). x.advance) e,
+                  (
+                        ap (λ (x : Look). x.ascent) e,
+                        (
+                              ap (λ (x : Look). x.descent) e,
+                              (
+                                    ap (λ (x : Look). x.column) e,
+                                    (ap (λ (x : Look). x.left) e, (ap (λ (x : Look). x.line) e, ap (λ (x : Look). x.termination) e)),
+                                  ),
+                            ),
+                      ),
+                ),
+          ),
+    ))
+    (Decides-and _ _ (eq_request_decides a.request b.request)
+    (Decides-and _ _ (eq_origin_decides a.origin b.origin)
+    (Decides-and _ _ (Decides-int_eq a.advance b.advance)
+    (Decides-and _ _ (Decides-int_eq a.ascent b.ascent) (Decides-and _ _ (Decides-int_eq a.descent b.descent)
+    (Decides-and _ _ (Decides-eqb a.column b.column)
+        (Decides-and _ _ (Decides-int_eq a.left b.left)
+        (Decides-and _ _ (Decides-int_eq a.line b.line) (eq_termination_decides a.termination b.termination)))))))))
 
 abbrev pub eq_bounds : TextBounds → TextBounds → Bool
-eq_bounds a b = eq_box a.area b.area && (int_eq a.width b.width && (int_eq a.right b.right && (int_eq a.foot b.foot && beq a.ends_lines b.ends_lines)))
+eq_bounds a b =
+    eq_box a.area b.area && (int_eq a.width b.width && (int_eq a.right b.right && (int_eq a.foot b.foot && beq a.ends_lines b.ends_lines)))
 
 pub eq_bounds_decides : (a b : TextBounds) → Decides (eq_bounds a b) (a ≡ b)
 eq_bounds_decides a b =
     Decides-like _ (λ h. λ i. record { area = h.0 i; width = h.1.0 i; right = h.1.1.0 i; foot = h.1.1.1.0 i; ends_lines = h.1.1.1.1 i })
-    (λ e. (ap (λ (x : TextBounds). x.area) e, (ap (λ (x : TextBounds). x.width) e, (ap (λ (x : TextBounds). x.right) e, (ap (λ (x : TextBounds). x.foot) e, ap (λ (x : TextBounds). x.ends_lines) e)))))
-    (Decides-and _ _ (eq_box_decides a.area b.area) (Decides-and _ _ (Decides-int_eq a.width b.width) (Decides-and _ _ (Decides-int_eq a.right b.right) (Decides-and _ _ (Decides-int_eq a.foot b.foot) (booleans_Decides a.ends_lines b.ends_lines)))))
+    (λ e. (
+      ap (λ (x : TextBounds). x.area) e,
+      (
+            ap (λ (x : TextBounds). x.width) e,
+            (ap (λ (x : TextBounds). x.right) e, (ap (λ (x : TextBounds). x.foot) e, ap (λ (x : TextBounds). x.ends_lines) e)),
+          ),
+    ))
+    (Decides-and _ _ (eq_box_decides a.area b.area)
+    (Decides-and _ _ (Decides-int_eq a.width b.width)
+    (Decides-and _ _ (Decides-int_eq a.right b.right)
+    (Decides-and _ _ (Decides-int_eq a.foot b.foot) (booleans_Decides a.ends_lines b.ends_lines)))))

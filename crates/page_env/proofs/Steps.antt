@@ -15,25 +15,31 @@ use Rattle.page_env.specs.Effect.{TableLine, Step}
 use Rattle.page_env.specs.Table.{command_transition, transition_of}
 use Rattle.page_env.specs.Answers.{CarriesOut, Marks, Steps, carried_of}
 
-pub as_step : (line : State → TableLine) (old new : Page) (result : Result Unit Finding) → Steps line old new result → CarriesOut (λ defaults s. Step (line s)) old new (carried_of result)
+pub as_step : (line : State → TableLine) (old new : Page) (result : Result Unit Finding) → Steps line old new result →
+    CarriesOut (λ defaults s. Step (line s)) old new (carried_of result)
 unfolding CarriesOut Marks
 as_step line old new (Ok done) h = λ panel defaults. h panel
 as_step line old new (Err finding) h = λ panel defaults. h panel
 
 -- a command that is such a step
-pub as_command : (printer : Printer) (command : Command) (n : Amount) (old new : Page) (step : Result Unit Finding) → CarriesOut (λ defaults s. command_transition printer defaults s command n) old new (carried_of step) → ActsOnCommand printer command n old new (stepped step)
+pub as_command : (printer : Printer) (command : Command) (n : Amount) (old new : Page) (step : Result Unit Finding) →
+    CarriesOut (λ defaults s. command_transition printer defaults s command n) old new (carried_of step) →
+    ActsOnCommand printer command n old new (stepped step)
 unfolding ActsOnCommand
 as_command printer command n old new (Ok done) h = h
 as_command printer command n old new (Err finding) h = h
 
 -- an item that is such a step
-pub as_item : (printer : Printer) (item : Entry) (old new : Page) (step : Result Unit Finding) → EndsWithStep item → CarriesOut (λ defaults s. transition_of printer defaults s item) old new (carried_of step) → Acts printer item old new (item_stepped step)
+pub as_item : (printer : Printer) (item : Entry) (old new : Page) (step : Result Unit Finding) → EndsWithStep item →
+    CarriesOut (λ defaults s. transition_of printer defaults s item) old new (carried_of step) →
+    Acts printer item old new (item_stepped step)
 unfolding Acts
 as_item printer item old new (Ok done) ends h = (ends, h)
 as_item printer item old new (Err finding) ends h = (ends, h)
 
 -- what is answered of a command is answered of the item that it is
-pub as_valued : (printer : Printer) (command : Command) (n : Number) (old new : Page) (answer : Result CommandAction Finding) → ActsOnCommand printer command (amount n) old new answer → Acts printer (Parameterized command (amount n)) old new (valued n answer)
+pub as_valued : (printer : Printer) (command : Command) (n : Number) (old new : Page) (answer : Result CommandAction Finding) →
+    ActsOnCommand printer command (amount n) old new answer → Acts printer (Parameterized command (amount n)) old new (valued n answer)
 unfolding Acts ActsOnCommand
 as_valued printer command n old new (Ok command_actions.Stepped) h = ((refl, refl), h)
 as_valued printer command n old new (Ok command_actions.Fill) h = (h.0, ap (λ command. Parameterized command (amount n)) h.1)

@@ -3,7 +3,8 @@ use Rattle.std.proofs.Common.{refl}
 use Rattle.pcl_items.specs.declared.pcl.command.Command.{Command}
 use Rattle.pcl_items.specs.declared.pcl.command.Command.TheVariants as commands
 use Rattle.pcl_items.specs.declared.pcl.command.DataCommand.TheVariants.{RasterRow}
-use Rattle.pcl_items.specs.Items.{Entry, Text, CarriageReturn, LineFeed, FormFeed, Reset, HalfLineFeed, Parameterized, EnterFrame, LeaveFrame, Set, Move, WithData, ExitLanguage}
+use Rattle.pcl_items.specs.Items.{Entry, Text, CarriageReturn, LineFeed, FormFeed, Reset, HalfLineFeed, Parameterized, EnterFrame}
+use Rattle.pcl_items.specs.Items.{LeaveFrame, Set, Move, WithData, ExitLanguage}
 use Rattle.pcl_items.specs.Escapes.Value.{Amount}
 use Rattle.device_profile.specs.Printer.{Printer}
 use Rattle.page_env.specs.Settings.{Settings, State}
@@ -13,7 +14,8 @@ use Rattle.page_env.proofs.JobControlFacts.{sides_are_sound, reset_is_sound}
 use Rattle.page_env.proofs.PageControlFacts.{source_is_sound, size_is_sound, orientation_is_sound}
 use Rattle.page_env.proofs.MarginFacts.{top_margin_is_sound, text_length_is_sound, left_margin_is_sound, right_margin_is_sound}
 use Rattle.page_env.proofs.MotionFacts.{return_is_sound, line_feed_is_sound, form_feed_is_sound, half_line_feed_is_sound}
-use Rattle.page_env.proofs.CursorFacts.{move_x_is_sound, move_y_is_sound, move_x_decipoints_is_sound, move_y_decipoints_is_sound, move_columns_is_sound, move_rows_is_sound, stack_is_sound}
+use Rattle.page_env.proofs.CursorFacts.{move_x_is_sound, move_y_is_sound, move_x_decipoints_is_sound, move_y_decipoints_is_sound}
+use Rattle.page_env.proofs.CursorFacts.{move_columns_is_sound, move_rows_is_sound, stack_is_sound}
 use Rattle.page_env.proofs.RectangleFacts.{fill_is_sound}
 use Rattle.page_env.proofs.RasterFacts as rasters
 use Rattle.page_env.proofs.FrameFacts as frames
@@ -22,7 +24,9 @@ use Rattle.page_env.proofs.TextFacts.{byte_is_sound}
 use Rattle.page_env.proofs.Sound.{quiet}
 
 module _ (printer : Printer) (defaults : Settings) where
-  command_is_sound : (command : Command) (n : Amount) (s : State) → IsSoundTransition printer defaults s (command_transition printer defaults s command n) (command_transition printer (plain_settings defaults) (plain_state s) command n)
+  command_is_sound : (command : Command) (n : Amount) (s : State) →
+      IsSoundTransition printer defaults s (command_transition printer defaults s command n)
+      (command_transition printer (plain_settings defaults) (plain_state s) command n)
   command_is_sound commands.Sides n s = sides_are_sound printer defaults s n
   command_is_sound commands.Source n s = source_is_sound printer defaults s n
   command_is_sound commands.PageSize n s = size_is_sound printer defaults s n

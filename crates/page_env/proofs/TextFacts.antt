@@ -18,7 +18,8 @@ use Rattle.page_env.specs.Sound.{plain_state, AreInside, IsSound, IsSoundByte}
 use Rattle.page_env.proofs.Sound.{quiet, either_line, characters_rise, spaces_rise}
 
 -- where four checks find nothing, the last of them does not apply
-last_of_four : (a b c d : Bool) (e f g h : Finding) → first_finding (check a e ∷ check b f ∷ check c g ∷ check (not d) h ∷ []) ≡ None → d ≡ true
+last_of_four : (a b c d : Bool) (e f g h : Finding) → first_finding (check a e ∷ check b f ∷ check c g ∷ check (not d) h ∷ []) ≡ None →
+    d ≡ true
 last_of_four true b c d e f g h none = absurd cc
 last_of_four false true c d e f g h none = absurd cc
 last_of_four false false true d e f g h none = absurd cc
@@ -47,22 +48,30 @@ module _ (printer : Printer) (s : State) where
       g : Geometry
       g = geometry_of printer s
 
-      by_face : (face : Option Face) → ((face : Face) → is_in_order (record (moving s) { after = checks_of printer s code face }) ≡ true) → is_in_order (record (moving s) { after = check true NoFont ∷ [] }) ≡ true → is_in_order (record (moving s) { after = option_map_or (checks_of printer s code) face (check true NoFont ∷ []) }) ≡ true
+      by_face : (face : Option Face) → ((face : Face) → is_in_order (record (moving s) { after = checks_of printer s code face }) ≡ true) →
+          is_in_order (record (moving s) { after = check true NoFont ∷ [] }) ≡ true →
+          is_in_order (record (moving s) { after = option_map_or (checks_of printer s code) face (check true NoFont ∷ []) }) ≡ true
       by_face None some none = none
       by_face (Some face) some none = some face
 
-      insides : (face : Option Face) → first_finding (option_map_or (checks_of printer s code) face (check true NoFont ∷ [])) ≡ None → AreInside g (option_map_or (λ face. Character (glyph_of printer s code face) ∷ []) face [])
+      insides : (face : Option Face) → first_finding (option_map_or (checks_of printer s code) face (check true NoFont ∷ [])) ≡ None →
+          AreInside g (option_map_or (λ face. Character (glyph_of printer s code face) ∷ []) face [])
       insides None none = tt
       insides (Some face) none =
           let left = int_lt s.cursor.x (right_of printer s) in
           let off = int_lt g.logical_width (behind_of printer s) in
           let past = int_lt (right_of printer s) (behind_of printer s) in
-          (last_of_four (not (has_code face.codes code)) (not left && off) (left && past) (is_inside g (glyph_of printer s code face).bounds) NoGlyph OffPage PastRightMargin NotPrintable none, tt)
+          (
+            last_of_four (not (has_code face.codes code)) (not left && off) (left && past)
+                (is_inside g (glyph_of printer s code face).bounds) NoGlyph OffPage PastRightMargin NotPrintable none,
+            tt,
+          )
 
   pub byte_is_sound : (code : ℕ) → IsSound printer s (print_byte printer s code) (print_byte printer (plain_state s) code)
   byte_is_sound code = either_line (code == 32) s _ _ _ _ space_is_sound (character_is_sound code)
 
-  pub transparent_is_sound : (code : ℕ) → IsSound printer s (print_transparent printer s code) (print_transparent printer (plain_state s) code)
+  pub transparent_is_sound : (code : ℕ) →
+      IsSound printer s (print_transparent printer s code) (print_transparent printer (plain_state s) code)
   transparent_is_sound code = either_line (code == 32) s _ _ _ _ transparent_space_is_sound (character_is_sound code)
 
 pub each_byte_is_sound : (printer : Printer) (code : ℕ) → IsSoundByte printer code

@@ -1,5 +1,6 @@
 -- Columns that meet no edge, and the bytes that go in them.
-use Rattle.std.proofs.Common.{◌≡◌, ℕ, zero, suc, ℤ, pos, ◌+◌, ◌*◌, ◌≤◌, Bool, true, false, not, ◌&&◌, ◌||◌, cond, None, Some, refl, sym, subst, arith}
+use Rattle.std.proofs.Common.{◌≡◌, ℕ, zero, suc, ℤ, pos, ◌+◌, ◌*◌, ◌≤◌, Bool, true, false, not, ◌&&◌, ◌||◌, cond, None, Some, refl, sym}
+use Rattle.std.proofs.Common.{subst, arith}
 use Rattle.std.specs.Prelude.{◌+ℤ◌, ◌-ℤ◌, ◌≤ℤ◌, int_lt}
 use Rattle.std.proofs.Math.Nat.{suc-mul}
 use Rattle.std.proofs.lemmas.Int.{ints}
@@ -48,7 +49,9 @@ module _ (m : TextMeasure) where
   column_on place = record place { x = place.x +ℤ pos m.look.column }
 
   -- a box that is inside, and the one so far to the right of it that ends before the printable area does
-  box_inside : (p : TextPlace) → lies_in m.bounds.area (box_at m.look p) ≡ true → pos 0 ≤ℤ m.look.advance → (((p.x +ℤ pos m.look.column) +ℤ m.look.origin.x) +ℤ m.look.advance) ≤ℤ m.bounds.area.right → lies_in m.bounds.area (box_at m.look (column_on p)) ≡ true
+  box_inside : (p : TextPlace) → lies_in m.bounds.area (box_at m.look p) ≡ true → pos 0 ≤ℤ m.look.advance →
+      (((p.x +ℤ pos m.look.column) +ℤ m.look.origin.x) +ℤ m.look.advance) ≤ℤ m.bounds.area.right →
+      lies_in m.bounds.area (box_at m.look (column_on p)) ≡ true
   box_inside p h ahead ends =
       let area = m.bounds.area in
       let here = box_at m.look p in
@@ -60,10 +63,15 @@ module _ (m : TextMeasure) where
       let right = is_between-of area.left area.right next.right (omega (arith, ints, low, ahead)) (omega (arith, ints, ends)) in
       λ i. (left (i) && right (i)) && parts.1 i
 
-  ends_at : (x : ℤ) → (x +ℤ pos m.look.column) ≤ℤ edge_from m x → first_finding (edge_checks m.bounds.right m.bounds.width x (x +ℤ pos m.look.column)) ≡ None
-  ends_at x h = by (int_lt x m.bounds.right) (int_lt m.bounds.width (x +ℤ pos m.look.column)) (int_lt m.bounds.right (x +ℤ pos m.look.column)) refl refl h
+  ends_at : (x : ℤ) → (x +ℤ pos m.look.column) ≤ℤ edge_from m x →
+      first_finding (edge_checks m.bounds.right m.bounds.width x (x +ℤ pos m.look.column)) ≡ None
+  ends_at x h =
+      by (int_lt x m.bounds.right) (int_lt m.bounds.width (x +ℤ pos m.look.column))
+      (int_lt m.bounds.right (x +ℤ pos m.look.column)) refl refl h
     where
-      by : (left off past : Bool) → int_lt m.bounds.width (x +ℤ pos m.look.column) ≡ off → int_lt m.bounds.right (x +ℤ pos m.look.column) ≡ past → (x +ℤ pos m.look.column) ≤ℤ cond left m.bounds.right m.bounds.width → cond (not left && off) (Some OffPage) (cond (left && past) (Some PastRightMargin) None) ≡ None
+      by : (left off past : Bool) → int_lt m.bounds.width (x +ℤ pos m.look.column) ≡ off →
+          int_lt m.bounds.right (x +ℤ pos m.look.column) ≡ past → (x +ℤ pos m.look.column) ≤ℤ cond left m.bounds.right m.bounds.width →
+          cond (not left && off) (Some OffPage) (cond (left && past) (Some PastRightMargin) None) ≡ None
       by true off true e f h = absurd (omega (arith, ints))
       by true off false e f h = refl
       by false true past e f h = absurd (omega (arith, ints))
@@ -74,21 +82,33 @@ module _ (m : TextMeasure) where
     within_edge x here h = omega (arith, ints, here, h, edge_small)
 
     -- what ends at an edge has the same edge one column further on
-    edge_stays : (x : ℤ) (j : ℕ) → edge_from m x ≡ edge → (x +ℤ pos (suc (suc j) * m.look.column)) ≤ℤ edge → edge_from m (x +ℤ pos m.look.column) ≡ edge
+    edge_stays : (x : ℤ) (j : ℕ) → edge_from m x ≡ edge → (x +ℤ pos (suc (suc j) * m.look.column)) ≤ℤ edge →
+        edge_from m (x +ℤ pos m.look.column) ≡ edge
     edge_stays x j is h =
         let c = m.look.column in
         let two = suc-mul (suc j) c in
         let one = suc-mul j c in
         cond_both (int_lt x m.bounds.right) m.bounds.right m.bounds.width (λ e. e ≡ edge → edge_from m (x +ℤ pos c) ≡ edge)
-        (λ t g. cond_both (int_lt (x +ℤ pos c) m.bounds.right) m.bounds.right m.bounds.width (λ e. e ≡ edge) (λ u. g) (λ u. absurd (omega (arith, ints, t, u, g, h, two, one))))
-        (λ t g. cond_both (int_lt (x +ℤ pos c) m.bounds.right) m.bounds.right m.bounds.width (λ e. e ≡ edge) (λ u. absurd (omega (arith, ints, t, u))) (λ u. g))
+        (λ t g. cond_both (int_lt (x +ℤ pos c) m.bounds.right) m.bounds.right m.bounds.width (λ e. e ≡ edge) (λ u. g)
+        (λ u. absurd (omega (arith, ints, t, u, g, h, two, one))))
+        (λ t g. cond_both (int_lt (x +ℤ pos c) m.bounds.right) m.bounds.right m.bounds.width (λ e. e ≡ edge)
+        (λ u. absurd (omega (arith, ints, t, u))) (λ u. g))
         is
 
-    one_column : (p : TextPlace) → IsInRange p.x → edge_from m p.x ≡ edge → (p.x +ℤ pos m.look.column) ≤ℤ edge → lies_in m.bounds.area (box_at m.look p) ≡ true → HasColumn m p
-    one_column p here is ends inside = record { within = within_edge p.x here ends; ends = ends_at p.x (subst (λ e. (p.x +ℤ pos m.look.column) ≤ℤ e) (sym is) ends); inside = inside }
+    one_column : (p : TextPlace) → IsInRange p.x → edge_from m p.x ≡ edge → (p.x +ℤ pos m.look.column) ≤ℤ edge →
+        lies_in m.bounds.area (box_at m.look p) ≡ true → HasColumn m p
+    one_column p here is ends inside = record {
+      within = within_edge p.x here ends;
+      ends = ends_at p.x (subst (λ e. (p.x +ℤ pos m.look.column) ≤ℤ e) (sym is) ends);
+      inside = inside;
+    }
 
     -- as many as end at the edge, and whose last character ends in the printable area
-    pub columns : (p : TextPlace) (n : ℕ) → IsInRange p.x → edge_from m p.x ≡ edge → lies_in m.bounds.area (box_at m.look p) ≡ true → (1 ≤ n → ((p.x +ℤ pos (n * m.look.column)) ≤ℤ edge) × ((p.x +ℤ pos (n * m.look.column)) ≤ℤ (((m.bounds.area.right -ℤ m.look.origin.x) -ℤ m.look.advance) +ℤ pos m.look.column))) → HaveColumns m p n
+    pub columns : (p : TextPlace) (n : ℕ) → IsInRange p.x → edge_from m p.x ≡ edge → lies_in m.bounds.area (box_at m.look p) ≡ true →
+        (1 ≤ n →
+        ((p.x +ℤ pos (n * m.look.column)) ≤ℤ edge)
+        × ((p.x +ℤ pos (n * m.look.column)) ≤ℤ (((m.bounds.area.right -ℤ m.look.origin.x) -ℤ m.look.advance) +ℤ pos m.look.column))) →
+        HaveColumns m p n
     columns p zero here is inside ends = tt
     columns p (suc zero) here is inside ends =
         let e = (ends (omega arith)).0 in
@@ -103,10 +123,15 @@ module _ (m : TextMeasure) where
         let first : (p.x +ℤ pos c) ≤ℤ edge = omega (arith, ints, e, two) in
         let next = one_column p here is first inside in
         let further = box_inside p inside ahead (omega (arith, ints, f, two, one)) in
-        (next, columns (column_on p) (suc j) next.within (edge_stays p.x j is e) further (λ some. (omega (arith, ints, e, two), omega (arith, ints, f, two))))
+        (
+          next,
+          columns (column_on p) (suc j) next.within (edge_stays p.x j is e) further
+              (λ some. (omega (arith, ints, e, two), omega (arith, ints, f, two))),
+        )
 
 -- one column more than end up to a place begin there
-pub begin_up_to : (x last : ℤ) (c r : ℕ) → x ≤ℤ last → ((k : ℕ) → 1 ≤ k → k ≤ r → (x +ℤ pos (k * c)) ≤ℤ last) → (n : ℕ) → 1 ≤ n → n ≤ r + 1 → (x +ℤ pos (n * c)) ≤ℤ (last +ℤ pos c)
+pub begin_up_to : (x last : ℤ) (c r : ℕ) → x ≤ℤ last → ((k : ℕ) → 1 ≤ k → k ≤ r → (x +ℤ pos (k * c)) ≤ℤ last) → (n : ℕ) → 1 ≤ n →
+    n ≤ r + 1 → (x +ℤ pos (n * c)) ≤ℤ (last +ℤ pos c)
 begin_up_to x last c r here h zero some less = absurd (omega (arith, some))
 begin_up_to x last c r here h (suc zero) some less = omega (arith, ints, here)
 begin_up_to x last c r here h (suc (suc k)) some less =
@@ -115,7 +140,8 @@ begin_up_to x last c r here h (suc (suc k)) some less =
     omega (arith, ints, one, before)
 
 -- a character that is inside begins no later than the last that is
-pub begins_inside : (m : TextMeasure) (p : TextPlace) → lies_in m.bounds.area (box_at m.look p) ≡ true → p.x ≤ℤ ((m.bounds.area.right -ℤ m.look.origin.x) -ℤ m.look.advance)
+pub begins_inside : (m : TextMeasure) (p : TextPlace) → lies_in m.bounds.area (box_at m.look p) ≡ true →
+    p.x ≤ℤ ((m.bounds.area.right -ℤ m.look.origin.x) -ℤ m.look.advance)
 begins_inside m p h =
     let area = m.bounds.area in
     let here = box_at m.look p in

@@ -22,7 +22,8 @@ module _ (act : State → State) (keeps : (s : State) → (act s).settings ≡ s
   same_settings : (panel : Panel) → settings_at panel old.env ≡ settings_at panel mid.env
   same_settings panel = sym (keeps (state_at panel old)) ∙ ap (λ s. s.settings) (moved panel)
 
-  pub carries_after : (transition : Settings → State → Transition) (new : Page) (r : Result Carried Finding) → CarriesOut transition mid new r → CarriesOut (λ defaults s. transition defaults (act s)) old new r
+  pub carries_after : (transition : Settings → State → Transition) (new : Page) (r : Result Carried Finding) →
+      CarriesOut transition mid new r → CarriesOut (λ defaults s. transition defaults (act s)) old new r
   unfolding CarriesOut
   carries_after transition new r h = λ panel defaults.
       ap (λ x. effect_of x (transition defaults (act (state_at panel old)))) (same_settings panel)
@@ -67,7 +68,8 @@ module _ (old : Page) (transition : LineTermination → State → Transition) wh
       ∙ h panel defaults
 
   -- where the panel has it, the finding
-  pub unset_behind : (field : Field) (new : Page) (r : Result Carried Finding) → Read (Err field) → IsErrAnd r (λ finding. finding ≡ Unset field)
+  pub unset_behind : (field : Field) (new : Page) (r : Result Carried Finding) → Read (Err field) →
+      IsErrAnd r (λ finding. finding ≡ Unset field)
       → CarriesOut (λ defaults s. Behind line_termination_reads (transition (line_termination s) s)) old new r
   unfolding CarriesOut
   unset_behind field new (Err finding) read is = λ panel defaults.

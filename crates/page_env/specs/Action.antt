@@ -17,7 +17,8 @@ use Rattle.page_env.specs.declared.table.CommandAction.TheVariants as command_ac
 use Rattle.page_env.specs.declared.table.PageCommand.{PageCommand}
 use Rattle.page_env.specs.declared.table.PageCommand.TheVariants.{Sides, Source, Size, Orientation, MacroControl}
 use Rattle.page_env.specs.declared.table.PageItem.{PageItem}
-use Rattle.page_env.specs.declared.table.PageItem.TheVariants.{CarriageReturn, LineFeed, HalfLineFeed, FormFeed, Reset, ExitLanguage, Command as PageCommandItem}
+use Rattle.page_env.specs.declared.table.PageItem.TheVariants.{CarriageReturn, LineFeed, HalfLineFeed, FormFeed, Reset}
+use Rattle.page_env.specs.declared.table.PageItem.TheVariants.{ExitLanguage, Command as PageCommandItem}
 use Rattle.page_env.specs.Answers.{CarriesOut}
 use Rattle.page_env.specs.Table.{command_transition, transition_of, printed_bytes, coordinates_of}
 
@@ -79,7 +80,8 @@ EndsWithStep item = (printed_bytes item ≡ []) × (coordinates_of item ≡ None
 unfoldable pub Acts : Printer → Entry → Page → Page → Result Action Finding → Type 0
 Acts printer item old new (Ok actions.Stepped) =
     EndsWithStep item × CarriesOut (λ defaults s. transition_of printer defaults s item) old new (Ok carried.Stepped)
-Acts printer item old new (Ok (actions.Fill n)) = (new ≡ old) × (item ≡ entries.Parameterized commands.FillRectangle (amount n))
+Acts printer item old new (Ok (actions.Fill n)) =
+    (new ≡ old) × (item ≡ entries.Parameterized commands.FillRectangle (amount n))
 Acts printer item old new (Ok (actions.Move motion to)) = (new ≡ old) × (item ≡ entries.Move motion (pair to))
 Acts printer item old new (Ok (actions.Page this)) = (new ≡ old) × (item ≡ page_view this)
 Acts printer item old new (Err finding) =

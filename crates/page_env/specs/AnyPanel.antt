@@ -1,12 +1,13 @@
--- Where the panel has other values in fields that the job has left unset, items come to the same: one that reads such a field finds it
--- unset, whatever the panel has.
+-- Where the panel has other values in fields that the job has left unset, items come to the same:
+-- one that reads such a field finds it unset, whatever the panel has.
 use Rattle.std.specs.Prelude.{◌≡◌, ℕ, ℤ, Bool, cond, Option}
 use Rattle.device_profile.specs.declared.panel.Panel.{Panel}
 use Rattle.device_profile.specs.Printer.{Printer}
 use Rattle.pcl_items.specs.Items.{Entry}
 use Rattle.page_env.specs.declared.macros.Control.{Control}
 use Rattle.page_env.specs.Settings.{Flags, Settings, State}
-use Rattle.page_env.specs.Effect.{TableLine, Step, Effect, Goes, GoesThenCloses, GoesThenEnds, Controlling, Fails, effect_of}
+use Rattle.page_env.specs.Effect.{TableLine, Step, Effect, Goes, GoesThenCloses, GoesThenEnds, Controlling, Fails}
+use Rattle.page_env.specs.Effect.{effect_of}
 use Rattle.page_env.specs.Macros.{control_line}
 use Rattle.page_env.specs.Pens.{move_pen}
 use Rattle.page_env.specs.Table.{transition_of}
@@ -32,11 +33,13 @@ settings_with panel settings = record settings { fields = fields_with panel sett
 abbrev pub state_with : Panel → State → State
 state_with panel s = record s { settings = settings_with panel s.settings }
 
--- two effects, the second at that panel: they find the same, mark the same, and lead to the same states but for its values
+-- two effects, the second at that panel:
+-- they find the same, mark the same, and lead to the same states but for its values
 abbrev pub GoesAlike : Panel → Effect → Effect → Type 0
 GoesAlike panel (Goes s marks) (Goes s' marks') = (s' ≡ state_with panel s) × (marks' ≡ marks)
 GoesAlike panel (GoesThenCloses s sets_paper change) (GoesThenCloses s' sets_paper' change') =
-    (s' ≡ state_with panel s) × (sets_paper' ≡ sets_paper) × ((t : State) → change' (state_with panel t) ≡ state_with panel (change t))
+    (s' ≡ state_with panel s) × (sets_paper' ≡ sets_paper)
+    × ((t : State) → change' (state_with panel t) ≡ state_with panel (change t))
 GoesAlike panel (GoesThenEnds s) (GoesThenEnds s') = s' ≡ state_with panel s
 GoesAlike panel (Controlling s n) (Controlling s' n') = (s' ≡ state_with panel s) × (n' ≡ n)
 GoesAlike panel (Fails finding) (Fails finding') = finding' ≡ finding
@@ -50,7 +53,8 @@ abbrev pub IsAlikeItem : Printer → Panel → Settings → Entry → Type 0
 IsAlikeItem printer panel defaults item =
     (s : State) →
     GoesAlike panel (effect_of s.settings (transition_of printer defaults s item))
-    (effect_of (settings_with panel s.settings) (transition_of printer (settings_with panel defaults) (state_with panel s) item))
+    (effect_of (settings_with panel s.settings)
+    (transition_of printer (settings_with panel defaults) (state_with panel s) item))
 
 -- so does the own step of each macro control
 abbrev pub IsAlikeControl : Panel → Type 0

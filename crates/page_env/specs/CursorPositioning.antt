@@ -1,5 +1,6 @@
 -- Cursor positioning and the cursor stack (`*p#X`, `*p#Y`, `&a#H`, `&a#V`, `&a#C`, `&a#R`, `&f#S`).
-use Rattle.std.specs.Prelude.{ℕ, ℤ, pos, ◌==◌, nat_lt, not, cond, length, Option, Some, is_none, unwrap_or, List, [], ◌∷◌, ◌++◌}
+use Rattle.std.specs.Prelude.{ℕ, ℤ, pos, ◌==◌, nat_lt, not, cond, length, Option, Some, is_none, unwrap_or, List, []}
+use Rattle.std.specs.Prelude.{◌∷◌, ◌++◌}
 use Rattle.pcl_items.specs.declared.number.Sign.{Sign}
 use Rattle.pcl_items.specs.Escapes.Value.{Amount}
 use Rattle.device_profile.specs.declared.field.Field.{Field}
@@ -9,20 +10,25 @@ use Rattle.page_env.specs.declared.finding.Finding.TheVariants.{BadValue, OffPag
 use Rattle.page_env.specs.declared.cursor.Cursor.{Cursor}
 use Rattle.page_env.specs.Settings.{State}
 use Rattle.page_env.specs.Numbers.{is_absent, is_whole_between, whole_of}
-use Rattle.page_env.specs.Places.{unit_ticks, decipoint_ticks, times, geometry_of, column_width, column_reads, line_of, home_of, vertical_place, vertical_reads, page_reads, page_and_line_reads, target_of, is_between}
+use Rattle.page_env.specs.Places.{unit_ticks, decipoint_ticks, times, geometry_of, column_width, column_reads, line_of}
+use Rattle.page_env.specs.Places.{home_of, vertical_place, vertical_reads, page_reads, page_and_line_reads, target_of}
+use Rattle.page_env.specs.Places.{is_between}
 use Rattle.page_env.specs.Fonts.{no_column}
 use Rattle.page_env.specs.Effect.{Check, check, TableLine}
 
 -- ---- moves
 
--- a horizontal move by so many ticks, where these are whole, from the left edge of the logical page, behind these checks
+-- a horizontal move by so many ticks, where these are whole, from the left edge of the logical page, behind
+-- these checks
 abbrev pub move_across : Printer → State → List Field → List Check → Sign → Option ℕ → TableLine
 move_across printer s reads checks sign by =
     let x : ℤ = target_of sign (pos 0) s.cursor.x (pos (unwrap_or by 0)) in
     record {
       before = [];
       reads = reads;
-      after = checks ++ check (is_none by) Inexact ∷ check (not (is_between (pos 0) (geometry_of printer s).logical_width x)) OffPage ∷ [];
+      after =
+          checks ++ check (is_none by) Inexact
+          ∷ check (not (is_between (pos 0) (geometry_of printer s).logical_width x)) OffPage ∷ [];
       state = record s { cursor = record s.cursor { x = x } };
       marks = [];
     }
@@ -34,7 +40,9 @@ move_down printer s reads sign zero by =
     record {
       before = [];
       reads = reads;
-      after = check (is_none by) Inexact ∷ check (not (is_between (pos 0) (geometry_of printer s).logical_height y)) OffPage ∷ [];
+      after =
+          check (is_none by) Inexact
+          ∷ check (not (is_between (pos 0) (geometry_of printer s).logical_height y)) OffPage ∷ [];
       state = record s { cursor = record s.cursor { y = Some y } };
       marks = [];
     }
@@ -45,7 +53,8 @@ relative_reads sign y = Size ∷ Orientation ∷ cond (is_absent sign) [] (verti
 
 -- a vertical move from the top margin
 abbrev pub move_from_top : Printer → State → Sign → ℕ → TableLine
-move_from_top printer s sign by = move_down printer s (relative_reads sign s.cursor.y) sign s.settings.job.top_margin (Some by)
+move_from_top printer s sign by =
+    move_down printer s (relative_reads sign s.cursor.y) sign s.settings.job.top_margin (Some by)
 
 -- `*p#X` and `*p#Y`: PCL units
 abbrev pub move_x : Printer → State → Amount → TableLine
@@ -63,7 +72,9 @@ move_y_decipoints printer s n = move_from_top printer s n.sign (decipoint_ticks 
 
 -- `&a#C`: columns
 abbrev pub move_columns : Printer → State → Amount → TableLine
-move_columns printer s n = move_across printer s (Size ∷ Orientation ∷ column_reads s.settings.job) (no_column printer s ∷ []) n.sign (times (column_width printer s) n.ten_thousandths)
+move_columns printer s n =
+    move_across printer s (Size ∷ Orientation ∷ column_reads s.settings.job) (no_column printer s ∷ []) n.sign
+    (times (column_width printer s) n.ten_thousandths)
 
 -- `&a#R`: rows, the first of which is the first line
 abbrev pub move_rows : Printer → State → Amount → TableLine

@@ -17,7 +17,15 @@ are_set parts =
 
 -- a request that no face answers: of the spacing 1
 abbrev pub no_request : FontRequest
-no_request = record { symbol_set = record { number = 0; letter = 0 }; spacing = 1; pitch = 0; height = 0; style = 0; weight = pos 0; typeface = 0 }
+no_request = record {
+  symbol_set = record { number = 0; letter = 0 };
+  spacing = 1;
+  pitch = 0;
+  height = 0;
+  style = 0;
+  weight = pos 0;
+  typeface = 0;
+}
 
 -- what the face with this id answers
 abbrev pub request_at : List Face → ℕ → FontRequest

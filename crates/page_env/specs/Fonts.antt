@@ -1,4 +1,5 @@
--- Font selection by characteristic: each command sets one part of the request (`ESC (`, `(s#P`, `(s#H`, `(s#V`, `(s#S`, `(s#B`, `(s#T`, `(3@`).
+-- Font selection by characteristic:
+-- each command sets one part of the request (`ESC (`, `(s#P`, `(s#H`, `(s#V`, `(s#S`, `(s#B`, `(s#T`, `(3@`).
 use Rattle.std.specs.Prelude.{ℕ, not, Some, None, is_none, [], ◌∷◌}
 use Rattle.pcl_items.specs.Escapes.Value.{Amount}
 use Rattle.device_profile.specs.Printer.{Printer}
@@ -28,11 +29,15 @@ set_part s n parts = setting (check (is_negative n) BadValue ∷ []) (with_font 
 
 -- `ESC (` symbol set, by number and letter
 abbrev pub set_symbol_set : State → Amount → ℕ → TableLine
-set_symbol_set s n letter = set_part s n (record s.settings.job.font { symbol_set = Some (record { number = n.ten_thousandths; letter = letter }) })
+set_symbol_set s n letter = set_part s n (record s.settings.job.font {
+  symbol_set = Some (record { number = n.ten_thousandths; letter = letter })
+})
 
 -- `(s#P` primary spacing: 0 is fixed
 abbrev pub set_spacing : State → Amount → TableLine
-set_spacing s n = setting (check (not (is_whole_between 0 0 n)) BadValue ∷ []) (with_font s (record s.settings.job.font { spacing = Some n.ten_thousandths }))
+set_spacing s n =
+    setting (check (not (is_whole_between 0 0 n)) BadValue ∷ [])
+    (with_font s (record s.settings.job.font { spacing = Some n.ten_thousandths }))
 
 -- `(s#H` primary pitch, in characters an inch
 abbrev pub set_pitch : State → Amount → TableLine

@@ -41,7 +41,8 @@ framed job frame = record job { frame = frame; pen = record job.pen { place = or
 abbrev pub with_frame : State → PictureFrame → State
 with_frame s frame = with_job s (framed s.settings.job frame)
 
--- `*c0T` picture frame anchor point: the upper left corner of the frame is at the cursor, a home of which becomes a number
+-- `*c0T` picture frame anchor point:
+-- the upper left corner of the frame is at the cursor, a home of which becomes a number
 abbrev pub set_frame_anchor : State → Amount → TableLine
 set_frame_anchor s n =
     let y = vertical_place s in
@@ -49,19 +50,23 @@ set_frame_anchor s n =
       before = check (not (is_whole_between 0 0 n)) BadValue ∷ [];
       reads = vertical_reads s.cursor.y;
       after = [];
-      state = record (with_frame s (record s.settings.job.frame { left = s.cursor.x; top = y })) { cursor = record s.cursor { y = Some y } };
+      state = record (with_frame s (record s.settings.job.frame { left = s.cursor.x; top = y })) {
+        cursor = record s.cursor { y = Some y }
+      };
       marks = [];
     }
 
 -- `*c#X` picture frame horizontal size in decipoints
 abbrev pub set_frame_width : State → Amount → TableLine
 set_frame_width s n =
-    setting (check (not (is_positive n)) BadValue ∷ []) (with_frame s (record s.settings.job.frame { width = Some (pos (decipoint_ticks n)) }))
+    setting (check (not (is_positive n)) BadValue ∷ [])
+    (with_frame s (record s.settings.job.frame { width = Some (pos (decipoint_ticks n)) }))
 
 -- `*c#Y` picture frame vertical size in decipoints
 abbrev pub set_frame_height : State → Amount → TableLine
 set_frame_height s n =
-    setting (check (not (is_positive n)) BadValue ∷ []) (with_frame s (record s.settings.job.frame { height = Some (pos (decipoint_ticks n)) }))
+    setting (check (not (is_positive n)) BadValue ∷ [])
+    (with_frame s (record s.settings.job.frame { height = Some (pos (decipoint_ticks n)) }))
 
 -- ---- places in a frame
 
@@ -100,7 +105,8 @@ enter_at_cursor printer s =
       before = [];
       reads = Size ∷ Orientation ∷ vertical_reads s.cursor.y;
       after = [];
-      state = record (with_job s (record job { pen = record job.pen { place = place_in (frame_of printer s) s.cursor.x y } })) {
+      state = record
+      (with_job s (record job { pen = record job.pen { place = place_in (frame_of printer s) s.cursor.x y } })) {
         cursor = record s.cursor { y = Some y };
         in_frame = true;
       };

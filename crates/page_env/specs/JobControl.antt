@@ -22,7 +22,8 @@ set_copies s n = setting (check (not (is_whole_between 1 32_767 n)) BadValue ∷
 -- `&l#S` simplex or duplex: 1 and 2 where the device prints on both sides
 abbrev pub sides_checks : Printer → Amount → List Check
 sides_checks printer n =
-    check (not (is_whole_between 0 2 n)) BadValue ∷ check (nat_lt 0 (whole_of n) && not printer.has_duplex) NotOnDevice ∷ []
+    check (not (is_whole_between 0 2 n)) BadValue
+    ∷ check (nat_lt 0 (whole_of n) && not printer.has_duplex) NotOnDevice ∷ []
 
 abbrev pub set_sides : State → Amount → State
 set_sides s n = record s {

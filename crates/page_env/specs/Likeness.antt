@@ -14,8 +14,8 @@ use Rattle.page_env.specs.Pens.{move_pen}
 use Rattle.page_env.specs.Table.{transition_of}
 use Rattle.page_env.specs.Text.{print_transparent}
 
--- Duplex and the paper source ask the device, and both printers answer the same. A macro control asks what macros may take, and is
--- never taken for alike.
+-- Duplex and the paper source ask the device, and both printers answer the same.
+-- A macro control asks what macros may take, and is never taken for alike.
 abbrev pub command_asks_alike : Printer → Printer → Command → Amount → Bool
 command_asks_alike p q Sides n = (whole_of n == 0) || beq p.has_duplex q.has_duplex
 command_asks_alike p q Source n = beq (has_tray p (whole_of n)) (has_tray q (whole_of n))
@@ -39,18 +39,20 @@ ClosesWithout (Ends line) = HasNoOverlay line.state
 ClosesWithout (Behind reads transition) = ClosesWithout transition
 ClosesWithout (Controls t n) = ⊥
 
--- An item of which two printers ask the same goes the same way on both; and none that runs no macro enables an overlay before it
--- closes the page.
+-- An item of which two printers ask the same goes the same way on both;
+-- and none that runs no macro enables an overlay before it closes the page.
 pub record GoesOnBoth (p q : Printer) (defaults : Settings) (item : Entry) : Type 0 where
   pub same : (s : State) → transition_of q defaults s item ≡ transition_of p defaults s item
   pub bare : (s : State) → HasNoOverlay s → ClosesWithout (transition_of p defaults s item)
 
 abbrev pub GoesOnLike : Entry → Type 0
-GoesOnLike item = (p q : Printer) (defaults : Settings) → IsLike p q → asks_alike p q item ≡ true → GoesOnBoth p q defaults item
+GoesOnLike item =
+    (p q : Printer) (defaults : Settings) → IsLike p q → asks_alike p q item ≡ true → GoesOnBoth p q defaults item
 
 -- so does each byte of transparent print data
 abbrev pub ByteGoesOnLike : ℕ → Type 0
-ByteGoesOnLike code = (p q : Printer) → IsLike p q → (s : State) → print_transparent q s code ≡ print_transparent p s code
+ByteGoesOnLike code =
+    (p q : Printer) → IsLike p q → (s : State) → print_transparent q s code ≡ print_transparent p s code
 
 -- so does each move of the pen
 abbrev pub MoveGoesOnLike : ℤ × ℤ → Type 0

@@ -4,7 +4,8 @@ use Rattle.std.specs.Map.{lookup}
 use Rattle.pcl_items.specs.Escapes.Value.{Amount}
 use Rattle.page_env.specs.declared.finding.Finding.TheVariants.{BadValue, NoMacro, InMacro, ManyItems}
 use Rattle.page_env.specs.declared.macros.Control.{Control}
-use Rattle.page_env.specs.declared.macros.Control.TheVariants.{Begin, End, Execute, Call, EnableOverlay, DisableOverlay, DeleteAll, Delete, MakeTemporary}
+use Rattle.page_env.specs.declared.macros.Control.TheVariants.{Begin, End, Execute, Call, EnableOverlay, DisableOverlay}
+use Rattle.page_env.specs.declared.macros.Control.TheVariants.{DeleteAll, Delete, MakeTemporary}
 use Rattle.page_env.specs.declared.page.JobSettings.{JobSettings}
 use Rattle.page_env.specs.Settings.{Settings, State, home_cursor, with_job}
 use Rattle.page_env.specs.Numbers.{is_whole_between, whole_of}
@@ -13,20 +14,22 @@ use Rattle.page_env.specs.Effect.{Check, check, TableLine, setting}
 -- `&f#Y` macro id
 abbrev pub set_macro_id : State → Amount → TableLine
 set_macro_id s n =
-    setting (check (not (is_whole_between 0 32_767 n)) BadValue ∷ []) (with_job s (record s.settings.job { macro_id = whole_of n }))
+    setting (check (not (is_whole_between 0 32_767 n)) BadValue ∷ [])
+    (with_job s (record s.settings.job { macro_id = whole_of n }))
 
 -- the controls by their values; every macro is temporary, so 6 (all) and 7 (all temporary ones) delete the same
 abbrev pub controls : List (ℕ × Control)
 controls =
-    (0, Begin) ∷ (1, End) ∷ (2, Execute) ∷ (3, Call) ∷ (4, EnableOverlay) ∷ (5, DisableOverlay) ∷ (6, DeleteAll) ∷ (7, DeleteAll)
+    (0, Begin) ∷ (1, End) ∷ (2, Execute) ∷ (3, Call) ∷ (4, EnableOverlay) ∷ (5, DisableOverlay) ∷ (6, DeleteAll)
+    ∷ (7, DeleteAll)
     ∷ (8, Delete) ∷ (9, MakeTemporary) ∷ []
 
 -- `&f#X` macro control
 abbrev pub control_of : Amount → Option Control
 control_of n = cond (is_whole_between 0 9 n) (lookup (λ value. value == whole_of n) controls) None
 
--- What a control checks, where the macro of the id in force is known or not, and in a macro or not. No definition is open, so
--- there is none to end.
+-- What a control checks, where the macro of the id in force is known or not, and in a macro or not.
+-- No definition is open, so there is none to end.
 abbrev pub control_checks : (known in_macro : Bool) → Option Control → List Check
 control_checks known in_macro None = check true BadValue ∷ []
 control_checks known in_macro (Some Begin) = check in_macro InMacro ∷ []
@@ -65,8 +68,8 @@ controlled control s = with_job s (record s.settings.job { overlay = overlay_aft
 abbrev pub control_line : (known in_macro : Bool) → Option Control → State → TableLine
 control_line known in_macro control s = setting (control_checks known in_macro control) (controlled control s)
 
--- An overlay begins with the user defaults, but for the page's five values, with the cursor at the left edge and at home, an
--- empty stack, the page marked or not as it is, no raster started and outside any frame.
+-- An overlay begins with the user defaults, but for the page's five values, with the cursor at the left edge and at
+-- home, an empty stack, the page marked or not as it is, no raster started and outside any frame.
 abbrev pub overlay_state : Settings → State → State
 overlay_state defaults s = record {
   settings = record defaults {

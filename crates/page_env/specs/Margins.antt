@@ -1,4 +1,5 @@
--- Margins: top margin, text length, perforation skip, left and right margin, and their clearing (`&l#E`, `&l#F`, `&l#L`, `&a#L`, `&a#M`, `ESC 9`).
+-- Margins: top margin, text length, perforation skip, left and right margin, and their clearing (`&l#E`, `&l#F`,
+-- `&l#L`, `&a#L`, `&a#M`, `ESC 9`).
 use Rattle.std.specs.Prelude.{ℕ, ℤ, pos, ◌+◌, ◌*◌, ◌==◌, ◌||◌, not, cond, Bool, ◌+ℤ◌, int_lt, Some, None, List, [], ◌∷◌}
 use Rattle.pcl_items.specs.Escapes.Value.{Amount}
 use Rattle.device_profile.specs.declared.field.Field.TheVariants.{Size, Orientation}

@@ -1,5 +1,7 @@
--- Motion and line ends: VMI, line spacing, HMI, line termination, and the control codes CR, LF, FF and `ESC =` (`&l#C`, `&l#D`, `&k#H`, `&k#G`).
-use Rattle.std.specs.Prelude.{ℕ, ℤ, pos, ◌/◌, ◌==◌, ◌&&◌, ◌||◌, not, cond, false, Bool, ◌+ℤ◌, int_lt, Some, None, List, [], ◌∷◌}
+-- Motion and line ends: VMI, line spacing, HMI, line termination, and the control codes CR, LF, FF and `ESC =` (`&l#C`,
+-- `&l#D`, `&k#H`, `&k#G`).
+use Rattle.std.specs.Prelude.{ℕ, ℤ, pos, ◌/◌, ◌==◌, ◌&&◌, ◌||◌, not, cond, false, Bool, ◌+ℤ◌, int_lt, Some, None, List}
+use Rattle.std.specs.Prelude.{[], ◌∷◌}
 use Rattle.std.specs.List.{list_any}
 use Rattle.pcl_items.specs.Escapes.Value.{Amount}
 use Rattle.device_profile.specs.Printer.{Printer}
@@ -40,7 +42,8 @@ set_line_spacing s n =
 -- `&k#H` horizontal motion index, from 0 to 840 times 1/120 inch
 abbrev pub set_hmi : State → Amount → TableLine
 set_hmi s n =
-    setting (check (not (is_up_to 8_400_000 n)) BadValue ∷ []) (with_job s (record s.settings.job { hmi = Some n.ten_thousandths }))
+    setting (check (not (is_up_to 8_400_000 n)) BadValue ∷ [])
+    (with_job s (record s.settings.job { hmi = Some n.ten_thousandths }))
 
 -- ---- feeds
 
@@ -74,14 +77,15 @@ feed_down printer s y = record {
 -- a feed: past the bottom margin the page is closed and the cursor goes home, where the perforation is skipped
 abbrev pub feed_by : Printer → State → Feed → Transition
 feed_by printer s by =
-    cond (is_past_bottom printer s (fed_to s by)) (Closes (reading s page_and_line_reads) false at_home) (Step (feed_down printer s (fed_to s by)))
+    cond (is_past_bottom printer s (fed_to s by)) (Closes (reading s page_and_line_reads) false at_home)
+    (Step (feed_down printer s (fed_to s by)))
 
 -- `ESC =`
 abbrev pub half_line_feed : Printer → State → Transition
 half_line_feed printer s = feed_by printer s HalfLine
 
--- ---- line termination: CR, LF and FF read it as a step of their own; a return finds nothing, so what comes with it goes on from
--- where it led
+-- ---- line termination: CR, LF and FF read it as a step of their own;
+-- a return finds nothing, so what comes with it goes on from where it led
 
 -- `&k#G` line termination
 abbrev pub set_line_termination : State → Amount → TableLine
@@ -94,7 +98,8 @@ set_line_termination s n = setting (check (not (is_whole_between 0 3 n)) BadValu
 
 -- 1 and 3 feed a line at each CR, 2 and 3 return at each LF and FF
 abbrev pub termination_of : ℕ → LineTermination
-termination_of value = record { feeds_at_return = (value == 1) || (value == 3); returns_at_feed = (value == 2) || (value == 3) }
+termination_of value =
+    record { feeds_at_return = (value == 1) || (value == 3); returns_at_feed = (value == 2) || (value == 3) }
 
 abbrev pub line_termination : State → LineTermination
 line_termination s = termination_of s.settings.fields.line_termination

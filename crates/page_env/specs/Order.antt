@@ -1,7 +1,9 @@
 -- The one order in which the findings of a step are reported, and in which it reads the fields of the panel.
-use Rattle.std.specs.Prelude.{ℕ, ◌==◌, nat_le, ◌&&◌, ◌||◌, not, Bool, true, false, length, map, position, unwrap_or, List, [], ◌∷◌, ◌++◌}
+use Rattle.std.specs.Prelude.{ℕ, ◌==◌, nat_le, ◌&&◌, ◌||◌, not, Bool, true, false, length, map, position, unwrap_or}
+use Rattle.std.specs.Prelude.{List, [], ◌∷◌, ◌++◌}
 use Rattle.device_profile.specs.declared.field.Field.{Field}
-use Rattle.device_profile.specs.declared.field.Field.TheVariants.{Size, Orientation, Vmi, Font, Copies, Sides, Tray, LineTerm}
+use Rattle.device_profile.specs.declared.field.Field.TheVariants.{Size, Orientation, Vmi, Font, Copies, Sides, Tray}
+use Rattle.device_profile.specs.declared.field.Field.TheVariants.{LineTerm}
 use Rattle.page_env.specs.declared.finding.Finding.{Finding}
 use Rattle.page_env.specs.declared.finding.Finding.TheVariants as findings
 use Rattle.page_env.specs.Effect.{Check, TableLine}
@@ -79,10 +81,12 @@ abbrev pub find_unset : List Check → Bool
 find_unset [] = false
 find_unset (c ∷ cs) = is_unset_finding c.finding || find_unset cs
 
--- The checks before the reading, what is unset, and the checks after it stand in the order of their findings; and that a field is unset
--- is found by the reading alone.
+-- The checks before the reading, what is unset, and the checks after it stand in the order of their findings;
+-- and that a field is unset is found by the reading alone.
 abbrev pub is_in_order : TableLine → Bool
-is_in_order line = not (find_unset line.before) && not (find_unset line.after) && rises (ranks line.before ++ rank_of 12 ∷ ranks line.after)
+is_in_order line =
+    not (find_unset line.before) && not (find_unset line.after)
+    && rises (ranks line.before ++ rank_of 12 ∷ ranks line.after)
 
 -- the fields that are read stand in the order of the panel's
 abbrev pub reads_in_order : TableLine → Bool

@@ -1,5 +1,6 @@
 -- The pen of an HP-GL/2 frame (`IN`, `SP`, `PW`, `PU`, `PD`, `PA`, `PR`).
-use Rattle.std.specs.Prelude.{ℕ, ℤ, pos, ◌*◌, ◌/◌, ◌==◌, nat_lt, unsigned_abs, true, false, not, ◌&&◌, ◌||◌, Bool, cond, ◌+ℤ◌, ◌*ℤ◌, List, [], ◌∷◌}
+use Rattle.std.specs.Prelude.{ℕ, ℤ, pos, ◌*◌, ◌/◌, ◌==◌, nat_lt, unsigned_abs, true, false, not, ◌&&◌, ◌||◌, Bool, cond}
+use Rattle.std.specs.Prelude.{◌+ℤ◌, ◌*ℤ◌, List, [], ◌∷◌}
 use Rattle.tick_length.specs.declared.unit.Unit.TheVariants.{Millimetre}
 use Rattle.pcl_items.specs.declared.frame.Motion.{Motion}
 use Rattle.pcl_items.specs.declared.frame.Motion.TheVariants.{Up, Down, Absolute, Relative}
@@ -32,7 +33,8 @@ initialize s = moving (with_pen s default_pen)
 -- `SP` select pen: 0, which draws nothing, or 1, in ten-thousandths
 abbrev pub select_pen : State → ℕ → TableLine
 select_pen s n =
-    setting (check (not ((n == 0) || (n == 10_000))) BadValue ∷ []) (with_pen s (record s.settings.job.pen { number = n / 10_000 }))
+    setting (check (not ((n == 0) || (n == 10_000))) BadValue ∷ [])
+    (with_pen s (record s.settings.job.pen { number = n / 10_000 }))
 
 -- `PW` pen width, in ten-thousandths of a millimetre
 abbrev pub set_pen_width : State → ℕ → TableLine
@@ -124,11 +126,14 @@ abbrev pub reached : (is_relative : Bool) → (here units : ℤ) → ℤ
 reached is_relative here units = cond is_relative (here +ℤ (units *ℤ pos plotter_unit)) (units *ℤ pos plotter_unit)
 
 abbrev pub pen_target : Pen → ℤ × ℤ → PenPlace
-pen_target pen to = record { x = reached pen.is_relative pen.place.x to.0; y = reached pen.is_relative pen.place.y to.1 }
+pen_target pen to =
+    record { x = reached pen.is_relative pen.place.x to.0; y = reached pen.is_relative pen.place.y to.1 }
 
 -- the raised pen moves to a place
 abbrev pub carry_pen : State → PenPlace → TableLine
-carry_pen s to = record (moving (with_pen s (record s.settings.job.pen { place = to }))) { after = check (is_too_far to) OutsideFrame ∷ [] }
+carry_pen s to = record (moving (with_pen s (record s.settings.job.pen { place = to }))) {
+  after = check (is_too_far to) OutsideFrame ∷ []
+}
 
 -- a pair of coordinates moves the pen, behind the own step of its command: where it is down it draws
 abbrev pub move_pen : Printer → State → ℤ × ℤ → TableLine

@@ -29,14 +29,16 @@ with_all_parts request parts = record {
   typeface = Some (unwrap_or parts.typeface request.typeface);
 }
 
--- The same state, but that the job has set all that the panel chooses: each field, and all parts of the font request. The font of the
--- panel is that of these user defaults then, watched or not: nothing reads it.
+-- The same state, but that the job has set all that the panel chooses: each field, and all parts of the font request.
+-- The font of the panel is that of these user defaults then, watched or not: nothing reads it.
 abbrev pub pinned : Printer → Settings → State → State
 pinned printer defaults s = record s {
   settings = record {
     fields = record s.settings.fields { font = defaults.fields.font };
     unset = record unwatched { font = defaults.unset.font };
-    job = record s.settings.job { font = with_all_parts (request_at printer.faces s.settings.fields.font) s.settings.job.font };
+    job = record s.settings.job {
+      font = with_all_parts (request_at printer.faces s.settings.fields.font) s.settings.job.font
+    };
   };
 }
 
@@ -44,18 +46,21 @@ pinned printer defaults s = record s {
 abbrev pub AreSet : Printer → Settings → State → List Field → Type 0
 AreSet printer defaults s reads = first_unset (pinned printer defaults s).settings reads ≡ None
 
--- A line from a state, and the same from where all is set: but for what they read they go alike, and nothing that the second reads is
--- unset.
+-- A line from a state, and the same from where all is set:
+-- but for what they read they go alike, and nothing that the second reads is unset.
 abbrev pub GoesPinned : Printer → Settings → State → TableLine → TableLine → Type 0
 GoesPinned printer defaults s line set =
-    (set ≡ record line { reads = set.reads; state = pinned printer defaults line.state }) × AreSet printer defaults s set.reads
+    (set ≡ record line { reads = set.reads; state = pinned printer defaults line.state })
+    × AreSet printer defaults s set.reads
 
 abbrev pub GoesPinnedBy : Printer → Settings → State → Transition → Transition → Type 0
 GoesPinnedBy printer defaults s (Step line) (Step set) = GoesPinned printer defaults s line set
 GoesPinnedBy printer defaults s (Closes line sets_paper change) (Closes set sets_paper' change') =
-    GoesPinned printer defaults s line set × (sets_paper' ≡ sets_paper) × ((t : State) → change' (pinned printer defaults t) ≡ pinned printer defaults (change t))
+    GoesPinned printer defaults s line set × (sets_paper' ≡ sets_paper)
+    × ((t : State) → change' (pinned printer defaults t) ≡ pinned printer defaults (change t))
 GoesPinnedBy printer defaults s (Ends line) (Ends set) = GoesPinned printer defaults s line set
-GoesPinnedBy printer defaults s (Behind reads transition) (Behind reads' set) = AreSet printer defaults s reads' × GoesPinnedBy printer defaults s transition set
+GoesPinnedBy printer defaults s (Behind reads transition) (Behind reads' set) =
+    AreSet printer defaults s reads' × GoesPinnedBy printer defaults s transition set
 GoesPinnedBy printer defaults s (Controls t n) (Controls set m) = (set ≡ pinned printer defaults t) × (m ≡ n)
 GoesPinnedBy printer defaults s _ _ = ⊥
 
@@ -68,7 +73,8 @@ abbrev pub is_orientation : Entry → Bool
 is_orientation (Parameterized Orientation n) = true
 is_orientation _ = false
 
--- An item for which there is no pinned job: the default font returns to the panel's, and an overlay begins with what the panel has.
+-- An item for which there is no pinned job:
+-- the default font returns to the panel's, and an overlay begins with what the panel has.
 abbrev pub is_unpinnable : Entry → Bool
 is_unpinnable DefaultFont = true
 is_unpinnable (Parameterized MacroControl n) = enables_overlay (control_of n)
@@ -82,22 +88,28 @@ returns_to_panel item = is_reset item || is_orientation item || is_unpinnable it
 abbrev pub IsPinnedItem : Printer → Settings → Settings → Entry → Type 0
 IsPinnedItem printer defaults defaults' item =
     (s : State) → returns_to_panel item ≡ false →
-    GoesPinnedBy printer defaults' s (transition_of printer defaults s item) (transition_of printer defaults' (pinned printer defaults' s) item)
+    GoesPinnedBy printer defaults' s (transition_of printer defaults s item)
+    (transition_of printer defaults' (pinned printer defaults' s) item)
 
 -- so does the own step of each macro control
 abbrev pub IsPinnedControl : Printer → Settings → Type 0
 IsPinnedControl printer defaults =
     (s : State) (known in_macro : Bool) (control : Option Control) →
-    GoesPinned printer defaults s (control_line known in_macro control s) (control_line known in_macro control (pinned printer defaults s))
+    GoesPinned printer defaults s (control_line known in_macro control s)
+    (control_line known in_macro control (pinned printer defaults s))
 
 -- so does each byte of transparent print data
 abbrev pub IsPinnedByte : Printer → Settings → ℕ → Type 0
 IsPinnedByte printer defaults code =
-    (s : State) → GoesPinned printer defaults s (print_transparent printer s code) (print_transparent printer (pinned printer defaults s) code)
+    (s : State) →
+    GoesPinned printer defaults s (print_transparent printer s code)
+    (print_transparent printer (pinned printer defaults s) code)
 
 -- so does each move of the pen
 abbrev pub IsPinnedMove : Printer → Settings → ℤ × ℤ → Type 0
-IsPinnedMove printer defaults to = (s : State) → GoesPinned printer defaults s (move_pen printer s to) (move_pen printer (pinned printer defaults s) to)
+IsPinnedMove printer defaults to =
+    (s : State) →
+    GoesPinned printer defaults s (move_pen printer s to) (move_pen printer (pinned printer defaults s) to)
 
 -- ---- neither an overlay nor what is watched, nor a limit of items
 
@@ -118,12 +130,15 @@ KeepsBare (Controls t n) = IsBare t × (control_of n ≡ Some EnableOverlay → 
 
 -- an item enables no overlay by its own step, watches nothing and limits nothing
 abbrev pub IsBareItem : Printer → Entry → Type 0
-IsBareItem printer item = (defaults : Settings) (s : State) → returns_to_panel item ≡ false → AreBare defaults → IsBare s → KeepsBare (transition_of printer defaults s item)
+IsBareItem printer item =
+    (defaults : Settings) (s : State) → returns_to_panel item ≡ false → AreBare defaults → IsBare s →
+    KeepsBare (transition_of printer defaults s item)
 
 -- so does a macro control that does not do just that
 abbrev pub IsBareControl : Type 0
 IsBareControl =
-    (s : State) (known in_macro : Bool) (control : Option Control) → (control ≡ Some EnableOverlay → ⊥) → IsBare s → IsBare (control_line known in_macro control s).state
+    (s : State) (known in_macro : Bool) (control : Option Control) → (control ≡ Some EnableOverlay → ⊥) → IsBare s →
+    IsBare (control_line known in_macro control s).state
 
 -- so does a byte of transparent print data, and a move of the pen
 abbrev pub IsBareByte : Printer → ℕ → Type 0

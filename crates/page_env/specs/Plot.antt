@@ -24,12 +24,16 @@ lies_within box place = is_between box.low.x box.high.x place.x && is_between bo
 -- the checks of each line between two places of the box pass
 abbrev pub LinesGo : Geometry → Origin → Frame → ℕ → PenBounds → Type 0
 LinesGo g origin frame width box =
-    (from to : PenPlace) → lies_within box from ≡ true → lies_within box to ≡ true → first_finding (line_checks g origin frame width from to) ≡ None
+    (from to : PenPlace) → lies_within box from ≡ true → lies_within box to ≡ true →
+    first_finding (line_checks g origin frame width from to) ≡ None
 
 -- a page with the pen at a place, marked or not
 abbrev pub page_at : PenPlace → Bool → Page → Page
 page_at place marked page =
-    record page { env = record page.env { job = record page.env.job { pen = record page.env.job.pen { place = place } } }; marked = marked }
+    record page {
+      env = record page.env { job = record page.env.job { pen = record page.env.job.pen { place = place } } };
+      marked = marked;
+    }
 
 -- where these coordinates lead from a place
 abbrev pub target_from : PenPlace → Page → ℤ × ℤ → PenPlace
@@ -37,20 +41,22 @@ target_from place page to = pen_target (record page.env.job.pen { place = place 
 
 -- From one place of a page to another the pen draws this line, whatever the panel, where these coordinates lead there.
 abbrev pub DrawsLine : Printer → Page → PenPlace → PenPlace → PenLine → Type 0
-DrawsLine printer page from target line = (panel : Panel) (marked : Bool) (to : ℤ × ℤ) → target_from from page to ≡ target →
+DrawsLine printer page from target line =
+    (panel : Panel) (marked : Bool) (to : ℤ × ℤ) → target_from from page to ≡ target →
     let here = page_at from marked page in
     effect_of (settings_at panel here.env) (Step (move_pen printer (state_at panel here) to))
     ≡ Goes (state_at panel (page_at target true page)) (Line line ∷ [])
 
--- The pen is down, at one place of the box, and draws a line between any two places of it; and the one motion beside pen down that
--- changes nothing.
+-- The pen is down, at one place of the box, and draws a line between any two places of it;
+-- and the one motion beside pen down that changes nothing.
 pub record DrawsWithin (printer : Printer) (page : Page) (box : PenBounds) : Type 0 where
   pub no_raster : page.raster ≡ None
   pub is_down : page.env.job.pen.is_down ≡ true
   pub kept : box.kept ≡ cond page.env.job.pen.is_relative Relative Absolute
   pub inside : lies_within box page.env.job.pen.place ≡ true
   pub line : PenPlace → PenPlace → PenLine
-  pub draws : (from target : PenPlace) → lies_within box from ≡ true → lies_within box target ≡ true → DrawsLine printer page from target (line from target)
+  pub draws : (from target : PenPlace) → lies_within box from ≡ true → lies_within box target ≡ true →
+      DrawsLine printer page from target (line from target)
 
 -- a command of this motion changes nothing before the pen moves
 abbrev pub KeepsMotion : PenBounds → Motion → Type 0

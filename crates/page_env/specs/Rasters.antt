@@ -1,5 +1,7 @@
 -- Raster graphics (`*t`, `*r`, `*b`), whose rows are not compressed.
-use Rattle.std.specs.Prelude.{ℕ, ℤ, pos, ◌*◌, ◌-◌, ◌==◌, nat_lt, not, ◌&&◌, ◌||◌, cond, Bool, true, false, ◌+ℤ◌, int_lt, length, drop, take, reverse, Option, Some, None, is_none, is_some, option_map, unwrap_or, List, [], ◌∷◌}
+use Rattle.std.specs.Prelude.{ℕ, ℤ, pos, ◌*◌, ◌-◌, ◌==◌, nat_lt, not, ◌&&◌, ◌||◌, cond, Bool, true, false, ◌+ℤ◌, int_lt}
+use Rattle.std.specs.Prelude.{length, drop, take, reverse, Option, Some, None, is_none, is_some, option_map, unwrap_or}
+use Rattle.std.specs.Prelude.{List, [], ◌∷◌}
 use Rattle.std.specs.List.{position, position_or_len, find}
 use Rattle.std.specs.Option.{option_map_or}
 use Rattle.pcl_items.specs.declared.pcl.command.Group.{Group}
@@ -10,7 +12,8 @@ use Rattle.pcl_items.specs.Escapes.Value.{Amount}
 use Rattle.device_profile.specs.declared.field.Field.TheVariants.{Size, Orientation}
 use Rattle.device_profile.specs.declared.geometry.Geometry.{Geometry}
 use Rattle.device_profile.specs.Printer.{Printer}
-use Rattle.page_env.specs.declared.finding.Finding.TheVariants.{BadValue, RasterNotStarted, RasterLocked, RasterTooBig, RotatedRaster, OffPage, NotPrintable}
+use Rattle.page_env.specs.declared.finding.Finding.TheVariants.{BadValue, RasterNotStarted, RasterLocked, RasterTooBig}
+use Rattle.page_env.specs.declared.finding.Finding.TheVariants.{RotatedRaster, OffPage, NotPrintable}
 use Rattle.page_env.specs.declared.page.Presentation.{Presentation}
 use Rattle.page_env.specs.declared.page.Presentation.TheVariants.{LogicalPage, PhysicalPage}
 use Rattle.page_env.specs.declared.page.RasterSettings.{RasterSettings}
@@ -60,7 +63,8 @@ resolution_of n = cond (is_whole_from 0 n) (find (λ r. pixels_per_inch r == who
 abbrev pub set_resolution : State → Amount → TableLine
 set_resolution s n =
     setting (check (is_none (resolution_of n)) BadValue ∷ locked s.raster ∷ [])
-    (with_raster s (record s.settings.job.raster { resolution = unwrap_or (resolution_of n) s.settings.job.raster.resolution }))
+    (with_raster s
+    (record s.settings.job.raster { resolution = unwrap_or (resolution_of n) s.settings.job.raster.resolution }))
 
 -- `*r#S` raster width, in pixels
 abbrev pub set_raster_width : State → Amount → TableLine
@@ -76,12 +80,14 @@ set_raster_height s n =
 
 -- `*r#F` raster graphics presentation: 0 as the logical page lies, 3 along the width of the physical page
 abbrev pub presentation_of : Amount → Option Presentation
-presentation_of n = cond (is_whole_between 0 0 n) (Some LogicalPage) (cond (is_whole_between 3 3 n) (Some PhysicalPage) None)
+presentation_of n =
+    cond (is_whole_between 0 0 n) (Some LogicalPage) (cond (is_whole_between 3 3 n) (Some PhysicalPage) None)
 
 abbrev pub set_presentation : State → Amount → TableLine
 set_presentation s n =
     setting (check (is_none (presentation_of n)) BadValue ∷ locked s.raster ∷ [])
-    (with_raster s (record s.settings.job.raster { presentation = unwrap_or (presentation_of n) s.settings.job.raster.presentation }))
+    (with_raster s
+    (record s.settings.job.raster { presentation = unwrap_or (presentation_of n) s.settings.job.raster.presentation }))
 
 -- `*b#M` compression method: none
 abbrev pub set_compression : State → Amount → TableLine
@@ -140,7 +146,8 @@ rows_down s rows = record s {
 abbrev pub past_foot : Geometry → Dots → ℤ → ℕ → Check
 past_foot g resolution y rows = check (int_lt g.logical_height (place_behind resolution y rows)) OffPage
 
--- `*b#Y` raster Y offset: so many rows that stay white. A started raster has a vertical place, so the VMI is not read here.
+-- `*b#Y` raster Y offset: so many rows that stay white.
+-- A started raster has a vertical place, so the VMI is not read here.
 abbrev pub skip_rows : Printer → State → Amount → TableLine
 skip_rows printer s n = record {
   before =
@@ -172,7 +179,8 @@ has_black bytes = nat_lt (blank_ahead bytes) (length bytes)
 abbrev pub passes_width : RasterSettings → List ℕ → Bool
 passes_width raster bytes = option_map_or (λ width. nat_lt width (black_end bytes)) raster.width false
 
--- A row from this place of the sheet, without blank bytes at both ends; each that was before it moves it by eight pixels.
+-- A row from this place of the sheet, without blank bytes at both ends;
+-- each that was before it moves it by eight pixels.
 abbrev pub row_from : Dots → (x y : ℤ) → List ℕ → PixelRow
 row_from resolution x y bytes = record {
   resolution = resolution;
@@ -184,7 +192,8 @@ row_from resolution x y bytes = record {
 -- what may be wrong with a row before the page is known
 abbrev pub row_checks : RasterSettings → Option StartedRaster → List ℕ → List Check
 row_checks settings raster black =
-    not_started raster ∷ check (option_map_or (passes_height 1) raster false || passes_width settings black) RasterTooBig ∷ []
+    not_started raster
+    ∷ check (option_map_or (passes_height 1) raster false || passes_width settings black) RasterTooBig ∷ []
 
 -- and on it, where the cursor has this vertical place
 abbrev pub place_checks : Geometry → (y : ℤ) → List ℕ → PixelRow → List Check
@@ -195,7 +204,8 @@ place_checks g y black row =
 abbrev pub marks_of : List ℕ → PixelRow → List Shape
 marks_of black row = cond (has_black black) (Row row ∷ []) []
 
--- `*b#W` transfer raster data: one row at the cursor, which moves a pixel down. A row without a black pixel makes no mark.
+-- `*b#W` transfer raster data: one row at the cursor, which moves a pixel down.
+-- A row without a black pixel makes no mark.
 abbrev pub print_row : Printer → State → List ℕ → TableLine
 print_row printer s bytes =
     let black = up_to_black bytes in

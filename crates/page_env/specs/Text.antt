@@ -1,5 +1,6 @@
 -- Text: the bytes of a job that print, and those of transparent print data (`&p#X`).
-use Rattle.std.specs.Prelude.{ℕ, ℤ, pos, ◌==◌, ◌&&◌, not, cond, true, Bool, ◌+ℤ◌, ◌-ℤ◌, int_lt, Option, Some, List, [], ◌∷◌, ◌++◌}
+use Rattle.std.specs.Prelude.{ℕ, ℤ, pos, ◌==◌, ◌&&◌, not, cond, true, Bool, ◌+ℤ◌, ◌-ℤ◌, int_lt, Option, Some, List, []}
+use Rattle.std.specs.Prelude.{◌∷◌, ◌++◌}
 use Rattle.std.specs.Option.{option_map_or}
 use Rattle.device_profile.specs.declared.field.Field.{Field}
 use Rattle.device_profile.specs.declared.field.Field.TheVariants.{Size, Orientation}
@@ -12,7 +13,8 @@ use Rattle.page_env.specs.declared.mark.Glyph.{Glyph}
 use Rattle.page_env.specs.Settings.{State}
 use Rattle.page_env.specs.FontInForce.{request_of, face_of, font_reads}
 use Rattle.page_env.specs.Fonts.{no_font, no_column}
-use Rattle.page_env.specs.Places.{geometry_of, x_on_sheet, y_on_sheet, column_width, column_reads, right_of, vertical_place, vertical_reads}
+use Rattle.page_env.specs.Places.{geometry_of, x_on_sheet, y_on_sheet, column_width, column_reads, right_of}
+use Rattle.page_env.specs.Places.{vertical_place, vertical_reads}
 use Rattle.page_env.specs.Mark.{Character, is_inside}
 use Rattle.page_env.specs.Effect.{Check, check, TableLine}
 
@@ -27,7 +29,8 @@ abbrev pub behind_of : Printer → State → ℤ
 behind_of printer s = s.cursor.x +ℤ pos (column_width printer s)
 
 abbrev pub moves_within : Printer → State → List Check
-moves_within printer s = edge_checks (right_of printer s) (geometry_of printer s).logical_width s.cursor.x (behind_of printer s)
+moves_within printer s =
+    edge_checks (right_of printer s) (geometry_of printer s).logical_width s.cursor.x (behind_of printer s)
 
 -- the cursor behind a character; a home becomes a number
 abbrev pub advanced : Printer → State → State
@@ -56,22 +59,31 @@ transparent_space printer s = record (space printer s) {
 
 -- the box of a character with its reference point at a place of the sheet
 abbrev pub character_box : Face → (x y : ℤ) → Bounds
-character_box face x y = record { left = x; top = y -ℤ face.ascent; right = x +ℤ face.advance; bottom = y +ℤ face.descent }
+character_box face x y =
+    record { left = x; top = y -ℤ face.ascent; right = x +ℤ face.advance; bottom = y +ℤ face.descent }
 
--- what may be wrong with a character: it has no such code, it leads too far, or its box does not lie in the printable area
+-- what may be wrong with a character:
+-- it has no such code, it leads too far, or its box does not lie in the printable area
 abbrev pub character_checks : Geometry → Face → ℕ → (right x behind : ℤ) → Bounds → List Check
 character_checks g face code right x behind box =
-    check (not (has_code face.codes code)) NoGlyph ∷ edge_checks right g.logical_width x behind ++ check (not (is_inside g box)) NotPrintable ∷ []
+    check (not (has_code face.codes code)) NoGlyph ∷ edge_checks right g.logical_width x behind
+    ++ check (not (is_inside g box)) NotPrintable ∷ []
 
 -- the mark of a character of a face, with its reference point at the cursor
 abbrev pub glyph_of : Printer → State → ℕ → Face → Glyph
 glyph_of printer s code face =
-    record { code = code; request = request_of printer s; y = y_on_sheet printer s; bounds = character_box face (x_on_sheet printer s) (y_on_sheet printer s) }
+    record {
+      code = code;
+      request = request_of printer s;
+      y = y_on_sheet printer s;
+      bounds = character_box face (x_on_sheet printer s) (y_on_sheet printer s);
+    }
 
 -- what may be wrong with it
 abbrev pub checks_of : Printer → State → ℕ → Face → List Check
 checks_of printer s code face =
-    character_checks (geometry_of printer s) face code (right_of printer s) s.cursor.x (behind_of printer s) (glyph_of printer s code face).bounds
+    character_checks (geometry_of printer s) face code (right_of printer s) s.cursor.x (behind_of printer s)
+    (glyph_of printer s code face).bounds
 
 -- a character that prints, where a face answers the request
 abbrev pub character : Printer → State → ℕ → TableLine

@@ -1,5 +1,6 @@
 -- Lines of text: bytes that go one after another, text and the ends of its lines.
-use Rattle.std.specs.Prelude.{◌≡◌, ℕ, true, pos, ◌+◌, ◌==◌, ◌||◌, not, cond, ◌+ℤ◌, ◌-ℤ◌, Bool, Option, Some, None, List, [], ◌∷◌}
+use Rattle.std.specs.Prelude.{◌≡◌, ℕ, true, pos, ◌+◌, ◌==◌, ◌||◌, not, cond, ◌+ℤ◌, ◌-ℤ◌, Bool, Option, Some, None, List}
+use Rattle.std.specs.Prelude.{[], ◌∷◌}
 use Rattle.std.specs.List.{AllByRecursion}
 use Rattle.pcl_items.specs.Lines.{IsOfLines, line_item}
 use Rattle.device_profile.specs.declared.font.CodeRange.{CodeRange}
@@ -26,11 +27,12 @@ at_left look place = record place { x = look.left }
 abbrev pub a_line_down : Look → TextPlace → TextPlace
 a_line_down look place = record place { y = place.y +ℤ look.line }
 
--- Where a byte leads: CR to the left margin, LF a line down, either with the other where line termination has it so, and what is
--- text a column on.
+-- Where a byte leads: CR to the left margin, LF a line down, either with the other where line termination has it so,
+-- and what is text a column on.
 abbrev pub behind : Look → ℕ → TextPlace → TextPlace
 behind look code place =
-    cond (code == 13) (cond look.termination.feeds_at_return (a_line_down look (at_left look place)) (at_left look place))
+    cond (code == 13)
+    (cond look.termination.feeds_at_return (a_line_down look (at_left look place)) (at_left look place))
     (cond (code == 10) (a_line_down look (cond look.termination.returns_at_feed (at_left look place) place))
     (record place { x = place.x +ℤ pos look.column }))
 
@@ -48,7 +50,8 @@ box_at look place =
 -- the character of a byte, if it has one
 abbrev pub glyph_at : Look → TextPlace → ℕ → Option Glyph
 glyph_at look place code =
-    cond (is_blank code) None (Some (record { code = code; request = look.request; y = look.origin.y +ℤ place.y; bounds = box_at look place }))
+    cond (is_blank code) None
+    (Some (record { code = code; request = look.request; y = look.origin.y +ℤ place.y; bounds = box_at look place }))
 
 -- a page with its cursor at a place
 abbrev pub page_at : TextPlace → Page → Page
@@ -56,14 +59,16 @@ page_at place page = record page { cursor = record { x = place.x; y = Some place
 
 -- the page behind a byte: the cursor is where it leads, and what is not blank makes a mark
 abbrev pub page_behind : Look → TextPlace → ℕ → Page → Page
-page_behind look place code page = record (page_at (behind look code place) page) { marked = not (is_blank code) || page.marked }
+page_behind look place code page =
+    record (page_at (behind look code place) page) { marked = not (is_blank code) || page.marked }
 
 -- its item goes, whatever the panel, with the character that looks so
 pub record GoesAt (printer : Printer) (look : Look) (place : TextPlace) (page : Page) (code : ℕ) : Type 0 where
   pub byte : IsOfLines code
   pub no_raster : page.raster ≡ None
   pub goes : (panel : Panel) (defaults : Settings) →
-      effect_of (settings_at panel page.env) (transition_of printer defaults (state_at panel page) (line_item code)) ≡ Goes (state_at panel (page_behind look place code page)) (characters_of (glyph_at look place code))
+      effect_of (settings_at panel page.env) (transition_of printer defaults (state_at panel page) (line_item code))
+      ≡ Goes (state_at panel (page_behind look place code page)) (characters_of (glyph_at look place code))
 
 -- ---- bytes one after another
 
@@ -71,7 +76,8 @@ pub record GoesAt (printer : Printer) (look : Look) (place : TextPlace) (page : 
 abbrev pub AllGo : Printer → Look → TextPlace → Page → List ℕ → Type 0
 AllGo printer look place page [] = Unit {0}
 AllGo printer look place page (code ∷ codes) =
-    GoesAt printer look place page code × AllGo printer look (behind look code place) (page_behind look place code page) codes
+    GoesAt printer look place page code
+    × AllGo printer look (behind look code place) (page_behind look place code page) codes
 
 -- the place behind all of them, and the page
 abbrev pub place_behind : Look → List ℕ → TextPlace → TextPlace
@@ -80,7 +86,8 @@ place_behind look (code ∷ codes) place = place_behind look codes (behind look 
 
 abbrev pub page_behind_all : Look → TextPlace → List ℕ → Page → Page
 page_behind_all look place [] page = page
-page_behind_all look place (code ∷ codes) page = page_behind_all look (behind look code place) codes (page_behind look place code page)
+page_behind_all look place (code ∷ codes) page =
+    page_behind_all look (behind look code place) codes (page_behind look place code page)
 
 -- how many of the bytes make a mark
 abbrev pub glyph_count : List ℕ → ℕ
@@ -92,7 +99,8 @@ abbrev pub StandsAt : Page → TextPlace → Type 0
 StandsAt page place = page.cursor ≡ record { x = place.x; y = Some place.y }
 
 -- the bytes go from where the cursor stands, and lead so far, with so many characters
-pub record GoAs (printer : Printer) (page : Page) (look : Look) (from : TextPlace) (bytes : List ℕ) (lines : TextLines) : Type 0 where
+pub record GoAs (printer : Printer) (page : Page) (look : Look) (from : TextPlace) (bytes : List ℕ)
+    (lines : TextLines) : Type 0 where
   pub stands : StandsAt page from
   pub go : AllGo printer look from page bytes
   pub end : lines.end ≡ place_behind look bytes from

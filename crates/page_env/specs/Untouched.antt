@@ -3,7 +3,8 @@ use Rattle.std.specs.Prelude.{◌≡◌, ℕ, ℤ, ◌==◌, ◌||◌, Bool, tru
 use Rattle.pcl_items.specs.declared.pcl.command.Command.TheVariants as commands
 use Rattle.pcl_items.specs.Items.{Entry, Reset, ExitLanguage, Parameterized, SymbolSet, DefaultFont}
 use Rattle.device_profile.specs.declared.field.Field.{Field}
-use Rattle.device_profile.specs.declared.field.Field.TheVariants.{Size, Orientation, Vmi, Font, Copies, Sides, Tray, LineTerm}
+use Rattle.device_profile.specs.declared.field.Field.TheVariants.{Size, Orientation, Vmi, Font, Copies, Sides, Tray}
+use Rattle.device_profile.specs.declared.field.Field.TheVariants.{LineTerm}
 use Rattle.device_profile.specs.Printer.{Printer}
 use Rattle.page_env.specs.declared.page.FontParts.{FontParts}
 use Rattle.page_env.specs.Effect.{TableLine, Transition, Step, Closes, Ends, Behind}
@@ -25,7 +26,8 @@ pub record PartFlags : Type 0 where
   pub weight : Bool
   pub typeface : Bool
 
--- the fields of the panel that no item has set, the font by its parts; one that an item returns to its user default counts as not set
+-- the fields of the panel that no item has set, the font by its parts;
+-- one that an item returns to its user default counts as not set
 pub record Untouched : Type 0 where
   pub size : Bool
   pub orientation : Bool
@@ -37,7 +39,15 @@ pub record Untouched : Type 0 where
   pub line_termination : Bool
 
 abbrev pub all_parts : PartFlags
-all_parts = record { symbol_set = true; spacing = true; pitch = true; height = true; style = true; weight = true; typeface = true }
+all_parts = record {
+  symbol_set = true;
+  spacing = true;
+  pitch = true;
+  height = true;
+  style = true;
+  weight = true;
+  typeface = true;
+}
 
 -- at user defaults nothing is set
 abbrev pub all_untouched : Untouched
@@ -54,10 +64,11 @@ all_untouched = record {
 
 -- where an overlay begins, the five values of the page are set
 abbrev pub untouched_in_overlay : Untouched
-untouched_in_overlay = record all_untouched { size = false; orientation = false; copies = false; sides = false; tray = false }
+untouched_in_overlay =
+    record all_untouched { size = false; orientation = false; copies = false; sides = false; tray = false }
 
--- What an item's own step leaves untouched, where it is carried out: it sets a field or a part of the font, or returns it to the user
--- default. What a macro control runs is counted beside it.
+-- What an item's own step leaves untouched, where it is carried out: it sets a field or a part of the font, or returns
+-- it to the user default. What a macro control runs is counted beside it.
 abbrev pub untouched_behind : Entry → Untouched → Untouched
 untouched_behind (Parameterized commands.PageSize n) u = record u { size = false }
 untouched_behind (Parameterized commands.Orientation n) u = record u { orientation = false; vmi = true }
@@ -131,7 +142,8 @@ unset_parts parts = record {
   typeface = is_none parts.typeface;
 }
 
--- where these fields are watched, settings say what is untouched, by their flags, and of the font by the parts that the job has set
+-- where these fields are watched, settings say what is untouched, by their flags, and of the font by the
+-- parts that the job has set
 abbrev pub SaysUntouched : Flags → Untouched → Settings → Type 0
 SaysUntouched watched u settings = (settings.unset ≡ unset_where watched u) × (unset_parts settings.job.font ≡ u.parts)
 
@@ -146,9 +158,11 @@ names_font (_ ∷ fields) = names_font fields
 abbrev pub IsReadAlike : State → List Field → List Field → Type 0
 IsReadAlike s reads plain = (plain ≡ reads) × (are_set s.settings.job.font ≡ true → names_font reads ≡ false)
 
--- the state that a line leads to says what is left untouched; beside it the same line where nothing is watched, which reads the same
+-- the state that a line leads to says what is left untouched;
+-- beside it the same line where nothing is watched, which reads the same
 abbrev pub LineLeaves : Flags → State → Untouched → TableLine → TableLine → Type 0
-LineLeaves watched s left line plain = IsReadAlike s line.reads plain.reads × SaysUntouched watched left line.state.settings
+LineLeaves watched s left line plain =
+    IsReadAlike s line.reads plain.reads × SaysUntouched watched left line.state.settings
 
 -- An item's own step leads to what is left untouched; where it closes a page, this is left behind the closing.
 abbrev pub TransitionLeaves : Flags → State → (u left : Untouched) → Transition → Transition → Type 0
@@ -157,7 +171,8 @@ TransitionLeaves watched s u left (Closes line sets change) (Closes plain sets' 
     LineLeaves watched s u line plain
     × ((t : State) → SaysUntouched watched u t.settings → SaysUntouched watched left (change t).settings)
 TransitionLeaves watched s u left (Ends line) (Ends plain) =
-    LineLeaves watched s u line plain × ((t : State) → SaysUntouched watched u t.settings → SaysUntouched watched left t.settings)
+    LineLeaves watched s u line plain
+    × ((t : State) → SaysUntouched watched u t.settings → SaysUntouched watched left t.settings)
 TransitionLeaves watched s u left (Behind reads transition) (Behind reads' plain) =
     IsReadAlike s reads reads' × TransitionLeaves watched s u left transition plain
 TransitionLeaves watched s u left _ _ = ⊥
@@ -178,7 +193,8 @@ LeavesItsUntouched printer item =
 -- a line sets nothing that is in the panel, and reads the same where nothing is watched
 abbrev pub SetsNothing : (State → TableLine) → Type 0
 SetsNothing line =
-    (watched : Flags) (u : Untouched) (s : State) → SaysUntouched watched u s.settings → LineLeaves watched s u (line s) (line (plain_state s))
+    (watched : Flags) (u : Untouched) (s : State) → SaysUntouched watched u s.settings →
+    LineLeaves watched s u (line s) (line (plain_state s))
 
 -- a byte of transparent print data and a move of the pen set nothing
 abbrev pub ByteSetsNothing : Printer → ℕ → Type 0

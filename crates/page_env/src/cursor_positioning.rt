@@ -7,7 +7,10 @@ ghost use Rattle.page_env.specs.Settings.{state_at};
 ghost use Rattle.page_env.specs.Effect.{ReadsFields};
 ghost use Rattle.page_env.specs.Numbers.{is_absent};
 ghost use Rattle.page_env.specs.Places.{ticks_in, vertical_place, geometry_of, page_reads};
-ghost use Rattle.page_env.specs.CursorPositioning.{push_cursor, pop_cursor, use_stack, move_across, move_from_top, relative_reads, move_x, move_y, move_x_decipoints, move_y_decipoints, move_columns, move_rows};
+ghost use Rattle.page_env.specs.CursorPositioning.{push_cursor, pop_cursor, use_stack, move_across};
+ghost use Rattle.page_env.specs.CursorPositioning.{move_from_top, relative_reads, move_x, move_y};
+ghost use Rattle.page_env.specs.CursorPositioning.{move_x_decipoints, move_y_decipoints};
+ghost use Rattle.page_env.specs.CursorPositioning.{move_columns, move_rows};
 ghost use Rattle.page_env.specs.Answers.{CarriesOut, Leads, Steps};
 
 use crate::cell::Cell;

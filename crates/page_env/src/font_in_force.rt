@@ -3,7 +3,8 @@
 ghost use Rattle.std.specs.Prelude.{◌≡◌};
 ghost use Rattle.page_env.specs.Settings.{state_at};
 ghost use Rattle.page_env.specs.Effect.{ReadsFields};
-ghost use Rattle.page_env.specs.FontInForce.{are_set, no_request, request_at, with_parts, request_of, font_reads};
+ghost use Rattle.page_env.specs.FontInForce.{are_set, no_request, request_at, with_parts};
+ghost use Rattle.page_env.specs.FontInForce.{request_of, font_reads};
 
 use crate::page::{FontParts, Page};
 use device_profile::{Field, FontRequest, Panel, Profile, SymbolSet};

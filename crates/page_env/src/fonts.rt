@@ -3,7 +3,8 @@
 
 ghost use Rattle.std.specs.Prelude.{◌≡◌};
 ghost use Rattle.pcl_items.specs.Items.{amount};
-ghost use Rattle.page_env.specs.Fonts.{set_symbol_set, set_spacing, set_pitch, set_height, set_style, set_weight, set_typeface, default_font};
+ghost use Rattle.page_env.specs.Fonts.{set_symbol_set, set_spacing, set_pitch, set_height};
+ghost use Rattle.page_env.specs.Fonts.{set_style, set_weight, set_typeface, default_font};
 ghost use Rattle.page_env.specs.Answers.{CarriesOut, Steps};
 
 use crate::finding::Finding;

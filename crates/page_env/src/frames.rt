@@ -7,7 +7,10 @@ ghost use Rattle.pcl_items.specs.Items.{amount};
 ghost use Rattle.page_env.specs.Settings.{default_frame, origin};
 ghost use Rattle.page_env.specs.Numbers.{IsWithin, is_positive};
 ghost use Rattle.page_env.specs.Places.{decipoint_ticks};
-ghost use Rattle.page_env.specs.Frames.{frame_on, framed, set_frame_anchor, set_frame_width, set_frame_height, place_in, x_on_page, y_on_page, is_on_page, enter_at_pen, enter_at_cursor, enter_frame, leave_at_cursor, leave_at_pen, leave_frame};
+ghost use Rattle.page_env.specs.Frames.{frame_on, framed, set_frame_anchor, set_frame_width};
+ghost use Rattle.page_env.specs.Frames.{set_frame_height, place_in, x_on_page, y_on_page};
+ghost use Rattle.page_env.specs.Frames.{is_on_page, enter_at_pen, enter_at_cursor, enter_frame};
+ghost use Rattle.page_env.specs.Frames.{leave_at_cursor, leave_at_pen, leave_frame};
 ghost use Rattle.page_env.specs.Answers.{Steps};
 
 use crate::cursor::{Coordinate, Cursor};

@@ -6,7 +6,8 @@ ghost use Rattle.device_profile.specs.declared.panel.Panel.{Panel};
 ghost use Rattle.pcl_items.specs.Items.{amount};
 ghost use Rattle.page_env.specs.Settings.{settings_at, state_at};
 ghost use Rattle.page_env.specs.Effect.{first_finding};
-ghost use Rattle.page_env.specs.Macros.{set_macro_id, control_of, control_checks, overlay_after, control_line, overlay_state, spend_item};
+ghost use Rattle.page_env.specs.Macros.{set_macro_id, control_of, control_checks, overlay_after};
+ghost use Rattle.page_env.specs.Macros.{control_line, overlay_state, spend_item};
 ghost use Rattle.page_env.specs.Answers.{result_finding, Steps};
 
 use crate::cell::Cells;

@@ -1,10 +1,13 @@
 //! Margins: top margin, text length, perforation skip, left and right margin, and their clearing.
 #![tactic(auto, unfolding(crate::specs::Answers::Marks))]
 
-ghost use Rattle.std.specs.Prelude.{◌≡◌, ◌≤◌, ◌^◌, pos, ◌+◌, ◌*◌, ◌+ℤ◌, int_lt, ◌||◌, ◌==◌, not, cond, Some, None, unwrap_or};
+ghost use Rattle.std.specs.Prelude.{◌≡◌, ◌≤◌, ◌^◌, pos, ◌+◌, ◌*◌, ◌+ℤ◌, int_lt, ◌||◌, ◌==◌, not};
+ghost use Rattle.std.specs.Prelude.{cond, Some, None, unwrap_or};
 ghost use Rattle.pcl_items.specs.Items.{amount};
 ghost use Rattle.page_env.specs.Places.{ticks_in};
-ghost use Rattle.page_env.specs.Margins.{is_same, set_perforation_skip, set_top_margin, set_text_length, set_left_margin, set_right_margin, clear_margins};
+ghost use Rattle.page_env.specs.Margins.{is_same, set_perforation_skip, set_top_margin};
+ghost use Rattle.page_env.specs.Margins.{set_text_length, set_left_margin, set_right_margin};
+ghost use Rattle.page_env.specs.Margins.{clear_margins};
 ghost use Rattle.page_env.specs.Answers.{CarriesOut, Steps};
 
 use crate::finding::Finding;

@@ -1,14 +1,19 @@
 //! Motion and line ends: VMI, line spacing, HMI, line termination, and the control codes.
 #![tactic(auto, unfolding(crate::specs::Answers::CarriesOut, crate::specs::Answers::Marks))]
 
-ghost use Rattle.std.specs.Prelude.{◌≡◌, ◌+◌, ◌^◌, ◌/◌, ◌==◌, ◌&&◌, ℤ, pos, neg_ℤ, ◌≤ℤ◌, ◌+ℤ◌, ◌-ℤ◌, int_lt, cond, unwrap_or, Some, None, Ok, Err};
+ghost use Rattle.std.specs.Prelude.{◌≡◌, ◌+◌, ◌^◌, ◌/◌, ◌==◌, ◌&&◌, ℤ, pos, neg_ℤ, ◌≤ℤ◌, ◌+ℤ◌};
+ghost use Rattle.std.specs.Prelude.{◌-ℤ◌, int_lt, cond, unwrap_or, Some, None, Ok, Err};
 ghost use Rattle.std.specs.List.{list_any};
 ghost use Rattle.pcl_items.specs.Items.{amount};
 ghost use Rattle.page_env.specs.Numbers.{is_whole_from, whole_of};
 ghost use Rattle.page_env.specs.Places.{ticks_in, first_line};
 ghost use Rattle.page_env.specs.Settings.{half_inch, fields_at};
 ghost use Rattle.page_env.specs.Effect.{ReadsFields};
-ghost use Rattle.page_env.specs.Motion.{line_spacings, set_vmi, set_line_spacing, set_hmi, set_line_termination, termination_of, line_termination_reads, carriage_return, at_home, distance_of, feed_by, return_with, return_line, before_feed, line_feed, form_feed, half_line_feed};
+ghost use Rattle.page_env.specs.Motion.{line_spacings, set_vmi, set_line_spacing, set_hmi};
+ghost use Rattle.page_env.specs.Motion.{set_line_termination, termination_of};
+ghost use Rattle.page_env.specs.Motion.{line_termination_reads, carriage_return, at_home};
+ghost use Rattle.page_env.specs.Motion.{distance_of, feed_by, return_with, return_line};
+ghost use Rattle.page_env.specs.Motion.{before_feed, line_feed, form_feed, half_line_feed};
 ghost use Rattle.page_env.specs.Answers.{CarriesOut, Changes, Steps, Moves};
 
 use crate::cell::Cell;

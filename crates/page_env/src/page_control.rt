@@ -4,7 +4,8 @@
 ghost use Rattle.std.specs.Prelude.{◌≡◌, true};
 ghost use Rattle.pcl_items.specs.Items.{amount};
 ghost use Rattle.page_env.specs.Effect.{checking, Closes};
-ghost use Rattle.page_env.specs.PageControl.{source_checks, set_source, size_checks, set_size, orientation_checks, set_orientation, without_margins};
+ghost use Rattle.page_env.specs.PageControl.{source_checks, set_source, size_checks, set_size};
+ghost use Rattle.page_env.specs.PageControl.{orientation_checks, set_orientation, without_margins};
 ghost use Rattle.page_env.specs.Answers.{CarriesOut, Changes, Moves};
 
 use crate::cell::Cell;

@@ -2,7 +2,8 @@
 //! Group").
 #![tactic(auto, unfolding(crate::specs::Answers::Marks))]
 
-ghost use Rattle.std.specs.Prelude.{◌≡◌, ◌≤◌, ◌+◌, ◌*◌, ◌^◌, pos, cond, ◌&&◌, ◌+ℤ◌, ◌-ℤ◌, Some, None, MatchResult};
+ghost use Rattle.std.specs.Prelude.{◌≡◌, ◌≤◌, ◌+◌, ◌*◌, ◌^◌, pos, cond, ◌&&◌, ◌+ℤ◌, ◌-ℤ◌, Some};
+ghost use Rattle.std.specs.Prelude.{None, MatchResult};
 ghost use Rattle.std.specs.Int.{int_min, int_max};
 ghost use Rattle.page_env.specs.Numbers.{IsWithin};
 ghost use Rattle.page_env.specs.Settings.{default_pen};
@@ -10,7 +11,10 @@ ghost use Rattle.page_env.specs.Mark.{lines_of, line_bounds, is_inside};
 ghost use Rattle.page_env.specs.Places.{is_between};
 ghost use Rattle.page_env.specs.Effect.{first_finding};
 ghost use Rattle.page_env.specs.Frames.{frame_on, is_in_frame};
-ghost use Rattle.page_env.specs.Pens.{place_of, initialize, select_pen, set_pen_width, set_pen, line_between, is_too_far, stays_in_frame, line_checks, draw, lower_pen, motion_step, reached, pen_target, carry_pen, move_pen};
+ghost use Rattle.page_env.specs.Pens.{place_of, initialize, select_pen, set_pen_width, set_pen};
+ghost use Rattle.page_env.specs.Pens.{line_between, is_too_far, stays_in_frame, line_checks, draw};
+ghost use Rattle.page_env.specs.Pens.{lower_pen, motion_step, reached, pen_target, carry_pen};
+ghost use Rattle.page_env.specs.Pens.{move_pen};
 ghost use Rattle.page_env.specs.Answers.{Steps, Marks};
 
 use crate::cursor::Coordinate;

@@ -1,15 +1,21 @@
 //! Rows of rasters, and rows that are skipped (the manual's "Raster Graphics").
 #![tactic(auto, unfolding(crate::specs::Answers::Marks))]
 
-ghost use Rattle.std.specs.Prelude.{◌≡◌, ◌≤◌, ◌<◌, ◌+◌, ◌*◌, ◌^◌, length, reverse, take, cond, is_some, IfSome, pos, neg_ℤ, ◌+ℤ◌, ◌≤ℤ◌, ◌&&◌, int_lt, Some, None, MatchResult};
+ghost use Rattle.std.specs.Prelude.{◌≡◌, ◌≤◌, ◌<◌, ◌+◌, ◌*◌, ◌^◌, length, reverse, take, cond};
+ghost use Rattle.std.specs.Prelude.{is_some, IfSome, pos, neg_ℤ, ◌+ℤ◌, ◌≤ℤ◌, ◌&&◌, int_lt, Some};
+ghost use Rattle.std.specs.Prelude.{None, MatchResult};
 ghost use Rattle.std.specs.Int.{leading_zeros, w16};
 ghost use Rattle.std.specs.List.{position, position_or_len};
 ghost use Rattle.std.specs.Option.{option_map};
 ghost use Rattle.pcl_items.specs.Items.{amount};
 ghost use Rattle.page_env.specs.Numbers.{IsWithin};
-ghost use Rattle.page_env.specs.Mark.{pixel_of, white_ahead, black_end, row_bounds, row_of, shapes_of, is_inside};
+ghost use Rattle.page_env.specs.Mark.{pixel_of, white_ahead, black_end, row_bounds, row_of};
+ghost use Rattle.page_env.specs.Mark.{shapes_of, is_inside};
 ghost use Rattle.page_env.specs.Places.{is_between};
-ghost use Rattle.page_env.specs.Rasters.{passes_height, raster_behind, place_behind, skip_rows, up_to_black, is_black, blank_ahead, has_black, passes_width, row_from, row_checks, place_checks, marks_of, print_row};
+ghost use Rattle.page_env.specs.Rasters.{passes_height, raster_behind, place_behind, skip_rows};
+ghost use Rattle.page_env.specs.Rasters.{up_to_black, is_black, blank_ahead, has_black};
+ghost use Rattle.page_env.specs.Rasters.{passes_width, row_from, row_checks, place_checks};
+ghost use Rattle.page_env.specs.Rasters.{marks_of, print_row};
 ghost use Rattle.page_env.specs.Effect.{first_finding};
 ghost use Rattle.page_env.specs.Answers.{Steps, Marks};
 

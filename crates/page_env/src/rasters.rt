@@ -5,7 +5,10 @@ ghost use Rattle.std.specs.Prelude.{◌≡◌, ◌==◌, not, is_some, ◌&&◌}
 ghost use Rattle.pcl_items.specs.Escapes.Commands.{group_of};
 ghost use Rattle.pcl_items.specs.Escapes.Value.{Amount};
 ghost use Rattle.pcl_items.specs.Items.{Parameterized, amount, view};
-ghost use Rattle.page_env.specs.Rasters.{is_of_raster, is_raster_group, begun_by, resolution_of, set_resolution, set_raster_width, set_raster_height, presentation_of, set_presentation, set_compression, is_physical, start_raster, end_raster};
+ghost use Rattle.page_env.specs.Rasters.{is_of_raster, is_raster_group, begun_by, resolution_of};
+ghost use Rattle.page_env.specs.Rasters.{set_resolution, set_raster_width, set_raster_height};
+ghost use Rattle.page_env.specs.Rasters.{presentation_of, set_presentation, set_compression};
+ghost use Rattle.page_env.specs.Rasters.{is_physical, start_raster, end_raster};
 ghost use Rattle.page_env.specs.Settings.{state_at};
 ghost use Rattle.device_profile.specs.declared.panel.Panel.{Panel};
 ghost use Rattle.page_env.specs.Answers.{CarriesOut, Steps};

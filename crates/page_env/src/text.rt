@@ -1,14 +1,18 @@
 //! Text, and transparent print data (the manual's "Fonts").
 #![tactic(auto, unfolding(crate::specs::Answers::Marks))]
 
-ghost use Rattle.std.specs.Prelude.{◌≡◌, ◌+◌, ◌^◌, pos, ◌+ℤ◌, ◌-ℤ◌, ◌≤ℤ◌, cond, unwrap_or, int_lt, true, false, None, Some, MatchResult};
+ghost use Rattle.std.specs.Prelude.{◌≡◌, ◌+◌, ◌^◌, pos, ◌+ℤ◌, ◌-ℤ◌, ◌≤ℤ◌, cond, unwrap_or, int_lt};
+ghost use Rattle.std.specs.Prelude.{true, false, None, Some, MatchResult};
 ghost use Rattle.page_env.specs.Settings.{state_at};
 ghost use Rattle.page_env.specs.Numbers.{IsWithin};
 ghost use Rattle.page_env.specs.Mark.{is_inside};
 ghost use Rattle.page_env.specs.Effect.{ReadsFields, first_finding};
 ghost use Rattle.page_env.specs.FontInForce.{font_reads, request_of};
-ghost use Rattle.page_env.specs.Places.{place_between, column_with, column_of, column_reads, geometry_of, origin_of, vertical_place};
-ghost use Rattle.page_env.specs.Text.{edge_checks, character_checks, character_box, text_reads, space, transparent_space, character, print_byte, print_transparent};
+ghost use Rattle.page_env.specs.Places.{place_between, column_with, column_of, column_reads};
+ghost use Rattle.page_env.specs.Places.{geometry_of, origin_of, vertical_place};
+ghost use Rattle.page_env.specs.Text.{edge_checks, character_checks, character_box, text_reads};
+ghost use Rattle.page_env.specs.Text.{space, transparent_space, character, print_byte};
+ghost use Rattle.page_env.specs.Text.{print_transparent};
 ghost use Rattle.page_env.specs.Answers.{Prints};
 
 use crate::cursor::{Coordinate, Cursor};

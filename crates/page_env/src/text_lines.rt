@@ -1,7 +1,9 @@
 //! Lines of text: bytes that go one after another, text and the ends of its lines, so that what
 //! they read is read once.
 
-ghost use Rattle.std.specs.Prelude.{◌≡◌, ◌↔◌, ◌≤◌, ◌+◌, ◌*◌, ◌^◌, ℕ, List, [], ◌∷◌, Some, pos, true, ◌&&◌, ◌+ℤ◌, ◌-ℤ◌, ◌≤ℤ◌, cond, length, take, unwrap_or, None, IfSome, IsTrue};
+ghost use Rattle.std.specs.Prelude.{◌≡◌, ◌↔◌, ◌≤◌, ◌+◌, ◌*◌, ◌^◌, ℕ, List, [], ◌∷◌, Some, pos};
+ghost use Rattle.std.specs.Prelude.{true, ◌&&◌, ◌+ℤ◌, ◌-ℤ◌, ◌≤ℤ◌, cond, length, take, unwrap_or};
+ghost use Rattle.std.specs.Prelude.{None, IfSome, IsTrue};
 ghost use Rattle.tick_length.specs.Length.{IsInRange};
 ghost use Rattle.device_profile.specs.declared.font.CodeRange.{CodeRange};
 ghost use Rattle.device_profile.specs.Faces.{is_text_of};
@@ -13,8 +15,10 @@ ghost use Rattle.page_env.specs.FontInForce.{font_reads, request_of};
 ghost use Rattle.page_env.specs.Motion.{line_termination, line_termination_reads};
 ghost use Rattle.page_env.specs.Numbers.{IsWithin};
 ghost use Rattle.page_env.specs.Places.{geometry_of, is_between, line_of, origin_of};
-ghost use Rattle.page_env.specs.TextLines.{CanGoIn, GoAs, StandsAt, a_line_down, box_at, glyph_count, inked_count, page_behind_all, place_behind};
-ghost use Rattle.page_env.specs.TextMeasure.{AllHaveRoom, AreLinesFrom, HasLine, HasMeasure, HaveColumns, area_of, edge_from, lies_in};
+ghost use Rattle.page_env.specs.TextLines.{CanGoIn, GoAs, StandsAt, a_line_down, box_at};
+ghost use Rattle.page_env.specs.TextLines.{glyph_count, inked_count, page_behind_all, place_behind};
+ghost use Rattle.page_env.specs.TextMeasure.{AllHaveRoom, AreLinesFrom, HasLine, HasMeasure};
+ghost use Rattle.page_env.specs.TextMeasure.{HaveColumns, area_of, edge_from, lies_in};
 
 use crate::cursor::{Coordinate, Cursor};
 use crate::font_in_force::font_request;

@@ -27,7 +27,8 @@ use Rattle.page_machine.specs.Follows.{Follows}
 use Rattle.page_machine.specs.Macros.{in_job}
 use Rattle.page_machine.specs.MachineState.{MachineState}
 use Rattle.page_machine.specs.Machine.{CarriesOn, context_of, fields_of, item_of}
-use Rattle.page_machine.specs.Run.{Conditions, Run, just, after, no_peaks, Done, Halts, drawing, printing, effect_run, own_run, begun_run, item_run}
+use Rattle.page_machine.specs.Run.{Conditions, Run, just, after, no_peaks, Done, Halts, drawing, printing, effect_run, own_run, begun_run}
+use Rattle.page_machine.specs.Run.{item_run}
 use Rattle.page_machine.proofs.Answering.{Alike, item-is_carried}
 use Rattle.page_machine.proofs.Composed.{Follows-is, TakesUpTo-is}
 
@@ -35,7 +36,8 @@ any_panel : Panel
 any_panel = record { size = 0; orientation = 0; vmi = 0; font = 0; copies = 0; sides = 0; tray = 0; line_termination = 0 }
 
 -- an item that is one step leaves the macros
-leaves : (printer : Printer) (defaults : Settings) (s : State) (panel : Panel) (page : Page) (item : Entry) (step : Result Unit Finding) → effect_of s.settings (transition_of printer defaults s item) ≡ effect_at panel defaults page (carried_of step) → LeavesMacros item
+leaves : (printer : Printer) (defaults : Settings) (s : State) (panel : Panel) (page : Page) (item : Entry) (step : Result Unit Finding) →
+    effect_of s.settings (transition_of printer defaults s item) ≡ effect_at panel defaults page (carried_of step) → LeavesMacros item
 leaves printer defaults s panel page Reset (Ok done) h = absurd cc
 leaves printer defaults s panel page Reset (Err finding) h = absurd cc
 leaves printer defaults s panel page ExitLanguage (Ok done) h = absurd cc
@@ -44,7 +46,8 @@ leaves printer defaults s panel page (Parameterized MacroControl n) (Ok done) h 
 leaves printer defaults s panel page (Parameterized MacroControl n) (Err finding) h = absurd cc
 leaves printer defaults s panel page _ step h = (refl, refl)
 
-module _ (printer : Printer) (item : Entry) (old new : Page) (step : Result Unit Finding) (ends : EndsWithStep item) (h : CarriesOut (λ defaults s. transition_of printer defaults s item) old new (carried_of step)) where
+module _ (printer : Printer) (item : Entry) (old new : Page) (step : Result Unit Finding) (ends : EndsWithStep item)
+    (h : CarriesOut (λ defaults s. transition_of printer defaults s item) old new (carried_of step)) where
   pub step_leaves : LeavesMacros item
   unfolding CarriesOut
   step_leaves =
@@ -52,7 +55,9 @@ module _ (printer : Printer) (item : Entry) (old new : Page) (step : Result Unit
       leaves printer defaults (state_at any_panel old) any_panel new item step (h any_panel defaults)
 
   -- the run of an item that ends with its own step is what that came to
-  pub step_runs : (conditions : Conditions) (panel : Panel) → begun_run printer conditions item (state_at panel old) ≡ effect_run conditions (effect_at panel conditions.defaults new (carried_of step))
+  pub step_runs : (conditions : Conditions) (panel : Panel) →
+      begun_run printer conditions item (state_at panel old)
+      ≡ effect_run conditions (effect_at panel conditions.defaults new (carried_of step))
   unfolding CarriesOut
   step_runs conditions panel =
       let own : Run = own_run printer conditions item (state_at panel old) in
@@ -61,7 +66,8 @@ module _ (printer : Printer) (item : Entry) (old new : Page) (step : Result Unit
       ∙ ap (effect_run conditions) (h panel conditions.defaults)
 
 -- an item that may close the page ends with its own step
-pub page_run : (printer : Printer) (conditions : Conditions) (item : PageItem) (s : State) → begun_run printer conditions (page_view item) s ≡ own_run printer conditions (page_view item) s
+pub page_run : (printer : Printer) (conditions : Conditions) (item : PageItem) (s : State) →
+    begun_run printer conditions (page_view item) s ≡ own_run printer conditions (page_view item) s
 page_run printer conditions pages.CarriageReturn s = refl
 page_run printer conditions pages.LineFeed s = refl
 page_run printer conditions pages.HalfLineFeed s = refl
@@ -71,8 +77,11 @@ page_run printer conditions pages.ExitLanguage s = refl
 page_run printer conditions (pages.Command command n) s = refl
 
 -- what is left of an item of the job, where it has begun
-module _ (printer : Printer) (item : Entry) (left : PageItem) (old new : Page) (result : Result Carried Finding) (is : item ≡ page_view left) (begun : (panel : Panel) → begun_by item (state_at panel old) ≡ state_at panel old) (h : CarriesOut (λ defaults s. transition_of printer defaults s (page_view left)) old new result) where
-  pub left_runs : (conditions : Conditions) (panel : Panel) → item_run printer conditions item (state_at panel old) ≡ effect_run conditions (effect_at panel conditions.defaults new result)
+module _ (printer : Printer) (item : Entry) (left : PageItem) (old new : Page) (result : Result Carried Finding)
+    (is : item ≡ page_view left) (begun : (panel : Panel) → begun_by item (state_at panel old) ≡ state_at panel old)
+    (h : CarriesOut (λ defaults s. transition_of printer defaults s (page_view left)) old new result) where
+  pub left_runs : (conditions : Conditions) (panel : Panel) →
+      item_run printer conditions item (state_at panel old) ≡ effect_run conditions (effect_at panel conditions.defaults new result)
   unfolding CarriesOut
   left_runs conditions panel =
       ap (begun_run printer conditions item) (begun panel)
@@ -85,25 +94,34 @@ module _ (printer : Printer) (item : Entry) (left : PageItem) (old new : Page) (
   left_leaves stepped =
       let defaults : Settings = settings_at any_panel old.env in
       subst LeavesMacros (sym is)
-      (leaves printer defaults (state_at any_panel old) any_panel new (page_view left) (Ok tt) (h any_panel defaults ∙ ap (effect_at any_panel defaults new) stepped))
+      (leaves printer defaults (state_at any_panel old) any_panel new (page_view left) (Ok tt)
+      (h any_panel defaults ∙ ap (effect_at any_panel defaults new) stepped))
 
 -- ---- an item that has begun
 
 module _ (item : Entry) (old begun : Page) (begins : (panel : Panel) → begun_by item (state_at panel old) ≡ state_at panel begun) where
   -- its run is that of the item that it is
-  pub item_run-begun : (printer : Printer) (conditions : Conditions) (panel : Panel) (same : Entry) (new : Page) → item ≡ same → new ≡ begun → item_run printer conditions item (state_at panel old) ≡ begun_run printer conditions same (state_at panel new)
+  pub item_run-begun : (printer : Printer) (conditions : Conditions) (panel : Panel) (same : Entry) (new : Page) → item ≡ same →
+      new ≡ begun → item_run printer conditions item (state_at panel old) ≡ begun_run printer conditions same (state_at panel new)
   item_run-begun printer conditions panel same new is page =
       ap (begun_run printer conditions item) (begins panel)
       ∙ ap (λ entry. begun_run printer conditions entry (state_at panel begun)) is
       ∙ ap (λ p. begun_run printer conditions same (state_at panel p)) (sym page)
 
-  module _ {S : Type 0} (takes refuses : S → Event → S → Type 0) (F : Type 0) (sink sink' : S) (page : Page) (printer : Printer) (result : Result Unit (Halt F)) where
-    pub Follows-begun : (same : Entry) (new : Page) → item ≡ same → new ≡ begun → ((conditions : Panel → Conditions) → Follows takes refuses (λ panel. begun_run printer (conditions panel) same (state_at panel new)) sink sink' page result) → (conditions : Panel → Conditions) → Follows takes refuses (λ panel. item_run printer (conditions panel) item (state_at panel old)) sink sink' page result
+  module _ {S : Type 0} (takes refuses : S → Event → S → Type 0) (F : Type 0) (sink sink' : S) (page : Page) (printer : Printer)
+      (result : Result Unit (Halt F)) where
+    pub Follows-begun : (same : Entry) (new : Page) → item ≡ same → new ≡ begun →
+        ((conditions : Panel → Conditions) →
+        Follows takes refuses (λ panel. begun_run printer (conditions panel) same (state_at panel new)) sink sink' page result) →
+        (conditions : Panel → Conditions) →
+        Follows takes refuses (λ panel. item_run printer (conditions panel) item (state_at panel old)) sink sink' page result
     Follows-begun same new is begin h conditions =
-        Follows-is takes refuses F sink sink' page (λ panel. begun_run printer (conditions panel) same (state_at panel new)) (λ panel. item_run printer (conditions panel) item (state_at panel old)) result
+        Follows-is takes refuses F sink sink' page (λ panel. begun_run printer (conditions panel) same (state_at panel new))
+        (λ panel. item_run printer (conditions panel) item (state_at panel old)) result
         (λ panel. item_run-begun printer (conditions panel) panel same new is begin) (h conditions)
 
-  again : (b : Bool) (s : State) → let ended : State = record s { raster = None } in cond b (cond b s ended) (record (cond b s ended) { raster = None }) ≡ cond b s ended
+  again : (b : Bool) (s : State) → let ended : State =
+      record s { raster = None } in cond b (cond b s ended) (record (cond b s ended) { raster = None }) ≡ cond b s ended
   again true s = refl
   again false s = refl
 
@@ -116,9 +134,12 @@ module _ (item : Entry) (old begun : Page) (begins : (panel : Panel) → begun_b
   kept false s = refl
 
   same_id : begun.env.job.macro_id ≡ old.env.job.macro_id
-  same_id = sym (ap (λ s. s.settings.job.macro_id) (begins any_panel)) ∙ ap (λ settings. settings.job.macro_id) (kept (is_of_raster item) (state_at any_panel old))
+  same_id =
+      sym (ap (λ s. s.settings.job.macro_id) (begins any_panel))
+      ∙ ap (λ settings. settings.job.macro_id) (kept (is_of_raster item) (state_at any_panel old))
 
-  pub item-has_begun : (printer : Printer) (defaults : Env) (macros : Store) → is_defining macros ≡ false → Alike (item_of (fields_of printer defaults begun macros) item) (item_of (fields_of printer defaults old macros) item)
+  pub item-has_begun : (printer : Printer) (defaults : Env) (macros : Store) → is_defining macros ≡ false →
+      Alike (item_of (fields_of printer defaults begun macros) item) (item_of (fields_of printer defaults old macros) item)
   item-has_begun printer defaults macros none =
       let before : MachineState = fields_of printer defaults old macros in
       let behind : MachineState = fields_of printer defaults begun macros in (
@@ -134,18 +155,26 @@ not_both : false ≡ true → ⊥
 not_both h = absurd cc
 
 -- a call from where an item has begun is one from where the item begins
-module _ {S : Type 0} (takes refuses : S → Event → S → Type 0) (F : Type 0) (sink sink' : S) (item : Entry) (old machine' : MachineState) (begun : Page) (running : old.stopped ≡ false) where
+module _ {S : Type 0} (takes refuses : S → Event → S → Type 0) (F : Type 0) (sink sink' : S) (item : Entry) (old machine' : MachineState)
+    (begun : Page) (running : old.stopped ≡ false) where
   abbrev pub from : MachineState
   from = record old { page = begun }
 
-  pub CarriesOn-begun : (result : Result Unit (Stop F)) → Alike (item_of from item) (item_of old item) → CarriesOn takes refuses (item_of from item) false sink sink' from machine' result → CarriesOn takes refuses (item_of old item) false sink sink' old machine' result
+  pub CarriesOn-begun : (result : Result Unit (Stop F)) → Alike (item_of from item) (item_of old item) →
+      CarriesOn takes refuses (item_of from item) false sink sink' from machine' result →
+      CarriesOn takes refuses (item_of old item) false sink sink' old machine' result
   CarriesOn-begun (Ok done) e h = (
     running,
     h.1 ∙ ap (λ macros. record old { page = machine'.page; macros = macros; mode = (item_of old item).mode; stopped = false }) (sym e.1),
-    TakesUpTo-is takes refuses sink sink' (item_of from item).run (item_of old item).run (λ panel. just [] (Done (state_at panel machine'.page))) e.0 h.2,
+    TakesUpTo-is takes refuses sink sink' (item_of from item).run (item_of old item).run
+        (λ panel. just [] (Done (state_at panel machine'.page))) e.0 h.2,
   )
   CarriesOn-begun (Err (stops.Found finding)) e h =
-      (running, h.1, TakesUpTo-is takes refuses sink sink' (item_of from item).run (item_of old item).run (λ panel. just [] (Halts finding)) e.0 h.2)
+      (
+        running,
+        h.1,
+        TakesUpTo-is takes refuses sink sink' (item_of from item).run (item_of old item).run (λ panel. just [] (Halts finding)) e.0 h.2,
+      )
   CarriesOn-begun (Err (stops.Refused fault)) e h = (
     running,
     h.1,
@@ -153,10 +182,21 @@ module _ {S : Type 0} (takes refuses : S → Event → S → Type 0) (F : Type 0
       mid = h.2.mid;
       event = h.2.event;
       rest = h.2.rest;
-      before = TakesUpTo-is takes refuses sink h.2.mid (item_of from item).run (item_of old item).run (λ panel. after (h.2.event ∷ []) no_peaks (h.2.rest panel)) e.0 h.2.before;
+      before =
+          TakesUpTo-is takes refuses sink h.2.mid (item_of from item).run (item_of old item).run
+          (λ panel. after (h.2.event ∷ []) no_peaks (h.2.rest panel)) e.0 h.2.before;
       refused = h.2.refused;
     },
   )
   CarriesOn-begun (Err (stops.Memory error)) e h =
-      (running, h.1, e.2 ∙ h.2, (h.3.0, TakesUpTo-is takes refuses sink sink' (item_of from item).run (item_of old item).run (λ panel. just [] (Done (state_at panel h.3.0))) e.0 h.3.1))
+      (
+        running,
+        h.1,
+        e.2 ∙ h.2,
+        (
+              h.3.0,
+              TakesUpTo-is takes refuses sink sink' (item_of from item).run (item_of old item).run
+                  (λ panel. just [] (Done (state_at panel h.3.0))) e.0 h.3.1,
+            ),
+      )
   CarriesOn-begun (Err stops.Stopped) e h = absurd (not_both (sym running ∙ h.0))

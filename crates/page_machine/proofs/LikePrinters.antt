@@ -1,5 +1,6 @@
 -- On printers that are alike but for the device an item runs the same.
-use Rattle.std.proofs.Common.{◌≡◌, ℕ, ℤ, Bool, true, false, ◌&&◌, ◌==◌, cond, is_some, List, [], ◌∷◌, Option, Some, None, refl, ap, sym, ◌∙◌}
+use Rattle.std.proofs.Common.{◌≡◌, ℕ, ℤ, Bool, true, false, ◌&&◌, ◌==◌, cond, is_some, List, [], ◌∷◌, Option, Some, None, refl, ap, sym}
+use Rattle.std.proofs.Common.{◌∙◌}
 use Rattle.std.proofs.lemmas.Bool.{false≢true}
 use Rattle.macro_store.specs.Store.{no_macros}
 use Rattle.pcl_items.specs.declared.pcl.command.Command.{Command}
@@ -11,15 +12,18 @@ use Rattle.device_profile.specs.Likeness.{IsLike}
 use Rattle.device_profile.specs.Printer.{Printer}
 use Rattle.page_env.specs.declared.finding.Finding.{Finding}
 use Rattle.page_env.specs.declared.finding.Finding.TheVariants.{InMacro, MacroDepth}
-use Rattle.page_env.specs.Effect.{Effect, Goes, GoesThenCloses, GoesThenEnds, Controlling, Fails, check, effect_of, fails_or, first_finding, first_unset, judged, TableLine, Transition, Step, Closes, Ends, Behind, Controls}
+use Rattle.page_env.specs.Effect.{Effect, Goes, GoesThenCloses, GoesThenEnds, Controlling, Fails, check, effect_of, fails_or, first_finding}
+use Rattle.page_env.specs.Effect.{first_unset, judged, TableLine, Transition, Step, Closes, Ends, Behind, Controls}
 use Rattle.page_env.specs.Effect as effect
-use Rattle.page_env.specs.Likeness.{asks_alike, command_asks_alike, HasNoOverlay, ClosesWithout, GoesOnBoth, GoesOnLike, ByteGoesOnLike, MoveGoesOnLike}
+use Rattle.page_env.specs.Likeness.{asks_alike, command_asks_alike, HasNoOverlay, ClosesWithout, GoesOnBoth, GoesOnLike, ByteGoesOnLike}
+use Rattle.page_env.specs.Likeness.{MoveGoesOnLike}
 use Rattle.page_env.specs.Pens.{move_pen}
 use Rattle.page_env.specs.Rasters.{begun_by, is_of_raster}
 use Rattle.page_env.specs.Settings.{Settings, State}
 use Rattle.page_env.specs.Table.{coordinates_of, printed_bytes, transition_of}
 use Rattle.page_env.specs.Text.{print_transparent}
-use Rattle.page_machine.specs.Run.{Run, just, after, Done, Halts, peaks_of, onward, followed_by, finding_or, unset_or, Conditions, effect_run, transition_run, byte_run, printing, move_run, drawing, own_run}
+use Rattle.page_machine.specs.Run.{Run, just, after, Done, Halts, peaks_of, onward, followed_by, finding_or, unset_or, Conditions}
+use Rattle.page_machine.specs.Run.{effect_run, transition_run, byte_run, printing, move_run, drawing, own_run}
 use Rattle.page_machine.specs.Macros.{MacroContext, closing_reads, ended, in_job, overlay_run, page_close}
 use Rattle.page_machine.specs.Defining.{macros_after}
 use Rattle.page_machine.specs.Likeness.{without_macros, RunsOnLike}
@@ -44,7 +48,8 @@ unset_without None e h = h
 
 judged_without : (settings : Settings) (line : TableLine) (e : Effect) → EndsWithout e → EndsWithout (judged settings line e)
 judged_without settings line e h =
-    fails_without (first_finding line.before) _ (unset_without (first_unset settings line.reads) _ (fails_without (first_finding line.after) e h))
+    fails_without (first_finding line.before) _
+    (unset_without (first_unset settings line.reads) _ (fails_without (first_finding line.after) e h))
 
 effect_without : (settings : Settings) (t : Transition) → ClosesWithout t → EndsWithout (effect_of settings t)
 effect_without settings (Step line) h = judged_without settings line (Goes line.state line.marks) tt
@@ -89,7 +94,10 @@ module _ (p q : Printer) (defaults : Settings) where
   effect_same : (e : Effect) → EndsWithout e → effect_run there e ≡ effect_run here e
   effect_same (Goes s marks) h = refl
   effect_same (GoesThenCloses s sets_paper change) h =
-      ap (λ (r : Run). cond (sets_paper && false) (just [] (Halts InMacro)) (after [] (peaks_of s) (followed_by (cond s.marked r (just [] (Done s))) (λ t. just [] (Done (change t)))))) (close_same s h)
+      ap
+      (λ (r : Run). cond (sets_paper && false) (just [] (Halts InMacro))
+      (after [] (peaks_of s) (followed_by (cond s.marked r (just [] (Done s))) (λ t. just [] (Done (change t))))))
+      (close_same s h)
   effect_same (GoesThenEnds s) h = ap (after [] (peaks_of s)) (close_same s h)
   effect_same (Controlling s n) h = absurd h
   effect_same (Fails finding) h = refl
@@ -127,16 +135,21 @@ module _ (p q : Printer) (defaults : Settings) where
 
 -- ---- the macros
 
-command_leaves : (p q : Printer) (command : Command) (n : Amount) → command_asks_alike p q command n ≡ true → (id limit : ℕ) → macros_after id (Parameterized command n) (no_macros limit) ≡ no_macros limit
+command_leaves : (p q : Printer) (command : Command) (n : Amount) → command_asks_alike p q command n ≡ true → (id limit : ℕ) →
+    macros_after id (Parameterized command n) (no_macros limit) ≡ no_macros limit
 command_leaves p q MacroControl n e id limit = absurd (false≢true e)
 command_leaves p q _ n e id limit = refl
 
-leaves_none : (p q : Printer) (item : Entry) → asks_alike p q item ≡ true → (id limit : ℕ) → macros_after id item (no_macros limit) ≡ no_macros limit
+leaves_none : (p q : Printer) (item : Entry) → asks_alike p q item ≡ true → (id limit : ℕ) →
+    macros_after id item (no_macros limit) ≡ no_macros limit
 leaves_none p q (Parameterized command n) e id limit = command_leaves p q command n e id limit
 leaves_none p q _ e id limit = refl
 
-pub runs_on_both : ((item : Entry) → GoesOnLike item) → ((code : ℕ) → ByteGoesOnLike code) → ((to : ℤ × ℤ) → MoveGoesOnLike to) → (item : Entry) → RunsOnLike item
+pub runs_on_both : ((item : Entry) → GoesOnLike item) → ((code : ℕ) → ByteGoesOnLike code) → ((to : ℤ × ℤ) → MoveGoesOnLike to) →
+    (item : Entry) → RunsOnLike item
 runs_on_both items bytes moves item p q like asks = record {
-  same = λ defaults s h. begun_same p q defaults like bytes moves item (items item p q defaults like asks) (begun_by item s) (begun_without item s h);
+  same =
+      λ defaults s h.
+      begun_same p q defaults like bytes moves item (items item p q defaults like asks) (begun_by item s) (begun_without item s h);
   macros = leaves_none p q item asks;
 }

@@ -20,7 +20,8 @@ module _ (macros : Store) (mode next : Mode) (item : Entry) (e : follows mode it
   pub admits_next : StandsIn macros mode → IsSome macros.definition → Admits macros item
   admits_next h opened = subst (λ m. IsAdmittedIn m item) (sym (h opened)) (ap is_some e)
 
-  appended_case : (d : Option (ℕ × List Entry)) → (IsSome d → mode_in d ≡ Some mode) → IsSome (with_item item d) → mode_in (with_item item d) ≡ Some next
+  appended_case : (d : Option (ℕ × List Entry)) → (IsSome d → mode_in d ≡ Some mode) → IsSome (with_item item d) →
+      mode_in (with_item item d) ≡ Some next
   appended_case None h opened = absurd cc
   appended_case (Some m) h opened = mode_after-more (Some Pcl) m.1 item ∙ ap (option_and_then (λ x. follows x item)) (h refl) ∙ e
 
@@ -31,7 +32,8 @@ pub committed_stands : (macros : Store) (mode : Mode) → StandsIn (committed ma
 committed_stands macros mode = λ opened. absurd cc
 
 -- a command that is admitted leaves mode PCL
-pub command_leaves : (mode : Mode) (command : Command) (n : Amount) → IsSome (follows mode (Parameterized command n)) → follows mode (Parameterized command n) ≡ Some Pcl
+pub command_leaves : (mode : Mode) (command : Command) (n : Amount) → IsSome (follows mode (Parameterized command n)) →
+    follows mode (Parameterized command n) ≡ Some Pcl
 command_leaves Pcl command n admitted = refl
 command_leaves Frame command n admitted = absurd cc
 command_leaves Pjl command n admitted = refl
@@ -52,11 +54,13 @@ module _ (macros : Store) (none : macros.definition ≡ None) where
   begun_in n Frame next e = absurd cc
   begun_in n Pjl next e = e
 
-  control_stands : (id : ℕ) (n : Amount) (mode next : Mode) → follows mode (Parameterized MacroControl n) ≡ Some next → (control : Option Control) → StandsIn (controlled_after id control macros) next
+  control_stands : (id : ℕ) (n : Amount) (mode next : Mode) → follows mode (Parameterized MacroControl n) ≡ Some next →
+      (control : Option Control) → StandsIn (controlled_after id control macros) next
   control_stands id n mode next e (Some Begin) = λ opened. begun_in n mode next e
   control_stands id n mode next e _ = unopened_stands next
 
-  pub carried_stands : (id : ℕ) (item : Entry) (mode next : Mode) → follows mode item ≡ Some next → StandsIn (carried_after id item macros) next
+  pub carried_stands : (id : ℕ) (item : Entry) (mode next : Mode) → follows mode item ≡ Some next →
+      StandsIn (carried_after id item macros) next
   carried_stands id Reset mode next e = unopened_stands next
   carried_stands id ExitLanguage mode next e = unopened_stands next
   carried_stands id (Parameterized MacroControl n) mode next e = control_stands id n mode next e (control_of n)

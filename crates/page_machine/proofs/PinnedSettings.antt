@@ -1,5 +1,6 @@
 -- What a panel has that a job can set, a printer takes of a prologue.
-use Rattle.std.proofs.Common.{◌≡◌, ℕ, ◌==◌, ◌&&◌, ◌||◌, nat_lt, nat_le, not, Bool, true, false, IsTrue, Option, Some, None, refl, ap, subst, ◌∙◌}
+use Rattle.std.proofs.Common.{◌≡◌, ℕ, ◌==◌, ◌&&◌, ◌||◌, nat_lt, nat_le, not, Bool, true, false, IsTrue, Option, Some, None, refl, ap, subst}
+use Rattle.std.proofs.Common.{◌∙◌}
 use Rattle.std.specs.Prelude.{IsSomeAnd}
 use Rattle.std.specs.Option.{option_map_or}
 use Rattle.std.proofs.lemmas.Bool.{and_parts, eqb-true}
@@ -39,7 +40,8 @@ tray_held : (tray : ℕ) (held : Bool) → IsTrue held → (nat_lt 0 tray && not
 tray_held tray true is = and_false (nat_lt 0 tray)
 tray_held tray false is = absurd cc
 
-fixed_spacing : (found : Option Face) → IsSomeAnd found (λ face. IsTrue (is_request face.request)) → (option_map_or (λ face. face.request) found no_request).spacing ≡ 0
+fixed_spacing : (found : Option Face) → IsSomeAnd found (λ face. IsTrue (is_request face.request)) →
+    (option_map_or (λ face. face.request) found no_request).spacing ≡ 0
 fixed_spacing None is = absurd is
 fixed_spacing (Some face) is =
     let p7 = and_parts _ _ is in
@@ -69,11 +71,14 @@ module _ (printer : Printer) (panel : Panel) (set : CanBeSetTo printer panel) wh
     has_orientation = of_whole (has_orientation printer.geometries) panel.orientation set.orientation;
     copies = taken 1 32_767 panel.copies set.values.copies;
     sides = taken 0 2 panel.sides set.values.sides;
-    duplex = ap (λ n. nat_lt 0 n && not printer.has_duplex) (whole_of_whole panel.sides) ∙ one_side printer.has_duplex panel.sides set.sides;
+    duplex =
+        ap (λ n. nat_lt 0 n && not printer.has_duplex) (whole_of_whole panel.sides) ∙ one_side printer.has_duplex panel.sides set.sides;
     tray =
         let parts = and_parts (nat_le 1 panel.tray) (nat_le panel.tray 255) set.values.tray in
         whole_between 0 255 panel.tray (leb-zero panel.tray) parts.1;
-    has_tray = ap (λ n. nat_lt 0 n && not (has_tray printer n)) (whole_of_whole panel.tray) ∙ tray_held panel.tray (has_tray printer panel.tray) set.tray;
+    has_tray =
+        ap (λ n. nat_lt 0 n && not (has_tray printer n)) (whole_of_whole panel.tray)
+        ∙ tray_held panel.tray (has_tray printer panel.tray) set.tray;
     vmi = (and_parts (nat_le 0 panel.vmi) (nat_le panel.vmi 3_350_000) set.values.vmi).1;
     spacing = fixed_spacing (face_at printer.faces panel.font) set.request;
     line_termination = taken 0 3 panel.line_termination set.values.line_termination;

@@ -19,28 +19,41 @@ use Rattle.page_machine.specs.Machine.{context_of, item_of}
 use Rattle.page_machine.specs.TextLines.{machine_behind, glyph_events, PrintsLines}
 
 -- a step with these events, by itself and with nothing behind it
-pub step_ends : (events : List Event) (s : State) → after [] (peaks_of s) (just events (Done s)) ≡ after events (peaks_of s) (just [] (Done s))
-step_ends events s = let whole = append-nil events in λ i. record { events = sym whole i; peaks = higher (peaks_of s) no_peaks; ending = Done s }
+pub step_ends : (events : List Event) (s : State) →
+    after [] (peaks_of s) (just events (Done s)) ≡ after events (peaks_of s) (just [] (Done s))
+step_ends events s =
+    let whole = append-nil events in λ i. record { events = sym whole i; peaks = higher (peaks_of s) no_peaks; ending = Done s }
 
 -- an item of lines is its own step, where no raster is started
 one_step : (printer : Printer) (conditions : Conditions) (s : State) (code : ℕ) (returns feeds : Bool) →
     item_run printer conditions (cond returns CarriageReturn (cond feeds LineFeed (Text code))) (record s { raster = None }) ≡
-    effect_run conditions (effect_of s.settings (transition_of printer conditions.defaults (record s { raster = None }) (cond returns CarriageReturn (cond feeds LineFeed (Text code)))))
+    effect_run conditions
+    (effect_of s.settings
+    (transition_of printer conditions.defaults (record s { raster = None })
+    (cond returns CarriageReturn (cond feeds LineFeed (Text code)))))
 one_step printer conditions s code true feeds = refl
 one_step printer conditions s code false true = refl
 one_step printer conditions s code false false = refl
 
 module _ (machine : MachineState) (code : ℕ) (none : machine.macros.definition ≡ None) where
   -- where no definition is open, a byte is carried out and leaves the macros
-  byte_is_carried : (panel : Panel) → (item_of machine (line_item code)).run panel ≡ item_run machine.printer (in_job (context_of machine panel)) (line_item code) (state_at panel machine.page)
+  byte_is_carried : (panel : Panel) →
+      (item_of machine (line_item code)).run panel
+      ≡ item_run machine.printer (in_job (context_of machine panel)) (line_item code) (state_at panel machine.page)
   byte_is_carried panel =
-      ap (λ d. cond (is_some d) (defining_run machine.macros (line_item code) (defining_of (line_item code)) (state_at panel machine.page)) (item_run machine.printer (in_job (context_of machine panel)) (line_item code) (state_at panel machine.page))) none
+      ap
+      (λ d. cond (is_some d) (defining_run machine.macros (line_item code) (defining_of (line_item code)) (state_at panel machine.page))
+      (item_run machine.printer (in_job (context_of machine panel)) (line_item code) (state_at panel machine.page)))
+      none
 
   macros_stay : (item_of machine (line_item code)).macros ≡ machine.macros
   macros_stay = by (code == 13) (code == 10)
     where
-      by : (returns feeds : Bool) → macros_after machine.page.env.job.macro_id (cond returns CarriageReturn (cond feeds LineFeed (Text code))) machine.macros ≡ machine.macros
-      by true feeds = ap (λ d. cond (is_some d) (defined_after CarriageReturn (defining_of CarriageReturn) machine.macros) machine.macros) none
+      by : (returns feeds : Bool) →
+          macros_after machine.page.env.job.macro_id (cond returns CarriageReturn (cond feeds LineFeed (Text code))) machine.macros
+          ≡ machine.macros
+      by true feeds =
+          ap (λ d. cond (is_some d) (defined_after CarriageReturn (defining_of CarriageReturn) machine.macros) machine.macros) none
       by false true = ap (λ d. cond (is_some d) (defined_after LineFeed (defining_of LineFeed) machine.macros) machine.macros) none
       by false false = ap (λ d. cond (is_some d) (defined_after (Text code) (defining_of (Text code)) machine.macros) machine.macros) none
 
@@ -53,10 +66,20 @@ module _ (machine : MachineState) (code : ℕ) (none : machine.macros.definition
       byte_is_carried panel
       ∙ ap (λ raster. item_run machine.printer conditions (line_item code) (record s { raster = raster })) h.no_raster
       ∙ one_step machine.printer conditions s code (code == 13) (code == 10)
-      ∙ ap (λ raster. effect_run conditions (effect_of s.settings (transition_of machine.printer conditions.defaults (record s { raster = raster }) (line_item code)))) (sym h.no_raster)
-      ∙ ap (effect_run conditions) (h.goes panel conditions.defaults) ∙ step_ends (glyph_events look place code) (state_at panel (page_behind look place code machine.page))
+      ∙ ap
+      (λ raster. effect_run conditions
+      (effect_of s.settings (transition_of machine.printer conditions.defaults (record s { raster = raster }) (line_item code))))
+      (sym h.no_raster)
+      ∙ ap (effect_run conditions) (h.goes panel conditions.defaults)
+      ∙ step_ends (glyph_events look place code) (state_at panel (page_behind look place code machine.page))
 
-pub prints_lines : (codes : List ℕ) (look : Look) (place : TextPlace) (machine : MachineState) → machine.macros.definition ≡ None → AllGo machine.printer look place machine.page codes → PrintsLines look place codes machine (record machine { page = page_behind_all look place codes machine.page })
+pub prints_lines : (codes : List ℕ) (look : Look) (place : TextPlace) (machine : MachineState) → machine.macros.definition ≡ None →
+    AllGo machine.printer look place machine.page codes →
+    PrintsLines look place codes machine (record machine { page = page_behind_all look place codes machine.page })
 prints_lines [] look place machine none h = refl
 prints_lines (code ∷ codes) look place machine none h =
-    (byte_prints machine code none look place h.0, macros_stay machine code none, prints_lines codes look (behind look code place) (machine_behind look place code machine) none h.1)
+    (
+      byte_prints machine code none look place h.0,
+      macros_stay machine code none,
+      prints_lines codes look (behind look code place) (machine_behind look place code machine) none h.1,
+    )

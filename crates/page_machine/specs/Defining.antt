@@ -1,5 +1,6 @@
 -- What an item of the job does: it is carried out, or stored in the definition that is open; and the macros after it.
-use Rattle.std.specs.Prelude.{◌≡◌, ℕ, ◌+◌, nat_lt, length, Bool, true, false, cond, is_some, Option, Some, None, IsSome, [], ◌∷◌}
+use Rattle.std.specs.Prelude.{◌≡◌, ℕ, ◌+◌, nat_lt, length, Bool, true, false, cond, is_some, Option, Some, None, IsSome}
+use Rattle.std.specs.Prelude.{[], ◌∷◌}
 use Rattle.pcl_items.specs.declared.pcl.command.Command.TheVariants.{MacroControl}
 use Rattle.pcl_items.specs.declared.item.Mode.{Mode}
 use Rattle.pcl_items.specs.Spellings.Canon.{canon}
@@ -43,7 +44,8 @@ abbrev pub defining_run : Store → Entry → Defining → State → Run
 defining_run macros item Refused s = just [] (Halts DefinitionOpen)
 defining_run macros item Completed s = just [] (Done s)
 defining_run macros item Stored s =
-    finding_or (first_finding (check (nat_lt macros.limit (stored_bytes macros + length (canon item))) MacroMemory ∷ []))
+    finding_or
+    (first_finding (check (nat_lt macros.limit (stored_bytes macros + length (canon item))) MacroMemory ∷ []))
     (after [] (of_memory (stored_bytes (appended item macros))) (just [] (Done s)))
 
 abbrev pub defined_after : Entry → Defining → Store → Store
@@ -79,15 +81,18 @@ is_defining macros = is_some macros.definition
 
 abbrev pub job_item_run : MacroContext → Entry → State → Run
 job_item_run context item s =
-    cond (is_defining context.macros) (defining_run context.macros item (defining_of item) s) (item_run context.printer (in_job context) item s)
+    cond (is_defining context.macros) (defining_run context.macros item (defining_of item) s)
+    (item_run context.printer (in_job context) item s)
 
 -- the macros after the item, where this id was in force before it
 abbrev pub macros_after : ℕ → Entry → Store → Store
-macros_after id item macros = cond (is_defining macros) (defined_after item (defining_of item) macros) (carried_after id item macros)
+macros_after id item macros =
+    cond (is_defining macros) (defined_after item (defining_of item) macros) (carried_after id item macros)
 
 -- the end of the bytes acts as a reset
 abbrev pub job_end_run : MacroContext → State → Run
-job_end_run context s = cond (is_defining context.macros) (just [] (Halts DefinitionOpen)) (reset_run (in_job context) s)
+job_end_run context s =
+    cond (is_defining context.macros) (just [] (Halts DefinitionOpen)) (reset_run (in_job context) s)
 
 -- ---- memory
 

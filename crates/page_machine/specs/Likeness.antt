@@ -18,9 +18,11 @@ standing_as first machine = record first { printer = machine.printer; macros = m
 abbrev pub without_macros : Printer → Settings → MacroContext
 without_macros printer defaults = record { printer = printer; defaults = defaults; macros = no_macros printer.memory }
 
--- An item of which two printers ask the same runs the same on both, where no overlay is enabled and no macro is known; and then none is.
+-- An item of which two printers ask the same runs the same on both, where no overlay is enabled and no
+-- macro is known; and then none is.
 pub record RunsOnBoth (p q : Printer) (item : Entry) : Type 0 where
-  pub same : (defaults : Settings) (s : State) → HasNoOverlay s → job_item_run (without_macros q defaults) item s ≡ job_item_run (without_macros p defaults) item s
+  pub same : (defaults : Settings) (s : State) → HasNoOverlay s →
+      job_item_run (without_macros q defaults) item s ≡ job_item_run (without_macros p defaults) item s
   pub macros : (id limit : ℕ) → macros_after id item (no_macros limit) ≡ no_macros limit
 
 abbrev pub RunsOnLike : Entry → Type 0

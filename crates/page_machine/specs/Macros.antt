@@ -1,4 +1,5 @@
--- What macros do: the bodies that controls run, the overlay of a page that closes, and under which conditions each item stands.
+-- What macros do: the bodies that controls run, the overlay of a page that closes, and under which
+-- conditions each item stands.
 use Rattle.std.specs.Prelude.{ℕ, zero, suc, ◌==◌, ◌&&◌, Bool, true, false, is_some, Option, Some, None, List, [], ◌∷◌}
 use Rattle.pcl_items.specs.Items.{Entry}
 use Rattle.pcl_items.specs.Escapes.Value.{Amount}
@@ -16,7 +17,8 @@ use Rattle.page_env.specs.Table.{page_end_of}
 use Rattle.page_machine.specs.declared.nesting.Nesting.{Nesting}
 use Rattle.page_machine.specs.declared.nesting.Nesting.TheVariants.{Job, Executed, Called, Overlaid}
 use Rattle.page_machine.specs.Event.{Ended}
-use Rattle.page_machine.specs.Run.{Peaks, Run, just, after, followed_by, finding_or, unset_or, goes, Ending, Done, Halts, Conditions, transition_run, item_run, entries_run}
+use Rattle.page_machine.specs.Run.{Peaks, Run, just, after, followed_by, finding_or, unset_or, goes, Ending, Done}
+use Rattle.page_machine.specs.Run.{Halts, Conditions, transition_run, item_run, entries_run}
 
 -- what does not change while an item of the job is carried out
 pub record MacroContext : Type 0 where
@@ -69,12 +71,14 @@ abbrev pub found_run : Option (List Entry) → State → (List Entry → Run) �
 found_run None s run = just [] (Done s)
 found_run (Some body) s run = run body
 
--- what a control does after its own step, where `inner` runs a body one level deeper: it executes or calls the macro of the id in force
+-- what a control does after its own step, where `inner` runs a body one level deeper:
+-- it executes or calls the macro of the id in force
 abbrev pub control_body : Store → (Nesting → List Entry → State → Run) → Nesting → Option Control → State → Run
 control_body macros inner nesting (Some Execute) s =
     found_run (body_of macros s.settings.job.macro_id) s (λ body. inner (executed_in nesting) body s)
 control_body macros inner nesting (Some Call) s =
-    found_run (body_of macros s.settings.job.macro_id) s (λ body. put_back s.settings (inner (called_in nesting) body s))
+    found_run (body_of macros s.settings.job.macro_id) s
+    (λ body. put_back s.settings (inner (called_in nesting) body s))
 control_body macros inner nesting _ s = just [] (Done s)
 
 -- `&f#X` macro control: its checks, its own step, and the body that it runs
@@ -101,14 +105,19 @@ raster_ended s = just [] (Done (record s { raster = None }))
 
 -- an item of a macro begins, where one more may be carried out, and is then carried out
 abbrev pub macro_item_run : Printer → Conditions → Entry → State → Run
-macro_item_run printer conditions item s = followed_by (transition_run conditions s (Step (spend_item s))) (item_run printer conditions item)
+macro_item_run printer conditions item s =
+    followed_by (transition_run conditions s (Step (spend_item s))) (item_run printer conditions item)
 
 -- a body at a level, where so many levels are left, its own among them
 abbrev pub body_run : MacroContext → (State → Run) → (left level : ℕ) → Nesting → List Entry → State → Run
 body_run context close zero level nesting items s = just [] (Halts MacroDepth)
 body_run context close (suc left) level nesting items s =
     after [] (at_level level)
-    (followed_by (entries_run (macro_item_run context.printer (conditions_in context close nesting (body_run context close left (suc level)))) items s) raster_ended)
+    (followed_by
+    (entries_run
+    (macro_item_run context.printer (conditions_in context close nesting (body_run context close left (suc level))))
+    items s)
+    raster_ended)
 
 -- ---- closing a page
 
@@ -118,7 +127,9 @@ closing_reads = Size ∷ Orientation ∷ Copies ∷ Sides ∷ Tray ∷ []
 
 -- the page ends with its five values; it is unmarked, no raster is started, and the cursor is at home
 abbrev pub ended : State → Run
-ended s = just (Ended (page_end_of s) ∷ []) (Done (record s { cursor = record s.cursor { y = None }; marked = false; raster = None }))
+ended s =
+    just (Ended (page_end_of s) ∷ [])
+    (Done (record s { cursor = record s.cursor { y = None }; marked = false; raster = None }))
 
 -- in an overlay no page is closed
 abbrev pub refused : State → Run
@@ -137,7 +148,8 @@ abbrev pub overlay_run : MacroContext → State → Option ℕ → Run
 overlay_run context s None = just [] (Done s)
 overlay_run context s (Some id) =
     found_run (body_of context.macros id) s
-    (λ body. give_up s (body_run context refused context.printer.depth 1 Overlaid body (overlay_state context.defaults s)))
+    (λ body.
+    give_up s (body_run context refused context.printer.depth 1 Overlaid body (overlay_state context.defaults s)))
 
 -- an overlay is enabled on a printer that runs no macro
 abbrev pub is_too_deep : Printer → State → Bool

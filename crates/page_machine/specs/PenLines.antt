@@ -18,14 +18,16 @@ pub record DrawsIn (box : PenBounds) (machine : MachineState) : Type 0 where
   pub within : DrawsWithin machine.printer machine.page box
   pub no_definition : machine.macros.definition ≡ None
 
--- A pair of coordinates is an item that the machine carries out to its end, whatever the panel, with a line for its mark, and that
--- leaves the macros, the mode and the overlay; behind it the pen draws within the box still.
+-- A pair of coordinates is an item that the machine carries out to its end, whatever the panel, with a line for its
+-- mark, and that leaves the macros, the mode and the overlay; behind it the pen draws within the box still.
 pub record DrawsPair (box : PenBounds) (motion : Motion) (to : ℤ × ℤ) (old new : MachineState) : Type 0 where
   pub line : PenLine
   pub peaks : Panel → Peaks
   pub is : new ≡ record old { page = new.page }
   pub macros : (item_of old (Move motion (Some to))).macros ≡ old.macros
   pub mode : (item_of old (Move motion (Some to))).mode ≡ old.mode
-  pub run : (panel : Panel) → (item_of old (Move motion (Some to))).run panel ≡ after (Marked (Line line) ∷ []) (peaks panel) (just [] (Done (state_at panel new.page)))
+  pub run : (panel : Panel) →
+      (item_of old (Move motion (Some to))).run panel
+      ≡ after (Marked (Line line) ∷ []) (peaks panel) (just [] (Done (state_at panel new.page)))
   pub overlay : new.page.env.job.overlay ≡ old.page.env.job.overlay
   pub still : DrawsIn box new

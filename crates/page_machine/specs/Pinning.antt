@@ -1,6 +1,7 @@
 -- A pinned job: the items of a job, with commands that set all that a panel chooses.
 use Rattle.std.specs.List.{AllByRecursion}
-use Rattle.std.specs.Prelude.{◌≡◌, ℕ, ℤ, pos, int_lt, unsigned_abs, ◌+◌, ◌*◌, length, Bool, true, false, cond, not, ◌&&◌, ◌||◌, List, [], ◌∷◌, ◌++◌, Option, Some, None, if◌then◌else◌}
+use Rattle.std.specs.Prelude.{◌≡◌, ℕ, ℤ, pos, int_lt, unsigned_abs, ◌+◌, ◌*◌, length, Bool, true, false, cond, not}
+use Rattle.std.specs.Prelude.{◌&&◌, ◌||◌, List, [], ◌∷◌, ◌++◌, Option, Some, None, if◌then◌else◌}
 use Rattle.device_profile.specs.declared.font.FontRequest.{FontRequest}
 use Rattle.device_profile.specs.declared.panel.Panel.{Panel}
 use Rattle.device_profile.specs.Printer.{Printer}
@@ -32,7 +33,8 @@ whole n = unsigned (n * 10_000)
 
 -- a stroke weight may be negative
 abbrev pub weight_amount : ℤ → Amount
-weight_amount weight = record { sign = if int_lt weight (pos 0) then Minus else Absent; ten_thousandths = unsigned_abs weight }
+weight_amount weight =
+    record { sign = if int_lt weight (pos 0) then Minus else Absent; ten_thousandths = unsigned_abs weight }
 
 -- the command that sets the VMI, in ten-thousandths of 1/48 inch
 abbrev pub spacing : ℕ → Entry
@@ -82,7 +84,8 @@ is_due_behind due item = is_reset item || (due && needs_no_prologue item)
 abbrev pub pinned_items : Panel → FontRequest → Bool → List Entry → List Entry
 pinned_items panel request due [] = []
 pinned_items panel request due (item ∷ items) =
-    before panel request due item ++ item ∷ behind panel item ++ pinned_items panel request (is_due_behind due item) items
+    before panel request due item ++ item ∷ behind panel item
+    ++ pinned_items panel request (is_due_behind due item) items
 
 -- ---- the places in it
 
@@ -94,7 +97,8 @@ place_behind place (item ∷ items) = place_behind (place + length (canon item))
 -- items in their one spelling, one behind another, from a place on
 abbrev pub placed_from : ℕ → List Entry → List Placed
 placed_from place [] = []
-placed_from place (item ∷ items) = record { place = place; item = item } ∷ placed_from (place + length (canon item)) items
+placed_from place (item ∷ items) =
+    record { place = place; item = item } ∷ placed_from (place + length (canon item)) items
 
 -- the items of a job, each where it stands in the pinned job, from a place on
 abbrev pub moved_from : Panel → FontRequest → ℕ → Bool → List Entry → List Placed
@@ -102,7 +106,8 @@ moved_from panel request place due [] = []
 moved_from panel request place due (item ∷ items) =
     let here = place_behind place (before panel request due item) in
     record { place = here; item = item }
-    ∷ moved_from panel request (place_behind (here + length (canon item)) (behind panel item)) (is_due_behind due item) items
+    ∷ moved_from panel request (place_behind (here + length (canon item)) (behind panel item))
+    (is_due_behind due item) items
 
 -- ---- jobs
 
@@ -118,7 +123,8 @@ pinned_reading printer panel items =
 -- the reading of the job, each item where it stands in the pinned job
 abbrev pub moved_reading : Printer → Panel → List Entry → Reading
 moved_reading printer panel items =
-    Whole (moved_from panel (request_at printer.faces panel.font) 0 true items) (place_behind 0 (pinned_entries printer panel items))
+    Whole (moved_from panel (request_at printer.faces panel.font) 0 true items)
+    (place_behind 0 (pinned_entries printer panel items))
 
 -- ---- the same outcome
 
@@ -140,17 +146,19 @@ abbrev pub finding_of : List ItemRun → Option (ℕ × Finding)
 finding_of [] = None
 finding_of (x ∷ xs) = found_at x.place x.finding (finding_of xs)
 
--- the second gives the same events, and the same finding at the same place, if there is one, which is none of a field that is unset
+-- the second gives the same events, and the same finding at the same place, if there is one, which is none
+-- of a field that is unset
 pub record IsSameOutcome (r r' : JobRun) : Type 0 where
   pub events : events_of r'.items ≡ events_of r.items
   pub finding : finding_of r'.items ≡ finding_of r.items
   pub set : IsSet r'.ending
 
--- What a job prints that is pinned to this panel: from every panel, whether it is watched or not, it gives the events of the job from
--- this panel, and ends with the same finding, if there is one, at the same item; unless its bodies, which may be longer than those of
--- the job, find no room. So it is where the items of bodies are not limited.
+-- What a job prints that is pinned to this panel: from every panel, whether it is watched or not, it gives the events
+-- of the job from this panel, and ends with the same finding, if there is one, at the same item; unless its bodies,
+-- which may be longer than those of the job, find no room. So it is where the items of bodies are not limited.
 abbrev pub PrintsPinned : Printer → Panel → Type 0
 PrintsPinned printer panel =
-    printer.most_items ≡ None → (flags : Flags) (from : Panel) (items : List Entry) → AllByRecursion (λ item. is_unpinnable item ≡ false) items →
+    printer.most_items ≡ None → (flags : Flags) (from : Panel) (items : List Entry) →
+    AllByRecursion (λ item. is_unpinnable item ≡ false) items →
     let run = run_from printer flags from (pinned_reading printer panel items) in
     FindsRoom run.ending → IsSameOutcome (plain_run printer panel (moved_reading printer panel items)) run

@@ -35,6 +35,9 @@ abbrev pub PrintsLines : Look → TextPlace → List ℕ → MachineState → Ma
 PrintsLines look place [] old new = new ≡ old
 PrintsLines look place (code ∷ codes) old new =
     let mid = machine_behind look place code old in
-    ((panel : Panel) → (item_of old (line_item code)).run panel ≡ after (glyph_events look place code) (peaks_of (state_at panel mid.page)) (just [] (Done (state_at panel mid.page))))
+    ((panel : Panel) →
+    (item_of old (line_item code)).run panel
+    ≡ after (glyph_events look place code) (peaks_of (state_at panel mid.page))
+    (just [] (Done (state_at panel mid.page))))
     × ((item_of old (line_item code)).macros ≡ old.macros)
     × PrintsLines look (behind look code place) codes mid new

@@ -7,7 +7,8 @@ ghost use Rattle.macro_store.specs.Store.{Admits};
 ghost use Rattle.pcl_items.specs.Items.{view};
 ghost use Rattle.page_env.specs.Action.{page_view};
 ghost use Rattle.page_env.specs.JobControl.{is_reset};
-ghost use Rattle.page_machine.specs.Defining.{control_in, defining_control, defining_of, begins, carried_after, controlled_after, StandsIn};
+ghost use Rattle.page_machine.specs.Defining.{control_in, defining_control, defining_of, begins};
+ghost use Rattle.page_machine.specs.Defining.{carried_after, controlled_after, StandsIn};
 ghost use Rattle.page_machine.specs.Machine.{Defines};
 
 use crate::stop::Stop;

@@ -3,7 +3,8 @@ use Rattle.std.specs.Prelude.{ℕ, ◌-◌, ◌==◌, ◌&&◌, nat_le, nat_lt, 
 use Rattle.device_profile.specs.declared.font.SymbolSet.{SymbolSet}
 use Rattle.page_picture.specs.declared.characters.Repertoire.{Repertoire}
 use Rattle.page_picture.specs.declared.characters.Repertoire.TheVariants.{Ascii, Pc8, Pc850, Roman8, Latin1, Windows}
-use Rattle.page_picture.specs.declared.characters.TheConstants.{PC_BELOW_32, PC8_FROM_127, PC850_FROM_127, ROMAN8_FROM_160, WINDOWS_FROM_128}
+use Rattle.page_picture.specs.declared.characters.TheConstants.{PC_BELOW_32, PC8_FROM_127, PC850_FROM_127}
+use Rattle.page_picture.specs.declared.characters.TheConstants.{ROMAN8_FROM_160, WINDOWS_FROM_128}
 
 -- 0U, 10U, 12U, 8U, 0N and 19U
 unfoldable pub repertoire_of : SymbolSet → Option Repertoire
@@ -51,7 +52,8 @@ other_character Windows code = windows_character code
 -- a code of ASCII that shows something stands for itself in each of these sets
 abbrev pub character_in : Option Repertoire → ℕ → Option ℕ
 character_in None code = None
-character_in (Some repertoire) code = if nat_le 32 code && nat_le code 126 then Some code else other_character repertoire code
+character_in (Some repertoire) code =
+    if nat_le 32 code && nat_le code 126 then Some code else other_character repertoire code
 
 unfoldable pub character_of : SymbolSet → ℕ → Option ℕ
 character_of set code = character_in (repertoire_of set) code

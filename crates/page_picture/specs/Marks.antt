@@ -1,5 +1,6 @@
 -- The elements of marks.
-use Rattle.std.specs.Prelude.{ℕ, ℤ, pos, ◌/◌, ◌%◌, int_le, nat_le, nat_lt, Bool, if◌then◌else◌, List, [], ◌∷◌, ◌++◌, codes, decimal, Option, None, Some}
+use Rattle.std.specs.Prelude.{ℕ, ℤ, pos, ◌/◌, ◌%◌, int_le, nat_le, nat_lt, Bool, if◌then◌else◌, List, [], ◌∷◌, ◌++◌}
+use Rattle.std.specs.Prelude.{codes, decimal, Option, None, Some}
 use Rattle.device_profile.specs.declared.font.FontRequest.{FontRequest}
 use Rattle.page_env.specs.declared.mark.Area.{Area}
 use Rattle.page_env.specs.declared.mark.Fill.{Fill}
@@ -7,7 +8,8 @@ use Rattle.page_env.specs.declared.mark.Fill.TheVariants.{Solid, Erase, Shade, H
 use Rattle.page_env.specs.declared.mark.Glyph.{Glyph}
 use Rattle.page_env.specs.declared.mark.PenLine.{PenLine}
 use Rattle.page_env.specs.Mark.{PixelRow, Shape, Rectangle, Character, Row, Line, pixels_per_inch}
-use Rattle.page_picture.specs.declared.attributes.Attribute.TheVariants.{X, Y, X1, Y1, X2, Y2, StrokeWidth, FontSize, TextLength}
+use Rattle.page_picture.specs.declared.attributes.Attribute.TheVariants.{X, Y, X1, Y1, X2, Y2, StrokeWidth, FontSize}
+use Rattle.page_picture.specs.declared.attributes.Attribute.TheVariants.{TextLength}
 use Rattle.page_picture.specs.declared.mark_parts.MarkPart.TheVariants as parts
 use Rattle.page_picture.specs.Attributes.{attribute, length_attribute, box_attributes, span}
 use Rattle.page_picture.specs.Characters.{character_of}
@@ -42,7 +44,8 @@ area_picture area = mark_part parts.AreaStart ++ box_attributes area.bounds ++ f
 unfoldable pub box_picture : Glyph → List ℕ
 box_picture glyph = mark_part parts.BoxStart ++ box_attributes glyph.bounds ++ mark_part parts.BoxEnd
 
--- where its text stands, on its baseline, and how large: a point has 100 units, so its ten-thousandth is a hundredth of one
+-- where its text stands, on its baseline, and how large:
+-- a point has 100 units, so its ten-thousandth is a hundredth of one
 unfoldable pub text_attributes : Glyph → List ℕ
 text_attributes glyph =
     length_attribute X glyph.bounds.left ++ length_attribute Y glyph.y
@@ -59,13 +62,15 @@ is_italic style = nat_lt 0 (style / 10_000 % 4)
 -- how its face looks
 unfoldable pub face_attributes : FontRequest → List ℕ
 face_attributes request =
-    (if is_bold request.weight then mark_part parts.Bold else []) ++ (if is_italic request.style then mark_part parts.Italic else [])
+    (if is_bold request.weight then mark_part parts.Bold else [])
+    ++ (if is_italic request.style then mark_part parts.Italic else [])
 
 -- the text of a character, as wide as its box; nothing where none is known for the code
 unfoldable pub text_picture : Glyph → Option ℕ → List ℕ
 text_picture glyph None = []
 text_picture glyph (Some character) =
-    mark_part parts.GlyphStart ++ text_attributes glyph ++ face_attributes glyph.request ++ mark_part parts.GlyphText ++ character_text character ++ mark_part parts.TextEnd
+    mark_part parts.GlyphStart ++ text_attributes glyph ++ face_attributes glyph.request ++ mark_part parts.GlyphText
+    ++ character_text character ++ mark_part parts.TextEnd
 
 unfoldable pub glyph_picture : Glyph → List ℕ
 glyph_picture glyph = box_picture glyph ++ text_picture glyph (character_of glyph.request.symbol_set glyph.code)
@@ -76,8 +81,8 @@ glyph_picture glyph = box_picture glyph ++ text_picture glyph (character_of glyp
 unfoldable pub row_place : PixelRow → List ℕ
 row_place row = pair_units row.x row.y ++ mark_part parts.RowScale ++ decimal (7200 / pixels_per_inch row.resolution)
 
--- drawn twice, one upon the other: smoothed, so that a stroke of one pixel shows at each size, and sharp, so that rows which touch leave no
--- seam between them
+-- drawn twice, one upon the other: smoothed, so that a stroke of one pixel shows at each size, and sharp, so that rows
+-- which touch leave no seam between them
 unfoldable pub row_picture : PixelRow → List ℕ
 row_picture row =
     mark_part parts.RowStart ++ row_place row ++ mark_part parts.RowRuns ++ runs_text row.bytes
@@ -85,7 +90,8 @@ row_picture row =
 
 -- ---- lines of a pen
 
--- round at its ends, so that its box is that of its ends, wider by half its width on each side, and one of no length is a dot
+-- round at its ends, so that its box is that of its ends, wider by half its width on each side, and one of
+-- no length is a dot
 unfoldable pub line_picture : PenLine → List ℕ
 line_picture line =
     mark_part parts.LineStart ++ length_attribute X1 line.x0 ++ length_attribute Y1 line.y0

@@ -1,5 +1,6 @@
 -- The runs of black pixels of a row of a raster.
-use Rattle.std.specs.Prelude.{ℕ, zero, suc, ◌+◌, ◌-◌, ◌*◌, ◌/◌, ◌%◌, ◌==◌, ◌&&◌, ◌||◌, not, Bool, if◌then◌else◌, List, [], ◌∷◌, ◌++◌, length, get_or, flat_map, codes, decimal}
+use Rattle.std.specs.Prelude.{ℕ, zero, suc, ◌+◌, ◌-◌, ◌*◌, ◌/◌, ◌%◌, ◌==◌, ◌&&◌, ◌||◌, not, Bool, if◌then◌else◌, List}
+use Rattle.std.specs.Prelude.{[], ◌∷◌, ◌++◌, length, get_or, flat_map, codes, decimal}
 use Rattle.std.specs.Int.{bit_at}
 use Rattle.std.specs.List.{range_with_len}
 
@@ -22,7 +23,8 @@ run_text pixel count = 77 ∷ decimal pixel ++ codes " 0h" ++ decimal count ++ c
 
 -- the run that begins at a pixel, where one does
 unfoldable pub run_at : List ℕ → ℕ → List ℕ
-run_at bytes pixel = if begins_run bytes pixel then run_text pixel (black_from bytes pixel (8 * length bytes - pixel)) else []
+run_at bytes pixel =
+    if begins_run bytes pixel then run_text pixel (black_from bytes pixel (8 * length bytes - pixel)) else []
 
 -- the runs of a row, from left to right
 abbrev pub runs_text : List ℕ → List ℕ

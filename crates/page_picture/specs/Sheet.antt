@@ -1,5 +1,6 @@
 -- What stands round the marks of a page: its sheet, where a job fails, and the sentence on that.
-use Rattle.std.specs.Prelude.{ℕ, ℤ, pos, ◌+◌, ◌*◌, ◌/◌, ◌+ℤ◌, unsigned_abs, min, Bool, if◌then◌else◌, List, [], ◌∷◌, ◌++◌, length, decimal}
+use Rattle.std.specs.Prelude.{ℕ, ℤ, pos, ◌+◌, ◌*◌, ◌/◌, ◌+ℤ◌, unsigned_abs, min, Bool, if◌then◌else◌, List, [], ◌∷◌}
+use Rattle.std.specs.Prelude.{◌++◌, length, decimal}
 use Rattle.device_profile.specs.declared.geometry.Geometry.{Geometry}
 use Rattle.page_env.specs.declared.mark.Bounds.{Bounds}
 use Rattle.page_picture.specs.declared.attributes.Attribute.TheVariants.{X, Y, Width, Height, FontSize}
@@ -66,7 +67,8 @@ sheet_picture page =
 unfoldable pub logical_picture : Geometry → List ℕ
 logical_picture page =
     sheet_part parts.LogicalStart ++ length_attribute X page.logical_left ++ length_attribute Y page.logical_top
-    ++ length_attribute Width page.logical_width ++ length_attribute Height page.logical_height ++ sheet_part parts.LogicalEnd
+    ++ length_attribute Width page.logical_width ++ length_attribute Height page.logical_height
+    ++ sheet_part parts.LogicalEnd
 
 -- the printable area, thin
 abbrev pub printable_box : Geometry → Bounds
@@ -84,7 +86,8 @@ printable_picture page =
 -- what stands before the marks of a page
 abbrev pub head_picture : Geometry → (has_sentence has_patterns : Bool) → List ℕ
 head_picture page has_sentence has_patterns =
-    picture_start page has_sentence ++ due_patterns has_patterns ++ sheet_picture page ++ logical_picture page ++ printable_picture page
+    picture_start page has_sentence ++ due_patterns has_patterns ++ sheet_picture page ++ logical_picture page
+    ++ printable_picture page
 
 -- ---- where a job fails
 
@@ -107,7 +110,8 @@ below_page page = page.page_height +ℤ pos 12_192_000_000
 
 unfoldable pub sentence_attributes : Geometry → ℕ → List ℕ
 sentence_attributes page count =
-    attribute X (middle page.page_width) ++ length_attribute Y (below_page page) ++ attribute FontSize (letter_size page.page_width count)
+    attribute X (middle page.page_width) ++ length_attribute Y (below_page page)
+    ++ attribute FontSize (letter_size page.page_width count)
 
 -- a sentence below the sheet
 unfoldable pub sentence_picture : Geometry → List ℕ → List ℕ

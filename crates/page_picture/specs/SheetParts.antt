@@ -22,15 +22,19 @@ sheet_part sheet_parts.PatternsEnd = codes "</defs>\n"
 sheet_part sheet_parts.SheetStart = codes "<rect class=\"sheet\""
 sheet_part sheet_parts.SheetEnd = codes " fill=\"white\" stroke=\"black\" stroke-width=\"24\"/>\n"
 sheet_part sheet_parts.LogicalStart = codes "<rect class=\"logical\""
-sheet_part sheet_parts.LogicalEnd = codes " fill=\"none\" stroke=\"gray\" stroke-width=\"48\" stroke-dasharray=\"240\"/>\n"
+sheet_part sheet_parts.LogicalEnd =
+    codes " fill=\"none\" stroke=\"gray\" stroke-width=\"48\" stroke-dasharray=\"240\"/>\n"
 sheet_part sheet_parts.PrintableStart = codes "<rect class=\"printable\""
 sheet_part sheet_parts.PrintableEnd = codes " fill=\"none\" stroke=\"gray\" stroke-width=\"24\"/>\n"
 sheet_part sheet_parts.FailureStart = codes "<path class=\"failure\" transform=\"translate("
-sheet_part sheet_parts.FailureEnd = codes ")\" d=\"M-480-480L480 480M-480 480L480-480\" stroke=\"red\" stroke-width=\"72\"/>\n"
+sheet_part sheet_parts.FailureEnd =
+    codes ")\" d=\"M-480-480L480 480M-480 480L480-480\" stroke=\"red\" stroke-width=\"72\"/>\n"
 sheet_part sheet_parts.SentenceStart = codes "<text class=\"sentence\" text-anchor=\"middle\""
 sheet_part sheet_parts.SentenceFill = codes " fill=\"red\">"
 sheet_part sheet_parts.SentenceEnd = codes "</text>\n"
 sheet_part sheet_parts.PictureEnd = codes "</svg>\n"
-sheet_part sheet_parts.DocumentStart = codes "<!DOCTYPE html>\n<html lang=\"en\">\n<head>\n<meta charset=\"utf-8\"/>\n<title>Pages</title>\n<style>svg { display: block; margin: 1em 0; overflow: visible; }</style>\n</head>\n<body>\n<p>"
+sheet_part sheet_parts.DocumentStart =
+    codes
+    "<!DOCTYPE html>\n<html lang=\"en\">\n<head>\n<meta charset=\"utf-8\"/>\n<title>Pages</title>\n<style>svg { display: block; margin: 1em 0; overflow: visible; }</style>\n</head>\n<body>\n<p>"
 sheet_part sheet_parts.DocumentPages = codes "</p>\n"
 sheet_part sheet_parts.DocumentEnd = codes "</body>\n</html>\n"

@@ -2,7 +2,8 @@
 use Rattle.std.specs.Prelude.{◌==◌, List, [], ◌∷◌, Option, None, Some, if◌then◌else◌}
 use Rattle.pcl_items.specs.declared.item.Mode.{Mode}
 use Rattle.pcl_items.specs.declared.item.Mode.TheVariants as modes
-use Rattle.pcl_items.specs.Items.{Entry, Text, Reset, EnterFrame, LeaveFrame, Initialize, Set, Move, ExitLanguage, PjlLine}
+use Rattle.pcl_items.specs.Items.{Entry, Text, Reset, EnterFrame, LeaveFrame, Initialize, Set, Move, ExitLanguage}
+use Rattle.pcl_items.specs.Items.{PjlLine}
 use Rattle.pcl_items.specs.PjlLines.Text.{at_sign, PjlCommand, EnterPcl}
 
 -- the mode behind an item of mode PCL
@@ -20,7 +21,8 @@ abbrev pub behind_pjl : PjlCommand → Mode
 behind_pjl EnterPcl = modes.Pcl
 behind_pjl line = modes.Pjl
 
--- The mode behind an item, where the mode admits it. Mode PJL has lines, and else what mode PCL has; there `@` begins a line.
+-- The mode behind an item, where the mode admits it.
+-- Mode PJL has lines, and else what mode PCL has; there `@` begins a line.
 abbrev pub follows : Mode → Entry → Option Mode
 follows modes.Pcl item = pcl_follows item
 follows modes.Frame Reset = Some modes.Pcl

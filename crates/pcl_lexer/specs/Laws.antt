@@ -13,7 +13,8 @@ pub record HasOneReading (bytes : List ℕ) : Type 0 where
 -- what is decided stays so, whatever bytes follow
 abbrev pub StaysDecided : Context → List ℕ → Type 0
 StaysDecided context bytes =
-    (whole : Bool) (more : List ℕ) → (first_of false context bytes ≡ Open → ⊥) → first_of whole context (bytes ++ more) ≡ first_of false context bytes
+    (whole : Bool) (more : List ℕ) → (first_of false context bytes ≡ Open → ⊥) →
+    first_of whole context (bytes ++ more) ≡ first_of false context bytes
 
 -- an item that is not whole has few bytes
 abbrev pub OpenIsShort : Context → List ℕ → Type 0

@@ -17,7 +17,8 @@ pub data Reading : Type 0 where
 
 -- what the bytes spell by the rules: all of them items, in a mode in which a job may end, or items up to a fault
 abbrev pub IsReading : List ℕ → Reading → Type 0
-IsReading bytes (Whole items place) = (mode : Mode) × grammar.MayEnd mode × grammar.Spells modes.Pcl 0 bytes items mode × (place ≡ length bytes)
+IsReading bytes (Whole items place) =
+    (mode : Mode) × grammar.MayEnd mode × grammar.Spells modes.Pcl 0 bytes items mode × (place ≡ length bytes)
 IsReading bytes (Stopped items place cause) = rules.Stops modes.Pcl 0 bytes items place cause
 
 abbrev pub items_of : Reading → List Placed
@@ -29,18 +30,22 @@ items_of (Stopped items place cause) = items
 -- From a context and a place on items are read, one behind another, up to a context and a place, with the rest behind
 -- them.
 pub data ReadsTo : Bool → Context → ℕ → List ℕ → List Placed → Context → ℕ → List ℕ → Type 0 where
-  here : {whole : Bool} {context : Context} {place : ℕ} {bytes : List ℕ} → ReadsTo whole context place bytes [] context place bytes
-  passes : {whole : Bool} {context context2 : Context} {place place2 : ℕ} {bytes rest : List ℕ} {items : List Placed} (len : ℕ) (next : Context) →
+  here : {whole : Bool} {context : Context} {place : ℕ} {bytes : List ℕ} →
+      ReadsTo whole context place bytes [] context place bytes
+  passes : {whole : Bool} {context context2 : Context} {place place2 : ℕ} {bytes rest : List ℕ} {items : List Placed}
+      (len : ℕ) (next : Context) →
       first_of whole context bytes ≡ Passes len next →
       ReadsTo whole next (place + len) (drop len bytes) items context2 place2 rest →
       ReadsTo whole context place bytes items context2 place2 rest
-  begins : {whole : Bool} {context context2 : Context} {place place2 : ℕ} {bytes rest : List ℕ} {items : List Placed} (entry : Entry) (len : ℕ) (next : Context) →
+  begins : {whole : Bool} {context context2 : Context} {place place2 : ℕ} {bytes rest : List ℕ} {items : List Placed}
+      (entry : Entry) (len : ℕ) (next : Context) →
       first_of whole context bytes ≡ Begins entry len next →
       ReadsTo whole next (place + len) (drop len bytes) items context2 place2 rest →
       ReadsTo whole context place bytes (at (item_place context place) entry ∷ items) context2 place2 rest
 
 -- where a fault stands behind the items
-pub record StopsAt (context : Context) (place : ℕ) (bytes : List ℕ) (items : List Placed) (stop : ℕ) (cause : LexCause) : Type 0 where
+pub record StopsAt (context : Context) (place : ℕ) (bytes : List ℕ) (items : List Placed) (stop : ℕ)
+    (cause : LexCause) : Type 0 where
   pub last : Context
   pub end : ℕ
   pub rest : List ℕ
@@ -50,7 +55,8 @@ pub record StopsAt (context : Context) (place : ℕ) (bytes : List ℕ) (items :
 
 -- what is read of all bytes
 abbrev pub IsReadFrom : Context → ℕ → List ℕ → Reading → Type 0
-IsReadFrom context place bytes (Whole items end) = (last : Context) × MayEndAt last × ReadsTo true context place bytes items last end []
+IsReadFrom context place bytes (Whole items end) =
+    (last : Context) × MayEndAt last × ReadsTo true context place bytes items last end []
 IsReadFrom context place bytes (Stopped items stop cause) = StopsAt context place bytes items stop cause
 
 -- ---- computed
@@ -70,13 +76,15 @@ with_item x (Stopped items place cause) = Stopped (x ∷ items) place cause
 abbrev pub by_first : First → Context → ℕ → List ℕ → (Context → ℕ → List ℕ → Reading) → Reading
 by_first Open context place bytes read = end_of context place bytes
 by_first (Passes len next) context place bytes read = read next (place + len) (drop len bytes)
-by_first (Begins entry len next) context place bytes read = with_item (at (item_place context place) entry) (read next (place + len) (drop len bytes))
+by_first (Begins entry len next) context place bytes read =
+    with_item (at (item_place context place) entry) (read next (place + len) (drop len bytes))
 by_first (Faulty cause) context place bytes read = Stopped [] (item_place context place) cause
 
 -- at most so many items less one, from a context and a place on
 unfoldable pub read_on : ℕ → Context → ℕ → List ℕ → Reading
 read_on zero context place bytes = end_of context place bytes
-read_on (suc n) context place bytes = by_first (first_of true context bytes) context place bytes (λ next place2 rest. read_on n next place2 rest)
+read_on (suc n) context place bytes =
+    by_first (first_of true context bytes) context place bytes (λ next place2 rest. read_on n next place2 rest)
 
 -- what is left to be read: a step takes bytes, or it ends a command
 abbrev pub left : Context → List ℕ → ℕ

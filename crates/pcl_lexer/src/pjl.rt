@@ -6,8 +6,12 @@
 ghost use Rattle.std.specs.Prelude.{◌≡◌, ◌≤◌, length, Some};
 ghost use Rattle.std.specs.List.{prefix_len};
 ghost use Rattle.std.specs.Option.{option_map};
-ghost use Rattle.pcl_items.specs.PjlLines.Text.{is_blank, is_solid, is_name_byte, is_quotable, language, pcl};
-ghost use Rattle.pcl_items.specs.PjlLines.Reader.{front, past, trimmed, is_word, past_byte, past_equals, past_value, is_name, past_part, parts_behind, are_parts, is_language, word_at, with_text, in_words, pjl_command_of};
+ghost use Rattle.pcl_items.specs.PjlLines.Text.{is_blank, is_solid, is_name_byte, is_quotable};
+ghost use Rattle.pcl_items.specs.PjlLines.Text.{language, pcl};
+ghost use Rattle.pcl_items.specs.PjlLines.Reader.{front, past, trimmed, is_word, past_byte};
+ghost use Rattle.pcl_items.specs.PjlLines.Reader.{past_equals, past_value, is_name, past_part};
+ghost use Rattle.pcl_items.specs.PjlLines.Reader.{parts_behind, are_parts, is_language, word_at};
+ghost use Rattle.pcl_items.specs.PjlLines.Reader.{with_text, in_words, pjl_command_of};
 ghost use Rattle.pcl_items.specs.PjlLines.View.{pjl_view};
 
 pub(crate) mod first;

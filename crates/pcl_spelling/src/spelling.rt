@@ -1,6 +1,7 @@
 //! The one spelling of each item, written and read again.
 
-ghost use Rattle.std.specs.Prelude.{◌≡◌, ◌≤◌, ◌+◌, ◌-◌, ◌%◌, List, ◌++◌, ◌∷◌, [], ℕ, take, length, decimal, IfSome, MatchOption, OnOk, OnErr};
+ghost use Rattle.std.specs.Prelude.{◌≡◌, ◌≤◌, ◌+◌, ◌-◌, ◌%◌, List, ◌++◌, ◌∷◌, [], ℕ, take, length};
+ghost use Rattle.std.specs.Prelude.{decimal, IfSome, MatchOption, OnOk, OnErr};
 ghost use Rattle.std.specs.Fmt.{signed_decimal};
 ghost use Rattle.arrayvec.specs.ArrayVec.{array_vec_len};
 ghost use Rattle.pcl_items.specs.declared.item.Mode.TheVariants.{Pcl, Frame, Pjl};
@@ -8,7 +9,9 @@ ghost use Rattle.pcl_items.specs.Items.{Entry, view, simple_view, amount, pair};
 ghost use Rattle.pcl_items.specs.PjlLines.Text.{BeginsPjl};
 ghost use Rattle.pcl_items.specs.PjlLines.View.{pjl_view};
 ghost use Rattle.pcl_items.specs.PjlLines.Canon.{behind_space, canon_pjl};
-ghost use Rattle.pcl_items.specs.Spellings.Canon.{canon, IsNoPjl, data_of, amount_text, magnitude_text, with_point, without_zeros, four_decimals};
+ghost use Rattle.pcl_items.specs.Spellings.Canon.{canon, IsNoPjl, data_of, amount_text};
+ghost use Rattle.pcl_items.specs.Spellings.Canon.{magnitude_text, with_point, without_zeros};
+ghost use Rattle.pcl_items.specs.Spellings.Canon.{four_decimals};
 ghost use Rattle.pcl_items.specs.Frames.Mnemonics.{letters_of};
 ghost use Rattle.pcl_items.specs.Escapes.ValueField.{sign_text};
 ghost use Rattle.pcl_spelling.specs.Spellings.Spelled.{StandsAt, NothingStands, IsSpelled};

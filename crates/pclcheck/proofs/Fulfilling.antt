@@ -6,5 +6,6 @@ use Rattle.requests.specs.declared.request.Request.{Request}
 use Rattle.pclcheck.specs.Requests.{Fulfils}
 
 -- of the request that it is
-pub asked : (texts : List (List ℕ)) (request is : Request) (status : Status) (out out' err err' : OutletState) → request ≡ is → Fulfils texts is status out out' err err' → Fulfils texts request status out out' err err'
+pub asked : (texts : List (List ℕ)) (request is : Request) (status : Status) (out out' err err' : OutletState) → request ≡ is →
+    Fulfils texts is status out out' err err' → Fulfils texts request status out out' err err'
 asked texts request is status out out' err err' e h = subst (λ r. Fulfils texts r status out out' err err') (sym e) h

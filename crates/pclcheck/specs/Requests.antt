@@ -1,4 +1,5 @@
--- What the program leaves of what it is asked for. Nothing is known of its files beforehand, so this is said for some reads of them.
+-- What the program leaves of what it is asked for.
+-- Nothing is known of its files beforehand, so this is said for some reads of them.
 use Rattle.renderings.specs.Due.{list_rendering}
 use Rattle.std.specs.Prelude.{◌≡◌, List, ℕ, Option, map, option_map, IsFalse, IsTrue}
 use Rattle.requests.specs.declared.request.Request.{Request}
@@ -11,11 +12,13 @@ use Rattle.profile_commands.specs.ProfileNew.{LeavesProfile}
 use Rattle.named_inputs.specs.Texts.{text_named}
 use Rattle.requests.specs.declared.status.Status.{Status}
 use Rattle.many_requests.specs.Checks.{LeavesChecks, asking}
-use Rattle.file_requests.specs.JobRequests.{LeavesCheck, LeavesNotesFor, LeavesPagesFor, LeavesPictureFor, LeavesPin, LeavesPlain, LeavesRendered}
+use Rattle.file_requests.specs.JobRequests.{LeavesCheck, LeavesNotesFor, LeavesPagesFor, LeavesPictureFor, LeavesPin}
+use Rattle.file_requests.specs.JobRequests.{LeavesPlain, LeavesRendered}
 use Rattle.file_requests.specs.ProfileRequests.{LeavesAnsweredFor, LeavesLintFor, LeavesSheetFor, LeavesShownFor}
 
 -- what these texts say of a code, or all of it; of a code that is unknown standard error tells
-pub record LeavesExplanation (texts : List (List ℕ)) (code : Option (List ℕ)) (status : Status) (out out' err err' : OutletState) : Type 0 where
+pub record LeavesExplanation (texts : List (List ℕ)) (code : Option (List ℕ)) (status : Status)
+    (out out' err err' : OutletState) : Type 0 where
   pub text : IsFalse (is_unknown texts code) → Writes out out' (explanation texts code)
   pub untouched : IsTrue (is_unknown texts code) → out' ≡ out
   pub status_is : status ≡ end_of_explain (is_unknown texts code) out'.failed
@@ -24,18 +27,31 @@ pub record LeavesExplanation (texts : List (List ℕ)) (code : Option (List ℕ)
 
 -- what a request comes to, on standard output and on standard error; an explanation is one of these texts
 abbrev pub Fulfils : List (List ℕ) → Request → Status → OutletState → OutletState → OutletState → OutletState → Type 0
-Fulfils texts (requests.Check job profiles) status out out' err err' = LeavesCheck (map (λ word. text_named word.now) profiles.items) status out out' × (err' ≡ err)
-Fulfils texts (requests.CheckMany words) status out out' err err' = LeavesChecks (asking texts words) status out out' err err'
-Fulfils texts (requests.List job) status out out' err err' = LeavesRendered list_rendering status out out' × (err' ≡ err)
-Fulfils texts (requests.Pages job profile) status out out' err err' = LeavesPagesFor profile.now status out out' × (err' ≡ err)
-Fulfils texts (requests.Picture job profile choices selection) status out out' err err' = LeavesPictureFor profile.now choices.items selection job.now status out out' err err'
-Fulfils texts (requests.Notes job profile) status out out' err err' = LeavesNotesFor profile.now status out out' × (err' ≡ err)
+Fulfils texts (requests.Check job profiles) status out out' err err' =
+    LeavesCheck (map (λ word. text_named word.now) profiles.items) status out out' × (err' ≡ err)
+Fulfils texts (requests.CheckMany words) status out out' err err' =
+    LeavesChecks (asking texts words) status out out' err err'
+Fulfils texts (requests.List job) status out out' err err' =
+    LeavesRendered list_rendering status out out' × (err' ≡ err)
+Fulfils texts (requests.Pages job profile) status out out' err err' =
+    LeavesPagesFor profile.now status out out' × (err' ≡ err)
+Fulfils texts (requests.Picture job profile choices selection) status out out' err err' =
+    LeavesPictureFor profile.now choices.items selection job.now status out out' err err'
+Fulfils texts (requests.Notes job profile) status out out' err err' =
+    LeavesNotesFor profile.now status out out' × (err' ≡ err)
 Fulfils texts (requests.Plain job file) status out out' err err' = LeavesPlain status out out' × (err' ≡ err)
-Fulfils texts (requests.Pin job profile choices file) status out out' err err' = LeavesPin profile.now choices.items status out out' err err'
-Fulfils texts (requests.Explain code) status out out' err err' = LeavesExplanation texts (option_map (λ word. word.now) code) status out out' err err'
+Fulfils texts (requests.Pin job profile choices file) status out out' err err' =
+    LeavesPin profile.now choices.items status out out' err err'
+Fulfils texts (requests.Explain code) status out out' err err' =
+    LeavesExplanation texts (option_map (λ word. word.now) code) status out out' err err'
 Fulfils texts requests.ProfileList status out out' err err' = LeavesModels status out out' × (err' ≡ err)
-Fulfils texts (requests.ProfileNew words) status out out' err err' = LeavesProfile words.model.now (map (λ name. name.now) words.papers.items) words.lists status out out' err err'
-Fulfils texts (requests.ProfileLint profiles) status out out' err err' = LeavesLintFor (map (λ word. word.now) profiles.items) status out out' err err'
-Fulfils texts (requests.ProfileShow profile) status out out' err err' = LeavesShownFor profile.now status out out' err err'
-Fulfils texts (requests.ProfileSheet profile file) status out out' err err' = LeavesSheetFor profile.now status err err' × (out' ≡ out)
-Fulfils texts (requests.ProfileFromPjl answer base) status out out' err err' = LeavesAnsweredFor answer.now (option_map (λ word. word.now) base) status out out' err err'
+Fulfils texts (requests.ProfileNew words) status out out' err err' =
+    LeavesProfile words.model.now (map (λ name. name.now) words.papers.items) words.lists status out out' err err'
+Fulfils texts (requests.ProfileLint profiles) status out out' err err' =
+    LeavesLintFor (map (λ word. word.now) profiles.items) status out out' err err'
+Fulfils texts (requests.ProfileShow profile) status out out' err err' =
+    LeavesShownFor profile.now status out out' err err'
+Fulfils texts (requests.ProfileSheet profile file) status out out' err err' =
+    LeavesSheetFor profile.now status err err' × (out' ≡ out)
+Fulfils texts (requests.ProfileFromPjl answer base) status out out' err err' =
+    LeavesAnsweredFor answer.now (option_map (λ word. word.now) base) status out out' err err'

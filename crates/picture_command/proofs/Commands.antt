@@ -1,5 +1,6 @@
 -- What the command leaves, by what its two readings came to.
-use Rattle.std.proofs.Common.{◌≡◌, ◌≢◌, ◌⊎◌, inl, inr, ℕ, Bool, true, false, List, [], ◌∷◌, ◌++◌, map, Option, Result, Ok, Err, refl, ap, sym, ◌∙◌, subst}
+use Rattle.std.proofs.Common.{◌≡◌, ◌≢◌, ◌⊎◌, inl, inr, ℕ, Bool, true, false, List, [], ◌∷◌, ◌++◌, map, Option, Result, Ok, Err, refl, ap}
+use Rattle.std.proofs.Common.{sym, ◌∙◌, subst}
 use Rattle.std.specs.Prelude.{IsFalse, IsTrue, ◌||◌}
 use Rattle.std.proofs.KnownBytes.{Keeps-refl}
 use Rattle.device_profile.specs.declared.panel.Panel.{Panel}
@@ -23,7 +24,8 @@ use Rattle.named_inputs.specs.KeptText.{kept_error}
 use Rattle.named_inputs.specs.Choices.{TellsOfChoice, TellsOfPin, choice_line, chosen_panel}
 use Rattle.streams.specs.Writing.{Writes}
 use Rattle.requests.specs.Status.{is_refusal, is_refused_choice, is_stop_of_read, is_stop_of_write}
-use Rattle.picture_command.specs.Picture.{Around, Draws, IsErrorOfSearch, IsUnsearched, IsUntouched, LeavesDrawn, LeavesOther, LeavesPicture, LeavesPictureOf, LeavesSame, LeavesTold, TellsOutcome, TellsChange, status_of}
+use Rattle.picture_command.specs.Picture.{Around, Draws, IsErrorOfSearch, IsUnsearched, IsUntouched, LeavesDrawn, LeavesOther}
+use Rattle.picture_command.specs.Picture.{LeavesPicture, LeavesPictureOf, LeavesSame, LeavesTold, TellsOutcome, TellsChange, status_of}
 
 pub Stays-none : (a : OutletState) → Stays a a
 Stays-none a = record { taken = refl; contents = Keeps-refl a.contents }
@@ -31,7 +33,8 @@ Stays-none a = record { taken = refl; contents = Keeps-refl a.contents }
 -- ---- the first reading
 
 -- a text that was kept in memory is told
-pub kept_told : (rendering : Rendering) (job job' : SourceState) (kept kept' : OutletState) (outcome : Outcome) (text : List ℕ) → Renders rendering job job' kept kept' (Ok outcome) → kept.taken ≡ [] → text ≡ kept'.taken → TellsOutcome rendering job job' text outcome
+pub kept_told : (rendering : Rendering) (job job' : SourceState) (kept kept' : OutletState) (outcome : Outcome) (text : List ℕ) →
+    Renders rendering job job' kept kept' (Ok outcome) → kept.taken ≡ [] → text ≡ kept'.taken → TellsOutcome rendering job job' text outcome
 kept_told rendering job job' kept kept' outcome text rendered empty is =
     let due = rendered.written in
     let text_is : due.text ≡ text = sym (is ∙ (due.adds.taken ∙ ap (λ l. l ++ due.text) empty)) in
@@ -75,16 +78,20 @@ search_writes Items is = absurd is
 
 module _ (job : List ℕ) (rendering : Rendering) (a : Around) where
   -- it came to the same
-  same_left : (outcome : Outcome) → WritesDue rendering a.second a.second' a.out a.out' outcome → Stays a.err a.err' → LeavesSame (status_of outcome) rendering outcome a
+  same_left : (outcome : Outcome) → WritesDue rendering a.second a.second' a.out a.out' outcome → Stays a.err a.err' →
+      LeavesSame (status_of outcome) rendering outcome a
   same_left AllDone due stays = (refl, due, stays)
   same_left (FailsOf place profile finding) due stays = (λ e. absurd cc, due, stays)
 
-  pub left_same : (found outcome : Outcome) (status : Status) → outcome ≡ found → status ≡ status_of outcome → WritesDue rendering a.second a.second' a.out a.out' outcome → Stays a.err a.err' → LeavesDrawn status job rendering found a
+  pub left_same : (found outcome : Outcome) (status : Status) → outcome ≡ found → status ≡ status_of outcome →
+      WritesDue rendering a.second a.second' a.out a.out' outcome → Stays a.err a.err' → LeavesDrawn status job rendering found a
   left_same found outcome status same is due stays =
-      subst (λ o. LeavesDrawn status job rendering o a) same (subst (λ s. LeavesDrawn s job rendering outcome a) (sym is) (inl (same_left outcome due stays)))
+      subst (λ o. LeavesDrawn status job rendering o a) same
+      (subst (λ s. LeavesDrawn s job rendering outcome a) (sym is) (inl (same_left outcome due stays)))
 
   -- it came to something else
-  other_left : (status : Status) (found outcome : Outcome) → TellsChange status job a.err a.err' → outcome ≢ found → WritesDue rendering a.second a.second' a.out a.out' outcome → LeavesOther status job rendering found a
+  other_left : (status : Status) (found outcome : Outcome) → TellsChange status job a.err a.err' → outcome ≢ found →
+      WritesDue rendering a.second a.second' a.out a.out' outcome → LeavesOther status job rendering found a
   other_left Fail found outcome told other due = (outcome, other, due, told)
   other_left (Stopped Memory) found outcome told other due = (outcome, other, due, told)
   other_left (Stopped Read) found outcome told other due = absurd told
@@ -100,11 +107,13 @@ module _ (job : List ℕ) (rendering : Rendering) (a : Around) where
   other_left (Told trouble) found outcome told other due = absurd told
   other_left (Profile number line cause) found outcome told other due = absurd told
 
-  pub left_other : (status : Status) (found outcome : Outcome) → TellsChange status job a.err a.err' → outcome ≢ found → WritesDue rendering a.second a.second' a.out a.out' outcome → LeavesDrawn status job rendering found a
+  pub left_other : (status : Status) (found outcome : Outcome) → TellsChange status job a.err a.err' → outcome ≢ found →
+      WritesDue rendering a.second a.second' a.out a.out' outcome → LeavesDrawn status job rendering found a
   left_other status found outcome told other due = inr (inl (other_left status found outcome told other due))
 
   -- it stopped
-  pub left_stopped : (error : Error) (found : Outcome) → Renders rendering a.second a.second' a.out a.out' (Err error) → Stays a.err a.err' → LeavesDrawn (Stopped error) job rendering found a
+  pub left_stopped : (error : Error) (found : Outcome) → Renders rendering a.second a.second' a.out a.out' (Err error) →
+      Stays a.err a.err' → LeavesDrawn (Stopped error) job rendering found a
   left_stopped error found rendered stays = inr (inr (rendered.never_no_profile, rendered.never_items, rendered.front, stays))
 
 -- how the program ends then
@@ -136,7 +145,8 @@ change_ends (Profile number line cause) job err err' told = absurd told
 
 -- ---- both
 
-pub draws_told : (status : Status) (printer : Printer) (panel : Panel) (selection : Selection) (job : List ℕ) (group : Groups) (a : Around) → LeavesTold status printer panel selection job group a → Draws status printer panel selection job group a
+pub draws_told : (status : Status) (printer : Printer) (panel : Panel) (selection : Selection) (job : List ℕ) (group : Groups)
+    (a : Around) → LeavesTold status printer panel selection job group a → Draws status printer panel selection job group a
 draws_told Pass printer panel selection job group a told = told
 draws_told Fail printer panel selection job group a told = told
 draws_told Help printer panel selection job group a told = told
@@ -150,7 +160,8 @@ draws_told (Stopped error) printer panel selection job group a told = inr told
 -- ---- the command
 
 module _ (IsPrinter : Printer → List ℕ → Type 0) (choices : List Choice) (selection : Selection) (job : List ℕ) (a : Around) where
-  pub picture_left : (status : Status) → IsFalse (is_refusal status) → LeavesPictureOf status IsPrinter choices selection job a → LeavesPicture status IsPrinter choices selection job a
+  pub picture_left : (status : Status) → IsFalse (is_refusal status) → LeavesPictureOf status IsPrinter choices selection job a →
+      LeavesPicture status IsPrinter choices selection job a
   picture_left Pass answer left = left
   picture_left Fail answer left = left
   picture_left Help answer left = left
@@ -162,7 +173,8 @@ module _ (IsPrinter : Printer → List ℕ → Type 0) (choices : List Choice) (
   picture_left (Stopped error) answer left = inr left
 
   -- where the profile is not had nothing was read of the job, and nothing written
-  pub no_printer : (number : ℕ) (text : Option (List ℕ)) (status : Status) → IsUntouched a → IsEndOfProfile number text status → LeavesPicture status IsPrinter choices selection job a
+  pub no_printer : (number : ℕ) (text : Option (List ℕ)) (status : Status) → IsUntouched a → IsEndOfProfile number text status →
+      LeavesPicture status IsPrinter choices selection job a
   no_printer number text (Profile refused line cause) untouched end = untouched
   no_printer number text (Stopped error) untouched end = inl untouched
   no_printer number text Pass untouched end = absurd end
@@ -174,7 +186,9 @@ module _ (IsPrinter : Printer → List ℕ → Type 0) (choices : List Choice) (
   no_printer number text (Told trouble) untouched end = absurd end
 
   -- nor where the panel may not have a choice, but for its line
-  pub no_panel : (status : Status) (printer : Printer) (choice : Choice) → IsUnsearched a → (IsFalse (is_refused_choice status) → Stays a.err a.err') → TellsOfChoice status printer choice a.err a.err' → LeavesPicture status IsPrinter choices selection job a
+  pub no_panel : (status : Status) (printer : Printer) (choice : Choice) → IsUnsearched a →
+      (IsFalse (is_refused_choice status) → Stays a.err a.err') → TellsOfChoice status printer choice a.err a.err' →
+      LeavesPicture status IsPrinter choices selection job a
   no_panel (NotAllowed told) printer choice unsearched quiet line = unsearched
   no_panel (Stopped Memory) printer choice unsearched quiet line = inl (unsearched, quiet refl)
   no_panel (Stopped Read) printer choice unsearched quiet line = absurd line
@@ -191,7 +205,8 @@ module _ (IsPrinter : Printer → List ℕ → Type 0) (choices : List Choice) (
   no_panel (Told trouble) printer choice unsearched quiet line = absurd line
 
 -- the names of a group are those of its texts
-pub names_of : {X : Type 0} (bytes : X → List ℕ) (items slice : List X) (name : List ℕ) (group : Groups) → group.names ≡ map bytes slice → slice ≡ items → map bytes items ≡ name ∷ [] → group.names ≡ name ∷ []
+pub names_of : {X : Type 0} (bytes : X → List ℕ) (items slice : List X) (name : List ℕ) (group : Groups) → group.names ≡ map bytes slice →
+    slice ≡ items → map bytes items ≡ name ∷ [] → group.names ≡ name ∷ []
 names_of bytes items slice name group are same named = are ∙ (ap (map bytes) same ∙ named)
 
 -- ---- how the command ends without drawing
@@ -226,9 +241,12 @@ pub record EndsByChoice (status : Status) : Type 0 where
   pub one : (text : Option (List ℕ)) → RefusesOne text status
   pub text : (before after : List (List ℕ)) → RefusesRead before after 1 status
 
-pub choice_ends : (status : Status) (printer : Printer) (choice : Choice) (old new : OutletState) → TellsOfChoice status printer choice old new → EndsByChoice status
-choice_ends (NotAllowed told) printer choice old new line = record { read = refl; write = refl; turns = λ e. absurd cc; one = λ text. tt; text = λ before after. tt }
-choice_ends (Stopped Memory) printer choice old new line = record { read = refl; write = refl; turns = λ e. absurd cc; one = λ text. tt; text = λ before after. tt }
+pub choice_ends : (status : Status) (printer : Printer) (choice : Choice) (old new : OutletState) →
+    TellsOfChoice status printer choice old new → EndsByChoice status
+choice_ends (NotAllowed told) printer choice old new line =
+    record { read = refl; write = refl; turns = λ e. absurd cc; one = λ text. tt; text = λ before after. tt }
+choice_ends (Stopped Memory) printer choice old new line =
+    record { read = refl; write = refl; turns = λ e. absurd cc; one = λ text. tt; text = λ before after. tt }
 choice_ends (Stopped Read) printer choice old new line = absurd line
 choice_ends (Stopped Write) printer choice old new line = absurd line
 choice_ends (Stopped Turns) printer choice old new line = absurd line
@@ -243,7 +261,8 @@ choice_ends (Profile number row cause) printer choice old new line = absurd line
 choice_ends (Told trouble) printer choice old new line = absurd line
 
 -- the line of such a choice
-pub choice_told : (status : Status) (printer : Printer) (choice : Choice) (IsPrinter : Printer → Type 0) (choices : List Choice) (old new : OutletState) → IsPrinter printer → chosen_panel printer choices ≡ Err choice →
+pub choice_told : (status : Status) (printer : Printer) (choice : Choice) (IsPrinter : Printer → Type 0) (choices : List Choice)
+    (old new : OutletState) → IsPrinter printer → chosen_panel printer choices ≡ Err choice →
     TellsOfChoice status printer choice old new → TellsOfPin status IsPrinter choices old new
 choice_told (NotAllowed told) printer choice IsPrinter choices old new named refused line =
     (printer, named, refused ∙ ap Err (sym line.0), subst (λ c. Writes old new (choice_line printer c)) (sym line.0) line.1)
@@ -257,7 +276,8 @@ choice_told (Profile number row cause) printer choice IsPrinter choices old new 
 choice_told (Told trouble) printer choice IsPrinter choices old new named refused line = tt
 
 -- where nothing is refused no choice is
-pub no_choice : (status : Status) (IsPrinter : Printer → Type 0) (choices : List Choice) (old new : OutletState) → IsFalse (is_refusal status) → TellsOfPin status IsPrinter choices old new
+pub no_choice : (status : Status) (IsPrinter : Printer → Type 0) (choices : List Choice) (old new : OutletState) →
+    IsFalse (is_refusal status) → TellsOfPin status IsPrinter choices old new
 no_choice (NotAllowed told) IsPrinter choices old new answer = absurd cc
 no_choice (Stopped error) IsPrinter choices old new answer = tt
 no_choice Pass IsPrinter choices old new answer = tt

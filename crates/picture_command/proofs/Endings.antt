@@ -32,7 +32,9 @@ use Rattle.picture_command.proofs.Searches.{item_goes, item_over, item_found, en
 use Rattle.picture_command.proofs.Words.{culprit_at_item}
 
 -- what was told and kept is due
-kept_ended : (rendering : Rendering) (Is : Reading → Type 0) (old : OutletState) (kept kept' : List ℕ) (found : Searched) (r : Result Outcome Error) → EndsWith rendering Is found.text found.outcome → Keeps kept kept' found r → Ended rendering Is old old kept kept' r
+kept_ended : (rendering : Rendering) (Is : Reading → Type 0) (old : OutletState) (kept kept' : List ℕ) (found : Searched)
+    (r : Result Outcome Error) → EndsWith rendering Is found.text found.outcome → Keeps kept kept' found r →
+    Ended rendering Is old old kept kept' r
 kept_ended rendering Is old kept kept' found (Ok outcome) ends told = (
   found.text,
   Puts-kept old kept kept' found.text told.0,
@@ -40,7 +42,8 @@ kept_ended rendering Is old kept kept' found (Ok outcome) ends told = (
 )
 kept_ended rendering Is old kept kept' found (Err e) ends told = end_none rendering Is old kept kept' (Err e) cc
 
-module _ (selection : Selection) (job : List ℕ) (group : Groups) (machine : MachineState) (counts counts' : Counts) (old : OutletState) (kept kept' : List ℕ) where
+module _ (selection : Selection) (job : List ℕ) (group : Groups) (machine : MachineState) (counts counts' : Counts)
+    (old : OutletState) (kept kept' : List ℕ) where
   abbrev rendering : Rendering
   rendering = search_from selection job group machine counts
 
@@ -50,30 +53,39 @@ module _ (selection : Selection) (job : List ℕ) (group : Groups) (machine : Ma
   -- ---- an item
 
   module _ (x : Placed) (machine' : MachineState) where
-    item_some : (found : Option Finding) → Steps machine machine' x.item counts counts' (Ok found) → (ending : Ending) × HasRun ((item_of machine x.item).run any_panel) ending counts counts'
+    item_some : (found : Option Finding) → Steps machine machine' x.item counts counts' (Ok found) →
+        (ending : Ending) × HasRun ((item_of machine x.item).run any_panel) ending counts counts'
     item_some None steps = (Done (state_at any_panel machine'.page), steps.1)
     item_some (Some finding) steps = (Halts finding, steps)
 
-    pub item_goes_on : (found : Option Finding) → found ≡ None → Steps machine machine' x.item counts counts' (Ok found) → false ≡ is_behind selection (open_page counts') → kept' ≡ kept
+    pub item_goes_on : (found : Option Finding) → found ≡ None → Steps machine machine' x.item counts counts' (Ok found) →
+        false ≡ is_behind selection (open_page counts') → kept' ≡ kept
         → RendersItem rendering (search_from selection job group machine' counts') x old old kept kept' (Ok None)
     item_goes_on found none steps goes same =
-        let done : Steps machine machine' x.item counts counts' (Ok None) = subst (λ f. Steps machine machine' x.item counts counts' (Ok f)) none steps in
+        let done : Steps machine machine' x.item counts counts' (Ok None) =
+        subst (λ f. Steps machine machine' x.item counts counts' (Ok f)) none steps in
         ([], same_kept same, item_goes selection job group machine counts counts' x machine' done.0 done.1 (sym goes))
 
-    pub item_ends : (found : Option Finding) → Steps machine machine' x.item counts counts' (Ok found) → true ≡ is_behind selection (open_page counts') → kept' ≡ kept → Ended rendering (StartsWith x) old old kept kept' (Ok AllDone)
+    pub item_ends : (found : Option Finding) → Steps machine machine' x.item counts counts' (Ok found) →
+        true ≡ is_behind selection (open_page counts') → kept' ≡ kept → Ended rendering (StartsWith x) old old kept kept' (Ok AllDone)
     item_ends found steps over same =
         let some = item_some found steps in
         ([], same_kept same, item_over selection job group machine counts counts' x some.0 some.1 (sym over))
 
-    pub item_fails : (found : Option Finding) (finding : Finding) → found ≡ Some finding → Steps machine machine' x.item counts counts' (Ok found) → false ≡ is_behind selection (open_page counts')
+    pub item_fails : (found : Option Finding) (finding : Finding) → found ≡ Some finding →
+        Steps machine machine' x.item counts counts' (Ok found) → false ≡ is_behind selection (open_page counts')
         → (failure : Failure) → failure ≡ failure_by x.place finding → (culprit : Culprit) → IsCulprit culprit x.item
-        → (r : Result Outcome Error) → Keeps kept kept' (found_at_failure selection job group counts' (at_command (Some culprit)) failure) r → Ended rendering (StartsWith x) old old kept kept' r
+        → (r : Result Outcome Error) → Keeps kept kept' (found_at_failure selection job group counts' (at_command (Some culprit)) failure) r
+        → Ended rendering (StartsWith x) old old kept kept' r
     item_fails found finding is steps goes failure failure_is culprit named r told =
-        let halts : HasRun ((item_of machine x.item).run any_panel) (Halts finding) counts counts' = subst (λ f. Steps machine machine' x.item counts counts' (Ok f)) is steps in
-        kept_ended rendering (StartsWith x) old kept kept' (found_at_failure selection job group counts' (at_item x.item) (failure_by x.place finding)) r
+        let halts : HasRun ((item_of machine x.item).run any_panel) (Halts finding) counts counts' =
+        subst (λ f. Steps machine machine' x.item counts counts' (Ok f)) is steps in
+        kept_ended rendering (StartsWith x) old kept kept'
+        (found_at_failure selection job group counts' (at_item x.item) (failure_by x.place finding)) r
         (item_found selection job group machine counts counts' x finding halts (sym goes))
         (subst (λ (f : Failure). Keeps kept kept' (found_at_failure selection job group counts' (at_item x.item) f) r) failure_is
-        (subst (λ words. Keeps kept kept' (found_at_failure selection job group counts' words failure) r) (culprit_at_item culprit x.item named) told))
+        (subst (λ words. Keeps kept kept' (found_at_failure selection job group counts' words failure) r)
+            (culprit_at_item culprit x.item named) told))
 
   -- ---- the end of the bytes
 
@@ -81,16 +93,19 @@ module _ (selection : Selection) (job : List ℕ) (group : Groups) (machine : Ma
     abbrev IsEnd : Reading → Type 0
     IsEnd reading = reading ≡ Whole [] place
 
-    end_some : (found : Option Finding) → Finishes machine counts counts' (Ok found) → (ending : Ending) × HasRun ((end_of machine).run any_panel) ending counts counts'
+    end_some : (found : Option Finding) → Finishes machine counts counts' (Ok found) →
+        (ending : Ending) × HasRun ((end_of machine).run any_panel) ending counts counts'
     end_some None finishes = (Done finishes.0, finishes.1)
     end_some (Some finding) finishes = (Halts finding, finishes)
 
-    pub end_ends : (found : Option Finding) → Finishes machine counts counts' (Ok found) → true ≡ is_behind selection (open_page counts') → kept' ≡ kept → Ended rendering (λ reading. reading ≡ Whole [] place) old old kept kept' (Ok AllDone)
+    pub end_ends : (found : Option Finding) → Finishes machine counts counts' (Ok found) → true ≡ is_behind selection (open_page counts') →
+        kept' ≡ kept → Ended rendering (λ reading. reading ≡ Whole [] place) old old kept kept' (Ok AllDone)
     end_ends found finishes over same =
         let some = end_some found finishes in
         ([], same_kept same, end_over selection job group machine counts counts' place some.0 some.1 (sym over))
 
-    pub end_goes_on : (found : Option Finding) → found ≡ None → Finishes machine counts counts' (Ok found) → false ≡ is_behind selection (open_page counts') → kept' ≡ kept ++ text_at_end selection job group counts'
+    pub end_goes_on : (found : Option Finding) → found ≡ None → Finishes machine counts counts' (Ok found) →
+        false ≡ is_behind selection (open_page counts') → kept' ≡ kept ++ text_at_end selection job group counts'
         → Ended rendering (λ reading. reading ≡ Whole [] place) old old kept kept' (Ok AllDone)
     end_goes_on found none finishes goes told =
         let done : Finishes machine counts counts' (Ok None) = subst (λ f. Finishes machine counts counts' (Ok f)) none finishes in (
@@ -99,22 +114,29 @@ module _ (selection : Selection) (job : List ℕ) (group : Groups) (machine : Ma
           end_goes selection job group machine counts counts' place done.0 done.1 (sym goes),
         )
 
-    pub end_fails : (found : Option Finding) (finding : Finding) → found ≡ Some finding → Finishes machine counts counts' (Ok found) → false ≡ is_behind selection (open_page counts')
+    pub end_fails : (found : Option Finding) (finding : Finding) → found ≡ Some finding → Finishes machine counts counts' (Ok found) →
+        false ≡ is_behind selection (open_page counts')
         → (failure : Failure) → failure ≡ failure_by place finding
-        → (r : Result Outcome Error) → Keeps kept kept' (found_at_failure selection job group counts' [] failure) r → Ended rendering (λ reading. reading ≡ Whole [] place) old old kept kept' r
+        → (r : Result Outcome Error) → Keeps kept kept' (found_at_failure selection job group counts' [] failure) r
+        → Ended rendering (λ reading. reading ≡ Whole [] place) old old kept kept' r
     end_fails found finding is finishes goes failure failure_is r told =
-        let halts : HasRun ((end_of machine).run any_panel) (Halts finding) counts counts' = subst (λ f. Finishes machine counts counts' (Ok f)) is finishes in
+        let halts : HasRun ((end_of machine).run any_panel) (Halts finding) counts counts' =
+        subst (λ f. Finishes machine counts counts' (Ok f)) is finishes in
         kept_ended rendering IsEnd old kept kept' (found_at_failure selection job group counts' [] (failure_by place finding)) r
         (end_found selection job group machine counts counts' place finding halts (sym goes))
         (subst (λ (f : Failure). Keeps kept kept' (found_at_failure selection job group counts' [] f) r) failure_is told)
 
 -- ---- a fault of the bytes
 
-pub fault_fails : (selection : Selection) (job : List ℕ) (group : Groups) (machine : MachineState) (counts : Counts) (old : OutletState) (kept kept' : List ℕ) (place : ℕ) (cause : LexCause) (failure : Failure) → failure ≡ record { place = place; profile = 0; reason = FaultOfBytes cause }
-    → (r : Result Outcome Error) → Keeps kept kept' (found_at_failure selection job group counts [] failure) r → Ended (search_from selection job group machine counts) (λ reading. reading ≡ Stopped [] place cause) old old kept kept' r
+pub fault_fails : (selection : Selection) (job : List ℕ) (group : Groups) (machine : MachineState) (counts : Counts) (old : OutletState)
+    (kept kept' : List ℕ) (place : ℕ) (cause : LexCause) (failure : Failure) →
+    failure ≡ record { place = place; profile = 0; reason = FaultOfBytes cause }
+    → (r : Result Outcome Error) → Keeps kept kept' (found_at_failure selection job group counts [] failure) r
+    → Ended (search_from selection job group machine counts) (λ reading. reading ≡ Stopped [] place cause) old old kept kept' r
 fault_fails selection job group machine counts old kept kept' place cause failure failure_is r told =
     let rendering : Rendering = search_from selection job group machine counts in
     let fault : Failure = record { place = place; profile = 0; reason = FaultOfBytes cause } in
-    kept_ended rendering (λ reading. reading ≡ Stopped [] place cause) old kept kept' (found_at_failure selection job group counts [] fault) r
+    kept_ended rendering (λ reading. reading ≡ Stopped [] place cause) old kept kept'
+    (found_at_failure selection job group counts [] fault) r
     (record { due = λ reading is. ap rendering.text is; outcome_is = λ reading is. ap rendering.outcome is })
     (subst (λ (f : Failure). Keeps kept kept' (found_at_failure selection job group counts [] f) r) failure_is told)

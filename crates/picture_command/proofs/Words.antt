@@ -37,7 +37,9 @@ simple_words simple.ExitLanguage = refl
 
 -- a command that counts so many bytes
 abbrev counting : DataCommand → ℕ → List ℕ
-counting command count = codes "ESC " ++ introducer_of (data_group_of command) ∷ character_of (data_group_of command) ∷ (decimal count ++ data_letter_of command ∷ [])
+counting command count =
+    codes "ESC " ++ introducer_of (data_group_of command) ∷ character_of (data_group_of command)
+    ∷ (decimal count ++ data_letter_of command ∷ [])
 
 -- what is told of an item tells it in the same words
 culprit_words : (culprit : Culprit) (item : Entry) → IsCulprit culprit item → command_words culprit ≡ item_words item
@@ -55,6 +57,13 @@ phrase_is culprit (Fail place profile reason) = refl
 
 -- the sentence of a report
 pub sentence_is : (job : List ℕ) (group : Groups) (culprit : Option Culprit) (verdict : Verdict) →
-    job_sentence (record { is_each = group.is_each; names = group.names; job = job; answer = Ok (record { verdict = verdict; culprit = culprit }); cause = None }) ≡ sentence job group (at_command culprit) verdict
+    job_sentence (record {
+      is_each = group.is_each;
+      names = group.names;
+      job = job;
+      answer = Ok (record { verdict = verdict; culprit = culprit });
+      cause = None;
+    })
+    ≡ sentence job group (at_command culprit) verdict
 sentence_is job group culprit verdict =
     ap (λ w. named_first job ++ (subject group.names (number_told group.is_each (Ok verdict)) ++ w) ++ 10 ∷ []) (phrase_is culprit verdict)

@@ -22,7 +22,8 @@ use Rattle.picture_command.specs.PageSearch.{Searched, reading_search}
 -- what is told of it, from where the machine stands
 abbrev pub rest_search : Selection → (job : List ℕ) → Groups → MachineState → Counts → Reading → Searched
 rest_search selection job group machine counts reading =
-    reading_search selection job group machine.printer (settings_at any_panel machine.defaults) counts reading machine.macros (state_at any_panel machine.page)
+    reading_search selection job group machine.printer
+    (settings_at any_panel machine.defaults) counts reading machine.macros (state_at any_panel machine.page)
 
 abbrev pub search_from : Selection → (job : List ℕ) → Groups → MachineState → Counts → Rendering
 search_from selection job group machine counts = record {
@@ -41,15 +42,24 @@ pub record HasRun (run : Run) (ending : Ending) (counts counts' : Counts) : Type
 -- an item was carried out to its end, or had a finding, or work stopped
 abbrev pub Steps : MachineState → MachineState → Entry → Counts → Counts → Result (Option Finding) Error → Type 0
 Steps machine machine' item counts counts' (Ok None) =
-    (machine' ≡ record machine { page = machine'.page; macros = (item_of machine item).macros; mode = (item_of machine item).mode; stopped = false })
+    (machine'
+    ≡ record machine {
+      page = machine'.page;
+      macros = (item_of machine item).macros;
+      mode = (item_of machine item).mode;
+      stopped = false;
+    })
     × HasRun ((item_of machine item).run any_panel) (Done (state_at any_panel machine'.page)) counts counts'
-Steps machine machine' item counts counts' (Ok (Some finding)) = HasRun ((item_of machine item).run any_panel) (Halts finding) counts counts'
+Steps machine machine' item counts counts' (Ok (Some finding)) =
+    HasRun ((item_of machine item).run any_panel) (Halts finding) counts counts'
 Steps machine machine' item counts counts' (Err e) = ⊤
 
 -- so was the end of the bytes
 abbrev pub Finishes : MachineState → Counts → Counts → Result (Option Finding) Error → Type 0
-Finishes machine counts counts' (Ok None) = (s : State) × HasRun ((end_of machine).run any_panel) (Done s) counts counts'
-Finishes machine counts counts' (Ok (Some finding)) = HasRun ((end_of machine).run any_panel) (Halts finding) counts counts'
+Finishes machine counts counts' (Ok None) =
+    (s : State) × HasRun ((end_of machine).run any_panel) (Done s) counts counts'
+Finishes machine counts counts' (Ok (Some finding)) =
+    HasRun ((end_of machine).run any_panel) (Halts finding) counts counts'
 Finishes machine counts counts' (Err e) = ⊤
 
 -- ---- what is told

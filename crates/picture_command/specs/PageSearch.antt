@@ -1,5 +1,6 @@
 -- What is told of the pages of a job before they are drawn: whether the job fails on them, and whether it has them.
-use Rattle.std.specs.Prelude.{ℕ, ◌+◌, false, List, [], ◌∷◌, ◌++◌, codes, decimal, flat_map, length, get_or, Option, None, Some, Ok, if◌then◌else◌}
+use Rattle.std.specs.Prelude.{ℕ, ◌+◌, false, List, [], ◌∷◌, ◌++◌, codes, decimal, flat_map, length, get_or, Option}
+use Rattle.std.specs.Prelude.{None, Some, Ok, if◌then◌else◌}
 use Rattle.pcl_items.specs.declared.fault.LexCause.{LexCause}
 use Rattle.pcl_items.specs.Spellings.Canon.{canon}
 use Rattle.pcl_items.specs.Escapes.Commands.{introducer_of, character_of, data_group_of, data_letter_of}
@@ -50,12 +51,14 @@ at_item item = codes ", " ++ item_words item
 -- what stands behind the subject, where the failure stands so
 abbrev pub verdict_words : (at_words : List ℕ) → Verdict → List ℕ
 verdict_words at_words (Pass pages marks) = verdict_phrase None (Pass pages marks)
-verdict_words at_words (Fail place profile reason) = named (codes " refuses this job at byte ") place ++ at_words ++ reason_phrase reason
+verdict_words at_words (Fail place profile reason) =
+    named (codes " refuses this job at byte ") place ++ at_words ++ reason_phrase reason
 
 -- the sentence on a verdict on the job of this name for these printers
 abbrev pub sentence : (job : List ℕ) → Groups → (at_words : List ℕ) → Verdict → List ℕ
 sentence job group at_words verdict =
-    named_first job ++ (subject group.names (number_told group.is_each (Ok verdict)) ++ verdict_words at_words verdict) ++ 10 ∷ []
+    named_first job ++ (subject group.names (number_told group.is_each (Ok verdict)) ++ verdict_words at_words verdict)
+    ++ 10 ∷ []
 
 -- the job does not have the page of this number, but so many
 abbrev pub missing_line : (job : List ℕ) → (number pages : ℕ) → List ℕ
@@ -119,18 +122,23 @@ abbrev pub failure_by : ℕ → Finding → Failure
 failure_by place finding = record { place = place; profile = 1; reason = FindingOfRun finding }
 
 -- of an item at a place, or of the end of the bytes, that ran so, and then what follows
-abbrev pub run_search : Selection → (job : List ℕ) → Groups → Counts → (at_words : List ℕ) → ℕ → Run → (Counts → State → Searched) → Searched
+abbrev pub run_search : Selection → (job : List ℕ) → Groups → Counts → (at_words : List ℕ) → ℕ → Run →
+    (Counts → State → Searched) → Searched
 run_search selection job group counts at_words place r next =
     let counts' = counts_after r.events counts in
     if is_behind selection (open_page counts') then nothing_told
-    else (behind_ending r.ending (next counts') (λ finding. found_at_failure selection job group counts' at_words (failure_by place finding)))
+    else (behind_ending r.ending (next counts') (λ finding.
+    found_at_failure selection job group counts' at_words (failure_by place finding)))
 
 -- of items, and then what comes last
-abbrev pub items_search : Selection → (job : List ℕ) → Groups → Printer → Settings → (Counts → Store → State → Searched) → Counts → List Placed → Store → State → Searched
+abbrev pub items_search : Selection → (job : List ℕ) → Groups → Printer → Settings →
+    (Counts → Store → State → Searched) → Counts → List Placed → Store → State → Searched
 items_search selection job group printer defaults finally counts [] macros s = finally counts macros s
 items_search selection job group printer defaults finally counts (x ∷ items) macros s =
-    run_search selection job group counts (at_item x.item) x.place (job_item_run (with_macros printer defaults macros) x.item s)
-    (λ counts' t. items_search selection job group printer defaults finally counts' items (macros_after s.settings.job.macro_id x.item macros) t)
+    run_search selection job group counts (at_item x.item) x.place
+    (job_item_run (with_macros printer defaults macros) x.item s)
+    (λ counts' t. items_search selection job group printer defaults finally counts' items
+    (macros_after s.settings.job.macro_id x.item macros) t)
 
 abbrev pub end_search : Selection → (job : List ℕ) → Groups → Printer → Settings → ℕ → Counts → Store → State → Searched
 end_search selection job group printer defaults place counts macros s =
@@ -142,11 +150,14 @@ fault_search selection job group place cause counts macros s =
     found_at_failure selection job group counts [] (record { place = place; profile = 0; reason = FaultOfBytes cause })
 
 -- of the items of a job and its end, or of the items before a fault and of the fault
-abbrev pub reading_search : Selection → (job : List ℕ) → Groups → Printer → Settings → Counts → Reading → Store → State → Searched
+abbrev pub reading_search : Selection → (job : List ℕ) → Groups → Printer → Settings → Counts → Reading → Store →
+    State → Searched
 reading_search selection job group printer defaults counts (Whole items place) macros s =
-    items_search selection job group printer defaults (end_search selection job group printer defaults place) counts items macros s
+    items_search selection job group printer defaults
+    (end_search selection job group printer defaults place) counts items macros s
 reading_search selection job group printer defaults counts (Stopped items place cause) macros s =
-    items_search selection job group printer defaults (fault_search selection job group place cause) counts items macros s
+    items_search selection job group printer defaults
+    (fault_search selection job group place cause) counts items macros s
 
 -- ---- the job
 
@@ -154,7 +165,8 @@ reading_search selection job group printer defaults counts (Stopped items place 
 abbrev pub job_search : Printer → Panel → Selection → (job : List ℕ) → Groups → Reading → Searched
 job_search printer panel selection job group reading =
     let defaults : Settings = user_defaults unwatched panel in
-    reading_search selection job group printer defaults no_counts reading (no_macros printer.memory) (start_state printer.most_items defaults)
+    reading_search selection job group printer defaults no_counts reading (no_macros printer.memory)
+    (start_state printer.most_items defaults)
 
 abbrev pub search_rendering : Printer → Panel → Selection → (job : List ℕ) → Groups → Rendering
 search_rendering printer panel selection job group = record {

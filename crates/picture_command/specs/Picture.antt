@@ -1,5 +1,6 @@
 -- What the command `picture` leaves.
-use Rattle.std.specs.Prelude.{◌≡◌, ◌≢◌, ◌⊎◌, ◌==◌, ◌+◌, ◌-◌, ◌^◌, ℕ, Bool, true, false, nat_lt, List, [], ◌∷◌, ◌++◌, codes, length, take, get_or, if◌then◌else◌, Ok, IsTrue, IsFalse, ⊤}
+use Rattle.std.specs.Prelude.{◌≡◌, ◌≢◌, ◌⊎◌, ◌==◌, ◌+◌, ◌-◌, ◌^◌, ℕ, Bool, true, false, nat_lt, List, [], ◌∷◌, ◌++◌}
+use Rattle.std.specs.Prelude.{codes, length, take, get_or, if◌then◌else◌, Ok, IsTrue, IsFalse, ⊤}
 use Rattle.device_profile.specs.declared.panel.Panel.{Panel}
 use Rattle.device_profile.specs.Name.{printer_name}
 use Rattle.device_profile.specs.Printer.{Printer}
@@ -88,16 +89,20 @@ IsUnsearched a = (a.first'.given ≡ a.first.given) × IsUndrawn a
 
 -- where the second reading came to the same, and nothing is told of a change
 abbrev pub LeavesSame : Status → Rendering → Outcome → Around → Type 0
-LeavesSame Pass rendering outcome a = (outcome ≡ AllDone) × WritesDue rendering a.second a.second' a.out a.out' outcome × Stays a.err a.err'
-LeavesSame Fail rendering outcome a = (outcome ≢ AllDone) × WritesDue rendering a.second a.second' a.out a.out' outcome × Stays a.err a.err'
+LeavesSame Pass rendering outcome a =
+    (outcome ≡ AllDone) × WritesDue rendering a.second a.second' a.out a.out' outcome × Stays a.err a.err'
+LeavesSame Fail rendering outcome a =
+    (outcome ≢ AllDone) × WritesDue rendering a.second a.second' a.out a.out' outcome × Stays a.err a.err'
 LeavesSame _ rendering outcome a = ⊥
 
 -- where it came to something else: what it drew stands there, and standard error tells it
 abbrev pub LeavesOther : Status → (job : List ℕ) → Rendering → Outcome → Around → Type 0
 LeavesOther Fail job rendering outcome a =
-    (other : Outcome) × (other ≢ outcome) × WritesDue rendering a.second a.second' a.out a.out' other × Writes a.err a.err' (change_line job)
+    (other : Outcome) × (other ≢ outcome) × WritesDue rendering a.second a.second' a.out a.out' other
+    × Writes a.err a.err' (change_line job)
 LeavesOther (Stopped Memory) job rendering outcome a =
-    (other : Outcome) × (other ≢ outcome) × WritesDue rendering a.second a.second' a.out a.out' other × Stays a.err a.err'
+    (other : Outcome) × (other ≢ outcome) × WritesDue rendering a.second a.second' a.out a.out' other
+    × Stays a.err a.err'
 LeavesOther _ job rendering outcome a = ⊥
 
 -- where it stopped
@@ -109,7 +114,8 @@ LeavesAtStop _ rendering a = ⊥
 -- pages were drawn, of a job whose first reading came to this outcome
 abbrev pub LeavesDrawn : Status → (job : List ℕ) → Rendering → Outcome → Around → Type 0
 LeavesDrawn status job rendering outcome a =
-    LeavesSame status rendering outcome a ⊎ (LeavesOther status job rendering outcome a ⊎ LeavesAtStop status rendering a)
+    LeavesSame status rendering outcome a
+    ⊎ (LeavesOther status job rendering outcome a ⊎ LeavesAtStop status rendering a)
 
 -- a page is missing, which standard error tells
 pub record LeavesMissing (status : Status) (text : List ℕ) (a : Around) : Type 0 where
@@ -118,26 +124,30 @@ pub record LeavesMissing (status : Status) (text : List ℕ) (a : Around) : Type
   pub told : Writes a.err a.err' text
 
 -- by this text and this outcome of the first reading
-pub record LeavesBehind (status : Status) (printer : Printer) (panel : Panel) (selection : Selection) (job text : List ℕ) (outcome : Outcome) (a : Around) : Type 0 where
+pub record LeavesBehind (status : Status) (printer : Printer) (panel : Panel) (selection : Selection)
+    (job text : List ℕ) (outcome : Outcome) (a : Around) : Type 0 where
   pub missing : IsTrue (is_missing selection text outcome) → LeavesMissing status text a
   pub drawn : IsFalse (is_missing selection text outcome) →
       LeavesDrawn status job (picture_rendering printer panel selection (without_line_end text)) outcome a
 
 -- what the first reading told, and what is left behind it
-pub record LeavesTold (status : Status) (printer : Printer) (panel : Panel) (selection : Selection) (job : List ℕ) (group : Groups) (a : Around) : Type 0 where
+pub record LeavesTold (status : Status) (printer : Printer) (panel : Panel) (selection : Selection) (job : List ℕ)
+    (group : Groups) (a : Around) : Type 0 where
   pub text : List ℕ
   pub outcome : Outcome
   pub told : TellsOutcome (search_rendering printer panel selection job group) a.first a.first' text outcome
   pub behind : LeavesBehind status printer panel selection job text outcome a
 
--- what is left for this printer, which sentences name so, from this panel; where the first reading stopped nothing was drawn
+-- what is left for this printer, which sentences name so, from this panel;
+-- where the first reading stopped nothing was drawn
 abbrev pub Draws : Status → Printer → Panel → Selection → (job : List ℕ) → (group : Groups) → Around → Type 0
 Draws (Stopped error) printer panel selection job group a =
     (IsUndrawn a × Stays a.err a.err') ⊎ LeavesTold (Stopped error) printer panel selection job group a
 Draws status printer panel selection job group a = LeavesTold status printer panel selection job group a
 
 -- for a printer with this fact and this name, which sentences name, from the panel that is chosen
-pub record LeavesPictureOf (status : Status) (IsPrinter : Printer → List ℕ → Type 0) (choices : List Choice) (selection : Selection) (job : List ℕ) (a : Around) : Type 0 where
+pub record LeavesPictureOf (status : Status) (IsPrinter : Printer → List ℕ → Type 0) (choices : List Choice)
+    (selection : Selection) (job : List ℕ) (a : Around) : Type 0 where
   pub printer : Printer
   pub name : List ℕ
   pub is_printer : IsPrinter printer name
@@ -153,7 +163,8 @@ abbrev pub IsUntouched : Around → Type 0
 IsUntouched a = IsUnsearched a × Stays a.err a.err'
 
 -- what `picture` leaves where it ends by this status
-abbrev pub LeavesPicture : Status → (Printer → List ℕ → Type 0) → List Choice → Selection → (job : List ℕ) → Around → Type 0
+abbrev pub LeavesPicture : Status → (Printer → List ℕ → Type 0) → List Choice → Selection → (job : List ℕ) → Around →
+    Type 0
 LeavesPicture (Profile number line cause) IsPrinter choices selection job a = IsUntouched a
 LeavesPicture (NotAllowed choice) IsPrinter choices selection job a = IsUnsearched a
 LeavesPicture (Stopped error) IsPrinter choices selection job a =

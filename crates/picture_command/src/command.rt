@@ -8,7 +8,10 @@ ghost use Rattle.requests.specs.Status.{is_refusal, is_stop_of_read, is_stop_of_
 ghost use Rattle.streams.specs.Source.{SourceState};
 ghost use Rattle.job_picture.specs.JobPicture.{picture_rendering};
 ghost use Rattle.picture_command.specs.PageSearch.{search_rendering};
-ghost use Rattle.picture_command.specs.Picture.{Draws, HasNoEnd, IsErrorOfSearch, IsNamedBy, LeavesDrawn, LeavesPicture, TellsOutcome, TellsChange, change_line, is_missing, status_of, without_line_end};
+ghost use Rattle.picture_command.specs.Picture.{Draws, HasNoEnd, IsErrorOfSearch, IsNamedBy};
+ghost use Rattle.picture_command.specs.Picture.{LeavesDrawn, LeavesPicture, TellsOutcome};
+ghost use Rattle.picture_command.specs.Picture.{TellsChange, change_line, is_missing, status_of};
+ghost use Rattle.picture_command.specs.Picture.{without_line_end};
 
 use crate::named_printer::read_printer;
 use crate::page_search::{Names, PageSearch};

@@ -8,7 +8,9 @@ ghost use Rattle.device_profile.specs.Printer.{IsAllowed};
 ghost use Rattle.job_reports.specs.JobSentences.{at_command};
 ghost use Rattle.requests.specs.Selection.{is_behind};
 ghost use Rattle.picture_command.specs.Carriers.{Finishes, Keeps, Steps, search_from};
-ghost use Rattle.picture_command.specs.PageSearch.{drawn_line, found_at_failure, missing_line, missing_part, open_page, search_rendering, sentence, text_at_end};
+ghost use Rattle.picture_command.specs.PageSearch.{drawn_line, found_at_failure, missing_line};
+ghost use Rattle.picture_command.specs.PageSearch.{missing_part, open_page, search_rendering};
+ghost use Rattle.picture_command.specs.PageSearch.{sentence, text_at_end};
 
 use device_profile::{Panel, Profile};
 use job_reports::{PrinterGroup, Report, push_job_sentence, push_named_first};

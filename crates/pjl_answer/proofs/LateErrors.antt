@@ -15,7 +15,8 @@ error_of printer answer base readable is_base LongText late = (readable, record 
 error_of printer answer base readable is_base Mismatch late = readable
 error_of printer answer base readable is_base Memory late = readable
 
-pub late_error : {X : Type 0} (printer : Printer) (answer base : List ℕ) (result : Result X AnswerError) → IsReadable answer → printer_of_text base ≡ Ok printer
+pub late_error : {X : Type 0} (printer : Printer) (answer base : List ℕ) (result : Result X AnswerError) → IsReadable answer →
+    printer_of_text base ≡ Ok printer
     → IfErr result (IsLate printer answer base) → IfErr result (IsAnswerError answer base)
 late_error printer answer base (Ok x) readable is_base late = tt
 late_error printer answer base (Err error) readable is_base late = error_of printer answer base readable is_base error late

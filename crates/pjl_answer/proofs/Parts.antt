@@ -9,12 +9,15 @@ use Rattle.pjl_answer.specs.declared.variable.Variable.{Variable}
 use Rattle.pjl_answer.specs.Answer.{value_in, value_in_parts}
 
 -- a line without a form feed is one part
-pub one_part : (line : List ℕ) (place : ℕ) → place ≡ position_or_len (λ b. b == 12) line → place ≡ length line → slice_split (λ b. b == 12) line ≡ line ∷ []
-one_part line place is_place all = slice_split_none (λ b. b == 12) line (λ k d below. fails_before_first (λ b. b == 12) line k d (omega arith))
+pub one_part : (line : List ℕ) (place : ℕ) → place ≡ position_or_len (λ b. b == 12) line → place ≡ length line →
+    slice_split (λ b. b == 12) line ≡ line ∷ []
+one_part line place is_place all =
+    slice_split_none (λ b. b == 12) line (λ k d below. fails_before_first (λ b. b == 12) line k d (omega arith))
 
 -- a form feed ends the first part
 pub two_parts : (line : List ℕ) (place : ℕ) → place ≡ position_or_len (λ b. b == 12) line → place < length line
-    → slice_split (λ b. b == 12) line ≡ take place line ∷ slice_split (λ b. b == 12) (take (length line - (place + 1)) (drop (place + 1) line))
+    → slice_split (λ b. b == 12) line
+    ≡ take place line ∷ slice_split (λ b. b == 12) (take (length line - (place + 1)) (drop (place + 1) line))
 two_parts line place is_place within =
     let inside : position_or_len (λ b. b == 12) line < length line = omega arith in
     slice_split_first (λ b. b == 12) line 0 inside

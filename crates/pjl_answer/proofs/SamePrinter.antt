@@ -3,7 +3,8 @@ use Rattle.std.proofs.Common.{◌≡◌}
 use Rattle.device_profile.specs.Printer.{Printer}
 use Rattle.pjl_answer.specs.Same.{HasOtherValues, HasPageValues, IsSameDevice}
 
-pub same_printer : (a b : Printer) → HasPageValues a b → HasOtherValues a b → IsSameDevice a b → a.geometries ≡ b.geometries → a.faces ≡ b.faces → a ≡ b
+pub same_printer : (a b : Printer) → HasPageValues a b → HasOtherValues a b → IsSameDevice a b → a.geometries ≡ b.geometries →
+    a.faces ≡ b.faces → a ≡ b
 same_printer a b page other device geometries faces =
     λ i. record {
       sizes = page.sizes i;

@@ -1,7 +1,9 @@
 -- The variables and their values in a printer's answer.
-use Rattle.std.specs.Prelude.{ℕ, ◌+◌, ◌-◌, ◌==◌, nat_lt, nat_le, nat_eq, not, ◌&&◌, ◌||◌, Bool, List, [], ◌∷◌, length, take, drop, get_or, Option, None, Some, is_some, option_map, codes, if◌then◌else◌}
+use Rattle.std.specs.Prelude.{ℕ, ◌+◌, ◌-◌, ◌==◌, nat_lt, nat_le, nat_eq, not, ◌&&◌, ◌||◌, Bool, List, [], ◌∷◌, length}
+use Rattle.std.specs.Prelude.{take, drop, get_or, Option, None, Some, is_some, option_map, codes, if◌then◌else◌}
 use Rattle.std.specs.Char.{is_ascii_whitespace}
-use Rattle.std.specs.List.{before_first, after_first, list_all, list_any, position_or_len, prefix_len, slice_split, starts_with, suffix_len}
+use Rattle.std.specs.List.{before_first, after_first, list_all, list_any, position_or_len, prefix_len, slice_split}
+use Rattle.std.specs.List.{starts_with, suffix_len}
 use Rattle.std.specs.Option.{option_or}
 use Rattle.std.specs.Str.{bytes_eq}
 use Rattle.std.specs.Str.Lines.{lines}
@@ -13,7 +15,8 @@ abbrev pub trimmed_start : List ℕ → List ℕ
 trimmed_start text = drop (prefix_len is_ascii_whitespace text) text
 
 unfoldable pub trimmed : List ℕ → List ℕ
-trimmed text = take (length (trimmed_start text) - suffix_len is_ascii_whitespace (trimmed_start text)) (trimmed_start text)
+trimmed text =
+    take (length (trimmed_start text) - suffix_len is_ascii_whitespace (trimmed_start text)) (trimmed_start text)
 
 -- what stands before the first such byte, or all where there is none, and what stands behind it
 abbrev pub before_byte : ℕ → List ℕ → List ℕ
@@ -27,7 +30,9 @@ has_byte byte text = nat_lt (position_or_len (λ b. b == byte) text) (length tex
 
 -- whether `LPARM`, a colon and `PCL` stand before a name
 abbrev pub is_of_pcl : List ℕ → Bool
-is_of_pcl name = bytes_eq (trimmed (before_byte 58 name)) (codes "LPARM") && starts_with nat_eq (trimmed (after_byte 58 name)) (codes "PCL ")
+is_of_pcl name =
+    bytes_eq (trimmed (before_byte 58 name)) (codes "LPARM")
+    && starts_with nat_eq (trimmed (after_byte 58 name)) (codes "PCL ")
 
 -- the name without them
 unfoldable pub name_of : List ℕ → List ℕ
@@ -47,7 +52,8 @@ is_indented line = get_or line 0 0 == 9 || get_or line 0 0 == 32
 
 -- whether a line gives this variable: its name and `=` stand at the front
 abbrev pub is_line_of : Variable → List ℕ → Bool
-is_line_of variable line = not (is_indented line) && has_byte 61 line && bytes_eq (name_of (before_byte 61 line)) (word_of variable)
+is_line_of variable line =
+    not (is_indented line) && has_byte 61 line && bytes_eq (name_of (before_byte 61 line)) (word_of variable)
 
 -- the value that a line gives a variable
 unfoldable pub value_in : Variable → List ℕ → Option (List ℕ)
@@ -65,7 +71,8 @@ value_in_line variable line = value_in_parts variable (slice_split (λ b. b == 1
 abbrev pub entry_from : Variable → ℕ → List (List ℕ) → Option (ℕ × List ℕ)
 entry_from variable number [] = None
 entry_from variable number (line ∷ more) =
-    option_or (option_map (λ value. (number, value)) (value_in_line variable line)) (entry_from variable (number + 1) more)
+    option_or (option_map (λ value. (number, value)) (value_in_line variable line))
+    (entry_from variable (number + 1) more)
 
 unfoldable pub entry_of : List ℕ → Variable → Option (ℕ × List ℕ)
 entry_of answer variable = entry_from variable 1 (lines answer)

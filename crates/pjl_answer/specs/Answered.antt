@@ -4,7 +4,8 @@ use Rattle.device_profile.specs.Name.{printer_name}
 use Rattle.device_profile.specs.Printer.{Printer}
 use Rattle.device_profile.specs.Text.{printer_of_text, IsErrorOfText}
 use Rattle.pjl_answer.specs.declared.answered.AnswerError.{AnswerError}
-use Rattle.pjl_answer.specs.declared.answered.AnswerError.TheVariants.{LongAnswer, NoAnswer, Base, LongText, Mismatch, Memory}
+use Rattle.pjl_answer.specs.declared.answered.AnswerError.TheVariants.{LongAnswer, NoAnswer, Base, LongText, Mismatch}
+use Rattle.pjl_answer.specs.declared.answered.AnswerError.TheVariants.{Memory}
 use Rattle.pjl_answer.specs.Answer.{is_answer, odd_line}
 use Rattle.pjl_answer.specs.Told.{with_told}
 use Rattle.pjl_answer.specs.Text.{answered_text}
@@ -54,7 +55,8 @@ pub record IsTooLong (answer base : List ℕ) : Type 0 where
 -- THE TABLE OF ERRORS
 abbrev pub IsAnswerError : List ℕ → List ℕ → AnswerError → Type 0
 IsAnswerError answer base LongAnswer = is_long answer ≡ true
-IsAnswerError answer base (NoAnswer line) = (is_long answer ≡ false) × (is_answer answer ≡ false) × (line ≡ odd_line answer)
+IsAnswerError answer base (NoAnswer line) =
+    (is_long answer ≡ false) × (is_answer answer ≡ false) × (line ≡ odd_line answer)
 IsAnswerError answer base (Base fault) = IsReadable answer × IsErrorOfText base fault
 IsAnswerError answer base LongText = IsReadable answer × IsTooLong answer base
 IsAnswerError answer base Mismatch = IsReadable answer

@@ -1,5 +1,6 @@
 -- The vertical motion index by how many lines a page has.
-use Rattle.std.specs.Prelude.{ℕ, ◌-◌, ◌*◌, ◌/◌, ◌%◌, ◌==◌, Bool, List, [], ◌∷◌, Option, find, option_map, slice_index, unwrap_or, if◌then◌else◌}
+use Rattle.std.specs.Prelude.{ℕ, ◌-◌, ◌*◌, ◌/◌, ◌%◌, ◌==◌, Bool, List, [], ◌∷◌, Option, find, option_map, slice_index}
+use Rattle.std.specs.Prelude.{unwrap_or, if◌then◌else◌}
 use Rattle.printer_models.specs.declared.paper.Paper.{Paper}
 use Rattle.printer_models.specs.Page.{page_numbers}
 

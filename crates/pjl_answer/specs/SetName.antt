@@ -61,8 +61,12 @@ symbol_set_of set_names.VenturaInternational = set_of 13 74
 
 abbrev pub every_set_name : List SetName
 every_set_name =
-    set_names.Roman8 ∷ set_names.Latin1 ∷ set_names.Latin2 ∷ set_names.Latin5 ∷ set_names.Latin6 ∷ set_names.Latin9 ∷ set_names.Pc8 ∷ set_names.Pc8Danish ∷ set_names.Pc850 ∷ set_names.Pc852 ∷ set_names.Pc8Turkish ∷ set_names.Pc858 ∷ set_names.Windows1 ∷ set_names.Windows2
-    ∷ set_names.Windows5 ∷ set_names.Windows30 ∷ set_names.Ascii ∷ set_names.Legal ∷ set_names.DeskTop ∷ set_names.PsText ∷ set_names.MsPublishing ∷ set_names.McText ∷ set_names.VenturaUs ∷ set_names.VenturaInternational ∷ []
+    set_names.Roman8 ∷ set_names.Latin1 ∷ set_names.Latin2 ∷ set_names.Latin5 ∷ set_names.Latin6 ∷ set_names.Latin9
+    ∷ set_names.Pc8 ∷ set_names.Pc8Danish ∷ set_names.Pc850 ∷ set_names.Pc852 ∷ set_names.Pc8Turkish ∷ set_names.Pc858
+    ∷ set_names.Windows1 ∷ set_names.Windows2
+    ∷ set_names.Windows5 ∷ set_names.Windows30 ∷ set_names.Ascii ∷ set_names.Legal ∷ set_names.DeskTop
+    ∷ set_names.PsText ∷ set_names.MsPublishing ∷ set_names.McText ∷ set_names.VenturaUs
+    ∷ set_names.VenturaInternational ∷ []
 
 -- the set of a name
 unfoldable pub set_named : List ℕ → Option SetName

@@ -1,11 +1,13 @@
 -- The text of a profile with what a printer's answer tells.
-use Rattle.std.specs.Prelude.{ℕ, Bool, nat_eq, List, [], ◌∷◌, ◌++◌, Option, None, Some, find, codes, decimal, flat_map, option_map, unwrap_or, if◌then◌else◌}
+use Rattle.std.specs.Prelude.{ℕ, Bool, nat_eq, List, [], ◌∷◌, ◌++◌, Option, None, Some, find, codes, decimal, flat_map}
+use Rattle.std.specs.Prelude.{option_map, unwrap_or, if◌then◌else◌}
 use Rattle.std.specs.List.{starts_with}
 use Rattle.std.specs.Option.{option_and_then, option_map_or}
 use Rattle.std.specs.Str.{bytes_eq}
 use Rattle.std.specs.Str.Lines.{lines}
 use Rattle.device_profile.specs.declared.field.Field.{Field}
-use Rattle.device_profile.specs.declared.field.Field.TheVariants.{Size, Orientation, Vmi, Font, Copies, Sides, Tray, LineTerm}
+use Rattle.device_profile.specs.declared.field.Field.TheVariants.{Size, Orientation, Vmi, Font, Copies, Sides, Tray}
+use Rattle.device_profile.specs.declared.field.Field.TheVariants.{LineTerm}
 use Rattle.device_profile.specs.declared.format.Format.{Format}
 use Rattle.device_profile.specs.declared.format.Format.TheVariants.{One, Two}
 use Rattle.device_profile.specs.Field.{every_field, field_key}
@@ -89,7 +91,8 @@ behind_comments (line ∷ more) = if bytes_eq line origin then behind_warnings m
 -- the first line, the comments with these warnings, and the line that is added
 abbrev pub head_with : Format → Option (List ℕ) → List ℕ → List Warning → List ℕ
 head_with format line_termination answer all =
-    first_line format line_termination ++ origin ++ codes "\n" ++ warning_lines (codes "# ") answer all ++ added_line format line_termination
+    first_line format line_termination ++ origin ++ codes "\n" ++ warning_lines (codes "# ") answer all
+    ++ added_line format line_termination
 
 abbrev pub head_of : Printer → List ℕ → Format → List ℕ
 head_of printer answer format = head_with format (told printer answer LineTerm) answer (warnings printer answer)

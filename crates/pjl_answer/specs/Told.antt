@@ -1,10 +1,12 @@
 -- What a printer's answer tells of its panel.
-use Rattle.std.specs.Prelude.{ℕ, pos, ◌*◌, ◌==◌, ◌&&◌, ◌||◌, Bool, false, not, List, [], ◌∷◌, Option, None, Some, find, option_map, unwrap_or, if◌then◌else◌}
+use Rattle.std.specs.Prelude.{ℕ, pos, ◌*◌, ◌==◌, ◌&&◌, ◌||◌, Bool, false, not, List, [], ◌∷◌, Option, None, Some, find}
+use Rattle.std.specs.Prelude.{option_map, unwrap_or, if◌then◌else◌}
 use Rattle.std.specs.List.{list_all}
 use Rattle.std.specs.Option.{option_and_then, option_map_or}
 use Rattle.std.specs.Ordering.{int_eq}
 use Rattle.device_profile.specs.declared.field.Field.{Field}
-use Rattle.device_profile.specs.declared.field.Field.TheVariants.{Size, Orientation, Vmi, Font, Copies, Sides, Tray, LineTerm}
+use Rattle.device_profile.specs.declared.field.Field.TheVariants.{Size, Orientation, Vmi, Font, Copies, Sides, Tray}
+use Rattle.device_profile.specs.declared.field.Field.TheVariants.{LineTerm}
 use Rattle.device_profile.specs.declared.font.SymbolSet.{SymbolSet}
 use Rattle.device_profile.specs.Faces.{Face}
 use Rattle.device_profile.specs.Printer.{Printer, are_sides, has_orientation, has_size, has_tray, values_of}
@@ -18,7 +20,8 @@ use Rattle.pjl_answer.specs.declared.values.ToldValues.TheVariants.{One, Two}
 use Rattle.pjl_answer.specs.Answer.{value_of}
 use Rattle.pjl_answer.specs.FormLines.{text_height, is_whole_share, vmi_by}
 use Rattle.pjl_answer.specs.SetName.{set_named, symbol_set_of}
-use Rattle.pjl_answer.specs.Values.{binding_of, copies_of, form_lines_of, is_first, is_internal, is_on, kept, line_termination_of, mp_trays_of, orientation_of, paper_of}
+use Rattle.pjl_answer.specs.Values.{binding_of, copies_of, form_lines_of, is_first, is_internal, is_on, kept}
+use Rattle.pjl_answer.specs.Values.{line_termination_of, mp_trays_of, orientation_of, paper_of}
 
 -- ---- what the answer says by itself
 
@@ -42,7 +45,8 @@ abbrev pub duplex_told : List ℕ → Option Bool
 duplex_told answer = option_and_then is_on (value_of answer variables.Duplex)
 
 abbrev pub sides_told : List ℕ → Option ℕ
-sides_told answer = option_and_then (λ is_duplex. sides_by is_duplex (value_of answer variables.Binding)) (duplex_told answer)
+sides_told answer =
+    option_and_then (λ is_duplex. sides_by is_duplex (value_of answer variables.Binding)) (duplex_told answer)
 
 -- where paper is fed by hand that is tray 2; else the trays are those by the multipurpose tray, or tray 1
 abbrev pub trays_by : Bool → Option (List ℕ) → Option (List ℕ)

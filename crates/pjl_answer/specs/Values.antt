@@ -1,5 +1,6 @@
 -- What the values of variables mean.
-use Rattle.std.specs.Prelude.{ℕ, ◌==◌, ◌||◌, Bool, true, false, List, [], ◌∷◌, Option, None, Some, is_some, find, codes, if◌then◌else◌}
+use Rattle.std.specs.Prelude.{ℕ, ◌==◌, ◌||◌, Bool, true, false, List, [], ◌∷◌, Option, None, Some, is_some, find, codes}
+use Rattle.std.specs.Prelude.{if◌then◌else◌}
 use Rattle.std.specs.Option.{option_and_then, option_map_or}
 use Rattle.std.specs.Str.{bytes_eq}
 use Rattle.device_profile.specs.declared.field.Field.TheVariants.{Copies as CopiesField, LineTerm}
@@ -39,7 +40,8 @@ paper_of value = find (λ paper. bytes_eq (paper_word paper) value) every_paper
 
 -- as `ESC &l#O` numbers them
 abbrev pub orientation_of : List ℕ → Option ℕ
-orientation_of value = if bytes_eq value (codes "PORTRAIT") then Some 0 else (if bytes_eq value (codes "LANDSCAPE") then Some 1 else None)
+orientation_of value =
+    if bytes_eq value (codes "PORTRAIT") then Some 0 else (if bytes_eq value (codes "LANDSCAPE") then Some 1 else None)
 
 abbrev pub copies_of : List ℕ → Option ℕ
 copies_of value = kept (is_value CopiesField) (number_of value)
@@ -54,13 +56,16 @@ line_termination_of value = kept (is_value LineTerm) (number_of value)
 
 -- ON or OFF
 abbrev pub is_on : List ℕ → Option Bool
-is_on value = if bytes_eq value (codes "ON") then Some true else (if bytes_eq value (codes "OFF") then Some false else None)
+is_on value =
+    if bytes_eq value (codes "ON") then Some true else (if bytes_eq value (codes "OFF") then Some false else None)
 
 -- the sides of duplex by its binding, as `ESC &l#S` numbers them
 abbrev pub binding_of : List ℕ → Option ℕ
-binding_of value = if bytes_eq value (codes "LONGEDGE") then Some 1 else (if bytes_eq value (codes "SHORTEDGE") then Some 2 else None)
+binding_of value =
+    if bytes_eq value (codes "LONGEDGE") then Some 1 else (if bytes_eq value (codes "SHORTEDGE") then Some 2 else None)
 
--- The trays that paper may come from, by when the multipurpose tray is used: first, like a cassette, or where paper is fed by hand.
+-- The trays that paper may come from, by when the multipurpose tray is used:
+-- first, like a cassette, or where paper is fed by hand.
 abbrev pub mp_trays_of : List ℕ → Option (List ℕ)
 mp_trays_of value =
     if bytes_eq value (codes "FIRST") then Some (1 ∷ 4 ∷ [])

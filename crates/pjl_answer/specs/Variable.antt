@@ -28,5 +28,8 @@ word_of variables.Memory = codes "MEMORY"
 
 abbrev pub every_variable : List Variable
 every_variable =
-    variables.Paper ∷ variables.Orientation ∷ variables.FormLines ∷ variables.FontSource ∷ variables.FontNumber ∷ variables.SymbolSet ∷ variables.Pitch ∷ variables.Copies ∷ variables.Duplex ∷ variables.Binding ∷ variables.ManualFeed ∷ variables.MpTray
-    ∷ variables.LineTermination ∷ variables.AppendCrToLf ∷ variables.WideA4 ∷ variables.EdgeToEdge ∷ variables.OverrideA4WithLetter ∷ variables.PanelLock ∷ variables.Personality ∷ variables.Memory ∷ []
+    variables.Paper ∷ variables.Orientation ∷ variables.FormLines ∷ variables.FontSource ∷ variables.FontNumber
+    ∷ variables.SymbolSet ∷ variables.Pitch ∷ variables.Copies ∷ variables.Duplex ∷ variables.Binding
+    ∷ variables.ManualFeed ∷ variables.MpTray
+    ∷ variables.LineTermination ∷ variables.AppendCrToLf ∷ variables.WideA4 ∷ variables.EdgeToEdge
+    ∷ variables.OverrideA4WithLetter ∷ variables.PanelLock ∷ variables.Personality ∷ variables.Memory ∷ []

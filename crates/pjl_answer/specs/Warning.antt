@@ -1,10 +1,13 @@
 -- What a user is warned of in a printer's answer.
-use Rattle.std.specs.Prelude.{ℕ, ◌/◌, ◌%◌, ◌+◌, ◌==◌, nat_le, nat_lt, not, ◌&&◌, ◌||◌, Bool, false, List, [], ◌∷◌, ◌++◌, length, take, Option, None, Some, is_some, find, codes, decimal, flat_map, option_map, if◌then◌else◌}
+use Rattle.std.specs.Prelude.{ℕ, ◌/◌, ◌%◌, ◌+◌, ◌==◌, nat_le, nat_lt, not, ◌&&◌, ◌||◌, Bool, false, List, [], ◌∷◌, ◌++◌}
+use Rattle.std.specs.Prelude.{length, take, Option, None, Some, is_some, find, codes, decimal, flat_map, option_map}
+use Rattle.std.specs.Prelude.{if◌then◌else◌}
 use Rattle.std.specs.List.{filter_map}
 use Rattle.std.specs.Option.{option_and_then, option_map_or, option_or}
 use Rattle.std.specs.Str.{bytes_eq}
 use Rattle.device_profile.specs.declared.field.Field.{Field}
-use Rattle.device_profile.specs.declared.field.Field.TheVariants.{Size, Orientation, Vmi, Font, Copies, Sides, Tray, LineTerm}
+use Rattle.device_profile.specs.declared.field.Field.TheVariants.{Size, Orientation, Vmi, Font, Copies, Sides, Tray}
+use Rattle.device_profile.specs.declared.field.Field.TheVariants.{LineTerm}
 use Rattle.device_profile.specs.Field.{every_field}
 use Rattle.device_profile.specs.Printer.{Printer}
 use Rattle.pjl_answer.specs.declared.variable.Variable.{Variable}
@@ -41,7 +44,8 @@ warning variable note = record { variable = variable; note = note }
 -- of a field's variables the first whose value is not known, else the first that is given
 abbrev pub blame : List ℕ → Field → Option Warning
 blame answer field =
-    option_or (option_map (λ variable. warning variable pjl_notes.NotUnderstood) (find (is_wrong answer) (variables_of field)))
+    option_or
+    (option_map (λ variable. warning variable pjl_notes.NotUnderstood) (find (is_wrong answer) (variables_of field)))
     (option_map (λ variable. warning variable pjl_notes.NotHeld) (find (is_given answer) (variables_of field)))
 
 -- a field that is given, and not told
@@ -56,7 +60,8 @@ note_if note holds = if holds then Some note else None
 -- a switch that is on, or neither on nor off
 abbrev pub switch_note : PjlNote → List ℕ → Option PjlNote
 switch_note note value =
-    if bytes_eq value (codes "YES") then Some note else note_if pjl_notes.UnknownSwitch (not (bytes_eq value (codes "NO")))
+    if bytes_eq value (codes "YES") then Some note
+    else note_if pjl_notes.UnknownSwitch (not (bytes_eq value (codes "NO")))
 
 -- THE TABLE OF VALUES that a user is warned of
 abbrev pub note_of : List ℕ → Variable → List ℕ → Option PjlNote
@@ -65,8 +70,10 @@ note_of answer variables.WideA4 value = switch_note pjl_notes.WideA4 value
 note_of answer variables.EdgeToEdge value = switch_note pjl_notes.EdgeToEdge value
 note_of answer variables.OverrideA4WithLetter value = switch_note pjl_notes.A4WithLetter value
 note_of answer variables.AppendCrToLf value = switch_note pjl_notes.AppendsReturn value
-note_of answer variables.PanelLock value = note_if pjl_notes.FreePanel (bytes_eq value (codes "OFF") || bytes_eq value (codes "NONE"))
-note_of answer variables.Personality value = note_if pjl_notes.OtherLanguage (not (bytes_eq value (codes "AUTO") || bytes_eq value (codes "PCL")))
+note_of answer variables.PanelLock value =
+    note_if pjl_notes.FreePanel (bytes_eq value (codes "OFF") || bytes_eq value (codes "NONE"))
+note_of answer variables.Personality value =
+    note_if pjl_notes.OtherLanguage (not (bytes_eq value (codes "AUTO") || bytes_eq value (codes "PCL")))
 note_of answer variables.Memory value = Some pjl_notes.WholeMemory
 note_of answer variables.Paper value = None
 note_of answer variables.Orientation value = None
@@ -82,7 +89,8 @@ note_of answer variables.MpTray value = None
 note_of answer variables.LineTermination value = None
 
 abbrev pub value_warning : List ℕ → Variable → Option Warning
-value_warning answer variable = option_map (warning variable) (option_and_then (note_of answer variable) (value_of answer variable))
+value_warning answer variable =
+    option_map (warning variable) (option_and_then (note_of answer variable) (value_of answer variable))
 
 -- all warnings of an answer, for a profile of this printer: of the fields, and of the values
 abbrev pub warnings : Printer → List ℕ → List Warning
@@ -93,7 +101,8 @@ warnings printer answer =
 
 abbrev pub note_words : PjlNote → List ℕ
 note_words pjl_notes.NotUnderstood = codes "not understood; the profile keeps its list"
-note_words pjl_notes.NotHeld = codes "the profile has nothing that goes with it, or the answer lacks a line that it needs; it keeps its list"
+note_words pjl_notes.NotHeld =
+    codes "the profile has nothing that goes with it, or the answer lacks a line that it needs; it keeps its list"
 note_words pjl_notes.MeasureLines = codes "the line spacing is reckoned from it; measure ten lines"
 note_words pjl_notes.WideA4 = codes "the A4 pages have to be those of 80 columns"
 note_words pjl_notes.EdgeToEdge = codes "the printable area is larger than the pages say"
@@ -119,7 +128,8 @@ variable_at variable line = codes "line " ++ decimal line ++ codes ": " ++ word_
 
 -- and its value and the note
 unfoldable pub warning_at : Warning → ℕ × List ℕ → List ℕ
-warning_at it entry = variable_at it.variable entry.0 ++ codes "=" ++ shown_value entry.1 ++ codes ": " ++ note_words it.note
+warning_at it entry =
+    variable_at it.variable entry.0 ++ codes "=" ++ shown_value entry.1 ++ codes ": " ++ note_words it.note
 
 abbrev pub warning_words : List ℕ → Warning → List ℕ
 warning_words answer it = option_map_or (warning_at it) (entry_of answer it.variable) []

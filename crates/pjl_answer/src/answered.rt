@@ -1,7 +1,8 @@
 //! A printer's answer, put into the text of a profile.
 ghost use Rattle.std.specs.Prelude.{◌≡◌, [], IfErr, IfOk, IsTrue};
 ghost use Rattle.device_profile.specs.Name.{printer_name};
-ghost use Rattle.pjl_answer.specs.Answered.{IsAnswered, IsAnswerError, IsDescribed, IsLate, IsOfText, IsReadable, is_long};
+ghost use Rattle.pjl_answer.specs.Answered.{IsAnswered, IsAnswerError, IsDescribed, IsLate};
+ghost use Rattle.pjl_answer.specs.Answered.{IsOfText, IsReadable, is_long};
 ghost use Rattle.pjl_answer.specs.Warning.{warning_lines};
 
 use crate::comparison::describes;

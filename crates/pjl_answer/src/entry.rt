@@ -1,7 +1,8 @@
 //! The variables and their values in a printer's answer.
 ghost use Rattle.std.specs.Prelude.{◌≡◌, Some, None, MatchOption, option_map};
 ghost use Rattle.std.specs.List.{list_all, list_any};
-ghost use Rattle.pjl_answer.specs.Answer.{entry_of, is_answer, is_given, is_text, odd_line, value_of};
+ghost use Rattle.pjl_answer.specs.Answer.{entry_of, is_answer, is_given, is_text, odd_line};
+ghost use Rattle.pjl_answer.specs.Answer.{value_of};
 
 use crate::line::value_in_line;
 use crate::variable::{VARIABLES, Variable};

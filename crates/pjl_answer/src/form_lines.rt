@@ -1,6 +1,7 @@
 //! The vertical motion index by how many lines a page has.
 ghost use Rattle.std.specs.Prelude.{◌≡◌, ◌≤◌};
-ghost use Rattle.pjl_answer.specs.FormLines.{is_whole_share, line_share, text_height, usual_distance, vmi_by};
+ghost use Rattle.pjl_answer.specs.FormLines.{is_whole_share, line_share, text_height};
+ghost use Rattle.pjl_answer.specs.FormLines.{usual_distance, vmi_by};
 
 use printer_models::{Paper, page_numbers};
 

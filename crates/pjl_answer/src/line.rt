@@ -2,7 +2,9 @@
 ghost use Rattle.std.specs.Prelude.{◌≡◌, ◌==◌, ◌∷◌, ◌<◌, ◌≤◌, [], IfSome, drop, length, option_map};
 ghost use Rattle.std.specs.List.{position_or_len, slice_split};
 ghost use Rattle.std.specs.Option.{option_map_or};
-ghost use Rattle.pjl_answer.specs.Answer.{after_byte, before_byte, has_byte, is_indented, is_line_of, is_of_pcl, name_of, trimmed, unquoted, value_at, value_in, value_in_line};
+ghost use Rattle.pjl_answer.specs.Answer.{after_byte, before_byte, has_byte, is_indented};
+ghost use Rattle.pjl_answer.specs.Answer.{is_line_of, is_of_pcl, name_of, trimmed, unquoted};
+ghost use Rattle.pjl_answer.specs.Answer.{value_at, value_in, value_in_line};
 
 use crate::variable::Variable;
 

@@ -4,7 +4,10 @@ ghost use Rattle.std.specs.Str.{bytes_eq};
 ghost use Rattle.std.specs.Str.Lines.{lines};
 ghost use Rattle.device_profile.specs.Field.{field_key};
 ghost use Rattle.device_profile.specs.Text.{words_of_line};
-ghost use Rattle.pjl_answer.specs.Text.{added_line, answered_text, behind_comments, behind_warnings, field_line, field_of, field_on, first_line, head_with, is_warning, line_after, origin, told_line, value_word, version};
+ghost use Rattle.pjl_answer.specs.Text.{added_line, answered_text, behind_comments};
+ghost use Rattle.pjl_answer.specs.Text.{behind_warnings, field_line, field_of, field_on};
+ghost use Rattle.pjl_answer.specs.Text.{first_line, head_with, is_warning, line_after, origin};
+ghost use Rattle.pjl_answer.specs.Text.{told_line, value_word, version};
 ghost use Rattle.pjl_answer.specs.Told.{values_in};
 ghost use Rattle.pjl_answer.specs.Warning.{warnings};
 

@@ -4,7 +4,12 @@ ghost use Rattle.std.specs.List.{list_all};
 ghost use Rattle.device_profile.specs.declared.field.Field.TheVariants as fields;
 ghost use Rattle.device_profile.specs.Printer.{has_orientation, has_size, has_tray, are_sides};
 ghost use Rattle.device_profile.specs.Values.{is_value};
-ghost use Rattle.pjl_answer.specs.Told.{copies_told, courier_among, font_told, form_lines_told, held_trays, is_courier, is_own_font, is_vmi_rounded, line_termination_told, one, orientation_told, paper_told, pitch_told, set_told, is_first_number, is_own_source, duplex_told, sides_by, sides_told, text_height_told, told, trays_by, trays_of, trays_told, values_in, vmi_told};
+ghost use Rattle.pjl_answer.specs.Told.{copies_told, courier_among, font_told, form_lines_told};
+ghost use Rattle.pjl_answer.specs.Told.{held_trays, is_courier, is_own_font, is_vmi_rounded};
+ghost use Rattle.pjl_answer.specs.Told.{line_termination_told, one, orientation_told, paper_told};
+ghost use Rattle.pjl_answer.specs.Told.{pitch_told, set_told, is_first_number, is_own_source};
+ghost use Rattle.pjl_answer.specs.Told.{duplex_told, sides_by, sides_told, text_height_told, told};
+ghost use Rattle.pjl_answer.specs.Told.{trays_by, trays_of, trays_told, values_in, vmi_told};
 ghost use Rattle.pjl_answer.specs.Values.{kept};
 ghost use Rattle.printer_models.specs.Paper.{code_of};
 

@@ -4,7 +4,10 @@ ghost use Rattle.std.specs.Str.{bytes_eq};
 ghost use Rattle.device_profile.specs.Words.{amount_of, number_of};
 ghost use Rattle.device_profile.specs.Values.{is_between};
 ghost use Rattle.pjl_answer.specs.Told.{values_in};
-ghost use Rattle.pjl_answer.specs.Values.{binding_of, copies_of, form_lines_of, is_first, is_internal, is_on, is_understood, kept, line_termination_of, mp_trays_of, orientation_of, paper_of, paper_word};
+ghost use Rattle.pjl_answer.specs.Values.{binding_of, copies_of, form_lines_of, is_first};
+ghost use Rattle.pjl_answer.specs.Values.{is_internal, is_on, is_understood, kept};
+ghost use Rattle.pjl_answer.specs.Values.{line_termination_of, mp_trays_of, orientation_of};
+ghost use Rattle.pjl_answer.specs.Values.{paper_of, paper_word};
 
 use crate::set_name::SetName;
 use crate::variable::Variable;

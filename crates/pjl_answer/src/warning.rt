@@ -2,7 +2,9 @@
 ghost use Rattle.std.specs.Prelude.{◌≡◌, ◌++◌, find, IfOk, OnOk};
 ghost use Rattle.std.specs.List.{filter_map};
 ghost use Rattle.std.specs.Option.{option_to_list};
-ghost use Rattle.pjl_answer.specs.Warning.{blame, field_warning, is_wrong, note_if, note_of, switch_note, value_warning, variables_of, warning, warnings};
+ghost use Rattle.pjl_answer.specs.Warning.{blame, field_warning, is_wrong, note_if, note_of};
+ghost use Rattle.pjl_answer.specs.Warning.{switch_note, value_warning, variables_of, warning};
+ghost use Rattle.pjl_answer.specs.Warning.{warnings};
 ghost use Rattle.pjl_answer.specs.Answer.{is_given};
 
 use crate::entry::{is_given, value_of};

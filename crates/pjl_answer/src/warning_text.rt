@@ -1,6 +1,7 @@
 //! The lines in which a user is warned.
 ghost use Rattle.std.specs.Prelude.{◌≡◌, ◌++◌, OnOk};
-ghost use Rattle.pjl_answer.specs.Warning.{note_words, shown_value, variable_at, warning_at, warning_line, warning_lines, warning_words};
+ghost use Rattle.pjl_answer.specs.Warning.{note_words, shown_value, variable_at, warning_at};
+ghost use Rattle.pjl_answer.specs.Warning.{warning_line, warning_lines, warning_words};
 
 use crate::entry::entry_of;
 use crate::variable::Variable;

@@ -58,13 +58,15 @@ module _ (p : Printer) (first : MachineState) (begun : IsFresh p first) where
       knows_none q m fresh,
     )
 
-  followers_begin : (qs : List Printer) (ms : List MachineState) → AllByRecursion (IsLike p) qs → Each IsFresh qs ms → Each IsFresh qs (map (standing_as first) ms)
+  followers_begin : (qs : List Printer) (ms : List MachineState) → AllByRecursion (IsLike p) qs → Each IsFresh qs ms →
+      Each IsFresh qs (map (standing_as first) ms)
   followers_begin [] [] like fresh = tt
   followers_begin [] (m ∷ ms) like fresh = absurd fresh
   followers_begin (q ∷ qs) [] like fresh = absurd fresh
   followers_begin (q ∷ qs) (m ∷ ms) like fresh = (follower_begins q like.0 m fresh.0, followers_begin qs ms like.1 fresh.1)
 
-  followers_follow : (qs : List Printer) (ms : List MachineState) → AllByRecursion (IsLike p) qs → Each IsFresh qs ms → AllByRecursion (Follows first) ms
+  followers_follow : (qs : List Printer) (ms : List MachineState) → AllByRecursion (IsLike p) qs → Each IsFresh qs ms →
+      AllByRecursion (Follows first) ms
   followers_follow [] [] like fresh = tt
   followers_follow [] (m ∷ ms) like fresh = absurd fresh
   followers_follow (q ∷ qs) [] like fresh = absurd fresh
@@ -80,12 +82,15 @@ module _ (p : Printer) (first : MachineState) (begun : IsFresh p first) where
   none_machines [] (m ∷ ms) none fresh = absurd fresh
   none_machines (q ∷ qs) ms none fresh = absurd cc
 
-  pub fleet_begins : (formation : Formation) (qs : List Printer) (ms : List MachineState) → BeginsAs formation p qs → Each IsFresh qs ms → Each IsFresh (p ∷ qs) (first ∷ others_in formation first ms)
+  pub fleet_begins : (formation : Formation) (qs : List Printer) (ms : List MachineState) → BeginsAs formation p qs → Each IsFresh qs ms →
+      Each IsFresh (p ∷ qs) (first ∷ others_in formation first ms)
   fleet_begins Alone qs ms begins_as fresh = (begun, subst (λ rs. Each IsFresh rs []) (sym begins_as) tt)
   fleet_begins Together qs ms begins_as fresh = (begun, followers_begin qs ms begins_as.0 fresh)
   fleet_begins Apart qs ms begins_as fresh = (begun, fresh)
 
-  pub fleet_is_formed : (formation : Formation) (qs : List Printer) (ms : List MachineState) → BeginsAs formation p qs → Each IsFresh qs ms → IsFormed formation first ms
+  pub fleet_is_formed : (formation : Formation) (qs : List Printer) (ms : List MachineState) → BeginsAs formation p qs →
+      Each IsFresh qs ms → IsFormed formation first ms
   fleet_is_formed Alone qs ms begins_as fresh = none_machines qs ms begins_as fresh
-  fleet_is_formed Together qs ms begins_as fresh = (knows_none p first begun, followers_follow qs ms begins_as.0 fresh, some_machines qs ms begins_as.1 fresh)
+  fleet_is_formed Together qs ms begins_as fresh =
+      (knows_none p first begun, followers_follow qs ms begins_as.0 fresh, some_machines qs ms begins_as.1 fresh)
   fleet_is_formed Apart qs ms begins_as fresh = tt

@@ -30,7 +30,8 @@ other_value : (field : Field) (values : List ℕ) → IsTrue (are_choices field 
 other_value field [] are chosen = absurd (false≢true chosen)
 other_value field (x ∷ []) are chosen = absurd (false≢true chosen)
 other_value field (x ∷ y ∷ values) are chosen =
-    let once : has_repeat (x ∷ y ∷ values) ≡ false = not-true (has_repeat (x ∷ y ∷ values)) (and_parts _ (not (has_repeat (x ∷ y ∷ values))) are).1 in
+    let once : has_repeat (x ∷ y ∷ values) ≡ false =
+    not-true (has_repeat (x ∷ y ∷ values)) (and_parts _ (not (has_repeat (x ∷ y ∷ values))) are).1 in
     let other : (y == x) ≡ false = neither (y == x) _ (neither _ _ once) in
     record { value = y; has = (1, omega arith, refl); differ = other_number y x other }
 
@@ -65,7 +66,16 @@ choices_of printer valid =
     let c3 = and_parts _ _ c4.0 in
     let c2 = and_parts _ _ c3.0 in
     let c1 = and_parts _ _ c2.0 in
-    record { sizes = c1.0; orientations = c1.1; vmis = c2.1; fonts = c3.1; copies = c4.1; sides = c5.1; trays = c6.1; line_terminations = c7.1 }
+    record {
+      sizes = c1.0;
+      orientations = c1.1;
+      vmis = c2.1;
+      fonts = c3.1;
+      copies = c4.1;
+      sides = c5.1;
+      trays = c6.1;
+      line_terminations = c7.1;
+    }
 
 allowed_first : (printer : Printer) → HasChoices printer → IsAllowed printer (first_panel printer)
 allowed_first printer has = record {
@@ -80,10 +90,15 @@ allowed_first printer has = record {
 }
 
 -- the eight parts of a panel that may be
-allow : (printer : Printer) (panel : Panel) → Contains printer.sizes panel.size → Contains printer.orientations panel.orientation → Contains printer.vmis panel.vmi → Contains printer.fonts panel.font → Contains printer.copies panel.copies → Contains printer.sides panel.sides → Contains printer.trays panel.tray → Contains printer.line_terminations panel.line_termination → IsAllowed printer panel
-allow printer panel a b c d e f g h = record { size = a; orientation = b; vmi = c; font = d; copies = e; sides = f; tray = g; line_termination = h }
+allow : (printer : Printer) (panel : Panel) → Contains printer.sizes panel.size → Contains printer.orientations panel.orientation →
+    Contains printer.vmis panel.vmi → Contains printer.fonts panel.font → Contains printer.copies panel.copies →
+    Contains printer.sides panel.sides → Contains printer.trays panel.tray → Contains printer.line_terminations panel.line_termination →
+    IsAllowed printer panel
+allow printer panel a b c d e f g h =
+    record { size = a; orientation = b; vmi = c; font = d; copies = e; sides = f; tray = g; line_termination = h }
 
-pub choose : (printer : Printer) (field : Field) → IsTrue (is_valid printer) → is_flagged (watched printer) field ≡ true → IsChosen printer field
+pub choose : (printer : Printer) (field : Field) → IsTrue (is_valid printer) → is_flagged (watched printer) field ≡ true →
+    IsChosen printer field
 choose printer field valid flagged = by field flagged
   where
     has : HasChoices printer
@@ -94,18 +109,82 @@ choose printer field valid flagged = by field flagged
 
     by : (field : Field) → is_flagged (watched printer) field ≡ true → IsChosen printer field
     by Size chosen = let v = other_value Size printer.sizes has.sizes chosen in
-        record { panel = first_panel printer; value = v.value; one_allowed = one; other_allowed = allow printer (with_value Size v.value (first_panel printer)) v.has one.orientation one.vmi one.font one.copies one.sides one.tray one.line_termination; differ = λ e. v.differ (ap (λ (p : Panel). p.size) e) }
+        record {
+          panel = first_panel printer;
+          value = v.value;
+          one_allowed = one;
+          other_allowed =
+              allow printer (with_value Size v.value (first_panel printer)) v.has one.orientation one.vmi one.font one.copies one.sides
+              one.tray one.line_termination;
+          differ = λ e. v.differ (ap (λ (p : Panel). p.size) e);
+        }
     by Orientation chosen = let v = other_value Orientation printer.orientations has.orientations chosen in
-        record { panel = first_panel printer; value = v.value; one_allowed = one; other_allowed = allow printer (with_value Orientation v.value (first_panel printer)) one.size v.has one.vmi one.font one.copies one.sides one.tray one.line_termination; differ = λ e. v.differ (ap (λ (p : Panel). p.orientation) e) }
+        record {
+          panel = first_panel printer;
+          value = v.value;
+          one_allowed = one;
+          other_allowed =
+              allow printer (with_value Orientation v.value (first_panel printer)) one.size v.has one.vmi one.font one.copies one.sides
+              one.tray one.line_termination;
+          differ = λ e. v.differ (ap (λ (p : Panel). p.orientation) e);
+        }
     by Vmi chosen = let v = other_value Vmi printer.vmis has.vmis chosen in
-        record { panel = first_panel printer; value = v.value; one_allowed = one; other_allowed = allow printer (with_value Vmi v.value (first_panel printer)) one.size one.orientation v.has one.font one.copies one.sides one.tray one.line_termination; differ = λ e. v.differ (ap (λ (p : Panel). p.vmi) e) }
+        record {
+          panel = first_panel printer;
+          value = v.value;
+          one_allowed = one;
+          other_allowed =
+              allow printer (with_value Vmi v.value (first_panel printer)) one.size one.orientation v.has one.font one.copies one.sides
+              one.tray one.line_termination;
+          differ = λ e. v.differ (ap (λ (p : Panel). p.vmi) e);
+        }
     by Font chosen = let v = other_value Font printer.fonts has.fonts chosen in
-        record { panel = first_panel printer; value = v.value; one_allowed = one; other_allowed = allow printer (with_value Font v.value (first_panel printer)) one.size one.orientation one.vmi v.has one.copies one.sides one.tray one.line_termination; differ = λ e. v.differ (ap (λ (p : Panel). p.font) e) }
+        record {
+          panel = first_panel printer;
+          value = v.value;
+          one_allowed = one;
+          other_allowed =
+              allow printer (with_value Font v.value (first_panel printer)) one.size one.orientation one.vmi v.has one.copies one.sides
+              one.tray one.line_termination;
+          differ = λ e. v.differ (ap (λ (p : Panel). p.font) e);
+        }
     by Copies chosen = let v = other_value Copies printer.copies has.copies chosen in
-        record { panel = first_panel printer; value = v.value; one_allowed = one; other_allowed = allow printer (with_value Copies v.value (first_panel printer)) one.size one.orientation one.vmi one.font v.has one.sides one.tray one.line_termination; differ = λ e. v.differ (ap (λ (p : Panel). p.copies) e) }
+        record {
+          panel = first_panel printer;
+          value = v.value;
+          one_allowed = one;
+          other_allowed =
+              allow printer (with_value Copies v.value (first_panel printer)) one.size one.orientation one.vmi one.font v.has one.sides
+              one.tray one.line_termination;
+          differ = λ e. v.differ (ap (λ (p : Panel). p.copies) e);
+        }
     by Sides chosen = let v = other_value Sides printer.sides has.sides chosen in
-        record { panel = first_panel printer; value = v.value; one_allowed = one; other_allowed = allow printer (with_value Sides v.value (first_panel printer)) one.size one.orientation one.vmi one.font one.copies v.has one.tray one.line_termination; differ = λ e. v.differ (ap (λ (p : Panel). p.sides) e) }
+        record {
+          panel = first_panel printer;
+          value = v.value;
+          one_allowed = one;
+          other_allowed =
+              allow printer (with_value Sides v.value (first_panel printer)) one.size one.orientation one.vmi one.font one.copies v.has
+              one.tray one.line_termination;
+          differ = λ e. v.differ (ap (λ (p : Panel). p.sides) e);
+        }
     by Tray chosen = let v = other_value Tray printer.trays has.trays chosen in
-        record { panel = first_panel printer; value = v.value; one_allowed = one; other_allowed = allow printer (with_value Tray v.value (first_panel printer)) one.size one.orientation one.vmi one.font one.copies one.sides v.has one.line_termination; differ = λ e. v.differ (ap (λ (p : Panel). p.tray) e) }
+        record {
+          panel = first_panel printer;
+          value = v.value;
+          one_allowed = one;
+          other_allowed =
+              allow printer (with_value Tray v.value (first_panel printer)) one.size one.orientation one.vmi one.font one.copies one.sides
+              v.has one.line_termination;
+          differ = λ e. v.differ (ap (λ (p : Panel). p.tray) e);
+        }
     by LineTerm chosen = let v = other_value LineTerm printer.line_terminations has.line_terminations chosen in
-        record { panel = first_panel printer; value = v.value; one_allowed = one; other_allowed = allow printer (with_value LineTerm v.value (first_panel printer)) one.size one.orientation one.vmi one.font one.copies one.sides one.tray v.has; differ = λ e. v.differ (ap (λ (p : Panel). p.line_termination) e) }
+        record {
+          panel = first_panel printer;
+          value = v.value;
+          one_allowed = one;
+          other_allowed =
+              allow printer (with_value LineTerm v.value (first_panel printer)) one.size one.orientation one.vmi one.font one.copies
+              one.sides one.tray v.has;
+          differ = λ e. v.differ (ap (λ (p : Panel). p.line_termination) e);
+        }

@@ -11,11 +11,15 @@ use Rattle.pcl_items.specs.declared.frame.Mnemonic.{Mnemonic}
 use Rattle.pcl_items.specs.declared.frame.Mnemonic.TheVariants as mnemonics
 use Rattle.pcl_items.specs.declared.frame.Motion.{Motion}
 use Rattle.pcl_items.specs.declared.frame.Setting.{Setting}
-use Rattle.pcl_lexer.specs.Lexing.Contexts.{Context, Pcl, Sequence, Frame, Letters, Numbered, Pjl, Numbers, Single, Odd, Even, counted, pending, item_place}
+use Rattle.pcl_lexer.specs.Lexing.Contexts.{Context, Pcl, Sequence, Frame, Letters, Numbered, Pjl, Numbers, Single, Odd, Even, counted}
+use Rattle.pcl_lexer.specs.Lexing.Contexts.{pending, item_place}
 use Rattle.pcl_items.specs.PjlLines.Exit.{exit_field, begins_with}
 use Rattle.pcl_lexer.specs.Escapes.Field.{Field, field_at, amount_of}
 use Rattle.pcl_lexer.specs.Frames.Number.{coordinate_of, setting_of, Numeral, Cut, Wrong, Read, numeral_at}
-use Rattle.pcl_lexer.specs.Frames.Reader.{left_by, by_language, after_language_field, language_in, in_command, second_letter, after_letter, after_frame_escape, by_kind, at_frame, single, first_of_pair, second_of_pair, first_number, letters_by, after_letters, further, ended_by, ended, with_comma, by_figure, numbers_by, after_numbers}
+use Rattle.pcl_lexer.specs.Frames.Reader.{left_by, by_language, after_language_field, language_in, in_command, second_letter, after_letter}
+use Rattle.pcl_lexer.specs.Frames.Reader.{after_frame_escape, by_kind, at_frame, single, first_of_pair, second_of_pair, first_number}
+use Rattle.pcl_lexer.specs.Frames.Reader.{letters_by, after_letters, further, ended_by, ended, with_comma, by_figure, numbers_by}
+use Rattle.pcl_lexer.specs.Frames.Reader.{after_numbers}
 use Rattle.pcl_items.specs.Items.{Entry}
 use Rattle.pcl_lexer.specs.Frames.Kinds.{kind_of}
 use Rattle.pcl_items.specs.Frames.Mnemonics.{capital, mnemonic_at}
@@ -33,7 +37,10 @@ Takes c (Passes len next) = Unit {0}
 Takes c (Begins entry len next) = (place : ℕ) → item_place c place + counted next < place + len
 Takes c (Faulty cause) = Unit {0}
 
-by_item : (c : Context) (f : First) → ((entry : Entry) (len : ℕ) (next : Context) → f ≡ Begins entry len next → (place : ℕ) → item_place c place + counted next < place + len) → Takes c f
+by_item : (c : Context) (f : First) →
+    ((entry : Entry) (len : ℕ) (next : Context) → f ≡ Begins entry len next → (place : ℕ) →
+    item_place c place + counted next < place + len) →
+    Takes c f
 by_item c Open h = tt
 by_item c (Passes len next) h = tt
 by_item c (Begins entry len next) h = h entry len next refl
@@ -48,15 +55,20 @@ IsLast (Faulty cause) = Unit {0}
 
 -- ---- where no command of a frame is begun
 
-bytes_taken : (c : Context) (bytes : List ℕ) (entry : Entry) (len : ℕ) (next : Context) → pending c ≡ 0 → first_of true c bytes ≡ Begins entry len next → 0 < len
+bytes_taken : (c : Context) (bytes : List ℕ) (entry : Entry) (len : ℕ) (next : Context) → pending c ≡ 0 →
+    first_of true c bytes ≡ Begins entry len next → 0 < len
 bytes_taken c bytes entry len next none e = omega (arith, none, (begins-taken true c bytes entry len next e).less, length-drop len bytes)
 
-last_takes : (c : Context) (bytes : List ℕ) → pending c ≡ 0 → ((place : ℕ) → item_place c place ≡ place) → IsLast (first_of true c bytes) → Takes c (first_of true c bytes)
+last_takes : (c : Context) (bytes : List ℕ) → pending c ≡ 0 → ((place : ℕ) → item_place c place ≡ place) → IsLast (first_of true c bytes) →
+    Takes c (first_of true c bytes)
 last_takes c bytes none here_is h =
-    by_item c (first_of true c bytes) (λ entry len next e place. omega (arith, subst IsLast e h, bytes_taken c bytes entry len next none e, here_is place))
+    by_item c (first_of true c bytes)
+    (λ entry len next e place. omega (arith, subst IsLast e h, bytes_taken c bytes entry len next none e, here_is place))
 
 pcl_takes : (bytes : List ℕ) → Takes Pcl (first_of true Pcl bytes)
-pcl_takes bytes = by_item Pcl (first_of true Pcl bytes) (λ entry len next e place. let k = pcl_item true bytes entry len next e in omega (arith, k.0, k.1))
+pcl_takes bytes =
+    by_item Pcl (first_of true Pcl bytes)
+    (λ entry len next e place. let k = pcl_item true bytes entry len next e in omega (arith, k.0, k.1))
 
 left_last : (o : Option Entry) (c len : ℕ) → IsLast (left_by o c len)
 left_last None c len = tt
@@ -72,12 +84,15 @@ field_last f (c ∷ bytes) = language_last (amount_of f) f.len c
 
 leaving_last : (bytes : List ℕ) → IsLast (language_in bytes)
 unfolding language_in
-leaving_last bytes = cond_both (nat_lt 16 (field_at bytes).len) _ _ IsLast (λ _. tt) (λ _. field_last (field_at bytes) (drop (field_at bytes).len bytes))
+leaving_last bytes =
+    cond_both (nat_lt 16 (field_at bytes).len) _ _ IsLast (λ _. tt) (λ _. field_last (field_at bytes) (drop (field_at bytes).len bytes))
 
 escape_last : (bytes : List ℕ) → IsLast (after_frame_escape bytes)
 escape_last [] = tt
 escape_last (b ∷ bytes) =
-    cond_both (b == 69) _ _ IsLast (λ _. refl) (λ _. cond_both (b == 37) _ _ IsLast (λ _. cond_both (begins_with exit_field bytes) _ _ IsLast (λ _. refl) (λ _. leaving_last bytes)) (λ _. tt))
+    cond_both (b == 69) _ _ IsLast (λ _. refl) (λ _.
+    cond_both (b == 37) _ _ IsLast
+    (λ _. cond_both (begins_with exit_field bytes) _ _ IsLast (λ _. refl) (λ _. leaving_last bytes)) (λ _. tt))
 
 letter_last : (a : ℕ) (bytes : List ℕ) → IsLast (after_letter a bytes)
 letter_last a [] = tt
@@ -130,7 +145,8 @@ pcl_last (Faulty cause) b bytes e = tt
 pjl_last : (bytes : List ℕ) → IsLast (first_of true Pjl bytes)
 unfolding first_of
 pjl_last [] = tt
-pjl_last (b ∷ bytes) = cond_both (b == 64) _ _ IsLast (λ _. line_last (lines.at_pjl (b ∷ bytes))) (λ _. pcl_last (between_units b bytes) b bytes refl)
+pjl_last (b ∷ bytes) =
+    cond_both (b == 64) _ _ IsLast (λ _. line_last (lines.at_pjl (b ∷ bytes))) (λ _. pcl_last (between_units b bytes) b bytes refl)
 
 -- ---- behind the letters of a command
 
@@ -147,9 +163,11 @@ pair_takes c n motion (Read x len) = tt
 number_takes : (m : Mnemonic) (n : ℕ) (bytes : List ℕ) → Takes (Letters m n) (first_number true m n bytes)
 number_takes mnemonics.Initialize n bytes = tt
 number_takes (mnemonics.Sets s) n bytes = single_takes (Letters (mnemonics.Sets s) n) n s (numeral_at setting_of true bytes)
-number_takes (mnemonics.Moves motion) n bytes = pair_takes (Letters (mnemonics.Moves motion) n) n motion (numeral_at coordinate_of true bytes)
+number_takes (mnemonics.Moves motion) n bytes =
+    pair_takes (Letters (mnemonics.Moves motion) n) n motion (numeral_at coordinate_of true bytes)
 
-letters_take : (k : Kind) (m : Mnemonic) (n : ℕ) (bytes longer : List ℕ) → letters_by k true m n bytes ≡ Open → Takes (Letters m n) (letters_by k true m n longer)
+letters_take : (k : Kind) (m : Mnemonic) (n : ℕ) (bytes longer : List ℕ) → letters_by k true m n bytes ≡ Open →
+    Takes (Letters m n) (letters_by k true m n longer)
 letters_take kinds.White m n bytes longer e = tt
 letters_take kinds.Semicolon m n bytes longer e = absurd cc
 letters_take kinds.Letter m n bytes longer e = absurd cc
@@ -161,14 +179,16 @@ letters_take kinds.Other m n bytes longer e = tt
 
 -- ---- behind numbers
 
-second_takes : (gap : Gap) (n : ℕ) (motion : Motion) (x : ℤ) (m : ℕ) (r : Numeral ℤ) → IsNumeralSpan m r → Takes (Numbered (Odd motion x) gap n) (second_of_pair motion x r)
+second_takes : (gap : Gap) (n : ℕ) (motion : Motion) (x : ℤ) (m : ℕ) (r : Numeral ℤ) → IsNumeralSpan m r →
+    Takes (Numbered (Odd motion x) gap n) (second_of_pair motion x r)
 second_takes gap n motion x m Cut h = tt
 second_takes gap n motion x m (Wrong cause) h = tt
 second_takes gap n motion x m (Read y len) h = λ place. omega (arith, h.0)
 
 further_takes : (x : Numbers) (gap : Gap) (n : ℕ) (bytes : List ℕ) → Takes (Numbered x gap n) (further true x bytes)
 further_takes (Single s a) gap n bytes = tt
-further_takes (Odd motion x) gap n bytes = second_takes gap n motion x (length bytes) (numeral_at coordinate_of true bytes) (numeral-span coordinate_of true bytes)
+further_takes (Odd motion x) gap n bytes =
+    second_takes gap n motion x (length bytes) (numeral_at coordinate_of true bytes) (numeral-span coordinate_of true bytes)
 further_takes (Even motion) gap n bytes = pair_takes (Numbered (Even motion) gap n) 0 motion (numeral_at coordinate_of true bytes)
 
 figure_takes : (x : Numbers) (gap : Gap) (n : ℕ) (bytes : List ℕ) → Takes (Numbered x gap n) (by_figure true x gap bytes)
@@ -191,7 +211,8 @@ ended_takes (Odd motion x) gaps.Spaced n e = tt
 ended_takes (Even motion) gaps.Straight n e = tt
 ended_takes (Even motion) gaps.Spaced n e = tt
 
-numbers_take : (k : Kind) (x : Numbers) (gap : Gap) (n : ℕ) (bytes : List ℕ) → Takes (Numbered x gap n) (ended_by x gap) → Takes (Numbered x gap n) (numbers_by k true x gap n bytes)
+numbers_take : (k : Kind) (x : Numbers) (gap : Gap) (n : ℕ) (bytes : List ℕ) → Takes (Numbered x gap n) (ended_by x gap) →
+    Takes (Numbered x gap n) (numbers_by k true x gap n bytes)
 numbers_take kinds.White x gap n bytes h = tt
 numbers_take kinds.Comma x gap n bytes h = comma_takes x gap n
 numbers_take kinds.Semicolon x gap n bytes h = h
@@ -201,12 +222,14 @@ numbers_take kinds.Sign x gap n bytes h = further_takes x gap n bytes
 numbers_take kinds.Figure x gap n bytes h = figure_takes x gap n bytes
 numbers_take kinds.Other x gap n bytes h = tt
 
-from_end : (x : Numbers) (gap : Gap) (n : ℕ) (bytes : List ℕ) → ended x gap ≡ Open → Takes (Numbered x gap n) (after_numbers true x gap n bytes)
+from_end : (x : Numbers) (gap : Gap) (n : ℕ) (bytes : List ℕ) → ended x gap ≡ Open →
+    Takes (Numbered x gap n) (after_numbers true x gap n bytes)
 unfolding after_numbers
 from_end x gap n [] e = subst (Takes (Numbered x gap n)) (sym e) tt
 from_end x gap n (b ∷ bytes) e = numbers_take (kind_of b) x gap n (b ∷ bytes) (ended_takes x gap n e)
 
-from_number : (k : Kind) (x : Numbers) (gap : Gap) (n : ℕ) (bytes longer : List ℕ) → numbers_by k true x gap n bytes ≡ Open → Takes (Numbered x gap n) (numbers_by k true x gap n longer)
+from_number : (k : Kind) (x : Numbers) (gap : Gap) (n : ℕ) (bytes longer : List ℕ) → numbers_by k true x gap n bytes ≡ Open →
+    Takes (Numbered x gap n) (numbers_by k true x gap n longer)
 from_number kinds.White x gap n bytes longer e = tt
 from_number kinds.Comma x gap n bytes longer e = comma_takes x gap n
 from_number kinds.Semicolon x gap n bytes longer e = absurd (ended_open x gap e)
@@ -222,7 +245,8 @@ completed : (c : Context) (rest more : List ℕ) → first_of true c rest ≡ Op
 unfolding first_of after_letters after_numbers
 completed Pcl rest more e = pcl_takes (rest ++ more)
 completed (Sequence g) rest more e =
-    by_item (Sequence g) (first_of true (Sequence g) (rest ++ more)) (λ entry len next f place. let k = pcl_item_in true g (rest ++ more) entry len next f in omega (arith, k.0, k.1))
+    by_item (Sequence g) (first_of true (Sequence g) (rest ++ more))
+    (λ entry len next f place. let k = pcl_item_in true g (rest ++ more) entry len next f in omega (arith, k.0, k.1))
 completed Pjl rest more e = last_takes Pjl (rest ++ more) refl (λ place. refl) (pjl_last (rest ++ more))
 completed Frame rest more e = last_takes Frame (rest ++ more) refl (λ place. refl) (frame_last (rest ++ more))
 completed (Letters m n) [] more e = absurd cc
@@ -230,5 +254,6 @@ completed (Letters m n) (b ∷ rest) more e = letters_take (kind_of b) m n (b �
 completed (Numbered x gap n) [] more e = from_end x gap n more e
 completed (Numbered x gap n) (b ∷ rest) more e = from_number (kind_of b) x gap n (b ∷ rest) (b ∷ (rest ++ more)) e
 
-pub item_takes : (c : Context) (rest more : List ℕ) (entry : Entry) (len : ℕ) (next : Context) → first_of true c rest ≡ Open → first_of true c (rest ++ more) ≡ Begins entry len next → (place : ℕ) → item_place c place + counted next < place + len
+pub item_takes : (c : Context) (rest more : List ℕ) (entry : Entry) (len : ℕ) (next : Context) → first_of true c rest ≡ Open →
+    first_of true c (rest ++ more) ≡ Begins entry len next → (place : ℕ) → item_place c place + counted next < place + len
 item_takes c rest more entry len next e f = subst (Takes c) f (completed c rest more e)

@@ -20,7 +20,8 @@ use Rattle.preflight.proofs.Promises.{FailsSay, keeps_failing}
 
 -- an item stands behind others
 contains_there : (before others : List Placed) (x : Placed) → Contains ((before ++ x ∷ []) ++ others) x
-contains_there before others x = Contains-append_left (before ++ x ∷ []) others x (Contains-append_right before (x ∷ []) x (0, omega arith, refl))
+contains_there before others x =
+    Contains-append_left (before ++ x ∷ []) others x (Contains-append_right before (x ∷ []) x (0, omega arith, refl))
 
 -- the item that is named stands at its place
 pub named_at : (job : List ℕ) (reading : Reading) (before others : List Placed) (place : ℕ) (entry : Entry) (culprit : Option Culprit) →
@@ -30,7 +31,8 @@ named_at job reading before others place entry (Some culprit) read is names =
 named_at job reading before others place entry None read is names = absurd names
 
 -- where an item is wrong, or the end, what stands there is told
-pub told_there : (job : List ℕ) (place number : ℕ) (reason : Reason) (culprit : Option Culprit) (action : Action) (machines : List MachineState) →
+pub told_there : (job : List ℕ) (place number : ℕ) (reason : Reason) (culprit : Option Culprit) (action : Action)
+    (machines : List MachineState) →
     IsWrong action machines number reason → StandsAt job place culprit → IsTold job (Fail place number reason) culprit
 told_there job place number (Finding finding) culprit action machines wrong stands = stands
 told_there job place number Differs culprit action machines wrong stands = stands
@@ -38,7 +40,8 @@ told_there job place number (Fault cause) culprit action machines wrong stands =
 told_there job place number Unpinnable culprit action machines wrong stands = absurd wrong
 
 -- a verdict that is made of a failure is right, with what is told of it
-pub right_failing : FailsSay → (fleet : List Printer) (job : List ℕ) (failure : Failure) (verdict : Verdict) (culprit : Option Culprit) → verdict ≡ failing failure →
+pub right_failing : FailsSay → (fleet : List Printer) (job : List ℕ) (failure : Failure) (verdict : Verdict) (culprit : Option Culprit) →
+    verdict ≡ failing failure →
     IsExact fleet job (failing failure) × IsTold job (failing failure) culprit → IsRight fleet job verdict culprit
 right_failing says fleet job failure verdict culprit is fails =
     let keeps = keeps_failing says fleet job failure verdict is fails.0 in

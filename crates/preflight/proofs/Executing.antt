@@ -1,5 +1,7 @@
 -- What the machines of a fleet did, one after another.
-use Rattle.std.proofs.Common.{◌≡◌, ◌≢◌, ◌↔◌, IsFalse, inl, inr, ◌+◌, ◌<◌, ◌≤◌, ℕ, zero, suc, Bool, true, false, List, [], ◌∷◌, ◌++◌, length, take, drop, set, get_or, Option, None, Some, Result, Ok, Err, IfErr, refl, ap, sym, ◌∙◌, subst, append_assoc, append-nil, arith}
+use Rattle.std.proofs.Common.{◌≡◌, ◌≢◌, ◌↔◌, IsFalse, inl, inr, ◌+◌, ◌<◌, ◌≤◌, ℕ, zero, suc, Bool, true, false, List, [], ◌∷◌, ◌++◌, length}
+use Rattle.std.proofs.Common.{take, drop, set, get_or, Option, None, Some, Result, Ok, Err, IfErr, refl, ap, sym, ◌∙◌, subst, append_assoc}
+use Rattle.std.proofs.Common.{append-nil, arith}
 use Rattle.std.specs.Option.{option_or}
 use Rattle.std.specs.Bool.{then_some}
 use Rattle.std.specs.List.{AllByRecursion}
@@ -27,14 +29,24 @@ use Rattle.preflight.specs.declared.standing.Standing.{Standing}
 use Rattle.preflight.specs.Carriers.Each.{Each}
 use Rattle.preflight.specs.declared.lockstep.Formation.{Formation}
 use Rattle.preflight.specs.Carriers.Formation.{others_in, fleet_of, IsFormed, GoesAsOne}
-use Rattle.preflight.specs.Carriers.Lockstep.{Action, Execute, Fleet, carrying_of, is_last, Does, IsDone, Finds, FoundFrom, DiffersFrom, WrongFrom, IsWrong, Compared, GoesInStep}
+use Rattle.preflight.specs.Carriers.Lockstep.{Action, Execute, Fleet, carrying_of, is_last, Does, IsDone, Finds, FoundFrom, DiffersFrom}
+use Rattle.preflight.specs.Carriers.Lockstep.{WrongFrom, IsWrong, Compared, GoesInStep}
 use Rattle.preflight.proofs.Counting.{counter_takes, counter_refuses, TakesAll-counts}
 use Rattle.preflight.proofs.Formations.{all_do, still_formed}
 use Rattle.preflight.proofs.Standings.{failed_by, open_by, refused_by}
 
 -- ---- one machine
 
-does_of : {S : Type 0} (takes : S → Event → S → Type 0) (action : Action) (sink sink' : S) (machine machine' : MachineState) → machine' ≡ record machine { page = machine'.page; macros = (carrying_of machine action).macros; mode = (carrying_of machine action).mode; stopped = is_last action } → (took : TakesUpTo takes sink sink' (carrying_of machine action).run (λ panel. just [] (Done (state_at panel machine'.page)))) → Does action took.events machine machine'
+does_of : {S : Type 0} (takes : S → Event → S → Type 0) (action : Action) (sink sink' : S) (machine machine' : MachineState) →
+    machine'
+    ≡ record machine {
+      page = machine'.page;
+      macros = (carrying_of machine action).macros;
+      mode = (carrying_of machine action).mode;
+      stopped = is_last action;
+    } →
+    (took : TakesUpTo takes sink sink' (carrying_of machine action).run (λ panel. just [] (Done (state_at panel machine'.page)))) →
+    Does action took.events machine machine'
 does_of takes action sink sink' machine machine' is took = record { is = is; peaks = took.peaks; run = took.is }
 
 -- what a machine that was running answered, and how the check stands behind it
@@ -51,82 +63,123 @@ module _ {S F : Type 0} (takes refuses : S → Event → S → Type 0) (action :
   was_running (Err stops.Stopped) running h = let both : true ≡ false = sym h.0 ∙ running in absurd cc
 
   -- where the check is open, it executed the action
-  pub does_by : (place number : ℕ) (answer : Result Unit (Stop F)) (standing : Standing) → StandsAfter place number answer standing → is_open standing ≡ true → Answers answer → (events : List Event) × Does action events machine machine' × TakesAll takes sink events sink'
+  pub does_by : (place number : ℕ) (answer : Result Unit (Stop F)) (standing : Standing) → StandsAfter place number answer standing →
+      is_open standing ≡ true → Answers answer →
+      (events : List Event) × Does action events machine machine' × TakesAll takes sink events sink'
   does_by place number (Ok done) standing stands is h = (h.2.events, does_of takes action sink sink' machine machine' h.1 h.2, h.2.leads)
-  does_by place number (Err (stops.Found finding)) standing stands is h = let both : false ≡ true = sym (ap is_open stands) ∙ is in absurd cc
-  does_by place number (Err (stops.Refused fault)) standing stands is h = let both : false ≡ true = sym (ap is_open stands) ∙ is in absurd cc
+  does_by place number (Err (stops.Found finding)) standing stands is h =
+      let both : false ≡ true = sym (ap is_open stands) ∙ is in absurd cc
+  does_by place number (Err (stops.Refused fault)) standing stands is h =
+      let both : false ≡ true = sym (ap is_open stands) ∙ is in absurd cc
   does_by place number (Err (stops.Memory error)) standing stands is h = let both : false ≡ true = sym (ap is_open stands) ∙ is in absurd cc
   does_by place number (Err stops.Stopped) standing stands is h = absurd stands
 
   -- where it is not, it has a finding, or memory was refused
-  pub fails_by : (P : Option Failure → Type 0) (place number : ℕ) (answer : Result Unit (Stop F)) (standing : Standing) → StandsAfter place number answer standing → is_open standing ≡ false → Answers answer
+  pub fails_by : (P : Option Failure → Type 0) (place number : ℕ) (answer : Result Unit (Stop F)) (standing : Standing) →
+      StandsAfter place number answer standing → is_open standing ≡ false → Answers answer
       → ((finding : Finding) → Finds action finding machine → P (Some (found_at place number finding))) → StandsBy standing P
   fails_by P place number (Ok done) standing stands is h wrong = let both : true ≡ false = sym (ap is_open stands) ∙ is in absurd cc
   fails_by P place number (Err (stops.Found finding)) standing stands is h wrong =
-      failed_by P standing (found_at place number finding) stands (wrong finding record { events = h.2.events; peaks = h.2.peaks; run = h.2.is })
+      failed_by P standing (found_at place number finding) stands
+      (wrong finding record { events = h.2.events; peaks = h.2.peaks; run = h.2.is })
   fails_by P place number (Err (stops.Refused fault)) standing stands is h wrong = refused_by P standing stands
   fails_by P place number (Err (stops.Memory error)) standing stands is h wrong = refused_by P standing stands
   fails_by P place number (Err stops.Stopped) standing stands is h wrong = absurd stands
 
 -- the first machine, where all do what it does
-module _ (action : Action) (place : ℕ) (formation : Formation) (counts counts' : Counts) (first first' : MachineState) (others : List MachineState)
-    (all : (events : List Event) → Does action events first first' → Each (Does action events) (first ∷ others_in formation first others) (first' ∷ others_in formation first' others)) where
+module _ (action : Action) (place : ℕ) (formation : Formation) (counts counts' : Counts) (first first' : MachineState)
+    (others : List MachineState)
+    (all : (events : List Event) → Does action events first first' →
+    Each (Does action events) (first ∷ others_in formation first others) (first' ∷ others_in formation first' others))
+    where
   abbrev came : Option Failure → Type 0
-  came failed = GoesInStep action place (first ∷ others_in formation first others) (first' ∷ others_in formation first' others) counts counts' failed
+  came failed =
+      GoesInStep action place (first ∷ others_in formation first others) (first' ∷ others_in formation first' others) counts counts' failed
 
   pub as_one_in_step : {F : Type 0} (answer : Result Unit (Stop F)) (standing : Standing) → StandsAfter place 1 answer standing
       → CarriesOn counter_takes counter_refuses (carrying_of first action) (is_last action) counts counts' first first' answer
-      → StandsBy standing (λ failed. GoesInStep action place (first ∷ others_in formation first others) (first' ∷ others_in formation first' others) counts counts' failed)
+      → StandsBy standing (λ failed.
+      GoesInStep action place (first ∷ others_in formation first others) (first' ∷ others_in formation first' others) counts counts' failed)
   as_one_in_step (Ok done) standing stands h =
       open_by came standing stands
-      (h.2.events, all h.2.events (does_of counter_takes action counts counts' first first' h.1 h.2), TakesAll-counts counts counts' h.2.events h.2.leads)
+      (
+        h.2.events,
+        all h.2.events (does_of counter_takes action counts counts' first first' h.1 h.2),
+        TakesAll-counts counts counts' h.2.events h.2.leads,
+      )
   as_one_in_step (Err (stops.Found finding)) standing stands h =
-      failed_by came standing (found_at place 1 finding) stands (refl, inl (refl, record { events = h.2.events; peaks = h.2.peaks; run = h.2.is }))
+      failed_by came standing (found_at place 1 finding) stands
+      (refl, inl (refl, record { events = h.2.events; peaks = h.2.peaks; run = h.2.is }))
   as_one_in_step (Err (stops.Refused fault)) standing stands h = refused_by came standing stands
   as_one_in_step (Err (stops.Memory error)) standing stands h = refused_by came standing stands
   as_one_in_step (Err stops.Stopped) standing stands h = absurd stands
 
 -- an item that does the same on all
-module _ (law : (item : Entry) → RunsOnLike item) (item : Entry) (formation : Formation) (counts counts' : Counts) (first first' : MachineState) (others : List MachineState) (formed : IsFormed formation first others) (goes : GoesAsOne formation first others item) where
+module _ (law : (item : Entry) → RunsOnLike item) (item : Entry) (formation : Formation) (counts counts' : Counts)
+    (first first' : MachineState) (others : List MachineState) (formed : IsFormed formation first others)
+    (goes : GoesAsOne formation first others item) where
   -- all of a fleet have done what the first did, whatever the item was read as
-  pub item_in_step : {F : Type 0} (read : Entry) → read ≡ item → (old : Fleet) → fleet_of formation first others counts ≡ old → (place : ℕ) (answer : Result Unit (Stop F)) (standing : Standing) → StandsAfter place 1 answer standing
+  pub item_in_step : {F : Type 0} (read : Entry) → read ≡ item → (old : Fleet) → fleet_of formation first others counts ≡ old → (place : ℕ)
+      (answer : Result Unit (Stop F)) (standing : Standing) → StandsAfter place 1 answer standing
       → CarriesOn counter_takes counter_refuses (carrying_of first (Execute item)) false counts counts' first first' answer
-      → StandsBy standing (λ failed. GoesInStep (Execute read) place old.machines (first' ∷ others_in formation first' others) old.counts counts' failed)
+      → StandsBy standing
+      (λ failed. GoesInStep (Execute read) place old.machines (first' ∷ others_in formation first' others) old.counts counts' failed)
   item_in_step read is old stood place answer standing stands h =
-      subst (λ (i : Entry). StandsBy standing (λ failed. GoesInStep (Execute i) place old.machines (first' ∷ others_in formation first' others) old.counts counts' failed)) (sym is)
-      (subst (λ (f : Fleet). StandsBy standing (λ failed. GoesInStep (Execute item) place f.machines (first' ∷ others_in formation first' others) f.counts counts' failed)) stood
-      (as_one_in_step (Execute item) place formation counts counts' first first' others (λ events does. all_do law item events first first' does formation others formed goes) answer standing stands h))
+      subst
+      (λ (i : Entry). StandsBy standing
+      (λ failed. GoesInStep (Execute i) place old.machines (first' ∷ others_in formation first' others) old.counts counts' failed))
+      (sym is)
+      (subst
+      (λ (f : Fleet). StandsBy standing
+      (λ failed. GoesInStep (Execute item) place f.machines (first' ∷ others_in formation first' others) f.counts counts' failed))
+      stood
+      (as_one_in_step (Execute item) place formation counts counts' first first' others
+          (λ events does. all_do law item events first first' does formation others formed goes) answer standing stands h))
 
   -- where it goes on they stand as they stood
   pub as_one_formed : {F : Type 0} (answer : Result Unit (Stop F)) → first.stopped ≡ false → first'.stopped ≡ false
-      → CarriesOn counter_takes counter_refuses (carrying_of first (Execute item)) false counts counts' first first' answer → IsFormed formation first' others
+      → CarriesOn counter_takes counter_refuses (carrying_of first (Execute item)) false counts counts' first first' answer
+      → IsFormed formation first' others
   as_one_formed (Ok done) running runs h =
-      still_formed law item h.2.events first first' (does_of counter_takes (Execute item) counts counts' first first' h.1 h.2) formation others formed goes
+      still_formed law item h.2.events first first'
+      (does_of counter_takes (Execute item) counts counts' first first' h.1 h.2) formation others formed goes
   as_one_formed (Err (stops.Found finding)) running runs h = let both : true ≡ false = sym h.1 ∙ runs in absurd cc
   as_one_formed (Err (stops.Refused fault)) running runs h = let both : true ≡ false = sym h.1 ∙ runs in absurd cc
   as_one_formed (Err (stops.Memory error)) running runs h = let both : true ≡ false = sym h.1 ∙ runs in absurd cc
   as_one_formed (Err stops.Stopped) running runs h = let both : true ≡ false = sym h.0 ∙ running in absurd cc
 
-pub done_of : (action : Action) (events : List Event) (machine machine' : MachineState) → Does action events machine machine' → IsDone action machine
+pub done_of : (action : Action) (events : List Event) (machine machine' : MachineState) → Does action events machine machine' →
+    IsDone action machine
 done_of action events machine machine' does = record { events = events; emits = record { new = machine'; does = does } }
 
 -- ---- the first machine, and then the others
 
 -- what is wrong for one of the others is wrong first
-wrong_in_step : (action : Action) (events : List Event) (first first' : MachineState) (others : List MachineState) (number : ℕ) (reason : Reason) → Does action events first first' → WrongFrom action events 2 others number reason → IsWrong action (first ∷ others) number reason
+wrong_in_step : (action : Action) (events : List Event) (first first' : MachineState) (others : List MachineState) (number : ℕ)
+    (reason : Reason) → Does action events first first' → WrongFrom action events 2 others number reason →
+    IsWrong action (first ∷ others) number reason
 wrong_in_step action events first first' others number (reasons.Finding finding) does h = inr (done_of action events first first' does, h)
-wrong_in_step action events first first' others number reasons.Differs does h = (events, record { new = first'; does = does }, inr (record { new = first'; does = does }, h))
+wrong_in_step action events first first' others number reasons.Differs does h =
+    (events, record { new = first'; does = does }, inr (record { new = first'; does = does }, h))
 wrong_in_step action events first first' others number (reasons.Fault cause) does h = absurd h
 wrong_in_step action events first first' others number reasons.Unpinnable does h = absurd h
 
-pub in_step : (action : Action) (place : ℕ) (events : List Event) (first first' : MachineState) (others others' : List MachineState) (counts counts' : Counts) (failed : Option Failure) → Does action events first first' → counts' ≡ counts_after events counts → Compared action place events 2 others others' failed → GoesInStep action place (first ∷ others) (first' ∷ others') counts counts' failed
+pub in_step : (action : Action) (place : ℕ) (events : List Event) (first first' : MachineState) (others others' : List MachineState)
+    (counts counts' : Counts) (failed : Option Failure) → Does action events first first' → counts' ≡ counts_after events counts →
+    Compared action place events 2 others others' failed → GoesInStep action place (first ∷ others) (first' ∷ others') counts counts' failed
 in_step action place events first first' others others' counts counts' None does counted h = (events, (does, h), counted)
-in_step action place events first first' others others' counts counts' (Some failure) does counted h = (h.0, wrong_in_step action events first first' others failure.profile failure.reason does h.1)
+in_step action place events first first' others others' counts counts' (Some failure) does counted h =
+    (h.0, wrong_in_step action events first first' others failure.profile failure.reason does h.1)
 
 -- the first machine's events are recorded, and the others' compared with the record
-pub step_recorded : (action : Action) (place : ℕ) (first first' : MachineState) (others others' : List MachineState) (before cleared after : Recorded) (given events : List Event) (failed : Option Failure) → cleared ≡ record before { events = [] } → Does action given first first' → TakesAll recorder_takes cleared given after → events ≡ after.events → Compared action place events 2 others others' failed → GoesInStep action place (first ∷ others) (first' ∷ others') before.counts after.counts failed
+pub step_recorded : (action : Action) (place : ℕ) (first first' : MachineState) (others others' : List MachineState)
+    (before cleared after : Recorded) (given events : List Event) (failed : Option Failure) → cleared ≡ record before { events = [] } →
+    Does action given first first' → TakesAll recorder_takes cleared given after → events ≡ after.events →
+    Compared action place events 2 others others' failed →
+    GoesInStep action place (first ∷ others) (first' ∷ others') before.counts after.counts failed
 step_recorded action place first first' others others' before cleared after given events failed clear does leads recorded h =
-    let all : after ≡ record { events = given; counts = counts_after given before.counts } = TakesAll-recorded cleared after given leads ∙ ap (recorded_all given) clear in
+    let all : after ≡ record { events = given; counts = counts_after given before.counts } =
+    TakesAll-recorded cleared after given leads ∙ ap (recorded_all given) clear in
     in_step action place given first first' others others' before.counts after.counts failed does (ap (λ (r : Recorded). r.counts) all)
     (subst (λ es. Compared action place es 2 others others' failed) (recorded ∙ ap (λ (r : Recorded). r.events) all) h)
 
@@ -137,7 +190,9 @@ written_back n old new new_len old_len =
     ∙ (ap (take n) (append-nil new) ∙ take_all n new (omega (arith, new_len)))
 
 -- the others where they stand, written back
-pub parted : (formation : Formation) (first : MachineState) (n : ℕ) (items lent stood now : List MachineState) → now ≡ take n (stood ++ drop (length stood) items) → stood ≡ others_in formation first lent → lent ≡ items → length stood ≡ n → length items ≡ n
+pub parted : (formation : Formation) (first : MachineState) (n : ℕ) (items lent stood now : List MachineState) →
+    now ≡ take n (stood ++ drop (length stood) items) → stood ≡ others_in formation first lent → lent ≡ items → length stood ≡ n →
+    length items ≡ n
     → now ≡ others_in formation first items
 parted formation first n items lent stood now is stand same stood_len len =
     is ∙ (written_back n items stood stood_len len ∙ (stand ∙ ap (others_in formation first) same))
@@ -164,21 +219,26 @@ AllAlike action events (Some other) old new = ⊥
 -- what an action comes to from there on
 abbrev pub GoesOnTo : Action → ℕ → List Event → ℕ → Option ℕ → List MachineState → List MachineState → Option Failure → Type 0
 GoesOnTo action place events n other old new None = AllAlike action events other old new
-GoesOnTo action place events n other old new (Some failure) = (failure.place ≡ place) × WrongWhere action events n other old failure.profile failure.reason
+GoesOnTo action place events n other old new (Some failure) =
+    (failure.place ≡ place) × WrongWhere action events n other old failure.profile failure.reason
 
-module _ (action : Action) (events given : List Event) (n : ℕ) (machine machine' : MachineState) (does : Does action given machine machine') (old new : List MachineState) where
+module _ (action : Action) (events given : List Event) (n : ℕ) (machine machine' : MachineState) (does : Does action given machine machine')
+    (old new : List MachineState) where
   same_does : given ≡ events → Does action events machine machine'
   same_does e = subst (λ es. Does action es machine machine') e does
 
   done : IsDone action machine
   done = done_of action given machine machine' does
 
-  alike_on : (other : Option ℕ) (differs : Bool) → (differs ≡ false → given ≡ events) → AllAlike action events (option_or other (then_some differs n)) old new → AllAlike action events other (machine ∷ old) (machine' ∷ new)
+  alike_on : (other : Option ℕ) (differs : Bool) → (differs ≡ false → given ≡ events) →
+      AllAlike action events (option_or other (then_some differs n)) old new → AllAlike action events other (machine ∷ old) (machine' ∷ new)
   alike_on None false same h = (same_does (same refl), h)
   alike_on None true same h = absurd h
   alike_on (Some other) differs same h = absurd h
 
-  wrong_on : (other : Option ℕ) (differs : Bool) (number : ℕ) (reason : Reason) → (differs ≡ false → given ≡ events) → (differs ≡ true → given ≢ events) → WrongWhere action events (n + 1) (option_or other (then_some differs n)) old number reason → WrongWhere action events n other (machine ∷ old) number reason
+  wrong_on : (other : Option ℕ) (differs : Bool) (number : ℕ) (reason : Reason) → (differs ≡ false → given ≡ events) →
+      (differs ≡ true → given ≢ events) → WrongWhere action events (n + 1) (option_or other (then_some differs n)) old number reason →
+      WrongWhere action events n other (machine ∷ old) number reason
   wrong_on None false number (reasons.Finding finding) same differ h = inr (done, h)
   wrong_on None false number reasons.Differs same differ h = inr (record { new = machine'; does = same_does (same refl) }, h)
   wrong_on None false number (reasons.Fault cause) same differ h = absurd h
@@ -194,12 +254,15 @@ module _ (action : Action) (events given : List Event) (n : ℕ) (machine machin
   wrong_on (Some other) differs number reasons.Unpinnable same differ h = absurd h
 
   -- a machine gave the same events, or others
-  pub goes_on : (place : ℕ) (other : Option ℕ) (differs : Bool) (failed : Option Failure) → (differs ≡ false → given ≡ events) → (differs ≡ true → given ≢ events) → GoesOnTo action place events (n + 1) (option_or other (then_some differs n)) old new failed → GoesOnTo action place events n other (machine ∷ old) (machine' ∷ new) failed
+  pub goes_on : (place : ℕ) (other : Option ℕ) (differs : Bool) (failed : Option Failure) → (differs ≡ false → given ≡ events) →
+      (differs ≡ true → given ≢ events) → GoesOnTo action place events (n + 1) (option_or other (then_some differs n)) old new failed →
+      GoesOnTo action place events n other (machine ∷ old) (machine' ∷ new) failed
   goes_on place other differs None same differ h = alike_on other differs same h
   goes_on place other differs (Some failure) same differ h = (h.0, wrong_on other differs failure.profile failure.reason same differ h.1)
 
 -- a machine has a finding
-stops_at : (action : Action) (events : List Event) (n : ℕ) (other : Option ℕ) (finding : Finding) (machine : MachineState) (old : List MachineState) → Finds action finding machine → WrongWhere action events n other (machine ∷ old) n (reasons.Finding finding)
+stops_at : (action : Action) (events : List Event) (n : ℕ) (other : Option ℕ) (finding : Finding) (machine : MachineState)
+    (old : List MachineState) → Finds action finding machine → WrongWhere action events n other (machine ∷ old) n (reasons.Finding finding)
 stops_at action events n None finding machine old finds = inl (refl, finds)
 stops_at action events n (Some other) finding machine old finds = inl (refl, finds)
 
@@ -208,17 +271,20 @@ stops_at action events n (Some other) finding machine old finds = inl (refl, fin
 -- the machines from i on are as they were, and what the action comes to from there on, it comes to as a whole
 pub record SoFar (action : Action) (place : ℕ) (events : List Event) (i : ℕ) (other : Option ℕ) (old new : List MachineState) : Type 0 where
   pub rest : drop i new ≡ drop i old
-  pub leads : (later : List MachineState) (failed : Option Failure) → GoesOnTo action place events (i + 2) other (drop i old) later failed → Compared action place events 2 old (take i new ++ later) failed
+  pub leads : (later : List MachineState) (failed : Option Failure) → GoesOnTo action place events (i + 2) other (drop i old) later failed →
+      Compared action place events 2 old (take i new ++ later) failed
 
 -- what no machine has come to yet
-compared : (action : Action) (place : ℕ) (events : List Event) (old new : List MachineState) (failed : Option Failure) → GoesOnTo action place events 2 None old new failed → Compared action place events 2 old new failed
+compared : (action : Action) (place : ℕ) (events : List Event) (old new : List MachineState) (failed : Option Failure) →
+    GoesOnTo action place events 2 None old new failed → Compared action place events 2 old new failed
 compared action place events old new None h = h
 compared action place events old new (Some failure) h = h
 
 pub none_so_far : (action : Action) (place : ℕ) (events : List Event) (old : List MachineState) → SoFar action place events 0 None old old
 none_so_far action place events old = record { rest = refl; leads = λ later failed h. compared action place events old later failed h }
 
-module _ (action : Action) (place : ℕ) (events given : List Event) (i : ℕ) (other : Option ℕ) (old new : List MachineState) (default machine' : MachineState) (so_far : SoFar action place events i other old new) (inside : i < length new) where
+module _ (action : Action) (place : ℕ) (events given : List Event) (i : ℕ) (other : Option ℕ) (old new : List MachineState)
+    (default machine' : MachineState) (so_far : SoFar action place events i other old new) (inside : i < length new) where
   abbrev machine : MachineState
   machine = get_or new i default
 
@@ -232,18 +298,22 @@ module _ (action : Action) (place : ℕ) (events given : List Event) (i : ℕ) (
       ∙ ap (λ xs. machine ∷ xs) rest_more)
 
   -- the machine executed the action
-  pub so_far_more : (differs : Bool) → Does action given machine machine' → (differs ≡ false → given ≡ events) → (differs ≡ true → given ≢ events) → SoFar action place events (i + 1) (option_or other (then_some differs (i + 2))) old (set new i machine')
+  pub so_far_more : (differs : Bool) → Does action given machine machine' → (differs ≡ false → given ≡ events) →
+      (differs ≡ true → given ≢ events) →
+      SoFar action place events (i + 1) (option_or other (then_some differs (i + 2))) old (set new i machine')
   so_far_more differs does same differ = record {
     rest = drop-set-lt (i + 1) new i machine' (omega arith) ∙ rest_more;
     leads = λ later failed h.
         let n : i + 1 + 2 ≡ i + 2 + 1 = omega arith in
         let front : take (i + 1) (set new i machine') ++ later ≡ take i new ++ machine' ∷ later =
-        ap (λ (xs : List MachineState). xs ++ later) (take_more_set new i machine' inside) ∙ append_assoc (take i new) (machine' ∷ []) later in
+        ap (λ (xs : List MachineState). xs ++ later) (take_more_set new i machine' inside)
+        ∙ append_assoc (take i new) (machine' ∷ []) later in
         let on : GoesOnTo action place events (i + 2) other (machine ∷ drop (i + 1) old) (machine' ∷ later) failed =
         goes_on action events given (i + 2) machine machine' does (drop (i + 1) old) later place other differs failed same differ
         (subst (λ k. GoesOnTo action place events k (option_or other (then_some differs (i + 2))) (drop (i + 1) old) later failed) n h) in
         subst (λ xs. Compared action place events 2 old xs failed) (sym front)
-        (so_far.leads (machine' ∷ later) failed (subst (λ xs. GoesOnTo action place events (i + 2) other xs (machine' ∷ later) failed) (sym next_is) on));
+        (so_far.leads (machine' ∷ later) failed
+            (subst (λ xs. GoesOnTo action place events (i + 2) other xs (machine' ∷ later) failed) (sym next_is) on));
   }
 
   -- the machine has a finding
@@ -251,27 +321,36 @@ module _ (action : Action) (place : ℕ) (events given : List Event) (i : ℕ) (
   stops_so_far finding finds =
       let failure : Failure = record { place = place; profile = i + 2; reason = reasons.Finding finding } in
       let wrong = so_far.leads [] (Some failure)
-      (refl, subst (λ xs. WrongWhere action events (i + 2) other xs (i + 2) (reasons.Finding finding)) (sym next_is) (stops_at action events (i + 2) other finding machine (drop (i + 1) old) finds)) in
+      (
+        refl,
+        subst (λ xs. WrongWhere action events (i + 2) other xs (i + 2) (reasons.Finding finding)) (sym next_is)
+            (stops_at action events (i + 2) other finding machine (drop (i + 1) old) finds),
+      ) in
       wrong.1
 
 -- what holds of all elements holds of the one that stands there
-pub all_there : {X : Type 0} (P : X → Type 0) (i : ℕ) (xs : List X) (x : X) (rest : List X) → drop i xs ≡ x ∷ rest → AllByRecursion P xs → P x
+pub all_there : {X : Type 0} (P : X → Type 0) (i : ℕ) (xs : List X) (x : X) (rest : List X) → drop i xs ≡ x ∷ rest → AllByRecursion P xs →
+    P x
 all_there P zero [] x rest e h = absurd cc
 all_there P zero (y ∷ ys) x rest e h = let same : y ≡ x = cc in subst P same h.0
 all_there P (suc i) [] x rest e h = absurd cc
 all_there P (suc i) (y ∷ ys) x rest e h = all_there P i ys x rest e h.1
 
 -- all machines executed the action
-pub all_so_far : (action : Action) (place : ℕ) (events : List Event) (i : ℕ) (old new : List MachineState) → SoFar action place events i None old new → length new ≤ i → Each (Does action events) old new
+pub all_so_far : (action : Action) (place : ℕ) (events : List Event) (i : ℕ) (old new : List MachineState) →
+    SoFar action place events i None old new → length new ≤ i → Each (Does action events) old new
 all_so_far action place events i old new so_far end =
     let none : drop i old ≡ [] = sym so_far.rest ∙ drop_all i new end in
     let all : take i new ++ [] ≡ new = append-nil (take i new) ∙ take_all i new end in
     subst (λ xs. Each (Does action events) old xs) all
     (so_far.leads [] None (subst (λ xs. AllAlike action events None xs []) (sym none) tt))
 
-pub other_so_far : (action : Action) (place : ℕ) (events : List Event) (i other : ℕ) (old new : List MachineState) → SoFar action place events i (Some other) old new → length new ≤ i → DiffersFrom action events other 2 old
+pub other_so_far : (action : Action) (place : ℕ) (events : List Event) (i other : ℕ) (old new : List MachineState) →
+    SoFar action place events i (Some other) old new → length new ≤ i → DiffersFrom action events other 2 old
 other_so_far action place events i other old new so_far end =
     let none : drop i old ≡ [] = sym so_far.rest ∙ drop_all i new end in
     let failure : Failure = record { place = place; profile = other; reason = reasons.Differs } in
-    let wrong = so_far.leads [] (Some failure) (refl, subst (λ xs. WrongWhere action events (i + 2) (Some other) xs other reasons.Differs) (sym none) (refl, tt)) in
+    let wrong =
+    so_far.leads [] (Some failure)
+    (refl, subst (λ xs. WrongWhere action events (i + 2) (Some other) xs other reasons.Differs) (sym none) (refl, tt)) in
     wrong.1

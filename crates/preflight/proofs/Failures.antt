@@ -23,32 +23,44 @@ use Rattle.preflight.proofs.FoundSays.{found_says}
 use Rattle.preflight.proofs.DiffersSays.{differs_says}
 use Rattle.preflight.proofs.OfFleets.{of_printer}
 
-module _ (anywhere : (printer : Printer) (reading : Reading) → IsWatchedAlike printer reading) (plainly : (printer : Printer) (panel : Panel) (reading : Reading) → RunsPlainly printer (watched printer) panel reading) (unset : (printer : Printer) (panel : Panel) (reading : Reading) → UnsetIsRead printer (watched printer) panel reading) where
-  wrong_says : (fleet : List Printer) (reading : Reading) (w : Wrong) → first_wrong (runs_of fleet reading) ≡ Some w → FailSays fleet reading w.place w.profile w.reason
+module _ (anywhere : (printer : Printer) (reading : Reading) → IsWatchedAlike printer reading)
+    (plainly : (printer : Printer) (panel : Panel) (reading : Reading) → RunsPlainly printer (watched printer) panel reading)
+    (unset : (printer : Printer) (panel : Panel) (reading : Reading) → UnsetIsRead printer (watched printer) panel reading) where
+  wrong_says : (fleet : List Printer) (reading : Reading) (w : Wrong) → first_wrong (runs_of fleet reading) ≡ Some w →
+      FailSays fleet reading w.place w.profile w.reason
   wrong_says fleet reading w e =
       let runs = runs_of fleet reading in
       elim (in_either w (of_each findings_in 1 runs) (of_each (differences_in (first_run runs)) 1 runs) (soonest_in w _ e)) [
         | inl found ↦ found_says anywhere plainly unset fleet reading w e (of_printer findings_in reading 1 fleet w found)
-        | inr differs ↦ differs_says anywhere plainly fleet reading w e (of_printer (differences_in (first_run runs)) reading 1 fleet w differs)
+        | inr differs ↦
+            differs_says anywhere plainly fleet reading w e (of_printer (differences_in (first_run runs)) reading 1 fleet w differs)
       ]
 
   -- ---- a fault of the bytes
 
-  finds_nothing : (fleet : List Printer) (reading : Reading) → AreOne reading fleet → FindsNothing fleet reading (events_by_item (first_run (runs_of fleet reading)))
+  finds_nothing : (fleet : List Printer) (reading : Reading) → AreOne reading fleet →
+      FindsNothing fleet reading (events_by_item (first_run (runs_of fleet reading)))
   finds_nothing fleet reading one printer has panel allowed =
       let first : List ItemRun = first_run (runs_of fleet reading) in
       let its : watched_items printer reading ≡ first = all_contained (λ p. watched_items p reading ≡ first) fleet printer one.one has in
-      let none : finding_of (watched_run printer panel reading).items ≡ None = ap finding_of (same_items anywhere plainly printer panel reading allowed ∙ its) ∙ no_finding first one.agreed in
-      let plain : (plain_run printer panel reading).items ≡ first = plain_items anywhere plainly printer panel reading allowed (set_of (watched_run printer panel reading).ending (ends_without printer (watched printer) panel reading none)) ∙ its in
+      let none : finding_of (watched_run printer panel reading).items ≡ None =
+      ap finding_of (same_items anywhere plainly printer panel reading allowed ∙ its) ∙ no_finding first one.agreed in
+      let plain : (plain_run printer panel reading).items ≡ first =
+      plain_items anywhere plainly printer panel reading allowed
+      (set_of (watched_run printer panel reading).ending (ends_without printer (watched printer) panel reading none))
+      ∙ its in
       (ap finding_of plain ∙ no_finding first one.agreed, none, ap events_by_item plain)
 
   fail_is : (a b c d : ℕ) (x y : Reason) → Fail a b x ≡ Fail c d y → (a ≡ c) × (b ≡ d) × (x ≡ y)
   fail_is a b c d x y e = (cc, cc, cc)
 
-  pub fail_says : (fleet : List Printer) (reading : Reading) (place number : ℕ) (reason : Reason) → verdict_of fleet reading ≡ Fail place number reason → FailSays fleet reading place number reason
+  pub fail_says : (fleet : List Printer) (reading : Reading) (place number : ℕ) (reason : Reason) →
+      verdict_of fleet reading ≡ Fail place number reason → FailSays fleet reading place number reason
   fail_says fleet reading place number reason e = by (first_wrong (runs_of fleet reading)) refl reading refl e
     where
-      by : (o : Option Wrong) → first_wrong (runs_of fleet reading) ≡ o → (read : Reading) → read ≡ reading → verdict_by o read (events_of (first_run (runs_of fleet reading))) ≡ Fail place number reason → FailSays fleet reading place number reason
+      by : (o : Option Wrong) → first_wrong (runs_of fleet reading) ≡ o → (read : Reading) → read ≡ reading →
+          verdict_by o read (events_of (first_run (runs_of fleet reading))) ≡ Fail place number reason →
+          FailSays fleet reading place number reason
       by (Some w) is read same e =
           let h = fail_is w.place w.profile place number w.reason reason e in
           subst (λ r. FailSays fleet reading place number r) h.2
@@ -58,4 +70,8 @@ module _ (anywhere : (printer : Printer) (reading : Reading) → IsWatchedAlike 
       by None is (Stopped items at cause) same e =
           let h = fail_is at 0 place number (Fault cause) reason e in
           subst (λ r. FailSays fleet reading place number r) h.2
-          (sym h.1, (items, sym same ∙ ap (λ here. Stopped items here cause) h.0), (events_by_item (first_run (runs_of fleet reading)), finds_nothing fleet reading (are_one reading fleet is)))
+          (
+            sym h.1,
+            (items, sym same ∙ ap (λ here. Stopped items here cause) h.0),
+            (events_by_item (first_run (runs_of fleet reading)), finds_nothing fleet reading (are_one reading fleet is)),
+          )

@@ -12,7 +12,8 @@ use Rattle.verdict.specs.declared.reason.Reason.{Reason}
 use Rattle.verdict.specs.declared.reason.Reason.TheVariants.{Differs, Fault as FaultOfBytes}
 use Rattle.verdict.specs.declared.verdict.Verdict.TheVariants.{Fail}
 use Rattle.preflight.specs.Same.{are_same}
-use Rattle.preflight.specs.Wrong.{Wrong, wrong, found_or, findings_in, differences_in, of_each, first_run, all_wrong, sooner, soonest, first_wrong}
+use Rattle.preflight.specs.Wrong.{Wrong, wrong, found_or, findings_in, differences_in, of_each, first_run, all_wrong, sooner, soonest}
+use Rattle.preflight.specs.Wrong.{first_wrong}
 use Rattle.preflight.specs.Verdict.{verdict_by, verdict_of, runs_of}
 
 -- what is wrong in runs is no fault of the bytes
@@ -31,7 +32,8 @@ findings_are : (profile before : ℕ) (items : List ItemRun) → AreOfRuns (find
 findings_are profile before [] = tt
 findings_are profile before (item ∷ items) = by item.finding (findings_are profile (before + 1) items)
   where
-    by : (o : Option Finding) → AreOfRuns (findings_in profile (before + 1) items) → AreOfRuns (found_or profile before item.place o (findings_in profile (before + 1) items))
+    by : (o : Option Finding) → AreOfRuns (findings_in profile (before + 1) items) →
+        AreOfRuns (found_or profile before item.place o (findings_in profile (before + 1) items))
     by (Some finding) h = (tt, tt)
     by None h = h
 
@@ -40,13 +42,17 @@ differences_are [] profile before items = tt
 differences_are (a ∷ first) profile before [] = tt
 differences_are (a ∷ first) profile before (b ∷ items) = by (are_same a.events b.events) (differences_are first profile (before + 1) items)
   where
-    by : (same : Bool) → AreOfRuns (differences_in first profile (before + 1) items) → AreOfRuns (if same then differences_in first profile (before + 1) items else wrong before b.place profile Differs ∷ [])
+    by : (same : Bool) → AreOfRuns (differences_in first profile (before + 1) items) →
+        AreOfRuns (if same then differences_in first profile (before + 1) items else wrong before b.place profile Differs ∷ [])
     by true h = h
     by false h = (tt, tt)
 
-each_are : (each : ℕ → ℕ → List ItemRun → List Wrong) → ((profile before : ℕ) (items : List ItemRun) → AreOfRuns (each profile before items)) → (profile : ℕ) (runs : List (List ItemRun)) → AreOfRuns (of_each each profile runs)
+each_are : (each : ℕ → ℕ → List ItemRun → List Wrong) →
+    ((profile before : ℕ) (items : List ItemRun) → AreOfRuns (each profile before items)) → (profile : ℕ) (runs : List (List ItemRun)) →
+    AreOfRuns (of_each each profile runs)
 each_are each h profile [] = tt
-each_are each h profile (run ∷ runs) = both (each profile 0 run) (of_each each (profile + 1) runs) (h profile 0 run) (each_are each h (profile + 1) runs)
+each_are each h profile (run ∷ runs) =
+    both (each profile 0 run) (of_each each (profile + 1) runs) (h profile 0 run) (each_are each h (profile + 1) runs)
 
 all_are : (runs : List (List ItemRun)) → AreOfRuns (all_wrong runs)
 all_are runs =
@@ -69,7 +75,9 @@ soonest_is (v ∷ ws) h w e = by (soonest ws) (soonest_is ws h.1) e
     by (Some u) k e = either u (nat_le v.before u.before) (k u refl) e
 
 -- such a verdict comes where nothing is wrong in the runs
-stops_by : (o : Option Wrong) (reading : Reading) (events : List Event) (place : ℕ) (cause : LexCause) → ((w : Wrong) → o ≡ Some w → IsOfRuns w.reason) → Fail place 0 (FaultOfBytes cause) ≡ verdict_by o reading events → reading ≡ Stopped (items_of reading) place cause
+stops_by : (o : Option Wrong) (reading : Reading) (events : List Event) (place : ℕ) (cause : LexCause) →
+    ((w : Wrong) → o ≡ Some w → IsOfRuns w.reason) → Fail place 0 (FaultOfBytes cause) ≡ verdict_by o reading events →
+    reading ≡ Stopped (items_of reading) place cause
 stops_by (Some w) reading events place cause h e =
     let reason : w.reason ≡ FaultOfBytes cause = cc in absurd (subst IsOfRuns reason (h w refl))
 stops_by None (Stopped items stop found) events place cause h e =
@@ -78,7 +86,8 @@ stops_by None (Stopped items stop found) events place cause h e =
     λ i. Stopped items (at i) (is i)
 stops_by None (Whole items stop) events place cause h e = absurd cc
 
-pub stops_there : (fleet : List Printer) (reading : Reading) (place : ℕ) (cause : LexCause) → Fail place 0 (FaultOfBytes cause) ≡ verdict_of fleet reading → reading ≡ Stopped (items_of reading) place cause
+pub stops_there : (fleet : List Printer) (reading : Reading) (place : ℕ) (cause : LexCause) →
+    Fail place 0 (FaultOfBytes cause) ≡ verdict_of fleet reading → reading ≡ Stopped (items_of reading) place cause
 stops_there fleet reading place cause e =
     let runs = runs_of fleet reading in
     stops_by (first_wrong runs) reading (events_of (first_run runs)) place cause (soonest_is (all_wrong runs) (all_are runs)) e

@@ -28,11 +28,16 @@ first_allowed printer panel allowed = record {
   line_termination = first_contained printer.line_terminations panel.line_termination allowed.line_termination;
 }
 
-module _ (anywhere : (printer : Printer) (reading : Reading) → IsWatchedAlike printer reading) (plainly : (printer : Printer) (panel : Panel) (reading : Reading) → RunsPlainly printer (watched printer) panel reading) where
+module _ (anywhere : (printer : Printer) (reading : Reading) → IsWatchedAlike printer reading)
+    (plainly : (printer : Printer) (panel : Panel) (reading : Reading) → RunsPlainly printer (watched printer) panel reading) where
   -- the items of the watched run from a panel
-  pub same_items : (printer : Printer) (panel : Panel) (reading : Reading) → IsAllowed printer panel → (watched_run printer panel reading).items ≡ watched_items printer reading
-  same_items printer panel reading allowed = ap (λ (r : JobRun). r.items) (anywhere printer reading (first_panel printer) panel (first_allowed printer panel allowed) allowed)
+  pub same_items : (printer : Printer) (panel : Panel) (reading : Reading) → IsAllowed printer panel →
+      (watched_run printer panel reading).items ≡ watched_items printer reading
+  same_items printer panel reading allowed =
+      ap (λ (r : JobRun). r.items) (anywhere printer reading (first_panel printer) panel (first_allowed printer panel allowed) allowed)
 
   -- and those of the plain one, where nothing is unset
-  pub plain_items : (printer : Printer) (panel : Panel) (reading : Reading) → IsAllowed printer panel → IsSet (watched_run printer panel reading).ending → (plain_run printer panel reading).items ≡ watched_items printer reading
-  plain_items printer panel reading allowed set = ap (λ (r : JobRun). r.items) (plainly printer panel reading set) ∙ same_items printer panel reading allowed
+  pub plain_items : (printer : Printer) (panel : Panel) (reading : Reading) → IsAllowed printer panel →
+      IsSet (watched_run printer panel reading).ending → (plain_run printer panel reading).items ≡ watched_items printer reading
+  plain_items printer panel reading allowed set =
+      ap (λ (r : JobRun). r.items) (plainly printer panel reading set) ∙ same_items printer panel reading allowed

@@ -1,5 +1,6 @@
 -- Machines that stand together go as the first one does.
-use Rattle.std.proofs.Common.{◌≡◌, ℕ, zero, suc, ◌+◌, ◌<◌, true, false, None, List, [], ◌∷◌, ◌++◌, length, take, get_or, map, unwrap_or, refl, ap, sym, ◌∙◌, subst, arith}
+use Rattle.std.proofs.Common.{◌≡◌, ℕ, zero, suc, ◌+◌, ◌<◌, true, false, None, List, [], ◌∷◌, ◌++◌, length, take, get_or, map, unwrap_or}
+use Rattle.std.proofs.Common.{refl, ap, sym, ◌∙◌, subst, arith}
 use Rattle.std.specs.Prelude.{◌≢◌}
 use Rattle.std.specs.List.{AllByRecursion}
 use Rattle.std.proofs.lemmas.List.{take_more}
@@ -23,7 +24,8 @@ use Rattle.preflight.specs.Carriers.Each.{Each}
 use Rattle.preflight.specs.Carriers.Formation.{others_in, KnowsNoMacro, Follows, IsFormed, AskAlike, GoesAsOne, NoneDefines, StandsAs}
 use Rattle.preflight.specs.Carriers.Lockstep.{Execute, Does}
 
-module _ (law : (item : Entry) → RunsOnLike item) (item : Entry) (events : List Event) (first first' : MachineState) (does : Does (Execute item) events first first') where
+module _ (law : (item : Entry) → RunsOnLike item) (item : Entry) (events : List Event) (first first' : MachineState)
+    (does : Does (Execute item) events first first') where
   abbrev id_of : ℕ
   id_of = first.page.env.job.macro_id
 
@@ -35,7 +37,8 @@ module _ (law : (item : Entry) → RunsOnLike item) (item : Entry) (events : Lis
     stays : (limit : ℕ) (macros : Store) → macros ≡ no_macros limit → macros_after id_of item macros ≡ no_macros limit
     stays limit macros known = ap (macros_after id_of item) known ∙ both.macros id_of limit
 
-    follower_does : KnowsNoMacro first → KnowsNoMacro m → first.page.env.job.overlay ≡ None → Does (Execute item) events (standing_as first m) (standing_as first' m)
+    follower_does : KnowsNoMacro first → KnowsNoMacro m → first.page.env.job.overlay ≡ None →
+        Does (Execute item) events (standing_as first m) (standing_as first' m)
     follower_does none known overlay = record {
       is = ap (λ f. standing_as f m) does.is ∙ (λ i. record first {
         printer = m.printer;
@@ -48,7 +51,8 @@ module _ (law : (item : Entry) → RunsOnLike item) (item : Entry) (events : Lis
       run = λ panel.
           let defaults : Settings = settings_at panel first.defaults in
           let s : State = state_at panel first.page in
-          let own : (printer : Printer) (macros : Store) → Run = λ printer macros. job_item_run (record { printer = printer; defaults = defaults; macros = macros }) item s in
+          let own : (printer : Printer) (macros : Store) → Run =
+              λ printer macros. job_item_run (record { printer = printer; defaults = defaults; macros = macros }) item s in
           ap (own m.printer) known ∙ both.same defaults s overlay ∙ sym (ap (own first.printer) none) ∙ does.run panel;
     }
 
@@ -59,7 +63,8 @@ module _ (law : (item : Entry) → RunsOnLike item) (item : Entry) (events : Lis
   same_printer : first'.printer ≡ first.printer
   same_printer = ap (λ (m : MachineState). m.printer) does.is
 
-  followers_do : (others : List MachineState) → KnowsNoMacro first → AllByRecursion (Follows first) others → first.page.env.job.overlay ≡ None → AskAlike first item others →
+  followers_do : (others : List MachineState) → KnowsNoMacro first → AllByRecursion (Follows first) others →
+      first.page.env.job.overlay ≡ None → AskAlike first item others →
       Each (Does (Execute item) events) (map (standing_as first) others) (map (standing_as first') others)
   followers_do [] none follow overlay asks = tt
   followers_do (m ∷ others) none follow overlay asks =
@@ -67,20 +72,24 @@ module _ (law : (item : Entry) → RunsOnLike item) (item : Entry) (events : Lis
 
   still_follow : (others : List MachineState) → AllByRecursion (Follows first) others → AllByRecursion (Follows first') others
   still_follow [] follow = tt
-  still_follow (m ∷ others) follow = ((subst (λ printer. IsLike printer m.printer) (sym same_printer) follow.0.0, follow.0.1), still_follow others follow.1)
+  still_follow (m ∷ others) follow =
+      ((subst (λ printer. IsLike printer m.printer) (sym same_printer) follow.0.0, follow.0.1), still_follow others follow.1)
 
-  still_knows_none : (others : List MachineState) → KnowsNoMacro first → AllByRecursion (Follows first) others → (others ≢ []) → AskAlike first item others → KnowsNoMacro first'
+  still_knows_none : (others : List MachineState) → KnowsNoMacro first → AllByRecursion (Follows first) others → (others ≢ []) →
+      AskAlike first item others → KnowsNoMacro first'
   still_knows_none [] none follow some asks = absurd (some refl)
   still_knows_none (m ∷ others) none follow some asks = first_knows_none m follow.0.0 asks.0 none
 
   -- what the first does all do, and they stand so again
-  pub all_do : (formation : Formation) (others : List MachineState) → IsFormed formation first others → GoesAsOne formation first others item →
+  pub all_do : (formation : Formation) (others : List MachineState) → IsFormed formation first others →
+      GoesAsOne formation first others item →
       Each (Does (Execute item) events) (first ∷ others_in formation first others) (first' ∷ others_in formation first' others)
   all_do Alone others formed goes = (does, tt)
   all_do Together others formed goes = (does, followers_do others formed.0 formed.1 goes.0 goes.1)
   all_do Apart others formed goes = absurd goes
 
-  pub still_formed : (formation : Formation) (others : List MachineState) → IsFormed formation first others → GoesAsOne formation first others item → IsFormed formation first' others
+  pub still_formed : (formation : Formation) (others : List MachineState) → IsFormed formation first others →
+      GoesAsOne formation first others item → IsFormed formation first' others
   still_formed Alone others formed goes = formed
   still_formed Together others formed goes =
       (still_knows_none others formed.0 formed.1 formed.2 goes.1, still_follow others formed.1, formed.2)
@@ -95,7 +104,8 @@ all_at P zero (x ∷ xs) d inside h = h.0
 all_at P (suc i) (x ∷ xs) d inside h = all_at P i xs d (omega (arith, inside)) h.1
 
 -- where it holds of the first ones and of the next it holds of one more
-pub one_more : {X : Type 0} (P : X → Type 0) (xs : List X) (i : ℕ) (x : X) → i < length xs → x ≡ get_or xs i x → P x → AllByRecursion P (take i xs) → AllByRecursion P (take (i + 1) xs)
+pub one_more : {X : Type 0} (P : X → Type 0) (xs : List X) (i : ℕ) (x : X) → i < length xs → x ≡ get_or xs i x → P x →
+    AllByRecursion P (take i xs) → AllByRecursion P (take (i + 1) xs)
 one_more P xs i x inside is p h =
     let front : take (i + 1) xs ≡ take i xs ++ x ∷ [] = take_more xs i x inside ∙ ap (λ y. take i xs ++ y ∷ []) (sym is) in
     subst (AllByRecursion P) (sym front) (push (take i xs) h)
@@ -112,7 +122,9 @@ all_stand first (m ∷ old) [] h = absurd h
 all_stand first (m ∷ old) (n ∷ new) h = λ i. h.0 i ∷ all_stand first old new h.1 i
 
 -- a command that asks nothing of the device asks the same of all
-pub none_asks : (first : MachineState) (command : Command) (n : Amount) → ((p q : Printer) (n : Amount) → command_asks_alike p q command n ≡ true) → (others : List MachineState) → AskAlike first (Parameterized command n) others
+pub none_asks : (first : MachineState) (command : Command) (n : Amount) →
+    ((p q : Printer) (n : Amount) → command_asks_alike p q command n ≡ true) → (others : List MachineState) →
+    AskAlike first (Parameterized command n) others
 none_asks first command n same [] = tt
 none_asks first command n same (m ∷ others) = (same first.printer m.printer n, none_asks first command n same others)
 

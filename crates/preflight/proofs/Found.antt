@@ -18,7 +18,9 @@ pub record IsItsFinding (number before : ℕ) (items : List ItemRun) (w : Wrong)
   pub reason_is : w.reason ≡ FindingOfRun finding
   pub there : FindsBehind count w.place finding items
 
-found : (number before : ℕ) (x : ItemRun) (items : List ItemRun) (w : Wrong) (o : Option Finding) → x.finding ≡ o → (IsIn w (findings_in number (before + 1) items) → IsItsFinding number (before + 1) items w) → IsIn w (found_or number before x.place o (findings_in number (before + 1) items)) → IsItsFinding number before (x ∷ items) w
+found : (number before : ℕ) (x : ItemRun) (items : List ItemRun) (w : Wrong) (o : Option Finding) → x.finding ≡ o →
+    (IsIn w (findings_in number (before + 1) items) → IsItsFinding number (before + 1) items w) →
+    IsIn w (found_or number before x.place o (findings_in number (before + 1) items)) → IsItsFinding number before (x ∷ items) w
 found number before x items w (Some finding) is rest (inl e) = record {
   count = zero;
   before_is = omega (arith, ap (λ (v : Wrong). v.before) e);
@@ -30,9 +32,17 @@ found number before x items w (Some finding) is rest (inl e) = record {
 found number before x items w (Some finding) is rest (inr nothing) = absurd nothing
 found number before x items w None is rest h =
     let f = rest h in
-    record { count = suc f.count; before_is = omega (arith, f.before_is); finding = f.finding; number_is = f.number_is; reason_is = f.reason_is; there = (is, f.there) }
+    record {
+      count = suc f.count;
+      before_is = omega (arith, f.before_is);
+      finding = f.finding;
+      number_is = f.number_is;
+      reason_is = f.reason_is;
+      there = (is, f.there);
+    }
 
-pub its_finding : (number before : ℕ) (items : List ItemRun) (w : Wrong) → IsIn w (findings_in number before items) → IsItsFinding number before items w
+pub its_finding : (number before : ℕ) (items : List ItemRun) (w : Wrong) → IsIn w (findings_in number before items) →
+    IsItsFinding number before items w
 its_finding number before [] w h = absurd h
 its_finding number before (x ∷ items) w h = found number before x items w x.finding refl (its_finding number (before + 1) items w) h
 
@@ -42,7 +52,8 @@ finding_behind zero place f (x ∷ items) h = ap (λ o. found_at x.place o (find
 finding_behind (suc n) place f (x ∷ items) h = ap (λ o. found_at x.place o (finding_of items)) h.0 ∙ finding_behind n place f items h.1
 
 -- the last item before a finding is one that the run goes through
-pub comes_behind : (n place : ℕ) (f : Finding) (items : List ItemRun) → FindsBehind (suc n) place f items → (at : ℕ) × GoesThrough n at items
+pub comes_behind : (n place : ℕ) (f : Finding) (items : List ItemRun) → FindsBehind (suc n) place f items →
+    (at : ℕ) × GoesThrough n at items
 comes_behind n place f [] h = absurd h
 comes_behind zero place f (x ∷ items) h = (x.place, (h.0, refl))
 comes_behind (suc n) place f (x ∷ items) h = let rest = comes_behind n place f items h.1 in (rest.0, (h.0, rest.1))

@@ -17,7 +17,8 @@ use Rattle.preflight.proofs.StillOpen.{leaves_open}
 use Rattle.verdict.specs.declared.verdict.Verdict.{Verdict}
 
 -- a fact by the reads is one of a job that was known
-pub known_ok : (old new : SourceState) (P : List ℕ → Verdict → Type 0) (r : Result Verdict Error) → IfOk r (λ verdict. ByReads old new (λ job. P job verdict)) → IfOk r (λ verdict. IfSome old.remaining (λ job. P job verdict))
+pub known_ok : (old new : SourceState) (P : List ℕ → Verdict → Type 0) (r : Result Verdict Error) →
+    IfOk r (λ verdict. ByReads old new (λ job. P job verdict)) → IfOk r (λ verdict. IfSome old.remaining (λ job. P job verdict))
 known_ok old new P (Ok verdict) h = known_by old new (λ job. P job verdict) h
 known_ok old new P (Err e) h = tt
 
@@ -34,7 +35,8 @@ Judges first verdict pieces now = IsJudged first.0 verdict pieces now.0
 abbrev Stops : Beside → Error → List ℕ → Beside → Type 0
 Stops first error bytes now = IsOutOfMemory first.0 error bytes now.0
 
-module _ (fleet : List Printer) (session now : Beside) (fresh : HasChecked fleet [] session.0) (old new : SourceState) (r : Result Verdict Error) (h : IfOk r (λ verdict. IsAnswered Goes Judges session now verdict old new)) where
+module _ (fleet : List Printer) (session now : Beside) (fresh : HasChecked fleet [] session.0) (old new : SourceState)
+    (r : Result Verdict Error) (h : IfOk r (λ verdict. IsAnswered Goes Judges session now verdict old new)) where
   abbrev Answer : Verdict → Type 0
   Answer verdict = IsAnswered Goes Judges session now verdict old new
 
@@ -42,19 +44,34 @@ module _ (fleet : List Printer) (session now : Beside) (fresh : HasChecked fleet
   exact = IfOk-weaker r Answer (λ verdict. ByReads old new (λ job. IsExact fleet job verdict)) by h
     where
       by : (verdict : Verdict) → Answer verdict → ByReads old new (λ job. IsExact fleet job verdict)
-      by verdict is = record { pieces = is.before ++ is.last ∷ []; given = is.given_is; each = λ job may. (is.answered.right fleet [] fresh job may).0; known = is.known }
+      by verdict is = record {
+        pieces = is.before ++ is.last ∷ [];
+        given = is.given_is;
+        each = λ job may. (is.answered.right fleet [] fresh job may).0;
+        known = is.known;
+      }
 
   pub headline : IfOk r (λ verdict. ByReads old new (λ job. KeepsPromise fleet job verdict))
   headline = IfOk-weaker r Answer (λ verdict. ByReads old new (λ job. KeepsPromise fleet job verdict)) by h
     where
       by : (verdict : Verdict) → Answer verdict → ByReads old new (λ job. KeepsPromise fleet job verdict)
-      by verdict is = record { pieces = is.before ++ is.last ∷ []; given = is.given_is; each = λ job may. (is.answered.right fleet [] fresh job may).1; known = is.known }
+      by verdict is = record {
+        pieces = is.before ++ is.last ∷ [];
+        given = is.given_is;
+        each = λ job may. (is.answered.right fleet [] fresh job may).1;
+        known = is.known;
+      }
 
   pub told : IfOk r (λ verdict. ByReads old new (λ job. IsTold job verdict now.0.culprit))
   told = IfOk-weaker r Answer (λ verdict. ByReads old new (λ job. IsTold job verdict now.0.culprit)) by h
     where
       by : (verdict : Verdict) → Answer verdict → ByReads old new (λ job. IsTold job verdict now.0.culprit)
-      by verdict is = record { pieces = is.before ++ is.last ∷ []; given = is.given_is; each = λ job may. (is.answered.right fleet [] fresh job may).2; known = is.known }
+      by verdict is = record {
+        pieces = is.before ++ is.last ∷ [];
+        given = is.given_is;
+        each = λ job may. (is.answered.right fleet [] fresh job may).2;
+        known = is.known;
+      }
 
   pub needed : IfOk r (λ _. NeedsEachRead fleet old new)
   needed = IfOk-weaker r Answer (λ _. NeedsEachRead fleet old new) by h
@@ -68,7 +85,9 @@ module _ (fleet : List Printer) (session now : Beside) (fresh : HasChecked fleet
             last = is.last;
             given = is.given_is;
             short = is.short;
-            left_open = leaves_open fleet is.bytes is.between.0.lexer is.between.0.machines is.between.0.counts executed.0 goes.open_input is.before is.spelled goes.wants_more;
+            left_open =
+                leaves_open fleet is.bytes is.between.0.lexer is.between.0.machines is.between.0.counts executed.0 goes.open_input is.before
+                is.spelled goes.wants_more;
           }
 
 -- ---- where it stopped

@@ -18,7 +18,8 @@ use Rattle.preflight.specs.Standing.{StandsBy, is_open}
 use Rattle.preflight.specs.Carriers.Lockstep.{Fleet, machines_of, counts_of, Execute, GoesInStep}
 use Rattle.preflight.specs.Carriers.Checking.{ExecutesThrough}
 use Rattle.preflight.specs.Carriers.Loops.{MayExecute, IsFurther, ExecutesOn, ExecutesDecided}
-use Rattle.preflight.proofs.Answered.{came_closed, comes_on, further as further_by_item, further_by_text, further_here, not_further, stands_behind, through_here, through_open}
+use Rattle.preflight.proofs.Answered.{came_closed, comes_on, further as further_by_item, further_by_text, further_here, not_further}
+use Rattle.preflight.proofs.Answered.{stands_behind, through_here, through_open}
 use Rattle.preflight.proofs.Standings.{closed_on, open_by, open_is}
 
 -- all that was executed between the one and the other went, and no item is told
@@ -26,7 +27,8 @@ pub record GoesOn {A P : Type 0} (first now : Checking A P) : Type 0 where
   pub stands : now.standing ≡ Open
   pub untold : now.culprit ≡ first.culprit
   pub further : IsFurther first.lexer now.lexer
-  pub through : ExecutesThrough first.lexer now.lexer (machines_of first.machines) (machines_of now.machines) (counts_of first.machines) (counts_of now.machines)
+  pub through : ExecutesThrough first.lexer now.lexer (machines_of first.machines) (machines_of now.machines) (counts_of first.machines)
+      (counts_of now.machines)
 
 module _ {A P : Type 0} (first : Checking A P) where
   pub goes_none : MayExecute first → GoesOn first first
@@ -42,7 +44,8 @@ module _ {A P : Type 0} (first : Checking A P) where
   may_again now goes = record { running = goes.through.running; modes = goes.through.modes; stands = goes.stands }
 
   -- the lexer gave nothing
-  pub goes_here : (mid : Checking A P) (lexer : LexerState) → lexer ≡ mid.lexer → GoesOn first mid → GoesOn first (record mid { lexer = lexer })
+  pub goes_here : (mid : Checking A P) (lexer : LexerState) → lexer ≡ mid.lexer → GoesOn first mid →
+      GoesOn first (record mid { lexer = lexer })
   goes_here mid lexer same goes = record {
     stands = goes.stands;
     untold = goes.untold;
@@ -51,12 +54,15 @@ module _ {A P : Type 0} (first : Checking A P) where
   }
 
   -- the machines were not moved
-  pub goes_unmoved : (mid : Checking A P) (machines : Fleet) → machines ≡ mid.machines → GoesOn first mid → GoesOn first (record mid { machines = machines })
+  pub goes_unmoved : (mid : Checking A P) (machines : Fleet) → machines ≡ mid.machines → GoesOn first mid →
+      GoesOn first (record mid { machines = machines })
   goes_unmoved mid machines same goes = record {
     stands = goes.stands;
     untold = goes.untold;
     further = goes.further;
-    through = subst (λ (f : Fleet). ExecutesThrough first.lexer mid.lexer first.machines.machines f.machines first.machines.counts f.counts) (sym same) goes.through;
+    through =
+        subst (λ (f : Fleet). ExecutesThrough first.lexer mid.lexer first.machines.machines f.machines first.machines.counts f.counts)
+        (sym same) goes.through;
   }
 
   module _ (new : Checking A P) where
@@ -110,11 +116,18 @@ module _ {A P : Type 0} (first : Checking A P) where
       goes_behind mid goes is ran = goes_open is (on_behind mid goes ran)
 
       -- an item behind what went
-      pub item_behind : (mid : Checking A P) → ((job : List ℕ) → HasOneReading job) → ((printer : Printer) (reading : Reading) → IsWatchedAlike printer reading) → (next : Result Lexed LexFault) (place : ℕ) (item : Item) → next ≡ Ok (answers.Item place item) → GoesOn first mid → IsNext mid.lexer next new.lexer
-          → answer ≡ is_open new.standing → (IsFalse answer → Names new.culprit (view item)) → (IsTrue answer → new.culprit ≡ mid.culprit) → StandsBy new.standing (λ failed. GoesInStep (Execute (view item)) place (machines_of mid.machines) (machines_of new.machines) (counts_of mid.machines) (counts_of new.machines) failed)
+      pub item_behind : (mid : Checking A P) → ((job : List ℕ) → HasOneReading job) →
+          ((printer : Printer) (reading : Reading) → IsWatchedAlike printer reading) → (next : Result Lexed LexFault) (place : ℕ)
+          (item : Item) → next ≡ Ok (answers.Item place item) → GoesOn first mid → IsNext mid.lexer next new.lexer
+          → answer ≡ is_open new.standing → (IsFalse answer → Names new.culprit (view item)) → (IsTrue answer → new.culprit ≡ mid.culprit)
+          → StandsBy new.standing (λ failed.
+          GoesInStep (Execute (view item)) place (machines_of mid.machines) (machines_of new.machines) (counts_of mid.machines)
+          (counts_of new.machines) failed)
           → ExecutesOn first new answer
       item_behind mid one anywhere next place item is goes read tells told untold came = record {
-        came = comes_on _ _ _ _ _ _ _ _ _ one anywhere _ _ next place item is read goes.through goes.further.ended (λ closed. told (tells ∙ closed)) came;
+        came =
+            comes_on _ _ _ _ _ _ _ _ _ one anywhere _ _ next place item is read goes.through goes.further.ended
+            (λ closed. told (tells ∙ closed)) came;
         tells = tells;
         untold = λ open'. untold open' ∙ goes.untold;
         further = further_by_item _ _ _ next place item is read goes.further;

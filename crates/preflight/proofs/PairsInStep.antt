@@ -15,8 +15,10 @@ use Rattle.preflight.specs.Carriers.Formation.{others_in, IsFormed, AskAlike, Go
 use Rattle.preflight.specs.Carriers.Lockstep.{Execute, Does}
 use Rattle.preflight.proofs.Formations.{all_do}
 
-module _ (law : (item : Entry) → RunsOnLike item) (box : PenBounds) (motion : Motion) (to : ℤ × ℤ) (formation : Formation) (first first' : MachineState) (others : List MachineState)
-    (running : first.stopped ≡ false) (formed : IsFormed formation first others) (together : (formation ≡ Alone) ⊎ (formation ≡ Together)) (bare : first.page.env.job.overlay ≡ None) (draws : DrawsPair box motion to first first') where
+module _ (law : (item : Entry) → RunsOnLike item) (box : PenBounds) (motion : Motion) (to : ℤ × ℤ) (formation : Formation)
+    (first first' : MachineState) (others : List MachineState)
+    (running : first.stopped ≡ false) (formed : IsFormed formation first others) (together : (formation ≡ Alone) ⊎ (formation ≡ Together))
+    (bare : first.page.env.job.overlay ≡ None) (draws : DrawsPair box motion to first first') where
   abbrev item : Entry
   item = Move motion (Some to)
 

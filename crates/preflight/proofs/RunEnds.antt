@@ -65,7 +65,8 @@ without_carried : IsCarriedOn EndsWithout
 without_carried place events peaks (Done s) next rest = rest s
 without_carried place events peaks (Halts finding) next rest = λ e. absurd cc
 
-pub ends_without : (printer : Printer) (flags : Flags) (panel : Panel) (reading : Reading) → EndsWithout (run_from printer flags panel reading)
+pub ends_without : (printer : Printer) (flags : Flags) (panel : Panel) (reading : Reading) →
+    EndsWithout (run_from printer flags panel reading)
 ends_without printer flags panel reading = of_every_run EndsWithout without_carried (λ s e. tt) printer flags panel reading
 
 -- ---- items that agree find nothing
@@ -86,5 +87,6 @@ halts_carried : IsCarriedOn HaltsThere
 halts_carried place events peaks (Done s) next rest = rest s
 halts_carried place events peaks (Halts finding) next rest = λ at found e. ap Halts (pair_is place at finding found e)
 
-pub halts_there : (printer : Printer) (flags : Flags) (panel : Panel) (reading : Reading) → HaltsThere (run_from printer flags panel reading)
+pub halts_there : (printer : Printer) (flags : Flags) (panel : Panel) (reading : Reading) →
+    HaltsThere (run_from printer flags panel reading)
 halts_there printer flags panel reading = of_every_run HaltsThere halts_carried (λ s place finding e. absurd cc) printer flags panel reading

@@ -1,5 +1,7 @@
 -- What a piece and the end make of a session.
-use Rattle.std.proofs.Common.{◌≡◌, ◌+◌, ◌-◌, ◌≤◌, ◌↔◌, ℕ, true, false, List, [], ◌∷◌, ◌++◌, length, take, drop, refl, ap, sym, ◌∙◌, subst, append_assoc, append-nil, length-append, take-append-drop, Option, None, Some, Result, Ok, Err, IfOk, IfErr, arith}
+use Rattle.std.proofs.Common.{◌≡◌, ◌+◌, ◌-◌, ◌≤◌, ◌↔◌, ℕ, true, false, List, [], ◌∷◌, ◌++◌, length, take, drop, refl, ap, sym, ◌∙◌, subst}
+use Rattle.std.proofs.Common.{append_assoc, append-nil, length-append, take-append-drop, Option, None, Some, Result, Ok, Err, IfOk, IfErr}
+use Rattle.std.proofs.Common.{arith}
 use Rattle.std.proofs.lemmas.List.{take_rest}
 use Rattle.pcl_lexer.specs.Lexing.State.{WantsMore}
 use Rattle.pcl_lexer.specs.Lexing.Meaning.{MayBe}
@@ -24,7 +26,8 @@ use Rattle.verdict.specs.declared.verdict.Verdict.{Verdict}
 -- ---- from one session to another
 
 -- no byte
-pub checks_on_none : (session : SessionState) → session.standing ≡ Open → session.lexer.ended ≡ false → WantsMore session.lexer → ChecksOn session [] session
+pub checks_on_none : (session : SessionState) → session.standing ≡ Open → session.lexer.ended ≡ false → WantsMore session.lexer →
+    ChecksOn session [] session
 checks_on_none session is open_input wanted = record {
   is_open = is;
   total_is = omega arith;
@@ -34,13 +37,16 @@ checks_on_none session is open_input wanted = record {
 }
 
 -- what stands behind a session that is open
-pub opened : (session : SessionState) (fleet : List Printer) (bytes : List ℕ) → session.standing ≡ Open → HasChecked fleet bytes session → HasExecuted fleet bytes session.lexer session.machines session.counts × (session.total ≡ length bytes)
+pub opened : (session : SessionState) (fleet : List Printer) (bytes : List ℕ) → session.standing ≡ Open → HasChecked fleet bytes session →
+    HasExecuted fleet bytes session.lexer session.machines session.counts × (session.total ≡ length bytes)
 opened session fleet bytes is checked = subst (λ s. ChecksTo s fleet bytes session) is checked
 
 module _ (first old new : SessionState) (bytes : List ℕ) (goes : ChecksOn first bytes old) where
   -- one more piece is checked
-  pub checks_more : (piece : List ℕ) → new.standing ≡ Open → new.total ≡ old.total + length piece → new.lexer.ended ≡ false → WantsMore new.lexer
-      → ((fleet : List Printer) (base : List ℕ) → HasExecuted fleet base old.lexer old.machines old.counts → HasExecuted fleet (base ++ piece) new.lexer new.machines new.counts)
+  pub checks_more : (piece : List ℕ) → new.standing ≡ Open → new.total ≡ old.total + length piece → new.lexer.ended ≡ false →
+      WantsMore new.lexer
+      → ((fleet : List Printer) (base : List ℕ) → HasExecuted fleet base old.lexer old.machines old.counts →
+      HasExecuted fleet (base ++ piece) new.lexer new.machines new.counts)
       → ChecksOn first (bytes ++ piece) new
   checks_more piece is total_is open_input wanted more = record {
     is_open = is;
@@ -51,12 +57,15 @@ module _ (first old new : SessionState) (bytes : List ℕ) (goes : ChecksOn firs
         let before = opened old fleet (base ++ bytes) goes.is_open (goes.checked fleet base h) in
         let same : (base ++ bytes) ++ piece ≡ base ++ (bytes ++ piece) = append_assoc base bytes piece in
         subst (λ l. HasChecked fleet l new) same
-        (subst (λ s. ChecksTo s fleet ((base ++ bytes) ++ piece) new) (sym is) (more fleet (base ++ bytes) before.0, omega (arith, total_is, before.1, length-append (base ++ bytes) piece)));
+        (subst (λ s. ChecksTo s fleet ((base ++ bytes) ++ piece) new) (sym is)
+            (more fleet (base ++ bytes) before.0, omega (arith, total_is, before.1, length-append (base ++ bytes) piece)));
   }
 
   -- or the job fails, whatever follows
-  pub judged_by_piece : FailsSay → (piece : List ℕ) (failure : Failure) (verdict : Verdict) → verdict ≡ failing failure → new.standing ≡ Judged verdict
-      → ((fleet : List Printer) (base : List ℕ) → HasExecuted fleet base old.lexer old.machines old.counts → (job : List ℕ) → MayBe false (base ++ piece) job → IsExact fleet job (failing failure) × IsTold job (failing failure) new.culprit)
+  pub judged_by_piece : FailsSay → (piece : List ℕ) (failure : Failure) (verdict : Verdict) → verdict ≡ failing failure →
+      new.standing ≡ Judged verdict
+      → ((fleet : List Printer) (base : List ℕ) → HasExecuted fleet base old.lexer old.machines old.counts → (job : List ℕ) →
+      MayBe false (base ++ piece) job → IsExact fleet job (failing failure) × IsTold job (failing failure) new.culprit)
       → (pieces : List (List ℕ)) → Spell pieces (bytes ++ piece) → IsJudged first verdict pieces new
   judged_by_piece says piece failure verdict is standing_is fails pieces spelled = record {
     standing_is = standing_is;
@@ -67,12 +76,14 @@ module _ (first old new : SessionState) (bytes : List ℕ) (goes : ChecksOn firs
         ap (λ l. base ++ l) split.1
         ∙ (sym (append_assoc base (bytes ++ piece) split.0)
         ∙ ap (λ l. l ++ split.0) (sym (append_assoc base bytes piece))) in
-        right_failing says fleet (base ++ rest) failure verdict new.culprit is (fails fleet (base ++ bytes) before.0 (base ++ rest) (split.0, job_is, λ e. let both : false ≡ true = e in absurd cc));
+        right_failing says fleet (base ++ rest) failure verdict new.culprit is
+            (fails fleet (base ++ bytes) before.0 (base ++ rest) (split.0, job_is, λ e. let both : false ≡ true = e in absurd cc));
   }
 
   -- the end came
   pub judged_at_end : (verdict : Verdict) → new.standing ≡ Judged verdict
-      → ((fleet : List Printer) (base : List ℕ) → HasExecuted fleet base old.lexer old.machines old.counts → old.total ≡ length base → IsRight fleet base verdict new.culprit)
+      → ((fleet : List Printer) (base : List ℕ) → HasExecuted fleet base old.lexer old.machines old.counts → old.total ≡ length base →
+      IsRight fleet base verdict new.culprit)
       → (pieces : List (List ℕ)) → Spell pieces bytes → IsJudged first verdict (pieces ++ [] ∷ []) new
   judged_at_end verdict standing_is finishes pieces spelled = record {
     standing_is = standing_is;
@@ -89,28 +100,36 @@ module _ (first old new : SessionState) (bytes : List ℕ) (goes : ChecksOn firs
 pub part_is : (rest : List ℕ) (n : ℕ) → rest ≡ take n rest ++ take (length rest - n) (drop n rest)
 part_is rest n = sym (take-append-drop n rest) ∙ ap (λ l. take n rest ++ l) (sym (take_rest rest n))
 
-pub part_split : (front rest piece : List ℕ) (n : ℕ) → piece ≡ front ++ rest → piece ≡ (front ++ take n rest) ++ take (length rest - n) (drop n rest)
-part_split front rest piece n e = e ∙ (ap (λ l. front ++ l) (part_is rest n) ∙ sym (append_assoc front (take n rest) (take (length rest - n) (drop n rest))))
+pub part_split : (front rest piece : List ℕ) (n : ℕ) → piece ≡ front ++ rest →
+    piece ≡ (front ++ take n rest) ++ take (length rest - n) (drop n rest)
+part_split front rest piece n e =
+    e ∙ (ap (λ l. front ++ l) (part_is rest n) ∙ sym (append_assoc front (take n rest) (take (length rest - n) (drop n rest))))
 
-module _ (first now : SessionState) (bytes part : List ℕ) (came : Option Verdict) (h : ComesByPiece ChecksOn IsJudged IsOutOfMemory first bytes part now (Ok came)) where
+module _ (first now : SessionState) (bytes part : List ℕ) (came : Option Verdict)
+    (h : ComesByPiece ChecksOn IsJudged IsOutOfMemory first bytes part now (Ok came)) where
   pub part_checked : came ≡ None → ChecksOn first (bytes ++ part) now
   part_checked is = subst (λ o. ComesByPiece ChecksOn IsJudged IsOutOfMemory first bytes part now (Ok o)) is h
 
-  pub part_judged : (verdict : Verdict) → came ≡ Some verdict → (pieces : List (List ℕ)) → Spell pieces (bytes ++ part) → IsJudged first verdict pieces now
+  pub part_judged : (verdict : Verdict) → came ≡ Some verdict → (pieces : List (List ℕ)) → Spell pieces (bytes ++ part) →
+      IsJudged first verdict pieces now
   part_judged verdict is = subst (λ o. ComesByPiece ChecksOn IsJudged IsOutOfMemory first bytes part now (Ok o)) is h
 
 -- a session that is stopped answers the error that stopped it
-pub stopped_by : (error : Error) (standing : Standing) → error ≡ Memory → standing ≡ Stopped Memory → (e : Error) → let refused : Result Unit Error = Err error in let other : Result Unit Error = Err e in (refused ≡ other) ↔ (standing ≡ Stopped e)
+pub stopped_by : (error : Error) (standing : Standing) → error ≡ Memory → standing ≡ Stopped Memory → (e : Error) →
+    let refused : Result Unit Error =
+    Err error in let other : Result Unit Error = Err e in (refused ≡ other) ↔ (standing ≡ Stopped e)
 stopped_by error standing is stands e = (λ same. cc, λ same. cc)
 
-pub not_turns : (error : Error) → error ≡ Memory → let refused : Result Unit Error = Err error in let turns : Result Unit Error = Err Turns in refused ≡ turns → ⊥
+pub not_turns : (error : Error) → error ≡ Memory → let refused : Result Unit Error =
+    Err error in let turns : Result Unit Error = Err Turns in refused ≡ turns → ⊥
 not_turns error is same = absurd cc
 
 -- ---- what a session says
 
 module _ (first now : SessionState) (fleet : List Printer) (base : List ℕ) (h : HasChecked fleet base first) where
   -- the part of a piece behind this front came to the verdict, whatever the rest of the piece is
-  pub judged_in_part : (mid : SessionState) (front part later piece : List ℕ) (verdict : Verdict) → ChecksOn first front mid → piece ≡ front ++ (part ++ later) → 1 ≤ length part
+  pub judged_in_part : (mid : SessionState) (front part later piece : List ℕ) (verdict : Verdict) → ChecksOn first front mid →
+      piece ≡ front ++ (part ++ later) → 1 ≤ length part
       → ((pieces : List (List ℕ)) → Spell pieces ([] ++ part) → IsJudged mid verdict pieces now) → HasChecked fleet (base ++ piece) now
   judged_in_part mid front part later piece verdict goes piece_is some judged =
       let spelled : Spell (part ∷ []) part = spell_more [] [] part (omega (arith, some)) spell_none in
@@ -127,7 +146,8 @@ module _ (first now : SessionState) (fleet : List Printer) (base : List ℕ) (h 
       (is.right fleet (base ++ front) (goes.checked fleet base h) (part ++ more) (spelled.led [] more tt)))
 
   -- the end came behind no further piece
-  pub judged_now : (verdict : Verdict) → ((pieces : List (List ℕ)) → Spell pieces [] → IsJudged first verdict (pieces ++ [] ∷ []) now) → IsRight fleet base verdict now.culprit
+  pub judged_now : (verdict : Verdict) → ((pieces : List (List ℕ)) → Spell pieces [] → IsJudged first verdict (pieces ++ [] ∷ []) now) →
+      IsRight fleet base verdict now.culprit
   judged_now verdict judged =
       subst (λ l. IsRight fleet l verdict now.culprit) (append-nil base) ((judged [] spell_none).right fleet base h [] refl)
 
@@ -136,10 +156,12 @@ module _ (first now : SessionState) (fleet : List Printer) (base : List ℕ) (h 
   judged_before verdict is = subst (λ s. ChecksTo s fleet base first) is h base ([], sym (append-nil base), λ e. refl)
 
 -- a part that came to the verdict
-pub judged_standing : (mid now : SessionState) (part : List ℕ) (verdict : Verdict) → 1 ≤ length part → ((pieces : List (List ℕ)) → Spell pieces ([] ++ part) → IsJudged mid verdict pieces now) → now.standing ≡ Judged verdict
+pub judged_standing : (mid now : SessionState) (part : List ℕ) (verdict : Verdict) → 1 ≤ length part →
+    ((pieces : List (List ℕ)) → Spell pieces ([] ++ part) → IsJudged mid verdict pieces now) → now.standing ≡ Judged verdict
 judged_standing mid now part verdict some judged = (judged (part ∷ []) (spell_more [] [] part (omega (arith, some)) spell_none)).standing_is
 
-pub judged_not_stopped : (standing : Standing) (verdict : Verdict) → standing ≡ Judged verdict → (e : Error) → let fed : Result Unit Error = Ok record {} in let other : Result Unit Error = Err e in (fed ≡ other) ↔ (standing ≡ Stopped e)
+pub judged_not_stopped : (standing : Standing) (verdict : Verdict) → standing ≡ Judged verdict → (e : Error) → let fed : Result Unit Error =
+    Ok record {} in let other : Result Unit Error = Err e in (fed ≡ other) ↔ (standing ≡ Stopped e)
 judged_not_stopped standing verdict is e = (λ same. absurd cc, λ same. absurd cc)
 
 pub judged_not_open : (standing : Standing) (verdict : Verdict) → standing ≡ Judged verdict → standing ≡ Open → ⊥
@@ -149,25 +171,31 @@ pub stopped_not_open : (standing : Standing) (error : Error) → standing ≡ St
 stopped_not_open standing error is open_is = absurd cc
 
 -- what the end came to, for a session that was open
-pub end_right : (first now : SessionState) (result : Result Verdict Error) → ComesByEnd IsJudged IsOutOfMemory first [] now result → IfOk result (λ verdict. (fleet : List Printer) (bytes : List ℕ) → HasChecked fleet bytes first → IsRight fleet bytes verdict now.culprit)
+pub end_right : (first now : SessionState) (result : Result Verdict Error) → ComesByEnd IsJudged IsOutOfMemory first [] now result →
+    IfOk result
+    (λ verdict. (fleet : List Printer) (bytes : List ℕ) → HasChecked fleet bytes first → IsRight fleet bytes verdict now.culprit)
 end_right first now (Ok verdict) h = λ fleet bytes checked. judged_now first now fleet bytes checked verdict h
 end_right first now (Err error) h = tt
 
-pub end_error : (first now : SessionState) (result : Result Verdict Error) → ComesByEnd IsJudged IsOutOfMemory first [] now result → IfErr result (λ error. error ≡ Memory)
+pub end_error : (first now : SessionState) (result : Result Verdict Error) → ComesByEnd IsJudged IsOutOfMemory first [] now result →
+    IfErr result (λ error. error ≡ Memory)
 end_error first now (Ok verdict) h = tt
 end_error first now (Err error) h = h.0.0
 
 -- once the verdict is known, a piece changes nothing
-pub still_judged : (session : SessionState) (piece : List ℕ) (verdict : Verdict) → session.standing ≡ Judged verdict → (fleet : List Printer) (bytes : List ℕ) → HasChecked fleet bytes session → HasChecked fleet (bytes ++ piece) session
+pub still_judged : (session : SessionState) (piece : List ℕ) (verdict : Verdict) → session.standing ≡ Judged verdict →
+    (fleet : List Printer) (bytes : List ℕ) → HasChecked fleet bytes session → HasChecked fleet (bytes ++ piece) session
 still_judged session piece verdict is fleet bytes h =
     let known = subst (λ s. ChecksTo s fleet bytes session) is h in
     subst (λ s. ChecksTo s fleet (bytes ++ piece) session) (sym is)
     (λ job may. known job (piece ++ may.0, may.1 ∙ append_assoc bytes piece may.0, λ e. absurd cc))
 
 -- a session that was begun
-pub session_begun : (session : SessionState) (fleet : List Printer) → session.standing ≡ Open → session.total ≡ 0 → HasExecuted fleet [] session.lexer session.machines session.counts → HasChecked fleet [] session
+pub session_begun : (session : SessionState) (fleet : List Printer) → session.standing ≡ Open → session.total ≡ 0 →
+    HasExecuted fleet [] session.lexer session.machines session.counts → HasChecked fleet [] session
 session_begun session fleet is none executed = subst (λ s. ChecksTo s fleet [] session) (sym is) (executed, none)
 
 -- the error that a session stopped with is want of memory
-pub out_of_memory : (standing : Standing) (error : Error) → standing ≡ Stopped error → error ≡ Memory → ((error ≡ Memory) × (standing ≡ Stopped Memory)) × IsErrorOfPiece error
+pub out_of_memory : (standing : Standing) (error : Error) → standing ≡ Stopped error → error ≡ Memory →
+    ((error ≡ Memory) × (standing ≡ Stopped Memory)) × IsErrorOfPiece error
 out_of_memory standing error is memory = ((memory, is ∙ ap Stopped memory), subst IsErrorOfPiece (sym memory) tt)

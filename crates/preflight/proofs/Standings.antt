@@ -29,13 +29,15 @@ module _ (P : Option Failure → Type 0) where
   where_open (Stopped error) is h = absurd cc
 
 -- what follows with no failure, and with each, follows however it stands
-pub stands_on : (P Q : Option Failure → Type 0) (standing : Standing) → ((failed : Option Failure) → P failed → Q failed) → StandsBy standing P → StandsBy standing Q
+pub stands_on : (P Q : Option Failure → Type 0) (standing : Standing) → ((failed : Option Failure) → P failed → Q failed) →
+    StandsBy standing P → StandsBy standing Q
 stands_on P Q Open on h = on None h
 stands_on P Q (Judged verdict) on h = (h.0, h.1, on (Some h.0) h.2)
 stands_on P Q (Stopped error) on h = h
 
 -- so does what follows with no failure, and with each where it stands open no more
-pub stands_apart : (P Q : Option Failure → Type 0) (standing : Standing) → (P None → Q None) → ((failure : Failure) → is_open standing ≡ false → P (Some failure) → Q (Some failure)) → StandsBy standing P → StandsBy standing Q
+pub stands_apart : (P Q : Option Failure → Type 0) (standing : Standing) → (P None → Q None) →
+    ((failure : Failure) → is_open standing ≡ false → P (Some failure) → Q (Some failure)) → StandsBy standing P → StandsBy standing Q
 stands_apart P Q Open on fails h = on h
 stands_apart P Q (Judged verdict) on fails h = (h.0, h.1, fails h.0 refl h.2)
 stands_apart P Q (Stopped error) on fails h = h
@@ -47,20 +49,24 @@ open_is (Judged verdict) is = absurd cc
 open_is (Stopped error) is = absurd cc
 
 -- what follows with each failure follows where it stands open no more
-pub closed_on : (P Q : Option Failure → Type 0) (standing : Standing) → is_open standing ≡ false → ((failure : Failure) → P (Some failure) → Q (Some failure)) → StandsBy standing P → StandsBy standing Q
+pub closed_on : (P Q : Option Failure → Type 0) (standing : Standing) → is_open standing ≡ false →
+    ((failure : Failure) → P (Some failure) → Q (Some failure)) → StandsBy standing P → StandsBy standing Q
 closed_on P Q Open is on h = absurd cc
 closed_on P Q (Judged verdict) is on h = (h.0, h.1, on h.0 h.2)
 closed_on P Q (Stopped error) is on h = h
 
 -- what follows of the verdict of each failure holds where it stands open no more
-pub ends_by : (P : Option Failure → Type 0) (Q : Verdict → Type 0) (standing : Standing) → is_open standing ≡ false → ((failure : Failure) (verdict : Verdict) → verdict ≡ failing failure → P (Some failure) → Q verdict) → StandsBy standing P → Ends standing Q
+pub ends_by : (P : Option Failure → Type 0) (Q : Verdict → Type 0) (standing : Standing) → is_open standing ≡ false →
+    ((failure : Failure) (verdict : Verdict) → verdict ≡ failing failure → P (Some failure) → Q verdict) → StandsBy standing P →
+    Ends standing Q
 ends_by P Q Open is on h = absurd cc
 ends_by P Q (Judged verdict) is on h = on h.0 verdict h.1 h.2
 ends_by P Q (Stopped error) is on h = h
 
 module _ (standing : Standing) where
   -- what holds of the verdict that is known
-  pub judged_stands : (P : Option Failure → Type 0) (verdict : Verdict) → standing ≡ Judged verdict → StandsBy standing P → (failure : Failure) × (verdict ≡ failing failure) × P (Some failure)
+  pub judged_stands : (P : Option Failure → Type 0) (verdict : Verdict) → standing ≡ Judged verdict → StandsBy standing P →
+      (failure : Failure) × (verdict ≡ failing failure) × P (Some failure)
   judged_stands P verdict is h = subst (λ s. StandsBy s P) is h
 
   pub judged_ends : (Q : Verdict → Type 0) (verdict : Verdict) → standing ≡ Judged verdict → Ends standing Q → Q verdict

@@ -1,5 +1,5 @@
--- What the check's loop carries from one item to the next, and what its parts promise one another. A reader of the verdict needs
--- none of it.
+-- What the check's loop carries from one item to the next, and what its parts promise one another.
+-- A reader of the verdict needs none of it.
 pub mod Each
 pub mod Lockstep
 pub mod Formation

@@ -17,7 +17,8 @@ use Rattle.preflight.specs.Verdict.{IsExact, KeepsPromise}
 abbrev pub IsCulprit : Culprit → Entry → Type 0
 IsCulprit (culprits.Text code) entry = entry ≡ entries.Text code
 IsCulprit (culprits.Simple item) entry = entry ≡ simple_view item
-IsCulprit (culprits.WithData command count) entry = (bytes : List ℕ) × (entry ≡ entries.WithData command bytes) × (length bytes ≡ count)
+IsCulprit (culprits.WithData command count) entry =
+    (bytes : List ℕ) × (entry ≡ entries.WithData command bytes) × (length bytes ≡ count)
 IsCulprit culprits.Line entry = (line : PjlCommand) × (entry ≡ entries.PjlLine line)
 
 -- there is one, and the item is this
@@ -27,10 +28,13 @@ Names None entry = ⊥
 
 -- what stands at a place in the job's one reading: this item, or none where it is the end of the job
 abbrev pub StandsAt : List ℕ → ℕ → Option Culprit → Type 0
-StandsAt job place (Some culprit) = (reading : Reading) × IsReading job reading × (entry : Entry) × Contains (items_of reading) (at place entry) × IsCulprit culprit entry
+StandsAt job place (Some culprit) =
+    (reading : Reading) × IsReading job reading × (entry : Entry) × Contains (items_of reading) (at place entry)
+    × IsCulprit culprit entry
 StandsAt job place None = place ≡ length job
 
--- what is told with a verdict on a job: what stands at the place of a finding or a difference; no check answers Unpinnable
+-- what is told with a verdict on a job:
+-- what stands at the place of a finding or a difference; no check answers Unpinnable
 abbrev pub IsTold : List ℕ → Verdict → Option Culprit → Type 0
 IsTold job (Pass pages marks) culprit = culprit ≡ None
 IsTold job (Fail place number (Fault cause)) culprit = culprit ≡ None
@@ -40,4 +44,5 @@ IsTold job (Fail place number Unpinnable) culprit = ⊥
 
 -- all that a check says of its verdict, and what is told with it
 abbrev pub IsRight : List Printer → List ℕ → Verdict → Option Culprit → Type 0
-IsRight fleet job verdict culprit = IsExact fleet job verdict × KeepsPromise fleet job verdict × IsTold job verdict culprit
+IsRight fleet job verdict culprit =
+    IsExact fleet job verdict × KeepsPromise fleet job verdict × IsTold job verdict culprit

@@ -4,7 +4,8 @@ use Rattle.std.specs.List.{Contains}
 use Rattle.pcl_items.specs.Items.{Placed}
 use Rattle.pcl_lexer.specs.Reading.{Reading, Stopped}
 use Rattle.device_profile.specs.declared.field.Field.{Field}
-use Rattle.device_profile.specs.declared.field.Field.TheVariants.{Size, Orientation, Vmi, Font, Copies, Sides, Tray, LineTerm}
+use Rattle.device_profile.specs.declared.field.Field.TheVariants.{Size, Orientation, Vmi, Font, Copies, Sides, Tray}
+use Rattle.device_profile.specs.declared.field.Field.TheVariants.{LineTerm}
 use Rattle.device_profile.specs.declared.panel.Panel.{Panel}
 use Rattle.device_profile.specs.Printer.{Printer, IsAllowed, is_valid}
 use Rattle.page_env.specs.declared.finding.Finding.{Finding}
@@ -48,7 +49,8 @@ BothGoOn before printer panel reading =
 -- nor in the next one, which stands at this place
 abbrev pub BothGoThrough : ℕ → ℕ → Printer → Panel → Reading → Type 0
 BothGoThrough before place printer panel reading =
-    GoesThrough before place (plain_run printer panel reading).items × GoesThrough before place (watched_run printer panel reading).items
+    GoesThrough before place (plain_run printer panel reading).items
+    × GoesThrough before place (watched_run printer panel reading).items
 
 -- the events of the item that stands behind so many others
 abbrev pub events_behind : ℕ → List ItemRun → List Event
@@ -83,36 +85,40 @@ pub record IsChosen (printer : Printer) (field : Field) : Type 0 where
   pub other_allowed : IsAllowed printer (with_value field value panel)
   pub differ : with_value field value panel ≢ panel
 
--- From every panel that the profile allows, the plain run comes without a finding to a step of this item that reads the field, which
--- no item has set since it was last at its user default; and the panel of a valid profile chooses it.
+-- From every panel that the profile allows, the plain run comes without a finding to a step of this item that reads the
+-- field, which no item has set since it was last at its user default; and the panel of a valid profile chooses it.
 pub record SaysUnset (printer : Printer) (reading : Reading) (before place : ℕ) (field : Field) : Type 0 where
   pub reads : (panel : Panel) → IsAllowed printer panel → ComesToRead printer panel reading before place field
   pub chosen : IsTrue (is_valid printer) → IsChosen printer field
 
 -- ---- a finding
 
--- On every printer of the fleet, from every panel that its profile allows, both runs go through so many items, with the same events,
--- and on those of lower numbers through the next one, too. There, at this place, the watched run of the printer of this number finds
--- this; and so does the plain run, unless it is Unset.
+-- On every printer of the fleet, from every panel that its profile allows, both runs go through so many items, with the
+-- same events, and on those of lower numbers through the next one, too. There, at this place, the watched run of the
+-- printer of this number finds this; and so does the plain run, unless it is Unset.
 pub record SaysFound (fleet : List Printer) (reading : Reading) (place number : ℕ) (finding : Finding) : Type 0 where
   pub printer : Printer
   pub is_numbered : IsNumbered fleet number printer
   pub before : ℕ
-  pub comes : (each : Printer) → Contains fleet each → (panel : Panel) → IsAllowed each panel → BothGoOn before each panel reading
+  pub comes : (each : Printer) → Contains fleet each → (panel : Panel) → IsAllowed each panel →
+      BothGoOn before each panel reading
   pub shared : List (List Event)
   pub alike : (each : Printer) → Contains fleet each → (panel : Panel) → IsAllowed each panel →
       events_before before (plain_run each panel reading).items ≡ shared
-  pub lower : (each : Printer) (lower : ℕ) → IsNumbered fleet lower each → lower < number → (panel : Panel) → IsAllowed each panel →
+  pub lower : (each : Printer) (lower : ℕ) → IsNumbered fleet lower each → lower < number → (panel : Panel) →
+      IsAllowed each panel →
       BothGoThrough before place each panel reading
-  pub watched : (panel : Panel) → IsAllowed printer panel → FindsBehind before place finding (watched_run printer panel reading).items
-  pub plain : IsNotUnset finding → (panel : Panel) → IsAllowed printer panel → FindsBehind before place finding (plain_run printer panel reading).items
+  pub watched : (panel : Panel) → IsAllowed printer panel →
+      FindsBehind before place finding (watched_run printer panel reading).items
+  pub plain : IsNotUnset finding → (panel : Panel) → IsAllowed printer panel →
+      FindsBehind before place finding (plain_run printer panel reading).items
   pub unset : (field : Field) → finding ≡ Unset field → SaysUnset printer reading before place field
 
 -- ---- a difference
 
--- A printer differs at an item: on every printer of the fleet, from every panel that its profile allows, both runs go through it, and
--- give the same events at each item before; there those of lower numbers, the first among them, give the same events, and the
--- printer of this number gives others.
+-- A printer differs at an item: on every printer of the fleet, from every panel that its profile allows, both runs go
+-- through it, and give the same events at each item before; there those of lower numbers, the first among them, give
+-- the same events, and the printer of this number gives others.
 pub record SaysDiffers (fleet : List Printer) (reading : Reading) (place number : ℕ) : Type 0 where
   pub before : ℕ
   pub printer : Printer
@@ -124,25 +130,29 @@ pub record SaysDiffers (fleet : List Printer) (reading : Reading) (place number 
   pub alike : (each : Printer) → Contains fleet each → (panel : Panel) → IsAllowed each panel →
       events_before before (plain_run each panel reading).items ≡ shared
   pub events : List Event
-  pub lower : (each : Printer) (lower : ℕ) → IsNumbered fleet lower each → lower < number → (panel : Panel) → IsAllowed each panel →
+  pub lower : (each : Printer) (lower : ℕ) → IsNumbered fleet lower each → lower < number → (panel : Panel) →
+      IsAllowed each panel →
       events_behind before (plain_run each panel reading).items ≡ events
-  pub other : (panel : Panel) → IsAllowed printer panel → events_behind before (plain_run printer panel reading).items ≢ events
+  pub other : (panel : Panel) → IsAllowed printer panel →
+      events_behind before (plain_run printer panel reading).items ≢ events
 
 -- ---- a fault of the bytes
 
--- on every printer of the fleet, from every panel that its profile allows, both runs find nothing, and the plain one gives these events
--- item by item
+-- on every printer of the fleet, from every panel that its profile allows, both runs find nothing, and the plain one
+-- gives these events item by item
 abbrev pub FindsNothing : List Printer → Reading → List (List Event) → Type 0
 FindsNothing fleet reading events =
     (printer : Printer) → Contains fleet printer → (panel : Panel) → IsAllowed printer panel →
-    (finding_of (plain_run printer panel reading).items ≡ None) × (finding_of (watched_run printer panel reading).items ≡ None)
+    (finding_of (plain_run printer panel reading).items ≡ None)
+    × (finding_of (watched_run printer panel reading).items ≡ None)
     × (events_by_item (plain_run printer panel reading).items ≡ events)
 
--- What a Fail says: of a finding; of a fault of the bytes, which comes behind items in which no run of the fleet finds anything and
--- which print alike; and of a difference. No check answers Unpinnable.
+-- What a Fail says: of a finding; of a fault of the bytes, which comes behind items in which no run of the fleet finds
+-- anything and which print alike; and of a difference. No check answers Unpinnable.
 abbrev pub FailSays : List Printer → Reading → (place number : ℕ) → Reason → Type 0
 FailSays fleet reading place number (FindingOfRun finding) = SaysFound fleet reading place number finding
 FailSays fleet reading place number (Fault cause) =
-    (number ≡ 0) × ((items : List Placed) × (reading ≡ Stopped items place cause)) × ((events : List (List Event)) × FindsNothing fleet reading events)
+    (number ≡ 0) × ((items : List Placed) × (reading ≡ Stopped items place cause))
+    × ((events : List (List Event)) × FindsNothing fleet reading events)
 FailSays fleet reading place number Differs = SaysDiffers fleet reading place number
 FailSays fleet reading place number Unpinnable = ⊥

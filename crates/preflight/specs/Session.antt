@@ -15,7 +15,8 @@ use Rattle.preflight.specs.declared.culprit.Culprit.{Culprit}
 use Rattle.preflight.specs.Culprit.{IsRight}
 use Rattle.preflight.specs.Carriers.Checking.{HasExecuted}
 
--- the lexer and the machines with their counts, how many bytes were fed, how far it has come, and the item that the job fails at
+-- the lexer and the machines with their counts, how many bytes were fed, how far it has come, and the item
+-- that the job fails at
 pub record SessionState : Type 0 where
   pub lexer : LexerState
   pub machines : List MachineState
@@ -24,11 +25,13 @@ pub record SessionState : Type 0 where
   pub standing : Standing
   pub culprit : Option Culprit
 
--- What the bytes so far came to: the items that were read of them were executed on each printer, alike and without a finding; or
--- this is the verdict on every job that begins with them, and the item that it fails at.
+-- What the bytes so far came to: the items that were read of them were executed on each printer, alike and without a
+-- finding; or this is the verdict on every job that begins with them, and the item that it fails at.
 abbrev pub ChecksTo : Standing → List Printer → List ℕ → SessionState → Type 0
-ChecksTo Open fleet bytes session = HasExecuted fleet bytes session.lexer session.machines session.counts × (session.total ≡ length bytes)
-ChecksTo (Judged verdict) fleet bytes session = (job : List ℕ) → MayBe false bytes job → IsRight fleet job verdict session.culprit
+ChecksTo Open fleet bytes session =
+    HasExecuted fleet bytes session.lexer session.machines session.counts × (session.total ≡ length bytes)
+ChecksTo (Judged verdict) fleet bytes session =
+    (job : List ℕ) → MayBe false bytes job → IsRight fleet job verdict session.culprit
 ChecksTo (Stopped error) fleet bytes session = Unit {0}
 
 -- the session was fed these bytes, for a check by this fleet
@@ -47,12 +50,15 @@ pub record ChecksOn (first : SessionState) (bytes : List ℕ) (now : SessionStat
   pub total_is : now.total ≡ first.total + length bytes
   pub open_input : now.lexer.ended ≡ false
   pub wants_more : WantsMore now.lexer
-  pub checked : (fleet : List Printer) (base : List ℕ) → HasChecked fleet base first → HasChecked fleet (base ++ bytes) now
+  pub checked : (fleet : List Printer) (base : List ℕ) → HasChecked fleet base first →
+      HasChecked fleet (base ++ bytes) now
 
 -- From the one to the other, with the verdict on every job that may be by these pieces, and the item that it fails at.
-pub record IsJudged (first : SessionState) (verdict : Verdict) (pieces : List (List ℕ)) (now : SessionState) : Type 0 where
+pub record IsJudged (first : SessionState) (verdict : Verdict) (pieces : List (List ℕ))
+    (now : SessionState) : Type 0 where
   pub standing_is : now.standing ≡ Judged verdict
-  pub right : (fleet : List Printer) (base : List ℕ) → HasChecked fleet base first → (rest : List ℕ) → MayBeBy pieces rest →
+  pub right : (fleet : List Printer) (base : List ℕ) → HasChecked fleet base first → (rest : List ℕ) →
+      MayBeBy pieces rest →
       IsRight fleet (base ++ rest) verdict now.culprit
 
 -- memory was refused, which the session answers from then on

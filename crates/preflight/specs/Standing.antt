@@ -17,7 +17,8 @@ is_open Open = true
 is_open (Judged verdict) = false
 is_open (Stopped error) = false
 
--- It stands open, and this holds with no failure; or the verdict is that of a failure with which it holds; or memory was refused.
+-- It stands open, and this holds with no failure;
+-- or the verdict is that of a failure with which it holds; or memory was refused.
 abbrev pub StandsBy : Standing → (Option Failure → Type 0) → Type 0
 StandsBy Open P = P None
 StandsBy (Judged verdict) P = (failure : Failure) × (verdict ≡ failing failure) × P (Some failure)
@@ -36,7 +37,8 @@ found_at place number finding = record { place = place; profile = number; reason
 -- how a check that was open stands, now that the machine of this number has answered for what stands at this place
 abbrev pub StandsAfter : {F : Type 0} → ℕ → ℕ → Result Unit (Stop F) → Standing → Type 0
 StandsAfter place number (Ok done) standing = standing ≡ Open
-StandsAfter place number (Err (stops.Found finding)) standing = standing ≡ Judged (failing (found_at place number finding))
+StandsAfter place number (Err (stops.Found finding)) standing =
+    standing ≡ Judged (failing (found_at place number finding))
 StandsAfter place number (Err (stops.Refused fault)) standing = standing ≡ Stopped Memory
 StandsAfter place number (Err (stops.Memory error)) standing = standing ≡ Stopped Memory
 StandsAfter place number (Err stops.Stopped) standing = ⊥

@@ -1,5 +1,6 @@
 //! A check of a job that is fed in pieces.
-ghost use Rattle.std.specs.Prelude.{◌≡◌, ◌++◌, ◌<◌, ◌≤◌, ◌+◌, ◌^◌, ◌↔◌, ◌≢◌, ◌⊎◌, ℕ, List, [], length, None, IfOk, IfErr, IsErrOf, Ok, Err, OnOk, false};
+ghost use Rattle.std.specs.Prelude.{◌≡◌, ◌++◌, ◌<◌, ◌≤◌, ◌+◌, ◌^◌, ◌↔◌, ◌≢◌, ◌⊎◌, ℕ, List, []};
+ghost use Rattle.std.specs.Prelude.{length, None, IfOk, IfErr, IsErrOf, Ok, Err, OnOk, false};
 ghost use Rattle.pcl_lexer.specs.Lexing.State.{WantsMore};
 ghost use Rattle.pcl_lexer.specs.Modes.{mode_of};
 ghost use Rattle.device_profile.specs.Printer.{Printer};

@@ -20,7 +20,8 @@ is_among papers paper = list_any (λ held. code_of held == code_of paper) papers
 -- a paper that the model can have and that did not come before
 abbrev pub held_paper : Model → List Paper → Paper → Result Paper PaperFault
 held_paper model before paper =
-    if not (is_among (facts_of model).papers paper) then Err NotHeld else (if is_among before paper then Err Repeated else Ok paper)
+    if not (is_among (facts_of model).papers paper) then Err NotHeld
+    else (if is_among before paper then Err Repeated else Ok paper)
 
 -- the paper of a word, behind others, or what is wrong with the word
 abbrev pub paper_asked : Model → List Paper → List ℕ → Result Paper PaperFault

@@ -14,12 +14,13 @@ use Rattle.printer_models.specs.Model.{facts_of}
 use Rattle.printer_models.specs.Page.{page_at}
 use Rattle.printer_models.specs.Panel.{panel_values}
 
--- The printer is that of the tables: the panel has these values, and whatever tray, page or face is looked up in it, by numbers that a
--- profile can have, the tables answer the same.
+-- The printer is that of the tables: the panel has these values, and whatever tray, page or face is looked up in it, by
+-- numbers that a profile can have, the tables answer the same.
 pub record IsPrinterOf (model : Model) (papers : List Paper) (lists : PanelLists) (printer : Printer) : Type 0 where
   pub values : (field : Field) → values_of printer field ≡ panel_values model papers lists field
   pub trays : (tray : ℕ) → tray < 256 → has_tray printer tray ≡ list_any (λ held. held == tray) (facts_of model).trays
-  pub pages : (size orientation : ℕ) → size < 1_000 → orientation < 4 → row_at printer.geometries size orientation ≡ page_at papers size orientation
+  pub pages : (size orientation : ℕ) → size < 1_000 → orientation < 4 →
+      row_at printer.geometries size orientation ≡ page_at papers size orientation
   pub faces : (id : ℕ) → id < 256 → face_at printer.faces id ≡ face_numbered (faces_of (facts_of model).generation) id
   pub duplex : printer.has_duplex ≡ (facts_of model).has_duplex
   pub depth : printer.depth ≡ 2

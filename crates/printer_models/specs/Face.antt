@@ -1,5 +1,6 @@
 -- The resident faces of a generation of printers.
-use Rattle.std.specs.Prelude.{ℕ, pos, ◌*◌, ◌-◌, ◌==◌, List, [], ◌∷◌, ◌++◌, map, Option, None, option_map, slice_get, if◌then◌else◌}
+use Rattle.std.specs.Prelude.{ℕ, pos, ◌*◌, ◌-◌, ◌==◌, List, [], ◌∷◌, ◌++◌, map, Option, None, option_map, slice_get}
+use Rattle.std.specs.Prelude.{if◌then◌else◌}
 use Rattle.device_profile.specs.declared.font.CodeRange.{CodeRange}
 use Rattle.device_profile.specs.declared.font.FontRequest.{FontRequest}
 use Rattle.device_profile.specs.declared.font.SymbolSet.{SymbolSet}
@@ -12,7 +13,8 @@ use Rattle.printer_models.specs.declared.face.Cut.TheVariants.{Ten, Twelve, Elit
 use Rattle.printer_models.specs.declared.face.FaceLook.{FaceLook}
 use Rattle.printer_models.specs.declared.face.FaceLook.TheVariants.{Medium, Bold, Italic}
 use Rattle.printer_models.specs.declared.face.Typeface.{Typeface}
-use Rattle.printer_models.specs.declared.face.Typeface.TheVariants.{Courier, BaseCourier, LinePrinter, LetterGothic, BaseLetterGothic}
+use Rattle.printer_models.specs.declared.face.Typeface.TheVariants.{Courier, BaseCourier, LinePrinter, LetterGothic}
+use Rattle.printer_models.specs.declared.face.Typeface.TheVariants.{BaseLetterGothic}
 use Rattle.printer_models.specs.declared.face.FaceRow.{FaceRow}
 use Rattle.printer_models.specs.declared.face.Metrics.{Metrics}
 use Rattle.printer_models.specs.declared.face.Generation.{Generation}
@@ -43,9 +45,9 @@ codes_in Latin1 = from_to 33 126 ∷ from_to 161 255 ∷ []
 codes_in Windows = from_to 33 126 ∷ from_to 130 140 ∷ from_to 145 156 ∷ from_to 159 159 ∷ from_to 161 255 ∷ []
 codes_in Ascii = from_to 33 126 ∷ []
 
--- Pitch, in characters an inch, and height, in points, both in ten-thousandths; then how far a character moves the cursor, and how far
--- it reaches above and below the baseline, in 7200ths of an inch. The first is 7200 through the pitch, the others are 3/4 and 1/4 of
--- the letters' size.
+-- Pitch, in characters an inch, and height, in points, both in ten-thousandths; then how far a character moves the
+-- cursor, and how far it reaches above and below the baseline, in 7200ths of an inch. The first is 7200 through the
+-- pitch, the others are 3/4 and 1/4 of the letters' size.
 abbrev pub metrics : ℕ → ℕ → ℕ → ℕ → ℕ → Metrics
 metrics pitch height advance ascent descent =
     record { pitch = pitch; height = height; advance = advance; ascent = ascent; descent = descent }

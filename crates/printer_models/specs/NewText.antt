@@ -19,8 +19,8 @@ abbrev pub error_of : AskedError → NewError
 error_of (Wrong fault) = Paper fault
 error_of NoMemory = Memory
 
--- there is no such model; that word is the first that is wrong; a text was made that is not that of the tables, or memory was wanted,
--- where there is such a model
+-- there is no such model; that word is the first that is wrong;
+-- a text was made that is not that of the tables, or memory was wanted, where there is such a model
 abbrev pub IsNewError : Option Model → List (List ℕ) → NewError → Type 0
 IsNewError model words UnknownModel = IsNone model
 IsNewError model words (Paper fault) = IsSomeAnd model (λ known. papers_asked known words ≡ Err fault)

@@ -8,8 +8,8 @@ use Rattle.printer_models.specs.declared.paper.Paper.{Paper}
 use Rattle.printer_models.specs.declared.paper.Sheet.{Sheet}
 use Rattle.printer_models.specs.Paper.{sheet_of, code_of, dots_of}
 
--- THE RULE. How far from the left edge of the paper the logical page begins, and as far from the right one it ends, in dots of 1/300
--- inch: 1/4 inch, or 6 mm on metric paper; in landscape 1/5 inch, or 5 mm.
+-- THE RULE. How far from the left edge of the paper the logical page begins, and as far from the right one it ends, in
+-- dots of 1/300 inch: 1/4 inch, or 6 mm on metric paper; in landscape 1/5 inch, or 5 mm.
 abbrev pub portrait_left : Measure → ℕ
 portrait_left Inch = 75
 portrait_left Metric = 71
@@ -22,9 +22,9 @@ landscape_left Metric = 59
 abbrev pub margin : ℕ
 margin = 50
 
--- A row of a profile's text for a page of so many dots: size and orientation; then, in 7200ths of an inch, which are 24 to a dot, the
--- page's width and height, the logical page's left, top, width and height, and the printable area's left, top, right and bottom. The
--- logical page is as high as the paper.
+-- A row of a profile's text for a page of so many dots: size and orientation; then, in 7200ths of an inch, which are 24
+-- to a dot, the page's width and height, the logical page's left, top, width and height, and the printable area's left,
+-- top, right and bottom. The logical page is as high as the paper.
 abbrev pub numbers_on : ℕ → ℕ → ℕ → ℕ → ℕ → List ℕ
 numbers_on code orientation width height left =
     code ∷ orientation
@@ -56,4 +56,5 @@ page_of paper orientation = row_of (page_numbers paper orientation)
 
 -- the page of a size and an orientation among these papers
 abbrev pub page_at : List Paper → ℕ → ℕ → Option Geometry
-page_at papers size orientation = option_map (λ paper. page_of paper orientation) (find (λ paper. code_of paper == size) papers)
+page_at papers size orientation =
+    option_map (λ paper. page_of paper orientation) (find (λ paper. code_of paper == size) papers)

@@ -57,7 +57,8 @@ word_of papers.B5 = codes "b5"
 
 abbrev pub every_paper : List Paper
 every_paper =
-    papers.Executive ∷ papers.Letter ∷ papers.Legal ∷ papers.Ledger ∷ papers.A6 ∷ papers.A5 ∷ papers.A4 ∷ papers.A3 ∷ papers.JisB5 ∷ papers.JisB4 ∷ papers.Monarch ∷ papers.Com10 ∷ papers.Dl ∷ papers.C5 ∷ papers.B5 ∷ []
+    papers.Executive ∷ papers.Letter ∷ papers.Legal ∷ papers.Ledger ∷ papers.A6 ∷ papers.A5 ∷ papers.A4 ∷ papers.A3
+    ∷ papers.JisB5 ∷ papers.JisB4 ∷ papers.Monarch ∷ papers.Com10 ∷ papers.Dl ∷ papers.C5 ∷ papers.B5 ∷ []
 
 -- whether a paper has this name, in any letter case
 unfoldable pub is_named : List ℕ → Paper → Bool

@@ -1,6 +1,7 @@
 //! The papers that a user asks for, by their names.
 ghost use Rattle.std.specs.Prelude.{◌≡◌, [], map, Ok, Err, MatchResult};
-ghost use Rattle.printer_models.specs.Asked.{held_paper, is_among, paper_asked, papers_asked, papers_from, IsWordFault};
+ghost use Rattle.printer_models.specs.Asked.{held_paper, is_among, paper_asked, papers_asked};
+ghost use Rattle.printer_models.specs.Asked.{papers_from, IsWordFault};
 
 use crate::model::Model;
 use crate::paper::Paper;

@@ -1,6 +1,10 @@
 //! The resident faces of a generation of printers.
 ghost use Rattle.std.specs.Prelude.{◌≡◌, ◌++◌, IfOk, OnOk};
-ghost use Rattle.printer_models.specs.Face.{codes_in, courier, courier_faces, faces_of, in_sets, metrics, metrics_of, oldest_sets, other_faces, panel_sets, request_of, set_of, style_of, symbol_set_of, text_sets, typeface_number, usual_courier_faces, usual_sets, weight_of};
+ghost use Rattle.printer_models.specs.Face.{codes_in, courier, courier_faces, faces_of, in_sets};
+ghost use Rattle.printer_models.specs.Face.{metrics, metrics_of, oldest_sets, other_faces};
+ghost use Rattle.printer_models.specs.Face.{panel_sets, request_of, set_of, style_of};
+ghost use Rattle.printer_models.specs.Face.{symbol_set_of, text_sets, typeface_number};
+ghost use Rattle.printer_models.specs.Face.{usual_courier_faces, usual_sets, weight_of};
 
 use device_profile::{CodeRange, FontRequest, SymbolSet};
 use std::alloc::{AllocError, Allocator};

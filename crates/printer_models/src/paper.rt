@@ -1,7 +1,8 @@
 //! The papers that a page may be of.
 ghost use Rattle.std.specs.Prelude.{◌≡◌, ◌≤◌, find, IsTrue};
 ghost use Rattle.printer_models.specs.Page.{portrait_left, landscape_left};
-ghost use Rattle.printer_models.specs.Paper.{code_of, dots_of, has_sides, inches, is_named, millimetres, paper_named, sheet_of, word_of};
+ghost use Rattle.printer_models.specs.Paper.{code_of, dots_of, has_sides, inches, is_named};
+ghost use Rattle.printer_models.specs.Paper.{millimetres, paper_named, sheet_of, word_of};
 
 /// A paper, by the name of its size.
 #[derive(Clone, Copy)]

@@ -1,5 +1,6 @@
 -- The name of a paper that is wrong, and what is told of it.
-use Rattle.std.proofs.Common.{◌≡◌, ◌<◌, ◌+◌, ℕ, suc, Bor, List, [], ◌∷◌, ◌++◌, Option, None, Some, Result, Ok, Err, get_or, length, length-append, map, ap, arith, subst, sym}
+use Rattle.std.proofs.Common.{◌≡◌, ◌<◌, ◌+◌, ℕ, suc, Bor, List, [], ◌∷◌, ◌++◌, Option, None, Some, Result, Ok, Err, get_or, length}
+use Rattle.std.proofs.Common.{length-append, map, ap, arith, subst, sym}
 use Rattle.std.proofs.lemmas.List.{get_or-map, length-map}
 use Rattle.printer_models.specs.declared.asked.PaperFault.{PaperFault}
 use Rattle.printer_models.specs.declared.asked.WordFault.{WordFault}
@@ -19,7 +20,8 @@ papers_behind model before names (Ok paper) = papers_from model (before ++ paper
 papers_behind model before names (Err fault) = Err (record { index = length before; fault = fault })
 
 one_of_more : (model : Model) (before : List Paper) (names : List (List ℕ)) (wrong : WordFault) (first : Result Paper PaperFault)
-    → ((paper : Paper) → papers_from model (before ++ paper ∷ []) names ≡ Err wrong → wrong.index < length (before ++ paper ∷ []) + length names)
+    → ((paper : Paper) → papers_from model (before ++ paper ∷ []) names ≡ Err wrong →
+    wrong.index < length (before ++ paper ∷ []) + length names)
     → papers_behind model before names first ≡ Err wrong → wrong.index < length before + suc (length names)
 one_of_more model before names wrong (Ok paper) more e =
     let within = more paper e in omega (arith, length-append before (paper ∷ []))
@@ -29,35 +31,44 @@ one_of_more model before names wrong (Err fault) more e =
     let place : length before ≡ wrong.index = ap (λ (found : WordFault). found.index) same in
     omega arith
 
-one_behind : (model : Model) (before : List Paper) (names : List (List ℕ)) (wrong : WordFault) → papers_from model before names ≡ Err wrong → wrong.index < length before + length names
+one_behind : (model : Model) (before : List Paper) (names : List (List ℕ)) (wrong : WordFault) →
+    papers_from model before names ≡ Err wrong → wrong.index < length before + length names
 one_behind model before [] wrong e = cc
 one_behind model before (name ∷ names) wrong e =
-    one_of_more model before names wrong (paper_asked model before name) (λ paper further. one_behind model (before ++ paper ∷ []) names wrong further) e
+    one_of_more model before names wrong (paper_asked model before name)
+    (λ paper further. one_behind model (before ++ paper ∷ []) names wrong further) e
 
 -- it is one of the names
-one_of_names : (model : Model) (names : List (List ℕ)) (wrong : WordFault) → papers_asked model names ≡ Err wrong → wrong.index < length names
+one_of_names : (model : Model) (names : List (List ℕ)) (wrong : WordFault) → papers_asked model names ≡ Err wrong →
+    wrong.index < length names
 one_of_names model [] wrong e = cc
 one_of_names model (name ∷ names) wrong e = let within = one_behind model [] (name ∷ names) wrong e in omega arith
 
-one_that_is_told : (model : Option Model) (names : List (List ℕ)) (wrong : WordFault) → IsNewError model names (WrongPaper wrong) → wrong.index < length names
+one_that_is_told : (model : Option Model) (names : List (List ℕ)) (wrong : WordFault) → IsNewError model names (WrongPaper wrong) →
+    wrong.index < length names
 one_that_is_told None names wrong told = absurd told
 one_that_is_told (Some model) names wrong told = one_of_names model names wrong told
 
-pub told_of_one : (model : Option Model) (papers : List (Bor (List ℕ))) (wrong : WordFault) (error : NewError) → error ≡ WrongPaper wrong → IsNewError model (map (λ name. name.now) papers) error
+pub told_of_one : (model : Option Model) (papers : List (Bor (List ℕ))) (wrong : WordFault) (error : NewError) → error ≡ WrongPaper wrong →
+    IsNewError model (map (λ name. name.now) papers) error
     → wrong.index < length papers
 told_of_one model papers wrong error is told =
     let names = map (λ (name : Bor (List ℕ)). name.now) papers in
     simp length-map at (one_that_is_told model names wrong (subst (IsNewError model names) is told))
 
 -- the line on a fault, by words that are the names
-pub line_told : (err err' : OutletState) (model model' paper paper' : List ℕ) (fault is : PaperFault) → fault ≡ is → model' ≡ model → paper' ≡ paper
+pub line_told : (err err' : OutletState) (model model' paper paper' : List ℕ) (fault is : PaperFault) → fault ≡ is → model' ≡ model →
+    paper' ≡ paper
     → Writes err err' (wrong_paper model' paper' is) → Writes err err' (wrong_paper model paper fault)
 line_told err err' model model' paper paper' fault is e of for told =
     subst (λ f. Writes err err' (wrong_paper model paper f)) (sym e)
     (subst (λ m. Writes err err' (wrong_paper m paper is)) of (subst (λ p. Writes err err' (wrong_paper model' p is)) for told))
 
 -- the name is the one at that place
-pub name_told : (err err' : OutletState) (model : List ℕ) (papers : List (Bor (List ℕ))) (wrong : WordFault) (other : Bor (List ℕ)) → wrong.index < length papers
-    → Writes err err' (wrong_paper model (get_or papers wrong.index other).now wrong.fault) → Writes err err' (wrong_paper model (get_or (map (λ name. name.now) papers) wrong.index []) wrong.fault)
+pub name_told : (err err' : OutletState) (model : List ℕ) (papers : List (Bor (List ℕ))) (wrong : WordFault) (other : Bor (List ℕ)) →
+    wrong.index < length papers
+    → Writes err err' (wrong_paper model (get_or papers wrong.index other).now wrong.fault)
+    → Writes err err' (wrong_paper model (get_or (map (λ name. name.now) papers) wrong.index []) wrong.fault)
 name_told err err' model papers wrong other within told =
-    subst (λ paper. Writes err err' (wrong_paper model paper wrong.fault)) (sym (get_or-map (λ (name : Bor (List ℕ)). name.now) papers wrong.index other [] within)) told
+    subst (λ paper. Writes err err' (wrong_paper model paper wrong.fault))
+    (sym (get_or-map (λ (name : Bor (List ℕ)). name.now) papers wrong.index other [] within)) told

@@ -1,7 +1,8 @@
 -- What the command `profile from-pjl` leaves.
 use Rattle.std.specs.Prelude.{◌≡◌, ◌⊎◌, ℕ, List, [], ◌++◌, map, codes, decimal, Option, Some, None, take, Bool}
 use Rattle.pjl_answer.specs.declared.answered.AnswerError.{AnswerError}
-use Rattle.pjl_answer.specs.declared.answered.AnswerError.TheVariants.{LongAnswer, NoAnswer, Base, LongText, Mismatch as OtherText, Memory as NoMemory}
+use Rattle.pjl_answer.specs.declared.answered.AnswerError.TheVariants.{LongAnswer, NoAnswer, Base, LongText}
+use Rattle.pjl_answer.specs.declared.answered.AnswerError.TheVariants.{Mismatch as OtherText, Memory as NoMemory}
 use Rattle.pjl_answer.specs.Answered.{IsAnswered, IsAnswerError}
 use Rattle.pjl_answer.specs.AskedPapers.{asked_papers}
 use Rattle.streams.specs.Writing.{Writes}
@@ -31,7 +32,8 @@ abbrev pub IsGenericFor : List ℕ → List ℕ → Type 0
 IsGenericFor answer base = DescribesAsked (model_named (codes "generic")) (map word_of (asked_papers answer)) Fixed base
 
 -- what the answer is put into: the text that was read under the word, or without one that of `generic`
-abbrev pub IsBase : (List ℕ → Option (List ℕ)) → Option (List ℕ) → List (List ℕ) → List (List ℕ) → List ℕ → List ℕ → Type 0
+abbrev pub IsBase : (List ℕ → Option (List ℕ)) → Option (List ℕ) → List (List ℕ) → List (List ℕ) → List ℕ → List ℕ →
+    Type 0
 IsBase text_of (Some word) old new answer base = IsRead (text_of word) old new base
 IsBase text_of None old new answer base = IsGenericFor answer base × (new ≡ old)
 
@@ -42,14 +44,17 @@ base_word None = codes "generic"
 
 -- the word of an answer, and its line at which stands what no printer answers
 abbrev pub odd_answer : List ℕ → ℕ → List ℕ
-odd_answer answer line = shown answer ++ codes ":" ++ decimal line ++ codes ": this is not a printer's answer to '@PJL INFO VARIABLES'\n"
+odd_answer answer line =
+    shown answer ++ codes ":" ++ decimal line ++ codes ": this is not a printer's answer to '@PJL INFO VARIABLES'\n"
 
 -- THE TABLE OF REFUSALS: what standard error is told of an answer, by its word, that is put into a text under a word
 abbrev pub refusal : List ℕ → List ℕ → List ℕ → AnswerError → List ℕ
-refusal answer word base LongAnswer = codes "error: '" ++ (shown answer ++ codes "' has more than 65536 bytes, which no answer has\n")
+refusal answer word base LongAnswer =
+    codes "error: '" ++ (shown answer ++ codes "' has more than 65536 bytes, which no answer has\n")
 refusal answer word base (NoAnswer line) = odd_answer answer line
 refusal answer word base (Base fault) = faults_text word base
-refusal answer word base LongText = codes "error: with the answer '" ++ (shown word ++ codes "' would have more than 65536 bytes\n")
+refusal answer word base LongText =
+    codes "error: with the answer '" ++ (shown word ++ codes "' would have more than 65536 bytes\n")
 refusal answer word base OtherText = mismatch_line
 refusal answer word base NoMemory = []
 
@@ -59,24 +64,33 @@ trouble_of OtherText = Mismatch
 trouble_of _ = Refused
 
 -- The text with what the answer tells is written, and its warnings are told; or it is refused, and nothing is written.
-abbrev pub LeavesWithAnswer : List ℕ → List ℕ → List ℕ → List ℕ → Status → OutletState → OutletState → OutletState → OutletState → Type 0
+abbrev pub LeavesWithAnswer : List ℕ → List ℕ → List ℕ → List ℕ → Status → OutletState → OutletState → OutletState →
+    OutletState → Type 0
 LeavesWithAnswer word base_named answer base status out out' err err' =
-    ((text : List ℕ) × (lines : List ℕ) × IsAnswered answer base text lines × WritesWhole text status out out' × Writes err err' lines)
-    ⊎ ((error : AnswerError) × IsAnswerError answer base error × TellsLine status (trouble_of error) (refusal word base_named base error) err err' × (out' ≡ out))
+    ((text : List ℕ) × (lines : List ℕ) × IsAnswered answer base text lines × WritesWhole text status out out'
+    × Writes err err' lines)
+    ⊎ ((error : AnswerError) × IsAnswerError answer base error
+    × TellsLine status (trouble_of error) (refusal word base_named base error) err err' × (out' ≡ out))
 
--- Why there is nothing to put an answer into: the text under the word cannot be read, or that of `generic` is not that of its tables.
-abbrev pub TellsNoBase : Option (List ℕ) → List (List ℕ) → List (List ℕ) → Bool → Status → OutletState → OutletState → Type 0
+-- Why there is nothing to put an answer into:
+-- the text under the word cannot be read, or that of `generic` is not that of its tables.
+abbrev pub TellsNoBase : Option (List ℕ) → List (List ℕ) → List (List ℕ) → Bool → Status → OutletState → OutletState →
+    Type 0
 TellsNoBase (Some word) old new failed status err err' = TellsNoText word old new failed status err err'
 TellsNoBase None old new failed status err err' = (new ≡ old) × TellsLine status Mismatch mismatch_line err err'
 
 -- what is left of an answer that was read
-abbrev pub LeavesOfAnswer : (List ℕ → Option (List ℕ)) → List ℕ → Option (List ℕ) → List (List ℕ) → List (List ℕ) → Bool → List ℕ → Status → OutletState → OutletState → OutletState → OutletState → Type 0
+abbrev pub LeavesOfAnswer : (List ℕ → Option (List ℕ)) → List ℕ → Option (List ℕ) → List (List ℕ) → List (List ℕ) →
+    Bool → List ℕ → Status → OutletState → OutletState → OutletState → OutletState → Type 0
 LeavesOfAnswer text_of word base_named old new failed answer status out out' err err' =
-    ((base : List ℕ) × IsBase text_of base_named old new answer base × LeavesWithAnswer word (base_word base_named) answer base status out out' err err')
+    ((base : List ℕ) × IsBase text_of base_named old new answer base
+    × LeavesWithAnswer word (base_word base_named) answer base status out out' err err')
     ⊎ (TellsNoBase base_named old new failed status err err' × (out' ≡ out))
 
 -- what is left of an answer, by the reads of its source; where these fail no profile is read
-abbrev pub LeavesAnswered : SourceState → SourceState → (List ℕ → Option (List ℕ)) → List ℕ → Option (List ℕ) → List (List ℕ) → List (List ℕ) → Bool → Status → OutletState → OutletState → OutletState → OutletState → Type 0
+abbrev pub LeavesAnswered : SourceState → SourceState → (List ℕ → Option (List ℕ)) → List ℕ → Option (List ℕ) →
+    List (List ℕ) → List (List ℕ) → Bool → Status → OutletState → OutletState → OutletState → OutletState → Type 0
 LeavesAnswered source source' text_of word base_named old new failed status out out' err err' =
-    ((answer : List ℕ) × IsAnswerBy source source' answer × LeavesOfAnswer text_of word base_named old new failed answer status out out' err err')
+    ((answer : List ℕ) × IsAnswerBy source source' answer
+    × LeavesOfAnswer text_of word base_named old new failed answer status out out' err err')
     ⊎ ((new ≡ old) × TellsFailedRead (codes "ERROR read answer ") word source'.failed status err err' × (out' ≡ out))

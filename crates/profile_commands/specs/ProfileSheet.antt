@@ -22,19 +22,22 @@ use Rattle.verdict.specs.declared.verdict.Verdict.TheVariants.{Pass, Fail}
 -- the job passes on this printer
 abbrev pub Passes : Printer → List ℕ → Type 0
 Passes printer job =
-    (pages : ℕ) × (marks : ℕ) × IsExact (printer ∷ []) job (Pass pages marks) × KeepsPromise (printer ∷ []) job (Pass pages marks)
+    (pages : ℕ) × (marks : ℕ) × IsExact (printer ∷ []) job (Pass pages marks)
+    × KeepsPromise (printer ∷ []) job (Pass pages marks)
 
 -- the job fails on it, by this verdict
 abbrev pub FailsBy : Printer → List ℕ → Verdict → Type 0
 FailsBy printer job verdict =
-    (place : ℕ) × (number : ℕ) × (reason : Reason) × (verdict ≡ Fail place number reason) × IsExact (printer ∷ []) job verdict
+    (place : ℕ) × (number : ℕ) × (reason : Reason) × (verdict ≡ Fail place number reason)
+    × IsExact (printer ∷ []) job verdict
 
 -- the word of a profile on whose printer the sheet fails, and how
 abbrev pub unprinted_sheet : List ℕ → Verdict → List ℕ
-unprinted_sheet word verdict = codes "error: the sheet for '" ++ (shown word ++ (codes "' would not pass on it: " ++ verdict_line verdict))
+unprinted_sheet word verdict =
+    codes "error: the sheet for '" ++ (shown word ++ (codes "' would not pass on it: " ++ verdict_line verdict))
 
--- OUT is created and the job written, or a front where a write failed; or OUT is the profile itself or cannot be created, and
--- nothing is written
+-- OUT is created and the job written, or a front where a write failed;
+-- or OUT is the profile itself or cannot be created, and nothing is written
 abbrev pub WritesOut : List ℕ → Status → OutletState → OutletState → Type 0
 WritesOut job status out out' =
     WritesWhole job status out out'
@@ -48,15 +51,19 @@ IsEndOfCheck (Stopped Read) = ⊤
 IsEndOfCheck (Stopped Turns) = ⊤
 IsEndOfCheck _ = ⊥
 
--- The sheet of a printer goes to OUT where it passes on it; where it fails, standard error is told how; or there is no verdict.
-abbrev pub LeavesSheetOf : List ℕ → Printer → List ℕ → Status → OutletState → OutletState → OutletState → OutletState → Type 0
+-- The sheet of a printer goes to OUT where it passes on it;
+-- where it fails, standard error is told how; or there is no verdict.
+abbrev pub LeavesSheetOf : List ℕ → Printer → List ℕ → Status → OutletState → OutletState → OutletState → OutletState →
+    Type 0
 LeavesSheetOf word printer job status out out' err err' =
     (Passes printer job × WritesOut job status out out' × (err' ≡ err))
-    ⊎ ((verdict : Verdict) × FailsBy printer job verdict × TellsLine status Refused (unprinted_sheet word verdict) err err' × (out' ≡ out))
+    ⊎ ((verdict : Verdict) × FailsBy printer job verdict
+    × TellsLine status Refused (unprinted_sheet word verdict) err err' × (out' ≡ out))
     ⊎ (IsEndOfCheck status × (out' ≡ out) × (err' ≡ err))
 
 -- the sheet of the printer whose text was read, or there is none, and standard error is told why
-abbrev pub LeavesSheet : Option (List ℕ) → List ℕ → List (List ℕ) → List (List ℕ) → Bool → Status → OutletState → OutletState → OutletState → OutletState → Type 0
+abbrev pub LeavesSheet : Option (List ℕ) → List ℕ → List (List ℕ) → List (List ℕ) → Bool → Status → OutletState →
+    OutletState → OutletState → OutletState → Type 0
 LeavesSheet known word old new failed status out out' err err' =
     ((text : List ℕ) × (printer : Printer) × IsRead known old new text × IsTextOf text printer
     × LeavesSheetOf word printer (sheet (printer_name text) printer) status out out' err err')

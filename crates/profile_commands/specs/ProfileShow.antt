@@ -9,7 +9,8 @@ use Rattle.streams.specs.Outlet.{OutletState}
 use Rattle.requests.specs.declared.status.Status.{Status}
 
 -- the printer of the text that was read is shown, or there is none, and standard error is told why
-abbrev pub LeavesShown : Option (List ℕ) → List ℕ → List (List ℕ) → List (List ℕ) → Bool → Status → OutletState → OutletState → OutletState → OutletState → Type 0
+abbrev pub LeavesShown : Option (List ℕ) → List ℕ → List (List ℕ) → List (List ℕ) → Bool → Status → OutletState →
+    OutletState → OutletState → OutletState → Type 0
 LeavesShown known word old new failed status out out' err err' =
     ((text : List ℕ) × (printer : Printer) × IsRead known old new text × IsTextOf text printer
     × WritesOrStops (shown_profile (printer_name text) printer) status out out' × (err' ≡ err))

@@ -3,7 +3,9 @@ ghost use Rattle.std.specs.Prelude.{◌≡◌, ◌≢◌, ◌++◌, IfOk, IfErr,
 ghost use Rattle.streams.specs.Writing.{Writes};
 ghost use Rattle.pjl_answer.specs.Answered.{IsAnswered, IsAnswerError};
 ghost use Rattle.printer_models.specs.Paper.{word_of};
-ghost use Rattle.profile_commands.specs.ProfileFromPjl.{IsBase, IsGenericFor, LeavesAnswered, LeavesOfAnswer, TellsNoBase, odd_answer, refusal, trouble_of};
+ghost use Rattle.profile_commands.specs.ProfileFromPjl.{IsBase, IsGenericFor, LeavesAnswered};
+ghost use Rattle.profile_commands.specs.ProfileFromPjl.{LeavesOfAnswer, TellsNoBase, odd_answer};
+ghost use Rattle.profile_commands.specs.ProfileFromPjl.{refusal, trouble_of};
 ghost use Rattle.profile_commands.specs.ProfileNew.{mismatch_line};
 ghost use Rattle.profile_commands.specs.WholeText.{WritesWhole};
 ghost use Rattle.shown_bytes.specs.Shown.{shown};

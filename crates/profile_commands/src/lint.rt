@@ -1,6 +1,7 @@
 //! The command `profile lint`.
 ghost use Rattle.std.specs.Prelude.{◌≡◌, ◌++◌, ◌∷◌, [], IfErr, IfOk, IsFalse, OnOk, map};
-ghost use Rattle.profile_commands.specs.ProfileLint.{AreRead, LeavesLint, StopsReading, WritesFindings};
+ghost use Rattle.profile_commands.specs.ProfileLint.{AreRead, LeavesLint, StopsReading};
+ghost use Rattle.profile_commands.specs.ProfileLint.{WritesFindings};
 ghost use Rattle.profile_lint.specs.Lint.{have_faults, lint_text};
 
 use crate::profile_reading::read_text;

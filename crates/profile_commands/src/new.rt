@@ -2,7 +2,8 @@
 ghost use Rattle.std.specs.Prelude.{◌≡◌, ◌<◌, length, map, IsFalse};
 ghost use Rattle.streams.specs.Writing.{Writes};
 ghost use Rattle.printer_models.specs.declared.asked.WordFault.{WordFault};
-ghost use Rattle.profile_commands.specs.ProfileNew.{LeavesProfile, mismatch_line, unknown_model, wrong_paper};
+ghost use Rattle.profile_commands.specs.ProfileNew.{LeavesProfile, mismatch_line, unknown_model};
+ghost use Rattle.profile_commands.specs.ProfileNew.{wrong_paper};
 
 use crate::whole_text::write_whole;
 use printer_models::{NewError, PanelLists, PaperFault, new_text};

@@ -1,6 +1,7 @@
 //! The command `profile sheet`.
 ghost use Rattle.std.specs.Prelude.{◌≡◌, IfOk, IsFalse, IsSome, IsTrue};
-ghost use Rattle.profile_commands.specs.ProfileSheet.{IsEndOfCheck, LeavesSheet, LeavesSheetOf, WritesOut, unprinted_sheet};
+ghost use Rattle.profile_commands.specs.ProfileSheet.{IsEndOfCheck, LeavesSheet, LeavesSheetOf};
+ghost use Rattle.profile_commands.specs.ProfileSheet.{WritesOut, unprinted_sheet};
 ghost use Rattle.job_reports.specs.Refusals.{TellsLine};
 ghost use Rattle.requests.specs.Status.{is_overwriting};
 

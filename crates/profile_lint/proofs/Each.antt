@@ -1,5 +1,6 @@
 -- Numbers that are taken once each.
-use Rattle.std.proofs.Common.{◌≡◌, ◌<◌, ◌+◌, ℕ, List, [], ◌∷◌, ◌++◌, Bool, true, false, ◌&&◌, ◌||◌, ◌==◌, cond, get_or, length, take, refl, sym, ap, ◌∙◌, subst}
+use Rattle.std.proofs.Common.{◌≡◌, ◌<◌, ◌+◌, ℕ, List, [], ◌∷◌, ◌++◌, Bool, true, false, ◌&&◌, ◌||◌, ◌==◌, cond, get_or, length, take, refl}
+use Rattle.std.proofs.Common.{sym, ap, ◌∙◌, subst}
 use Rattle.std.specs.List.{fold, list_all, list_any}
 use Rattle.std.proofs.Math.Bool.{and_assoc, and-true}
 use Rattle.std.proofs.lemmas.Bool.{eqb-true}
@@ -24,18 +25,23 @@ twice true false = refl
 twice false b = refl
 
 -- a test that holds of all of these holds of one that is among them
-holds_of_one : (p : ℕ → Bool) (n : ℕ) (before : List ℕ) → list_any (λ m. m == n) before ≡ true → list_all p before ≡ (list_all p before && p n)
+holds_of_one : (p : ℕ → Bool) (n : ℕ) (before : List ℕ) → list_any (λ m. m == n) before ≡ true →
+    list_all p before ≡ (list_all p before && p n)
 holds_of_one p n [] is = cc
 holds_of_one p n (m ∷ before) is =
-    let P : Bool → Type 0 = λ b. (m == n) ≡ b → (b || list_any (λ k. k == n) before) ≡ true → (p m && list_all p before) ≡ ((p m && list_all p before) && p n) in
+    let P : Bool → Type 0 =
+    λ b. (m == n) ≡ b → (b || list_any (λ k. k == n) before) ≡ true → (p m && list_all p before) ≡ ((p m && list_all p before) && p n) in
     (elim (m == n) as P [
-      | true ↦ λ same any. subst (λ k. (p m && list_all p before) ≡ ((p m && list_all p before) && p k)) (eqb-true m n same) (twice (p m) (list_all p before))
+      | true ↦
+          λ same any. subst (λ k. (p m && list_all p before) ≡ ((p m && list_all p before) && p k)) (eqb-true m n same)
+          (twice (p m) (list_all p before))
       | false ↦ λ same any. ap (λ b. p m && b) (holds_of_one p n before any) ∙ sym (and_assoc (p m) (list_all p before) (p n))
     ]) refl is
 
 holds_of_new : (p : ℕ → Bool) (before : List ℕ) (n : ℕ) → list_all p (with_new before n) ≡ (list_all p before && p n)
 holds_of_new p before n =
-    let P : Bool → Type 0 = λ b. list_any (λ m. m == n) before ≡ b → list_all p (cond b before (before ++ n ∷ [])) ≡ (list_all p before && p n) in
+    let P : Bool → Type 0 =
+    λ b. list_any (λ m. m == n) before ≡ b → list_all p (cond b before (before ++ n ∷ [])) ≡ (list_all p before && p n) in
     (elim (list_any (λ m. m == n) before) as P [
       | true ↦ λ is. holds_of_one p n before is
       | false ↦ λ is. list_all-append p before (n ∷ []) ∙ ap (λ b. list_all p before && b) (and-true (p n))
@@ -51,7 +57,9 @@ holds_of_each p f before (row ∷ rows) =
     ∙ and_assoc (list_all p before) (p (f row)) (list_all (λ r. p (f r)) rows)
 
 -- each size of rows goes with each orientation of rows, in both ways to say it
-pub every_pair : (rows : List Geometry) → list_all (λ size. list_all (λ turned. has_row rows size turned) (orientations_of rows)) (sizes_of rows) ≡ has_every_pair rows
+pub every_pair : (rows : List Geometry) →
+    list_all (λ size. list_all (λ turned. has_row rows size turned) (orientations_of rows)) (sizes_of rows) ≡ has_every_pair rows
 every_pair rows =
     holds_of_each (λ size. list_all (λ turned. has_row rows size turned) (orientations_of rows)) (λ row. row.size) [] rows
-    ∙ ap (λ (test : Geometry → Bool). list_all test rows) (λ i sized. holds_of_each (λ turned. has_row rows sized.size turned) (λ row. row.orientation) [] rows i)
+    ∙ ap (λ (test : Geometry → Bool). list_all test rows)
+    (λ i sized. holds_of_each (λ turned. has_row rows sized.size turned) (λ row. row.orientation) [] rows i)

@@ -13,5 +13,6 @@ word_is_pushed result new old before word behind last same_word same_last is_wor
 pub joined : (old words all more : List ℕ) → all ≡ old ++ words → all ++ more ≡ old ++ (words ++ more)
 joined old words all more is_all = ap (λ (bytes : List ℕ). bytes ++ more) is_all ∙ append_assoc old words more
 
-pub last_is_pushed : {E : Type 0} (result : Result (Unit {0}) E) (new all wanted : List ℕ) → all ≡ wanted → OnOk result (new ≡ all) → OnOk result (new ≡ wanted)
+pub last_is_pushed : {E : Type 0} (result : Result (Unit {0}) E) (new all wanted : List ℕ) → all ≡ wanted → OnOk result (new ≡ all) →
+    OnOk result (new ≡ wanted)
 last_is_pushed result new all wanted is_all pushed = subst (λ (bytes : List ℕ). OnOk result (new ≡ bytes)) is_all pushed

@@ -1,10 +1,12 @@
 -- What differs first among profiles, of which a job wants the same.
-use Rattle.std.specs.Prelude.{ℕ, ◌+◌, ◌==◌, ◌&&◌, not, Bool, false, List, [], ◌∷◌, ◌++◌, codes, decimal, find, Option, None, Some, option_map}
+use Rattle.std.specs.Prelude.{ℕ, ◌+◌, ◌==◌, ◌&&◌, not, Bool, false, List, [], ◌∷◌, ◌++◌, codes, decimal, find, Option}
+use Rattle.std.specs.Prelude.{None, Some, option_map}
 use Rattle.std.specs.List.{list_all, list_any}
 use Rattle.std.specs.Option.{option_map_or, option_or}
 use Rattle.std.specs.Ordering.{int_eq}
 use Rattle.device_profile.specs.declared.field.Field.{Field}
-use Rattle.device_profile.specs.declared.field.Field.TheVariants.{Size, Orientation, Vmi, Font, Copies, Sides, Tray, LineTerm}
+use Rattle.device_profile.specs.declared.field.Field.TheVariants.{Size, Orientation, Vmi, Font, Copies, Sides, Tray}
+use Rattle.device_profile.specs.declared.field.Field.TheVariants.{LineTerm}
 use Rattle.device_profile.specs.declared.font.FontRequest.{FontRequest}
 use Rattle.device_profile.specs.declared.geometry.Geometry.{Geometry}
 use Rattle.device_profile.specs.declared.key.Key.TheVariants.{Choice}
@@ -32,11 +34,13 @@ has_other_page printer page =
 -- two faces have the same numbers and codes
 abbrev pub is_same_face : Face → Face → Bool
 is_same_face a b =
-    int_eq a.advance b.advance && int_eq a.ascent b.ascent && int_eq a.descent b.descent && are_same_codes a.codes b.codes
+    int_eq a.advance b.advance && int_eq a.ascent b.ascent && int_eq a.descent b.descent
+    && are_same_codes a.codes b.codes
 
 -- a printer has a face of the same request, which is not the same
 abbrev pub has_other_face : Printer → Face → Bool
-has_other_face printer face = option_map_or (λ other. not (is_same_face face other)) (face_for printer.faces face.request) false
+has_other_face printer face =
+    option_map_or (λ other. not (is_same_face face other)) (face_for printer.faces face.request) false
 
 -- all of these values are among the others
 abbrev pub are_among : List ℕ → List ℕ → Bool
@@ -44,7 +48,8 @@ are_among values others = list_all (λ value. list_any (λ other. other == value
 
 -- the panel of a printer may have a font that answers a request
 abbrev pub offers : Printer → FontRequest → Bool
-offers printer request = option_map_or (λ face. list_any (λ font. font == face.id) printer.fonts) (face_for printer.faces request) false
+offers printer request =
+    option_map_or (λ face. list_any (λ font. font == face.id) printer.fonts) (face_for printer.faces request) false
 
 -- the panel of the second may have a font of the panel of the first, by its request
 abbrev pub offers_font_of : Printer → Printer → ℕ → Bool
@@ -62,7 +67,8 @@ has_same_values a b Vmi = are_among a.vmis b.vmis && are_among b.vmis a.vmis
 has_same_values a b Copies = are_among a.copies b.copies && are_among b.copies a.copies
 has_same_values a b Sides = are_among a.sides b.sides && are_among b.sides a.sides
 has_same_values a b Tray = are_among a.trays b.trays && are_among b.trays a.trays
-has_same_values a b LineTerm = are_among a.line_terminations b.line_terminations && are_among b.line_terminations a.line_terminations
+has_same_values a b LineTerm =
+    are_among a.line_terminations b.line_terminations && are_among b.line_terminations a.line_terminations
 
 -- the fields that are compared
 abbrev pub compared_fields : List Field
@@ -85,7 +91,8 @@ difference_of a b = option_or (page_difference a b) (option_or (face_difference 
 abbrev pub difference_from : ℕ → Printer → List Printer → Option FirstDifference
 difference_from place first [] = None
 difference_from place first (other ∷ others) =
-    option_map_or (λ difference. Some (record { other = place; difference = difference })) (difference_of first other) (difference_from (place + 1) first others)
+    option_map_or (λ difference. Some (record { other = place; difference = difference })) (difference_of first other)
+    (difference_from (place + 1) first others)
 
 -- the first printer that differs from the very first
 abbrev pub first_difference : List Printer → Option FirstDifference
@@ -96,10 +103,14 @@ first_difference (first ∷ others) = difference_from 1 first others
 
 unfoldable pub difference_words : Difference → List ℕ
 difference_words (Pages size orientation) =
-    codes "their pages of size " ++ decimal size ++ codes " and orientation " ++ decimal orientation ++ codes " are not the same: jobs may differ (33)"
+    codes "their pages of size " ++ decimal size ++ codes " and orientation " ++ decimal orientation
+    ++ codes " are not the same: jobs may differ (33)"
 difference_words (Faces face) =
-    codes "face " ++ decimal face ++ codes " of the first has other numbers or codes than the face of that request of the other: letters may differ (33) or be missing (14)"
-difference_words (Lists field) = codes "their lists '" ++ field_key field ++ codes "' are not the same: " ++ meaning_of (Choice field)
+    codes "face " ++ decimal face
+    ++ codes
+    " of the first has other numbers or codes than the face of that request of the other: letters may differ (33) or be missing (14)"
+difference_words (Lists field) =
+    codes "their lists '" ++ field_key field ++ codes "' are not the same: " ++ meaning_of (Choice field)
 
 unfoldable pub difference_line : List ℕ → List ℕ → Difference → List ℕ
 difference_line first other difference =

@@ -24,12 +24,14 @@ advance_by pitch = if pitch == 0 then 0 else (72_000_000 + pitch / 2) / pitch
 
 unfoldable pub advance_hints : Face → List Hint
 advance_hints face =
-    if fits_pitch face.request.pitch (units_in face.advance) then [] else OddAdvance face.id face.request.pitch (units_in face.advance) ∷ []
+    if fits_pitch face.request.pitch (units_in face.advance) then []
+    else OddAdvance face.id face.request.pitch (units_in face.advance) ∷ []
 
 -- a row of the table is of the pitch, the height and the typeface that are asked for
 abbrev pub has_cut : FontRequest → FaceRow → Bool
 has_cut request row =
-    ((request_of row).pitch == request.pitch) && ((request_of row).height == request.height) && ((request_of row).typeface == request.typeface)
+    ((request_of row).pitch == request.pitch) && ((request_of row).height == request.height)
+    && ((request_of row).typeface == request.typeface)
 
 -- and of the symbol set
 abbrev pub has_set : FontRequest → FaceRow → Bool

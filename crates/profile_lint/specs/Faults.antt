@@ -1,4 +1,5 @@
--- What is wrong with the lines of a profile's text, each of which is read as if the faulty ones before it were not there.
+-- What is wrong with the lines of a profile's text, each of which is read as if the faulty ones before it
+-- were not there.
 use Rattle.std.specs.Prelude.{ℕ, ◌+◌, List, [], ◌∷◌, ◌++◌, Bool, false, Option, None, Result, Ok, Err}
 use Rattle.std.specs.List.{list_any}
 use Rattle.std.specs.Option.{option_map_or}
@@ -13,7 +14,9 @@ use Rattle.device_profile.specs.Draft.{Draft, draft_after, key_of}
 use Rattle.device_profile.specs.Key.{key_word}
 use Rattle.device_profile.specs.Text.{words_of_line}
 use Rattle.profile_lint.specs.declared.fault.TextFault.{TextFault}
-use Rattle.profile_lint.specs.declared.fault.TextFault.TheVariants.{TooLong, NoVersion, OnLine, Ungiven, NoPageOfSize, NoPageInOrientation, NoPair, NoFace, NoTray, NoSides}
+use Rattle.profile_lint.specs.declared.fault.TextFault.TheVariants.{TooLong, NoVersion, OnLine, Ungiven, NoPageOfSize}
+use Rattle.profile_lint.specs.declared.fault.TextFault.TheVariants.{NoPageInOrientation, NoPair, NoFace, NoTray}
+use Rattle.profile_lint.specs.declared.fault.TextFault.TheVariants.{NoSides}
 
 -- the line of a fault, or 0 for the whole
 abbrev pub line_of : TextFault → ℕ
@@ -67,7 +70,8 @@ draft_past_lines format draft (line ∷ more) = draft_past_lines format (draft_p
 -- what is wrong with the line of this number
 abbrev pub fault_on_line : Format → Draft → ℕ → List ℕ → List TextFault
 fault_on_line format draft number line =
-    elim (draft_after format draft (words_of_line line)) [ Ok next ↦ [] | Err cause ↦ OnLine number (key_on_line format (words_of_line line)) cause ∷ [] ]
+    elim (draft_after format draft (words_of_line line))
+    [ Ok next ↦ [] | Err cause ↦ OnLine number (key_on_line format (words_of_line line)) cause ∷ [] ]
 
 -- what is wrong with lines, of which the first has this number
 abbrev pub faults_on_lines : Format → Draft → ℕ → List (List ℕ) → List TextFault

@@ -1,7 +1,8 @@
 -- The line that is written for a hint.
 use Rattle.std.specs.Prelude.{ℕ, ℤ, List, [], ◌∷◌, ◌++◌, codes, decimal, flat_map}
 use Rattle.device_profile.specs.declared.field.Field.{Field}
-use Rattle.device_profile.specs.declared.field.Field.TheVariants.{Size, Orientation, Vmi, Font, Copies, Sides, Tray, LineTerm}
+use Rattle.device_profile.specs.declared.field.Field.TheVariants.{Size, Orientation, Vmi, Font, Copies, Sides, Tray}
+use Rattle.device_profile.specs.declared.field.Field.TheVariants.{LineTerm}
 use Rattle.device_profile.specs.declared.font.CodeRange.{CodeRange}
 use Rattle.device_profile.specs.declared.geometry.Geometry.{Geometry}
 use Rattle.device_profile.specs.Field.{field_key}
@@ -14,7 +15,8 @@ use Rattle.printer_models.specs.Paper.{word_of}
 use Rattle.profile_lint.specs.declared.hint.Area.{Area}
 use Rattle.profile_lint.specs.declared.hint.Area.TheVariants.{Physical, Logical, Printable}
 use Rattle.profile_lint.specs.declared.hint.Hint.{Hint}
-use Rattle.profile_lint.specs.declared.hint.Hint.TheVariants.{OtherArea, OddAdvance, OtherNumbers, OtherCodes, SeveralValues, FixedPanel}
+use Rattle.profile_lint.specs.declared.hint.Hint.TheVariants.{OtherArea, OddAdvance, OtherNumbers, OtherCodes}
+use Rattle.profile_lint.specs.declared.hint.Hint.TheVariants.{SeveralValues, FixedPanel}
 use Rattle.profile_lint.specs.declared.hint_line.Numbers.{Numbers}
 use Rattle.profile_lint.specs.FaceHints.{advance_by}
 use Rattle.profile_lint.specs.PageHints.{area_lengths, units_in}
@@ -66,7 +68,9 @@ advance_hint_words face pitch advance =
 
 -- why it matters
 unfoldable pub differ_words : List ℕ
-differ_words = codes " for its pitch, height and typeface in the table of faces: its letters will differ (33) from those of profiles that 'profile new' writes"
+differ_words =
+    codes
+    " for its pitch, height and typeface in the table of faces: its letters will differ (33) from those of profiles that 'profile new' writes"
 
 unfoldable pub lack_words : List ℕ
 lack_words = codes " of its symbol set in the table of faces: a job with a letter that it lacks fails (14)"
@@ -76,11 +80,13 @@ abbrev pub numbers_of : Metrics → Numbers
 numbers_of metrics = record { advance = metrics.advance; ascent = metrics.ascent; descent = metrics.descent }
 
 unfoldable pub numbers_words : Numbers → List ℕ
-numbers_words numbers = decimal numbers.advance ++ codes " " ++ decimal numbers.ascent ++ codes " " ++ decimal numbers.descent
+numbers_words numbers =
+    decimal numbers.advance ++ codes " " ++ decimal numbers.ascent ++ codes " " ++ decimal numbers.descent
 
 unfoldable pub number_hint_words : ℕ → Numbers → Numbers → List ℕ
 number_hint_words face own wanted =
-    (codes "face " ++ decimal face ++ codes ": advance, ascent and descent are ") ++ numbers_words own ++ codes ", but " ++ numbers_words wanted
+    (codes "face " ++ decimal face ++ codes ": advance, ascent and descent are ") ++ numbers_words own ++ codes ", but "
+    ++ numbers_words wanted
     ++ differ_words
 
 -- ranges of codes, with commas between
@@ -95,7 +101,8 @@ ranges_words [] = []
 ranges_words (range ∷ more) = range_words range ++ flat_map more_range_words more
 
 unfoldable pub code_hint_words : ℕ → CharacterSet → List ℕ
-code_hint_words face set = (codes "face " ++ decimal face ++ codes ": its codes are not the ") ++ ranges_words (codes_in set) ++ lack_words
+code_hint_words face set =
+    (codes "face " ++ decimal face ++ codes ": its codes are not the ") ++ ranges_words (codes_in set) ++ lack_words
 
 -- the command by which a job sets a field
 abbrev pub command_of : Field → List ℕ
@@ -109,7 +116,8 @@ command_of Tray = codes "ESC &l#H"
 command_of LineTerm = codes "ESC &k#G"
 
 unfoldable pub several_words : Field → List ℕ
-several_words field = codes "'" ++ field_key field ++ codes "' has several values: each job has to send " ++ command_of field
+several_words field =
+    codes "'" ++ field_key field ++ codes "' has several values: each job has to send " ++ command_of field
 
 abbrev pub fixed_hint_words : List ℕ
 fixed_hint_words = codes "each list has one value, which promises that nobody uses the panel"
@@ -117,7 +125,9 @@ fixed_hint_words = codes "each list has one value, which promises that nobody us
 abbrev pub hint_words : Hint → List ℕ
 hint_words (OtherArea area page paper) = area_hint_words area page paper
 hint_words (OddAdvance face pitch advance) = advance_hint_words face pitch advance
-hint_words (OtherNumbers face advance ascent descent cut) = number_hint_words face (record { advance = advance; ascent = ascent; descent = descent }) (numbers_of (metrics_of cut))
+hint_words (OtherNumbers face advance ascent descent cut) =
+    number_hint_words face (record { advance = advance; ascent = ascent; descent = descent })
+    (numbers_of (metrics_of cut))
 hint_words (OtherCodes face set) = code_hint_words face set
 hint_words (SeveralValues field) = several_words field ++ codes ", and hardly any does"
 hint_words FixedPanel = fixed_hint_words

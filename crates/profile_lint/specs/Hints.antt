@@ -24,8 +24,11 @@ abbrev pub fixed_hints : Printer → List Hint
 fixed_hints printer = if is_fixed printer then FixedPanel ∷ [] else []
 
 abbrev pub panel_hints : Printer → List Hint
-panel_hints printer = several_hints printer Copies ++ several_hints printer Sides ++ several_hints printer Tray ++ fixed_hints printer
+panel_hints printer =
+    several_hints printer Copies ++ several_hints printer Sides ++ several_hints printer Tray ++ fixed_hints printer
 
 -- On its pages, its faces and its panel. Both generations have the same faces, in another order.
 unfoldable pub hints_of : Printer → List Hint
-hints_of printer = flat_map page_hints printer.geometries ++ flat_map (face_hints (faces_of LaserJet5)) printer.faces ++ panel_hints printer
+hints_of printer =
+    flat_map page_hints printer.geometries ++ flat_map (face_hints (faces_of LaserJet5)) printer.faces
+    ++ panel_hints printer

@@ -25,7 +25,9 @@ hints_text word printer = flat_map (hint_line word) (hints_of printer)
 
 -- what is found in one text: its faults, or where it has none hints on its printer
 unfoldable pub findings_text : Named → List ℕ
-findings_text named = elim (printer_of_text named.text) [ Ok printer ↦ hints_text named.word printer | Err fault ↦ faults_text named.word named.text ]
+findings_text named =
+    elim (printer_of_text named.text)
+    [ Ok printer ↦ hints_text named.word printer | Err fault ↦ faults_text named.word named.text ]
 
 -- the printer of a text that has no fault
 unfoldable pub sound_printers : Named → List Printer
@@ -49,7 +51,8 @@ difference_text words printers = option_map_or (line_of_difference words) (first
 
 -- what is found in all, and in what two of those that have no fault differ first
 abbrev pub lint_text : List Named → List ℕ
-lint_text texts = flat_map findings_text texts ++ difference_text (flat_map sound_words texts) (flat_map sound_printers texts)
+lint_text texts =
+    flat_map findings_text texts ++ difference_text (flat_map sound_words texts) (flat_map sound_printers texts)
 
 -- whether one of them has a fault: not each of them is that of a printer
 abbrev pub have_faults : List Named → Bool

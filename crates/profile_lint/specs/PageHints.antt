@@ -1,5 +1,6 @@
 -- Pages that are not those of the table of papers.
-use Rattle.std.specs.Prelude.{ℕ, ℤ, ◌/◌, ◌==◌, ◌&&◌, Bool, if◌then◌else◌, List, [], ◌∷◌, ◌++◌, Option, find, unsigned_abs}
+use Rattle.std.specs.Prelude.{ℕ, ℤ, ◌/◌, ◌==◌, ◌&&◌, Bool, if◌then◌else◌, List, [], ◌∷◌, ◌++◌, Option, find}
+use Rattle.std.specs.Prelude.{unsigned_abs}
 use Rattle.std.specs.Option.{option_map_or}
 use Rattle.std.specs.Ordering.{int_eq}
 use Rattle.device_profile.specs.declared.geometry.Geometry.{Geometry}
@@ -19,7 +20,8 @@ units_in length = unsigned_abs length / 5_080_000
 abbrev pub area_lengths : Area → Geometry → List ℤ
 area_lengths Physical page = page.page_width ∷ page.page_height ∷ []
 area_lengths Logical page = page.logical_left ∷ page.logical_top ∷ page.logical_width ∷ page.logical_height ∷ []
-area_lengths Printable page = page.printable_left ∷ page.printable_top ∷ page.printable_right ∷ page.printable_bottom ∷ []
+area_lengths Printable page =
+    page.printable_left ∷ page.printable_top ∷ page.printable_right ∷ page.printable_bottom ∷ []
 
 -- an area of two pages is the same
 abbrev pub is_same_area : Area → Geometry → Geometry → Bool
@@ -28,7 +30,8 @@ is_same_area Logical a b =
     int_eq a.logical_left b.logical_left && int_eq a.logical_top b.logical_top && int_eq a.logical_width b.logical_width
     && int_eq a.logical_height b.logical_height
 is_same_area Printable a b =
-    int_eq a.printable_left b.printable_left && int_eq a.printable_top b.printable_top && int_eq a.printable_right b.printable_right
+    int_eq a.printable_left b.printable_left && int_eq a.printable_top b.printable_top
+    && int_eq a.printable_right b.printable_right
     && int_eq a.printable_bottom b.printable_bottom
 
 -- the paper of a size
@@ -37,10 +40,12 @@ paper_of size = find (λ paper. code_of paper == size) every_paper
 
 -- an area that is not that of the paper
 unfoldable pub area_hints : Geometry → Paper → Area → List Hint
-area_hints page paper area = if is_same_area area page (page_of paper page.orientation) then [] else OtherArea area page paper ∷ []
+area_hints page paper area =
+    if is_same_area area page (page_of paper page.orientation) then [] else OtherArea area page paper ∷ []
 
 unfoldable pub paper_hints : Geometry → Paper → List Hint
-paper_hints page paper = area_hints page paper Physical ++ area_hints page paper Logical ++ area_hints page paper Printable
+paper_hints page paper =
+    area_hints page paper Physical ++ area_hints page paper Logical ++ area_hints page paper Printable
 
 -- a page of a size that no paper has gives none
 unfoldable pub page_hints : Geometry → List Hint

@@ -1,8 +1,10 @@
 -- The rules of a profile's lines, in words.
 use Rattle.std.specs.Prelude.{ℕ, List, codes, Option, None, Some}
 use Rattle.device_profile.specs.declared.fault.Cause.{Cause}
-use Rattle.device_profile.specs.declared.fault.Cause.TheVariants.{Version, Unknown, Repeated, Range, Missing, NoGeometry}
-use Rattle.device_profile.specs.declared.field.Field.TheVariants.{Size, Orientation, Vmi, Font, Copies, Sides, Tray, LineTerm}
+use Rattle.device_profile.specs.declared.fault.Cause.TheVariants.{Version, Unknown, Repeated, Range, Missing}
+use Rattle.device_profile.specs.declared.fault.Cause.TheVariants.{NoGeometry}
+use Rattle.device_profile.specs.declared.field.Field.TheVariants.{Size, Orientation, Vmi, Font, Copies, Sides, Tray}
+use Rattle.device_profile.specs.declared.field.Field.TheVariants.{LineTerm}
 use Rattle.device_profile.specs.declared.key.Key.{Key}
 use Rattle.device_profile.specs.declared.key.Key.TheVariants.{Name, Choice, Trays, Duplex, Depth, Memory, Page, Face}
 
@@ -29,7 +31,8 @@ abbrev pub value_rule : Key → List ℕ
 value_rule Name = codes "a name is one word of 1 to 32 bytes, each from ! to ~"
 value_rule (Choice Size) = codes "sizes are 1 to 16 whole numbers from 1 to 999, as ESC &l#A has them"
 value_rule (Choice Orientation) = codes "orientations are whole numbers from 0 to 3, as ESC &l#O has them"
-value_rule (Choice Vmi) = codes "vertical motion indexes are 1 to 16 numbers from 0 to 335 in 1/48 inch, with at most four decimals"
+value_rule (Choice Vmi) =
+    codes "vertical motion indexes are 1 to 16 numbers from 0 to 335 in 1/48 inch, with at most four decimals"
 value_rule (Choice Font) = codes "fonts are 1 to 16 ids of faces, each from 1 to 255"
 value_rule (Choice Copies) = codes "copies are 1 to 16 whole numbers from 1 to 32767"
 value_rule (Choice Sides) = codes "sides are whole numbers from 0 to 2, as ESC &l#S has them"
@@ -39,8 +42,12 @@ value_rule Trays = codes "trays are 1 to 16 whole numbers from 1 to 255, as ESC 
 value_rule Duplex = codes "duplex is 0, or 1 where the device prints on both sides"
 value_rule Depth = codes "the depth is one whole number from 0 to 8"
 value_rule Memory = codes "the memory is one whole number of bytes from 0 to 1048576"
-value_rule Page = codes "a page has 12 numbers: its size from 1 to 999, its orientation from 0 to 3 and, in 1/7200 inch up to 720000, its width and height, the logical page's left, top, width and height, and the printable area's left, top, right and bottom; both areas lie in the page, the logical page is 7200 high or more, the printable area is not empty, and there are at most 64 pages"
-value_rule Face = codes "a face has 11 words: its id from 1 to 255, symbol set, pitch, height, style, weight and typeface, advance from 1 to 50400, ascent and descent up to 720000 in 1/7200 inch, and ranges of codes that rise, as 33-126,161-254; there are at most 64 faces"
+value_rule Page =
+    codes
+    "a page has 12 numbers: its size from 1 to 999, its orientation from 0 to 3 and, in 1/7200 inch up to 720000, its width and height, the logical page's left, top, width and height, and the printable area's left, top, right and bottom; both areas lie in the page, the logical page is 7200 high or more, the printable area is not empty, and there are at most 64 pages"
+value_rule Face =
+    codes
+    "a face has 11 words: its id from 1 to 255, symbol set, pitch, height, style, weight and typeface, advance from 1 to 50400, ascent and descent up to 720000 in 1/7200 inch, and ranges of codes that rise, as 33-126,161-254; there are at most 64 faces"
 
 -- what comes once
 abbrev pub once_rule : Key → List ℕ
@@ -61,7 +68,9 @@ once_rule Page = codes "this pair of size and orientation came before"
 once_rule Face = codes "this id, or all of symbol set, pitch, height, style, weight and typeface, came before"
 
 abbrev pub key_rule : List ℕ
-key_rule = codes "its first word is no key; the keys are name, size, orientation, vmi, font, copies, sides, tray, trays, duplex, depth, memory, geometry and face, and lineterm in version 2"
+key_rule =
+    codes
+    "its first word is no key; the keys are name, size, orientation, vmi, font, copies, sides, tray, trays, duplex, depth, memory, geometry and face, and lineterm in version 2"
 
 -- the rule that a line breaks
 abbrev pub broken_rule : Option Key → Cause → List ℕ

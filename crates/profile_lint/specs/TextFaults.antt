@@ -23,7 +23,8 @@ faults_behind format more = faults_past format (no_draft format) more
 -- a first line that names no version is the only fault, since what keys there are hangs on it
 abbrev pub faults_of_lines : List (List ℕ) → List TextFault
 faults_of_lines [] = NoVersion ∷ []
-faults_of_lines (first ∷ more) = option_map_or (λ format. faults_behind format more) (format_of (words_of first)) (NoVersion ∷ [])
+faults_of_lines (first ∷ more) =
+    option_map_or (λ format. faults_behind format more) (format_of (words_of first)) (NoVersion ∷ [])
 
 -- a text of more than 65536 bytes has no other fault
 unfoldable pub faults_of : List ℕ → List TextFault

@@ -2,7 +2,8 @@
 use Rattle.std.specs.Prelude.{ℕ, List, [], ◌∷◌, ◌++◌, flat_map, Bool, not, ◌&&◌, ◌==◌, if◌then◌else◌}
 use Rattle.std.specs.List.{fold, list_any}
 use Rattle.device_profile.specs.declared.field.Field.{Field}
-use Rattle.device_profile.specs.declared.field.Field.TheVariants.{Size, Orientation, Vmi, Font, Copies, Sides, Tray, LineTerm}
+use Rattle.device_profile.specs.declared.field.Field.TheVariants.{Size, Orientation, Vmi, Font, Copies, Sides, Tray}
+use Rattle.device_profile.specs.declared.field.Field.TheVariants.{LineTerm}
 use Rattle.device_profile.specs.declared.geometry.Geometry.{Geometry}
 use Rattle.device_profile.specs.declared.key.Key.{Key}
 use Rattle.device_profile.specs.declared.key.Key.TheVariants.{Name, Choice, Trays, Duplex, Depth, Memory, Page, Face}
@@ -12,7 +13,8 @@ use Rattle.device_profile.specs.Key.{every_key}
 use Rattle.device_profile.specs.Printer.{has_size, has_orientation, has_row, are_sides}
 use Rattle.device_profile.specs.Text.{is_given, is_duplex}
 use Rattle.profile_lint.specs.declared.fault.TextFault.{TextFault}
-use Rattle.profile_lint.specs.declared.fault.TextFault.TheVariants.{Ungiven, NoPageOfSize, NoPageInOrientation, NoPair, NoFace, NoTray, NoSides}
+use Rattle.profile_lint.specs.declared.fault.TextFault.TheVariants.{Ungiven, NoPageOfSize, NoPageInOrientation, NoPair}
+use Rattle.profile_lint.specs.declared.fault.TextFault.TheVariants.{NoFace, NoTray, NoSides}
 use Rattle.profile_lint.specs.Faults.{has_faulty_line}
 
 -- no line has this key, not even a faulty one
@@ -45,7 +47,8 @@ sizes_of rows = fold (λ sizes row. with_new sizes row.size) [] rows
 abbrev pub orientations_of : List Geometry → List ℕ
 orientations_of rows = fold (λ orientations row. with_new orientations row.orientation) [] rows
 
--- a value of a field, where the device has it not: a size or an orientation that no page has, a font that is no face, a tray, sides
+-- a value of a field, where the device has it not:
+-- a size or an orientation that no page has, a font that is no face, a tray, sides
 abbrev pub unheld : Draft → Field → ℕ → List TextFault
 unheld draft Size size = unless (has_size draft.geometries size) (NoPageOfSize size)
 unheld draft Orientation turned = unless (has_orientation draft.geometries turned) (NoPageInOrientation turned)

@@ -1,7 +1,12 @@
 //! What differs first among profiles, on which a job is to look alike.
 ghost use Rattle.std.specs.Prelude.{◌≡◌, ◌++◌, OnOk, find, not};
 ghost use Rattle.std.specs.Option.{option_copied};
-ghost use Rattle.profile_lint.specs.Differences.{are_among, are_fonts_of, difference_line, difference_of, difference_words, face_difference, first_difference, has_other_face, has_other_page, has_same_values, is_same_face, is_same_page, list_difference, offers, offers_font_of, page_difference};
+ghost use Rattle.profile_lint.specs.Differences.{are_among, are_fonts_of, difference_line};
+ghost use Rattle.profile_lint.specs.Differences.{difference_of, difference_words, face_difference};
+ghost use Rattle.profile_lint.specs.Differences.{first_difference, has_other_face, has_other_page};
+ghost use Rattle.profile_lint.specs.Differences.{has_same_values, is_same_face, is_same_page};
+ghost use Rattle.profile_lint.specs.Differences.{list_difference, offers, offers_font_of};
+ghost use Rattle.profile_lint.specs.Differences.{page_difference};
 
 use crate::face_hints::are_same_codes;
 use crate::hint::Area;

@@ -1,6 +1,8 @@
 //! Faces whose numbers do not fit their pitch, or are not those of the table of faces.
 ghost use Rattle.std.specs.Prelude.{◌≡◌, ◌++◌, OnOk, find, flat_map};
-ghost use Rattle.profile_lint.specs.FaceHints.{advance_by, advance_hints, are_same_codes, code_hints, face_hints, fits_pitch, has_cut, has_numbers, has_set, number_hints};
+ghost use Rattle.profile_lint.specs.FaceHints.{advance_by, advance_hints, are_same_codes};
+ghost use Rattle.profile_lint.specs.FaceHints.{code_hints, face_hints, fits_pitch, has_cut};
+ghost use Rattle.profile_lint.specs.FaceHints.{has_numbers, has_set, number_hints};
 
 use crate::hint::{Hint, units_in};
 use device_profile::{CodeRange, FontRequest, FontRow};

@@ -2,7 +2,13 @@
 ghost use Rattle.std.specs.Prelude.{◌≡◌, ◌++◌, OnOk, codes, decimal, flat_map};
 ghost use Rattle.printer_models.specs.Face.{metrics_of};
 ghost use Rattle.shown_bytes.specs.Shown.{shown};
-ghost use Rattle.profile_lint.specs.HintLines.{advance_hint_words, area_hint_words, area_name, area_words, code_hint_words, command_of, differ_words, hint_line, hint_words, lack_words, length_names, length_word, more_range_words, number_hint_words, numbers_of, numbers_words, own_words, page_place, paper_words, range_words, ranges_words, several_words, table_words};
+ghost use Rattle.profile_lint.specs.HintLines.{advance_hint_words, area_hint_words, area_name};
+ghost use Rattle.profile_lint.specs.HintLines.{area_words, code_hint_words, command_of};
+ghost use Rattle.profile_lint.specs.HintLines.{differ_words, hint_line, hint_words, lack_words};
+ghost use Rattle.profile_lint.specs.HintLines.{length_names, length_word, more_range_words};
+ghost use Rattle.profile_lint.specs.HintLines.{number_hint_words, numbers_of, numbers_words};
+ghost use Rattle.profile_lint.specs.HintLines.{own_words, page_place, paper_words, range_words};
+ghost use Rattle.profile_lint.specs.HintLines.{ranges_words, several_words, table_words};
 
 use crate::face_hints::advance_by;
 use crate::hint::{Area, Hint, units_in};

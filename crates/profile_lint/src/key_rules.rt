@@ -1,6 +1,7 @@
 //! The rules of a profile's lines, in words.
 ghost use Rattle.std.specs.Prelude.{◌≡◌};
-ghost use Rattle.profile_lint.specs.Rules.{broken_rule, key_rule, meaning_of, once_rule, value_rule};
+ghost use Rattle.profile_lint.specs.Rules.{broken_rule, key_rule, meaning_of, once_rule};
+ghost use Rattle.profile_lint.specs.Rules.{value_rule};
 
 use device_profile::{Cause, Field, Key};
 

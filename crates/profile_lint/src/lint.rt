@@ -2,7 +2,8 @@
 ghost use Rattle.std.specs.Prelude.{◌≡◌, ◌++◌, flat_map, map, IfOk, OnOk};
 ghost use Rattle.profile_lint.specs.FaultLines.{fault_line};
 ghost use Rattle.profile_lint.specs.HintLines.{hint_line};
-ghost use Rattle.profile_lint.specs.Lint.{difference_text, faults_text, findings_text, have_faults, lint_text, sound_printers, sound_words, word_at};
+ghost use Rattle.profile_lint.specs.Lint.{difference_text, faults_text, findings_text, have_faults};
+ghost use Rattle.profile_lint.specs.Lint.{lint_text, sound_printers, sound_words, word_at};
 
 use crate::difference::{first_difference, push_difference};
 use crate::fault::TextFault;

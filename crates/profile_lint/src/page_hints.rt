@@ -1,6 +1,7 @@
 //! Pages that are not those of the table of papers.
 ghost use Rattle.std.specs.Prelude.{◌≡◌, ◌++◌, OnOk, flat_map};
-ghost use Rattle.profile_lint.specs.PageHints.{area_hints, is_same_area, page_hints, paper_hints, paper_of};
+ghost use Rattle.profile_lint.specs.PageHints.{area_hints, is_same_area, page_hints, paper_hints};
+ghost use Rattle.profile_lint.specs.PageHints.{paper_of};
 
 use crate::hint::{Area, Hint};
 use device_profile::Geometry;

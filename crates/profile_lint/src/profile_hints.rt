@@ -2,7 +2,8 @@
 ghost use Rattle.std.specs.Prelude.{◌≡◌, ◌++◌, ◌==◌, IfOk, OnOk, length};
 ghost use Rattle.std.specs.List.{list_all};
 ghost use Rattle.device_profile.specs.Printer.{values_of};
-ghost use Rattle.profile_lint.specs.Hints.{fixed_hints, hints_of, is_fixed, panel_hints, several_hints};
+ghost use Rattle.profile_lint.specs.Hints.{fixed_hints, hints_of, is_fixed, panel_hints};
+ghost use Rattle.profile_lint.specs.Hints.{several_hints};
 
 use crate::face_hints::push_hints_of_faces;
 use crate::hint::Hint;

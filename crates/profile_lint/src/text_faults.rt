@@ -5,7 +5,8 @@ ghost use Rattle.device_profile.specs.Draft.{draft_after};
 ghost use Rattle.device_profile.specs.Given.{Gives};
 ghost use Rattle.device_profile.specs.Text.{words_of_line};
 ghost use Rattle.device_profile.specs.Words.{words_of};
-ghost use Rattle.profile_lint.specs.Faults.{draft_past, draft_past_lines, fault_on_line, faults_on_lines, key_on_line};
+ghost use Rattle.profile_lint.specs.Faults.{draft_past, draft_past_lines, fault_on_line};
+ghost use Rattle.profile_lint.specs.Faults.{faults_on_lines, key_on_line};
 ghost use Rattle.profile_lint.specs.TextFaults.{faults_behind, faults_of, faults_past};
 
 use crate::fault::TextFault;

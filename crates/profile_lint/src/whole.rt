@@ -1,7 +1,11 @@
 //! What is wrong with the whole of what the good lines of a text give.
 ghost use Rattle.std.specs.Prelude.{◌≡◌, ◌++◌, IfOk, OnOk, flat_map};
 ghost use Rattle.device_profile.specs.Printer.{are_sides};
-ghost use Rattle.profile_lint.specs.Whole.{choice_faults, faults_in, faults_of_size, faults_of_whole, is_settled, is_ungiven, orientations_of, page_faults, pair_faults, sizes_of, ungiven_fault, unheld, unless, unpaired, where_settled, with_new};
+ghost use Rattle.profile_lint.specs.Whole.{choice_faults, faults_in, faults_of_size};
+ghost use Rattle.profile_lint.specs.Whole.{faults_of_whole, is_settled, is_ungiven};
+ghost use Rattle.profile_lint.specs.Whole.{orientations_of, page_faults, pair_faults, sizes_of};
+ghost use Rattle.profile_lint.specs.Whole.{ungiven_fault, unheld, unless, unpaired, where_settled};
+ghost use Rattle.profile_lint.specs.Whole.{with_new};
 
 use crate::fault::{TextFault, has_faulty_line};
 use device_profile::{Draft, Field, Geometry, Key, has_face, has_orientation, has_row, has_size};

@@ -1,5 +1,6 @@
 -- What is shown of the resident faces.
-use Rattle.std.specs.Prelude.{ℕ, ℤ, ◌==◌, ◌&&◌, Bool, false, if◌then◌else◌, List, [], ◌∷◌, ◌++◌, flat_map, Option, None, Some, decimal, codes}
+use Rattle.std.specs.Prelude.{ℕ, ℤ, ◌==◌, ◌&&◌, Bool, false, if◌then◌else◌, List, [], ◌∷◌, ◌++◌, flat_map, Option, None}
+use Rattle.std.specs.Prelude.{Some, decimal, codes}
 use Rattle.std.specs.Ordering.{int_eq}
 use Rattle.std.specs.Option.{option_map_or}
 use Rattle.device_profile.specs.declared.font.CodeRange.{CodeRange}
@@ -14,7 +15,8 @@ use Rattle.profile_show.specs.Words.{set_words, cut_words}
 -- the requests are of one cut: alike in all that selects a font but the symbol set; the spacing of all is fixed
 abbrev pub is_same_cut : FontRequest → FontRequest → Bool
 is_same_cut a b =
-    (a.typeface == b.typeface) && (a.style == b.style) && int_eq a.weight b.weight && (a.pitch == b.pitch) && (a.height == b.height)
+    (a.typeface == b.typeface) && (a.style == b.style) && int_eq a.weight b.weight && (a.pitch == b.pitch)
+    && (a.height == b.height)
 
 -- the faces share a heading: they are of one cut, and their characters lie alike
 unfoldable pub is_alike : Face → Face → Bool

@@ -1,5 +1,6 @@
 -- Numbers and lengths as they stand in a text.
-use Rattle.std.specs.Prelude.{ℕ, suc, ℤ, pos, negsuc, unsigned_abs, ◌+◌, ◌*◌, ◌/◌, ◌==◌, if◌then◌else◌, List, [], ◌∷◌, ◌++◌, decimal, codes}
+use Rattle.std.specs.Prelude.{ℕ, suc, ℤ, pos, negsuc, unsigned_abs, ◌+◌, ◌*◌, ◌/◌, ◌==◌, if◌then◌else◌, List, [], ◌∷◌}
+use Rattle.std.specs.Prelude.{◌++◌, decimal, codes}
 use Rattle.shown_bytes.specs.Decimals.{amount, with_hundredths, with_tenth}
 use Rattle.profile_show.specs.declared.figures.LengthUnit.{LengthUnit}
 use Rattle.profile_show.specs.declared.figures.LengthUnit.TheVariants.{Millimetres, Inches, Dots}

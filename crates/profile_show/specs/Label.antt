@@ -1,7 +1,8 @@
 -- The fixed words of the lines.
 use Rattle.std.specs.Prelude.{ℕ, List, codes}
 use Rattle.profile_show.specs.declared.label.Label.{Label}
-use Rattle.profile_show.specs.declared.label.Label.TheVariants.{Unset, Pages, LogicalPage, FromLeft, FromTop, PrintableArea, Advance, Ascent, Descent, Per7200}
+use Rattle.profile_show.specs.declared.label.Label.TheVariants.{Unset, Pages, LogicalPage, FromLeft, FromTop}
+use Rattle.profile_show.specs.declared.label.Label.TheVariants.{PrintableArea, Advance, Ascent, Descent, Per7200}
 
 unfoldable pub label : Label → List ℕ
 label Unset = codes "    a job that does not set it fails by "

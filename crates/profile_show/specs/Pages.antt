@@ -13,7 +13,8 @@ use Rattle.profile_show.specs.Words.{size_words, orientation_words}
 
 -- the orientation in which the sheet stands on its head
 abbrev pub reverse_of : ℕ → ℕ
-reverse_of orientation = if orientation == 0 then 2 else (if orientation == 1 then 3 else (if orientation == 2 then 0 else 1))
+reverse_of orientation =
+    if orientation == 0 then 2 else (if orientation == 1 then 3 else (if orientation == 2 then 0 else 1))
 
 -- the two have the same lengths
 abbrev pub has_same_lengths : Geometry → Geometry → Bool
@@ -32,7 +33,8 @@ is_same_reversed pages page =
 -- the orientations for which the lines of a page stand
 unfoldable pub orientations_words : Bool → Geometry → List ℕ
 orientations_words is_both page =
-    orientation_words page.orientation ++ (if is_both then codes " and " ++ orientation_words (reverse_of page.orientation) else [])
+    orientation_words page.orientation
+    ++ (if is_both then codes " and " ++ orientation_words (reverse_of page.orientation) else [])
 
 -- the sides of the physical page, and what follows
 abbrev pub sheet_words : LengthUnit → Geometry → List ℕ → List ℕ
@@ -62,7 +64,8 @@ printable_line page =
     ++ codes " across, " ++ span_words page.printable_top page.printable_bottom ++ codes " down\n"
 
 unfoldable pub page_heading : Bool → Geometry → List ℕ
-page_heading is_both page = codes "  " ++ size_words page.size ++ codes ", " ++ orientations_words is_both page ++ codes ":\n"
+page_heading is_both page =
+    codes "  " ++ size_words page.size ++ codes ", " ++ orientations_words is_both page ++ codes ":\n"
 
 -- the lines of a page
 unfoldable pub lines_of : Bool → Geometry → List ℕ

@@ -2,14 +2,16 @@
 use Rattle.std.specs.Prelude.{ℕ, nat_lt, length, if◌then◌else◌, List, [], ◌∷◌, ◌++◌, flat_map, decimal, codes}
 use Rattle.std.specs.Option.{option_map_or}
 use Rattle.device_profile.specs.declared.field.Field.{Field}
-use Rattle.device_profile.specs.declared.field.Field.TheVariants.{Size, Orientation, Vmi, Font, Copies, Sides, Tray, LineTerm}
+use Rattle.device_profile.specs.declared.field.Field.TheVariants.{Size, Orientation, Vmi, Font, Copies, Sides, Tray}
+use Rattle.device_profile.specs.declared.field.Field.TheVariants.{LineTerm}
 use Rattle.device_profile.specs.declared.font.FontRequest.{FontRequest}
 use Rattle.device_profile.specs.Field.{every_field, field_key, field_name}
 use Rattle.device_profile.specs.Faces.{Face, face_at}
 use Rattle.device_profile.specs.Printer.{Printer, values_of}
 use Rattle.profile_show.specs.declared.label.Label.TheVariants.{Unset}
 use Rattle.profile_show.specs.Label.{label}
-use Rattle.profile_show.specs.Words.{numbered, size_words, orientation_words, vmi_words, sides_name, termination_name, set_words, cut_words}
+use Rattle.profile_show.specs.Words.{numbered, size_words, orientation_words, vmi_words, sides_name, termination_name}
+use Rattle.profile_show.specs.Words.{set_words, cut_words}
 
 -- what selects a font
 unfoldable pub request_words : FontRequest → List ℕ
@@ -18,7 +20,8 @@ request_words request = set_words request.symbol_set ++ codes ", " ++ cut_words 
 -- a face by its id, and what selects it
 unfoldable pub font_words : List Face → ℕ → List ℕ
 font_words faces id =
-    codes "face " ++ decimal id ++ option_map_or (λ face. codes ", " ++ request_words face.request) (face_at faces id) []
+    codes "face " ++ decimal id
+    ++ option_map_or (λ face. codes ", " ++ request_words face.request) (face_at faces id) []
 
 -- a value of a field
 unfoldable pub value_words : List Face → Field → ℕ → List ℕ
@@ -57,7 +60,8 @@ unset_line field values =
 -- the lines of a field
 unfoldable pub field_lines : Printer → Field → List ℕ
 field_lines printer field =
-    codes "  " ++ field_key field ++ codes ": " ++ values_words printer.faces field (values_of printer field) ++ codes "\n"
+    codes "  " ++ field_key field ++ codes ": " ++ values_words printer.faces field (values_of printer field)
+    ++ codes "\n"
     ++ unset_line field (values_of printer field)
 
 unfoldable pub panel_lines : Printer → List ℕ

@@ -1,5 +1,6 @@
 -- The words for the numbers of a profile.
-use Rattle.std.specs.Prelude.{ℕ, ℤ, pos, ◌/◌, ◌%◌, ◌==◌, ◌&&◌, nat_lt, if◌then◌else◌, List, [], ◌∷◌, ◌++◌, Option, find, decimal, codes}
+use Rattle.std.specs.Prelude.{ℕ, ℤ, pos, ◌/◌, ◌%◌, ◌==◌, ◌&&◌, nat_lt, if◌then◌else◌, List, [], ◌∷◌, ◌++◌, Option, find}
+use Rattle.std.specs.Prelude.{decimal, codes}
 use Rattle.std.specs.Ordering.{int_eq}
 use Rattle.std.specs.Option.{option_map_or}
 use Rattle.device_profile.specs.declared.font.FontRequest.{FontRequest}
@@ -21,7 +22,8 @@ paper_of size = find (λ paper. code_of paper == size) every_paper
 
 -- a size by the name of its paper, where it has one
 unfoldable pub size_words : ℕ → List ℕ
-size_words size = option_map_or (λ paper. numbered (word_of paper) size) (paper_of size) (codes "paper " ++ decimal size)
+size_words size =
+    option_map_or (λ paper. numbered (word_of paper) size) (paper_of size) (codes "paper " ++ decimal size)
 
 abbrev pub orientation_name : ℕ → List ℕ
 orientation_name orientation =
@@ -36,7 +38,9 @@ orientation_words orientation = numbered (orientation_name orientation) orientat
 -- how many lines an inch has, where that is a whole number: a line is so many ten-thousandths of 1/48 inch
 abbrev pub lines_an_inch : ℕ → List ℕ
 lines_an_inch vmi =
-    if nat_lt 0 vmi && (480_000 % vmi == 0) then codes " (" ++ counted (480_000 / vmi) (codes "line") ++ codes " an inch)" else []
+    if nat_lt 0 vmi && (480_000 % vmi == 0)
+    then codes " (" ++ counted (480_000 / vmi) (codes "line") ++ codes " an inch)"
+    else []
 
 abbrev pub vmi_words : ℕ → List ℕ
 vmi_words vmi = amount vmi ++ codes "/48 inch" ++ lines_an_inch vmi
@@ -81,7 +85,8 @@ n_set_name number =
     else []))))
 
 abbrev pub set_name : SymbolSet → List ℕ
-set_name set = if set.letter == 85 then u_set_name set.number else (if set.letter == 78 then n_set_name set.number else [])
+set_name set =
+    if set.letter == 85 then u_set_name set.number else (if set.letter == 78 then n_set_name set.number else [])
 
 -- a symbol set by its number and letter, and its name
 unfoldable pub set_words : SymbolSet → List ℕ
@@ -97,16 +102,19 @@ typeface_words typeface =
     else codes "typeface " ++ amount typeface))))
 
 unfoldable pub style_words : ℕ → List ℕ
-style_words style = if style == 0 then codes "upright" else (if style == 10_000 then codes "italic" else codes "style " ++ amount style)
+style_words style =
+    if style == 0 then codes "upright" else (if style == 10_000 then codes "italic" else codes "style " ++ amount style)
 
 unfoldable pub weight_words : ℤ → List ℕ
 weight_words weight =
-    if int_eq weight (pos 0) then codes "medium" else (if int_eq weight (pos 30_000) then codes "bold" else codes "weight " ++ signed_amount weight)
+    if int_eq weight (pos 0) then codes "medium"
+    else (if int_eq weight (pos 30_000) then codes "bold" else codes "weight " ++ signed_amount weight)
 
 -- the design of the letters
 unfoldable pub design_words : FontRequest → List ℕ
 design_words request =
-    typeface_words request.typeface ++ codes ", " ++ style_words request.style ++ codes ", " ++ weight_words request.weight
+    typeface_words request.typeface ++ codes ", " ++ style_words request.style ++ codes ", "
+    ++ weight_words request.weight
 
 -- how large they are
 unfoldable pub letter_size : FontRequest → List ℕ

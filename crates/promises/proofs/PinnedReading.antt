@@ -1,5 +1,6 @@
 -- The text of a pinned job is read as its items, each where it stands.
-use Rattle.std.proofs.Common.{◌≡◌, ◌≤◌, ℕ, ◌*◌, ◌==◌, ◌&&◌, Bool, true, false, not, cond, List, [], ◌∷◌, ◌++◌, drop, append_assoc, Option, Some, None, IsTrue, refl, ap, sym, ◌∙◌, subst, arith}
+use Rattle.std.proofs.Common.{◌≡◌, ◌≤◌, ℕ, ◌*◌, ◌==◌, ◌&&◌, Bool, true, false, not, cond, List, [], ◌∷◌, ◌++◌, drop, append_assoc, Option}
+use Rattle.std.proofs.Common.{Some, None, IsTrue, refl, ap, sym, ◌∙◌, subst, arith}
 use Rattle.std.specs.Prelude.{IsSomeAnd}
 use Rattle.std.specs.List.{AllByRecursion, flat_map}
 use Rattle.std.specs.Option.{option_map_or}
@@ -23,7 +24,8 @@ use Rattle.pcl_spelling.proofs.Spellings.ReadAgain.{AreAdmitted-append, mode_beh
 use Rattle.pcl_lexer.proofs.Reading.Stopping.{read_by_rules}
 use Rattle.page_env.specs.FontInForce.{request_at, no_request}
 use Rattle.page_env.specs.Pinned.{is_unpinnable}
-use Rattle.page_machine.specs.Pinning.{spacing, prologue, needs_no_prologue, before, behind, is_due_behind, pinned_items, placed_from, place_behind}
+use Rattle.page_machine.specs.Pinning.{spacing, prologue, needs_no_prologue, before, behind, is_due_behind, pinned_items, placed_from}
+use Rattle.page_machine.specs.Pinning.{place_behind}
 use Rattle.renderings.specs.Pins.{pinned_item, pinned_text}
 use Rattle.renderings.proofs.PinSettings.{within, Sendable, sendable}
 use Rattle.promises.proofs.ReadAgain.{items_admitted}
@@ -36,7 +38,8 @@ spelled_flat [] = refl
 spelled_flat (x ∷ xs) = ap (λ l. canon x ++ l) (spelled_flat xs)
 
 module _ (panel : Panel) (request : FontRequest) where
-  three_spelled : (xs : List Entry) (item : Entry) (ys rest : List Entry) → ((flat_map canon xs ++ canon item) ++ flat_map canon ys) ++ spelled rest ≡ spelled (xs ++ item ∷ ys ++ rest)
+  three_spelled : (xs : List Entry) (item : Entry) (ys rest : List Entry) →
+      ((flat_map canon xs ++ canon item) ++ flat_map canon ys) ++ spelled rest ≡ spelled (xs ++ item ∷ ys ++ rest)
   three_spelled xs item ys rest =
       let last : spelled xs ++ (canon item ++ spelled ys) ≡ spelled (xs ++ item ∷ ys) = sym (spelled-append xs (item ∷ ys)) in
       ap (λ l. ((l ++ canon item) ++ flat_map canon ys) ++ spelled rest) (spelled_flat xs)
@@ -45,7 +48,8 @@ module _ (panel : Panel) (request : FontRequest) where
       ∙ sym (spelled-append (xs ++ item ∷ ys) rest)))
 
   -- what is written of items that can all be pinned is the spelling of the pinned ones
-  pub text_is_spelled : (due : Bool) (items : List Placed) → AllByRecursion (λ (x : Placed). is_unpinnable x.item ≡ false) items → pinned_text panel request due items ≡ spelled (pinned_items panel request due (entries items))
+  pub text_is_spelled : (due : Bool) (items : List Placed) → AllByRecursion (λ (x : Placed). is_unpinnable x.item ≡ false) items →
+      pinned_text panel request due items ≡ spelled (pinned_items panel request due (entries items))
   text_is_spelled due [] all = refl
   text_is_spelled due (x ∷ items) all =
       let rest : List Entry = pinned_items panel request (is_due_behind due x.item) (entries items) in
@@ -53,7 +57,8 @@ module _ (panel : Panel) (request : FontRequest) where
       ∙ (ap (λ l. pinned_item panel request due x.item ++ l) (text_is_spelled (is_due_behind due x.item) items all.1)
       ∙ three_spelled (before panel request due x.item) x.item (behind panel x.item) rest)
 
-pub all_entries : (items : List Placed) → AllByRecursion (λ (x : Placed). is_unpinnable x.item ≡ false) items → AllByRecursion (λ item. is_unpinnable item ≡ false) (entries items)
+pub all_entries : (items : List Placed) → AllByRecursion (λ (x : Placed). is_unpinnable x.item ≡ false) items →
+    AllByRecursion (λ item. is_unpinnable item ≡ false) (entries items)
 all_entries [] all = tt
 all_entries (x ∷ items) all = (all.0, all_entries items all.1)
 
@@ -61,7 +66,8 @@ all_entries (x ∷ items) all = (all.0, all_entries items all.1)
 
 -- a mode outside a frame is one in which a job may end
 
-prologue_then : (mode : Mode) → MayEnd mode → (item : Entry) (next : Mode) → needs_no_prologue item ≡ false → follows mode item ≡ Some next → follows Pcl item ≡ Some next
+prologue_then : (mode : Mode) → MayEnd mode → (item : Entry) (next : Mode) → needs_no_prologue item ≡ false →
+    follows mode item ≡ Some next → follows Pcl item ≡ Some next
 prologue_then Pcl out item next needs e = e
 prologue_then Frame out item next needs e = absurd out
 prologue_then Pjl out (Text code) next needs e = by (code == at_sign) e
@@ -107,7 +113,8 @@ module _ (printer : Printer) (panel : Panel) (set : CanBeSetTo printer panel) wh
   abbrev request : FontRequest
   request = request_at printer.faces panel.font
 
-  asked : (found : Option Face) → IsSomeAnd found (λ face. IsTrue (is_request face.request)) → IsTrue (is_request (option_map_or (λ face. face.request) found no_request))
+  asked : (found : Option Face) → IsSomeAnd found (λ face. IsTrue (is_request face.request)) →
+      IsTrue (is_request (option_map_or (λ face. face.request) found no_request))
   asked None is = absurd is
   asked (Some face) is = is
 
@@ -117,7 +124,8 @@ module _ (printer : Printer) (panel : Panel) (set : CanBeSetTo printer panel) wh
   spacing_is : panel.vmi ≤ most
   spacing_is = let h : panel.vmi ≤ 3_350_000 = (within 0 3_350_000 panel.vmi set.values.vmi).1 in omega arith
 
-  prologue_admitted : (mode : Mode) → MayEnd mode → Stands mode (prologue panel request) (prologue panel request) × (mode_behind mode (prologue panel request) ≡ Some Pcl)
+  prologue_admitted : (mode : Mode) → MayEnd mode →
+      Stands mode (prologue panel request) (prologue panel request) × (mode_behind mode (prologue panel request) ≡ Some Pcl)
   prologue_admitted mode out = (record { admitted = by mode out; same = refl }, left mode out)
     where
       left : (mode : Mode) → MayEnd mode → mode_behind mode (prologue panel request) ≡ Some Pcl
@@ -136,7 +144,11 @@ module _ (printer : Printer) (panel : Panel) (set : CanBeSetTo printer panel) wh
           let tray : panel.tray ≤ 255 = (within 1 255 panel.tray set.values.tray).1 in
           let ending : panel.line_termination ≤ 3 = (within 0 3 panel.line_termination set.values.line_termination).1 in
           some (omega arith) refl (some (omega arith) refl (some (omega arith) refl (some (omega arith) refl (some spacing_is refl
-          (some (can.number, can.letter) refl (some can.spacing refl (some can.pitch refl (some can.height refl (some can.style refl (some can.weight refl (some can.typeface refl (some (omega arith) refl none))))))))))))
+          (some (can.number, can.letter) refl
+              (some can.spacing refl
+              (some can.pitch refl
+              (some can.height refl
+              (some can.style refl (some can.weight refl (some can.typeface refl (some (omega arith) refl none))))))))))))
 
       by : (mode : Mode) → MayEnd mode → AreAdmitted mode (prologue panel request)
       by Pcl out = some size_is refl behind_first
@@ -144,33 +156,41 @@ module _ (printer : Printer) (panel : Panel) (set : CanBeSetTo printer panel) wh
       by Pjl out = some size_is refl behind_first
 
   -- the spacing behind an orientation
-  spaced : (item : Entry) (mode next : Mode) → follows mode item ≡ Some next → (items written : List Entry) → Stands next items written → Stands next items (behind panel item ++ written)
+  spaced : (item : Entry) (mode next : Mode) → follows mode item ≡ Some next → (items written : List Entry) → Stands next items written →
+      Stands next items (behind panel item ++ written)
   spaced (Parameterized Orientation n) Pcl next e items written h = behind_turn next e items written h
     where
-      behind_turn : (next : Mode) → Some Pcl ≡ Some next → (items written : List Entry) → Stands next items written → Stands next items (spacing panel.vmi ∷ written)
+      behind_turn : (next : Mode) → Some Pcl ≡ Some next → (items written : List Entry) → Stands next items written →
+          Stands next items (spacing panel.vmi ∷ written)
       behind_turn next e items written h =
           let same : Pcl ≡ next = cc in
           subst (λ (m : Mode). Stands m items (spacing panel.vmi ∷ written)) same
-          (let k : Stands Pcl items written = subst (λ (m : Mode). Stands m items written) (sym same) h in record { admitted = some spacing_is refl k.admitted; same = k.same })
+          (let k : Stands Pcl items written =
+          subst (λ (m : Mode). Stands m items written) (sym same) h in record { admitted = some spacing_is refl k.admitted; same = k.same })
   spaced (Parameterized Orientation n) Frame next e items written h = absurd cc
   spaced (Parameterized Orientation n) Pjl next e items written h = behind_turn next e items written h
     where
-      behind_turn : (next : Mode) → Some Pcl ≡ Some next → (items written : List Entry) → Stands next items written → Stands next items (spacing panel.vmi ∷ written)
+      behind_turn : (next : Mode) → Some Pcl ≡ Some next → (items written : List Entry) → Stands next items written →
+          Stands next items (spacing panel.vmi ∷ written)
       behind_turn next e items written h =
           let same : Pcl ≡ next = cc in
           subst (λ (m : Mode). Stands m items (spacing panel.vmi ∷ written)) same
-          (let k : Stands Pcl items written = subst (λ (m : Mode). Stands m items written) (sym same) h in record { admitted = some spacing_is refl k.admitted; same = k.same })
+          (let k : Stands Pcl items written =
+          subst (λ (m : Mode). Stands m items written) (sym same) h in record { admitted = some spacing_is refl k.admitted; same = k.same })
   spaced item mode next e items written h = h
 
   -- an item and what is written behind it
-  item_stands : (item : Entry) (mode next : Mode) → IsItem item → follows mode item ≡ Some next → (items written : List Entry) → Stands next items written → Stands mode (item ∷ items) (item ∷ written)
+  item_stands : (item : Entry) (mode next : Mode) → IsItem item → follows mode item ≡ Some next → (items written : List Entry) →
+      Stands next items written → Stands mode (item ∷ items) (item ∷ written)
   item_stands item mode next is e items written h = record {
     admitted = some is e h.admitted;
     same = ap (λ m. mode_after m written) e ∙ (h.same ∙ ap (λ m. mode_after m items) (sym e));
   }
 
   -- and what is written before it
-  prologue_stands : (item : Entry) (mode next : Mode) → MayEnd mode → needs_no_prologue item ≡ false → follows mode item ≡ Some next → (items written : List Entry) → Stands Pcl (item ∷ items) (item ∷ written) → Stands mode (item ∷ items) (prologue panel request ++ item ∷ written)
+  prologue_stands : (item : Entry) (mode next : Mode) → MayEnd mode → needs_no_prologue item ≡ false → follows mode item ≡ Some next →
+      (items written : List Entry) → Stands Pcl (item ∷ items) (item ∷ written) →
+      Stands mode (item ∷ items) (prologue panel request ++ item ∷ written)
   prologue_stands item mode next out needs e items written h =
       let first = prologue_admitted mode out in
       record {
@@ -180,15 +200,19 @@ module _ (printer : Printer) (panel : Panel) (set : CanBeSetTo printer panel) wh
             ∙ (h.same ∙ (ap (λ m. mode_after m items) (prologue_then mode out item next needs e) ∙ ap (λ m. mode_after m items) (sym e)));
       }
 
-  pub pinned_stands : (items : List Entry) (mode : Mode) (due : Bool) → (due ≡ true → MayEnd mode) → AreAdmitted mode items → Stands mode items (pinned_items panel request due items)
+  pub pinned_stands : (items : List Entry) (mode : Mode) (due : Bool) → (due ≡ true → MayEnd mode) → AreAdmitted mode items →
+      Stands mode items (pinned_items panel request due items)
   pinned_stands [] mode due out none = record { admitted = none; same = refl }
   pinned_stands (item ∷ items) mode due out (some {next = next} is e others) =
-      by due (needs_no_prologue item) refl out (spaced item mode next e items rest (pinned_stands items next (is_due_behind due item) (due_outside mode next due item e) others))
+      by due (needs_no_prologue item) refl out
+      (spaced item mode next e items rest (pinned_stands items next (is_due_behind due item) (due_outside mode next due item e) others))
     where
       rest : List Entry
       rest = pinned_items panel request (is_due_behind due item) items
 
-      by : (due needs : Bool) → needs_no_prologue item ≡ needs → (due ≡ true → MayEnd mode) → Stands next items (behind panel item ++ rest) → Stands mode (item ∷ items) (cond (due && not needs) (prologue panel request) [] ++ item ∷ behind panel item ++ rest)
+      by : (due needs : Bool) → needs_no_prologue item ≡ needs → (due ≡ true → MayEnd mode) →
+          Stands next items (behind panel item ++ rest) →
+          Stands mode (item ∷ items) (cond (due && not needs) (prologue panel request) [] ++ item ∷ behind panel item ++ rest)
       by true false needs out h =
           prologue_stands item mode next (out refl) needs e items (behind panel item ++ rest)
           (item_stands item Pcl next is (prologue_then mode (out refl) item next needs e) items (behind panel item ++ rest) h)
@@ -198,7 +222,8 @@ module _ (printer : Printer) (panel : Panel) (set : CanBeSetTo printer panel) wh
 -- ---- what is read
 
 -- The spellings of the pinned items are read as these items, where a job's bytes are all items.
-pub pinned_is_read : (printer : Printer) (panel : Panel) (set : CanBeSetTo printer panel) (job : List ℕ) (items : List Placed) (place : ℕ) → IsReading job (Whole items place) →
+pub pinned_is_read : (printer : Printer) (panel : Panel) (set : CanBeSetTo printer panel) (job : List ℕ) (items : List Placed) (place : ℕ) →
+    IsReading job (Whole items place) →
     let written = pinned_items panel (request_at printer.faces panel.font) true (entries items) in
     IsReading (spelled written) (Whole (placed_from 0 written) (place_behind 0 written))
 pinned_is_read printer panel set job items place is =

@@ -16,7 +16,8 @@ use Rattle.preflight.proofs.Same.{same_events}
 no_difference : (profile before : ℕ) (items : List ItemRun) → differences_in items profile before items ≡ []
 no_difference profile before [] = refl
 no_difference profile before (x ∷ items) =
-    ap (λ (same : Bool). cond same (differences_in items profile (before + 1) items) (wrong before x.place profile Differs ∷ [])) (same_events x.events x.events refl)
+    ap (λ (same : Bool). cond same (differences_in items profile (before + 1) items) (wrong before x.place profile Differs ∷ []))
+    (same_events x.events x.events refl)
     ∙ no_difference profile (before + 1) items
 
 -- a finding with its place, or what there is without one
@@ -28,16 +29,19 @@ module _ (reading : Reading) (events : List Event) where
   abbrev by : List Wrong → Verdict
   by ws = verdict_by (soonest ws) reading events
 
-  findings_tell : (before : ℕ) (items : List ItemRun) → by (findings_in 1 before items) ≡ told (finding_of items) (verdict_by None reading events)
+  findings_tell : (before : ℕ) (items : List ItemRun) →
+      by (findings_in 1 before items) ≡ told (finding_of items) (verdict_by None reading events)
   findings_tell before [] = refl
   findings_tell before (x ∷ items) = at x.finding (findings_tell (before + 1) items)
     where
       at : (found : Option Finding) → by (findings_in 1 (before + 1) items) ≡ told (finding_of items) (verdict_by None reading events)
-          → by (found_or 1 before x.place found (findings_in 1 (before + 1) items)) ≡ told (found_at x.place found (finding_of items)) (verdict_by None reading events)
+          → by (found_or 1 before x.place found (findings_in 1 (before + 1) items))
+          ≡ told (found_at x.place found (finding_of items)) (verdict_by None reading events)
       at None later = later
       at (Some finding) later = refl
 
-  pub alone : (items : List ItemRun) → verdict_by (first_wrong (items ∷ [])) reading events ≡ told (finding_of items) (verdict_by None reading events)
+  pub alone : (items : List ItemRun) →
+      verdict_by (first_wrong (items ∷ [])) reading events ≡ told (finding_of items) (verdict_by None reading events)
   alone items =
       ap (λ (ws : List Wrong). by ((findings_in 1 0 items ++ []) ++ (ws ++ []))) (no_difference 1 0 items)
       ∙ (ap by (append-nil (findings_in 1 0 items ++ []))
@@ -45,7 +49,9 @@ module _ (reading : Reading) (events : List Event) where
       ∙ findings_tell 0 items))
 
 -- runs of the same outcome have the same verdict
-pub same_verdict : (reading : Reading) (r r' : JobRun) → IsSameOutcome r r' → verdict_by (first_wrong (r'.items ∷ [])) reading (events_of r'.items) ≡ verdict_by (first_wrong (r.items ∷ [])) reading (events_of r.items)
+pub same_verdict : (reading : Reading) (r r' : JobRun) → IsSameOutcome r r' →
+    verdict_by (first_wrong (r'.items ∷ [])) reading (events_of r'.items)
+    ≡ verdict_by (first_wrong (r.items ∷ [])) reading (events_of r.items)
 same_verdict reading r r' same =
     alone reading (events_of r'.items) r'.items
     ∙ (ap (λ (found : Option (ℕ × Finding)). told found (verdict_by None reading (events_of r'.items))) same.finding

@@ -17,11 +17,14 @@ use Rattle.pcl_spelling.proofs.Spellings.ReadAgain.{reads_mode}
 use Rattle.pcl_lexer.proofs.Reading.Stopping.{read_by_rules}
 use Rattle.page_machine.specs.Pinning.{placed_from, place_behind}
 
-pub placed_reads : (mode final : Mode) (place : ℕ) (items : List Entry) → AreAdmitted mode items → mode_behind mode items ≡ Some final → ReadsTo true (between mode) place (spelled items) (placed_from place items) (between final) (place_behind place items) []
-placed_reads mode final place [] none e = let same : mode ≡ final = cc in subst (λ (m : Mode). ReadsTo true (between mode) place [] [] (between m) place []) same here
+pub placed_reads : (mode final : Mode) (place : ℕ) (items : List Entry) → AreAdmitted mode items → mode_behind mode items ≡ Some final →
+    ReadsTo true (between mode) place (spelled items) (placed_from place items) (between final) (place_behind place items) []
+placed_reads mode final place [] none e =
+    let same : mode ≡ final = cc in subst (λ (m : Mode). ReadsTo true (between mode) place [] [] (between m) place []) same here
 placed_reads mode final place (item ∷ items) (some {next = next} is e others) behind =
     let later : mode_behind next items ≡ Some final = ap (λ m. mode_after m items) (sym e) ∙ behind in
-    ReadsTo-append ((has_canon mode next item is e).reads true place (spelled items)) (placed_reads next final (place + length (canon item)) items others later)
+    ReadsTo-append ((has_canon mode next item is e).reads true place (spelled items))
+    (placed_reads next final (place + length (canon item)) items others later)
 
 pub mode_ends : (context : Context) → MayEndAt context → MayEnd (mode_of context)
 mode_ends contexts.Pcl h = tt
@@ -37,7 +40,8 @@ ends_between Frame h = absurd h
 ends_between Pjl h = tt
 
 -- so are those of the items of a job whose bytes are all items
-pub spelled_is_read : (job : List ℕ) (items : List Placed) (place : ℕ) → IsReading job (Whole items place) → AreAdmitted Pcl (entries items) →
+pub spelled_is_read : (job : List ℕ) (items : List Placed) (place : ℕ) → IsReading job (Whole items place) →
+    AreAdmitted Pcl (entries items) →
     IsReading (spelled (entries items)) (Whole (placed_from 0 (entries items)) (place_behind 0 (entries items)))
 spelled_is_read job items place is admitted =
     let written : List Entry = entries items in

@@ -17,7 +17,8 @@ use Rattle.preflight.specs.Failing.{events_by_item}
 use Rattle.preflight.specs.Verdict.{verdict_of}
 
 -- from this panel a job of these items runs clean on a printer: the plain run comes to its end, and prints these pages
-pub record IsClean (printer : Printer) (panel : Panel) (items : List Placed) (place : ℕ) (printed : List PrintedPage) : Type 0 where
+pub record IsClean (printer : Printer) (panel : Panel) (items : List Placed) (place : ℕ)
+    (printed : List PrintedPage) : Type 0 where
   pub end : State
   pub is_done : (plain_run printer panel (Whole items place)).ending ≡ Done end
   pub prints : pages (events_of (plain_run printer panel (Whole items place)).items) ≡ printed
@@ -26,19 +27,21 @@ pub record IsClean (printer : Printer) (panel : Panel) (items : List Placed) (pl
 abbrev pub LeavesNothing : Printer → Type 0
 LeavesNothing printer = (field : Field) → length (values_of printer field) ≤ 1
 
--- from the panels that the profiles list first a job runs clean on each printer of a fleet, with the same pages, and gives the same
--- events item by item
+-- from the panels that the profiles list first a job runs clean on each printer of a fleet, with the same pages, and
+-- gives the same events item by item
 pub record AreClean (fleet : List Printer) (items : List Placed) (place : ℕ) : Type 0 where
   pub printed : List PrintedPage
   pub clean : (printer : Printer) → Contains fleet printer → IsClean printer (first_panel printer) items place printed
   pub events : List (List Event)
-  pub alike : (printer : Printer) → Contains fleet printer → events_by_item (plain_run printer (first_panel printer) (Whole items place)).items ≡ events
+  pub alike : (printer : Printer) → Contains fleet printer →
+      events_by_item (plain_run printer (first_panel printer) (Whole items place)).items ≡ events
 
 abbrev pub IsPass : Verdict → Type 0
 IsPass (Pass page_total mark_total) = Unit {0}
 IsPass (Fail place profile finding) = ⊥
 
--- printers that leave nothing to their panels pass a job, all bytes of which are items, exactly where it runs clean on them
+-- printers that leave nothing to their panels pass a job, all bytes of which are items, exactly where it
+-- runs clean on them
 abbrev pub PassesWhereClean : List Printer → List Placed → ℕ → Type 0
 PassesWhereClean fleet items place =
     ((printer : Printer) → Contains fleet printer → LeavesNothing printer) →

@@ -20,7 +20,8 @@ items_behind x (Stopped items place cause) = refl
 
 module _ (panel : Panel) (request : FontRequest) (due : Bool) (x : Placed) where
   abbrev text_from : Bool → List Placed → List ℕ
-  text_from unpinnable items = if unpinnable then [] else (pinned_item panel request due x.item ++ pinned_text panel request (is_due_behind due x.item) items)
+  text_from unpinnable items =
+      if unpinnable then [] else (pinned_item panel request due x.item ++ pinned_text panel request (is_due_behind due x.item) items)
 
   abbrev outcome_from : Bool → List Placed → Outcome → Outcome
   outcome_from unpinnable items outcome = unpinnable_or (if unpinnable then Some x else find (λ y. is_unpinnable y.item) items) outcome
@@ -28,13 +29,15 @@ module _ (panel : Panel) (request : FontRequest) (due : Bool) (x : Placed) where
   text_with : (rest : Reading) → (pins_from panel request due).text (with_item x rest) ≡ text_from (is_unpinnable x.item) (items_of rest)
   text_with rest = ap (pinned_text panel request due) (items_behind x rest)
 
-  outcome_with : (rest : Reading) → pinned_outcome (with_item x rest) ≡ outcome_from (is_unpinnable x.item) (items_of rest) (reading_outcome rest)
+  outcome_with : (rest : Reading) →
+      pinned_outcome (with_item x rest) ≡ outcome_from (is_unpinnable x.item) (items_of rest) (reading_outcome rest)
   outcome_with rest =
       ap (λ items. unpinnable_or (find (λ y. is_unpinnable y.item) items) (reading_outcome (with_item x rest))) (items_behind x rest)
       ∙ ap (outcome_from (is_unpinnable x.item) (items_of rest)) (same_outcome x rest)
 
   -- an item that can be pinned goes with its text
-  pub pins_goes : is_unpinnable x.item ≡ false → RestGoesOn (pins_from panel request due) (pins_from panel request (is_due_behind due x.item)) x (pinned_item panel request due x.item)
+  pub pins_goes : is_unpinnable x.item ≡ false →
+      RestGoesOn (pins_from panel request due) (pins_from panel request (is_due_behind due x.item)) x (pinned_item panel request due x.item)
   pins_goes fine = record {
     due = λ rest. text_with rest ∙ ap (λ b. text_from b (items_of rest)) fine;
     outcome = λ rest. outcome_with rest ∙ ap (λ b. outcome_from b (items_of rest) (reading_outcome rest)) fine;
@@ -44,6 +47,10 @@ module _ (panel : Panel) (request : FontRequest) (due : Bool) (x : Placed) where
   -- another one ends the rendering
   pub pins_end : is_unpinnable x.item ≡ true → EndsWith (pins_from panel request due) (StartsWith x) [] (Fail x.place 1 Unpinnable)
   pins_end not_so = record {
-    due = λ reading starts. ap (pins_from panel request due).text starts.1 ∙ text_with starts.0 ∙ ap (λ b. text_from b (items_of starts.0)) not_so;
-    outcome_is = λ reading starts. ap pinned_outcome starts.1 ∙ outcome_with starts.0 ∙ ap (λ b. outcome_from b (items_of starts.0) (reading_outcome starts.0)) not_so;
+    due =
+        λ reading starts.
+        ap (pins_from panel request due).text starts.1 ∙ text_with starts.0 ∙ ap (λ b. text_from b (items_of starts.0)) not_so;
+    outcome_is =
+        λ reading starts.
+        ap pinned_outcome starts.1 ∙ outcome_with starts.0 ∙ ap (λ b. outcome_from b (items_of starts.0) (reading_outcome starts.0)) not_so;
   }

@@ -1,5 +1,6 @@
 -- A job can send what a panel has.
-use Rattle.std.proofs.Common.{◌≡◌, ℕ, ◌≤◌, ◌*◌, List, ◌++◌, append_assoc, IsTrue, inl, inr, nat_le, Result, Ok, Err, arith, sym, ap, subst, ◌∙◌}
+use Rattle.std.proofs.Common.{◌≡◌, ℕ, ◌≤◌, ◌*◌, List, ◌++◌, append_assoc, IsTrue, inl, inr, nat_le, Result, Ok, Err, arith, sym, ap, subst}
+use Rattle.std.proofs.Common.{◌∙◌}
 use Rattle.std.specs.Prelude.{OnOk, unsigned_abs}
 use Rattle.std.proofs.lemmas.Bool.{and_parts, or_cases, leb-true, eqb-true}
 use Rattle.device_profile.specs.declared.font.FontRequest.{FontRequest}
@@ -27,7 +28,8 @@ high_letter c h =
 
 set_letter : (c : ℕ) → IsTrue (is_set_letter c) → IsSetLetter c
 set_letter c is =
-    elim (or_cases (is_between 65 87 c) (is_between 89 90 c) is) [ inl low ↦ low_letter c (within 65 87 c low) | inr high ↦ high_letter c (within 89 90 c high) ]
+    elim (or_cases (is_between 65 87 c) (is_between 89 90 c) is)
+    [ inl low ↦ low_letter c (within 65 87 c low) | inr high ↦ high_letter c (within 89 90 c high) ]
 
 whole_within : (greatest n : ℕ) → greatest * 10_000 ≤ most → IsTrue (is_whole_up_to greatest n) → n ≤ most
 whole_within greatest n few is =
@@ -68,13 +70,15 @@ sendable request is =
 
 -- ---- texts that are appended one after another
 
-three_parts : (old first second third a b new : List ℕ) → a ≡ old ++ first → b ≡ a ++ second → new ≡ b ++ third → new ≡ old ++ ((first ++ second) ++ third)
+three_parts : (old first second third a b new : List ℕ) → a ≡ old ++ first → b ≡ a ++ second → new ≡ b ++ third →
+    new ≡ old ++ ((first ++ second) ++ third)
 three_parts old first second third a b new e f h =
     h
     ∙ (ap (λ l. l ++ third) (f ∙ ap (λ l. l ++ second) e)
     ∙ (ap (λ l. l ++ third) (append_assoc old first second)
     ∙ append_assoc old (first ++ second) third))
 
-pub pushed : {T E : Type 0} (r : Result T E) (old first second third a b new : List ℕ) → a ≡ old ++ first → b ≡ a ++ second → OnOk r (new ≡ b ++ third) → OnOk r (new ≡ old ++ ((first ++ second) ++ third))
+pub pushed : {T E : Type 0} (r : Result T E) (old first second third a b new : List ℕ) → a ≡ old ++ first → b ≡ a ++ second →
+    OnOk r (new ≡ b ++ third) → OnOk r (new ≡ old ++ ((first ++ second) ++ third))
 pushed (Ok x) old first second third a b new e f h = three_parts old first second third a b new e f h
 pushed (Err x) old first second third a b new e f h = tt

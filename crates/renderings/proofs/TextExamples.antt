@@ -28,13 +28,16 @@ escape = 27
 
 -- a reset, a letter page in portrait, and a rectangle, whose width is given
 abbrev rectangle : List ℕ → List ℕ
-rectangle width = escape ∷ codes "E" ++ escape ∷ codes "&l2a0O" ++ escape ∷ codes "*p2300x300Y" ++ escape ∷ codes "*c" ++ width ++ codes "a50b0P" ++ 12 ∷ []
+rectangle width =
+    escape ∷ codes "E" ++ escape ∷ codes "&l2a0O" ++ escape ∷ codes "*p2300x300Y" ++ escape ∷ codes "*c" ++ width ++ codes "a50b0P"
+    ++ 12 ∷ []
 
 abbrev panel : Panel
 panel = first_panel printer_a
 
 -- each command by itself, ended by its capital letter
-one_command_a_sequence : plain_text (reading_of (escape ∷ codes "E" ++ escape ∷ codes "&l2a0O" ++ escape ∷ codes "*p00300X" ++ 12 ∷ [])) ≡ escape ∷ codes "E" ++ escape ∷ codes "&l2A" ++ escape ∷ codes "&l0O" ++ escape ∷ codes "*p300X" ++ 12 ∷ []
+one_command_a_sequence : plain_text (reading_of (escape ∷ codes "E" ++ escape ∷ codes "&l2a0O" ++ escape ∷ codes "*p00300X" ++ 12 ∷ []))
+    ≡ escape ∷ codes "E" ++ escape ∷ codes "&l2A" ++ escape ∷ codes "&l0O" ++ escape ∷ codes "*p300X" ++ 12 ∷ []
 unfolding first_of after_escape after_introducer after_parenthesis command_in without_group field_at amount_of read_on reading_of digits
 one_command_a_sequence = refl
 
@@ -60,7 +63,8 @@ unfolding first_of after_escape after_introducer after_parenthesis command_in wi
 fails_at_the_fault = refl
 
 -- the usual wrapping, each line in its canonical spelling
-plain_lines : plain_text (reading_of (exit_text ++ codes "@PJL JOB NAME=\"x\"" ++ 13 ∷ 10 ∷ codes "@PJL ENTER LANGUAGE = PCL" ++ 13 ∷ 10 ∷ escape ∷ 69 ∷ exit_text))
+plain_lines : plain_text (reading_of
+    (exit_text ++ codes "@PJL JOB NAME=\"x\"" ++ 13 ∷ 10 ∷ codes "@PJL ENTER LANGUAGE = PCL" ++ 13 ∷ 10 ∷ escape ∷ 69 ∷ exit_text))
     ≡ exit_text ++ codes "@PJL JOB NAME=\"x\"\n@PJL ENTER LANGUAGE=PCL\n" ++ escape ∷ 69 ∷ exit_text
 unfolding first_of after_escape read_on reading_of at_pjl pjl_command_of trimmed in_words is_word past_part parts_behind is_language
 plain_lines = refl
@@ -76,19 +80,24 @@ unfolding first_of after_escape read_on reading_of at_pjl pjl_command_of trimmed
 listed_fault = refl
 
 -- a mark, and the end of its page
-pages_of_a_rectangle : pages_text printer_a panel (reading_of (rectangle (codes "125"))) ≡ codes "rect 0 0 289560000000 54864000000 304800000000 60960000000\npage 1 size=2 orientation=0 sides=0 tray=1 copies=1\n"
-unfolding first_of after_escape after_introducer after_parenthesis command_in without_group field_at amount_of read_on reading_of row_at geometry_at has_size has_orientation is_between is_inside page_reads page_and_line_reads bounds_words digits
+pages_of_a_rectangle : pages_text printer_a panel (reading_of (rectangle (codes "125")))
+    ≡ codes "rect 0 0 289560000000 54864000000 304800000000 60960000000\npage 1 size=2 orientation=0 sides=0 tray=1 copies=1\n"
+unfolding first_of after_escape after_introducer after_parenthesis command_in without_group field_at amount_of read_on reading_of row_at
+    geometry_at has_size has_orientation is_between is_inside page_reads page_and_line_reads bounds_words digits
 pages_of_a_rectangle = refl
 
 done_to_the_end : pages_outcome printer_a panel (reading_of (rectangle (codes "125"))) ≡ Done
-unfolding first_of after_escape after_introducer after_parenthesis command_in without_group field_at amount_of read_on reading_of row_at geometry_at has_size has_orientation is_between is_inside page_reads page_and_line_reads bounds_words digits
+unfolding first_of after_escape after_introducer after_parenthesis command_in without_group field_at amount_of read_on reading_of row_at
+    geometry_at has_size has_orientation is_between is_inside page_reads page_and_line_reads bounds_words digits
 done_to_the_end = refl
 
 -- one unit past the printable edge: a finding, before which nothing is marked
 nothing_before_the_finding : pages_text printer_a panel (reading_of (rectangle (codes "126"))) ≡ []
-unfolding first_of after_escape after_introducer after_parenthesis command_in without_group field_at amount_of read_on reading_of row_at geometry_at has_size has_orientation is_between is_inside page_reads page_and_line_reads bounds_words digits
+unfolding first_of after_escape after_introducer after_parenthesis command_in without_group field_at amount_of read_on reading_of row_at
+    geometry_at has_size has_orientation is_between is_inside page_reads page_and_line_reads bounds_words digits
 nothing_before_the_finding = refl
 
 fails_at_the_finding : pages_outcome printer_a panel (reading_of (rectangle (codes "126"))) ≡ Fail 31 1 (FindingOfRun NotPrintable)
-unfolding first_of after_escape after_introducer after_parenthesis command_in without_group field_at amount_of read_on reading_of row_at geometry_at has_size has_orientation is_between is_inside page_reads page_and_line_reads bounds_words digits
+unfolding first_of after_escape after_introducer after_parenthesis command_in without_group field_at amount_of read_on reading_of row_at
+    geometry_at has_size has_orientation is_between is_inside page_reads page_and_line_reads bounds_words digits
 fails_at_the_finding = refl

@@ -18,14 +18,18 @@ use Rattle.renderings.specs.Carriers.Rendered.{IsRendered, RendersOn}
 use Rattle.renderings.proofs.Renderings.{Puts-all, rendered_front}
 
 -- the text is due for every job that may be by the pieces
-pub due_by : (first : Rendering) (start written : OutletState) (source source' : SourceState) (pieces : List (List ℕ)) (outcome : Outcome) → source'.given ≡ source.given ++ pieces → IfSome source.remaining (MayBeBy pieces) → IsRendered first start pieces written outcome → WritesDue first source source' start written outcome
+pub due_by : (first : Rendering) (start written : OutletState) (source source' : SourceState) (pieces : List (List ℕ)) (outcome : Outcome) →
+    source'.given ≡ source.given ++ pieces → IfSome source.remaining (MayBeBy pieces) → IsRendered first start pieces written outcome →
+    WritesDue first source source' start written outcome
 due_by first start written source source' pieces outcome given_is known rendered = record {
   text = rendered.text;
   adds = rendered.adds;
   due = record { pieces = pieces; given = given_is; each = rendered.due; known = known };
 }
 
-module _ (first : Rendering) (start written : OutletState) (source source' : SourceState) (pieces : List (List ℕ)) (bytes : List ℕ) (given_is : source'.given ≡ source.given ++ pieces) (joined : concat pieces ≡ bytes) (consumed : Consumes source.remaining source'.remaining bytes) where
+module _ (first : Rendering) (start written : OutletState) (source source' : SourceState) (pieces : List (List ℕ)) (bytes : List ℕ)
+    (given_is : source'.given ≡ source.given ++ pieces) (joined : concat pieces ≡ bytes)
+    (consumed : Consumes source.remaining source'.remaining bytes) where
   all_consumed : Consumes source.remaining source'.remaining (concat pieces)
   all_consumed = subst (Consumes source.remaining source'.remaining) (sym joined) consumed
 
@@ -40,20 +44,24 @@ module _ (first : Rendering) (start written : OutletState) (source source' : Sou
     front = h.2;
   }
 
-  module _ (is_in : Mode → Type 0) (rendering : Rendering) (kept : List ℕ) (total total' : ℕ) (lexer : LexerState) (goes : RendersOn first start is_in bytes rendering written kept total total' lexer) where
+  module _ (is_in : Mode → Type 0) (rendering : Rendering) (kept : List ℕ) (total total' : ℕ) (lexer : LexerState)
+      (goes : RendersOn first start is_in bytes rendering written kept total total' lexer) where
     -- what was rendered is a front
     pub front_told : WritesFront first source source' start written
-    front_told = front_by (rendered_front first start bytes lexer rendering written [] goes.rendered bytes ([], sym (append-nil bytes), λ e. refl))
+    front_told =
+        front_by (rendered_front first start bytes lexer rendering written [] goes.rendered bytes ([], sym (append-nil bytes), λ e. refl))
 
     -- and all that the bytes decide
-    pub decided_told : ((place : ℕ) (cause : LexCause) → rendering.text (Stopped [] place cause) ≡ rendering.at_fault [] place cause) → WritesDecided first source source' start written
+    pub decided_told : ((place : ℕ) (cause : LexCause) → rendering.text (Stopped [] place cause) ≡ rendering.at_fault [] place cause) →
+        WritesDecided first source source' start written
     decided_told adds = record {
       pieces = pieces;
       given_is = given_is;
       consumed = all_consumed;
       items = goes.rendered.items;
       decided = subst (λ (l : List ℕ). Decides false l goes.rendered.items) (sym joined)
-          (subst (λ w. Decides w bytes goes.rendered.items) goes.open_input (decides lexer.ended bytes goes.rendered.items lexer.context lexer.place lexer.rest goes.rendered.reads.reads));
+          (subst (λ w. Decides w bytes goes.rendered.items) goes.open_input
+              (decides lexer.ended bytes goes.rendered.items lexer.context lexer.place lexer.rest goes.rendered.reads.reads));
       no_more = subst (λ (l : List ℕ). Undecided l goes.rendered.items) (sym joined) goes.no_more;
       text = goes.rendered.text;
       adds = Puts-all start written goes.rendered.text goes.rendered.puts;

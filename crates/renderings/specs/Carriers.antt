@@ -1,5 +1,5 @@
--- What the loop of a text carries from one item to the next, and what its parts promise one another. A reader of the texts needs
--- none of it.
+-- What the loop of a text carries from one item to the next, and what its parts promise one another.
+-- A reader of the texts needs none of it.
 pub mod Rendering
 pub mod Rendered
 pub mod PageRendering

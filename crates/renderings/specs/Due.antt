@@ -1,5 +1,6 @@
 -- What was written of a job, against the text that is due.
-use Rattle.std.specs.Prelude.{◌≡◌, ◌≢◌, ◌+◌, ◌^◌, ◌≤◌, ℕ, List, [], ◌++◌, length, flat_map, false, Result, IfOk, IfErr, IsErrOf}
+use Rattle.std.specs.Prelude.{◌≡◌, ◌≢◌, ◌+◌, ◌^◌, ◌≤◌, ℕ, List, [], ◌++◌, length, flat_map, false, Result, IfOk, IfErr}
+use Rattle.std.specs.Prelude.{IsErrOf}
 use Rattle.std.specs.List.{concat}
 use Rattle.std.specs.Io.KnownBytes.{Consumes}
 use Rattle.pcl_items.specs.declared.fault.LexCause.{LexCause}
@@ -19,8 +20,8 @@ use Rattle.streams.specs.Pieces.{ByReads}
 use Rattle.streams.specs.Source.{SourceState}
 use Rattle.renderings.specs.Texts.{plain_text, list_text, reading_outcome}
 
--- what is due to be written of a job by its reading, and what comes of it; and what a fault at a place adds to the text, behind these
--- items
+-- what is due to be written of a job by its reading, and what comes of it;
+-- and what a fault at a place adds to the text, behind these items
 pub record Rendering : Type 0 where
   pub text : Reading → List ℕ
   pub outcome : Reading → Outcome
@@ -28,7 +29,9 @@ pub record Rendering : Type 0 where
 
 -- the text is what is due for the job's one reading, and the outcome is what comes of it
 abbrev pub IsDue : Rendering → List ℕ → List ℕ → Outcome → Type 0
-IsDue rendering job text outcome = (reading : Reading) × IsReading job reading × (text ≡ rendering.text reading) × (outcome ≡ rendering.outcome reading)
+IsDue rendering job text outcome =
+    (reading : Reading) × IsReading job reading × (text ≡ rendering.text reading)
+    × (outcome ≡ rendering.outcome reading)
 
 -- A text was written, and nothing else, and of every job that may be by what the reads gave it is what is due.
 pub record WritesDue (rendering : Rendering) (source source' : SourceState)
@@ -47,8 +50,8 @@ pub record WritesFront (rendering : Rendering) (source source' : SourceState)
   pub spelled : IsReading (concat pieces) reading
   pub front : AddsFront outlet outlet' (rendering.text reading)
 
--- All that is due of the items was written, and nothing else, which the bytes that the reads gave decide: what is due of a job
--- that stops behind them, but for what the fault itself adds.
+-- All that is due of the items was written, and nothing else, which the bytes that the reads gave decide:
+-- what is due of a job that stops behind them, but for what the fault itself adds.
 pub record WritesDecided (rendering : Rendering) (source source' : SourceState)
     (outlet outlet' : OutletState) : Type 0 where
   pub pieces : List (List ℕ)
@@ -59,7 +62,8 @@ pub record WritesDecided (rendering : Rendering) (source source' : SourceState)
   pub no_more : Undecided (concat pieces) items
   pub text : List ℕ
   pub adds : Adds outlet outlet' text
-  pub due : (place : ℕ) (cause : LexCause) → rendering.text (Stopped items place cause) ≡ text ++ rendering.at_fault items place cause
+  pub due : (place : ℕ) (cause : LexCause) →
+      rendering.text (Stopped items place cause) ≡ text ++ rendering.at_fault items place cause
 
 -- What a call that writes a text of a job leaves, with this result. Of every job that may be by what
 -- the reads gave, the text was written that is due, and nothing else; after an error a front of what
@@ -93,7 +97,8 @@ abbrev pub plain_rendering : Rendering
 plain_rendering = record { text = plain_text; outcome = reading_outcome; at_fault = nothing_at_fault }
 
 abbrev pub list_rendering : Rendering
-list_rendering = record { text = list_text; outcome = reading_outcome; at_fault = λ items place cause. fault_line place cause }
+list_rendering =
+    record { text = list_text; outcome = reading_outcome; at_fault = λ items place cause. fault_line place cause }
 
 abbrev pub pages_rendering : Printer → Panel → Rendering
 pages_rendering printer panel = record {

@@ -17,7 +17,8 @@ use Rattle.renderings.specs.Texts.{reading_outcome}
 
 -- an item, with what belongs before and behind it, each in its canonical spelling
 abbrev pub pinned_item : Panel → FontRequest → Bool → Entry → List ℕ
-pinned_item panel request due item = flat_map canon (before panel request due item) ++ canon item ++ flat_map canon (behind panel item)
+pinned_item panel request due item =
+    flat_map canon (before panel request due item) ++ canon item ++ flat_map canon (behind panel item)
 
 -- items up to the first that cannot be pinned, where a prologue is due or not
 abbrev pub pinned_text : Panel → FontRequest → Bool → List Placed → List ℕ

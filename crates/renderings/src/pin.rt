@@ -1,10 +1,12 @@
 //! Jobs that are pinned to one panel.
-ghost use Rattle.std.specs.Prelude.{◌≡◌, ◌+◌, ◌≤◌, ◌++◌, map, flat_map, IsFalse, IsTrue, OnOk, refl};
+ghost use Rattle.std.specs.Prelude.{◌≡◌, ◌+◌, ◌≤◌, ◌++◌, map, flat_map, IsFalse, IsTrue, OnOk};
+ghost use Rattle.std.specs.Prelude.{refl};
 ghost use Rattle.device_profile.specs.Faces.{is_request};
 ghost use Rattle.device_profile.specs.Printer.{HasItsValues, IsAllowed};
 ghost use Rattle.page_env.specs.JobControl.{is_reset};
 ghost use Rattle.page_env.specs.Pinned.{is_orientation, is_unpinnable};
-ghost use Rattle.page_machine.specs.Pinning.{before, behind, is_due_behind, needs_no_prologue, prologue, unsigned, weight_amount};
+ghost use Rattle.page_machine.specs.Pinning.{before, behind, is_due_behind, needs_no_prologue};
+ghost use Rattle.page_machine.specs.Pinning.{prologue, unsigned, weight_amount};
 ghost use Rattle.pcl_items.specs.Spellings.Canon.{canon};
 ghost use Rattle.pcl_items.specs.Items.{Parameterized, SymbolSet, simple_view, view};
 ghost use Rattle.pcl_items.specs.declared.pcl.command.Command.TheVariants.{FontWeight};

@@ -1,5 +1,6 @@
 //! Renders the items of a job one after another, as they are read.
-ghost use Rattle.std.specs.Prelude.{◌≡◌, ◌+◌, ℕ, List, [], length, None, Ok, IfOk, IfErr, IsFalse, false};
+ghost use Rattle.std.specs.Prelude.{◌≡◌, ◌+◌, ℕ, List, [], length, None, Ok, IfOk, IfErr, IsFalse};
+ghost use Rattle.std.specs.Prelude.{false};
 ghost use Rattle.pcl_items.specs.declared.fault.LexCause.{LexCause};
 ghost use Rattle.pcl_items.specs.declared.item.Mode.{Mode};
 ghost use Rattle.pcl_items.specs.declared.item.Mode.TheVariants.{Pcl};
@@ -10,7 +11,8 @@ ghost use Rattle.pcl_lexer.specs.Reading.{Whole, Stopped};
 ghost use Rattle.renderings.specs.Due.{Renders, Rendering};
 ghost use Rattle.streams.specs.Errors.{is_err_of_write};
 ghost use Rattle.streams.specs.Outlet.{OutletState};
-ghost use Rattle.renderings.specs.Carriers.Rendering.{MayCome, RenderedTo, Ended, StaysIn, HasRendered, IsErrorOfRendering, RendersItem};
+ghost use Rattle.renderings.specs.Carriers.Rendering.{MayCome, RenderedTo, Ended, StaysIn};
+ghost use Rattle.renderings.specs.Carriers.Rendering.{HasRendered, IsErrorOfRendering, RendersItem};
 ghost use Rattle.renderings.specs.Carriers.Rendered.{CanRender, IsCutOff, IsRendered, RendersOn};
 
 use crate::outcome::Outcome;

@@ -1,5 +1,6 @@
 -- Lemmas on what was written of pieces.
-use Rattle.std.proofs.Common.{◌≡◌, ◌<◌, ◌+◌, suc, ℕ, List, [], ◌∷◌, ◌++◌, map, take, drop, length, get_or, true, false, sym, ◌∙◌, ap, append_assoc, append-nil, subst, codes, decimal}
+use Rattle.std.proofs.Common.{◌≡◌, ◌<◌, ◌+◌, suc, ℕ, List, [], ◌∷◌, ◌++◌, map, take, drop, length, get_or, true, false, sym, ◌∙◌, ap}
+use Rattle.std.proofs.Common.{append_assoc, append-nil, subst, codes, decimal}
 use Rattle.std.proofs.Math.Seq.{split_at}
 use Rattle.std.proofs.lemmas.List.{map_more, map-append}
 use Rattle.std.proofs.lemmas.List.Folds.{concat-append}
@@ -61,8 +62,10 @@ to_the_left a b c d e f g = sym (
     )
 
 -- the pieces of a refusal's line
-pub Writes-refusal : (a b : OutletState) (number line : ℕ) (cause : Cause) (first second third : List ℕ) → first ≡ decimal number → second ≡ decimal line → third ≡ cause_name cause →
-    Writes a b (codes "ERROR profile " ++ (first ++ (codes " " ++ (second ++ (codes " " ++ (third ++ codes "\n")))))) → Writes a b (refusal_line number line cause)
+pub Writes-refusal : (a b : OutletState) (number line : ℕ) (cause : Cause) (first second third : List ℕ) → first ≡ decimal number →
+    second ≡ decimal line → third ≡ cause_name cause →
+    Writes a b (codes "ERROR profile " ++ (first ++ (codes " " ++ (second ++ (codes " " ++ (third ++ codes "\n")))))) →
+    Writes a b (refusal_line number line cause)
 Writes-refusal a b number line cause first second third e1 e2 e3 written =
     subst (Writes a b) (
     to_the_left (codes "ERROR profile ") first (codes " ") second (codes " ") third (codes "\n")

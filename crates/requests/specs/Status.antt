@@ -1,7 +1,8 @@
 -- How the program ends.
 use Rattle.std.specs.Prelude.{ℕ, List, [], ◌∷◌, ◌++◌, codes, decimal, Bool, false, true, Result, Ok, Err, ⊤}
 use Rattle.device_profile.specs.declared.fault.Cause.{Cause}
-use Rattle.device_profile.specs.declared.fault.Cause.TheVariants.{Version, Unknown, Repeated, Range, Missing, NoGeometry}
+use Rattle.device_profile.specs.declared.fault.Cause.TheVariants.{Version, Unknown, Repeated, Range, Missing}
+use Rattle.device_profile.specs.declared.fault.Cause.TheVariants.{NoGeometry}
 use Rattle.device_profile.specs.declared.fault.ProfileFault.{ProfileFault}
 use Rattle.device_profile.specs.declared.fault.ProfileFault.TheVariants.{Fault, Memory as NoMemory}
 use Rattle.streams.specs.declared.error.Error.{Error}
@@ -11,7 +12,8 @@ use Rattle.requests.specs.declared.status.Status.{Status}
 use Rattle.requests.specs.declared.status.Input.{Input}
 use Rattle.requests.specs.declared.status.Trouble.TheVariants.{Refused, NoVerdict, Mismatch}
 use Rattle.requests.specs.declared.status.Input.TheVariants.{Job, Profile as TheProfile}
-use Rattle.requests.specs.declared.status.Status.TheVariants.{Pass, Fail, Help, Usage, Overwrites, NotAllowed, Told, Profile, Stopped}
+use Rattle.requests.specs.declared.status.Status.TheVariants.{Pass, Fail, Help, Usage, Overwrites, NotAllowed, Told}
+use Rattle.requests.specs.declared.status.Status.TheVariants.{Profile, Stopped}
 
 -- the number that the system is told
 abbrev pub code_of : Status → ℕ
@@ -48,15 +50,16 @@ cause_name NoGeometry = codes "NoGeometry"
 
 -- the number of the profile and of the line in it, and what is wrong
 abbrev pub refusal_line : ℕ → ℕ → Cause → List ℕ
-refusal_line number line cause = codes "ERROR profile " ++ decimal number ++ codes " " ++ decimal line ++ codes " " ++ cause_name cause ++ codes "\n"
+refusal_line number line cause =
+    codes "ERROR profile " ++ decimal number ++ codes " " ++ decimal line ++ codes " " ++ cause_name cause ++ codes "\n"
 
 -- OUT is a file that is read
 abbrev pub overwriting_line : Input → List ℕ
 overwriting_line Job = codes "error: OUT is JOB itself, which would be lost\n"
 overwriting_line TheProfile = codes "error: OUT is PROFILE itself, which would be lost\n"
 
--- What tells of the status on standard error. Of a choice that a panel may not have it is another line, which has the values of the
--- profile.
+-- What tells of the status on standard error.
+-- Of a choice that a panel may not have it is another line, which has the values of the profile.
 abbrev pub status_line : Status → List ℕ
 status_line Pass = []
 status_line Fail = []

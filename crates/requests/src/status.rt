@@ -3,7 +3,8 @@ ghost use Rattle.std.specs.Prelude.{◌≡◌, IsFalse, IsTrue, map};
 ghost use Rattle.std.specs.List.{concat};
 ghost use Rattle.streams.specs.Writing.{Writes};
 ghost use Rattle.streams.specs.declared.error.Error.TheVariants.{Memory};
-ghost use Rattle.requests.specs.Status.{code_of, cause_name, error_line, error_words, overwriting_line, refusal_line, status_line};
+ghost use Rattle.requests.specs.Status.{code_of, cause_name, error_line, error_words};
+ghost use Rattle.requests.specs.Status.{overwriting_line, refusal_line, status_line};
 ghost use Rattle.requests.specs.declared.status.Status.TheVariants.{Stopped};
 
 use crate::choices::Choice;

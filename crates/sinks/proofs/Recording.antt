@@ -20,7 +20,8 @@ TakesAll-recorded old new (e ∷ es) h =
     ∙ (λ i. record { events = append_assoc old.events (e ∷ []) es i; counts = counts_after (e ∷ es) old.counts })
 
 -- what is still expected behind events that were compared
-pub TakesAll-compared : (old new : Option (List Event)) (events : List Event) → TakesAll Compares old events new → (rest : List Event) → (new ≡ Some rest) ↔ (old ≡ Some (events ++ rest))
+pub TakesAll-compared : (old new : Option (List Event)) (events : List Event) → TakesAll Compares old events new → (rest : List Event) →
+    (new ≡ Some rest) ↔ (old ≡ Some (events ++ rest))
 TakesAll-compared old new [] h rest = (λ is. sym h ∙ is, λ is. h ∙ is)
 TakesAll-compared old new (e ∷ es) h rest =
     let later = TakesAll-compared h.0 new es h.2 rest in
@@ -28,7 +29,11 @@ TakesAll-compared old new (e ∷ es) h rest =
     (λ is. first.0 (later.0 is), λ is. later.1 (first.1 is))
 
 -- a comparer that took these events differs exactly where they are not those that it was made for
-pub differs_exactly : (expected events : List Event) (new : Option (List Event)) (differs : Bool) → TakesAll Compares (Some expected) events new → (IsFalse differs ↔ (new ≡ Some [])) → IsFalse differs ↔ (events ≡ expected)
+pub differs_exactly : (expected events : List Event) (new : Option (List Event)) (differs : Bool) →
+    TakesAll Compares (Some expected) events new → (IsFalse differs ↔ (new ≡ Some [])) → IsFalse differs ↔ (events ≡ expected)
 differs_exactly expected events new differs leads is =
     let done = TakesAll-compared (Some expected) new events leads [] in
-    (λ same. sym (ap (λ (o : Option (List Event)). unwrap_or o []) (done.0 (is.0 same)) ∙ append-nil events), λ same. is.1 (done.1 (ap Some (sym same ∙ sym (append-nil events)))))
+    (
+      λ same. sym (ap (λ (o : Option (List Event)). unwrap_or o []) (done.0 (is.0 same)) ∙ append-nil events),
+      λ same. is.1 (done.1 (ap Some (sym same ∙ sym (append-nil events)))),
+    )

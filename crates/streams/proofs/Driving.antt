@@ -1,7 +1,8 @@
 -- The reads of a job: its start, one more piece, and its end.
 use Rattle.std.specs.Prelude.{IsErrOf}
 use Rattle.streams.specs.Errors.{is_err_of_write, is_write}
-use Rattle.std.proofs.Common.{Bool, false, ◌≡◌, ◌≢◌, ◌+◌, ◌≤◌, ◌<◌, ℕ, List, [], ◌∷◌, ◌++◌, length, take, refl, ap, sym, ◌∙◌, subst, append-nil, Option, None, Some, Result, Ok, Err, IfOk, IfErr, arith, length-append}
+use Rattle.std.proofs.Common.{Bool, false, ◌≡◌, ◌≢◌, ◌+◌, ◌≤◌, ◌<◌, ℕ, List, [], ◌∷◌, ◌++◌, length, take, refl, ap, sym, ◌∙◌, subst}
+use Rattle.std.proofs.Common.{append-nil, Option, None, Some, Result, Ok, Err, IfOk, IfErr, arith, length-append}
 use Rattle.std.specs.Io.KnownBytes.{Consumes, IsAtEnd, Keeps}
 use Rattle.std.specs.List.{concat}
 use Rattle.std.proofs.KnownBytes.{Consumes-kept, Consumes-nil, Consumes-trans}
@@ -41,7 +42,14 @@ module _ {C : Type 0} (goes_on : C → List ℕ → C → Type 0) (stops : C →
   module _ (now : C) (mid : SourceState) (reads : ℕ) (way : IsUnderWay goes_on first now source mid reads) where
     -- no more is read
     pub stopped_turning : IsStopped goes_on stops first now Turns source mid
-    stopped_turning = record { pieces = way.pieces; bytes = way.bytes; given_is = way.given_is; joined = way.joined; consumed = way.consumed; came = way.left_open }
+    stopped_turning = record {
+      pieces = way.pieces;
+      bytes = way.bytes;
+      given_is = way.given_is;
+      joined = way.joined;
+      consumed = way.consumed;
+      came = way.left_open;
+    }
 
     -- the job is as long as it has reads
     pub as_long : {n : ℕ} → n ≤ reads → ByReads source mid (λ job. n ≤ length job)
@@ -49,7 +57,8 @@ module _ {C : Type 0} (goes_on : C → List ℕ → C → Type 0) (stops : C →
 
     module _ (after : SourceState) where
       -- a read failed
-      pub stopped_unread : after.given ≡ mid.given ++ [] → Keeps mid.remaining after.remaining → IsStopped goes_on stops first now Read source after
+      pub stopped_unread : after.given ≡ mid.given ++ [] → Keeps mid.remaining after.remaining →
+          IsStopped goes_on stops first now Read source after
       stopped_unread none keeps = record {
         pieces = way.pieces;
         bytes = way.bytes;
@@ -59,7 +68,8 @@ module _ {C : Type 0} (goes_on : C → List ℕ → C → Type 0) (stops : C →
         came = way.left_open;
       }
 
-      module _ (piece : List ℕ) (given_is : after.given ≡ mid.given ++ piece ∷ []) (consumed : Consumes mid.remaining after.remaining piece) where
+      module _ (piece : List ℕ) (given_is : after.given ≡ mid.given ++ piece ∷ [])
+          (consumed : Consumes mid.remaining after.remaining piece) where
         all_given : after.given ≡ source.given ++ (way.pieces ++ piece ∷ [])
         all_given = given_more source.given mid.given after.given way.pieces piece way.given_is given_is
 
@@ -70,7 +80,8 @@ module _ {C : Type 0} (goes_on : C → List ℕ → C → Type 0) (stops : C →
         all_consumed = Consumes-trans source.remaining mid.remaining after.remaining way.bytes piece way.consumed consumed
 
         -- the piece came to an error
-        pub stopped_by_piece : (next : C) (error : Error) → stops first error (way.bytes ++ piece) next → IsErrorOfPiece error → IsStopped goes_on stops first next error source after
+        pub stopped_by_piece : (next : C) (error : Error) → stops first error (way.bytes ++ piece) next → IsErrorOfPiece error →
+            IsStopped goes_on stops first next error source after
         stopped_by_piece next error h own = record {
           pieces = way.pieces ++ piece ∷ [];
           bytes = way.bytes ++ piece;
@@ -99,11 +110,16 @@ module _ {C : Type 0} (goes_on : C → List ℕ → C → Type 0) (stops : C →
             left_open = goes;
           }
 
-          pub still_open : {A : Type 0} (answers : C → A → List (List ℕ) → C → Type 0) (next : C) (came : Option A) → came ≡ None → ComesByPiece goes_on answers stops first way.bytes piece next (Ok came) → IsUnderWay goes_on first next source after (reads + 1)
-          still_open answers next came is h = under_way_more next (subst (λ o. ComesByPiece goes_on answers stops first way.bytes piece next (Ok o)) is h)
+          pub still_open : {A : Type 0} (answers : C → A → List (List ℕ) → C → Type 0) (next : C) (came : Option A) → came ≡ None →
+              ComesByPiece goes_on answers stops first way.bytes piece next (Ok came) →
+              IsUnderWay goes_on first next source after (reads + 1)
+          still_open answers next came is h =
+              under_way_more next (subst (λ o. ComesByPiece goes_on answers stops first way.bytes piece next (Ok o)) is h)
 
           -- the piece came to the answer
-          pub answered_by_piece : {A : Type 0} (answers : C → A → List (List ℕ) → C → Type 0) (next : C) (came : Option A) (answer : A) → came ≡ Some answer → ComesByPiece goes_on answers stops first way.bytes piece next (Ok came) → IsAnswered goes_on answers first next answer source after
+          pub answered_by_piece : {A : Type 0} (answers : C → A → List (List ℕ) → C → Type 0) (next : C) (came : Option A) (answer : A) →
+              came ≡ Some answer → ComesByPiece goes_on answers stops first way.bytes piece next (Ok came) →
+              IsAnswered goes_on answers first next answer source after
           answered_by_piece answers next came answer is h = record {
             before = way.pieces;
             last = piece;
@@ -113,35 +129,46 @@ module _ {C : Type 0} (goes_on : C → List ℕ → C → Type 0) (stops : C →
             spelled = way.spelled;
             between = now;
             left_open = way.left_open;
-            answered = subst (λ o. ComesByPiece goes_on answers stops first way.bytes piece next (Ok o)) is h (way.pieces ++ piece ∷ []) all_spelled;
+            answered =
+                subst (λ o. ComesByPiece goes_on answers stops first way.bytes piece next (Ok o)) is h
+                (way.pieces ++ piece ∷ []) all_spelled;
             known = at_front (way.pieces ++ piece ∷ []) source.remaining after.remaining (way.bytes ++ piece) all_consumed
-                (λ more. subst (λ ps. MayBeBy ps ((way.bytes ++ piece) ++ more)) (append-nil (way.pieces ++ piece ∷ [])) (all_spelled.led [] more tt));
+                (λ more. subst (λ ps. MayBeBy ps ((way.bytes ++ piece) ++ more)) (append-nil (way.pieces ++ piece ∷ []))
+                    (all_spelled.led [] more tt));
           }
 
       -- the end was read
-      module _ (buf : List ℕ) (n : ℕ) (none : n ≡ 0) (given_is : after.given ≡ mid.given ++ take n buf ∷ []) (consumed : Consumes mid.remaining after.remaining (take n buf)) where
+      module _ (buf : List ℕ) (n : ℕ) (none : n ≡ 0) (given_is : after.given ≡ mid.given ++ take n buf ∷ [])
+          (consumed : Consumes mid.remaining after.remaining (take n buf)) where
         no_byte : take n buf ≡ []
         no_byte = ap (λ m. take m buf) none
 
-        pub stopped_by_end : {A : Type 0} (answers : C → A → List (List ℕ) → C → Type 0) (next : C) (result : Result A Error) → ComesByEnd answers stops first way.bytes next result → IfErr result (λ error. IsStopped goes_on stops first next error source after)
+        pub stopped_by_end : {A : Type 0} (answers : C → A → List (List ℕ) → C → Type 0) (next : C) (result : Result A Error) →
+            ComesByEnd answers stops first way.bytes next result →
+            IfErr result (λ error. IsStopped goes_on stops first next error source after)
         stopped_by_end answers next (Ok answer) h = tt
         stopped_by_end answers next (Err error) h =
             let same : way.bytes ≡ way.bytes ++ take n buf = sym (ap (λ l. way.bytes ++ l) no_byte ∙ append-nil way.bytes) in
             stopped_by_piece (take n buf) given_is consumed next error (subst (λ l. stops first error l next) same h.0) h.1
 
-        pub answered_by_end : {A : Type 0} (answers : C → A → List (List ℕ) → C → Type 0) (next : C) (result : Result A Error) → IsAtEnd after.remaining → ComesByEnd answers stops first way.bytes next result → IfOk result (λ answer. IsAnswered goes_on answers first next answer source after)
+        pub answered_by_end : {A : Type 0} (answers : C → A → List (List ℕ) → C → Type 0) (next : C) (result : Result A Error) →
+            IsAtEnd after.remaining → ComesByEnd answers stops first way.bytes next result →
+            IfOk result (λ answer. IsAnswered goes_on answers first next answer source after)
         answered_by_end answers next (Err error) at_end h = tt
         answered_by_end answers next (Ok answer) at_end h = record {
           before = way.pieces;
           last = [];
-          given_is = given_more source.given mid.given after.given way.pieces [] way.given_is (given_is ∙ ap (λ l. mid.given ++ l ∷ []) no_byte);
+          given_is =
+              given_more source.given mid.given after.given way.pieces [] way.given_is (given_is ∙ ap (λ l. mid.given ++ l ∷ []) no_byte);
           short = omega arith;
           bytes = way.bytes;
           spelled = way.spelled;
           between = now;
           left_open = way.left_open;
           answered = h way.pieces way.spelled;
-          known = at_job (way.pieces ++ [] ∷ []) source.remaining way.bytes (subst (MayBeBy (way.pieces ++ [] ∷ [])) (append-nil way.bytes) (way.spelled.led ([] ∷ []) [] refl))
+          known =
+              at_job (way.pieces ++ [] ∷ []) source.remaining way.bytes
+              (subst (MayBeBy (way.pieces ++ [] ∷ [])) (append-nil way.bytes) (way.spelled.led ([] ∷ []) [] refl))
               (all_read source.remaining mid.remaining after.remaining way.bytes buf n way.consumed consumed none at_end);
         }
 
@@ -156,7 +183,8 @@ stop_gives (Ok x) h f = tt
 stop_gives (Err e) h f = f e h
 
 -- by whose error it was
-pub by_whose : (Open : Type 0) (Stops : Error → Type 0) (P : Error → Type 0) (e : Error) → StopsBy Open Stops e → (Open → P Read) → (Open → P Turns) → ((e : Error) → Stops e → P e) → P e
+pub by_whose : (Open : Type 0) (Stops : Error → Type 0) (P : Error → Type 0) (e : Error) → StopsBy Open Stops e → (Open → P Read) →
+    (Open → P Turns) → ((e : Error) → Stops e → P e) → P e
 by_whose Open Stops P Memory h read turns own = own Memory h
 by_whose Open Stops P Read h read turns own = read h
 by_whose Open Stops P Write h read turns own = own Write h
@@ -186,6 +214,7 @@ pub of_read : {A : Type 0} (r : Result A Error) (Q : Error → Type 0) → IfErr
 of_read r Q h is = subst (λ r. IfErr r Q) is h
 
 -- whether a write failed, by the result
-pub write_status : {A : Type 0} (r : Result A Error) (failed : Bool) → IfOk r (λ _. failed ≡ false) → IfErr r (λ e. failed ≡ is_write e) → failed ≡ is_err_of_write r
+pub write_status : {A : Type 0} (r : Result A Error) (failed : Bool) → IfOk r (λ _. failed ≡ false) → IfErr r (λ e. failed ≡ is_write e) →
+    failed ≡ is_err_of_write r
 write_status (Ok x) failed ok err = ok
 write_status (Err e) failed ok err = err

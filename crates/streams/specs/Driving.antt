@@ -1,5 +1,6 @@
 -- How what takes a job in pieces comes through it.
-use Rattle.std.specs.Prelude.{◌≡◌, ◌*◌, ◌≤◌, ℕ, List, [], ◌∷◌, ◌++◌, length, Option, None, Some, IfSome, Result, Ok, Err}
+use Rattle.std.specs.Prelude.{◌≡◌, ◌*◌, ◌≤◌, ℕ, List, [], ◌∷◌, ◌++◌, length, Option, None, Some, IfSome, Result, Ok}
+use Rattle.std.specs.Prelude.{Err}
 use Rattle.std.specs.List.{concat}
 use Rattle.std.specs.Io.KnownBytes.{Consumes}
 use Rattle.streams.specs.declared.error.Error.{Error}
@@ -17,20 +18,25 @@ IsErrorOfPiece NoProfile = ⊥
 IsErrorOfPiece Items = ⊥
 
 -- what one more piece came to, behind these bytes
-abbrev pub ComesByPiece : {C A : Type 0} → (C → List ℕ → C → Type 0) → (C → A → List (List ℕ) → C → Type 0) → (C → Error → List ℕ → C → Type 0)
+abbrev pub ComesByPiece : {C A : Type 0} → (C → List ℕ → C → Type 0) → (C → A → List (List ℕ) → C → Type 0) →
+    (C → Error → List ℕ → C → Type 0)
     → C → List ℕ → List ℕ → C → Result (Option A) Error → Type 0
 ComesByPiece goes_on answers stops first bytes piece now (Ok None) = goes_on first (bytes ++ piece) now
-ComesByPiece goes_on answers stops first bytes piece now (Ok (Some answer)) = (pieces : List (List ℕ)) → Spell pieces (bytes ++ piece) → answers first answer pieces now
-ComesByPiece goes_on answers stops first bytes piece now (Err error) = stops first error (bytes ++ piece) now × IsErrorOfPiece error
+ComesByPiece goes_on answers stops first bytes piece now (Ok (Some answer)) =
+    (pieces : List (List ℕ)) → Spell pieces (bytes ++ piece) → answers first answer pieces now
+ComesByPiece goes_on answers stops first bytes piece now (Err error) =
+    stops first error (bytes ++ piece) now × IsErrorOfPiece error
 
 -- what the end came to, behind these bytes
 abbrev pub ComesByEnd : {C A : Type 0} → (C → A → List (List ℕ) → C → Type 0) → (C → Error → List ℕ → C → Type 0)
     → C → List ℕ → C → Result A Error → Type 0
-ComesByEnd answers stops first bytes now (Ok answer) = (pieces : List (List ℕ)) → Spell pieces bytes → answers first answer (pieces ++ [] ∷ []) now
+ComesByEnd answers stops first bytes now (Ok answer) =
+    (pieces : List (List ℕ)) → Spell pieces bytes → answers first answer (pieces ++ [] ∷ []) now
 ComesByEnd answers stops first bytes now (Err error) = stops first error bytes now × IsErrorOfPiece error
 
 -- What the reads gave so far is these bytes, in so many pieces, and they leave the answer open.
-pub record IsUnderWay {C : Type 0} (goes_on : C → List ℕ → C → Type 0) (first now : C) (source source' : SourceState) (reads : ℕ) : Type 0 where
+pub record IsUnderWay {C : Type 0} (goes_on : C → List ℕ → C → Type 0) (first now : C)
+    (source source' : SourceState) (reads : ℕ) : Type 0 where
   pub pieces : List (List ℕ)
   pub bytes : List ℕ
   pub given_is : source'.given ≡ source.given ++ pieces
@@ -43,7 +49,8 @@ pub record IsUnderWay {C : Type 0} (goes_on : C → List ℕ → C → Type 0) (
   pub left_open : goes_on first bytes now
 
 -- The answer on every job that may be by what the reads gave. What those before the last one gave left it open.
-pub record IsAnswered {C A : Type 0} (goes_on : C → List ℕ → C → Type 0) (answers : C → A → List (List ℕ) → C → Type 0) (first now : C) (answer : A) (source source' : SourceState) : Type 0 where
+pub record IsAnswered {C A : Type 0} (goes_on : C → List ℕ → C → Type 0) (answers : C → A → List (List ℕ) → C → Type 0)
+    (first now : C) (answer : A) (source source' : SourceState) : Type 0 where
   pub before : List (List ℕ)
   pub last : List ℕ
   pub given_is : source'.given ≡ source.given ++ (before ++ last ∷ [])
@@ -65,7 +72,8 @@ StopsBy Open Stops NoProfile = ⊥
 StopsBy Open Stops Items = ⊥
 
 -- The reads gave these bytes, and then it stopped.
-pub record IsStopped {C : Type 0} (goes_on : C → List ℕ → C → Type 0) (stops : C → Error → List ℕ → C → Type 0) (first now : C) (error : Error) (source source' : SourceState) : Type 0 where
+pub record IsStopped {C : Type 0} (goes_on : C → List ℕ → C → Type 0) (stops : C → Error → List ℕ → C → Type 0)
+    (first now : C) (error : Error) (source source' : SourceState) : Type 0 where
   pub pieces : List (List ℕ)
   pub bytes : List ℕ
   pub given_is : source'.given ≡ source.given ++ pieces

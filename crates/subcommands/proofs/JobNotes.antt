@@ -1,5 +1,6 @@
 -- Lemmas on what is left of the notes of a job.
-use Rattle.std.proofs.Common.{false, true≢false, ◌≡◌, ◌≢◌, inl, inr, ℕ, List, [], ◌∷◌, ◌++◌, Option, Result, Ok, Err, IfOk, IfErr, refl, sym, ◌∙◌, ap, subst}
+use Rattle.std.proofs.Common.{false, true≢false, ◌≡◌, ◌≢◌, inl, inr, ℕ, List, [], ◌∷◌, ◌++◌, Option, Result, Ok, Err, IfOk, IfErr, refl}
+use Rattle.std.proofs.Common.{sym, ◌∙◌, ap, subst}
 use Rattle.device_profile.specs.declared.panel.Panel.{Panel}
 use Rattle.device_profile.specs.Printer.{Printer, first_panel}
 use Rattle.streams.specs.declared.error.Error.{Error}
@@ -83,7 +84,8 @@ all_told [] old new adds = (refl, adds)
 all_told (byte ∷ bytes) old new adds = (refl, adds)
 
 -- no read failed where a text was written
-pub told_no_read : (status : Status) (text : List ℕ) (old new : OutletState) → EndsNotes status text old new → is_stop_of_read status ≡ false
+pub told_no_read : (status : Status) (text : List ℕ) (old new : OutletState) → EndsNotes status text old new →
+    is_stop_of_read status ≡ false
 told_no_read Pass text old new ends = refl
 told_no_read Fail text old new ends = refl
 told_no_read (Stopped Memory) text old new ends = refl
@@ -113,7 +115,8 @@ told_no_refusal (Profile number line cause) text old new ends = absurd ends
 
 -- nor where work stopped
 pub never_refused : (work : Result Outcome Error) (status : Status) (kept : List ℕ) (old new : OutletState) (Same : Type 0) →
-    IfOk work (λ outcome. EndsNotes status (kept ++ outcome_line outcome) old new) → IfErr work (λ error. (status ≡ Stopped (kept_error error)) × Same) → is_refusal status ≡ false
+    IfOk work (λ outcome. EndsNotes status (kept ++ outcome_line outcome) old new) →
+    IfErr work (λ error. (status ≡ Stopped (kept_error error)) × Same) → is_refusal status ≡ false
 never_refused (Ok outcome) status kept old new Same ends stop = told_no_refusal status (kept ++ outcome_line outcome) old new ends
 never_refused (Err error) status kept old new Same ends stop = ap is_refusal stop.0
 
@@ -128,7 +131,8 @@ refuses_none text (Overwrites input) never = tt
 refuses_none text (NotAllowed choice) never = tt
 refuses_none text (Told trouble) never = tt
 
-pub refuses_no_read : (given given' : List (List ℕ)) (number : ℕ) (status : Status) → is_refusal status ≡ false → RefusesRead given given' number status
+pub refuses_no_read : (given given' : List (List ℕ)) (number : ℕ) (status : Status) → is_refusal status ≡ false →
+    RefusesRead given given' number status
 refuses_no_read given given' number (Profile refused line cause) never = absurd (true≢false never)
 refuses_no_read given given' number Pass never = tt
 refuses_no_read given given' number Fail never = tt
@@ -143,7 +147,8 @@ pub told_no_turns : (status : Status) (text : List ℕ) (old new : OutletState) 
 told_no_turns status text old new ends is = subst (λ s. EndsNotes s text old new) is ends
 
 -- of the printer with the limit, at its first panel, what is told is due of the printer
-pub noted_of : (printer limited : Printer) (panel : Panel) (job job' : SourceState) (kept kept' : OutletState) (work : Result Outcome Error) → limited ≡ with_most_items printer → panel ≡ first_panel limited →
+pub noted_of : (printer limited : Printer) (panel : Panel) (job job' : SourceState) (kept kept' : OutletState)
+    (work : Result Outcome Error) → limited ≡ with_most_items printer → panel ≡ first_panel limited →
     Renders (notes_rendering note_line limited panel) job job' kept kept' work → Renders (noted note_line printer) job job' kept kept' work
 noted_of printer limited panel job job' kept kept' work is first rendered =
     subst (λ p. Renders (notes_rendering note_line p (first_panel p)) job job' kept kept' work) is
@@ -152,12 +157,15 @@ noted_of printer limited panel job job' kept kept' work is first rendered =
 module _ (IsPrinter : Printer → Type 0) (printer : Printer) (named : IsPrinter printer) (job job' : SourceState) where
   -- the job was gone through
   pub told_left : (status : Status) (text : List ℕ) (outcome : Outcome) (old new : OutletState) →
-      ByReads job job' (λ bytes. IsDue (noted note_line printer) bytes text outcome) → EndsNotes status (text ++ outcome_line outcome) old new →
+      ByReads job job' (λ bytes. IsDue (noted note_line printer) bytes text outcome) →
+      EndsNotes status (text ++ outcome_line outcome) old new →
       LeavesNotes status IsPrinter job job' old new
   told_left Pass text outcome old new due ends = (printer, named, record { text = text; outcome = outcome; due = due; told = ends })
   told_left Fail text outcome old new due ends = (printer, named, record { text = text; outcome = outcome; due = due; told = ends })
-  told_left (Stopped Memory) text outcome old new due ends = inr (memory_known, memory_unlimited, printer, named, inr (record { text = text; outcome = outcome; due = due; told = ends }))
-  told_left (Stopped Write) text outcome old new due ends = inr (write_known, write_unlimited, printer, named, inr (record { text = text; outcome = outcome; due = due; told = ends }))
+  told_left (Stopped Memory) text outcome old new due ends =
+      inr (memory_known, memory_unlimited, printer, named, inr (record { text = text; outcome = outcome; due = due; told = ends }))
+  told_left (Stopped Write) text outcome old new due ends =
+      inr (write_known, write_unlimited, printer, named, inr (record { text = text; outcome = outcome; due = due; told = ends }))
   told_left (Stopped Read) text outcome old new due ends = absurd ends
   told_left (Stopped Turns) text outcome old new due ends = absurd ends
   told_left (Stopped NoProfile) text outcome old new due ends = absurd ends
@@ -170,7 +178,8 @@ module _ (IsPrinter : Printer → Type 0) (printer : Printer) (named : IsPrinter
   told_left (Profile number line cause) text outcome old new due ends = absurd ends
 
   -- work stopped before
-  pub stopped_left : (error : Error) (kept kept' out : OutletState) → error ≢ NoProfile → error ≢ Items → WritesFront (noted note_line printer) job job' kept kept' → LeavesNotes (Stopped (kept_error error)) IsPrinter job job' out out
+  pub stopped_left : (error : Error) (kept kept' out : OutletState) → error ≢ NoProfile → error ≢ Items →
+      WritesFront (noted note_line printer) job job' kept kept' → LeavesNotes (Stopped (kept_error error)) IsPrinter job job' out out
   stopped_left error kept kept' out known unlimited front = inr (
     kept_known error known,
     kept_unlimited error unlimited,
@@ -189,7 +198,8 @@ module _ (IsPrinter : Printer → Type 0) (printer : Printer) (named : IsPrinter
   -- work on the notes ended, which were kept from nothing on
   pub notes_left : (work : Result Outcome Error) (status : Status) (kept kept' old new : OutletState) →
       Renders (noted note_line printer) job job' kept kept' work → kept.taken ≡ [] →
-      IfOk work (λ outcome. EndsNotes status (kept'.taken ++ outcome_line outcome) old new) → IfErr work (λ error. (status ≡ Stopped (kept_error error)) × (new ≡ old)) →
+      IfOk work (λ outcome. EndsNotes status (kept'.taken ++ outcome_line outcome) old new) →
+      IfErr work (λ error. (status ≡ Stopped (kept_error error)) × (new ≡ old)) →
       LeavesNotes status IsPrinter job job' old new
   notes_left (Ok outcome) status kept kept' old new rendered empty ends stop =
       let due = rendered.written in
@@ -201,13 +211,15 @@ module _ (IsPrinter : Printer → Type 0) (printer : Printer) (named : IsPrinter
       (stopped_left error kept kept' old rendered.never_no_profile rendered.never_items rendered.front))
 
 -- what takes a text is as it was, and so is its state
-pub stop_state : {O : Type 0} (state : O → OutletState) (before after : O) (work : Result Outcome Error) (status : Status) → IfErr work (λ error. (status ≡ Stopped (kept_error error)) × (after ≡ before)) →
+pub stop_state : {O : Type 0} (state : O → OutletState) (before after : O) (work : Result Outcome Error) (status : Status) →
+    IfErr work (λ error. (status ≡ Stopped (kept_error error)) × (after ≡ before)) →
     IfErr work (λ error. (status ≡ Stopped (kept_error error)) × (state after ≡ state before))
 stop_state state before after (Ok outcome) status stop = stop
 stop_state state before after (Err error) status stop = (stop.0, ap state stop.1)
 
 -- where the profile is not had, nothing was read of the job, and nothing written
-pub no_notes : (number : ℕ) (text : Option (List ℕ)) (status : Status) (IsPrinter : Printer → Type 0) (job : SourceState) (a : OutletState) → IsEndOfProfile number text status →
+pub no_notes : (number : ℕ) (text : Option (List ℕ)) (status : Status) (IsPrinter : Printer → Type 0) (job : SourceState)
+    (a : OutletState) → IsEndOfProfile number text status →
     LeavesNotes status IsPrinter job job a a
 no_notes number text (Profile refused line cause) IsPrinter job a end = (refl, Stays-none a)
 no_notes number text (Stopped error) IsPrinter job a end = inl (refl, Stays-none a)

@@ -1,5 +1,6 @@
 -- Lemmas on what is left of a text of a job.
-use Rattle.std.proofs.Common.{false, ◌≡◌, ◌≢◌, inl, inr, ℕ, Bool, List, [], Option, None, Some, Result, Ok, Err, IfErr, IfOk, refl, sym, ◌∙◌, ap, subst, append-nil}
+use Rattle.std.proofs.Common.{false, ◌≡◌, ◌≢◌, inl, inr, ℕ, Bool, List, [], Option, None, Some, Result, Ok, Err, IfErr, IfOk, refl, sym}
+use Rattle.std.proofs.Common.{◌∙◌, ap, subst, append-nil}
 use Rattle.std.specs.Io.KnownBytes.{Consumes}
 use Rattle.pcl_items.specs.declared.item.Mode.TheVariants.{Pcl}
 use Rattle.pcl_lexer.specs.Grammar.{here}
@@ -22,7 +23,8 @@ use Rattle.requests.specs.declared.status.Status.TheVariants.{Pass, Fail, Help, 
 use Rattle.named_inputs.specs.Fleet.{IsEndOfProfile}
 use Rattle.requests.specs.declared.choices.Choice.{Choice}
 use Rattle.named_inputs.specs.Choices.{choice_line, chosen_panel, TellsOfChoice, TellsOfPin}
-use Rattle.subcommands.specs.JobTexts.{EndsBy, LeavesAtStopBeside, LeavesLine, LeavesOut, LeavesPages, LeavesPagesOf, LeavesPinned, LeavesPinnedOf, LeavesTextAndLine}
+use Rattle.subcommands.specs.JobTexts.{EndsBy, LeavesAtStopBeside, LeavesLine, LeavesOut, LeavesPages, LeavesPagesOf, LeavesPinned}
+use Rattle.subcommands.specs.JobTexts.{LeavesPinnedOf, LeavesTextAndLine}
 use Rattle.requests.specs.Status.{is_stop_of_write, IsEndOfOpening}
 use Rattle.subcommands.proofs.Leaves.{Stays-none}
 
@@ -37,7 +39,8 @@ Adds-nothing : (a : OutletState) (failed : Bool) → Adds a (record a { failed =
 Adds-nothing a failed = record { taken = sym (append-nil a.taken); contents = Appends-nil a.contents }
 
 -- of a job of which nothing was read nothing need stand there, whatever has failed
-nothing_written : (rendering : Rendering) (job : SourceState) (a : OutletState) (read_failed write_failed : Bool) → WritesFront rendering job (record job { failed = read_failed }) a (record a { failed = write_failed })
+nothing_written : (rendering : Rendering) (job : SourceState) (a : OutletState) (read_failed write_failed : Bool) →
+    WritesFront rendering job (record job { failed = read_failed }) a (record a { failed = write_failed })
 nothing_written rendering job a read_failed write_failed = record {
   pieces = [];
   given_is = sym (append-nil job.given);
@@ -48,7 +51,8 @@ nothing_written rendering job a read_failed write_failed = record {
 }
 
 -- work on the job stopped
-pub stopped_within : (error : Error) (rendering : Rendering) (job job' : SourceState) (old new start : OutletState) → error ≢ NoProfile → error ≢ Items → WritesFront rendering job job' old new → LeavesAtStopBeside error rendering job job' old new start start
+pub stopped_within : (error : Error) (rendering : Rendering) (job job' : SourceState) (old new start : OutletState) → error ≢ NoProfile →
+    error ≢ Items → WritesFront rendering job job' old new → LeavesAtStopBeside error rendering job job' old new start start
 stopped_within Memory rendering job job' old new start known unlimited front = inl (front, Stays-none start)
 stopped_within Read rendering job job' old new start known unlimited front = (front, Stays-none start)
 stopped_within Write rendering job job' old new start known unlimited front = inl (front, Stays-none start)
@@ -57,7 +61,9 @@ stopped_within NoProfile rendering job job' old new start known unlimited front 
 stopped_within Items rendering job job' old new start known unlimited front = absurd (unlimited refl)
 
 -- the whole text stands there, and its outcome was told
-pub told : (outcome : Outcome) (status : Status) (rendering : Rendering) (job job' : SourceState) (old new start end : OutletState) → WritesDue rendering job job' old new outcome → LeavesLine outcome status start end → LeavesTextAndLine status rendering job job' old new start end
+pub told : (outcome : Outcome) (status : Status) (rendering : Rendering) (job job' : SourceState) (old new start end : OutletState) →
+    WritesDue rendering job job' old new outcome → LeavesLine outcome status start end →
+    LeavesTextAndLine status rendering job job' old new start end
 told Done Pass rendering job job' old new start end stands line = (stands, line)
 told Done Fail rendering job job' old new start end stands line = absurd line
 told Done Help rendering job job' old new start end stands line = absurd line
@@ -75,33 +81,42 @@ told (FailsOf place profile finding) (Overwrites input) rendering job job' old n
 told (FailsOf place profile finding) (NotAllowed choice) rendering job job' old new start end stands line = absurd line
 told (FailsOf place profile finding) (Told trouble) rendering job job' old new start end stands line = absurd line
 told (FailsOf place profile finding) (Profile number row cause) rendering job job' old new start end stands line = absurd line
-told (FailsOf place profile finding) (Stopped Memory) rendering job job' old new start end stands line = inr (place, profile, finding, stands, line)
+told (FailsOf place profile finding) (Stopped Memory) rendering job job' old new start end stands line =
+    inr (place, profile, finding, stands, line)
 told (FailsOf place profile finding) (Stopped Read) rendering job job' old new start end stands line = absurd line
-told (FailsOf place profile finding) (Stopped Write) rendering job job' old new start end stands line = inr (place, profile, finding, stands, line)
+told (FailsOf place profile finding) (Stopped Write) rendering job job' old new start end stands line =
+    inr (place, profile, finding, stands, line)
 told (FailsOf place profile finding) (Stopped Turns) rendering job job' old new start end stands line = absurd line
 told (FailsOf place profile finding) (Stopped NoProfile) rendering job job' old new start end stands line = absurd line
 told (FailsOf place profile finding) (Stopped Items) rendering job job' old new start end stands line = absurd line
 
 -- the work on a text ended, and its outcome was told
-pub ended : {O : Type 0} (state : O → OutletState) (before after : O) (work : Result Outcome Error) (status : Status) (rendering : Rendering) (job job' : SourceState) (old new : OutletState) →
+pub ended : {O : Type 0} (state : O → OutletState) (before after : O) (work : Result Outcome Error) (status : Status)
+    (rendering : Rendering) (job job' : SourceState) (old new : OutletState) →
     Renders rendering job job' old new work →
-    IfOk work (λ outcome. LeavesLine outcome status (state before) (state after)) → IfErr work (λ error. (status ≡ Stopped error) × (after ≡ before)) →
+    IfOk work (λ outcome. LeavesLine outcome status (state before) (state after)) →
+    IfErr work (λ error. (status ≡ Stopped error) × (after ≡ before)) →
     LeavesTextAndLine status rendering job job' old new (state before) (state after)
-ended state before after (Ok outcome) status rendering job job' old new rendered line stop = told outcome status rendering job job' old new (state before) (state after) rendered.written line
+ended state before after (Ok outcome) status rendering job job' old new rendered line stop =
+    told outcome status rendering job job' old new (state before) (state after) rendered.written line
 ended state before after (Err error) status rendering job job' old new rendered line stop =
     subst (λ s. LeavesTextAndLine s rendering job job' old new (state before) (state after)) (sym stop.0)
     (subst (λ o. LeavesAtStopBeside error rendering job job' old new (state before) (state o)) (sym stop.1)
     (stopped_within error rendering job job' old new (state before) rendered.never_no_profile rendered.never_items rendered.front))
 
 -- so where the line goes behind the text: a write failed just where it stopped at one
-pub ended_write : {O : Type 0} (state : O → OutletState) (before after : O) (work : Result Outcome Error) (status : Status) → (state before).failed ≡ is_err_of_write work →
-    IfErr work (λ error. (status ≡ Stopped error) × (after ≡ before)) → OnOk work ((state after).failed ≡ is_stop_of_write status) → (state after).failed ≡ is_stop_of_write status
+pub ended_write : {O : Type 0} (state : O → OutletState) (before after : O) (work : Result Outcome Error) (status : Status) →
+    (state before).failed ≡ is_err_of_write work →
+    IfErr work (λ error. (status ≡ Stopped error) × (after ≡ before)) → OnOk work ((state after).failed ≡ is_stop_of_write status) →
+    (state after).failed ≡ is_stop_of_write status
 ended_write state before after (Ok outcome) status is stop told = told
 ended_write state before after (Err error) status is stop told = ap (λ o. (state o).failed) stop.1 ∙ is ∙ ap is_stop_of_write (sym stop.0)
 
 -- and where it goes elsewhere
-pub ended_write_beside : {O : Type 0} (state : O → OutletState) (before after : O) (work : Result Outcome Error) (status : Status) (out_failed : Bool) → out_failed ≡ is_err_of_write work → IsFalse (state before).failed →
-    IfErr work (λ error. (status ≡ Stopped error) × (after ≡ before)) → OnOk work ((state after).failed ≡ is_stop_of_write status) → (out_failed || (state after).failed) ≡ is_stop_of_write status
+pub ended_write_beside : {O : Type 0} (state : O → OutletState) (before after : O) (work : Result Outcome Error) (status : Status)
+    (out_failed : Bool) → out_failed ≡ is_err_of_write work → IsFalse (state before).failed →
+    IfErr work (λ error. (status ≡ Stopped error) × (after ≡ before)) → OnOk work ((state after).failed ≡ is_stop_of_write status) →
+    (out_failed || (state after).failed) ≡ is_stop_of_write status
 ended_write_beside state before after (Ok outcome) status out_failed is sound stop told = ap (λ b. b || (state after).failed) is ∙ told
 ended_write_beside state before after (Err error) status out_failed is sound stop told =
     ap (λ b. out_failed || b) (ap (λ o. (state o).failed) stop.1 ∙ sound) ∙ or-false out_failed ∙ is ∙ ap is_stop_of_write (sym stop.0)
@@ -116,11 +131,15 @@ sound_beside (Ok outcome) failed sound = sound
 sound_beside (Err error) failed sound = tt
 
 -- the job could not be opened or OUT not be created, or OUT is a file that is read
-at_opening : (status : Status) (rendering : Rendering) (job : SourceState) (read_failed : Bool) (old : OutletState) (write_failed : Bool) (start : OutletState) → IsEndOfOpening status →
+at_opening : (status : Status) (rendering : Rendering) (job : SourceState) (read_failed : Bool) (old : OutletState) (write_failed : Bool)
+    (start : OutletState) → IsEndOfOpening status →
     LeavesOut status rendering job (record job { failed = read_failed }) old (record old { failed = write_failed }) start start
-at_opening (Overwrites input) rendering job read_failed old write_failed start end = ((refl, record { taken = refl; contents = Keeps-refl old.contents }), Stays-none start)
-at_opening (Stopped Read) rendering job read_failed old write_failed start end = (nothing_written rendering job old read_failed write_failed, Stays-none start)
-at_opening (Stopped Write) rendering job read_failed old write_failed start end = inl (nothing_written rendering job old read_failed write_failed, Stays-none start)
+at_opening (Overwrites input) rendering job read_failed old write_failed start end =
+    ((refl, record { taken = refl; contents = Keeps-refl old.contents }), Stays-none start)
+at_opening (Stopped Read) rendering job read_failed old write_failed start end =
+    (nothing_written rendering job old read_failed write_failed, Stays-none start)
+at_opening (Stopped Write) rendering job read_failed old write_failed start end =
+    inl (nothing_written rendering job old read_failed write_failed, Stays-none start)
 at_opening (Stopped Memory) rendering job read_failed old write_failed start end = absurd end
 at_opening (Stopped Turns) rendering job read_failed old write_failed start end = absurd end
 at_opening (Stopped NoProfile) rendering job read_failed old write_failed start end = absurd end
@@ -133,22 +152,27 @@ at_opening (NotAllowed choice) rendering job read_failed old write_failed start 
 at_opening (Told trouble) rendering job read_failed old write_failed start end = absurd end
 at_opening (Profile number line cause) rendering job read_failed old write_failed start end = absurd end
 
-pub opening_left : (status : Status) (rendering : Rendering) (job job' : SourceState) (read_failed : Bool) (old new : OutletState) (write_failed : Bool) (start : OutletState) → IsEndOfOpening status →
-    job' ≡ record job { failed = read_failed } → new ≡ record old { failed = write_failed } → LeavesOut status rendering job job' old new start start
+pub opening_left : (status : Status) (rendering : Rendering) (job job' : SourceState) (read_failed : Bool) (old new : OutletState)
+    (write_failed : Bool) (start : OutletState) → IsEndOfOpening status →
+    job' ≡ record job { failed = read_failed } → new ≡ record old { failed = write_failed } →
+    LeavesOut status rendering job job' old new start start
 opening_left status rendering job job' read_failed old new write_failed start end opened created =
     subst (λ s. LeavesOut status rendering job s old new start start) (sym opened)
     (subst (λ o. LeavesOut status rendering job (record job { failed = read_failed }) old o start start) (sym created)
     (at_opening status rendering job read_failed old write_failed start end))
 
 -- what is rendered from a source that was opened, to an outlet that was created, is rendered from and to these as they were
-pub rendered_from : (rendering : Rendering) (job ready job' : SourceState) (old created new : OutletState) (work : Result Outcome Error) → IsFalse job.failed → ready ≡ record job { failed = false } → IsFalse old.failed → created ≡ record old { failed = false } →
+pub rendered_from : (rendering : Rendering) (job ready job' : SourceState) (old created new : OutletState) (work : Result Outcome Error) →
+    IsFalse job.failed → ready ≡ record job { failed = false } → IsFalse old.failed → created ≡ record old { failed = false } →
     Renders rendering ready job' created new work → Renders rendering job job' old new work
 rendered_from rendering job ready job' old created new work sound opened working made rendered =
     subst (λ s. Renders rendering s job' old new work) (opened ∙ ap (λ f. let s : SourceState = record job { failed = f } in s) (sym sound))
-    (subst (λ o. Renders rendering ready job' o new work) (made ∙ ap (λ f. let o : OutletState = record old { failed = f } in o) (sym working)) rendered)
+    (subst (λ o. Renders rendering ready job' o new work)
+    (made ∙ ap (λ f. let o : OutletState = record old { failed = f } in o) (sym working)) rendered)
 
 -- a text that was left with its line was left in OUT
-pub out_left : (status : Status) (rendering : Rendering) (job job' : SourceState) (old new start end : OutletState) → LeavesTextAndLine status rendering job job' old new start end → LeavesOut status rendering job job' old new start end
+pub out_left : (status : Status) (rendering : Rendering) (job job' : SourceState) (old new start end : OutletState) →
+    LeavesTextAndLine status rendering job job' old new start end → LeavesOut status rendering job job' old new start end
 out_left Pass rendering job job' old new start end left = left
 out_left Fail rendering job job' old new start end left = left
 out_left Help rendering job job' old new start end left = left
@@ -160,7 +184,8 @@ out_left (Profile number line cause) rendering job job' old new start end left =
 out_left (Stopped error) rendering job job' old new start end left = left
 
 -- what was left of a pinned job was left where the panel may have each choice
-pub pinned_left : (status : Status) (IsPrinter : Printer → Type 0) (choices : List Choice) (job job' : SourceState) (old new start end : OutletState) →
+pub pinned_left : (status : Status) (IsPrinter : Printer → Type 0) (choices : List Choice) (job job' : SourceState)
+    (old new start end : OutletState) →
     LeavesPinnedOf status IsPrinter choices job job' old new start end → LeavesPinned status IsPrinter choices job job' old new start end
 pinned_left Pass IsPrinter choices job job' old new start end left = left
 pinned_left Fail IsPrinter choices job job' old new start end left = left
@@ -173,7 +198,8 @@ pinned_left (Profile number line cause) IsPrinter choices job job' old new start
 pinned_left (Stopped error) IsPrinter choices job job' old new start end left = inr left
 
 -- what was left for a printer was left where the job was read
-pub pages_left : (status : Status) (IsPrinter : Printer → Type 0) (job job' : SourceState) (old new : OutletState) → LeavesPagesOf status IsPrinter job job' old new → LeavesPages status IsPrinter job job' old new
+pub pages_left : (status : Status) (IsPrinter : Printer → Type 0) (job job' : SourceState) (old new : OutletState) →
+    LeavesPagesOf status IsPrinter job job' old new → LeavesPages status IsPrinter job job' old new
 pages_left Pass IsPrinter job job' old new left = left
 pages_left Fail IsPrinter job job' old new left = left
 pages_left Help IsPrinter job job' old new left = left
@@ -185,7 +211,8 @@ pages_left (Profile number line cause) IsPrinter job job' old new left = absurd 
 pages_left (Stopped error) IsPrinter job job' old new left = inr left
 
 -- where the profile is not had, nothing was read of the job, and nothing written
-pub no_pages : (number : ℕ) (text : Option (List ℕ)) (status : Status) (IsPrinter : Printer → Type 0) (job : SourceState) (a : OutletState) → IsEndOfProfile number text status →
+pub no_pages : (number : ℕ) (text : Option (List ℕ)) (status : Status) (IsPrinter : Printer → Type 0) (job : SourceState)
+    (a : OutletState) → IsEndOfProfile number text status →
     LeavesPages status IsPrinter job job a a
 no_pages number text (Profile refused line cause) IsPrinter job a end = (refl, Stays-none a)
 no_pages number text (Stopped error) IsPrinter job a end = inl (refl, Stays-none a)
@@ -198,7 +225,8 @@ no_pages number text (NotAllowed choice) IsPrinter job a end = absurd end
 no_pages number text (Told trouble) IsPrinter job a end = absurd end
 
 -- a choice that the panel may not have is told, or that memory ran out; nothing was read of the job then, and nothing written
-pub choice_told : (status : Status) (printer : Printer) (choice : Choice) (IsPrinter : Printer → Type 0) (choices : List Choice) (old new : OutletState) → IsPrinter printer → chosen_panel printer choices ≡ Err choice →
+pub choice_told : (status : Status) (printer : Printer) (choice : Choice) (IsPrinter : Printer → Type 0) (choices : List Choice)
+    (old new : OutletState) → IsPrinter printer → chosen_panel printer choices ≡ Err choice →
     TellsOfChoice status printer choice old new → TellsOfPin status IsPrinter choices old new
 choice_told (NotAllowed told) printer choice IsPrinter choices old new named refused line =
     (printer, named, refused ∙ ap Err (sym line.0), subst (λ c. Writes old new (choice_line printer c)) (sym line.0) line.1)
@@ -216,7 +244,8 @@ choice_told (Overwrites input) printer choice IsPrinter choices old new named re
 choice_told (Profile number row cause) printer choice IsPrinter choices old new named refused line = absurd line
 choice_told (Told trouble) printer choice IsPrinter choices old new named refused line = absurd line
 
-pub choice_refused : (status : Status) (printer : Printer) (choice : Choice) (IsPrinter : Printer → Type 0) (choices : List Choice) (old new : OutletState) (job : SourceState) (a b : OutletState) (read_failed write_failed : Bool) →
+pub choice_refused : (status : Status) (printer : Printer) (choice : Choice) (IsPrinter : Printer → Type 0) (choices : List Choice)
+    (old new : OutletState) (job : SourceState) (a b : OutletState) (read_failed write_failed : Bool) →
     IsFalse read_failed → IsFalse write_failed → TellsOfChoice status printer choice old new →
     EndsBy status (λ job job'. LeavesPinned status IsPrinter choices job job' a a b b) job job read_failed write_failed
 choice_refused (NotAllowed told) printer choice IsPrinter choices old new job a b read_failed write_failed no_read no_write line = record {
@@ -234,18 +263,22 @@ choice_refused (Stopped Memory) printer choice IsPrinter choices old new job a b
 choice_refused (Stopped Read) printer choice IsPrinter choices old new job a b read_failed write_failed no_read no_write line = absurd line
 choice_refused (Stopped Write) printer choice IsPrinter choices old new job a b read_failed write_failed no_read no_write line = absurd line
 choice_refused (Stopped Turns) printer choice IsPrinter choices old new job a b read_failed write_failed no_read no_write line = absurd line
-choice_refused (Stopped NoProfile) printer choice IsPrinter choices old new job a b read_failed write_failed no_read no_write line = absurd line
+choice_refused (Stopped NoProfile) printer choice IsPrinter choices old new job a b read_failed write_failed no_read no_write line =
+    absurd line
 choice_refused (Stopped Items) printer choice IsPrinter choices old new job a b read_failed write_failed no_read no_write line = absurd line
 choice_refused Pass printer choice IsPrinter choices old new job a b read_failed write_failed no_read no_write line = absurd line
 choice_refused Fail printer choice IsPrinter choices old new job a b read_failed write_failed no_read no_write line = absurd line
 choice_refused Help printer choice IsPrinter choices old new job a b read_failed write_failed no_read no_write line = absurd line
 choice_refused Usage printer choice IsPrinter choices old new job a b read_failed write_failed no_read no_write line = absurd line
-choice_refused (Overwrites input) printer choice IsPrinter choices old new job a b read_failed write_failed no_read no_write line = absurd line
-choice_refused (Profile number row cause) printer choice IsPrinter choices old new job a b read_failed write_failed no_read no_write line = absurd line
+choice_refused (Overwrites input) printer choice IsPrinter choices old new job a b read_failed write_failed no_read no_write line =
+    absurd line
+choice_refused (Profile number row cause) printer choice IsPrinter choices old new job a b read_failed write_failed no_read no_write line =
+    absurd line
 choice_refused (Told trouble) printer choice IsPrinter choices old new job a b read_failed write_failed no_read no_write line = absurd line
 
 -- where the profile is not had, nothing was pinned
-pub no_pinned : (number : ℕ) (text : Option (List ℕ)) (status : Status) (IsPrinter : Printer → Type 0) (choices : List Choice) (job : SourceState) (a b : OutletState) → IsEndOfProfile number text status →
+pub no_pinned : (number : ℕ) (text : Option (List ℕ)) (status : Status) (IsPrinter : Printer → Type 0) (choices : List Choice)
+    (job : SourceState) (a b : OutletState) → IsEndOfProfile number text status →
     LeavesPinned status IsPrinter choices job job a a b b
 no_pinned number text (Profile refused line cause) IsPrinter choices job a b end = ((refl, Stays-none a), Stays-none b)
 no_pinned number text (Stopped error) IsPrinter choices job a b end = inl ((refl, Stays-none a), Stays-none b)

@@ -7,7 +7,8 @@ use Rattle.subcommands.specs.JobTexts.{JudgesFirst}
 use Rattle.requests.specs.Status.{IsEndOfText, is_refusal}
 use Rattle.subcommands.proofs.JobNotes.{refuses_none, refuses_no_read}
 
-pub judged_first : {Job : Type 0} (status : Status) (text : Option (List ℕ)) (before after : List (List ℕ)) (failed : Bool) (job job' : Job) → is_refusal status ≡ false → failed ≡ false → JudgesFirst status text before after failed job job'
+pub judged_first : {Job : Type 0} (status : Status) (text : Option (List ℕ)) (before after : List (List ℕ)) (failed : Bool)
+    (job job' : Job) → is_refusal status ≡ false → failed ≡ false → JudgesFirst status text before after failed job job'
 judged_first status text before after failed job job' never read = (
   refuses_none text status never,
   refuses_no_read before after 1 status never,
@@ -15,7 +16,8 @@ judged_first status text before after failed job job' never read = (
 )
 
 -- what holds of a pass, of a fail and of whatever stopped it holds of how a text ends
-pub ends_by : (P : Status → Type 0) → P Pass → P Fail → ((error : Error) → P (Stopped error)) → (status : Status) → IsEndOfText status → P status
+pub ends_by : (P : Status → Type 0) → P Pass → P Fail → ((error : Error) → P (Stopped error)) → (status : Status) → IsEndOfText status →
+    P status
 ends_by P pass fail stopped Pass end = pass
 ends_by P pass fail stopped Fail end = fail
 ends_by P pass fail stopped (Stopped error) end = stopped error

@@ -9,7 +9,8 @@ use Rattle.verdict.specs.declared.verdict.Verdict.TheVariants.{Pass as PassOf, F
 use Rattle.streams.specs.Outlet.{OutletState, Adds, AddsFront, Stays}
 use Rattle.streams.specs.Source.{SourceState}
 use Rattle.requests.specs.declared.status.Status.{Status}
-use Rattle.requests.specs.declared.status.Status.TheVariants.{Pass, Fail, Help, Usage, Overwrites, NotAllowed, Told, Profile, Stopped}
+use Rattle.requests.specs.declared.status.Status.TheVariants.{Pass, Fail, Help, Usage, Overwrites, NotAllowed, Told}
+use Rattle.requests.specs.declared.status.Status.TheVariants.{Profile, Stopped}
 use Rattle.named_inputs.specs.Fleet.{DescribeBy, DescribeFleet}
 use Rattle.job_reports.specs.Lines.{verdict_line}
 use Rattle.job_reports.specs.Right.{IsRight}
@@ -25,7 +26,9 @@ texts_by known before after = record { known = known; before = before; after = a
 
 -- the verdict is right for a fleet that the texts of its profiles describe
 abbrev pub IsRightFor : Texts → SourceState → SourceState → Verdict → Type 0
-IsRightFor texts job job' verdict = (fleet : List Printer) × DescribeFleet texts.known fleet × DescribeBy texts.before texts.after fleet × IsRight job job' fleet verdict
+IsRightFor texts job job' verdict =
+    (fleet : List Printer) × DescribeFleet texts.known fleet × DescribeBy texts.before texts.after fleet
+    × IsRight job job' fleet verdict
 
 -- where a write failed, a front of the line of a verdict with this fact stands there, and otherwise nothing new
 abbrev pub LeavesAtStop : Error → (Verdict → Type 0) → OutletState → OutletState → Type 0
@@ -36,10 +39,14 @@ LeavesAtStop Turns P old new = Stays old new
 LeavesAtStop NoProfile P old new = ⊥
 LeavesAtStop Items P old new = ⊥
 
--- what a check that ends by this status leaves on standard output: the line of a verdict with this fact, where it has one
+-- what a check that ends by this status leaves on standard output:
+-- the line of a verdict with this fact, where it has one
 abbrev pub Leaves : Status → (Verdict → Type 0) → OutletState → OutletState → Type 0
-Leaves Pass P old new = (pages : ℕ) × (marks : ℕ) × P (PassOf pages marks) × Adds old new (verdict_line (PassOf pages marks))
-Leaves Fail P old new = (place : ℕ) × (profile : ℕ) × (finding : Reason) × P (FailOf place profile finding) × Adds old new (verdict_line (FailOf place profile finding))
+Leaves Pass P old new =
+    (pages : ℕ) × (marks : ℕ) × P (PassOf pages marks) × Adds old new (verdict_line (PassOf pages marks))
+Leaves Fail P old new =
+    (place : ℕ) × (profile : ℕ) × (finding : Reason) × P (FailOf place profile finding)
+    × Adds old new (verdict_line (FailOf place profile finding))
 Leaves Help P old new = ⊥
 Leaves Usage P old new = ⊥
 Leaves (Overwrites input) P old new = ⊥

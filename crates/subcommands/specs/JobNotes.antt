@@ -30,7 +30,8 @@ abbrev pub status_of_text : List ℕ → Status
 status_of_text [] = Pass
 status_of_text (byte ∷ bytes) = Fail
 
--- A text and an outcome, of every job that may be by what the reads gave; and of it with the line of the outcome this holds.
+-- A text and an outcome, of every job that may be by what the reads gave;
+-- and of it with the line of the outcome this holds.
 pub record TellsDue (rendering : Rendering) (job job' : SourceState) (P : List ℕ → Type 0) : Type 0 where
   pub text : List ℕ
   pub outcome : Outcome
@@ -49,8 +50,8 @@ EndsNotes (Stopped Memory) text old new = AddsFront old new text
 EndsNotes (Stopped Write) text old new = AddsFront old new text
 EndsNotes _ text old new = ⊥
 
--- What is left for a printer with this fact: all of it, or where work stopped some front; before the job was gone through, of what
--- is due for the bytes that were read.
+-- What is left for a printer with this fact: all of it, or where work stopped some front;
+-- before the job was gone through, of what is due for the bytes that were read.
 abbrev pub LeavesNotesOf : Status → (Printer → Type 0) → SourceState → SourceState → OutletState → OutletState → Type 0
 LeavesNotesOf (Stopped error) IsPrinter job job' old new =
     (error ≢ NoProfile) × (error ≢ Items) × (printer : Printer) × IsPrinter printer

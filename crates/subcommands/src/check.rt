@@ -1,5 +1,6 @@
 //! The command `check`.
-ghost use Rattle.std.specs.Prelude.{◌≡◌, ◌≢◌, ◌+◌, ◌^◌, [], ◌||◌, length, map, IfOk, IfErr, IsErrOf, IsFalse, IsTrue};
+ghost use Rattle.std.specs.Prelude.{◌≡◌, ◌≢◌, ◌+◌, ◌^◌, [], ◌||◌, length, map, IfOk, IfErr};
+ghost use Rattle.std.specs.Prelude.{IsErrOf, IsFalse, IsTrue};
 ghost use Rattle.streams.specs.Errors.{is_err_of_read, is_err_of_write};
 ghost use Rattle.preflight.specs.Verdict.{IsExact, KeepsPromise};
 ghost use Rattle.streams.specs.Outlet.{Adds};

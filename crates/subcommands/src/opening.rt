@@ -1,6 +1,7 @@
 //! The opening of JOB and the creation of OUT, in this order.
 ghost use Rattle.std.specs.Prelude.{◌≡◌, ◌⊎◌, IfErr, IsFalse, IsSome, IsTrue, OnOk};
-ghost use Rattle.requests.specs.Status.{is_err_at_read, is_err_at_write, is_overwriting, IsEndOfOpening};
+ghost use Rattle.requests.specs.Status.{is_err_at_read, is_err_at_write, is_overwriting};
+ghost use Rattle.requests.specs.Status.{IsEndOfOpening};
 
 use requests::{Input, Status};
 use streams::{Create, Error, FileId, Open};

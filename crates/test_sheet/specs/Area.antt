@@ -9,8 +9,12 @@ unfoldable pub area_of : Geometry → Area
 area_of page = record {
   left = dots_over (unsigned_abs page.printable_left - unsigned_abs page.logical_left);
   top = dots_over (unsigned_abs page.printable_top - unsigned_abs page.logical_top);
-  right = dots_in (min (unsigned_abs page.printable_right - unsigned_abs page.logical_left) (unsigned_abs page.logical_width));
-  bottom = dots_in (min (unsigned_abs page.printable_bottom - unsigned_abs page.logical_top) (unsigned_abs page.logical_height));
+  right =
+      dots_in
+      (min (unsigned_abs page.printable_right - unsigned_abs page.logical_left) (unsigned_abs page.logical_width));
+  bottom =
+      dots_in
+      (min (unsigned_abs page.printable_bottom - unsigned_abs page.logical_top) (unsigned_abs page.logical_height));
 }
 
 -- its halves

@@ -15,7 +15,8 @@ unit_of_measure = 27 ∷ codes "&u300D"
 unfoldable pub sheet_settings : ℕ → List ℕ
 sheet_settings tray = 27 ∷ codes "&l1x0s" ++ decimal tray ++ 72 ∷ 27 ∷ codes "&k0G"
 
--- the size and the orientation of a page, lines of 8/48 inch, and no top margin, so that places count from the logical page's corner
+-- the size and the orientation of a page, lines of 8/48 inch, and no top margin, so that places count from
+-- the logical page's corner
 unfoldable pub page_request : ℕ → ℕ → List ℕ
 page_request size orientation = 27 ∷ codes "&l" ++ decimal size ++ 97 ∷ decimal orientation ++ codes "o8c0E"
 
@@ -24,7 +25,9 @@ unfoldable pub font_size : FontRequest → List ℕ
 font_size request = 27 ∷ codes "(s0p" ++ amount request.pitch ++ codes "h" ++ amount request.height ++ codes "v"
 
 unfoldable pub font_look : FontRequest → List ℕ
-font_look request = amount request.style ++ codes "s" ++ signed_amount request.weight ++ codes "b" ++ amount request.typeface ++ codes "T"
+font_look request =
+    amount request.style ++ codes "s" ++ signed_amount request.weight ++ codes "b" ++ amount request.typeface
+    ++ codes "T"
 
 -- the seven parts that select a font
 unfoldable pub font_request : FontRequest → List ℕ

@@ -1,5 +1,6 @@
 -- Marks at places of a page, cut to the area where they may lie.
-use Rattle.std.specs.Prelude.{ℕ, unsigned_abs, ◌+◌, ◌-◌, ◌*◌, ◌/◌, min, max, nat_lt, nat_le, ◌&&◌, Bool, List, [], ◌++◌, map, take, if◌then◌else◌}
+use Rattle.std.specs.Prelude.{ℕ, unsigned_abs, ◌+◌, ◌-◌, ◌*◌, ◌/◌, min, max, nat_lt, nat_le, ◌&&◌, Bool, List, [], ◌++◌}
+use Rattle.std.specs.Prelude.{map, take, if◌then◌else◌}
 use Rattle.device_profile.specs.Faces.{Face, has_code}
 use Rattle.test_sheet.specs.declared.area.Area.{Area}
 use Rattle.test_sheet.specs.Commands.{move_to, rectangle}

@@ -1,5 +1,7 @@
--- A page to which a ruler is laid: rules at the edges of the area, columns and lines, and how far they have to be from the paper's edges.
-use Rattle.std.specs.Prelude.{ℕ, zero, suc, unsigned_abs, ◌+◌, ◌-◌, ◌*◌, ◌/◌, ◌%◌, ◌==◌, ◌&&◌, nat_le, Bool, List, [], ◌∷◌, ◌++◌, codes, decimal, flat_map, if◌then◌else◌}
+-- A page to which a ruler is laid:
+-- rules at the edges of the area, columns and lines, and how far they have to be from the paper's edges.
+use Rattle.std.specs.Prelude.{ℕ, zero, suc, unsigned_abs, ◌+◌, ◌-◌, ◌*◌, ◌/◌, ◌%◌, ◌==◌, ◌&&◌, nat_le, Bool, List, []}
+use Rattle.std.specs.Prelude.{◌∷◌, ◌++◌, codes, decimal, flat_map, if◌then◌else◌}
 use Rattle.std.specs.List.{list_any}
 use Rattle.device_profile.specs.declared.geometry.Geometry.{Geometry}
 use Rattle.device_profile.specs.Faces.{Face}
@@ -108,7 +110,8 @@ ten_rules area face y =
 -- whether there is room for ten lines between them
 unfoldable pub has_ten_lines : Area → Face → ℕ → Bool
 has_ten_lines area face y =
-    fits_at area face (indent area) (y + 40) && fits_at area face (indent area) (y + 490) && nat_le (y + 502) area.bottom
+    fits_at area face (indent area) (y + 40) && fits_at area face (indent area) (y + 490)
+    && nat_le (y + 502) area.bottom
 
 -- the rules and the lines, where there is
 unfoldable pub ten_lines : Area → Face → ℕ → List ℕ

@@ -1,5 +1,6 @@
 -- The page that sets nothing: it shows what the panel has.
-use Rattle.std.specs.Prelude.{ℕ, unsigned_abs, ◌+◌, ◌-◌, ◌*◌, ◌==◌, ◌&&◌, nat_le, min, Bool, List, [], ◌∷◌, ◌++◌, codes, decimal, flat_map, map, take, replicate, if◌then◌else◌}
+use Rattle.std.specs.Prelude.{ℕ, unsigned_abs, ◌+◌, ◌-◌, ◌*◌, ◌==◌, ◌&&◌, nat_le, min, Bool, List, [], ◌∷◌, ◌++◌, codes}
+use Rattle.std.specs.Prelude.{decimal, flat_map, map, take, replicate, if◌then◌else◌}
 use Rattle.std.specs.Int.{div_ceil}
 use Rattle.device_profile.specs.declared.geometry.Geometry.{Geometry}
 use Rattle.device_profile.specs.declared.panel.Panel.{Panel}
@@ -16,7 +17,8 @@ use Rattle.test_sheet.specs.Marks.{columns_from, shown}
 abbrev pub half_inch : ℕ
 half_inch = 18_288_000_000
 
--- the first baseline under a VMI: 3/4 of it below the top margin, of which a ten-thousandth of 1/48 inch has 76,200 ticks
+-- the first baseline under a VMI:
+-- 3/4 of it below the top margin, of which a ten-thousandth of 1/48 inch has 76,200 ticks
 abbrev pub first_baseline : ℕ → ℕ
 first_baseline vmi = half_inch + vmi * 57_150
 

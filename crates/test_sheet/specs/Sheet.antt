@@ -36,4 +36,5 @@ sheet_in name printer panel face =
 -- the sheet under the first panel, whose font each printer that hangs together has
 unfoldable pub sheet : List ℕ → Printer → List ℕ
 sheet name printer =
-    option_map_or (λ face. sheet_in name printer (first_panel printer) face) (face_at printer.faces (first_panel printer).font) []
+    option_map_or (λ face. sheet_in name printer (first_panel printer) face)
+    (face_at printer.faces (first_panel printer).font) []

@@ -1,6 +1,7 @@
 //! The commands that the sheet is made of.
 ghost use Rattle.std.specs.Prelude.{◌≡◌, ◌++◌, OnOk};
-ghost use Rattle.test_sheet.specs.Commands.{font_look, font_request, font_size, move_across, move_to, page_request, rectangle, sheet_settings};
+ghost use Rattle.test_sheet.specs.Commands.{font_look, font_request, font_size, move_across};
+ghost use Rattle.test_sheet.specs.Commands.{move_to, page_request, rectangle, sheet_settings};
 
 use crate::figures::{push_amount, push_signed_amount, push_symbol_set};
 use device_profile::FontRequest;

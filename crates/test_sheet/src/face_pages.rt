@@ -2,7 +2,10 @@
 ghost use Rattle.std.specs.Prelude.{◌≡◌, ◌++◌, ◌≤◌, ◌<◌, OnOk, IfOk, flat_map};
 ghost use Rattle.test_sheet.specs.Lines.{indent};
 ghost use Rattle.test_sheet.specs.Marks.{words_at};
-ghost use Rattle.test_sheet.specs.FacePages.{amount_word, cut_words, ends_of, face_entries, face_entry, face_line, face_pages, face_words, faces_on, heading, last_line, line_of, look_words, sample_words};
+ghost use Rattle.test_sheet.specs.FacePages.{amount_word, cut_words, ends_of, face_entries};
+ghost use Rattle.test_sheet.specs.FacePages.{face_entry, face_line, face_pages, face_words};
+ghost use Rattle.test_sheet.specs.FacePages.{faces_on, heading, last_line, line_of, look_words};
+ghost use Rattle.test_sheet.specs.FacePages.{sample_words};
 
 use crate::area::{Area, area_of};
 use crate::commands::{push_font_request, push_page_request};

@@ -1,6 +1,7 @@
 //! Marks at places of a page, cut to the area where they may lie.
 ghost use Rattle.std.specs.Prelude.{◌≡◌, ◌+◌, ◌++◌, ◌<◌, ◌≤◌, ◌^◌, OnOk, map, take, unsigned_abs};
-ghost use Rattle.test_sheet.specs.Marks.{columns_from, fits_at, rule_at, rule_between, shown, words_at, words_from};
+ghost use Rattle.test_sheet.specs.Marks.{columns_from, fits_at, rule_at, rule_between, shown};
+ghost use Rattle.test_sheet.specs.Marks.{words_at, words_from};
 
 use crate::area::Area;
 use crate::commands::{push_move_to, push_rectangle};

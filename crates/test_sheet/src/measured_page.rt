@@ -2,7 +2,14 @@
 ghost use Rattle.std.specs.Prelude.{◌≡◌, ◌++◌, ◌≤◌, ◌<◌, ◌^◌, OnOk, IfOk, flat_map};
 ghost use Rattle.test_sheet.specs.Lines.{baseline, words_on};
 ghost use Rattle.test_sheet.specs.Marks.{words_at};
-ghost use Rattle.test_sheet.specs.MeasuredPage.{bottom_distance, column_count, column_digits, column_lines, column_tens, column_words, edge_lines, edge_rules, edge_words, has_ten_lines, inside_words, is_measured, left_distance, measured_page, measured_pages, measured_part, page_head, page_words, paper_words, right_distance, size_words, spaced_line, ten_lines, ten_rules, tens_digit, top_distance};
+ghost use Rattle.test_sheet.specs.MeasuredPage.{bottom_distance, column_count, column_digits};
+ghost use Rattle.test_sheet.specs.MeasuredPage.{column_lines, column_tens, column_words};
+ghost use Rattle.test_sheet.specs.MeasuredPage.{edge_lines, edge_rules, edge_words, has_ten_lines};
+ghost use Rattle.test_sheet.specs.MeasuredPage.{inside_words, is_measured, left_distance};
+ghost use Rattle.test_sheet.specs.MeasuredPage.{measured_page, measured_pages, measured_part};
+ghost use Rattle.test_sheet.specs.MeasuredPage.{page_head, page_words, paper_words, right_distance};
+ghost use Rattle.test_sheet.specs.MeasuredPage.{size_words, spaced_line, ten_lines, ten_rules};
+ghost use Rattle.test_sheet.specs.MeasuredPage.{tens_digit, top_distance};
 
 use crate::area::{Area, area_of};
 use crate::commands::{push_font_request, push_move_across, push_move_to, push_page_request};

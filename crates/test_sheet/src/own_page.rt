@@ -1,6 +1,8 @@
 //! The page that sets nothing: it shows what the panel has.
 ghost use Rattle.std.specs.Prelude.{◌≡◌, ◌++◌, ◌≤◌, ◌^◌, OnOk, IfOk, flat_map, replicate};
-ghost use Rattle.test_sheet.specs.OwnPage.{baseline_behind, blank_columns, first_baseline, has_own_lines, last_baseline, line_end, numbered, numbered_line, own_line, own_lines, own_page, own_words};
+ghost use Rattle.test_sheet.specs.OwnPage.{baseline_behind, blank_columns, first_baseline};
+ghost use Rattle.test_sheet.specs.OwnPage.{has_own_lines, last_baseline, line_end, numbered};
+ghost use Rattle.test_sheet.specs.OwnPage.{numbered_line, own_line, own_lines, own_page, own_words};
 
 use crate::area::{Area, area_of};
 use crate::dots::{DOT, ticks_of};

@@ -8,7 +8,8 @@ use Rattle.pcl_items.specs.Items.{Entry}
 use Rattle.macro_store.specs.Store.{Store, mode_in, IsAdmittedIn, Admits, with_item, appended}
 use Rattle.macro_store.proofs.Modes.{mode_after-more}
 
-module _ (store : Store) (mode next : Mode) (item : Entry) (stands : mode_in store.definition ≡ Some mode) (e : follows mode item ≡ Some next) where
+module _ (store : Store) (mode next : Mode) (item : Entry) (stands : mode_in store.definition ≡ Some mode)
+    (e : follows mode item ≡ Some next) where
   pub admits_next : Admits store item
   admits_next = subst (λ m. IsAdmittedIn m item) (sym stands) (ap is_some e)
 

@@ -1,5 +1,6 @@
-//! The tests of what a check stands on that no row file can say, over the public calls of the crates
-//! below it: memory that is refused, fronts of jobs, and calls that the program does not make.
+//! The tests of what a check stands on that no row file can say, over the public calls
+//! of the crates below it: memory that is refused, fronts of jobs, and calls that the
+//! program does not make.
 #![tactic(auto)]
 
 #[cfg(test)]

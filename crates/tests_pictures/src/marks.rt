@@ -1,6 +1,6 @@
-//! What no job on a printer draws: places left of and above the page, codes below 33, symbol sets and
-//! stroke weights between those that there are, and sentences with control codes. Places are in ticks,
-//! of which a unit of a picture has 5,080,000.
+//! What no job on a printer draws: places left of and above the page, codes below 33, symbol sets
+//! and stroke weights between those that there are, and sentences with control codes. Places are in
+//! ticks, of which a unit of a picture has 5,080,000.
 
 use device_profile::{FontRequest, Geometry, SymbolSet};
 use page_env::{Area, Bounds, Fill, Glyph, Mark};
@@ -27,8 +27,8 @@ fn bounds([left, top, right, bottom]: [i64; 4]) -> Bounds {
 /// A symbol set: its number in ten-thousandths, and its letter.
 type Set = (u32, u8);
 
-/// The character of a code, 12 points high and 1/10 inch wide, at 1/4 and 1/2 inch, in a face of this
-/// symbol set and stroke weight.
+/// The character of a code, 12 points high and 1/10 inch wide, at 1/4 and 1/2 inch, in a face of
+/// this symbol set and stroke weight.
 fn character((number, letter): Set, weight: i32, code: u8) -> Mark<'static> {
     Mark::Glyph(Glyph {
         code,

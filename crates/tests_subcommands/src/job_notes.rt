@@ -1,4 +1,5 @@
-//! The notes of jobs that are read in pieces of all kinds, and whose macros may carry out few items.
+//! The notes of jobs that are read in pieces of all kinds, and whose macros may carry
+//! out few items.
 ghost use Rattle.std.specs.Prelude.{IsFalse};
 
 use crate::job_notes::Ending::{Done, Fault, Found};
@@ -47,8 +48,8 @@ type Due = (&'static [u8], Ending);
 /// How many items macros may carry out, a job on sample B, the lines of its notes, and how it ends.
 type NotesRow = (u64, &'static [u8], &'static [u8], Ending);
 
-/// Jobs that end in each way; and 112: macros would carry out one item more than they may, and nearby
-/// as many as they may.
+/// Jobs that end in each way;
+/// and 112: macros would carry out one item more than they may, and nearby as many as they may.
 const ROWS: &[NotesRow] = &[
     (
         0,

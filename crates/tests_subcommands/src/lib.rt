@@ -1,5 +1,5 @@
-//! The tests of the commands on jobs: reads, writes and requests for memory that fail, and jobs that
-//! change or come in pieces. What the commands write of files stands in `crosscheck/runs`.
+//! The tests of the commands on jobs: reads, writes and requests for memory that fail, and jobs
+//! that change or come in pieces. What the commands write of files stands in `crosscheck/runs`.
 #![tactic(auto)]
 
 #[cfg(test)]

@@ -1,4 +1,5 @@
-//! Checks of many jobs that stop: each write of standard output fails in turn, and each request for memory.
+//! Checks of many jobs that stop:
+//! each write of standard output fails in turn, and each request for memory.
 
 use crate::many_runs::{EACH, Form, Manner, Run, run_of};
 use std::process::Abort;

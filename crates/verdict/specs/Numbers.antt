@@ -1,7 +1,8 @@
 -- The numbers of faults, and those of all reasons; of findings they stand in the order of these.
 use Rattle.std.specs.Prelude.{ℕ}
 use Rattle.pcl_items.specs.declared.fault.LexCause.{LexCause}
-use Rattle.pcl_items.specs.declared.fault.LexCause.TheVariants.{Syntax, Truncated, NotInProfile, BadNumber, Pjl, EndInFrame}
+use Rattle.pcl_items.specs.declared.fault.LexCause.TheVariants.{Syntax, Truncated, NotInProfile, BadNumber, Pjl}
+use Rattle.pcl_items.specs.declared.fault.LexCause.TheVariants.{EndInFrame}
 use Rattle.page_env.specs.Order.{number_of}
 use Rattle.verdict.specs.declared.reason.Reason.{Reason}
 use Rattle.verdict.specs.declared.reason.Reason.TheVariants.{Fault, Finding, Differs, Unpinnable}

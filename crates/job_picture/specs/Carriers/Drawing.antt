@@ -18,7 +18,8 @@ use Rattle.job_picture.specs.Progress.{progress_behind, progress_behind_all}
 use Rattle.job_picture.specs.Sheet.{drawn_event, drawn_events}
 
 -- the picture of an event was put, and the pages have come so much further
-pub record LeadsOn (old new : OutletState) (kept kept' : List ℕ) (sheet : Sheet) (p p' : Progress) (event : Event) : Type 0 where
+pub record LeadsOn (old new : OutletState) (kept kept' : List ℕ) (sheet : Sheet) (p p' : Progress)
+    (event : Event) : Type 0 where
   pub working : IsFalse new.failed
   pub puts : Puts old new kept kept' (drawn_event sheet p event)
   pub progress_is : p' ≡ progress_behind p event
@@ -29,20 +30,26 @@ LeadsTo old new kept sheet p event = AddsFront old new (kept ++ drawn_event shee
 
 -- the same outlet, the same text that is kept for it, and the same sheet
 abbrev pub StaysAt : {W A : Type 0} → PictureText W A → PictureText W A → Type 0
-StaysAt old new = (new.outlet.ghost_name ≡ old.outlet.ghost_name) × (new.kept.ghost_name ≡ old.kept.ghost_name) × (new.sheet ≡ old.sheet)
+StaysAt old new =
+    (new.outlet.ghost_name ≡ old.outlet.ghost_name) × (new.kept.ghost_name ≡ old.kept.ghost_name)
+    × (new.sheet ≡ old.sheet)
 
 abbrev pub TakesPart : {W A : Type 0} → (W → OutletState) → PictureText W A → Event → PictureText W A → Type 0
 TakesPart state old event new =
-    StaysAt old new × LeadsOn (state old.outlet.now) (state new.outlet.now) old.kept.now.items new.kept.now.items old.sheet old.progress new.progress event
+    StaysAt old new
+    × LeadsOn (state old.outlet.now)
+    (state new.outlet.now) old.kept.now.items new.kept.now.items old.sheet old.progress new.progress event
 
 abbrev pub RefusesPart : {W A : Type 0} → (W → OutletState) → PictureText W A → Event → PictureText W A → Type 0
 RefusesPart state old event new =
-    StaysAt old new × LeadsTo (state old.outlet.now) (state new.outlet.now) old.kept.now.items old.sheet old.progress event
+    StaysAt old new
+    × LeadsTo (state old.outlet.now) (state new.outlet.now) old.kept.now.items old.sheet old.progress event
 
 -- ---- a call of the machine
 
 -- a run ended so, and all that its events draw was put
-pub record Draws (sheet : Sheet) (run : Run) (ending : Ending) (old new : OutletState) (kept kept' : List ℕ) (p p' : Progress) : Type 0 where
+pub record Draws (sheet : Sheet) (run : Run) (ending : Ending) (old new : OutletState) (kept kept' : List ℕ)
+    (p p' : Progress) : Type 0 where
   pub events : List Event
   pub peaks : Peaks
   pub is : run ≡ after events peaks (just [] ending)
@@ -57,18 +64,29 @@ pub record DrawsFront (sheet : Sheet) (run : Run) (old new : OutletState) (kept 
   pub front : AddsFront old new (kept ++ drawn_events sheet p events)
 
 -- an item was carried out to its end, or had a finding, or work stopped
-abbrev pub Steps : Sheet → MachineState → MachineState → Entry → OutletState → OutletState → List ℕ → List ℕ → Progress → Progress → Result (Option Finding) Error → Type 0
+abbrev pub Steps : Sheet → MachineState → MachineState → Entry → OutletState → OutletState → List ℕ → List ℕ →
+    Progress → Progress → Result (Option Finding) Error → Type 0
 Steps sheet machine machine' item old new kept kept' p p' (Ok None) =
-    (machine' ≡ record machine { page = machine'.page; macros = (item_of machine item).macros; mode = (item_of machine item).mode; stopped = false })
-    × Draws sheet ((item_of machine item).run any_panel) (Done (state_at any_panel machine'.page)) old new kept kept' p p'
+    (machine'
+    ≡ record machine {
+      page = machine'.page;
+      macros = (item_of machine item).macros;
+      mode = (item_of machine item).mode;
+      stopped = false;
+    })
+    × Draws sheet ((item_of machine item).run any_panel)
+    (Done (state_at any_panel machine'.page)) old new kept kept' p p'
 Steps sheet machine machine' item old new kept kept' p p' (Ok (Some finding)) =
     Draws sheet ((item_of machine item).run any_panel) (Halts finding) old new kept kept' p p'
-Steps sheet machine machine' item old new kept kept' p p' (Err e) = DrawsFront sheet ((item_of machine item).run any_panel) old new kept p
+Steps sheet machine machine' item old new kept kept' p p' (Err e) =
+    DrawsFront sheet ((item_of machine item).run any_panel) old new kept p
 
 -- so was the end of the bytes
-abbrev pub Finishes : Sheet → MachineState → OutletState → OutletState → List ℕ → List ℕ → Progress → Progress → Result (Option Finding) Error → Type 0
+abbrev pub Finishes : Sheet → MachineState → OutletState → OutletState → List ℕ → List ℕ → Progress → Progress →
+    Result (Option Finding) Error → Type 0
 Finishes sheet machine old new kept kept' p p' (Ok None) =
     (s : State) × Draws sheet ((end_of machine).run any_panel) (Done s) old new kept kept' p p'
 Finishes sheet machine old new kept kept' p p' (Ok (Some finding)) =
     Draws sheet ((end_of machine).run any_panel) (Halts finding) old new kept kept' p p'
-Finishes sheet machine old new kept kept' p p' (Err e) = DrawsFront sheet ((end_of machine).run any_panel) old new kept p
+Finishes sheet machine old new kept kept' p p' (Err e) =
+    DrawsFront sheet ((end_of machine).run any_panel) old new kept p

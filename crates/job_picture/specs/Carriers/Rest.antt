@@ -13,14 +13,18 @@ use Rattle.job_picture.specs.Sheet.{start_if_due}
 -- what is drawn of it, where the pages have come so far
 abbrev pub rest_drawing : Selection → (sentence : List ℕ) → MachineState → Progress → Reading → Drawing
 rest_drawing selection sentence machine p reading =
-    reading_drawing selection sentence machine.printer (settings_at any_panel machine.defaults) p reading machine.macros (state_at any_panel machine.page)
+    reading_drawing selection sentence machine.printer (settings_at any_panel machine.defaults) p reading machine.macros
+    (state_at any_panel machine.page)
 
 -- and before that what stands before all pages, unless it is put
 abbrev pub drawn_from : Selection → (sentence : List ℕ) → MachineState → Progress → (is_started : Bool) → Rendering
 drawn_from selection sentence machine p is_started = record {
-  text = λ reading. (then_draws (start_if_due selection sentence is_started) (rest_drawing selection sentence machine p reading)).text;
+  text =
+      λ reading. (then_draws (start_if_due selection sentence is_started)
+      (rest_drawing selection sentence machine p reading)).text;
   outcome = λ reading. (rest_drawing selection sentence machine p reading).outcome;
   at_fault = λ items place cause.
       start_if_due selection sentence (started_behind is_started items)
-      ++ fault_behind selection sentence machine.printer (settings_at any_panel machine.defaults) place cause p items machine.macros (state_at any_panel machine.page);
+      ++ fault_behind selection sentence machine.printer
+          (settings_at any_panel machine.defaults) place cause p items machine.macros (state_at any_panel machine.page);
 }

@@ -30,7 +30,8 @@ told_behind told [] = told
 told_behind told (x ∷ notes) = told_behind (among_behind told x.note) notes
 
 -- what is told so of the first of these was appended, and these count as told
-pub record WritesNotes (write : Told → List ℕ) (told told' : List Note) (text text' : List ℕ) (notes : List Told) : Type 0 where
+pub record WritesNotes (write : Told → List ℕ) (told told' : List Note) (text text' : List ℕ)
+    (notes : List Told) : Type 0 where
   pub text_is : text' ≡ text ++ flat_map write (firsts told notes)
   pub told_is : told' ≡ told_behind told notes
 
@@ -42,23 +43,29 @@ closing_behind (Ended page) closing = record { closed = true }
 -- ---- the rest of a job
 
 -- of items, by what was kept of those before them, and then of what comes last
-abbrev pub rest_of_items : Printer → Settings → (finally : State → List Told) → Past → List Placed → Store → State → List Told
+abbrev pub rest_of_items : Printer → Settings → (finally : State → List Told) → Past → List Placed → Store → State →
+    List Told
 rest_of_items printer defaults finally past [] macros s = finally s
 rest_of_items printer defaults finally past (x ∷ items) macros s =
     past_notes past x
     ++ ended_notes printer macros x s (job_item_run (with_macros printer defaults macros) x.item s).ending
-    (rest_of_items printer defaults finally (past_behind past x.item) items (macros_after s.settings.job.macro_id x.item macros))
+    (rest_of_items printer defaults finally (past_behind past x.item) items
+    (macros_after s.settings.job.macro_id x.item macros))
 
 -- of the end, by whether a page was closed before, and by the state behind the items
 abbrev pub rest_of_end : Past → (closed : Bool) → Reading → JobRun → State → List Told
 rest_of_end past closed (Whole items place) run s =
-    cond (is_done run.ending) (notes_at_end (ends_open past items) (not (closed || closes_page (events_of run.items))) (has_rows_left s.raster) place) []
+    cond (is_done run.ending)
+    (notes_at_end (ends_open past items) (not (closed || closes_page (events_of run.items)))
+    (has_rows_left s.raster) place)
+    []
 rest_of_end past closed (Stopped items place cause) run s = []
 
 -- the run of the rest from where the machine stands under this panel
 abbrev pub rest_run : MachineState → Panel → Reading → JobRun
 rest_run machine panel reading =
-    reading_run machine.printer (settings_at panel machine.defaults) reading machine.macros (state_at panel machine.page)
+    reading_run machine.printer (settings_at panel machine.defaults) reading machine.macros
+    (state_at panel machine.page)
 
 -- what it comes to
 abbrev pub rest_outcome : MachineState → Panel → Reading → Outcome
@@ -66,7 +73,9 @@ rest_outcome machine panel reading = run_outcome (rest_run machine panel reading
 
 abbrev pub rest_notes : MachineState → Panel → Past → Bool → Reading → List Told
 rest_notes machine panel past closed reading =
-    rest_of_items machine.printer (settings_at panel machine.defaults) (rest_of_end past closed reading (rest_run machine panel reading)) past (items_of reading) machine.macros (state_at panel machine.page)
+    rest_of_items machine.printer (settings_at panel machine.defaults)
+    (rest_of_end past closed reading (rest_run machine panel reading)) past (items_of reading) machine.macros
+    (state_at panel machine.page)
     ++ long_run (rest_outcome machine panel reading)
 
 -- what is due of it, where notes are told so, and these were told

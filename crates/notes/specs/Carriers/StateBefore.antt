@@ -8,10 +8,12 @@ use Rattle.page_env.specs.Rasters.{is_of_raster}
 use Rattle.page_env.specs.Settings.{State, state_at}
 use Rattle.page_machine.specs.Defining.{is_defining}
 use Rattle.page_machine.specs.MachineState.{MachineState}
-use Rattle.notes.specs.declared.note.Note.TheVariants.{SameOrientation, RoundedColumn, ShortRaster, BlankOverflow, SourceMovesLeft}
+use Rattle.notes.specs.declared.note.Note.TheVariants.{SameOrientation, RoundedColumn, ShortRaster, BlankOverflow}
+use Rattle.notes.specs.declared.note.Note.TheVariants.{SourceMovesLeft}
 use Rattle.notes.specs.declared.state_before.StateBefore.{StateBefore}
 use Rattle.notes.specs.Note.{Told, told_if}
-use Rattle.notes.specs.StateNotes.{sets_same_orientation, has_spacing, is_rounded_column, has_rows_left, feeds_line, is_source_with_margin}
+use Rattle.notes.specs.StateNotes.{sets_same_orientation, has_spacing, is_rounded_column, has_rows_left, feeds_line}
+use Rattle.notes.specs.StateNotes.{is_source_with_margin}
 
 abbrev pub state_before_of : Printer → Entry → State → StateBefore
 state_before_of printer item s = record {
@@ -32,7 +34,8 @@ state_before_at machine panel item =
 -- the notes of an item by what was kept and the state behind it
 abbrev pub before_notes : Placed → State → StateBefore → List Told
 before_notes x t before =
-    told_if (before.sets_same_orientation && (before.has_spacing || not (before.vmi == t.settings.fields.vmi))) x.place SameOrientation
+    told_if (before.sets_same_orientation && (before.has_spacing || not (before.vmi == t.settings.fields.vmi))) x.place
+    SameOrientation
     ++ told_if before.is_rounded x.place RoundedColumn
     ++ told_if (before.has_rows_left && (is_none t.raster || not (is_of_raster x.item))) x.place ShortRaster
     ++ told_if (before.feeds_blank && is_none t.cursor.y) x.place BlankOverflow

@@ -37,7 +37,10 @@ character_of group_kinds.Resolution = 116
 character_of group_kinds.Font = 115
 
 abbrev pub groups : List Group
-groups = group_kinds.Position ∷ group_kinds.Macro ∷ group_kinds.Spacing ∷ group_kinds.Layout ∷ group_kinds.Transparent ∷ group_kinds.Units ∷ group_kinds.RasterData ∷ group_kinds.Rectangle ∷ group_kinds.UnitPosition ∷ group_kinds.Raster ∷ group_kinds.Resolution ∷ group_kinds.Font ∷ []
+groups =
+    group_kinds.Position ∷ group_kinds.Macro ∷ group_kinds.Spacing ∷ group_kinds.Layout ∷ group_kinds.Transparent
+    ∷ group_kinds.Units ∷ group_kinds.RasterData ∷ group_kinds.Rectangle ∷ group_kinds.UnitPosition ∷ group_kinds.Raster
+    ∷ group_kinds.Resolution ∷ group_kinds.Font ∷ []
 
 -- the group and the capital letter of each command
 abbrev pub spelling_of : Command → Group × ℕ
@@ -97,11 +100,27 @@ abbrev pub letter_of : Command → ℕ
 letter_of command = (spelling_of command).1
 
 abbrev pub commands : List Command
-commands = command_kinds.LeftMargin ∷ command_kinds.RightMargin ∷ command_kinds.Column ∷ command_kinds.Row ∷ command_kinds.HorizontalDecipoints ∷ command_kinds.VerticalDecipoints ∷ command_kinds.CursorStack ∷ command_kinds.MacroId ∷ command_kinds.MacroControl ∷ command_kinds.HorizontalMotionIndex ∷ command_kinds.LineTermination ∷ command_kinds.PageSize ∷ command_kinds.Orientation ∷ command_kinds.Copies ∷ command_kinds.Sides ∷ command_kinds.Source ∷ command_kinds.VerticalMotionIndex ∷ command_kinds.LineSpacing ∷ command_kinds.TopMargin ∷ command_kinds.TextLength ∷ command_kinds.PerforationSkip ∷ command_kinds.UnitOfMeasure ∷ command_kinds.RectangleWidth ∷ command_kinds.RectangleHeight ∷ command_kinds.FillRectangle ∷ command_kinds.RectangleWidthDecipoints ∷ command_kinds.RectangleHeightDecipoints ∷ command_kinds.FillId ∷ command_kinds.PictureFrameAnchor ∷ command_kinds.PictureFrameWidth ∷ command_kinds.PictureFrameHeight ∷ command_kinds.RasterResolution ∷ command_kinds.StartRaster ∷ command_kinds.RasterWidth ∷ command_kinds.RasterHeight ∷ command_kinds.RasterPresentation ∷ command_kinds.EndRaster ∷ command_kinds.EndRasterAndMethod ∷ command_kinds.CompressionMethod ∷ command_kinds.RasterOffset ∷ command_kinds.HorizontalUnits ∷ command_kinds.VerticalUnits ∷ command_kinds.FontSpacing ∷ command_kinds.FontPitch ∷ command_kinds.FontHeight ∷ command_kinds.FontStyle ∷ command_kinds.FontWeight ∷ command_kinds.FontTypeface ∷ []
+commands =
+    command_kinds.LeftMargin ∷ command_kinds.RightMargin ∷ command_kinds.Column ∷ command_kinds.Row
+    ∷ command_kinds.HorizontalDecipoints ∷ command_kinds.VerticalDecipoints ∷ command_kinds.CursorStack
+    ∷ command_kinds.MacroId ∷ command_kinds.MacroControl ∷ command_kinds.HorizontalMotionIndex
+    ∷ command_kinds.LineTermination ∷ command_kinds.PageSize ∷ command_kinds.Orientation ∷ command_kinds.Copies
+    ∷ command_kinds.Sides ∷ command_kinds.Source ∷ command_kinds.VerticalMotionIndex ∷ command_kinds.LineSpacing
+    ∷ command_kinds.TopMargin ∷ command_kinds.TextLength ∷ command_kinds.PerforationSkip ∷ command_kinds.UnitOfMeasure
+    ∷ command_kinds.RectangleWidth ∷ command_kinds.RectangleHeight ∷ command_kinds.FillRectangle
+    ∷ command_kinds.RectangleWidthDecipoints ∷ command_kinds.RectangleHeightDecipoints ∷ command_kinds.FillId
+    ∷ command_kinds.PictureFrameAnchor ∷ command_kinds.PictureFrameWidth ∷ command_kinds.PictureFrameHeight
+    ∷ command_kinds.RasterResolution ∷ command_kinds.StartRaster ∷ command_kinds.RasterWidth
+    ∷ command_kinds.RasterHeight ∷ command_kinds.RasterPresentation ∷ command_kinds.EndRaster
+    ∷ command_kinds.EndRasterAndMethod ∷ command_kinds.CompressionMethod ∷ command_kinds.RasterOffset
+    ∷ command_kinds.HorizontalUnits ∷ command_kinds.VerticalUnits ∷ command_kinds.FontSpacing ∷ command_kinds.FontPitch
+    ∷ command_kinds.FontHeight ∷ command_kinds.FontStyle ∷ command_kinds.FontWeight ∷ command_kinds.FontTypeface ∷ []
 
 abbrev pub first_group : ℕ → ℕ → List Group → Option Group
 first_group introducer character [] = None
-first_group introducer character (g ∷ gs) = if (introducer == introducer_of g) && (character == character_of g) then Some g else first_group introducer character gs
+first_group introducer character (g ∷ gs) =
+    if (introducer == introducer_of g) && (character == character_of g) then Some g
+    else first_group introducer character gs
 
 -- the group of two characters
 abbrev pub group_at : ℕ → ℕ → Option Group
@@ -112,7 +131,8 @@ same_group g h = (introducer_of g == introducer_of h) && (character_of g == char
 
 abbrev pub first_command : Group → ℕ → List Command → Option Command
 first_command group letter [] = None
-first_command group letter (c ∷ cs) = if same_group group (group_of c) && (letter == letter_of c) then Some c else first_command group letter cs
+first_command group letter (c ∷ cs) =
+    if same_group group (group_of c) && (letter == letter_of c) then Some c else first_command group letter cs
 
 -- the command of a group and a capital letter
 abbrev pub command_at : Group → ℕ → Option Command
@@ -136,7 +156,9 @@ data_commands = TransparentText ∷ RasterRow ∷ []
 
 abbrev pub first_data_command : Group → ℕ → List DataCommand → Option DataCommand
 first_data_command group letter [] = None
-first_data_command group letter (c ∷ cs) = if same_group group (data_group_of c) && (letter == data_letter_of c) then Some c else first_data_command group letter cs
+first_data_command group letter (c ∷ cs) =
+    if same_group group (data_group_of c) && (letter == data_letter_of c) then Some c
+    else first_data_command group letter cs
 
 -- the command with data of a group and a capital letter
 abbrev pub data_command_at : Group → ℕ → Option DataCommand

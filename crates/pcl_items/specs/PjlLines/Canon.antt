@@ -28,6 +28,7 @@ by_parts (Some p) = prefix ++ 32 ∷ words_text p.0 p.1
 abbrev pub canon_pjl : PjlCommand → List ℕ
 canon_pjl line = by_parts (parts_of line) ++ 10 ∷ []
 
--- A line that some text spells: its one spelling is read as it. One too long is not, nor one whose text is none of its word.
+-- A line that some text spells: its one spelling is read as it.
+-- One too long is not, nor one whose text is none of its word.
 abbrev pub IsSpelledPjl : PjlCommand → Type 0
 IsSpelledPjl line = first_pjl (at_pjl (canon_pjl line)) ≡ Some line

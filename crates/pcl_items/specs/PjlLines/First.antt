@@ -28,4 +28,6 @@ by_newline (b ∷ rest) text n = read_pjl (pjl_command_of text) n
 
 -- a line has at most 1024 bytes with its newline
 unfoldable pub at_pjl : List ℕ → FirstPjl
-at_pjl bytes = if nat_lt 1023 (prefix_len is_inside bytes) then Faulty Pjl else by_newline (past is_inside bytes) (front is_inside bytes) (prefix_len is_inside bytes)
+at_pjl bytes =
+    if nat_lt 1023 (prefix_len is_inside bytes) then Faulty Pjl
+    else by_newline (past is_inside bytes) (front is_inside bytes) (prefix_len is_inside bytes)

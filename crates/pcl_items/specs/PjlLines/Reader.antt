@@ -1,10 +1,12 @@
 -- The lines of the job language, as they are read.
-use Rattle.std.specs.Prelude.{ℕ, zero, suc, ◌==◌, List, [], ◌∷◌, length, take, drop, Bool, true, false, ◌||◌, ◌&&◌, Option, None, Some, if◌then◌else◌}
+use Rattle.std.specs.Prelude.{ℕ, zero, suc, ◌==◌, List, [], ◌∷◌, length, take, drop, Bool, true, false, ◌||◌, ◌&&◌}
+use Rattle.std.specs.Prelude.{Option, None, Some, if◌then◌else◌}
 use Rattle.std.specs.List.{prefix_len}
 use Rattle.pcl_items.specs.Frames.Mnemonics.{capital}
 use Rattle.pcl_items.specs.declared.pjl.Word.{Word}
 use Rattle.pcl_items.specs.declared.pjl.Word.TheVariants.{Comment, Job, EndOfJob, Enter}
-use Rattle.pcl_items.specs.PjlLines.Text.{is_blank, is_solid, is_name_byte, is_quotable, PjlCommand, Bare, Remark, JobBegins, JobEnds, EnterPcl, name, display, language, pcl, spelling}
+use Rattle.pcl_items.specs.PjlLines.Text.{is_blank, is_solid, is_name_byte, is_quotable, PjlCommand, Bare, Remark}
+use Rattle.pcl_items.specs.PjlLines.Text.{JobBegins, JobEnds, EnterPcl, name, display, language, pcl, spelling}
 
 -- the bytes in front that pass a test, and what stands behind them
 abbrev pub front : (ℕ → Bool) → List ℕ → List ℕ
@@ -58,7 +60,8 @@ is_name false text = is_word text name
 
 -- behind a name and its text between quotes
 unfoldable pub past_part : Bool → List ℕ → Option (List ℕ)
-past_part job bytes = if is_name job (front is_name_byte bytes) then past_value (past_equals (past is_name_byte bytes)) else None
+past_part job bytes =
+    if is_name job (front is_name_byte bytes) then past_value (past_equals (past is_name_byte bytes)) else None
 
 -- behind a part come at most n further ones, each behind at least a blank, and nothing else
 unfoldable pub parts_behind : Bool → ℕ → Option (List ℕ) → Bool
@@ -81,7 +84,10 @@ is_language text = is_word (front is_name_byte text) language && is_pcl (past_eq
 
 abbrev pub word_at : List ℕ → Option Word
 word_at text =
-    if is_word text (spelling Comment) then Some Comment else if is_word text (spelling Job) then Some Job else if is_word text (spelling EndOfJob) then Some EndOfJob else if is_word text (spelling Enter) then Some Enter else None
+    if is_word text (spelling Comment) then Some Comment
+    else if is_word text (spelling Job) then Some Job
+    else if is_word text (spelling EndOfJob) then Some EndOfJob
+    else if is_word text (spelling Enter) then Some Enter else None
 
 -- a word, and the text behind it without blanks at both ends
 abbrev pub with_text : Option Word → List ℕ → Option PjlCommand
@@ -105,4 +111,5 @@ pjl_command_of [] = None
 pjl_command_of (a ∷ []) = None
 pjl_command_of (a ∷ b ∷ []) = None
 pjl_command_of (a ∷ b ∷ c ∷ []) = None
-pjl_command_of (a ∷ b ∷ c ∷ d ∷ bytes) = if (a == 64) && ((b == 80) && ((c == 74) && (d == 76))) then behind_prefix (trimmed bytes) else None
+pjl_command_of (a ∷ b ∷ c ∷ d ∷ bytes) =
+    if (a == 64) && ((b == 80) && ((c == 74) && (d == 76))) then behind_prefix (trimmed bytes) else None

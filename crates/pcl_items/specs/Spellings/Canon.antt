@@ -1,15 +1,19 @@
 -- The one spelling of each item.
-use Rattle.std.specs.Prelude.{ℕ, ℤ, unsigned_abs, Option, None, Some, ◌+◌, ◌/◌, ◌%◌, ◌==◌, ◌≤◌, List, [], ◌∷◌, ◌++◌, length, if◌then◌else◌, decimal}
+use Rattle.std.specs.Prelude.{ℕ, ℤ, unsigned_abs, Option, None, Some, ◌+◌, ◌/◌, ◌%◌, ◌==◌, ◌≤◌, List, [], ◌∷◌, ◌++◌}
+use Rattle.std.specs.Prelude.{length, if◌then◌else◌, decimal}
 use Rattle.std.specs.Fmt.{signed_decimal}
 use Rattle.pcl_items.specs.declared.frame.Handover.{Handover}
 use Rattle.pcl_items.specs.declared.frame.Handover.TheVariants.{Previous, Current}
 use Rattle.pcl_items.specs.declared.frame.Mnemonic.{Mnemonic}
 use Rattle.pcl_items.specs.declared.frame.Mnemonic.TheVariants as mnemonics
 use Rattle.pcl_items.specs.Frames.Mnemonics.{letters_of}
-use Rattle.pcl_items.specs.Escapes.Commands.{introducer_of, character_of, group_of, letter_of, data_group_of, data_letter_of}
+use Rattle.pcl_items.specs.Escapes.Commands.{introducer_of, character_of, group_of, letter_of, data_group_of}
+use Rattle.pcl_items.specs.Escapes.Commands.{data_letter_of}
 use Rattle.pcl_items.specs.Escapes.Value.{Amount, most, most_data, most_units}
 use Rattle.pcl_items.specs.Escapes.ValueField.{sign_text}
-use Rattle.pcl_items.specs.Items.{Entry, Text, CarriageReturn, LineFeed, FormFeed, Reset, ClearMargins, HalfLineFeed, Parameterized, SymbolSet, DefaultFont, EnterFrame, LeaveFrame, Initialize, Set, Move, WithData, ExitLanguage, PjlLine}
+use Rattle.pcl_items.specs.Items.{Entry, Text, CarriageReturn, LineFeed, FormFeed, Reset, ClearMargins, HalfLineFeed}
+use Rattle.pcl_items.specs.Items.{Parameterized, SymbolSet, DefaultFont, EnterFrame, LeaveFrame, Initialize, Set, Move}
+use Rattle.pcl_items.specs.Items.{WithData, ExitLanguage, PjlLine}
 use Rattle.pcl_items.specs.Escapes.SetLetters.{IsSetLetter}
 use Rattle.pcl_items.specs.PjlLines.Canon.{canon_pjl, IsSpelledPjl}
 use Rattle.pcl_items.specs.PjlLines.Exit.{exit_text}
@@ -61,7 +65,9 @@ canon FormFeed = 12 ∷ []
 canon Reset = escape ∷ 69 ∷ []
 canon ClearMargins = escape ∷ 57 ∷ []
 canon HalfLineFeed = escape ∷ 61 ∷ []
-canon (Parameterized command amount) = escape ∷ introducer_of (group_of command) ∷ character_of (group_of command) ∷ (amount_text amount ++ letter_of command ∷ [])
+canon (Parameterized command amount) =
+    escape ∷ introducer_of (group_of command) ∷ character_of (group_of command)
+    ∷ (amount_text amount ++ letter_of command ∷ [])
 canon (SymbolSet amount letter) = escape ∷ 40 ∷ (amount_text amount ++ letter ∷ [])
 canon DefaultFont = escape ∷ 40 ∷ 51 ∷ 64 ∷ []
 canon (EnterFrame handover) = escape ∷ 37 ∷ handover_digit handover ∷ 66 ∷ []
@@ -69,7 +75,9 @@ canon (LeaveFrame handover) = escape ∷ 37 ∷ handover_digit handover ∷ 65 �
 canon Initialize = command_text mnemonics.Initialize []
 canon (Set setting ten_thousandths) = command_text (mnemonics.Sets setting) (magnitude_text ten_thousandths)
 canon (Move motion to) = command_text (mnemonics.Moves motion) (pair_text to)
-canon (WithData command bytes) = escape ∷ introducer_of (data_group_of command) ∷ character_of (data_group_of command) ∷ (decimal (length bytes) ++ data_letter_of command ∷ bytes)
+canon (WithData command bytes) =
+    escape ∷ introducer_of (data_group_of command) ∷ character_of (data_group_of command)
+    ∷ (decimal (length bytes) ++ data_letter_of command ∷ bytes)
 canon ExitLanguage = exit_text
 canon (PjlLine line) = canon_pjl line
 

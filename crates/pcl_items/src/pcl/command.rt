@@ -1,7 +1,10 @@
 //! The parameterized commands, by group and letter.
 
 ghost use Rattle.std.specs.Prelude.{◌≡◌};
-ghost use Rattle.pcl_items.specs.Escapes.Commands.{introducer_of, character_of, group_at, command_at, data_command_at, spelling_of, group_of, letter_of, data_spelling_of, data_group_of, data_letter_of};
+ghost use Rattle.pcl_items.specs.Escapes.Commands.{introducer_of, character_of, group_at};
+ghost use Rattle.pcl_items.specs.Escapes.Commands.{command_at, data_command_at, spelling_of};
+ghost use Rattle.pcl_items.specs.Escapes.Commands.{group_of, letter_of, data_spelling_of};
+ghost use Rattle.pcl_items.specs.Escapes.Commands.{data_group_of, data_letter_of};
 
 /// The groups of parameterized commands, each by its parameterized and its group character.
 #[derive(Clone, Copy, Debug, PartialEq, Eq)]

@@ -33,7 +33,9 @@ counts_if a e =
     let low = leb-true a.ten_thousandths 327670000 u.0 in
     record {
       whole = omega (arith, whole);
-      not_negative = λ m. let zero : a.ten_thousandths ≡ 0 = eqb-true a.ten_thousandths 0 (sign_zero a.sign (a.ten_thousandths == 0) u.1 m) in omega (arith, zero);
+      not_negative =
+          λ m. let zero : a.ten_thousandths ≡ 0 = eqb-true a.ten_thousandths 0 (sign_zero a.sign (a.ten_thousandths == 0) u.1 m) in
+          omega (arith, zero);
       limited = omega (arith, low);
     }
 
@@ -43,7 +45,8 @@ tested a n h =
     let limited = h.limited in
     let rest : a.ten_thousandths % 10000 ≡ 0 = omega (arith, whole) in
     let low : a.ten_thousandths ≤ 327670000 = omega (arith, whole, limited) in
-    and_from _ _ (eq-eqb _ _ rest) (and_from _ _ (le-leb _ _ low) (zero_sign a.sign (a.ten_thousandths == 0) (λ m. let none = h.not_negative m in let zero : a.ten_thousandths ≡ 0 = omega (arith, whole, none) in eq-eqb _ _ zero)))
+    and_from _ _ (eq-eqb _ _ rest) (and_from _ _ (le-leb _ _ low) (zero_sign a.sign (a.ten_thousandths == 0) (λ m.
+    let none = h.not_negative m in let zero : a.ten_thousandths ≡ 0 = omega (arith, whole, none) in eq-eqb _ _ zero)))
 
 -- a number that counts is read as its count
 pub counted : (a : Amount) (n : ℕ) → Counts a n → count_of a ≡ Some n
@@ -57,7 +60,9 @@ IsCount a None = (n : ℕ) → Counts a n → ⊥
 IsCount a (Some n) = Counts a n
 
 is_count : (a : Amount) → IsCount a (count_of a)
-is_count a = cond_both (tests a) _ _ (IsCount a) (λ e. counts_if a e) (λ e n h. let t : tests a ≡ true = tested a n h in let both : true ≡ false = sym t ∙ e in absurd cc)
+is_count a =
+    cond_both (tests a) _ _ (IsCount a) (λ e. counts_if a e)
+    (λ e n h. let t : tests a ≡ true = tested a n h in let both : true ≡ false = sym t ∙ e in absurd cc)
 
 pub counts_of : (a : Amount) (n : ℕ) → count_of a ≡ Some n → Counts a n
 counts_of a n e = subst (IsCount a) e (is_count a)

@@ -21,4 +21,5 @@ pub past_whole : (f : Field) → 65535 < decimal f.whole → amount_of f ≡ Non
 unfolding amount_of
 past_whole f h =
     let past : most < ten_thousandths_of f = omega (arith, four_least (decimal f.whole) f.decimals, h) in
-    cond-false (nat_le (ten_thousandths_of f) most && list_all (λ d. d == 48) (drop 4 f.decimals)) _ _ (no_more (nat_le (ten_thousandths_of f) most) (list_all (λ d. d == 48) (drop 4 f.decimals)) (lt-leb (ten_thousandths_of f) most past))
+    cond-false (nat_le (ten_thousandths_of f) most && list_all (λ d. d == 48) (drop 4 f.decimals)) _ _
+    (no_more (nat_le (ten_thousandths_of f) most) (list_all (λ d. d == 48) (drop 4 f.decimals)) (lt-leb (ten_thousandths_of f) most past))

@@ -1,5 +1,6 @@
 -- The table of the commands, read and written.
-use Rattle.std.proofs.Common.{◌≡◌, ℕ, ◌≤◌, List, [], ◌∷◌, ◌<◌, Bool, true, false, Option, None, Some, refl, sym, ap, subst, ◌∙◌, arith, inl, inr}
+use Rattle.std.proofs.Common.{◌≡◌, ℕ, ◌≤◌, List, [], ◌∷◌, ◌<◌, Bool, true, false, Option, None, Some, refl, sym, ap, subst, ◌∙◌, arith, inl}
+use Rattle.std.proofs.Common.{inr}
 use Rattle.std.specs.Prelude.{◌==◌, ◌&&◌, ◌⊎◌, nat_le, nat_lt, not, is_none}
 use Rattle.std.specs.Int.{is_in_range}
 use Rattle.std.specs.List.{list_all}
@@ -11,7 +12,9 @@ use Rattle.pcl_items.specs.declared.pcl.command.Command.{Command}
 use Rattle.pcl_items.specs.declared.pcl.command.DataCommand.{DataCommand}
 use Rattle.pcl_items.specs.declared.pcl.command.DataCommand.TheVariants.{TransparentText, RasterRow}
 use Rattle.pcl_items.specs.declared.pcl.command.Command.TheVariants.{LeftMargin}
-use Rattle.pcl_items.specs.Escapes.Commands.{introducer_of, character_of, groups, group_of, letter_of, commands, first_group, group_at, same_group, first_command, command_at, data_group_of, data_letter_of, data_commands, first_data_command, data_command_at}
+use Rattle.pcl_items.specs.Escapes.Commands.{introducer_of, character_of, groups, group_of, letter_of, commands, first_group, group_at}
+use Rattle.pcl_items.specs.Escapes.Commands.{same_group, first_command, command_at, data_group_of, data_letter_of, data_commands}
+use Rattle.pcl_items.specs.Escapes.Commands.{first_data_command, data_command_at}
 use Rattle.pcl_items.specs.Items.{Entry}
 use Rattle.pcl_items.specs.Escapes.Codes.{control_codes, control_at, second_characters, sequence_at}
 use Rattle.pcl_items.specs.Escapes.SetLetters.{IsSetLetter, is_set_letter}
@@ -44,7 +47,8 @@ first_group-has : (i c : ℕ) (gs : List Group) → HasCharacters i c (first_gro
 first_group-has i c [] = tt
 first_group-has i c (g ∷ gs) =
     cond_both ((i == introducer_of g) && (c == character_of g)) _ _ (HasCharacters i c)
-    (λ e. let t = both_true (i == introducer_of g) (c == character_of g) e in (eqb-true i (introducer_of g) t.0, eqb-true c (character_of g) t.1))
+    (λ e.
+    let t = both_true (i == introducer_of g) (c == character_of g) e in (eqb-true i (introducer_of g) t.0, eqb-true c (character_of g) t.1))
     (λ _. first_group-has i c gs)
 
 pub group_found : (i c : ℕ) (g : Group) → group_at i c ≡ Some g → (i ≡ introducer_of g) × (c ≡ character_of g)
@@ -68,7 +72,8 @@ first_command-has : (g : Group) (letter : ℕ) (cs : List Command) → HasLetter
 first_command-has g letter [] = tt
 first_command-has g letter (c ∷ cs) =
     cond_both (same_group g (group_of c) && (letter == letter_of c)) _ _ (HasLetter g letter)
-    (λ e. let t = both_true (same_group g (group_of c)) (letter == letter_of c) e in (same_group-true g (group_of c) t.0, eqb-true letter (letter_of c) t.1))
+    (λ e. let t = both_true (same_group g (group_of c)) (letter == letter_of c) e in
+    (same_group-true g (group_of c) t.0, eqb-true letter (letter_of c) t.1))
     (λ _. first_command-has g letter cs)
 
 pub command_found : (g : Group) (letter : ℕ) (c : Command) → command_at g letter ≡ Some c → (g ≡ group_of c) × (letter ≡ letter_of c)
@@ -79,11 +84,13 @@ abbrev IsPassed : (Command → Bool) → Option Command → Type 0
 IsPassed p None = Unit {0}
 IsPassed p (Some c) = p c ≡ true
 
-first_command-passes : (p : Command → Bool) (g : Group) (letter : ℕ) (cs : List Command) → list_all p cs ≡ true → IsPassed p (first_command g letter cs)
+first_command-passes : (p : Command → Bool) (g : Group) (letter : ℕ) (cs : List Command) → list_all p cs ≡ true →
+    IsPassed p (first_command g letter cs)
 first_command-passes p g letter [] h = tt
 first_command-passes p g letter (c ∷ cs) h =
     let t = both_true (p c) (list_all p cs) h in
-    cond_both (same_group g (group_of c) && (letter == letter_of c)) _ _ (IsPassed p) (λ _. t.0) (λ _. first_command-passes p g letter cs t.1)
+    cond_both (same_group g (group_of c) && (letter == letter_of c)) _ _ (IsPassed p) (λ _. t.0)
+    (λ _. first_command-passes p g letter cs t.1)
 
 abbrev has_capital : Command → Bool
 has_capital c = is_in_range 65 90 (letter_of c)
@@ -91,7 +98,8 @@ has_capital c = is_in_range 65 90 (letter_of c)
 -- its letter is a capital one
 pub capital_letter : (c : Command) → (65 ≤ letter_of c) × (letter_of c ≤ 90)
 capital_letter c =
-    let e : has_capital c ≡ true = subst (IsPassed has_capital) (command_known c) (first_command-passes has_capital (group_of c) (letter_of c) commands refl) in
+    let e : has_capital c ≡ true =
+    subst (IsPassed has_capital) (command_known c) (first_command-passes has_capital (group_of c) (letter_of c) commands refl) in
     let t = both_true (nat_le 65 (letter_of c)) (nat_le (letter_of c) 90) e in
     (leb-true 65 (letter_of c) t.0, leb-true (letter_of c) 90 t.1)
 
@@ -113,10 +121,12 @@ first_data_command-has : (g : Group) (letter : ℕ) (cs : List DataCommand) → 
 first_data_command-has g letter [] = tt
 first_data_command-has g letter (c ∷ cs) =
     cond_both (same_group g (data_group_of c) && (letter == data_letter_of c)) _ _ (HasDataLetter g letter)
-    (λ e. let t = both_true (same_group g (data_group_of c)) (letter == data_letter_of c) e in (same_group-true g (data_group_of c) t.0, eqb-true letter (data_letter_of c) t.1))
+    (λ e. let t = both_true (same_group g (data_group_of c)) (letter == data_letter_of c) e in
+    (same_group-true g (data_group_of c) t.0, eqb-true letter (data_letter_of c) t.1))
     (λ _. first_data_command-has g letter cs)
 
-pub data_command_found : (g : Group) (letter : ℕ) (c : DataCommand) → data_command_at g letter ≡ Some c → (g ≡ data_group_of c) × (letter ≡ data_letter_of c)
+pub data_command_found : (g : Group) (letter : ℕ) (c : DataCommand) → data_command_at g letter ≡ Some c →
+    (g ≡ data_group_of c) × (letter ≡ data_letter_of c)
 data_command_found g letter c e = subst (HasDataLetter g letter) e (first_data_command-has g letter data_commands)
 
 -- no command has the letter of one with data
@@ -128,7 +138,9 @@ none_of None h = refl
 none_of (Some c) h = absurd cc
 
 pub no_data : (c : Command) → data_command_at (group_of c) (letter_of c) ≡ None
-no_data c = none_of (data_command_at (group_of c) (letter_of c)) (subst (IsPassed has_no_data) (command_known c) (first_command-passes has_no_data (group_of c) (letter_of c) commands refl))
+no_data c =
+    none_of (data_command_at (group_of c) (letter_of c))
+    (subst (IsPassed has_no_data) (command_known c) (first_command-passes has_no_data (group_of c) (letter_of c) commands refl))
 
 -- ---- letters of symbol sets
 
@@ -148,12 +160,14 @@ set_letter_is c e =
 
 pub is_set_letter-true : (c : ℕ) → IsSetLetter c → is_set_letter c ≡ true
 is_set_letter-true c h =
-    and_from (is_in_range 65 90 c) (not (c == 88)) (and_from (nat_le 65 c) (nat_le c 90) (le-leb 65 c h.0) (le-leb c 90 h.1)) (not_false (c == 88) (by_test (c == 88) (λ e. h.2 (eqb-true c 88 e))))
+    and_from (is_in_range 65 90 c) (not (c == 88)) (and_from (nat_le 65 c) (nat_le c 90) (le-leb 65 c h.0) (le-leb c 90 h.1))
+    (not_false (c == 88) (by_test (c == 88) (λ e. h.2 (eqb-true c 88 e))))
 
 -- ---- codes
 
 -- what fails a test that all rows pass stands in no row
-outside-lookup : (p : ℕ → Bool) (b : ℕ) (rows : List (ℕ × Entry)) → list_all (λ r. p r.0) rows ≡ true → p b ≡ false → lookup (λ c. b == c) rows ≡ None
+outside-lookup : (p : ℕ → Bool) (b : ℕ) (rows : List (ℕ × Entry)) → list_all (λ r. p r.0) rows ≡ true → p b ≡ false →
+    lookup (λ c. b == c) rows ≡ None
 outside-lookup p b [] h k = refl
 outside-lookup p b (r ∷ rows) h k =
     let t = both_true (p r.0) (list_all (λ q. p q.0) rows) h in

@@ -34,7 +34,8 @@ font_found a c =
     cond_both ((c == 64) && is_three a) _ _ (IsFound 40 a c) (λ e.
     let t = both_true (c == 64) (is_three a) e in
     let u = both_true (a.ten_thousandths == 30000) (not (is_minus a.sign)) t.1 in
-    subst (λ n. IsFound 40 a n (Some DefaultFont)) (sym (eqb-true c 64 t.0)) (modes.Pcl, default_font (eqb-true a.ten_thousandths 30000 u.0) (not_minus a.sign u.1), refl)) (λ _. tt))
+    subst (λ n. IsFound 40 a n (Some DefaultFont)) (sym (eqb-true c 64 t.0))
+        (modes.Pcl, default_font (eqb-true a.ten_thousandths 30000 u.0) (not_minus a.sign u.1), refl)) (λ _. tt))
 
 -- whose position a number hands over
 abbrev pub IsHandedOver : Amount → Option Handover → Type 0
@@ -61,14 +62,17 @@ language_found a c =
     cond_both (c == 66) _ _ (IsFound 37 a c) (λ e.
     subst (λ n. IsFound 37 a n (entering (handover_of a))) (sym (eqb-true c 66 e)) (entering_found a (handover_of a) (hands_over a))) (λ _.
     cond_both (c == 65) _ _ (IsFound 37 a c) (λ e.
-    subst (λ n. IsFound 37 a n (leaving (handover_of a))) (sym (eqb-true c 65 e)) (leaving_found a (handover_of a) (hands_over a))) (λ _. tt))
+    subst (λ n. IsFound 37 a n (leaving (handover_of a))) (sym (eqb-true c 65 e))
+        (leaving_found a (handover_of a) (hands_over a))) (λ _. tt))
 
 is_found : (i : ℕ) (a : Amount) (c : ℕ) → IsFound i a c (ungrouped_at i a c)
 is_found i a c =
     cond_both (i == 40) _ _ (IsFound i a c) (λ e. subst (λ n. IsFound n a c (font_at a c)) (sym (eqb-true i 40 e)) (font_found a c)) (λ _.
-    cond_both (i == 37) _ _ (IsFound i a c) (λ e. subst (λ n. IsFound n a c (language_at a c)) (sym (eqb-true i 37 e)) (language_found a c)) (λ _. tt))
+    cond_both (i == 37) _ _ (IsFound i a c)
+        (λ e. subst (λ n. IsFound n a c (language_at a c)) (sym (eqb-true i 37 e)) (language_found a c)) (λ _. tt))
 
-pub ungrouped_found : (i : ℕ) (a : Amount) (c : ℕ) (item : Entry) → ungrouped_at i a c ≡ Some item → (mode : Mode) × IsUngrouped i a c item mode × (behind_ungrouped item ≡ between mode)
+pub ungrouped_found : (i : ℕ) (a : Amount) (c : ℕ) (item : Entry) → ungrouped_at i a c ≡ Some item →
+    (mode : Mode) × IsUngrouped i a c item mode × (behind_ungrouped item ≡ between mode)
 ungrouped_found i a c item e = subst (IsFound i a c) e (is_found i a c)
 
 -- ---- what has a rule is read
@@ -84,21 +88,25 @@ handed_over (current {amount = a} e sign) =
     ap (λ n. cond (n == 0) (Some Previous) (cond ((n == 10000) && not (is_minus a.sign)) (Some Current) None)) e
     ∙ cond-true (not (is_minus a.sign)) _ _ (plus_like a.sign sign)
 
-pub ungrouped_known : {i : ℕ} {a : Amount} {c : ℕ} {item : Entry} {mode : Mode} → IsUngrouped i a c item mode → ungrouped_at i a c ≡ Some item
+pub ungrouped_known : {i : ℕ} {a : Amount} {c : ℕ} {item : Entry} {mode : Mode} → IsUngrouped i a c item mode →
+    ungrouped_at i a c ≡ Some item
 ungrouped_known (symbol_set {amount = a} {letter = c} h) = cond-true (is_set_letter c) _ _ (is_set_letter-true c h)
 ungrouped_known (default_font {amount = a} three sign) =
-    cond-true (is_three a) _ _ (and_from (a.ten_thousandths == 30000) (not (is_minus a.sign)) (eq-eqb a.ten_thousandths 30000 three) (plus_like a.sign sign))
+    cond-true (is_three a) _ _
+    (and_from (a.ten_thousandths == 30000) (not (is_minus a.sign)) (eq-eqb a.ten_thousandths 30000 three) (plus_like a.sign sign))
 ungrouped_known (leave_frame h) = ap leaving (handed_over h)
 ungrouped_known (enter_frame h) = ap entering (handed_over h)
 
 -- the reader goes on in the mode behind it
-pub ungrouped_behind_is : {i : ℕ} {a : Amount} {c : ℕ} {item : Entry} {mode : Mode} → IsUngrouped i a c item mode → behind_ungrouped item ≡ between mode
+pub ungrouped_behind_is : {i : ℕ} {a : Amount} {c : ℕ} {item : Entry} {mode : Mode} → IsUngrouped i a c item mode →
+    behind_ungrouped item ≡ between mode
 ungrouped_behind_is (symbol_set h) = refl
 ungrouped_behind_is (default_font three sign) = refl
 ungrouped_behind_is (leave_frame h) = refl
 ungrouped_behind_is (enter_frame h) = refl
 
-pub ungrouped_none : (i : ℕ) (a : Amount) (c : ℕ) (o : Option Entry) → ((item : Entry) (mode : Mode) → IsUngrouped i a c item mode → ⊥) → ungrouped_at i a c ≡ o → o ≡ None
+pub ungrouped_none : (i : ℕ) (a : Amount) (c : ℕ) (o : Option Entry) → ((item : Entry) (mode : Mode) → IsUngrouped i a c item mode → ⊥) →
+    ungrouped_at i a c ≡ o → o ≡ None
 ungrouped_none i a c None h e = refl
 ungrouped_none i a c (Some item) h e = let f = ungrouped_found i a c item e in absurd (h item f.0 f.1)
 

@@ -1,5 +1,6 @@
 -- The number of a value field, by its digits and by the equation that it meets.
-use Rattle.std.proofs.Common.{◌≡◌, ℕ, suc, ◌+◌, ◌-◌, ◌*◌, ◌^◌, ◌<◌, List, [], ◌∷◌, ◌++◌, length, drop, Bool, true, refl, sym, ap, ◌∙◌, arith}
+use Rattle.std.proofs.Common.{◌≡◌, ℕ, suc, ◌+◌, ◌-◌, ◌*◌, ◌^◌, ◌<◌, List, [], ◌∷◌, ◌++◌, length, drop, Bool, true, refl, sym, ap, ◌∙◌}
+use Rattle.std.proofs.Common.{arith}
 use Rattle.std.specs.Prelude.{◌==◌, ◌&&◌, fold}
 use Rattle.std.specs.List.{list_all}
 use Rattle.std.specs.Char.{digit_value}
@@ -44,7 +45,8 @@ zeros_write n (d ∷ ds) h =
     ap (λ m. digits_value_after 10 m ds) e ∙ zeros_write (n * 10) ds z.1 ∙ ten_more n (length ds)
 
 -- and only they do
-pub only_zeros : (t n : ℕ) (ds : List ℕ) → AllDigits 10 ds → t * 10 ^ length ds ≡ digits_value_after 10 n ds → (t ≡ n) × (are_zeros ds ≡ true)
+pub only_zeros : (t n : ℕ) (ds : List ℕ) → AllDigits 10 ds → t * 10 ^ length ds ≡ digits_value_after 10 n ds →
+    (t ≡ n) × (are_zeros ds ≡ true)
 only_zeros t n [] h e = (omega arith, refl)
 only_zeros t n (d ∷ ds) h e =
     let tens : t * 10 * 10 ^ length ds ≡ digits_value_after 10 (n * 10 + digit_value d) ds = ten_more t (length ds) ∙ e in
@@ -58,13 +60,15 @@ only_zeros t n (d ∷ ds) h e =
 abbrev pub first_four : ℕ → List ℕ → ℕ
 first_four n decimals = fold next_digit n (four decimals)
 
-pub split_value : (whole decimals : List ℕ) → AllDigits 10 whole → digits_value 10 (whole ++ decimals) ≡ digits_value_after 10 (decimal whole) decimals
+pub split_value : (whole decimals : List ℕ) → AllDigits 10 whole →
+    digits_value 10 (whole ++ decimals) ≡ digits_value_after 10 (decimal whole) decimals
 split_value whole decimals h = after-append 0 whole decimals ∙ ap (λ n. digits_value_after 10 n decimals) (sym (after_fold 0 whole h))
 
 four_tens : (k m : ℕ) → k * 10 ^ suc (suc (suc (suc m))) ≡ 10000 * (k * 10 ^ m)
 four_tens k m =
     let tens : k * 10 * 10 * 10 * 10 ≡ 10000 * k = omega arith in
-    sym (ten_more k (suc (suc (suc m)))) ∙ sym (ten_more (k * 10) (suc (suc m))) ∙ sym (ten_more (k * 10 * 10) (suc m)) ∙ sym (ten_more (k * 10 * 10 * 10) m)
+    sym (ten_more k (suc (suc (suc m)))) ∙ sym (ten_more (k * 10) (suc (suc m))) ∙ sym (ten_more (k * 10 * 10) (suc m))
+    ∙ sym (ten_more (k * 10 * 10 * 10) m)
     ∙ ap (λ q. q * 10 ^ m) tens ∙ mul_assoc 10000 k (10 ^ m)
 
 four_less : (k m v : ℕ) → k * 10 ^ suc (suc (suc (suc m))) ≡ 10000 * v → k * 10 ^ m ≡ v
@@ -78,7 +82,8 @@ four_digits : (n a b c d : ℕ) (ds : List ℕ) → AllDigits 10 (a ∷ b ∷ c 
 four_digits n a b c d ds h = omega (arith, digit_less a h.0, digit_less b h.1.0, digit_less c h.1.1.0, digit_less d h.1.1.1.0)
 
 -- four decimals, and zeros behind them
-write_after : (n : ℕ) (ds : List ℕ) → AllDigits 10 ds → are_zeros (drop 4 ds) ≡ true → first_four n ds * 10 ^ length ds ≡ 10000 * digits_value_after 10 n ds
+write_after : (n : ℕ) (ds : List ℕ) → AllDigits 10 ds → are_zeros (drop 4 ds) ≡ true →
+    first_four n ds * 10 ^ length ds ≡ 10000 * digits_value_after 10 n ds
 write_after n [] h z = omega arith
 write_after n (a ∷ []) h z = omega (arith, digit_less a h.0)
 write_after n (a ∷ b ∷ []) h z = omega (arith, digit_less a h.0, digit_less b h.1.0)
@@ -88,7 +93,8 @@ write_after n (a ∷ b ∷ c ∷ d ∷ ds) h z =
     ∙ four_tens (behind_four n a b c d) (length ds)
     ∙ ap (λ k. 10000 * k) (sym (zeros_write (behind_four n a b c d) ds z))
 
-only_after : (t n : ℕ) (ds : List ℕ) → AllDigits 10 ds → t * 10 ^ length ds ≡ 10000 * digits_value_after 10 n ds → (t ≡ first_four n ds) × (are_zeros (drop 4 ds) ≡ true)
+only_after : (t n : ℕ) (ds : List ℕ) → AllDigits 10 ds → t * 10 ^ length ds ≡ 10000 * digits_value_after 10 n ds →
+    (t ≡ first_four n ds) × (are_zeros (drop 4 ds) ≡ true)
 only_after t n [] h e = (omega arith, refl)
 only_after t n (a ∷ []) h e = (omega (arith, digit_less a h.0), refl)
 only_after t n (a ∷ b ∷ []) h e = (omega (arith, digit_less a h.0, digit_less b h.1.0), refl)
@@ -99,9 +105,11 @@ only_after t n (a ∷ b ∷ c ∷ d ∷ ds) h e =
     (r.0 ∙ sym (four_digits n a b c d ds h), r.1)
 
 -- the number that the digits give is the one that they write, where no decimal after the fourth is other than 0
-pub is_written : (whole decimals : List ℕ) → AllDigits 10 whole → AllDigits 10 decimals → list_all (λ d. d == 48) (drop 4 decimals) ≡ true → IsWritten (first_four (decimal whole) decimals) whole decimals
+pub is_written : (whole decimals : List ℕ) → AllDigits 10 whole → AllDigits 10 decimals → list_all (λ d. d == 48) (drop 4 decimals) ≡ true →
+    IsWritten (first_four (decimal whole) decimals) whole decimals
 is_written whole decimals h k z = write_after (decimal whole) decimals k z ∙ ap (λ v. 10000 * v) (sym (split_value whole decimals h))
 
 -- and it is the only one
-pub only_written : (t : ℕ) (whole decimals : List ℕ) → AllDigits 10 whole → AllDigits 10 decimals → IsWritten t whole decimals → (t ≡ first_four (decimal whole) decimals) × (list_all (λ d. d == 48) (drop 4 decimals) ≡ true)
+pub only_written : (t : ℕ) (whole decimals : List ℕ) → AllDigits 10 whole → AllDigits 10 decimals → IsWritten t whole decimals →
+    (t ≡ first_four (decimal whole) decimals) × (list_all (λ d. d == 48) (drop 4 decimals) ≡ true)
 only_written t whole decimals h k e = only_after t (decimal whole) decimals k (e ∙ ap (λ v. 10000 * v) (split_value whole decimals h))

@@ -23,13 +23,16 @@ coordinate_limited s n z = go (cases_lt most_units n)
     go (inr low) = let same : limited 8388608 n ≡ n = omega arith in ap (λ m. coordinate_by s m z) same
 
 -- the coordinate of a field whose parts are known
-pub coordinate_known : (f : Field) (s : Sign) (w ds : List ℕ) (len n : ℕ) (z : Bool) → f ≡ record { sign = s; whole = w; decimals = ds; len = len } → n ≡ limited 8388608 (decimal w) → z ≡ list_all (λ d. d == 48) ds →
+pub coordinate_known : (f : Field) (s : Sign) (w ds : List ℕ) (len n : ℕ) (z : Bool) →
+    f ≡ record { sign = s; whole = w; decimals = ds; len = len } → n ≡ limited 8388608 (decimal w) → z ≡ list_all (λ d. d == 48) ds →
     coordinate_by s n z ≡ coordinate_of f
 unfolding coordinate_of
 coordinate_known f s w ds len n z e n_is z_is =
-    ap (λ m. coordinate_by s m z) n_is ∙ coordinate_limited s (decimal w) z ∙ ap (coordinate_by s (decimal w)) z_is ∙ sym (ap coordinate_of e)
+    ap (λ m. coordinate_by s m z) n_is ∙ coordinate_limited s (decimal w) z ∙ ap (coordinate_by s (decimal w)) z_is
+    ∙ sym (ap coordinate_of e)
 
-pub digit_known : (f : Field) (s : Sign) (w ds : List ℕ) (len n : ℕ) → f ≡ record { sign = s; whole = w; decimals = ds; len = len } → n ≡ length w + length ds → not (n == 0) ≡ has_digit f
+pub digit_known : (f : Field) (s : Sign) (w ds : List ℕ) (len n : ℕ) → f ≡ record { sign = s; whole = w; decimals = ds; len = len } →
+    n ≡ length w + length ds → not (n == 0) ≡ has_digit f
 digit_known f s w ds len n e n_is = ap (λ m. not (m == 0)) n_is ∙ sym (ap has_digit e)
 
 -- the digits in front, as a slice

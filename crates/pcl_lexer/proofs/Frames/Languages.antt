@@ -29,10 +29,13 @@ leaving_in (Some handover) c len = refl
 letter_in : (a : Amount) (c len : ℕ) → within_frame (ungrouped (language_at a c) 37 c len) ≡ left_by (leave_at a c) c len
 letter_in a c len =
     cond_both (c == 66) _ _ (λ (o : Option Entry). within_frame (ungrouped o 37 c len) ≡ left_by (leave_at a c) c len)
-    (λ e. subst (λ (n : ℕ). within_frame (ungrouped (entering (handover_of a)) 37 n len) ≡ left_by (leave_at a n) n len) (sym (eqb-true c 66 e)) (entering_in (handover_of a) len))
-    (λ _. cond_both (c == 65) _ _ (λ (o : Option Entry). within_frame (ungrouped o 37 c len) ≡ left_by o c len) (λ _. leaving_in (handover_of a) c len) (λ _. refl))
+    (λ e. subst (λ (n : ℕ). within_frame (ungrouped (entering (handover_of a)) 37 n len) ≡ left_by (leave_at a n) n len)
+    (sym (eqb-true c 66 e)) (entering_in (handover_of a) len))
+    (λ _. cond_both (c == 65) _ _ (λ (o : Option Entry). within_frame (ungrouped o 37 c len) ≡ left_by o c len)
+    (λ _. leaving_in (handover_of a) c len) (λ _. refl))
 
-or_fault : (t : Bool) (cause : LexCause) (x y : First) → within_frame x ≡ y → within_frame (cond t x (Faulty cause)) ≡ cond t y (Faulty cause)
+or_fault : (t : Bool) (cause : LexCause) (x y : First) → within_frame x ≡ y →
+    within_frame (cond t x (Faulty cause)) ≡ cond t y (Faulty cause)
 or_fault true cause x y h = h
 or_fault false cause x y h = refl
 
@@ -53,8 +56,11 @@ unfolding without_group language_in
 language_by bytes first is =
     ap within_frame is ∙ too_long_or (nat_lt 16 (field_at bytes).len) _ _ (field_in (field_at bytes) (drop (field_at bytes).len bytes))
 
-pub entered : (bytes : List ℕ) (first : First) → first ≡ without_group 37 bytes → enters_frame first ≡ true → Faulty (NotInProfile (names.Pair 37 66)) ≡ language_in bytes
-entered bytes first is e = sym (cond-true (enters_frame first) (Faulty (NotInProfile (names.Pair 37 66))) first e) ∙ language_by bytes first is
+pub entered : (bytes : List ℕ) (first : First) → first ≡ without_group 37 bytes → enters_frame first ≡ true →
+    Faulty (NotInProfile (names.Pair 37 66)) ≡ language_in bytes
+entered bytes first is e =
+    sym (cond-true (enters_frame first) (Faulty (NotInProfile (names.Pair 37 66))) first e) ∙ language_by bytes first is
 
 pub stays : (bytes : List ℕ) (first : First) → first ≡ without_group 37 bytes → enters_frame first ≡ false → first ≡ language_in bytes
-stays bytes first is e = sym (cond-false (enters_frame first) (Faulty (NotInProfile (names.Pair 37 66))) first e) ∙ language_by bytes first is
+stays bytes first is e =
+    sym (cond-false (enters_frame first) (Faulty (NotInProfile (names.Pair 37 66))) first e) ∙ language_by bytes first is

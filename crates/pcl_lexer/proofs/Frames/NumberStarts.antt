@@ -31,8 +31,10 @@ digit_kind d l h =
     let no_escape : (d == 27) ≡ false = grind arith in
     let sign : ((d == 43) || (d == 45)) ≡ false = grind arith in
     let digit : (is_in_range 48 57 d || (d == 46)) ≡ true = grind arith in
-    cond-false (is_white d) _ _ white ∙ cond-false (d == 44) _ _ no_comma ∙ cond-false (d == 59) _ _ semicolon ∙ cond-false (is_letter d) _ _ letter
-    ∙ cond-false (d == 27) _ _ no_escape ∙ cond-false ((d == 43) || (d == 45)) _ _ sign ∙ cond-true (is_in_range 48 57 d || (d == 46)) _ _ digit
+    cond-false (is_white d) _ _ white ∙ cond-false (d == 44) _ _ no_comma ∙ cond-false (d == 59) _ _ semicolon
+    ∙ cond-false (is_letter d) _ _ letter
+    ∙ cond-false (d == 27) _ _ no_escape ∙ cond-false ((d == 43) || (d == 45)) _ _ sign
+    ∙ cond-true (is_in_range 48 57 d || (d == 46)) _ _ digit
 
 -- a number, by its first byte
 pub data IsLed : List ℕ → Type 0 where
@@ -42,12 +44,15 @@ pub numeral_led : (text : List ℕ) (s : Sign) (w : List ℕ) (o : Option (List 
 unfolding kind_of
 numeral_led text Plus w o n = subst IsLed (sym n.shape.spelled) (led _ tt)
 numeral_led text Minus w o n = subst IsLed (sym n.shape.spelled) (led _ tt)
-numeral_led text Absent (d ∷ w) o n = let r = digit_from_value d n.shape.digits.0.0 in subst IsLed (sym n.shape.spelled) (led _ (subst IsStart (sym (digit_kind d r.0 r.1)) tt))
+numeral_led text Absent (d ∷ w) o n =
+    let r = digit_from_value d n.shape.digits.0.0 in
+    subst IsLed (sym n.shape.spelled) (led _ (subst IsStart (sym (digit_kind d r.0 r.1)) tt))
 numeral_led text Absent [] (Some ds) n = subst IsLed (sym n.shape.spelled) (led _ tt)
 numeral_led text Absent [] None n = absurd (omega (arith, n.digit))
 
 pub setting_led : (number : List ℕ) (a : ℕ) → IsSetting number a → IsLed number
-setting_led number a h = numeral_led number h.sign h.field.whole h.field.fraction (record { shape = h.field.shape; digit = h.digit; short = h.field.short })
+setting_led number a h =
+    numeral_led number h.sign h.field.whole h.field.fraction (record { shape = h.field.shape; digit = h.digit; short = h.field.short })
 
 pub coordinate_led : (number : List ℕ) (x : ℤ) → IsCoordinate number x → IsLed number
 coordinate_led number x h = numeral_led number h.sign h.whole h.fraction h.numeral

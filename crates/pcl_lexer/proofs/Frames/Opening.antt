@@ -1,5 +1,6 @@
 -- What is begun of a frame and not decided goes on to a fault at once.
-use Rattle.std.proofs.Common.{◌≡◌, ℕ, ◌+◌, ◌<◌, ◌≤◌, List, [], ◌∷◌, ◌++◌, length, drop, Bool, true, false, cond, Option, None, Some, refl, sym, ap, subst, ◌∙◌, arith}
+use Rattle.std.proofs.Common.{◌≡◌, ℕ, ◌+◌, ◌<◌, ◌≤◌, List, [], ◌∷◌, ◌++◌, length, drop, Bool, true, false, cond, Option, None, Some, refl}
+use Rattle.std.proofs.Common.{sym, ap, subst, ◌∙◌, arith}
 use Rattle.std.specs.Prelude.{ℤ, ◌==◌, nat_lt}
 use Rattle.std.specs.Char.{digit_value}
 use Rattle.std.specs.Str.Parse.{AllDigits}
@@ -26,7 +27,10 @@ use Rattle.pcl_items.specs.PjlLines.Exit.{exit_field, begins_with}
 use Rattle.pcl_lexer.specs.Lexing.Contexts.{Context, Pcl, Sequence, Frame, Letters, Numbered, Pjl, Numbers, Single, Odd, Even}
 use Rattle.pcl_lexer.specs.Frames.Number.{coordinate_of, setting_of, Numeral, Cut, Wrong, Read, has_digit, read_or, number_end, numeral_at}
 use Rattle.pcl_lexer.specs.Escapes.Ungrouped.{leave_at}
-use Rattle.pcl_lexer.specs.Frames.Reader.{by_language, after_language_field, language_in, left_by, in_command, second_letter, after_letter, after_frame_escape, by_kind, at_frame, single, first_of_pair, second_of_pair, first_number, letters_by, after_letters, further, ended_by, ended, with_comma, by_figure, numbers_by, after_numbers}
+use Rattle.pcl_lexer.specs.Frames.Reader.{by_language, after_language_field, language_in, left_by, in_command, second_letter, after_letter}
+use Rattle.pcl_lexer.specs.Frames.Reader.{after_frame_escape, by_kind, at_frame, single, first_of_pair, second_of_pair, first_number}
+use Rattle.pcl_lexer.specs.Frames.Reader.{letters_by, after_letters, further, ended_by, ended, with_comma, by_figure, numbers_by}
+use Rattle.pcl_lexer.specs.Frames.Reader.{after_numbers}
 use Rattle.pcl_lexer.specs.Reader.{First, Open, Passes, Begins, Faulty, is_termination, command_in, exit_or, first_of}
 use Rattle.pcl_lexer.specs.Faults.{IsCut, cut}
 use Rattle.pcl_lexer.proofs.Escapes.Shapes.{cut_goes_on, cut_shape, shape_len}
@@ -56,7 +60,8 @@ IsEnding rest (Faulty cause) = ⊥
 -- make an item of it, outside frames, where the end decides nothing.
 pub data Opened (c : Context) (rest : List ℕ) : Type 0 where
   refuses : (more : List ℕ) → Refuses (first_of true c (rest ++ more)) → IsEnding rest (first_of true c rest) → Opened c rest
-  completes : (more : List ℕ) (entry : Entry) (len : ℕ) (next : Context) → first_of true c (rest ++ more) ≡ Begins entry len next → first_of true c rest ≡ Open → Opened c rest
+  completes : (more : List ℕ) (entry : Entry) (len : ℕ) (next : Context) → first_of true c (rest ++ more) ≡ Begins entry len next →
+      first_of true c rest ≡ Open → Opened c rest
 
 -- ---- a number of a frame that is cut
 
@@ -65,7 +70,8 @@ abbrev zeros : List ℕ
 zeros = 48 ∷ 48 ∷ 48 ∷ 48 ∷ 48 ∷ 48 ∷ 48 ∷ 48 ∷ 48 ∷ 48 ∷ 48 ∷ 48 ∷ 48 ∷ 48 ∷ 48 ∷ 48 ∷ 48 ∷ []
 
 with_zeros : (ds : List ℕ) → AllDigits 10 ds → AllDigits 10 (ds ++ zeros)
-with_zeros [] h = let d : digit_value 48 < 10 = omega arith in (d, (d, (d, (d, (d, (d, (d, (d, (d, (d, (d, (d, (d, (d, (d, (d, (d, tt)))))))))))))))))
+with_zeros [] h =
+    let d : digit_value 48 < 10 = omega arith in (d, (d, (d, (d, (d, (d, (d, (d, (d, (d, (d, (d, (d, (d, (d, (d, (d, tt)))))))))))))))))
 with_zeros (d ∷ ds) h = (h.0, with_zeros ds h.1)
 
 read_or_cut : {A : Type 0} (o : Option A) (len : ℕ) → read_or (Wrong BadNumber) o len ≡ Cut → ⊥
@@ -85,14 +91,17 @@ pub cut_number : {A : Type 0} (value : Field → Option A) (bytes : List ℕ) �
 unfolding numeral_at
 cut_number value bytes e = by_len (nat_lt 16 (field_at bytes).len) refl (drop (field_at bytes).len bytes) refl e
   where
-    by_len : (b : Bool) → nat_lt 16 (field_at bytes).len ≡ b → (rest : List ℕ) → drop (field_at bytes).len bytes ≡ rest → cond b (Wrong BadNumber) (number_end false (has_digit (field_at bytes)) (value (field_at bytes)) (field_at bytes).len rest) ≡ Cut → IsCutNumber bytes
+    by_len : (b : Bool) → nat_lt 16 (field_at bytes).len ≡ b → (rest : List ℕ) → drop (field_at bytes).len bytes ≡ rest →
+        cond b (Wrong BadNumber) (number_end false (has_digit (field_at bytes)) (value (field_at bytes)) (field_at bytes).len rest) ≡ Cut →
+        IsCutNumber bytes
     by_len true k rest d e = absurd cc
     by_len false k [] d e = record { short = ltb-false 16 (field_at bytes).len k; end = d }
     by_len false k (c ∷ rest) d e = absurd (digit_cut (has_digit (field_at bytes)) (value (field_at bytes)) (field_at bytes).len e)
 
 at_least : (text : List ℕ) → length (text ++ zeros) ≤ (field_at ((text ++ zeros) ++ [])).len → 16 < (field_at (text ++ zeros)).len
 at_least text h =
-    let all : length (text ++ zeros) ≤ (field_at (text ++ zeros)).len = subst (λ (l : List ℕ). length (text ++ zeros) ≤ (field_at l).len) (append-nil (text ++ zeros)) h in
+    let all : length (text ++ zeros) ≤ (field_at (text ++ zeros)).len =
+    subst (λ (l : List ℕ). length (text ++ zeros) ≤ (field_at l).len) (append-nil (text ++ zeros)) h in
     omega (arith, length-append text zeros, all)
 
 longer : (bytes : List ℕ) → IsCutNumber bytes → 16 < (field_at (bytes ++ zeros)).len
@@ -101,20 +110,27 @@ longer bytes c = go (cut_shape bytes c.short c.end)
     go : {bytes : List ℕ} → IsCut bytes → 16 < (field_at (bytes ++ zeros)).len
     go (cut {text = text} {whole = w} {sign = s} {fraction = None} h short) =
         let more : IsShape (text ++ zeros) s (w ++ zeros) None = record {
-          spelled = ap (λ t. t ++ zeros) (h.spelled ∙ ap (λ t. sign_text s ++ t) (append-nil w)) ∙ append_assoc (sign_text s) w zeros ∙ ap (λ t. sign_text s ++ t) (sym (append-nil (w ++ zeros)));
+          spelled =
+              ap (λ t. t ++ zeros) (h.spelled ∙ ap (λ t. sign_text s ++ t) (append-nil w)) ∙ append_assoc (sign_text s) w zeros
+              ∙ ap (λ t. sign_text s ++ t) (sym (append-nil (w ++ zeros)));
           digits = (with_zeros w h.digits.0, tt);
         } in
         at_least text (shape_len (text ++ zeros) s (w ++ zeros) None [] more)
     go (cut {text = text} {whole = w} {sign = s} {fraction = Some ds} h short) =
         let more : IsShape (text ++ zeros) s w (Some (ds ++ zeros)) = record {
-          spelled = ap (λ t. t ++ zeros) h.spelled ∙ append_assoc (sign_text s) (w ++ 46 ∷ ds) zeros ∙ ap (λ t. sign_text s ++ t) (append_assoc w (46 ∷ ds) zeros);
+          spelled =
+              ap (λ t. t ++ zeros) h.spelled ∙ append_assoc (sign_text s) (w ++ 46 ∷ ds) zeros
+              ∙ ap (λ t. sign_text s ++ t) (append_assoc w (46 ∷ ds) zeros);
           digits = (h.digits.0, with_zeros ds h.digits.1);
         } in
         at_least text (shape_len (text ++ zeros) s w (Some (ds ++ zeros)) [] more)
 
-cut_refuses : {A : Type 0} (value : Field → Option A) (bytes : List ℕ) → numeral_at value false bytes ≡ Cut → numeral_at value true (bytes ++ zeros) ≡ Wrong BadNumber
+cut_refuses : {A : Type 0} (value : Field → Option A) (bytes : List ℕ) → numeral_at value false bytes ≡ Cut →
+    numeral_at value true (bytes ++ zeros) ≡ Wrong BadNumber
 unfolding numeral_at
-cut_refuses value bytes e = cond-true (nat_lt 16 (field_at (bytes ++ zeros)).len) _ _ (lt-ltb 16 (field_at (bytes ++ zeros)).len (longer bytes (cut_number value bytes e)))
+cut_refuses value bytes e =
+    cond-true (nat_lt 16 (field_at (bytes ++ zeros)).len) _ _
+    (lt-ltb 16 (field_at (bytes ++ zeros)).len (longer bytes (cut_number value bytes e)))
 
 -- what the end of all bytes makes of it
 abbrev IsCutOrRead : {A : Type 0} → List ℕ → Numeral A → Type 0
@@ -126,12 +142,17 @@ value_ends : {A : Type 0} (bytes : List ℕ) (o : Option A) (len : ℕ) → drop
 value_ends bytes None len d = tt
 value_ends bytes (Some x) len d = d
 
-cut_ends : {A : Type 0} (value : Field → Option A) (bytes : List ℕ) → numeral_at value false bytes ≡ Cut → IsCutOrRead bytes (numeral_at value true bytes)
+cut_ends : {A : Type 0} (value : Field → Option A) (bytes : List ℕ) → numeral_at value false bytes ≡ Cut →
+    IsCutOrRead bytes (numeral_at value true bytes)
 unfolding numeral_at
 cut_ends value bytes e =
     let c = cut_number value bytes e in
-    subst (IsCutOrRead bytes) (sym (cond-false (nat_lt 16 (field_at bytes).len) _ _ (le-ltb 16 (field_at bytes).len c.short) ∙ ap (number_end true (has_digit (field_at bytes)) (value (field_at bytes)) (field_at bytes).len) c.end))
-    (cond_both (has_digit (field_at bytes)) _ _ (IsCutOrRead bytes) (λ _. value_ends bytes (value (field_at bytes)) (field_at bytes).len c.end) (λ _. tt))
+    subst (IsCutOrRead bytes)
+    (sym
+    (cond-false (nat_lt 16 (field_at bytes).len) _ _ (le-ltb 16 (field_at bytes).len c.short)
+    ∙ ap (number_end true (has_digit (field_at bytes)) (value (field_at bytes)) (field_at bytes).len) c.end))
+    (cond_both (has_digit (field_at bytes)) _ _ (IsCutOrRead bytes)
+    (λ _. value_ends bytes (value (field_at bytes)) (field_at bytes).len c.end) (λ _. tt))
 
 -- ---- enter PCL mode
 
@@ -145,13 +166,15 @@ left_closed (Some item) c len e = absurd cc
 
 pub language_closed : (o : Option Amount) (len c : ℕ) → by_language o len c ≡ Open → ⊥
 language_closed None len c = λ e. absurd cc
-language_closed (Some a) len c = cond_both (is_termination c) _ _ (λ f. f ≡ Open → ⊥) (λ _. left_closed (leave_at a c) c (len + 3)) (λ _ e. absurd cc)
+language_closed (Some a) len c =
+    cond_both (is_termination c) _ _ (λ f. f ≡ Open → ⊥) (λ _. left_closed (leave_at a c) c (len + 3)) (λ _ e. absurd cc)
 
 pub language_cut : (bytes : List ℕ) → language_in bytes ≡ Open → IsCutNumber bytes
 unfolding language_in
 language_cut bytes e = by_len (nat_lt 16 (field_at bytes).len) refl (drop (field_at bytes).len bytes) refl e
   where
-    by_len : (b : Bool) → nat_lt 16 (field_at bytes).len ≡ b → (rest : List ℕ) → drop (field_at bytes).len bytes ≡ rest → cond b (Faulty BadNumber) (after_language_field (field_at bytes) rest) ≡ Open → IsCutNumber bytes
+    by_len : (b : Bool) → nat_lt 16 (field_at bytes).len ≡ b → (rest : List ℕ) → drop (field_at bytes).len bytes ≡ rest →
+        cond b (Faulty BadNumber) (after_language_field (field_at bytes) rest) ≡ Open → IsCutNumber bytes
     by_len true k rest d e = absurd cc
     by_len false k [] d e = record { short = ltb-false 16 (field_at bytes).len k; end = d }
     by_len false k (c ∷ rest) d e = absurd (language_closed (amount_of (field_at bytes)) (field_at bytes).len c e)
@@ -168,15 +191,21 @@ language_refuses bytes e =
 
 -- what a number makes
 abbrev IsMaker : {A : Type 0} → (Numeral A → First) → Type 0
-IsMaker {A = A} make = (make (Wrong BadNumber) ≡ Faulty BadNumber) × (make Cut ≡ Open) × ((r : Numeral A) → make r ≡ Open → r ≡ Cut) × ((rest : List ℕ) (r : Numeral A) → IsCutOrRead rest r → IsEnding rest (make r))
+IsMaker {A = A} make =
+    (make (Wrong BadNumber) ≡ Faulty BadNumber) × (make Cut ≡ Open) × ((r : Numeral A) → make r ≡ Open → r ≡ Cut)
+    × ((rest : List ℕ) (r : Numeral A) → IsCutOrRead rest r → IsEnding rest (make r))
 
 made_opened : {A : Type 0} (value : Field → Option A) (make : Numeral A → First) (c : Context) (rest : List ℕ) → IsMaker make →
-    ((whole : Bool) (more : List ℕ) → first_of whole c (rest ++ more) ≡ make (numeral_at value whole (rest ++ more))) → first_of false c rest ≡ Open → Opened c rest
+    ((whole : Bool) (more : List ℕ) → first_of whole c (rest ++ more) ≡ make (numeral_at value whole (rest ++ more))) →
+    first_of false c rest ≡ Open → Opened c rest
 made_opened value make c rest m reads e =
-    let here_is : first_of false c rest ≡ make (numeral_at value false rest) = ap (first_of false c) (sym (append-nil rest)) ∙ reads false [] ∙ ap (λ l. make (numeral_at value false l)) (append-nil rest) in
-    let whole_is : first_of true c rest ≡ make (numeral_at value true rest) = ap (first_of true c) (sym (append-nil rest)) ∙ reads true [] ∙ ap (λ l. make (numeral_at value true l)) (append-nil rest) in
+    let here_is : first_of false c rest ≡ make (numeral_at value false rest) =
+    ap (first_of false c) (sym (append-nil rest)) ∙ reads false [] ∙ ap (λ l. make (numeral_at value false l)) (append-nil rest) in
+    let whole_is : first_of true c rest ≡ make (numeral_at value true rest) =
+    ap (first_of true c) (sym (append-nil rest)) ∙ reads true [] ∙ ap (λ l. make (numeral_at value true l)) (append-nil rest) in
     let is_cut : numeral_at value false rest ≡ Cut = m.2 (numeral_at value false rest) (sym here_is ∙ e) in
-    refuses zeros (refused (first_of true c (rest ++ zeros)) BadNumber (reads true zeros ∙ ap make (cut_refuses value rest is_cut) ∙ m.0) (λ h. h))
+    refuses zeros
+    (refused (first_of true c (rest ++ zeros)) BadNumber (reads true zeros ∙ ap make (cut_refuses value rest is_cut) ∙ m.0) (λ h. h))
     (subst (IsEnding rest) (sym whole_is) (m.3 rest (numeral_at value true rest) (cut_ends value rest is_cut)))
 
 single_maker : (n : ℕ) (s : Setting) → IsMaker (single n (λ a. Single s a))
@@ -218,22 +247,37 @@ second_maker motion x = (refl, refl, open_is, ending)
     ending rest (Wrong cause) h = h
     ending rest (Read y len) h = h
 
-word_number : (k : Kind) (m : Mnemonic) (n b : ℕ) (rest : List ℕ) → ((whole : Bool) (more : List ℕ) → first_of whole (Letters m n) (b ∷ (rest ++ more)) ≡ first_number whole m n (b ∷ (rest ++ more))) → first_of false (Letters m n) (b ∷ rest) ≡ Open → Opened (Letters m n) (b ∷ rest)
+word_number : (k : Kind) (m : Mnemonic) (n b : ℕ) (rest : List ℕ) →
+    ((whole : Bool) (more : List ℕ) → first_of whole (Letters m n) (b ∷ (rest ++ more)) ≡ first_number whole m n (b ∷ (rest ++ more))) →
+    first_of false (Letters m n) (b ∷ rest) ≡ Open → Opened (Letters m n) (b ∷ rest)
 word_number k mnemonics.Initialize n b rest reads e =
-    let no : Faulty BadNumber ≡ Open = sym (reads false []) ∙ ap (λ l. first_of false (Letters mnemonics.Initialize n) (b ∷ l)) (append-nil rest) ∙ e in absurd cc
-word_number k (mnemonics.Sets s) n b rest reads e = made_opened setting_of (single n (λ a. Single s a)) (Letters (mnemonics.Sets s) n) (b ∷ rest) (single_maker n s) reads e
-word_number k (mnemonics.Moves motion) n b rest reads e = made_opened coordinate_of (first_of_pair n motion) (Letters (mnemonics.Moves motion) n) (b ∷ rest) (first_maker n motion) reads e
+    let no : Faulty BadNumber ≡ Open =
+    sym (reads false []) ∙ ap (λ l. first_of false (Letters mnemonics.Initialize n) (b ∷ l)) (append-nil rest) ∙ e in
+    absurd cc
+word_number k (mnemonics.Sets s) n b rest reads e =
+    made_opened setting_of (single n (λ a. Single s a)) (Letters (mnemonics.Sets s) n) (b ∷ rest) (single_maker n s) reads e
+word_number k (mnemonics.Moves motion) n b rest reads e =
+    made_opened coordinate_of (first_of_pair n motion) (Letters (mnemonics.Moves motion) n) (b ∷ rest) (first_maker n motion) reads e
 
-further_opened : (x : Numbers) (gap : Gap) (n b : ℕ) (rest : List ℕ) → ((whole : Bool) (more : List ℕ) → first_of whole (Numbered x gap n) (b ∷ (rest ++ more)) ≡ further whole x (b ∷ (rest ++ more))) → first_of false (Numbered x gap n) (b ∷ rest) ≡ Open → Opened (Numbered x gap n) (b ∷ rest)
+further_opened : (x : Numbers) (gap : Gap) (n b : ℕ) (rest : List ℕ) →
+    ((whole : Bool) (more : List ℕ) → first_of whole (Numbered x gap n) (b ∷ (rest ++ more)) ≡ further whole x (b ∷ (rest ++ more))) →
+    first_of false (Numbered x gap n) (b ∷ rest) ≡ Open → Opened (Numbered x gap n) (b ∷ rest)
 further_opened (Single s a) gap n b rest reads e =
-    let no : Faulty BadNumber ≡ Open = sym (reads false []) ∙ ap (λ l. first_of false (Numbered (Single s a) gap n) (b ∷ l)) (append-nil rest) ∙ e in absurd cc
-further_opened (Odd motion x) gap n b rest reads e = made_opened coordinate_of (second_of_pair motion x) (Numbered (Odd motion x) gap n) (b ∷ rest) (second_maker motion x) reads e
-further_opened (Even motion) gap n b rest reads e = made_opened coordinate_of (first_of_pair 0 motion) (Numbered (Even motion) gap n) (b ∷ rest) (first_maker 0 motion) reads e
+    let no : Faulty BadNumber ≡ Open =
+    sym (reads false []) ∙ ap (λ l. first_of false (Numbered (Single s a) gap n) (b ∷ l)) (append-nil rest) ∙ e in
+    absurd cc
+further_opened (Odd motion x) gap n b rest reads e =
+    made_opened coordinate_of (second_of_pair motion x) (Numbered (Odd motion x) gap n) (b ∷ rest) (second_maker motion x) reads e
+further_opened (Even motion) gap n b rest reads e =
+    made_opened coordinate_of (first_of_pair 0 motion) (Numbered (Even motion) gap n) (b ∷ rest) (first_maker 0 motion) reads e
 
-letters_opened : (k : Kind) (m : Mnemonic) (n b : ℕ) (rest : List ℕ) → kind_of b ≡ k → letters_by k false m n (b ∷ rest) ≡ Open → first_of false (Letters m n) (b ∷ rest) ≡ Open → Opened (Letters m n) (b ∷ rest)
+letters_opened : (k : Kind) (m : Mnemonic) (n b : ℕ) (rest : List ℕ) → kind_of b ≡ k → letters_by k false m n (b ∷ rest) ≡ Open →
+    first_of false (Letters m n) (b ∷ rest) ≡ Open → Opened (Letters m n) (b ∷ rest)
 unfolding first_of after_letters
-letters_opened kinds.Sign m n b rest k e f = word_number kinds.Sign m n b rest (λ whole more. ap (λ j. letters_by j whole m n (b ∷ (rest ++ more))) k) f
-letters_opened kinds.Figure m n b rest k e f = word_number kinds.Figure m n b rest (λ whole more. ap (λ j. letters_by j whole m n (b ∷ (rest ++ more))) k) f
+letters_opened kinds.Sign m n b rest k e f =
+    word_number kinds.Sign m n b rest (λ whole more. ap (λ j. letters_by j whole m n (b ∷ (rest ++ more))) k) f
+letters_opened kinds.Figure m n b rest k e f =
+    word_number kinds.Figure m n b rest (λ whole more. ap (λ j. letters_by j whole m n (b ∷ (rest ++ more))) k) f
 letters_opened kinds.White m n b rest k e f = absurd cc
 letters_opened kinds.Semicolon m n b rest k e f = absurd cc
 letters_opened kinds.Letter m n b rest k e f = absurd cc
@@ -255,15 +299,21 @@ comma_open x gaps.Comma n e = absurd cc
 comma_open x gaps.Straight n e = absurd cc
 comma_open x gaps.Spaced n e = absurd cc
 
-figure_opened : (x : Numbers) (gap : Gap) (n b : ℕ) (rest : List ℕ) → kind_of b ≡ kinds.Figure → by_figure false x gap (b ∷ rest) ≡ Open → first_of false (Numbered x gap n) (b ∷ rest) ≡ Open → Opened (Numbered x gap n) (b ∷ rest)
+figure_opened : (x : Numbers) (gap : Gap) (n b : ℕ) (rest : List ℕ) → kind_of b ≡ kinds.Figure → by_figure false x gap (b ∷ rest) ≡ Open →
+    first_of false (Numbered x gap n) (b ∷ rest) ≡ Open → Opened (Numbered x gap n) (b ∷ rest)
 unfolding first_of after_numbers
 figure_opened x gaps.Straight n b rest k e f = absurd cc
-figure_opened x gaps.Spaced n b rest k e f = further_opened x gaps.Spaced n b rest (λ whole more. ap (λ j. numbers_by j whole x gaps.Spaced n (b ∷ (rest ++ more))) k) f
-figure_opened x gaps.Comma n b rest k e f = further_opened x gaps.Comma n b rest (λ whole more. ap (λ j. numbers_by j whole x gaps.Comma n (b ∷ (rest ++ more))) k) f
+figure_opened x gaps.Spaced n b rest k e f =
+    further_opened x gaps.Spaced n b rest (λ whole more. ap (λ j. numbers_by j whole x gaps.Spaced n (b ∷ (rest ++ more))) k) f
+figure_opened x gaps.Comma n b rest k e f =
+    further_opened x gaps.Comma n b rest (λ whole more. ap (λ j. numbers_by j whole x gaps.Comma n (b ∷ (rest ++ more))) k) f
 
-numbers_opened : (k : Kind) (x : Numbers) (gap : Gap) (n b : ℕ) (rest : List ℕ) → kind_of b ≡ k → numbers_by k false x gap n (b ∷ rest) ≡ Open → first_of false (Numbered x gap n) (b ∷ rest) ≡ Open → Opened (Numbered x gap n) (b ∷ rest)
+numbers_opened : (k : Kind) (x : Numbers) (gap : Gap) (n b : ℕ) (rest : List ℕ) → kind_of b ≡ k →
+    numbers_by k false x gap n (b ∷ rest) ≡ Open → first_of false (Numbered x gap n) (b ∷ rest) ≡ Open →
+    Opened (Numbered x gap n) (b ∷ rest)
 unfolding first_of after_numbers
-numbers_opened kinds.Sign x gap n b rest k e f = further_opened x gap n b rest (λ whole more. ap (λ j. numbers_by j whole x gap n (b ∷ (rest ++ more))) k) f
+numbers_opened kinds.Sign x gap n b rest k e f =
+    further_opened x gap n b rest (λ whole more. ap (λ j. numbers_by j whole x gap n (b ∷ (rest ++ more))) k) f
 numbers_opened kinds.Figure x gap n b rest k e f = figure_opened x gap n b rest k e f
 numbers_opened kinds.White x gap n b rest k e f = absurd cc
 numbers_opened kinds.Comma x gap n b rest k e f = absurd (comma_open x gap n e)
@@ -300,7 +350,8 @@ open_ending rest f e = subst (IsEnding rest) (sym e) tt
 exit_refuses : (rest : List ℕ) → exit_or (language_in rest) rest ≡ Open → Refuses (exit_or (language_in (on rest)) (on rest))
 exit_refuses rest e = go (begins_with exit_field rest) refl (begins_with exit_field (on rest)) refl e
   where
-    go : (a : Bool) → begins_with exit_field rest ≡ a → (b : Bool) → begins_with exit_field (on rest) ≡ b → cond a (Begins ExitLanguage 9 Pjl) (language_in rest) ≡ Open → Refuses (cond b (Begins ExitLanguage 9 Pjl) (language_in (on rest)))
+    go : (a : Bool) → begins_with exit_field rest ≡ a → (b : Bool) → begins_with exit_field (on rest) ≡ b →
+        cond a (Begins ExitLanguage 9 Pjl) (language_in rest) ≡ Open → Refuses (cond b (Begins ExitLanguage 9 Pjl) (language_in (on rest)))
     go true f b g e = absurd cc
     go false f true g e = absurd (no_more_exit rest f g)
     go false f false g e = language_refuses rest e
@@ -328,7 +379,9 @@ frame_escape_refuses : (rest : List ℕ) → after_frame_escape rest ≡ Open �
 frame_escape_refuses [] e = refused _ (NotInProfile (names.Byte 95)) refl (λ h. h)
 frame_escape_refuses (b ∷ rest) e = go (b == 69) (b == 37) e
   where
-    go : (x y : Bool) → cond x (Begins Reset 2 Pcl) (cond y (exit_or (language_in rest) rest) (Faulty (NotInProfile (names.Byte b)))) ≡ Open → Refuses (cond x (Begins Reset 2 Pcl) (cond y (exit_or (language_in (on rest)) (on rest)) (Faulty (NotInProfile (names.Byte b)))))
+    go : (x y : Bool) →
+        cond x (Begins Reset 2 Pcl) (cond y (exit_or (language_in rest) rest) (Faulty (NotInProfile (names.Byte b)))) ≡ Open →
+        Refuses (cond x (Begins Reset 2 Pcl) (cond y (exit_or (language_in (on rest)) (on rest)) (Faulty (NotInProfile (names.Byte b)))))
     go true y e = absurd cc
     go false true e = exit_refuses rest e
     go false false e = absurd cc

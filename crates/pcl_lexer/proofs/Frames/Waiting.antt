@@ -14,7 +14,9 @@ use Rattle.pcl_items.specs.Frames.Mnemonics.{capital, mnemonic_at}
 use Rattle.pcl_lexer.specs.Escapes.Field.{Field, field_at}
 use Rattle.pcl_lexer.specs.Lexing.Contexts.{Numbers, Single, Odd, Even}
 use Rattle.pcl_lexer.specs.Frames.Number.{coordinate_of, setting_of, Numeral, Cut, Wrong, Read, numeral_at}
-use Rattle.pcl_lexer.specs.Frames.Reader.{language_in, in_command, second_letter, after_letter, after_frame_escape, by_kind, at_frame, single, first_of_pair, second_of_pair, first_number, letters_by, after_letters, further, by_figure, numbers_by, after_numbers}
+use Rattle.pcl_lexer.specs.Frames.Reader.{language_in, in_command, second_letter, after_letter, after_frame_escape, by_kind, at_frame}
+use Rattle.pcl_lexer.specs.Frames.Reader.{single, first_of_pair, second_of_pair, first_number, letters_by, after_letters, further}
+use Rattle.pcl_lexer.specs.Frames.Reader.{by_figure, numbers_by, after_numbers}
 use Rattle.pcl_lexer.specs.Reader.{First, Open}
 use Rattle.pcl_lexer.proofs.PjlLines.Exits.{exit_open}
 use Rattle.pcl_lexer.proofs.Frames.Opening.{IsCutNumber, cut_number, language_cut, ended_open, comma_open}
@@ -34,13 +36,15 @@ numeral_short value bytes e = cut_short bytes (cut_number value bytes e)
 
 first_number_short : (m : Mnemonic) (n : ℕ) (bytes : List ℕ) → IsShort (length bytes) (first_number false m n bytes)
 first_number_short mnemonics.Initialize n bytes = λ e. absurd cc
-first_number_short (mnemonics.Sets s) n bytes = λ e. omega (arith, numeral_short setting_of bytes (is_cut (numeral_at setting_of false bytes) e))
+first_number_short (mnemonics.Sets s) n bytes =
+    λ e. omega (arith, numeral_short setting_of bytes (is_cut (numeral_at setting_of false bytes) e))
   where
     is_cut : (r : Numeral ℕ) → single n (λ a. Single s a) r ≡ Open → r ≡ Cut
     is_cut Cut e = refl
     is_cut (Wrong cause) e = absurd cc
     is_cut (Read x len) e = absurd cc
-first_number_short (mnemonics.Moves motion) n bytes = λ e. omega (arith, numeral_short coordinate_of bytes (is_cut (numeral_at coordinate_of false bytes) e))
+first_number_short (mnemonics.Moves motion) n bytes =
+    λ e. omega (arith, numeral_short coordinate_of bytes (is_cut (numeral_at coordinate_of false bytes) e))
   where
     is_cut : (r : Numeral ℤ) → first_of_pair n motion r ≡ Open → r ≡ Cut
     is_cut Cut e = refl
@@ -92,7 +96,8 @@ frame_escape_short a [] = λ e. omega arith
 frame_escape_short a (b ∷ bytes) =
     let n : ℕ = length (a ∷ b ∷ bytes) in
     cond_both (b == 69) _ _ (IsShort n) (λ _ e. absurd cc) (λ _.
-    cond_both (b == 37) _ _ (IsShort n) (λ _ e. omega (arith, language_short bytes (exit_open (language_in bytes) bytes e))) (λ _ e. absurd cc))
+    cond_both (b == 37) _ _ (IsShort n)
+        (λ _ e. omega (arith, language_short bytes (exit_open (language_in bytes) bytes e))) (λ _ e. absurd cc))
 
 letter_short : (a : ℕ) (bytes : List ℕ) → IsShort (length (a ∷ bytes)) (after_letter a bytes)
 letter_short a [] = λ e. omega arith

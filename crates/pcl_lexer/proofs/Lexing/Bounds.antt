@@ -13,7 +13,9 @@ use Rattle.pcl_lexer.specs.Reader.{First, Open, by_pjl, first_of}
 use Rattle.pcl_items.specs.PjlLines.First.{at_pjl}
 use Rattle.pcl_lexer.specs.Lexing.State.{most_open}
 use Rattle.pcl_lexer.specs.Faults as rules
-use Rattle.pcl_lexer.specs.Faults.{IsCut, cut, CommandFault, number, no_letter, unknown_last, unknown_more, data_goes_on, no_count, cut_data, cut_command, UngroupedFault, ungrouped_number, no_end, unknown_end, cut_ungrouped, UnitFault, no_byte, cut_escape, no_sequence, no_character, cut_introducer, no_group, unknown_group, font, language}
+use Rattle.pcl_lexer.specs.Faults.{IsCut, cut, CommandFault, number, no_letter, unknown_last, unknown_more, data_goes_on, no_count}
+use Rattle.pcl_lexer.specs.Faults.{cut_data, cut_command, UngroupedFault, ungrouped_number, no_end, unknown_end, cut_ungrouped, UnitFault}
+use Rattle.pcl_lexer.specs.Faults.{no_byte, cut_escape, no_sequence, no_character, cut_introducer, no_group, unknown_group, font, language}
 use Rattle.pcl_lexer.proofs.Reading.ReadsTo.{same_between}
 use Rattle.pcl_lexer.proofs.Escapes.FaultHeads.{TellsCommand, command_told, TellsUnit, unit_told}
 use Rattle.pcl_lexer.proofs.PjlLines.Units.{line_waits}
@@ -31,7 +33,8 @@ command_short _ _ _ (unknown_last rest f capital none) e = absurd cc
 command_short _ _ _ (unknown_more rest f capital none) e = absurd cc
 command_short _ _ _ (data_goes_on d rest f) e = absurd cc
 command_short _ _ _ (no_count d rest f none) e = absurd cc
-command_short _ _ _ (cut_data {text = text} d bytes f h less) e = omega (arith, length-append text (data_letter_of d ∷ bytes), f.short, h.limited, less)
+command_short _ _ _ (cut_data {text = text} d bytes f h less) e =
+    omega (arith, length-append text (data_letter_of d ∷ bytes), f.short, h.limited, less)
 command_short _ _ _ (cut_command {bytes = bytes} h) e = omega (arith, field_short bytes h)
 
 ungrouped_short : (i : ℕ) (bytes : List ℕ) (cause : LexCause) → UngroupedFault i bytes cause → cause ≡ Truncated → length bytes ≤ 16
@@ -65,7 +68,9 @@ unfolding first_of
 open_is_short Pcl [] e = omega arith
 open_is_short Pcl (b ∷ rest) e = between_short b rest e
 open_is_short Pjl [] e = omega arith
-open_is_short Pjl (b ∷ rest) e = cond_both (b == 64) _ _ (λ (f : First). f ≡ Open → length (b ∷ rest) ≤ most_open) (λ _ k. line_short (b ∷ rest) k) (λ _ k. between_short b rest k) e
+open_is_short Pjl (b ∷ rest) e =
+    cond_both (b == 64) _ _ (λ (f : First). f ≡ Open → length (b ∷ rest) ≤ most_open) (λ _ k. line_short (b ∷ rest) k)
+    (λ _ k. between_short b rest k) e
 open_is_short (Sequence g) rest e =
     let short = command_short g rest Truncated (subst (TellsCommand g rest) e (command_told g rest)) refl in
     omega (arith, short)

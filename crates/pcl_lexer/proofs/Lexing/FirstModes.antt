@@ -31,10 +31,17 @@ use Rattle.pcl_items.specs.Escapes.Value.{Amount}
 use Rattle.pcl_lexer.specs.Escapes.Field.{Field, field_at, amount_of}
 use Rattle.pcl_items.specs.Items.{Entry, bare}
 use Rattle.pcl_items.specs.Escapes.SetLetters.{is_set_letter}
-use Rattle.pcl_lexer.specs.Escapes.Ungrouped.{is_three, font_at, handover_of, leaving, entering, leave_at, language_at, ungrouped_at, count_of}
+use Rattle.pcl_lexer.specs.Escapes.Ungrouped.{is_three, font_at, handover_of, leaving, entering, leave_at, language_at, ungrouped_at}
+use Rattle.pcl_lexer.specs.Escapes.Ungrouped.{count_of}
 use Rattle.pcl_lexer.specs.Frames.Number.{coordinate_of, setting_of, Numeral, Cut, Wrong, Read, numeral_at}
-use Rattle.pcl_lexer.specs.Frames.Reader.{left_by, by_language, after_language_field, language_in, in_command, second_letter, after_letter, after_frame_escape, by_kind, at_frame, single, first_of_pair, second_of_pair, first_number, letters_by, after_letters, further, ended_by, ended, with_comma, by_figure, numbers_by, after_numbers}
-use Rattle.pcl_lexer.specs.Reader.{First, Open, Passes, Begins, Faulty, behind, named, with_data, by_last_letter, by_other_letter, by_last_byte, after_field, command_in, is_group_or_parameter, is_termination, behind_ungrouped, ungrouped, by_termination, after_ungrouped_field, without_group, in_group, after_introducer, after_parenthesis, by_character, after_escape, by_code, between_units, by_pjl, exit_or, first_of}
+use Rattle.pcl_lexer.specs.Frames.Reader.{left_by, by_language, after_language_field, language_in, in_command, second_letter, after_letter}
+use Rattle.pcl_lexer.specs.Frames.Reader.{after_frame_escape, by_kind, at_frame, single, first_of_pair, second_of_pair, first_number}
+use Rattle.pcl_lexer.specs.Frames.Reader.{letters_by, after_letters, further, ended_by, ended, with_comma, by_figure, numbers_by}
+use Rattle.pcl_lexer.specs.Frames.Reader.{after_numbers}
+use Rattle.pcl_lexer.specs.Reader.{First, Open, Passes, Begins, Faulty, behind, named, with_data, by_last_letter, by_other_letter}
+use Rattle.pcl_lexer.specs.Reader.{by_last_byte, after_field, command_in, is_group_or_parameter, is_termination, behind_ungrouped}
+use Rattle.pcl_lexer.specs.Reader.{ungrouped, by_termination, after_ungrouped_field, without_group, in_group, after_introducer}
+use Rattle.pcl_lexer.specs.Reader.{after_parenthesis, by_character, after_escape, by_code, between_units, by_pjl, exit_or, first_of}
 
 -- what may stand first in a mode
 abbrev IsIn : Mode → First → Type 0
@@ -64,7 +71,8 @@ pjl_in (Passes len next) h = absurd h
 pjl_in (Begins item len next) h = h.1
 pjl_in (Faulty cause) h = tt
 
-named_in : (o : Option Command) (g : Group) (c : ℕ) (a : Amount) (len : ℕ) (next : Context) → mode_of next ≡ modes.Pcl → InPcl (named o g c a len next)
+named_in : (o : Option Command) (g : Group) (c : ℕ) (a : Amount) (len : ℕ) (next : Context) → mode_of next ≡ modes.Pcl →
+    InPcl (named o g c a len next)
 named_in None g c a len next h = tt
 named_in (Some command) g c a len next h = (ap Some (sym h), ap Some (sym h))
 
@@ -72,7 +80,8 @@ with_data_in : (d : DataCommand) (o : Option ℕ) (len : ℕ) (bytes : List ℕ)
 with_data_in d None len bytes = tt
 with_data_in d (Some n) len bytes = cond_both (nat_lt (length bytes) n) _ _ InPcl (λ _. tt) (λ _. (refl, refl))
 
-last_letter_in : (o : Option DataCommand) (g : Group) (c : ℕ) (a : Amount) (len : ℕ) (bytes : List ℕ) → InPcl (by_last_letter o g c a len bytes)
+last_letter_in : (o : Option DataCommand) (g : Group) (c : ℕ) (a : Amount) (len : ℕ) (bytes : List ℕ) →
+    InPcl (by_last_letter o g c a len bytes)
 last_letter_in None g c a len bytes = named_in (command_at g c) g c a len Pcl refl
 last_letter_in (Some d) g c a len bytes = with_data_in d (count_of a) len bytes
 
@@ -92,15 +101,19 @@ field_in g f (c ∷ bytes) = last_byte_in (amount_of f) g f.len c bytes
 
 command_in_pcl : (g : Group) (bytes : List ℕ) → InPcl (command_in g bytes)
 unfolding command_in
-command_in_pcl g bytes = cond_both (nat_lt 16 (field_at bytes).len) _ _ InPcl (λ _. tt) (λ _. field_in g (field_at bytes) (drop (field_at bytes).len bytes))
+command_in_pcl g bytes =
+    cond_both (nat_lt 16 (field_at bytes).len) _ _ InPcl (λ _. tt) (λ _. field_in g (field_at bytes) (drop (field_at bytes).len bytes))
 
 -- the items without a group
 abbrev IsUngroupedIn : Option Entry → Type 0
 IsUngroupedIn None = Unit {0}
-IsUngroupedIn (Some item) = (follows modes.Pcl item ≡ Some (mode_of (behind_ungrouped item))) × (follows modes.Pjl item ≡ Some (mode_of (behind_ungrouped item)))
+IsUngroupedIn (Some item) =
+    (follows modes.Pcl item ≡ Some (mode_of (behind_ungrouped item))) × (follows modes.Pjl item ≡ Some (mode_of (behind_ungrouped item)))
 
 font_in : (a : Amount) (c : ℕ) → IsUngroupedIn (font_at a c)
-font_in a c = cond_both (is_set_letter c) _ _ IsUngroupedIn (λ _. (refl, refl)) (λ _. cond_both ((c == 64) && is_three a) _ _ IsUngroupedIn (λ _. (refl, refl)) (λ _. tt))
+font_in a c =
+    cond_both (is_set_letter c) _ _ IsUngroupedIn (λ _. (refl, refl))
+    (λ _. cond_both ((c == 64) && is_three a) _ _ IsUngroupedIn (λ _. (refl, refl)) (λ _. tt))
 
 leaving_in : (o : Option Handover) → IsUngroupedIn (leaving o)
 leaving_in None = tt
@@ -117,7 +130,9 @@ language_in_pcl : (a : Amount) (c : ℕ) → IsUngroupedIn (language_at a c)
 language_in_pcl a c = cond_both (c == 66) _ _ IsUngroupedIn (λ _. entering_in (handover_of a)) (λ _. leave_in a c)
 
 ungrouped_known : (i : ℕ) (a : Amount) (c : ℕ) → IsUngroupedIn (ungrouped_at i a c)
-ungrouped_known i a c = cond_both (i == 40) _ _ IsUngroupedIn (λ _. font_in a c) (λ _. cond_both (i == 37) _ _ IsUngroupedIn (λ _. language_in_pcl a c) (λ _. tt))
+ungrouped_known i a c =
+    cond_both (i == 40) _ _ IsUngroupedIn (λ _. font_in a c)
+    (λ _. cond_both (i == 37) _ _ IsUngroupedIn (λ _. language_in_pcl a c) (λ _. tt))
 
 ungrouped_in : (o : Option Entry) (i c len : ℕ) → IsUngroupedIn o → InPcl (ungrouped o i c len)
 ungrouped_in None i c len h = tt
@@ -125,7 +140,8 @@ ungrouped_in (Some item) i c len h = h
 
 termination_in : (o : Option Amount) (i len c : ℕ) → InPcl (by_termination o i len c)
 termination_in None i len c = tt
-termination_in (Some a) i len c = cond_both (is_termination c) _ _ InPcl (λ _. ungrouped_in (ungrouped_at i a c) i c (len + 3) (ungrouped_known i a c)) (λ _. tt)
+termination_in (Some a) i len c =
+    cond_both (is_termination c) _ _ InPcl (λ _. ungrouped_in (ungrouped_at i a c) i c (len + 3) (ungrouped_known i a c)) (λ _. tt)
 
 ungrouped_field_in : (i : ℕ) (f : Field) (bytes : List ℕ) → InPcl (after_ungrouped_field i f bytes)
 ungrouped_field_in i f [] = tt
@@ -133,7 +149,9 @@ ungrouped_field_in i f (c ∷ bytes) = termination_in (amount_of f) i f.len c
 
 without_group_in : (i : ℕ) (bytes : List ℕ) → InPcl (without_group i bytes)
 unfolding without_group
-without_group_in i bytes = cond_both (nat_lt 16 (field_at bytes).len) _ _ InPcl (λ _. tt) (λ _. ungrouped_field_in i (field_at bytes) (drop (field_at bytes).len bytes))
+without_group_in i bytes =
+    cond_both (nat_lt 16 (field_at bytes).len) _ _ InPcl (λ _. tt)
+    (λ _. ungrouped_field_in i (field_at bytes) (drop (field_at bytes).len bytes))
 
 behind_in : (n : ℕ) (f : First) → InPcl f → InPcl (behind n f)
 behind_in n Open h = tt
@@ -153,7 +171,8 @@ introducer_in i (c ∷ bytes) = cond_both (is_group_or_parameter c) _ _ InPcl (�
 parenthesis_in : (bytes : List ℕ) → InPcl (after_parenthesis bytes)
 unfolding after_parenthesis
 parenthesis_in [] = tt
-parenthesis_in (c ∷ bytes) = cond_both (is_group_or_parameter c) _ _ InPcl (λ _. group_in (group_at 40 c) 40 c bytes) (λ _. without_group_in 40 (c ∷ bytes))
+parenthesis_in (c ∷ bytes) =
+    cond_both (is_group_or_parameter c) _ _ InPcl (λ _. group_in (group_at 40 c) 40 c bytes) (λ _. without_group_in 40 (c ∷ bytes))
 
 -- the universal exit, or something other
 exit_in : (f : First) (bytes : List ℕ) → InPcl f → InPcl (exit_or f bytes)
@@ -209,7 +228,8 @@ first_pjl (lines.Faulty cause) = tt
 
 otherwise_in : (b : ℕ) (bytes : List ℕ) → (b == 64) ≡ false → IsIn modes.Pjl (between_units b bytes)
 otherwise_in b bytes e =
-    cond_both (nat_le 32 b) _ _ (IsIn modes.Pjl) (λ _. cond-false (b == 64) None (Some modes.Pcl) e) (λ _. pjl_in (by_code (control_at b) b bytes) (code_in (control_at b) b bytes (controls b)))
+    cond_both (nat_le 32 b) _ _ (IsIn modes.Pjl) (λ _. cond-false (b == 64) None (Some modes.Pcl) e)
+    (λ _. pjl_in (by_code (control_at b) b bytes) (code_in (control_at b) b bytes (controls b)))
 
 -- ---- a frame
 
@@ -234,7 +254,8 @@ left_in (Some item) c len h = h
 
 by_language_in : (o : Option Amount) (len c : ℕ) → InFrame (by_language o len c)
 by_language_in None len c = tt
-by_language_in (Some a) len c = cond_both (is_termination c) _ _ InFrame (λ _. left_in (leave_at a c) c (len + 3) (leave_known a c)) (λ _. tt)
+by_language_in (Some a) len c =
+    cond_both (is_termination c) _ _ InFrame (λ _. left_in (leave_at a c) c (len + 3) (leave_known a c)) (λ _. tt)
 
 language_field_in : (f : Field) (bytes : List ℕ) → InFrame (after_language_field f bytes)
 language_field_in f [] = tt
@@ -242,7 +263,9 @@ language_field_in f (c ∷ bytes) = by_language_in (amount_of f) f.len c
 
 language_in_frame : (bytes : List ℕ) → InFrame (language_in bytes)
 unfolding language_in
-language_in_frame bytes = cond_both (nat_lt 16 (field_at bytes).len) _ _ InFrame (λ _. tt) (λ _. language_field_in (field_at bytes) (drop (field_at bytes).len bytes))
+language_in_frame bytes =
+    cond_both (nat_lt 16 (field_at bytes).len) _ _ InFrame (λ _. tt)
+    (λ _. language_field_in (field_at bytes) (drop (field_at bytes).len bytes))
 
 in_command_in : (o : Option Mnemonic) (a b : ℕ) → InFrame (in_command o a b)
 in_command_in None a b = tt
@@ -264,7 +287,10 @@ letter_in a (b ∷ bytes) = second_letter_in (kind_of b) a b
 
 frame_escape_in : (bytes : List ℕ) → InFrame (after_frame_escape bytes)
 frame_escape_in [] = tt
-frame_escape_in (b ∷ bytes) = cond_both (b == 69) _ _ InFrame (λ _. refl) (λ _. cond_both (b == 37) _ _ InFrame (λ _. cond_both (begins_with exit_field bytes) _ _ InFrame (λ _. refl) (λ _. language_in_frame bytes)) (λ _. tt))
+frame_escape_in (b ∷ bytes) =
+    cond_both (b == 69) _ _ InFrame (λ _. refl) (λ _.
+    cond_both (b == 37) _ _ InFrame
+    (λ _. cond_both (begins_with exit_field bytes) _ _ InFrame (λ _. refl) (λ _. language_in_frame bytes)) (λ _. tt))
 
 kind_in : (k : Kind) (b : ℕ) (bytes : List ℕ) → InFrame (by_kind k b bytes)
 kind_in kinds.White b bytes = refl
@@ -359,7 +385,9 @@ numbers_in kinds.Other whole x gap n bytes = tt
 first_in_mode : (whole : Bool) (c : Context) (bytes : List ℕ) → IsIn (mode_of c) (first_of whole c bytes)
 unfolding first_of at_frame after_letters after_numbers
 first_in_mode whole Pcl [] = tt
-first_in_mode whole Pcl (b ∷ bytes) = cond_both (nat_le 32 b) _ _ (IsIn modes.Pcl) (λ _. refl) (λ _. pcl_in (by_code (control_at b) b bytes) (code_in (control_at b) b bytes (controls b)))
+first_in_mode whole Pcl (b ∷ bytes) =
+    cond_both (nat_le 32 b) _ _ (IsIn modes.Pcl) (λ _. refl)
+    (λ _. pcl_in (by_code (control_at b) b bytes) (code_in (control_at b) b bytes (controls b)))
 first_in_mode whole (Sequence g) bytes = pcl_in (command_in g bytes) (command_in_pcl g bytes)
 first_in_mode whole Frame [] = tt
 first_in_mode whole Frame (b ∷ bytes) = kind_in (kind_of b) b bytes
@@ -368,10 +396,13 @@ first_in_mode whole (Letters m n) (b ∷ bytes) = letters_in (kind_of b) whole m
 first_in_mode whole (Numbered x gap n) [] = cond_both whole _ _ InFrame (λ _. ended_in x gap) (λ _. tt)
 first_in_mode whole (Numbered x gap n) (b ∷ bytes) = numbers_in (kind_of b) whole x gap n (b ∷ bytes)
 first_in_mode whole Pjl [] = tt
-first_in_mode whole Pjl (b ∷ bytes) = cond_both (b == 64) _ _ (IsIn modes.Pjl) (λ _. first_pjl (lines.at_pjl (b ∷ bytes))) (λ e. otherwise_in b bytes e)
+first_in_mode whole Pjl (b ∷ bytes) =
+    cond_both (b == 64) _ _ (IsIn modes.Pjl) (λ _. first_pjl (lines.at_pjl (b ∷ bytes))) (λ e. otherwise_in b bytes e)
 
-pub begins_in_mode : (whole : Bool) (c : Context) (bytes : List ℕ) (item : Entry) (len : ℕ) (next : Context) → first_of whole c bytes ≡ Begins item len next → follows (mode_of c) item ≡ Some (mode_of next)
+pub begins_in_mode : (whole : Bool) (c : Context) (bytes : List ℕ) (item : Entry) (len : ℕ) (next : Context) →
+    first_of whole c bytes ≡ Begins item len next → follows (mode_of c) item ≡ Some (mode_of next)
 begins_in_mode whole c bytes item len next e = subst (IsIn (mode_of c)) e (first_in_mode whole c bytes)
 
-pub passes_in_mode : (whole : Bool) (c : Context) (bytes : List ℕ) (len : ℕ) (next : Context) → first_of whole c bytes ≡ Passes len next → mode_of next ≡ mode_of c
+pub passes_in_mode : (whole : Bool) (c : Context) (bytes : List ℕ) (len : ℕ) (next : Context) → first_of whole c bytes ≡ Passes len next →
+    mode_of next ≡ mode_of c
 passes_in_mode whole c bytes len next e = subst (IsIn (mode_of c)) e (first_in_mode whole c bytes)

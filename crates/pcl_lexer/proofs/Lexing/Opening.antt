@@ -1,6 +1,7 @@
 -- What is begun and not decided goes on to an item or a fault: data to their end, and all else by a byte that is no part of
 -- any sequence.
-use Rattle.std.proofs.Common.{◌≡◌, ℕ, ◌+◌, ◌-◌, ◌<◌, ◌≤◌, List, [], ◌∷◌, ◌++◌, length, take, replicate, Option, None, Some, refl, sym, ap, subst, ◌∙◌, arith, inl, inr}
+use Rattle.std.proofs.Common.{◌≡◌, ℕ, ◌+◌, ◌-◌, ◌<◌, ◌≤◌, List, [], ◌∷◌, ◌++◌, length, take, replicate, Option, None, Some, refl, sym, ap}
+use Rattle.std.proofs.Common.{subst, ◌∙◌, arith, inl, inr}
 use Rattle.std.specs.Prelude.{true, false, nat_lt}
 use Rattle.std.proofs.lemmas.Bool.{cond_both, cond-false, le-ltb}
 use Rattle.std.proofs.lemmas.List.{append_assoc, length-append, length-replicate}
@@ -19,9 +20,13 @@ use Rattle.pcl_items.specs.Items.{Entry, Text, WithData, ExitLanguage}
 use Rattle.pcl_items.specs.PjlLines.Exit.{exit_field, begins_with}
 use Rattle.pcl_lexer.specs.Escapes.Field.{field_at, amount_of}
 use Rattle.pcl_items.specs.Escapes.Codes.{escape}
-use Rattle.pcl_lexer.specs.Reader.{First, Open, Begins, Faulty, behind, with_data, by_last_byte, after_field, command_in, by_termination, after_ungrouped_field, without_group, after_introducer, after_parenthesis, after_escape, exit_or, first_of}
+use Rattle.pcl_lexer.specs.Reader.{First, Open, Begins, Faulty, behind, with_data, by_last_byte, after_field, command_in, by_termination}
+use Rattle.pcl_lexer.specs.Reader.{after_ungrouped_field, without_group, after_introducer, after_parenthesis, after_escape, exit_or}
+use Rattle.pcl_lexer.specs.Reader.{first_of}
 use Rattle.pcl_lexer.specs.Faults as rules
-use Rattle.pcl_lexer.specs.Faults.{CommandFault, number, no_letter, unknown_last, unknown_more, no_count, cut_data, cut_command, UngroupedFault, ungrouped_number, no_end, unknown_end, cut_ungrouped, HasGroups, BeginsSmall, UnitFault, no_byte, cut_escape, no_sequence, no_character, cut_introducer, no_group, unknown_group, font, language}
+use Rattle.pcl_lexer.specs.Faults.{CommandFault, number, no_letter, unknown_last, unknown_more, no_count, cut_data, cut_command}
+use Rattle.pcl_lexer.specs.Faults.{UngroupedFault, ungrouped_number, no_end, unknown_end, cut_ungrouped, HasGroups, BeginsSmall, UnitFault}
+use Rattle.pcl_lexer.specs.Faults.{no_byte, cut_escape, no_sequence, no_character, cut_introducer, no_group, unknown_group, font, language}
 use Rattle.pcl_lexer.proofs.Escapes.Shapes.{cut_goes_on}
 use Rattle.pcl_lexer.proofs.Escapes.FaultHeads.{TellsCommand, command_told, TellsUnit, unit_told}
 use Rattle.pcl_lexer.proofs.Reading.ReadsTo.{same_between}
@@ -61,7 +66,8 @@ record CommandGoesOn (g : Group) (bytes : List ℕ) : Type 0 where
   decided : Decided (command_in g (bytes ++ more))
 
 -- all data are there behind so many bytes more
-data_goes_on : (d : DataCommand) (text : List ℕ) (a : Amount) (n : ℕ) (bytes : List ℕ) → IsField text a → Counts a n → length bytes < n → CommandGoesOn (data_group_of d) (text ++ data_letter_of d ∷ bytes)
+data_goes_on : (d : DataCommand) (text : List ℕ) (a : Amount) (n : ℕ) (bytes : List ℕ) → IsField text a → Counts a n → length bytes < n →
+    CommandGoesOn (data_group_of d) (text ++ data_letter_of d ∷ bytes)
 data_goes_on d text a n bytes f h short =
     let more : List ℕ = replicate (n - length bytes) 0 in
     let all : n ≤ length (bytes ++ more) = omega (arith, length-append bytes more, length-replicate {A = ℕ} (n - length bytes) 0, short) in
@@ -85,13 +91,18 @@ command_goes_on _ _ _ (no_count d rest f none) e = absurd cc
 command_goes_on _ _ _ (cut_data {text = text} {amount = a} {n = n} d bytes f h short) e = data_goes_on d text a n bytes f h short
 command_goes_on _ _ _ (cut_command {group = g} {bytes = bytes} h) e =
     let c = cut_goes_on (after_field g) bytes 95 [] (omega arith) h in
-    record { more = 95 ∷ []; decided = same (command_in g (on bytes)) (by_last_byte (amount_of c.0) g c.0.len 95 []) c.1 (last_refuses (amount_of c.0) g c.0.len []) }
+    record {
+      more = 95 ∷ [];
+      decided =
+          same (command_in g (on bytes)) (by_last_byte (amount_of c.0) g c.0.len 95 []) c.1 (last_refuses (amount_of c.0) g c.0.len []);
+    }
 
 end_refuses : (o : Option Amount) (i len : ℕ) → Decided (by_termination o i len 95)
 end_refuses None i len = by_fault BadNumber refl (λ h. h)
 end_refuses (Some a) i len = by_fault Syntax refl (λ h. h)
 
-ungrouped_refuses : (i : ℕ) (bytes : List ℕ) (cause : LexCause) → UngroupedFault i bytes cause → cause ≡ Truncated → Decided (without_group i (on bytes))
+ungrouped_refuses : (i : ℕ) (bytes : List ℕ) (cause : LexCause) → UngroupedFault i bytes cause → cause ≡ Truncated →
+    Decided (without_group i (on bytes))
 unfolding without_group
 ungrouped_refuses _ _ _ (ungrouped_number h) e = absurd cc
 ungrouped_refuses _ _ _ (no_end rest f ends no_capital) e = absurd cc
@@ -141,12 +152,19 @@ unit_goes_on _ _ (rules.in_group {group = g} {bytes = bytes} {cause = cause} h) 
     let c = command_goes_on g bytes cause h e in
     record {
       more = c.more;
-      decided = same (first_of true Pcl (escape ∷ introducer_of g ∷ character_of g ∷ (bytes ++ c.more))) (behind 3 (command_in g (bytes ++ c.more))) (group_read g (bytes ++ c.more)) (behind_decided 3 (command_in g (bytes ++ c.more)) c.decided);
+      decided =
+          same (first_of true Pcl (escape ∷ introducer_of g ∷ character_of g ∷ (bytes ++ c.more)))
+          (behind 3 (command_in g (bytes ++ c.more))) (group_read g (bytes ++ c.more))
+          (behind_decided 3 (command_in g (bytes ++ c.more)) c.decided);
     }
 unit_goes_on _ _ (font {bytes = bytes} {cause = cause} k h) e =
-    by_byte Pcl (escape ∷ 40 ∷ bytes) (same (first_of true Pcl (on (escape ∷ 40 ∷ bytes))) (without_group 40 (on bytes)) (font_read (on bytes) (not_small bytes k)) (ungrouped_refuses 40 bytes cause h e))
+    by_byte Pcl (escape ∷ 40 ∷ bytes)
+    (same (first_of true Pcl (on (escape ∷ 40 ∷ bytes))) (without_group 40 (on bytes)) (font_read (on bytes) (not_small bytes k))
+    (ungrouped_refuses 40 bytes cause h e))
 unit_goes_on _ _ (language {bytes = bytes} {cause = cause} k h) e =
-    by_byte Pcl (escape ∷ 37 ∷ bytes) (same (first_of true Pcl (on (escape ∷ 37 ∷ bytes))) (exit_or (without_group 37 (on bytes)) (on bytes)) (percent_read (on bytes)) (exit_decided (on bytes) (ungrouped_refuses 37 bytes cause h e)))
+    by_byte Pcl (escape ∷ 37 ∷ bytes)
+    (same (first_of true Pcl (on (escape ∷ 37 ∷ bytes))) (exit_or (without_group 37 (on bytes)) (on bytes)) (percent_read (on bytes))
+    (exit_decided (on bytes) (ungrouped_refuses 37 bytes cause h e)))
 
 text_decides : Decided (first_of true Pcl (95 ∷ []))
 unfolding first_of

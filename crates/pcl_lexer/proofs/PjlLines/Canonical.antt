@@ -64,7 +64,8 @@ record Spelling (word : Word) (old : List ℕ) (line : PjlCommand) : Type 0 wher
   inside : Each is_inside old → Each is_inside text
   short : length text ≤ length old
 
-same_text : (word : Word) (text : List ℕ) (line : PjlCommand) → parts_of line ≡ Some (word, text) → IsText word text line → Spelling word text line
+same_text : (word : Word) (text : List ℕ) (line : PjlCommand) → parts_of line ≡ Some (word, text) → IsText word text line →
+    Spelling word text line
 same_text word text line e h = record { text = text; parts = e; is_text = h; is_tidy = λ t. t; inside = λ t. t; short = omega arith }
 
 spelling_of : (word : Word) (text : List ℕ) (line : PjlCommand) → IsText word text line → Spelling word text line
@@ -82,7 +83,8 @@ spelling_of word text line (rules.enter {sign = sign} title value ht hs hv) = re
   short =
       let a : length title ≡ 8 = len_word language title ht in
       let b : length value ≡ 3 = len_word pcl value hv in
-      let c : 12 ≤ length (title ++ (sign ++ value)) = omega (arith, a, b, len_sign sign hs, length-append title (sign ++ value), length-append sign value) in
+      let c : 12 ≤ length (title ++ (sign ++ value)) =
+          omega (arith, a, b, len_sign sign hs, length-append title (sign ++ value), length-append sign value) in
       c;
 }
 
@@ -138,21 +140,41 @@ from_words : (word : Word) (old : List ℕ) (line : PjlCommand) (n : ℕ) → Sp
 from_words word old line n s t e l =
     let c = words_text word s.text in
     let q : by_parts (parts_of line) ≡ prefix ++ 32 ∷ c = ap by_parts s.parts in
-    let is : IsPjlCommand (prefix ++ 32 ∷ (c ++ [])) line = rules.worded 32 [] [] refl tt (made word s.text line s.is_text (s.is_tidy t)) (ends word s.text (s.is_tidy t)) tt in
+    let is : IsPjlCommand (prefix ++ 32 ∷ (c ++ [])) line =
+    rules.worded 32 [] [] refl tt (made word s.text line s.is_text (s.is_tidy t)) (ends word s.text (s.is_tidy t)) tt in
     record {
       is_line = subst (λ b. IsPjlCommand b line) (ap (λ b. prefix ++ 32 ∷ b) (append-nil c) ∙ sym q) is;
-      inside = subst (Each is_inside) (sym q) (refl, (refl, (refl, (refl, (refl, each_append is_inside (spelling word) (behind_space s.text) (spelled_inside word) (behind_inside s.text (s.inside e)))))));
+      inside = subst (Each is_inside) (sym q) (
+        refl,
+        (
+              refl,
+              (
+                    refl,
+                    (
+                          refl,
+                          (
+                                refl,
+                                each_append is_inside (spelling word) (behind_space s.text) (spelled_inside word)
+                                    (behind_inside s.text (s.inside e)),
+                              ),
+                        ),
+                  ),
+            ),
+      );
       short = subst (λ b. length b ≤ n) (sym q) (omega (arith, l s.text s.short));
     }
 
-by_words : (text : List ℕ) (line : PjlCommand) (n : ℕ) → AreWords text line → EndsSolid text → Each is_inside text → length text + 5 ≤ n → Canonical line n
+by_words : (text : List ℕ) (line : PjlCommand) (n : ℕ) → AreWords text line → EndsSolid text → Each is_inside text → length text + 5 ≤ n →
+    Canonical line n
 by_words text line n (rules.alone word h t) e i l =
     from_words word [] line n (spelling_of word [] line t) tt tt
     (λ more m. omega (arith, m, l, len_word (spelling word) text h, length-append (spelling word) (behind_space more), len_none more m))
 by_words text line n (rules.followed word title b blanks rest h f hb s t) e i l =
     let last : EndsSolid rest = ends_behind (b ∷ blanks) rest (f, hb) (ends_front title (blanks ++ rest) b e) in
-    from_words word rest line n (spelling_of word rest line t) (tidy rest s last) (each_back is_inside blanks rest (each_back is_inside title (b ∷ (blanks ++ rest)) i).1)
-    (λ more m. omega (arith, m, l, len_word (spelling word) title h, length-append (spelling word) (behind_space more), len_behind more, length-append title (b ∷ (blanks ++ rest)), length-append blanks rest))
+    from_words word rest line n (spelling_of word rest line t) (tidy rest s last)
+    (each_back is_inside blanks rest (each_back is_inside title (b ∷ (blanks ++ rest)) i).1)
+    (λ more m. omega (arith, m, l, len_word (spelling word) title h, length-append (spelling word) (behind_space more), len_behind more,
+    length-append title (b ∷ (blanks ++ rest)), length-append blanks rest))
 
 canonical : (text : List ℕ) (line : PjlCommand) → IsPjlCommand text line → Each is_inside text → Canonical line (length text)
 canonical text line (rules.bare blanks h) i = record {
@@ -161,18 +183,22 @@ canonical text line (rules.bare blanks h) i = record {
   short = omega (arith, length-append prefix blanks);
 }
 canonical text line (rules.worded {words = title} b before after h hb hw he ha) i =
-    by_words title line (length text) hw he (each_fore is_inside title after (each_back is_inside before (title ++ after) (each_back is_inside (64 ∷ 80 ∷ 74 ∷ 76 ∷ b ∷ []) (before ++ (title ++ after)) i)))
+    by_words title line (length text) hw he
+    (each_fore is_inside title after
+    (each_back is_inside before (title ++ after) (each_back is_inside (64 ∷ 80 ∷ 74 ∷ 76 ∷ b ∷ []) (before ++ (title ++ after)) i)))
     (omega (arith, length-append before (title ++ after), length-append title after))
 
 pub line_canon : (text : List ℕ) (line : PjlCommand) → LineCanonIsRead text line
 line_canon text line (units.whole_line whole h e l) =
     let c = canonical whole line h e in
-    let unit : IsPjlUnit (canon_pjl line) line = units.whole_line (by_parts (parts_of line)) c.is_line c.inside (omega (arith, l, c.short)) in
+    let unit : IsPjlUnit (canon_pjl line) line =
+    units.whole_line (by_parts (parts_of line)) c.is_line c.inside (omega (arith, l, c.short)) in
     record { spelled = unit; read = λ rest. unit_read (canon_pjl line) rest line unit }
 
 -- a line that a text spells is read of its one spelling, and so it is one by the rules
 pub spelled_line : {text : List ℕ} {line : PjlCommand} → IsPjlUnit text line → IsSpelledPjl line
-spelled_line {text = text} {line = line} u = ap (λ l. first_pjl (at_pjl l)) (sym (append-nil (canon_pjl line))) ∙ ap first_pjl ((line_canon text line u).read [])
+spelled_line {text = text} {line = line} u =
+    ap (λ l. first_pjl (at_pjl l)) (sym (append-nil (canon_pjl line))) ∙ ap first_pjl ((line_canon text line u).read [])
 
 only_begins : (f : FirstPjl) (line : PjlCommand) → first_pjl f ≡ Some line → (len : ℕ) × (f ≡ lines.Begins line len)
 only_begins lines.Open line e = absurd cc
@@ -192,15 +218,21 @@ pub canon_is_short : (line : PjlCommand) → IsSpelledPjl line → length (canon
 canon_is_short line h = unit_short (canon_unit line h)
 
 -- the bytes in front of a newline that are read as a line
-line_front : (bytes : List ℕ) (line : PjlCommand) → prefix_len is_inside bytes ≤ 1023 → pjl_command_of (front is_inside bytes) ≡ Some line → IsSpelledPjl line
+line_front : (bytes : List ℕ) (line : PjlCommand) → prefix_len is_inside bytes ≤ 1023 → pjl_command_of (front is_inside bytes) ≡ Some line →
+    IsSpelledPjl line
 line_front bytes line l e =
-    spelled_line (units.whole_line (front is_inside bytes) (line_told (front is_inside bytes) line e) (each_front is_inside bytes) (omega (arith, l, length-prefix_len is_inside bytes)))
+    spelled_line (units.whole_line (front is_inside bytes) (line_told (front is_inside bytes) line e) (each_front is_inside bytes)
+    (omega (arith, l, length-prefix_len is_inside bytes)))
 
-pub line_here : (bytes : List ℕ) (n : ℕ) (line : PjlCommand) → n ≡ prefix_len is_inside bytes → n ≤ 1023 → pjl_command_of (take n bytes) ≡ Some line → IsSpelledPjl line
-line_here bytes n line e l k = line_front bytes line (omega (arith, e, l)) (subst (λ (m : ℕ). pjl_command_of (take m bytes) ≡ Some line) e k)
+pub line_here : (bytes : List ℕ) (n : ℕ) (line : PjlCommand) → n ≡ prefix_len is_inside bytes → n ≤ 1023 →
+    pjl_command_of (take n bytes) ≡ Some line → IsSpelledPjl line
+line_here bytes n line e l k =
+    line_front bytes line (omega (arith, e, l)) (subst (λ (m : ℕ). pjl_command_of (take m bytes) ≡ Some line) e k)
 
 -- how long what stands in front and the text of a line are
-pub room : (fore text : List ℕ) (line : PjlCommand) → IsSpelledPjl line → canon_pjl line ≡ fore ++ (behind_space text ++ 10 ∷ []) → length fore ≤ 23 → length fore + length text + 2 ≤ 1024
+pub room : (fore text : List ℕ) (line : PjlCommand) → IsSpelledPjl line → canon_pjl line ≡ fore ++ (behind_space text ++ 10 ∷ []) →
+    length fore ≤ 23 → length fore + length text + 2 ≤ 1024
 room fore [] line h e l = omega (arith, l)
 room fore (b ∷ text) line h e l =
-    omega (arith, canon_is_short line h, ap length e, length-append fore (behind_space (b ∷ text) ++ 10 ∷ []), length-append (behind_space (b ∷ text)) (10 ∷ []))
+    omega (arith, canon_is_short line h, ap length e, length-append fore (behind_space (b ∷ text) ++ 10 ∷ []),
+    length-append (behind_space (b ∷ text)) (10 ∷ []))

@@ -1,5 +1,6 @@
 -- Bytes that begin with those of the universal exit.
-use Rattle.std.proofs.Common.{◌≡◌, ℕ, zero, suc, ◌<◌, ◌≤◌, List, [], ◌∷◌, ◌++◌, length, take, drop, Bool, true, false, refl, sym, ap, ◌∙◌, arith}
+use Rattle.std.proofs.Common.{◌≡◌, ℕ, zero, suc, ◌<◌, ◌≤◌, List, [], ◌∷◌, ◌++◌, length, take, drop, Bool, true, false, refl, sym, ap, ◌∙◌}
+use Rattle.std.proofs.Common.{arith}
 use Rattle.std.specs.Prelude.{◌==◌, ◌&&◌}
 use Rattle.std.proofs.lemmas.Bool.{eqb-true, eq-eqb, and_from, cond_both}
 use Rattle.std.proofs.Math.Seq.{drop-append_seam}
@@ -44,11 +45,13 @@ field_of_exit : (rest : List ℕ) → (field_at (exit_field ++ rest)).len ≡ 6
 unfolding field_at
 field_of_exit rest = refl
 
-pub no_exit_field : (text : List ℕ) (a : Amount) (c : ℕ) (rest : List ℕ) → IsField text a → 64 ≤ c → (c ≡ 88 → ⊥) → BeginsExit (text ++ c ∷ rest) → ⊥
+pub no_exit_field : (text : List ℕ) (a : Amount) (c : ℕ) (rest : List ℕ) → IsField text a → 64 ≤ c → (c ≡ 88 → ⊥) →
+    BeginsExit (text ++ c ∷ rest) → ⊥
 no_exit_field text a c rest f low h b =
     let r = field_read text a (c ∷ rest) f (ends_at_letter a.sign f.whole f.fraction c rest (omega (arith, low))) in
     let size : length text ≡ 6 = sym r.len ∙ ap (λ l. (field_at l).len) b.1 ∙ field_of_exit b.0 in
-    let behind : c ∷ rest ≡ 88 ∷ b.0 = sym (drop-append_seam text (c ∷ rest)) ∙ ap (λ n. drop n (text ++ c ∷ rest)) size ∙ ap (drop 6) b.1 in
+    let behind : c ∷ rest ≡ 88 ∷ b.0 =
+    sym (drop-append_seam text (c ∷ rest)) ∙ ap (λ n. drop n (text ++ c ∷ rest)) size ∙ ap (drop 6) b.1 in
     let same : c ≡ 88 = cc in
     h same
 
@@ -121,13 +124,20 @@ frame_waits (suc (suc (suc (suc (suc zero))))) h = refl
 frame_waits (suc (suc (suc (suc (suc (suc zero)))))) h = refl
 frame_waits (suc (suc (suc (suc (suc (suc (suc n))))))) h = absurd (omega (arith, h))
 
-pub exit_waits : (bytes more : List ℕ) → begins_with exit_field bytes ≡ false → begins_with exit_field (bytes ++ more) ≡ true → without_group 37 bytes ≡ Open
-exit_waits bytes more e h = let f = front_of exit_field bytes more e h in ap (without_group 37) f.is ∙ front_waits (length bytes) (omega (arith, f.short))
+pub exit_waits : (bytes more : List ℕ) → begins_with exit_field bytes ≡ false → begins_with exit_field (bytes ++ more) ≡ true →
+    without_group 37 bytes ≡ Open
+exit_waits bytes more e h =
+    let f = front_of exit_field bytes more e h in ap (without_group 37) f.is ∙ front_waits (length bytes) (omega (arith, f.short))
 
-pub frame_exit_waits : (bytes more : List ℕ) → begins_with exit_field bytes ≡ false → begins_with exit_field (bytes ++ more) ≡ true → language_in bytes ≡ Open
-frame_exit_waits bytes more e h = let f = front_of exit_field bytes more e h in ap language_in f.is ∙ frame_waits (length bytes) (omega (arith, f.short))
+pub frame_exit_waits : (bytes more : List ℕ) → begins_with exit_field bytes ≡ false → begins_with exit_field (bytes ++ more) ≡ true →
+    language_in bytes ≡ Open
+frame_exit_waits bytes more e h =
+    let f = front_of exit_field bytes more e h in ap language_in f.is ∙ frame_waits (length bytes) (omega (arith, f.short))
 
 -- a test that says so
-pub tested : (text : List ℕ) (r : Bool) (bytes : List ℕ) → (r ≡ true → bytes ≡ text ++ drop (length text) bytes) → ((rest : List ℕ) → bytes ≡ text ++ rest → r ≡ true) → r ≡ begins_with text bytes
+pub tested : (text : List ℕ) (r : Bool) (bytes : List ℕ) → (r ≡ true → bytes ≡ text ++ drop (length text) bytes) →
+    ((rest : List ℕ) → bytes ≡ text ++ rest → r ≡ true) → r ≡ begins_with text bytes
 tested text true bytes f g = sym (ap (begins_with text) (f refl) ∙ begins_itself text (drop (length text) bytes))
-tested text false bytes f g = sym (by_test (begins_with text bytes) (λ e. let both : false ≡ true = g (drop (length text) bytes) (begins_so text bytes e) in absurd cc))
+tested text false bytes f g =
+    sym
+    (by_test (begins_with text bytes) (λ e. let both : false ≡ true = g (drop (length text) bytes) (begins_so text bytes e) in absurd cc))

@@ -1,5 +1,6 @@
 -- What stands first in mode PJL.
-use Rattle.std.proofs.Common.{◌≡◌, ◌≢◌, ℕ, suc, ◌+◌, ◌-◌, ◌≤◌, List, [], ◌∷◌, ◌++◌, length, take, drop, Bool, true, false, Some, refl, sym, ap, subst, ◌∙◌, arith}
+use Rattle.std.proofs.Common.{◌≡◌, ◌≢◌, ℕ, suc, ◌+◌, ◌-◌, ◌≤◌, List, [], ◌∷◌, ◌++◌, length, take, drop, Bool, true, false, Some, refl, sym}
+use Rattle.std.proofs.Common.{ap, subst, ◌∙◌, arith}
 use Rattle.std.specs.Prelude.{◌==◌, ◌&&◌}
 use Rattle.pcl_items.specs.declared.pcl.command.Group.{Group}
 use Rattle.pcl_items.specs.PjlLines.Exit.{begins_with}
@@ -55,8 +56,10 @@ open_line (lines.Faulty cause) e = absurd cc
 -- ---- what is read
 
 pub data HeadPjl : List ℕ → Entry → ℕ → Context → Type 0 where
-  head_line : {bytes : List ℕ} {line : PjlCommand} {len : ℕ} → BeginsWith bytes line len → HeadPjl bytes (PjlLine line) len (between (behind_pjl line))
-  head_other : {b : ℕ} {bytes : List ℕ} {item : Entry} {len : ℕ} {next : Context} → b ≢ at_sign → first_of true Pcl (b ∷ bytes) ≡ Begins item len next → HeadPjl (b ∷ bytes) item len next
+  head_line : {bytes : List ℕ} {line : PjlCommand} {len : ℕ} → BeginsWith bytes line len →
+      HeadPjl bytes (PjlLine line) len (between (behind_pjl line))
+  head_other : {b : ℕ} {bytes : List ℕ} {item : Entry} {len : ℕ} {next : Context} → b ≢ at_sign →
+      first_of true Pcl (b ∷ bytes) ≡ Begins item len next → HeadPjl (b ∷ bytes) item len next
 
 abbrev Tells : List ℕ → First → Type 0
 Tells bytes Open = Unit {0}
@@ -82,12 +85,14 @@ pjl_tells (b ∷ bytes) =
     cond_both (b == 64) _ _ (Tells (b ∷ bytes)) (λ _. line_told (b ∷ bytes) (lines.at_pjl (b ∷ bytes)) refl)
     (λ e. other_told b bytes (between_units b bytes) (eqb-false b 64 e) refl)
 
-pub pjl_spelled : (bytes : List ℕ) (item : Entry) (len : ℕ) (next : Context) → first_of true Pjl bytes ≡ Begins item len next → HeadPjl bytes item len next
+pub pjl_spelled : (bytes : List ℕ) (item : Entry) (len : ℕ) (next : Context) → first_of true Pjl bytes ≡ Begins item len next →
+    HeadPjl bytes item len next
 pjl_spelled bytes item len next e = subst (Tells bytes) e (pjl_tells bytes)
 
 -- ---- the line that was read
 
-unit_again : {text : List ℕ} {line : PjlCommand} (rest : List ℕ) → IsPjlUnit text line → pjl_command_of (take (length text - 1) (text ++ rest)) ≡ Some line
+unit_again : {text : List ℕ} {line : PjlCommand} (rest : List ℕ) → IsPjlUnit text line →
+    pjl_command_of (take (length text - 1) (text ++ rest)) ≡ Some line
 unit_again {line = line} rest (whole_line words h e short) =
     let n : length (words ++ 10 ∷ []) - 1 ≡ length words = omega (arith, length-append words (10 ∷ [])) in
     ap (λ m. pjl_command_of (take m ((words ++ 10 ∷ []) ++ rest))) n
@@ -97,9 +102,11 @@ unit_again {line = line} rest (whole_line words h e short) =
 
 read_again : {bytes : List ℕ} {line : PjlCommand} {len : ℕ} → BeginsWith bytes line len → pjl_command_of (take (len - 1) bytes) ≡ Some line
 read_again {bytes = bytes} {line = line} {len = len} b =
-    ap (λ n. pjl_command_of (take (n - 1) bytes)) b.size ∙ ap (λ l. pjl_command_of (take (length b.text - 1) l)) b.all ∙ unit_again b.rest b.unit
+    ap (λ n. pjl_command_of (take (n - 1) bytes)) b.size ∙ ap (λ l. pjl_command_of (take (length b.text - 1) l)) b.all
+    ∙ unit_again b.rest b.unit
 
-no_line_in : (c : Context) (line : PjlCommand) (len : ℕ) (next : Context) (bytes : List ℕ) (whole : Bool) → (mode_of c ≡ modes.Pjl → ⊥) → first_of whole c bytes ≡ Begins (PjlLine line) len next → ⊥
+no_line_in : (c : Context) (line : PjlCommand) (len : ℕ) (next : Context) (bytes : List ℕ) (whole : Bool) → (mode_of c ≡ modes.Pjl → ⊥) →
+    first_of whole c bytes ≡ Begins (PjlLine line) len next → ⊥
 no_line_in c line len next bytes whole h e = go (mode_of c) h (begins_in_mode whole c bytes (PjlLine line) len next e)
   where
     go : (mode : Mode) → (mode ≡ modes.Pjl → ⊥) → follows mode (PjlLine line) ≡ Some (mode_of next) → ⊥
@@ -107,33 +114,43 @@ no_line_in c line len next bytes whole h e = go (mode_of c) h (begins_in_mode wh
     go modes.Frame h e = absurd cc
     go modes.Pjl h e = absurd (h refl)
 
-has_line : {bytes : List ℕ} {item : Entry} {len : ℕ} {next : Context} (old : PjlCommand) → HeadPjl bytes item len next → item ≡ PjlLine old → (line : PjlCommand) × (pjl_command_of (take (len - 1) bytes) ≡ Some line) × IsSpelledPjl line
+has_line : {bytes : List ℕ} {item : Entry} {len : ℕ} {next : Context} (old : PjlCommand) → HeadPjl bytes item len next →
+    item ≡ PjlLine old → (line : PjlCommand) × (pjl_command_of (take (len - 1) bytes) ≡ Some line) × IsSpelledPjl line
 has_line old (head_line {line = line} b) e = (line, read_again b, spelled_line b.unit)
 has_line old (head_other {b = b} {bytes = bytes} {len = len} {next = next} h f) e =
     absurd (no_line_in Pcl old len next (b ∷ bytes) true (λ k. absurd cc) (f ∙ ap (λ x. Begins x len next) e))
 
-line_there : (c : Context) (line : PjlCommand) (len : ℕ) (next : Context) (bytes : List ℕ) (whole : Bool) → first_of whole c bytes ≡ Begins (PjlLine line) len next → (there : PjlCommand) × (pjl_command_of (take (len - 1) bytes) ≡ Some there) × IsSpelledPjl there
-line_there Pjl line len next bytes whole e = has_line line (pjl_spelled bytes (PjlLine line) len next (sym (same_in_pjl whole bytes) ∙ e)) refl
+line_there : (c : Context) (line : PjlCommand) (len : ℕ) (next : Context) (bytes : List ℕ) (whole : Bool) →
+    first_of whole c bytes ≡ Begins (PjlLine line) len next →
+    (there : PjlCommand) × (pjl_command_of (take (len - 1) bytes) ≡ Some there) × IsSpelledPjl there
+line_there Pjl line len next bytes whole e =
+    has_line line (pjl_spelled bytes (PjlLine line) len next (sym (same_in_pjl whole bytes) ∙ e)) refl
 line_there Pcl line len next bytes whole e = absurd (no_line_in Pcl line len next bytes whole (λ k. absurd cc) e)
 line_there (Sequence g) line len next bytes whole e = absurd (no_line_in (Sequence g) line len next bytes whole (λ k. absurd cc) e)
 line_there Frame line len next bytes whole e = absurd (no_line_in Frame line len next bytes whole (λ k. absurd cc) e)
 line_there (Letters m n) line len next bytes whole e = absurd (no_line_in (Letters m n) line len next bytes whole (λ k. absurd cc) e)
-line_there (Numbered x gap n) line len next bytes whole e = absurd (no_line_in (Numbered x gap n) line len next bytes whole (λ k. absurd cc) e)
+line_there (Numbered x gap n) line len next bytes whole e =
+    absurd (no_line_in (Numbered x gap n) line len next bytes whole (λ k. absurd cc) e)
 
-no_line_in_group : (g : Group) (line : PjlCommand) (len : ℕ) (next : Context) (bytes : List ℕ) → command_in g bytes ≡ Begins (PjlLine line) len next → ⊥
+no_line_in_group : (g : Group) (line : PjlCommand) (len : ℕ) (next : Context) (bytes : List ℕ) →
+    command_in g bytes ≡ Begins (PjlLine line) len next → ⊥
 unfolding first_of
 no_line_in_group g line len next bytes e = no_line_in (Sequence g) line len next bytes true (λ k. absurd cc) e
 
-head_has_line : (head : Head) (len : ℕ) (next : Context) (c : Context) (bytes : List ℕ) (whole : Bool) → Begins (head_view head len bytes) len next ≡ first_of whole c bytes → HasPjl head len bytes
+head_has_line : (head : Head) (len : ℕ) (next : Context) (c : Context) (bytes : List ℕ) (whole : Bool) →
+    Begins (head_view head len bytes) len next ≡ first_of whole c bytes → HasPjl head len bytes
 head_has_line (heads.Text byte) len next c bytes whole e = tt
 head_has_line (heads.Simple item) len next c bytes whole e = tt
 head_has_line (heads.WithData command count) len next c bytes whole e = tt
-head_has_line heads.PjlLine len next c bytes whole e = line_there c (pjl_read (pjl_command_of (take (len - 1) bytes))) len next bytes whole (sym e)
+head_has_line heads.PjlLine len next c bytes whole e =
+    line_there c (pjl_read (pjl_command_of (take (len - 1) bytes))) len next bytes whole (sym e)
 
-pub first_has_line : (first : code_first.First) (whole : Bool) (context : code_context.Context) (bytes : List ℕ) → first_view bytes first ≡ first_of whole (context_view context) bytes → FirstHasPjl bytes first
+pub first_has_line : (first : code_first.First) (whole : Bool) (context : code_context.Context) (bytes : List ℕ) →
+    first_view bytes first ≡ first_of whole (context_view context) bytes → FirstHasPjl bytes first
 first_has_line firsts.Open whole context bytes e = tt
 first_has_line (firsts.Passes len next) whole context bytes e = tt
-first_has_line (firsts.Begins len head next) whole context bytes e = head_has_line head len (context_view next) (context_view context) bytes whole e
+first_has_line (firsts.Begins len head next) whole context bytes e =
+    head_has_line head len (context_view next) (context_view context) bytes whole e
 first_has_line (firsts.Faulty cause) whole context bytes e = tt
 
 pub pcl_has_line : (first : code_first.First) (bytes : List ℕ) → first_view bytes first ≡ first_of true Pcl bytes → FirstHasPjl bytes first
@@ -144,7 +161,8 @@ pcl_has_line (firsts.Faulty cause) bytes e = tt
 
 -- ---- as the code has it
 
-pub first_at_line : (whole : Bool) (bytes : List ℕ) → begins_with (at_sign ∷ []) bytes ≡ true → first_of whole Pjl bytes ≡ by_pjl (lines.at_pjl bytes)
+pub first_at_line : (whole : Bool) (bytes : List ℕ) → begins_with (at_sign ∷ []) bytes ≡ true →
+    first_of whole Pjl bytes ≡ by_pjl (lines.at_pjl bytes)
 unfolding first_of
 first_at_line whole [] e = absurd cc
 first_at_line whole (b ∷ bytes) e = cond-true (b == 64) _ _ (both_true (b == 64) true e).0
@@ -153,26 +171,31 @@ front_false : (a : Bool) → (a && true) ≡ false → a ≡ false
 front_false true e = absurd cc
 front_false false e = refl
 
-pub first_otherwise : (whole : Bool) (bytes : List ℕ) → begins_with (at_sign ∷ []) bytes ≡ false → first_of whole Pjl bytes ≡ first_of whole Pcl bytes
+pub first_otherwise : (whole : Bool) (bytes : List ℕ) → begins_with (at_sign ∷ []) bytes ≡ false →
+    first_of whole Pjl bytes ≡ first_of whole Pcl bytes
 unfolding first_of
 first_otherwise whole [] e = refl
 first_otherwise whole (b ∷ bytes) e = cond-false (b == 64) _ _ (front_false (b == 64) e)
 
-pub line_first_view : (bytes : List ℕ) (line : PjlCommand) (len : ℕ) (next : Context) → lines.at_pjl bytes ≡ lines.Begins line len → next ≡ between (behind_pjl line) →
+pub line_first_view : (bytes : List ℕ) (line : PjlCommand) (len : ℕ) (next : Context) → lines.at_pjl bytes ≡ lines.Begins line len →
+    next ≡ between (behind_pjl line) →
     Begins (PjlLine (pjl_read (pjl_command_of (take (len - 1) bytes)))) len next ≡ by_pjl (lines.at_pjl bytes)
 line_first_view bytes line len next e n =
-    ap (λ o. Begins (PjlLine (pjl_read o)) len next) (read_again ((lines_by_rules bytes).line line len e)) ∙ ap (Begins (PjlLine line) len) n ∙ sym (ap by_pjl e)
+    ap (λ o. Begins (PjlLine (pjl_read o)) len next) (read_again ((lines_by_rules bytes).line line len e))
+    ∙ ap (Begins (PjlLine line) len) n ∙ sym (ap by_pjl e)
 
 unit_positive : {text : List ℕ} {line : PjlCommand} → IsPjlUnit text line → 1 ≤ length text
 unit_positive (whole_line words h e short) = omega (arith, length-append words (10 ∷ []))
 
-pub line_within : (bytes : List ℕ) (line : PjlCommand) (len : ℕ) → lines.at_pjl bytes ≡ lines.Begins line len → (len ≤ length bytes) × (1 ≤ len)
+pub line_within : (bytes : List ℕ) (line : PjlCommand) (len : ℕ) → lines.at_pjl bytes ≡ lines.Begins line len →
+    (len ≤ length bytes) × (1 ≤ len)
 line_within bytes line len e =
     let b = (lines_by_rules bytes).line line len e in
     (omega (arith, b.size, ap length b.all, length-append b.text b.rest), omega (arith, b.size, unit_positive b.unit))
 
 -- behind the characters of a group, where no line stands
-pub grouped_view : (g : Group) (x y z : ℕ) (bytes : List ℕ) (len : ℕ) (head : Head) (next : code_context.Context) → data_len head ≤ len → first_view bytes (firsts.Begins len head next) ≡ command_in g bytes →
+pub grouped_view : (g : Group) (x y z : ℕ) (bytes : List ℕ) (len : ℕ) (head : Head) (next : code_context.Context) → data_len head ≤ len →
+    first_view bytes (firsts.Begins len head next) ≡ command_in g bytes →
     first_view (x ∷ y ∷ z ∷ bytes) (firsts.Begins (3 + len) head next) ≡ behind 3 (command_in g bytes)
 grouped_view g x y z bytes len (heads.Text byte) next h e = ap (behind 3) e
 grouped_view g x y z bytes len (heads.Simple item) next h e = ap (behind 3) e

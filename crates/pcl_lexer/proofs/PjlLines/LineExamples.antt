@@ -19,7 +19,8 @@ unknown_word : pjl_command_of (codes "@PJL SET") ≡ None
 unfolding pjl_command_of trimmed in_words is_word
 unknown_word = refl
 
-named_job : pjl_command_of (codes "@PJL  job name = \"x\"   Display=\"y\" " ++ 13 ∷ []) ≡ Some (JobBegins (codes "name = \"x\"   Display=\"y\""))
+named_job :
+    pjl_command_of (codes "@PJL  job name = \"x\"   Display=\"y\" " ++ 13 ∷ []) ≡ Some (JobBegins (codes "name = \"x\"   Display=\"y\""))
 unfolding pjl_command_of trimmed in_words is_word past_part parts_behind
 named_job = refl
 
@@ -39,7 +40,8 @@ job_end : pjl_command_of (codes "@PJL" ++ 9 ∷ codes "EOJ" ++ 13 ∷ []) ≡ So
 unfolding pjl_command_of trimmed in_words is_word
 job_end = refl
 
-two_names : pjl_command_of (codes "@PJL JOB" ++ 13 ∷ codes "NAME=\"x\"" ++ 9 ∷ codes "NAME=\"y\"") ≡ Some (JobBegins (codes "NAME=\"x\"" ++ 9 ∷ codes "NAME=\"y\""))
+two_names : pjl_command_of (codes "@PJL JOB" ++ 13 ∷ codes "NAME=\"x\"" ++ 9 ∷ codes "NAME=\"y\"")
+    ≡ Some (JobBegins (codes "NAME=\"x\"" ++ 9 ∷ codes "NAME=\"y\""))
 unfolding pjl_command_of trimmed in_words is_word past_part parts_behind
 two_names = refl
 

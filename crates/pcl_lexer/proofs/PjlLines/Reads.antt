@@ -1,16 +1,21 @@
 -- A line as it is read, and by the rules.
-use Rattle.std.proofs.Common.{◌≡◌, ℕ, zero, suc, ◌≤◌, List, [], ◌∷◌, ◌++◌, length, Bool, true, false, cond, Option, None, Some, refl, sym, ap, subst, ◌∙◌, arith}
+use Rattle.std.proofs.Common.{◌≡◌, ℕ, zero, suc, ◌≤◌, List, [], ◌∷◌, ◌++◌, length, Bool, true, false, cond, Option, None, Some, refl, sym}
+use Rattle.std.proofs.Common.{ap, subst, ◌∙◌, arith}
 use Rattle.std.proofs.Common.{inl, inr}
 use Rattle.std.specs.Prelude.{◌==◌, ◌||◌, ◌⊎◌, not}
 use Rattle.std.proofs.lemmas.Bool.{and_from, cond_both, cond-true}
 use Rattle.std.proofs.lemmas.List.{append-nil, append_assoc, length-append}
 use Rattle.pcl_items.specs.declared.pjl.Word.{Word}
 use Rattle.pcl_items.specs.declared.pjl.Word.TheVariants as words
-use Rattle.pcl_items.specs.PjlLines.Text.{is_blank, is_name_byte, is_quotable, PjlCommand, JobBegins, JobEnds, EnterPcl, name, display, language, pcl}
-use Rattle.pcl_items.specs.PjlLines.Reader.{front, past, is_word, past_byte, past_blanks, past_equals, past_text, past_value, is_name, past_part, parts_behind, are_parts, is_pcl, is_language, with_text}
+use Rattle.pcl_items.specs.PjlLines.Text.{is_blank, is_name_byte, is_quotable, PjlCommand, JobBegins, JobEnds, EnterPcl, name, display}
+use Rattle.pcl_items.specs.PjlLines.Text.{language, pcl}
+use Rattle.pcl_items.specs.PjlLines.Reader.{front, past, is_word, past_byte, past_blanks, past_equals, past_text, past_value, is_name}
+use Rattle.pcl_items.specs.PjlLines.Reader.{past_part, parts_behind, are_parts, is_pcl, is_language, with_text}
 use Rattle.pcl_lexer.specs.PjlLines.Syntax as rules
-use Rattle.pcl_lexer.specs.PjlLines.Syntax.{Each, AreBlanks, IsWord, BeginsSolid, EndsSolid, IsEquals, IsName, IsPart, AreParts, IsText, AreWords, IsPjlCommand}
-use Rattle.pcl_lexer.proofs.PjlLines.Spans.{both_true, Stops, front_is, past_is, front_past, each_front, stops_past, value_of, byte_there, word_told, word_read, is_upper, letters}
+use Rattle.pcl_lexer.specs.PjlLines.Syntax.{Each, AreBlanks, IsWord, BeginsSolid, EndsSolid, IsEquals, IsName, IsPart, AreParts, IsText}
+use Rattle.pcl_lexer.specs.PjlLines.Syntax.{AreWords, IsPjlCommand}
+use Rattle.pcl_lexer.proofs.PjlLines.Spans.{both_true, Stops, front_is, past_is, front_past, each_front, stops_past, value_of, byte_there}
+use Rattle.pcl_lexer.proofs.PjlLines.Spans.{word_told, word_read, is_upper, letters}
 
 -- ---- an equals sign
 
@@ -27,7 +32,8 @@ sign_read sign rest (rules.equals before after hb ha) s =
     ∙ ap (λ l. past_blanks (past_byte 61 l)) (past_is is_blank before (61 ∷ (after ++ rest)) hb refl)
     ∙ ap (λ l. Some l) (past_is is_blank after rest ha s)
 
-sign_behind : (bytes rest : List ℕ) (o : Option (List ℕ)) → past_byte 61 (past is_blank bytes) ≡ o → past_blanks o ≡ Some rest → Equals bytes rest
+sign_behind : (bytes rest : List ℕ) (o : Option (List ℕ)) → past_byte 61 (past is_blank bytes) ≡ o → past_blanks o ≡ Some rest →
+    Equals bytes rest
 sign_behind bytes rest None e h = absurd cc
 sign_behind bytes rest (Some more) e h =
     let r : past is_blank more ≡ rest = ap value_of h in
@@ -35,7 +41,10 @@ sign_behind bytes rest (Some more) e h =
     record {
       sign = front is_blank bytes ++ 61 ∷ front is_blank more;
       is_sign = rules.equals (front is_blank bytes) (front is_blank more) (each_front is_blank bytes) (each_front is_blank more);
-      text = front_past is_blank bytes ∙ ap (λ l. front is_blank bytes ++ l) (b ∙ ap (λ l. 61 ∷ l) (front_past is_blank more ∙ ap (λ l. front is_blank more ++ l) r)) ∙ sym (append_assoc (front is_blank bytes) (61 ∷ front is_blank more) rest);
+      text =
+          front_past is_blank bytes
+          ∙ ap (λ l. front is_blank bytes ++ l) (b ∙ ap (λ l. 61 ∷ l) (front_past is_blank more ∙ ap (λ l. front is_blank more ++ l) r))
+          ∙ sym (append_assoc (front is_blank bytes) (61 ∷ front is_blank more) rest);
       stops = subst (Stops is_blank) r (stops_past is_blank more);
     }
 
@@ -97,17 +106,21 @@ name_letters true title (inr h) = of_letters title display h (refl, (refl, (refl
 name_letters false title h = of_letters title name h (refl, (refl, (refl, (refl, tt))))
 
 quoted : (text rest : List ℕ) → Each is_quotable text → past_value (Some (34 ∷ ((text ++ 34 ∷ []) ++ rest))) ≡ Some rest
-quoted text rest h = ap (λ l. past_byte 34 (past is_quotable l)) (append_assoc text (34 ∷ []) rest) ∙ ap (past_byte 34) (past_is is_quotable text (34 ∷ rest) h refl)
+quoted text rest h =
+    ap (λ l. past_byte 34 (past is_quotable l)) (append_assoc text (34 ∷ []) rest)
+    ∙ ap (past_byte 34) (past_is is_quotable text (34 ∷ rest) h refl)
 
 pub part_read : (job : Bool) (part rest : List ℕ) → IsPart (word_of job) part → past_part job (part ++ rest) ≡ Some rest
 unfolding past_part
 part_read job part rest (rules.part {sign = sign} title text hn hs ht) =
     let value = 34 ∷ (text ++ 34 ∷ []) in
-    let behind : part ++ rest ≡ title ++ (sign ++ (value ++ rest)) = append_assoc title (sign ++ value) rest ∙ ap (λ l. title ++ l) (append_assoc sign value rest) in
+    let behind : part ++ rest ≡ title ++ (sign ++ (value ++ rest)) =
+    append_assoc title (sign ++ value) rest ∙ ap (λ l. title ++ l) (append_assoc sign value rest) in
     let ls = name_letters job title hn in
     let st = sign_stops sign (value ++ rest) hs in
     ap (past_part job) behind
-    ∙ cond-true (is_name job (front is_name_byte (title ++ (sign ++ (value ++ rest))))) _ None (ap (is_name job) (front_is is_name_byte title (sign ++ (value ++ rest)) ls st) ∙ name_read job title hn)
+    ∙ cond-true (is_name job (front is_name_byte (title ++ (sign ++ (value ++ rest))))) _ None
+    (ap (is_name job) (front_is is_name_byte title (sign ++ (value ++ rest)) ls st) ∙ name_read job title hn)
     ∙ ap (λ l. past_value (past_equals l)) (past_is is_name_byte title (sign ++ (value ++ rest)) ls st)
     ∙ ap past_value (sign_read sign (value ++ rest) hs refl)
     ∙ quoted text rest ht
@@ -123,22 +136,35 @@ value_behind bytes rest None e h = absurd cc
 value_behind bytes rest (Some more) e h = record {
   text = front is_quotable more;
   is_text = each_front is_quotable more;
-  spelled = byte_there 34 bytes more e ∙ ap (λ l. 34 ∷ l) (front_past is_quotable more ∙ ap (λ l. front is_quotable more ++ l) (byte_there 34 (past is_quotable more) rest h));
+  spelled =
+      byte_there 34 bytes more e
+      ∙ ap (λ l. 34 ∷ l)
+      (front_past is_quotable more ∙ ap (λ l. front is_quotable more ++ l) (byte_there 34 (past is_quotable more) rest h));
 }
 
-part_from : (job : Bool) (bytes rest value : List ℕ) → IsName (word_of job) (front is_name_byte bytes) → Equals (past is_name_byte bytes) value → Value value rest → Part job bytes rest
+part_from : (job : Bool) (bytes rest value : List ℕ) → IsName (word_of job) (front is_name_byte bytes) →
+    Equals (past is_name_byte bytes) value → Value value rest → Part job bytes rest
 part_from job bytes rest value n e v = record {
   part = front is_name_byte bytes ++ (e.sign ++ 34 ∷ (v.text ++ 34 ∷ []));
   is_part = rules.part (front is_name_byte bytes) v.text n e.is_sign v.is_text;
-  text = front_past is_name_byte bytes ∙ ap (λ l. front is_name_byte bytes ++ l) (e.text ∙ ap (λ l. e.sign ++ l) (v.spelled ∙ ap (λ l. 34 ∷ l) (sym (append_assoc v.text (34 ∷ []) rest))) ∙ sym (append_assoc e.sign (34 ∷ (v.text ++ 34 ∷ [])) rest)) ∙ sym (append_assoc (front is_name_byte bytes) (e.sign ++ 34 ∷ (v.text ++ 34 ∷ [])) rest);
+  text =
+      front_past is_name_byte bytes
+      ∙ ap (λ l. front is_name_byte bytes ++ l)
+      (e.text ∙ ap (λ l. e.sign ++ l) (v.spelled ∙ ap (λ l. 34 ∷ l) (sym (append_assoc v.text (34 ∷ []) rest)))
+      ∙ sym (append_assoc e.sign (34 ∷ (v.text ++ 34 ∷ [])) rest))
+      ∙ sym (append_assoc (front is_name_byte bytes) (e.sign ++ 34 ∷ (v.text ++ 34 ∷ [])) rest);
 }
 
-part_by_value : (job : Bool) (bytes rest : List ℕ) (o : Option (List ℕ)) → IsName (word_of job) (front is_name_byte bytes) → past_equals (past is_name_byte bytes) ≡ o → past_value o ≡ Some rest → Part job bytes rest
+part_by_value : (job : Bool) (bytes rest : List ℕ) (o : Option (List ℕ)) → IsName (word_of job) (front is_name_byte bytes) →
+    past_equals (past is_name_byte bytes) ≡ o → past_value o ≡ Some rest → Part job bytes rest
 part_by_value job bytes rest None n e h = absurd cc
-part_by_value job bytes rest (Some value) n e h = part_from job bytes rest value n (sign_told (past is_name_byte bytes) value e) (value_behind value rest (past_byte 34 value) refl h)
+part_by_value job bytes rest (Some value) n e h =
+    part_from job bytes rest value n (sign_told (past is_name_byte bytes) value e) (value_behind value rest (past_byte 34 value) refl h)
 
-part_by_name : (job : Bool) (bytes rest : List ℕ) (c : Bool) → is_name job (front is_name_byte bytes) ≡ c → cond c (past_value (past_equals (past is_name_byte bytes))) None ≡ Some rest → Part job bytes rest
-part_by_name job bytes rest true e h = part_by_value job bytes rest (past_equals (past is_name_byte bytes)) (name_told job (front is_name_byte bytes) e) refl h
+part_by_name : (job : Bool) (bytes rest : List ℕ) (c : Bool) → is_name job (front is_name_byte bytes) ≡ c →
+    cond c (past_value (past_equals (past is_name_byte bytes))) None ≡ Some rest → Part job bytes rest
+part_by_name job bytes rest true e h =
+    part_by_value job bytes rest (past_equals (past is_name_byte bytes)) (name_told job (front is_name_byte bytes) e) refl h
 part_by_name job bytes rest false e h = absurd cc
 
 pub part_told : (job : Bool) (bytes rest : List ℕ) → past_part job bytes ≡ Some rest → Part job bytes rest
@@ -147,7 +173,8 @@ part_told job bytes rest h = part_by_name job bytes rest (is_name job (front is_
 
 -- ---- parts
 
-parts_from : (job : Bool) (n : ℕ) (text : List ℕ) (o : Option (List ℕ)) → past_part job text ≡ o → parts_behind job n o ≡ true → AreParts (word_of job) text
+parts_from : (job : Bool) (n : ℕ) (text : List ℕ) (o : Option (List ℕ)) → past_part job text ≡ o → parts_behind job n o ≡ true →
+    AreParts (word_of job) text
 unfolding parts_behind
 parts_from job n text None e h = absurd cc
 parts_from job n text (Some []) e h =
@@ -158,7 +185,8 @@ parts_from job (suc n) text (Some (b ∷ bytes)) e h =
     let p = part_told job text (b ∷ bytes) e in
     let t = both_true (is_blank b) (parts_behind job n (past_part job (past is_blank bytes))) h in
     let others = parts_from job n (past is_blank bytes) (past_part job (past is_blank bytes)) refl t.1 in
-    subst (AreParts (word_of job)) (sym (p.text ∙ ap (λ l. p.part ++ b ∷ l) (front_past is_blank bytes))) (rules.more b (front is_blank bytes) p.is_part t.0 (each_front is_blank bytes) others)
+    subst (AreParts (word_of job)) (sym (p.text ∙ ap (λ l. p.part ++ b ∷ l) (front_past is_blank bytes)))
+    (rules.more b (front is_blank bytes) p.is_part t.0 (each_front is_blank bytes) others)
 
 pub parts_told : (n : ℕ) (b : ℕ) (text : List ℕ) → are_parts true n (b ∷ text) ≡ true → AreParts words.Job (b ∷ text)
 parts_told n b text h = parts_from true n (b ∷ text) (past_part true (b ∷ text)) refl h
@@ -180,7 +208,8 @@ letter_begins : (b : ℕ) → is_name_byte b ≡ true → is_blank b ≡ false
 letter_begins b h = no_blank (is_blank b) (b == 61) h
 
 -- a name is some text, with no blank in front
-name_begins : (title capitals rest : List ℕ) (c : ℕ) → IsWord (c ∷ capitals) title → Each is_name_byte title → Stops is_blank (title ++ rest)
+name_begins : (title capitals rest : List ℕ) (c : ℕ) → IsWord (c ∷ capitals) title → Each is_name_byte title →
+    Stops is_blank (title ++ rest)
 name_begins [] capitals rest c w h = absurd cc
 name_begins (b ∷ title) capitals rest c w h = letter_begins b h.0
 
@@ -190,7 +219,8 @@ title_begins title rest (inr h) = name_begins title (73 ∷ 83 ∷ 80 ∷ 76 ∷
 
 part_begins : (part rest : List ℕ) → IsPart words.Job part → Stops is_blank (part ++ rest)
 part_begins part rest (rules.part {sign = sign} title text hn hs ht) =
-    subst (Stops is_blank) (sym (append_assoc title (sign ++ 34 ∷ (text ++ 34 ∷ [])) rest)) (title_begins title ((sign ++ 34 ∷ (text ++ 34 ∷ [])) ++ rest) hn)
+    subst (Stops is_blank) (sym (append_assoc title (sign ++ 34 ∷ (text ++ 34 ∷ [])) rest))
+    (title_begins title ((sign ++ 34 ∷ (text ++ 34 ∷ [])) ++ rest) hn)
 
 parts_begin : (text : List ℕ) → AreParts words.Job text → Stops is_blank text
 parts_begin text (rules.one h) = subst (Stops is_blank) (append-nil text) (part_begins text [] h)
@@ -199,7 +229,8 @@ parts_begin text (rules.more {part = part} {parts = parts} b blanks h e hb other
 pub parts_read : (n : ℕ) (text : List ℕ) → length text ≤ n → AreParts words.Job text → parts_behind true n (past_part true text) ≡ true
 unfolding parts_behind
 parts_read n text l (rules.one h) = ap (parts_behind true n) (ap (past_part true) (sym (append-nil text)) ∙ part_read true text [] h)
-parts_read zero text l (rules.more {part = part} {parts = parts} b blanks h e hb others) = absurd (omega (arith, l, length-append part (b ∷ (blanks ++ parts))))
+parts_read zero text l (rules.more {part = part} {parts = parts} b blanks h e hb others) =
+    absurd (omega (arith, l, length-append part (b ∷ (blanks ++ parts))))
 parts_read (suc n) text l (rules.more {part = part} {parts = parts} b blanks h e hb others) =
     ap (parts_behind true (suc n)) (part_read true part (b ∷ (blanks ++ parts)) h)
     ∙ and_from (is_blank b) (parts_behind true n (past_part true (past is_blank (blanks ++ parts)))) e
@@ -212,22 +243,28 @@ language_letters : (title : List ℕ) → IsWord language title → Each is_name
 language_letters title h = of_letters title language h (refl, (refl, (refl, (refl, (refl, (refl, (refl, (refl, tt))))))))
 
 pcl_begins : (value : List ℕ) → IsWord pcl value → Stops is_blank value
-pcl_begins value h = subst (Stops is_blank) (append-nil value) (name_begins value (67 ∷ 76 ∷ []) [] 80 h (of_letters value pcl h (refl, (refl, (refl, tt)))))
+pcl_begins value h =
+    subst (Stops is_blank) (append-nil value) (name_begins value (67 ∷ 76 ∷ []) [] 80 h (of_letters value pcl h (refl, (refl, (refl, tt)))))
 
-pub language_read : (sign title value : List ℕ) → IsWord language title → IsEquals sign → IsWord pcl value → is_language (title ++ (sign ++ value)) ≡ true
+pub language_read : (sign title value : List ℕ) → IsWord language title → IsEquals sign → IsWord pcl value →
+    is_language (title ++ (sign ++ value)) ≡ true
 unfolding is_language
 language_read sign title value ht hs hv =
     let ls = language_letters title ht in
     let st = sign_stops sign value hs in
-    and_from (is_word (front is_name_byte (title ++ (sign ++ value))) language) (is_pcl (past_equals (past is_name_byte (title ++ (sign ++ value)))))
+    and_from (is_word (front is_name_byte (title ++ (sign ++ value))) language)
+    (is_pcl (past_equals (past is_name_byte (title ++ (sign ++ value)))))
     (ap (λ l. is_word l language) (front_is is_name_byte title (sign ++ value) ls st) ∙ word_read title language ht)
-    (ap (λ l. is_pcl (past_equals l)) (past_is is_name_byte title (sign ++ value) ls st) ∙ ap is_pcl (sign_read sign value hs (pcl_begins value hv)) ∙ word_read value pcl hv)
+    (ap (λ l. is_pcl (past_equals l)) (past_is is_name_byte title (sign ++ value) ls st)
+    ∙ ap is_pcl (sign_read sign value hs (pcl_begins value hv)) ∙ word_read value pcl hv)
 
-language_from : (text : List ℕ) (o : Option (List ℕ)) → IsWord language (front is_name_byte text) → past_equals (past is_name_byte text) ≡ o → is_pcl o ≡ true → IsText words.Enter text EnterPcl
+language_from : (text : List ℕ) (o : Option (List ℕ)) → IsWord language (front is_name_byte text) →
+    past_equals (past is_name_byte text) ≡ o → is_pcl o ≡ true → IsText words.Enter text EnterPcl
 language_from text None w e h = absurd cc
 language_from text (Some value) w e h =
     let s = sign_told (past is_name_byte text) value e in
-    subst (λ t. IsText words.Enter t EnterPcl) (sym (front_past is_name_byte text ∙ ap (λ l. front is_name_byte text ++ l) s.text)) (rules.enter (front is_name_byte text) value w s.is_sign (word_told value pcl h))
+    subst (λ t. IsText words.Enter t EnterPcl) (sym (front_past is_name_byte text ∙ ap (λ l. front is_name_byte text ++ l) s.text))
+    (rules.enter (front is_name_byte text) value w s.is_sign (word_told value pcl h))
 
 pub language_told : (text : List ℕ) → is_language text ≡ true → IsText words.Enter text EnterPcl
 unfolding is_language
@@ -252,7 +289,8 @@ text_read word text line rules.job = refl
 text_read word text line (rules.named_job h) = cond-true (are_parts true (length text) text) (Some (JobBegins text)) None (job_read text h)
 text_read word text line rules.job_end = refl
 text_read word text line (rules.named_end h) = cond-true (are_parts false 0 text) (Some (JobEnds text)) None (end_read text h)
-text_read word text line (rules.enter {sign = sign} title value ht hs hv) = cond-true (is_language (title ++ (sign ++ value))) (Some EnterPcl) None (language_read sign title value ht hs hv)
+text_read word text line (rules.enter {sign = sign} title value ht hs hv) =
+    cond-true (is_language (title ++ (sign ++ value))) (Some EnterPcl) None (language_read sign title value ht hs hv)
 
 -- a line that is read, by the line that it is
 abbrev pub Told : Word → List ℕ → Option PjlCommand → Type 0

@@ -1,5 +1,6 @@
 -- The front of bytes that a class of bytes makes, and words.
-use Rattle.std.proofs.Common.{◌≡◌, ℕ, zero, suc, ◌+◌, ◌≤◌, List, [], ◌∷◌, ◌++◌, length, take, drop, Bool, true, false, cond, Option, None, Some, refl, sym, ap, subst, ◌∙◌, arith}
+use Rattle.std.proofs.Common.{◌≡◌, ℕ, zero, suc, ◌+◌, ◌≤◌, List, [], ◌∷◌, ◌++◌, length, take, drop, Bool, true, false, cond, Option, None}
+use Rattle.std.proofs.Common.{Some, refl, sym, ap, subst, ◌∙◌, arith}
 use Rattle.std.specs.Prelude.{◌==◌, ◌&&◌, map}
 use Rattle.std.specs.Int.{is_in_range}
 use Rattle.std.specs.List.{prefix_len}
@@ -53,7 +54,8 @@ past_by false n x xs = refl
 
 pub stops_past : (p : ℕ → Bool) (xs : List ℕ) → Stops p (past p xs)
 stops_past p [] = tt
-stops_past p (x ∷ xs) = subst (Stops p) (sym (past_by (p x) (prefix_len p xs) x xs)) (cond_both (p x) _ _ (Stops p) (λ _. stops_past p xs) (λ e. e))
+stops_past p (x ∷ xs) =
+    subst (Stops p) (sym (past_by (p x) (prefix_len p xs) x xs)) (cond_both (p x) _ _ (Stops p) (λ _. stops_past p xs) (λ e. e))
 
 -- ---- a byte
 

@@ -1,5 +1,6 @@
 -- Blanks at the end.
-use Rattle.std.proofs.Common.{◌≡◌, ℕ, zero, suc, ◌-◌, ◌<◌, ◌≤◌, List, [], ◌∷◌, ◌++◌, length, take, Bool, true, false, refl, sym, ap, subst, ◌∙◌, arith, get_or}
+use Rattle.std.proofs.Common.{◌≡◌, ℕ, zero, suc, ◌-◌, ◌<◌, ◌≤◌, List, [], ◌∷◌, ◌++◌, length, take, Bool, true, false, refl, sym, ap, subst}
+use Rattle.std.proofs.Common.{◌∙◌, arith, get_or}
 use Rattle.std.proofs.lemmas.Bool.{cond-true, cond-false}
 use Rattle.pcl_items.specs.PjlLines.Text.{is_blank}
 use Rattle.pcl_items.specs.PjlLines.Reader.{trimmed, kept}
@@ -85,7 +86,8 @@ one_blank [] n h e = absurd (omega (arith, h))
 one_blank (x ∷ xs) zero h e = kept_nothing x e
 one_blank (x ∷ xs) (suc n) h e = ap (kept x) (one_blank xs n (omega (arith, h)) e)
 
-pub blank_last : (xs : List ℕ) (n : ℕ) → 0 < n → n ≤ length xs → is_blank (get_or xs (n - 1) 0) ≡ true → trimmed (take (n - 1) xs) ≡ trimmed (take n xs)
+pub blank_last : (xs : List ℕ) (n : ℕ) → 0 < n → n ≤ length xs → is_blank (get_or xs (n - 1) 0) ≡ true →
+    trimmed (take (n - 1) xs) ≡ trimmed (take n xs)
 blank_last xs zero p h e = absurd (omega (arith, p))
 blank_last xs (suc n) p h e =
     let q : suc n - 1 ≡ n = omega arith in

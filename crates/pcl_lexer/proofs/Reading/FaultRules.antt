@@ -1,5 +1,6 @@
 -- What has a rule of a fault is read as that fault.
-use Rattle.std.proofs.Common.{◌≡◌, ℕ, ◌+◌, ◌<◌, ◌≤◌, List, [], ◌∷◌, ◌++◌, length, Bool, true, false, cond, Option, None, Some, refl, sym, ap, subst, ◌∙◌, arith, inl, inr}
+use Rattle.std.proofs.Common.{◌≡◌, ℕ, ◌+◌, ◌<◌, ◌≤◌, List, [], ◌∷◌, ◌++◌, length, Bool, true, false, cond, Option, None, Some, refl, sym}
+use Rattle.std.proofs.Common.{ap, subst, ◌∙◌, arith, inl, inr}
 use Rattle.std.specs.Prelude.{◌==◌, ◌||◌, nat_lt, nat_le}
 use Rattle.std.specs.Int.{is_in_range}
 use Rattle.std.proofs.lemmas.Bool.{eqb-true, cond-true, cond-false, and_from, le-leb, leb-true}
@@ -11,19 +12,27 @@ use Rattle.pcl_items.specs.declared.fault.Name.TheVariants as names
 use Rattle.pcl_items.specs.declared.fault.LexCause.{LexCause}
 use Rattle.pcl_items.specs.declared.fault.LexCause.TheVariants.{Syntax, Truncated, NotInProfile, BadNumber}
 use Rattle.pcl_items.specs.declared.item.Mode.TheVariants as modes
-use Rattle.pcl_items.specs.Escapes.Commands.{introducer_of, character_of, group_at, command_at, data_group_of, data_letter_of, data_command_at}
+use Rattle.pcl_items.specs.Escapes.Commands.{introducer_of, character_of, group_at, command_at, data_group_of, data_letter_of}
+use Rattle.pcl_items.specs.Escapes.Commands.{data_command_at}
 use Rattle.pcl_items.specs.Escapes.Value.{Amount, Counts}
 use Rattle.pcl_lexer.specs.Escapes.Field.{field_at}
 use Rattle.pcl_items.specs.Escapes.ValueField.{IsField}
 use Rattle.pcl_lexer.specs.Grammar.{small}
 use Rattle.pcl_items.specs.Escapes.Codes.{escape, control_at, sequence_at}
-use Rattle.pcl_lexer.specs.Reader.{First, Open, Passes, Begins, Faulty, behind, named, with_data, by_last_letter, by_other_letter, by_last_byte, after_field, command_in, is_group_or_parameter, is_termination, ungrouped, by_termination, after_ungrouped_field, without_group, in_group, after_introducer, after_parenthesis, by_character, after_escape, by_code, exit_or, first_of}
+use Rattle.pcl_lexer.specs.Reader.{First, Open, Passes, Begins, Faulty, behind, named, with_data, by_last_letter, by_other_letter}
+use Rattle.pcl_lexer.specs.Reader.{by_last_byte, after_field, command_in, is_group_or_parameter, is_termination, ungrouped, by_termination}
+use Rattle.pcl_lexer.specs.Reader.{after_ungrouped_field, without_group, in_group, after_introducer, after_parenthesis, by_character}
+use Rattle.pcl_lexer.specs.Reader.{after_escape, by_code, exit_or, first_of}
 use Rattle.pcl_lexer.specs.Escapes.Ungrouped.{ungrouped_at, count_of}
 use Rattle.pcl_lexer.specs.Faults as rules
-use Rattle.pcl_lexer.specs.Faults.{Ends, NumberFault, IsCut, IsCapital, IsSmall, IsUnknown, CommandFault, number, no_letter, unknown_last, unknown_more, data_goes_on, no_count, cut_data, cut_command, UngroupedFault, ungrouped_number, no_end, unknown_end, cut_ungrouped, HasGroups, BeginsSmall, UnitFault, no_byte, cut_escape, no_sequence, no_character, cut_introducer, no_group, unknown_group, font, language}
+use Rattle.pcl_lexer.specs.Faults.{Ends, NumberFault, IsCut, IsCapital, IsSmall, IsUnknown, CommandFault, number, no_letter, unknown_last}
+use Rattle.pcl_lexer.specs.Faults.{unknown_more, data_goes_on, no_count, cut_data, cut_command, UngroupedFault, ungrouped_number, no_end}
+use Rattle.pcl_lexer.specs.Faults.{unknown_end, cut_ungrouped, HasGroups, BeginsSmall, UnitFault, no_byte, cut_escape, no_sequence}
+use Rattle.pcl_lexer.specs.Faults.{no_character, cut_introducer, no_group, unknown_group, font, language}
 use Rattle.pcl_items.specs.PjlLines.Exit.{exit_field, BeginsExit, begins_with}
 use Rattle.pcl_lexer.proofs.PjlLines.Exits.{no_exit}
-use Rattle.pcl_lexer.proofs.Escapes.Tables.{both_true, by_test, command_found, group_found, no_sequence_outside, data_command_known, data_command_found, data_capital_letter}
+use Rattle.pcl_lexer.proofs.Escapes.Tables.{both_true, by_test, command_found, group_found, no_sequence_outside, data_command_known}
+use Rattle.pcl_lexer.proofs.Escapes.Tables.{data_command_found, data_capital_letter}
 use Rattle.pcl_lexer.proofs.Escapes.Counted.{counted, counts_of}
 use Rattle.pcl_lexer.proofs.Escapes.Ungrouped.{ungrouped_none}
 use Rattle.pcl_lexer.proofs.Escapes.Fields.{EndsIn, ends_at_letter}
@@ -44,19 +53,22 @@ no_command_at g letter (Some command) h e = let t = command_found g letter comma
 
 no_data_at : (g : Group) (letter : ℕ) (o : Option DataCommand) → IsUnknown g letter → data_command_at g letter ≡ o → o ≡ None
 no_data_at g letter None h e = refl
-no_data_at g letter (Some command) h e = let t = data_command_found g letter command e in absurd (h.no_data_command command (sym t.0) (sym t.1))
+no_data_at g letter (Some command) h e =
+    let t = data_command_found g letter command e in absurd (h.no_data_command command (sym t.0) (sym t.1))
 
 no_count_at : (a : Amount) (o : Option ℕ) → ((n : ℕ) → Counts a n → ⊥) → count_of a ≡ o → o ≡ None
 no_count_at a None h e = refl
 no_count_at a (Some n) h e = absurd (h n (counts_of a n e))
 
-field_ends : (text : List ℕ) (a : Amount) (c : ℕ) (rest : List ℕ) (f : IsField text a) → Ends text c → EndsIn a.sign f.whole f.fraction (c ∷ rest)
+field_ends : (text : List ℕ) (a : Amount) (c : ℕ) (rest : List ℕ) (f : IsField text a) → Ends text c →
+    EndsIn a.sign f.whole f.fraction (c ∷ rest)
 field_ends text a c rest f e = ends_in text a.sign f.whole f.fraction c rest f.shape e
 
 pub command_causes : (g : Group) (bytes : List ℕ) (cause : LexCause) → CommandFault g bytes cause → Causes (command_in g bytes) cause
 unfolding command_in
 command_causes _ _ _ (number {group = g} {bytes = bytes} h) =
-    causes_fault (command_in g bytes) BadNumber (number_fault (after_field g) bytes (λ f c rest e. ap (λ o. by_last_byte o g f.len c rest) e) h)
+    causes_fault (command_in g bytes) BadNumber
+    (number_fault (after_field g) bytes (λ f c rest e. ap (λ o. by_last_byte o g f.len c rest) e) h)
 command_causes _ _ _ (no_letter {group = g} {text = text} {amount = a} {byte = c} rest f ends no_capital no_small) =
     causes_fault (command_in g (text ++ c ∷ rest)) Syntax (by_field g text a c rest f (field_ends text a c rest f ends)
     ∙ cond-false (is_group_or_parameter c) _ _ (by_test (is_group_or_parameter c) (λ e. no_small (small_is c e)))
@@ -89,15 +101,18 @@ command_causes _ _ _ (cut_command {group = g} {bytes = bytes} h) = causes_open (
 ungrouped_causes : (i : ℕ) (bytes : List ℕ) (cause : LexCause) → UngroupedFault i bytes cause → Causes (without_group i bytes) cause
 unfolding without_group
 ungrouped_causes _ _ _ (ungrouped_number {introducer = i} {bytes = bytes} h) =
-    causes_fault (without_group i bytes) BadNumber (number_fault (after_ungrouped_field i) bytes (λ f c rest e. ap (λ o. by_termination o i f.len c) e) h)
+    causes_fault (without_group i bytes) BadNumber
+    (number_fault (after_ungrouped_field i) bytes (λ f c rest e. ap (λ o. by_termination o i f.len c) e) h)
 ungrouped_causes _ _ _ (no_end {introducer = i} {text = text} {amount = a} {byte = c} rest f ends no_capital) =
     causes_fault (without_group i (text ++ c ∷ rest)) Syntax (ungrouped_field i text a c rest f (field_ends text a c rest f ends)
     ∙ cond-false (is_termination c) _ _ (by_test (is_termination c) (λ e. no_capital (capital_is c e))))
 ungrouped_causes _ _ _ (unknown_end {introducer = i} {text = text} {amount = a} {letter = c} rest f capital none) =
-    causes_fault (without_group i (text ++ c ∷ rest)) (NotInProfile (names.Pair i c)) (ungrouped_field i text a c rest f (ends_at_letter a.sign f.whole f.fraction c rest (omega (arith, capital.0)))
+    causes_fault (without_group i (text ++ c ∷ rest)) (NotInProfile (names.Pair i c))
+    (ungrouped_field i text a c rest f (ends_at_letter a.sign f.whole f.fraction c rest (omega (arith, capital.0)))
     ∙ cond-true (is_termination c) _ _ (is_capital c capital)
     ∙ ap (λ o. ungrouped o i c (length text + 3)) (ungrouped_none i a c (ungrouped_at i a c) none refl))
-ungrouped_causes _ _ _ (cut_ungrouped {introducer = i} {bytes = bytes} h) = causes_open (without_group i bytes) (cut_read (after_ungrouped_field i) bytes h).1
+ungrouped_causes _ _ _ (cut_ungrouped {introducer = i} {bytes = bytes} h) =
+    causes_open (without_group i bytes) (cut_read (after_ungrouped_field i) bytes h).1
 
 -- ---- a unit
 
@@ -112,16 +127,28 @@ behind_causes n (Begins item len next) cause h = h
 behind_causes n (Faulty c) cause h = h
 
 -- after an introducer, at a byte that is a group character or not
-small_introducer : (b c : ℕ) (rest : List ℕ) → HasGroups b → IsSmall c → first_of true Pcl (escape ∷ b ∷ c ∷ rest) ≡ in_group (group_at b c) b c rest
+small_introducer : (b c : ℕ) (rest : List ℕ) → HasGroups b → IsSmall c →
+    first_of true Pcl (escape ∷ b ∷ c ∷ rest) ≡ in_group (group_at b c) b c rest
 unfolding first_of after_escape after_introducer after_parenthesis
-small_introducer b c rest (inl e) s = ap (λ n. first_of true Pcl (escape ∷ n ∷ c ∷ rest)) e ∙ cond-true (is_group_or_parameter c) _ _ (is_small c s) ∙ sym (ap (λ n. in_group (group_at n c) n c rest) e)
-small_introducer b c rest (inr (inl e)) s = ap (λ n. first_of true Pcl (escape ∷ n ∷ c ∷ rest)) e ∙ cond-true (is_group_or_parameter c) _ _ (is_small c s) ∙ sym (ap (λ n. in_group (group_at n c) n c rest) e)
-small_introducer b c rest (inr (inr e)) s = ap (λ n. first_of true Pcl (escape ∷ n ∷ c ∷ rest)) e ∙ cond-true (is_group_or_parameter c) _ _ (is_small c s) ∙ sym (ap (λ n. in_group (group_at n c) n c rest) e)
+small_introducer b c rest (inl e) s =
+    ap (λ n. first_of true Pcl (escape ∷ n ∷ c ∷ rest)) e ∙ cond-true (is_group_or_parameter c) _ _ (is_small c s)
+    ∙ sym (ap (λ n. in_group (group_at n c) n c rest) e)
+small_introducer b c rest (inr (inl e)) s =
+    ap (λ n. first_of true Pcl (escape ∷ n ∷ c ∷ rest)) e ∙ cond-true (is_group_or_parameter c) _ _ (is_small c s)
+    ∙ sym (ap (λ n. in_group (group_at n c) n c rest) e)
+small_introducer b c rest (inr (inr e)) s =
+    ap (λ n. first_of true Pcl (escape ∷ n ∷ c ∷ rest)) e ∙ cond-true (is_group_or_parameter c) _ _ (is_small c s)
+    ∙ sym (ap (λ n. in_group (group_at n c) n c rest) e)
 
-other_introducer : (b c : ℕ) (rest : List ℕ) → HasGroups b → (b ≡ 40 → ⊥) → (IsSmall c → ⊥) → first_of true Pcl (escape ∷ b ∷ c ∷ rest) ≡ Faulty Syntax
+other_introducer : (b c : ℕ) (rest : List ℕ) → HasGroups b → (b ≡ 40 → ⊥) → (IsSmall c → ⊥) →
+    first_of true Pcl (escape ∷ b ∷ c ∷ rest) ≡ Faulty Syntax
 unfolding first_of after_escape after_introducer after_parenthesis
-other_introducer b c rest (inl e) k s = ap (λ n. first_of true Pcl (escape ∷ n ∷ c ∷ rest)) e ∙ cond-false (is_group_or_parameter c) _ _ (by_test (is_group_or_parameter c) (λ t. s (small_is c t)))
-other_introducer b c rest (inr (inl e)) k s = ap (λ n. first_of true Pcl (escape ∷ n ∷ c ∷ rest)) e ∙ cond-false (is_group_or_parameter c) _ _ (by_test (is_group_or_parameter c) (λ t. s (small_is c t)))
+other_introducer b c rest (inl e) k s =
+    ap (λ n. first_of true Pcl (escape ∷ n ∷ c ∷ rest)) e
+    ∙ cond-false (is_group_or_parameter c) _ _ (by_test (is_group_or_parameter c) (λ t. s (small_is c t)))
+other_introducer b c rest (inr (inl e)) k s =
+    ap (λ n. first_of true Pcl (escape ∷ n ∷ c ∷ rest)) e
+    ∙ cond-false (is_group_or_parameter c) _ _ (by_test (is_group_or_parameter c) (λ t. s (small_is c t)))
 other_introducer b c rest (inr (inr e)) k s = absurd (k e)
 
 introducer_end : (b : ℕ) → HasGroups b → first_of true Pcl (escape ∷ b ∷ []) ≡ Open
@@ -142,16 +169,20 @@ percent_read bytes = refl
 pub language_read : (bytes : List ℕ) → (BeginsExit bytes → ⊥) → first_of true Pcl (escape ∷ 37 ∷ bytes) ≡ without_group 37 bytes
 language_read bytes h = percent_read bytes ∙ cond-false (begins_with exit_field bytes) _ _ (no_exit bytes h)
 
-no_byte_read : (b : ℕ) (rest : List ℕ) → b < 32 → control_at b ≡ None → (b ≡ escape → ⊥) → first_of true Pcl (b ∷ rest) ≡ Faulty (NotInProfile (names.Byte b))
+no_byte_read : (b : ℕ) (rest : List ℕ) → b < 32 → control_at b ≡ None → (b ≡ escape → ⊥) →
+    first_of true Pcl (b ∷ rest) ≡ Faulty (NotInProfile (names.Byte b))
 unfolding first_of
-no_byte_read b rest low h k = cond-false (nat_le 32 b) _ _ (lt-leb 32 b low) ∙ ap (λ o. by_code o b rest) h ∙ cond-false (b == 27) _ _ (not_byte b 27 k)
+no_byte_read b rest low h k =
+    cond-false (nat_le 32 b) _ _ (lt-leb 32 b low) ∙ ap (λ o. by_code o b rest) h ∙ cond-false (b == 27) _ _ (not_byte b 27 k)
 
 -- after ESC, a byte that goes on to nothing
-after_others : (b : ℕ) (rest : List ℕ) → sequence_at b ≡ None → (b ≡ 37 → ⊥) → (HasGroups b → ⊥) → first_of true Pcl (escape ∷ b ∷ rest) ≡ cond (is_in_range 33 126 b) (Faulty (NotInProfile (names.Byte b))) (Faulty Syntax)
+after_others : (b : ℕ) (rest : List ℕ) → sequence_at b ≡ None → (b ≡ 37 → ⊥) → (HasGroups b → ⊥) →
+    first_of true Pcl (escape ∷ b ∷ rest) ≡ cond (is_in_range 33 126 b) (Faulty (NotInProfile (names.Byte b))) (Faulty Syntax)
 unfolding first_of after_escape
 after_others b rest h k g =
     ap (λ o. by_character o b rest) h
-    ∙ cond-false ((b == 38) || (b == 42)) _ _ (or_false (b == 38) (b == 42) (not_byte b 38 (λ e. g (inl e))) (not_byte b 42 (λ e. g (inr (inl e)))))
+    ∙ cond-false ((b == 38) || (b == 42)) _ _
+    (or_false (b == 38) (b == 42) (not_byte b 38 (λ e. g (inl e))) (not_byte b 42 (λ e. g (inr (inl e)))))
     ∙ cond-false (b == 40) _ _ (not_byte b 40 (λ e. g (inr (inr e))))
     ∙ cond-false (b == 37) _ _ (not_byte b 37 k)
   where
@@ -178,18 +209,25 @@ pub unit_causes : (bytes : List ℕ) (cause : LexCause) → UnitFault modes.Pcl 
 unit_causes _ _ (no_byte {b = b} {rest = rest} low h k) = causes_fault _ _ (no_byte_read b rest low h k)
 unit_causes _ _ cut_escape = escape_end
 unit_causes _ _ (no_sequence {b = b} {rest = rest} l h none e37 g) =
-    causes_fault _ _ (after_others b rest none e37 g ∙ cond-true (is_in_range 33 126 b) _ _ (and_from (nat_le 33 b) (nat_le b 126) (le-leb 33 b l) (le-leb b 126 h)))
+    causes_fault _ _
+    (after_others b rest none e37 g
+    ∙ cond-true (is_in_range 33 126 b) _ _ (and_from (nat_le 33 b) (nat_le b 126) (le-leb 33 b l) (le-leb b 126 h)))
 unit_causes _ _ (no_character {b = b} {rest = rest} h) =
-    causes_fault _ _ (after_others b rest (no_sequence_outside b (by_test (is_in_range 33 126 b) (outside_range b h))) (outside b h 37 (omega arith) (omega arith)) (outside_groups b h)
+    causes_fault _ _
+    (after_others b rest (no_sequence_outside b (by_test (is_in_range 33 126 b) (outside_range b h)))
+    (outside b h 37 (omega arith) (omega arith)) (outside_groups b h)
     ∙ cond-false (is_in_range 33 126 b) _ _ (by_test (is_in_range 33 126 b) (outside_range b h)))
 unit_causes _ _ (cut_introducer {b = b} h) = causes_open _ (introducer_end b h)
 unit_causes _ _ (no_group {b = b} {c = c} {rest = rest} h k s) = causes_fault _ _ (other_introducer b c rest h k s)
 unit_causes _ _ (unknown_group {b = b} {c = c} {rest = rest} h s none) =
     causes_fault _ _ (small_introducer b c rest h s ∙ ap (λ o. in_group o b c rest) (no_group_at b c (group_at b c) none refl))
 unit_causes _ _ (rules.in_group {group = g} {bytes = rest} {cause = cause} h) =
-    subst (λ (f : First). Causes f cause) (sym (group_read g rest)) (behind_causes 3 (command_in g rest) cause (command_causes g rest cause h))
-unit_causes _ _ (font {bytes = rest} {cause = cause} k h) = subst (λ (f : First). Causes f cause) (sym (font_read rest k)) (ungrouped_causes 40 rest cause h)
-unit_causes _ _ (language {bytes = rest} {cause = cause} k h) = subst (λ (f : First). Causes f cause) (sym (language_read rest k)) (ungrouped_causes 37 rest cause h)
+    subst (λ (f : First). Causes f cause) (sym (group_read g rest))
+    (behind_causes 3 (command_in g rest) cause (command_causes g rest cause h))
+unit_causes _ _ (font {bytes = rest} {cause = cause} k h) =
+    subst (λ (f : First). Causes f cause) (sym (font_read rest k)) (ungrouped_causes 40 rest cause h)
+unit_causes _ _ (language {bytes = rest} {cause = cause} k h) =
+    subst (λ (f : First). Causes f cause) (sym (language_read rest k)) (ungrouped_causes 37 rest cause h)
 
 -- no unit begins with no byte
 pub unit_byte : (bytes : List ℕ) (cause : LexCause) → UnitFault modes.Pcl bytes cause → (bytes ≡ [] → ⊥)

@@ -1,5 +1,6 @@
 -- The value field: an optional sign, digits, and an optional point with digits.
-use Rattle.std.specs.Prelude.{ℕ, ◌+◌, ◌-◌, ◌*◌, ◌==◌, nat_le, List, [], ◌∷◌, ◌++◌, length, take, drop, take_while, fold, replicate, Bool, false, ◌&&◌, Option, None, Some, if◌then◌else◌}
+use Rattle.std.specs.Prelude.{ℕ, ◌+◌, ◌-◌, ◌*◌, ◌==◌, nat_le, List, [], ◌∷◌, ◌++◌, length, take, drop, take_while, fold}
+use Rattle.std.specs.Prelude.{replicate, Bool, false, ◌&&◌, Option, None, Some, if◌then◌else◌}
 use Rattle.std.specs.Char.{is_ascii_digit}
 use Rattle.std.specs.List.{list_all}
 use Rattle.pcl_items.specs.declared.number.Sign.{Sign}
@@ -39,7 +40,9 @@ field_at bytes =
     let whole = digits (drop (sign_len sign) bytes) in
     let before = sign_len sign + length whole in
     let decimals = digits (drop (before + 1) bytes) in
-    if has_point (drop before bytes) then record { sign = sign; whole = whole; decimals = decimals; len = before + 1 + length decimals } else record { sign = sign; whole = whole; decimals = []; len = before }
+    if has_point (drop before bytes)
+    then record { sign = sign; whole = whole; decimals = decimals; len = before + 1 + length decimals }
+    else record { sign = sign; whole = whole; decimals = []; len = before }
 
 abbrev pub next_digit : ℕ → ℕ → ℕ
 next_digit n d = 10 * n + (d - 48)
@@ -59,7 +62,9 @@ ten_thousandths_of f = fold next_digit (decimal f.whole) (four f.decimals)
 -- the field's number, unless it is past the limit or has a fifth decimal
 unfoldable pub amount_of : Field → Option Amount
 amount_of f =
-    if nat_le (ten_thousandths_of f) most && list_all (λ d. d == 48) (drop 4 f.decimals) then Some (record { sign = f.sign; ten_thousandths = ten_thousandths_of f }) else None
+    if nat_le (ten_thousandths_of f) most && list_all (λ d. d == 48) (drop 4 f.decimals)
+    then Some (record { sign = f.sign; ten_thousandths = ten_thousandths_of f })
+    else None
 
 -- the number of a sign and of so many ten-thousandths, unless they are past the limit
 abbrev pub within_limit : Sign → ℕ → Option Amount

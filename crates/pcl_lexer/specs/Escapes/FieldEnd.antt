@@ -6,8 +6,8 @@ use Rattle.pcl_items.specs.Escapes.Value.{Amount}
 use Rattle.pcl_lexer.specs.Escapes.Field.{Field, field_at, amount_of}
 use Rattle.pcl_items.specs.Items.{amount}
 
--- No byte stands behind it; it has too many characters, or no number within the limit; or this byte stands behind its number
--- and so many characters.
+-- No byte stands behind it; it has too many characters, or no number within the limit;
+-- or this byte stands behind its number and so many characters.
 pub data FieldEnd : Type 0 where
   Open : FieldEnd
   BadNumber : FieldEnd
@@ -22,7 +22,8 @@ with_byte f [] = Open
 with_byte f (last ∷ bytes) = ended_by (amount_of f) f.len last
 
 unfoldable pub field_end : List ℕ → FieldEnd
-field_end bytes = if nat_lt 16 (field_at bytes).len then BadNumber else with_byte (field_at bytes) (drop (field_at bytes).len bytes)
+field_end bytes =
+    if nat_lt 16 (field_at bytes).len then BadNumber else with_byte (field_at bytes) (drop (field_at bytes).len bytes)
 
 -- .. as the code has it
 abbrev pub end_view : code.FieldEnd → FieldEnd

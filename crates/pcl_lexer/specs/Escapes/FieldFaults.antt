@@ -15,7 +15,8 @@ pub data NumberFault : List ℕ → Type 0 where
 
 -- a field that the bytes end in
 pub data IsCut : List ℕ → Type 0 where
-  cut : {text whole : List ℕ} {sign : Sign} {fraction : Option (List ℕ)} → IsShape text sign whole fraction → length text ≤ 16 → IsCut text
+  cut : {text whole : List ℕ} {sign : Sign} {fraction : Option (List ℕ)} → IsShape text sign whole fraction →
+      length text ≤ 16 → IsCut text
 
 -- a termination character
 abbrev pub IsCapital : ℕ → Type 0

@@ -24,11 +24,14 @@ IsInGroup read group bytes = (command_in group bytes ≡ first_by read) × (read
 -- the byte behind the field ends the command
 abbrev pub IsEndedBy : ReadCommand → Group → EndedField → Type 0
 IsEndedBy read group field =
-    ((bytes : List ℕ) → by_last_byte (Some (amount field.number)) group field.len field.last bytes ≡ first_by read) × (read.len ≡ field.len + 1)
+    ((bytes : List ℕ) → by_last_byte (Some (amount field.number)) group field.len field.last bytes ≡ first_by read)
+    × (read.len ≡ field.len + 1)
 
 -- what stands first where this command was read with its data, which end its bytes
 abbrev pub first_with_data : ReadWithData → List ℕ → First
-first_with_data read bytes = Begins (WithData read.command (take read.count.bytes (drop (read.len - read.count.bytes) bytes))) read.len (context_view read.next)
+first_with_data read bytes =
+    Begins (WithData read.command (take read.count.bytes (drop (read.len - read.count.bytes) bytes))) read.len
+    (context_view read.next)
 
 -- the command's bytes are there, and its data among them
 abbrev pub HasItsData : ReadWithData → List ℕ → Type 0
@@ -36,7 +39,8 @@ HasItsData read bytes = (read.len ≤ length bytes) × (read.count.bytes ≤ rea
 
 -- the bytes from this context on begin with the command and its data
 abbrev pub IsAheadWithData : ReadWithData → Context → List ℕ → Type 0
-IsAheadWithData read context bytes = ((whole : Bool) → first_of whole context bytes ≡ first_with_data read bytes) × HasItsData read bytes
+IsAheadWithData read context bytes =
+    ((whole : Bool) → first_of whole context bytes ≡ first_with_data read bytes) × HasItsData read bytes
 
 -- the bytes behind the characters of a group begin with the command and its data
 abbrev pub IsInGroupWithData : ReadWithData → Group → List ℕ → Type 0

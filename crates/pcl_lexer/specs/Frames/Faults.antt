@@ -21,7 +21,8 @@ use Rattle.pcl_lexer.specs.Frames.CommandParts.{Single, Odd, Even}
 use Rattle.pcl_lexer.specs.Escapes.FieldFaults.{NumberFault, IsCut, IsCapital}
 use Rattle.pcl_items.specs.Items.{Placed, Move, at}
 use Rattle.pcl_items.specs.PjlLines.Exit.{BeginsExit}
-use Rattle.pcl_lexer.specs.Frames.Grammar.{Start, AtLetters, BehindPair, Part, Word, Number, HasNoComma, IsBegun, IsEnd, EndsPair, HandsOver}
+use Rattle.pcl_lexer.specs.Frames.Grammar.{Start, AtLetters, BehindPair, Part, Word, Number, HasNoComma, IsBegun, IsEnd}
+use Rattle.pcl_lexer.specs.Frames.Grammar.{EndsPair, HandsOver}
 use Rattle.pcl_items.specs.Escapes.Codes.{escape}
 
 -- ---- behind what is written of a command
@@ -75,13 +76,17 @@ IsUnfinished part = ⊥
 
 pub data PartFault : Part → List ℕ → LexCause → Type 0 where
   wrong_byte : {part : Part} {b : ℕ} {rest : List ℕ} → IsWrong part (kind_of b) → PartFault part (b ∷ rest) Syntax
-  too_many : {part : Part} {b : ℕ} {rest : List ℕ} → BeginsNumber part (kind_of b) → IsFull part → PartFault part (b ∷ rest) BadNumber
-  odd : {motion : Motion} {x : ℤ} {gap : Gap} {b : ℕ} {rest : List ℕ} → HasNoComma gap → IsEnd (kind_of b) → PartFault (Number (Odd motion x) gap) (b ∷ rest) BadNumber
+  too_many : {part : Part} {b : ℕ} {rest : List ℕ} → BeginsNumber part (kind_of b) → IsFull part →
+      PartFault part (b ∷ rest) BadNumber
+  odd : {motion : Motion} {x : ℤ} {gap : Gap} {b : ℕ} {rest : List ℕ} → HasNoComma gap → IsEnd (kind_of b) →
+      PartFault (Number (Odd motion x) gap) (b ∷ rest) BadNumber
   cut_part : {part : Part} → IsUnfinished part → PartFault part [] Truncated
   no_setting : {setting : Setting} {b : ℕ} {rest : List ℕ} {cause : LexCause} →
-      BeginsNumber (Word (Sets setting)) (kind_of b) → NumeralFault IsSomeSetting (b ∷ rest) cause → PartFault (Word (Sets setting)) (b ∷ rest) cause
+      BeginsNumber (Word (Sets setting)) (kind_of b) → NumeralFault IsSomeSetting (b ∷ rest) cause →
+      PartFault (Word (Sets setting)) (b ∷ rest) cause
   no_coordinate : {part : Part} {b : ℕ} {rest : List ℕ} {cause : LexCause} →
-      BeginsNumber part (kind_of b) → TakesCoordinate part → NumeralFault IsSomeCoordinate (b ∷ rest) cause → PartFault part (b ∷ rest) cause
+      BeginsNumber part (kind_of b) → TakesCoordinate part → NumeralFault IsSomeCoordinate (b ∷ rest) cause →
+      PartFault part (b ∷ rest) cause
 
 -- ---- enter PCL mode
 
@@ -90,7 +95,8 @@ pub data LeaveFault : List ℕ → LexCause → Type 0 where
   no_letter : {text : List ℕ} {amount : Amount} {byte : ℕ} (rest : List ℕ) →
       IsField text amount → Ends text byte → (IsCapital byte → ⊥) → LeaveFault (text ++ byte ∷ rest) Syntax
   unknown_language : {text : List ℕ} {amount : Amount} {letter : ℕ} (rest : List ℕ) →
-      IsField text amount → IsCapital letter → ((handover : Handover) → letter ≡ 65 → HandsOver amount handover → ⊥) → LeaveFault (text ++ letter ∷ rest) (NotInProfile (names.Pair 37 letter))
+      IsField text amount → IsCapital letter → ((handover : Handover) → letter ≡ 65 → HandsOver amount handover → ⊥) →
+      LeaveFault (text ++ letter ∷ rest) (NotInProfile (names.Pair 37 letter))
   cut_leave : {bytes : List ℕ} → IsCut bytes → LeaveFault bytes Truncated
 
 -- ---- a unit
@@ -111,12 +117,16 @@ pub data FrameFault : Start → ℕ → List ℕ → LexCause → Type 0 where
   frame_ends : FrameFault AtLetters 0 [] EndInFrame
   no_command : {b : ℕ} {rest : List ℕ} → BeginsNone (kind_of b) → FrameFault AtLetters 0 (b ∷ rest) Syntax
   cut_letter : {a : ℕ} → kind_of a ≡ kinds.Letter → FrameFault AtLetters 0 (a ∷ []) Truncated
-  one_letter : {a b : ℕ} {rest : List ℕ} → kind_of a ≡ kinds.Letter → kind_of b ≢ kinds.Letter → FrameFault AtLetters 0 (a ∷ b ∷ rest) Syntax
-  unknown_letters : {a b : ℕ} {rest : List ℕ} → kind_of a ≡ kinds.Letter → kind_of b ≡ kinds.Letter → mnemonic_at (capital a) (capital b) ≡ None →
+  one_letter : {a b : ℕ} {rest : List ℕ} → kind_of a ≡ kinds.Letter → kind_of b ≢ kinds.Letter →
+      FrameFault AtLetters 0 (a ∷ b ∷ rest) Syntax
+  unknown_letters : {a b : ℕ} {rest : List ℕ} → kind_of a ≡ kinds.Letter → kind_of b ≡ kinds.Letter →
+      mnemonic_at (capital a) (capital b) ≡ None →
       FrameFault AtLetters 0 (a ∷ b ∷ rest) (NotInProfile (names.Pair (capital a) (capital b)))
   cut_frame_escape : FrameFault AtLetters 0 (escape ∷ []) Truncated
-  other_sequence : {b : ℕ} {rest : List ℕ} → b ≢ 69 → b ≢ 37 → FrameFault AtLetters 0 (escape ∷ b ∷ rest) (NotInProfile (names.Byte b))
-  in_language : {bytes : List ℕ} {cause : LexCause} → (BeginsExit bytes → ⊥) → LeaveFault bytes cause → FrameFault AtLetters 0 (escape ∷ 37 ∷ bytes) cause
+  other_sequence : {b : ℕ} {rest : List ℕ} → b ≢ 69 → b ≢ 37 →
+      FrameFault AtLetters 0 (escape ∷ b ∷ rest) (NotInProfile (names.Byte b))
+  in_language : {bytes : List ℕ} {cause : LexCause} → (BeginsExit bytes → ⊥) → LeaveFault bytes cause →
+      FrameFault AtLetters 0 (escape ∷ 37 ∷ bytes) cause
   in_command : {start : Start} {part : Part} {from : ℕ} {text bytes : List ℕ} {cause : LexCause} →
       IsBegun start part from text bytes → PartFault part bytes cause → FrameFault start from (text ++ bytes) cause
 
@@ -124,7 +134,8 @@ pub data FrameFault : Start → ℕ → List ℕ → LexCause → Type 0 where
 pub data FrameStops : Start → ℕ → List ℕ → List Placed → ℕ → LexCause → Type 0 where
   at_fault : {start : Start} {place from : ℕ} {bytes : List ℕ} {cause : LexCause} →
       FrameFault start from bytes cause → FrameStops start place bytes [] (place + from) cause
-  behind_pair : {start : Start} {motion : Motion} {to : ℤ × ℤ} {place place1 from : ℕ} {text bytes : List ℕ} {items : List Placed} {cause : LexCause} →
+  behind_pair : {start : Start} {motion : Motion} {to : ℤ × ℤ} {place place1 from : ℕ} {text bytes : List ℕ}
+      {items : List Placed} {cause : LexCause} →
       EndsPair start motion to from text bytes →
       FrameStops (BehindPair motion) (place + length text) bytes items place1 cause →
       FrameStops start place (text ++ bytes) (at (place + from) (Move motion (Some to)) ∷ items) place1 cause

@@ -58,14 +58,17 @@ pub data IsBegun : Start → Part → ℕ → List ℕ → List ℕ → Type 0 w
       IsBegun start (Word mnemonic) from text (b ∷ rest) → kind_of b ≡ kinds.White →
       IsBegun start (Word mnemonic) from (text ++ b ∷ []) rest
   setting : {start : Start} {setting : Setting} {amount : ℕ} {from : ℕ} {text number rest : List ℕ} →
-      IsBegun start (Word (Sets setting)) from text (number ++ rest) → IsSetting number amount → EndsBefore number rest →
+      IsBegun start (Word (Sets setting)) from text (number ++ rest) → IsSetting number amount →
+      EndsBefore number rest →
       IsBegun start (Number (Single setting amount) Straight) from (text ++ number) rest
   coordinate : {start : Start} {motion : Motion} {x : ℤ} {from : ℕ} {text number rest : List ℕ} →
       IsBegun start (Word (Moves motion)) from text (number ++ rest) → IsCoordinate number x → EndsBefore number rest →
       IsBegun start (Number (Odd motion x) Straight) from (text ++ number) rest
-  behind_pair : {motion : Motion} {rest : List ℕ} → IsBegun (BehindPair motion) (Number (Even motion) Straight) 0 [] rest
+  behind_pair : {motion : Motion} {rest : List ℕ} →
+      IsBegun (BehindPair motion) (Number (Even motion) Straight) 0 [] rest
   further_coordinate : {start : Start} {motion : Motion} {gap : Gap} {x : ℤ} {from : ℕ} {text number rest : List ℕ} →
-      IsBegun start (Number (Even motion) gap) from text (number ++ rest) → BeginsBehind gap number → IsCoordinate number x → EndsBefore number rest →
+      IsBegun start (Number (Even motion) gap) from text (number ++ rest) → BeginsBehind gap number →
+      IsCoordinate number x → EndsBefore number rest →
       IsBegun start (Number (Odd motion x) Straight) from (text ++ number) rest
   space : {start : Start} {numbers : Numbers} {gap : Gap} {from b : ℕ} {text rest : List ℕ} →
       IsBegun start (Number numbers gap) from text (b ∷ rest) → kind_of b ≡ kinds.White →
@@ -93,21 +96,25 @@ EndsCommand (b ∷ rest) = IsEnd (kind_of b)
 -- a whole command, and its item
 pub data IsWhole : Part → Entry → Type 0 where
   without_number : {mnemonic : Mnemonic} → IsWhole (Word mnemonic) (bare mnemonic)
-  with_number : {setting : Setting} {amount : ℕ} {gap : Gap} → HasNoComma gap → IsWhole (Number (Single setting amount) gap) (Set setting amount)
+  with_number : {setting : Setting} {amount : ℕ} {gap : Gap} → HasNoComma gap →
+      IsWhole (Number (Single setting amount) gap) (Set setting amount)
 
--- Of the bytes text ++ rest, text is what is written of a command up to the second coordinate of a pair, whose item stands
--- behind so many bytes of it.
+-- Of the bytes text ++ rest, text is what is written of a command up to the second coordinate of a pair, whose item
+-- stands behind so many bytes of it.
 pub data EndsPair : Start → Motion → (ℤ × ℤ) → ℕ → List ℕ → List ℕ → Type 0 where
   second_coordinate : {start : Start} {motion : Motion} {gap : Gap} {x y : ℤ} {from : ℕ} {text number rest : List ℕ} →
-      IsBegun start (Number (Odd motion x) gap) from text (number ++ rest) → BeginsBehind gap number → IsCoordinate number y → EndsBefore number rest →
+      IsBegun start (Number (Odd motion x) gap) from text (number ++ rest) → BeginsBehind gap number →
+      IsCoordinate number y → EndsBefore number rest →
       EndsPair start motion (x, y) from (text ++ number) rest
 
--- A command, or what is written of it behind a pair, and the bytes behind it, which end it. Each pair is an item of its own.
+-- A command, or what is written of it behind a pair, and the bytes behind it, which end it.
+-- Each pair is an item of its own.
 pub data IsCommand : Start → ℕ → List ℕ → List ℕ → List Placed → Type 0 where
   without_pairs : {start : Start} {part : Part} {place from : ℕ} {text rest : List ℕ} {item : Entry} →
       IsBegun start part from text rest → IsWhole part item → EndsCommand rest →
       IsCommand start place text rest (at (place + from) item ∷ [])
-  pair : {start : Start} {motion : Motion} {to : ℤ × ℤ} {place from : ℕ} {text more rest : List ℕ} {items : List Placed} →
+  pair : {start : Start} {motion : Motion} {to : ℤ × ℤ} {place from : ℕ} {text more rest : List ℕ}
+      {items : List Placed} →
       EndsPair start motion to from text (more ++ rest) →
       IsCommand (BehindPair motion) (place + length text) more rest items →
       IsCommand start place (text ++ more) rest (at (place + from) (Move motion (Some to)) ∷ items)
@@ -115,9 +122,11 @@ pub data IsCommand : Start → ℕ → List ℕ → List ℕ → List Placed →
       IsBegun start (Number (Even motion) gap) from text rest → HasNoComma gap → EndsCommand rest →
       IsCommand start place text rest []
 
--- One unit of a frame, and the bytes behind it: a separator; or a command, which its own semicolon ends or a byte behind it.
+-- One unit of a frame, and the bytes behind it: a separator;
+-- or a command, which its own semicolon ends or a byte behind it.
 pub data IsFrameUnit : ℕ → List ℕ → List ℕ → List Placed → Type 0 where
-  separator : {place b : ℕ} {rest : List ℕ} → (kind_of b ≡ kinds.White) ⊎ (kind_of b ≡ kinds.Semicolon) → IsFrameUnit place (b ∷ []) rest []
+  separator : {place b : ℕ} {rest : List ℕ} → (kind_of b ≡ kinds.White) ⊎ (kind_of b ≡ kinds.Semicolon) →
+      IsFrameUnit place (b ∷ []) rest []
   command : {place : ℕ} {text rest : List ℕ} {items : List Placed} →
       IsCommand AtLetters place text rest items → IsFrameUnit place text rest items
   ended_command : {place : ℕ} {text rest : List ℕ} {items : List Placed} →
@@ -132,4 +141,5 @@ pub data HandsOver : Amount → Handover → Type 0 where
 pub data LeavesFrame : ℕ → List ℕ → List Placed → Type 0 where
   reset : {place : ℕ} → LeavesFrame place (escape ∷ 69 ∷ []) (at place Reset ∷ [])
   leave_frame : {place : ℕ} {field : List ℕ} {amount : Amount} {handover : Handover} →
-      IsField field amount → HandsOver amount handover → LeavesFrame place (escape ∷ 37 ∷ (field ++ 65 ∷ [])) (at place (LeaveFrame handover) ∷ [])
+      IsField field amount → HandsOver amount handover →
+      LeavesFrame place (escape ∷ 37 ∷ (field ++ 65 ∷ [])) (at place (LeaveFrame handover) ∷ [])

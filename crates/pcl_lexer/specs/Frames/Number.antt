@@ -1,5 +1,6 @@
 -- The numbers of a frame, as they are read.
-use Rattle.std.specs.Prelude.{ℕ, ℤ, ◌+◌, ◌==◌, nat_lt, nat_le, List, [], ◌∷◌, length, drop, Bool, not, ◌&&◌, Option, None, Some, if◌then◌else◌}
+use Rattle.std.specs.Prelude.{ℕ, ℤ, ◌+◌, ◌==◌, nat_lt, nat_le, List, [], ◌∷◌, length, drop, Bool, not, ◌&&◌, Option}
+use Rattle.std.specs.Prelude.{None, Some, if◌then◌else◌}
 use Rattle.std.specs.List.{list_all}
 use Rattle.pcl_items.specs.declared.number.Sign.{Sign}
 use Rattle.pcl_items.specs.declared.fault.LexCause.{LexCause}

@@ -8,7 +8,8 @@ use Rattle.pcl_items.specs.Escapes.ValueField.{decimals_of, IsShape, IsField}
 
 -- the byte does not go on with the number
 pub record Ends (text : List ℕ) (byte : ℕ) : Type 0 where
-  pub longest : (sign : Sign) (whole : List ℕ) (fraction : Option (List ℕ)) → IsShape (text ++ byte ∷ []) sign whole fraction → ⊥
+  pub longest : (sign : Sign) (whole : List ℕ) (fraction : Option (List ℕ)) →
+      IsShape (text ++ byte ∷ []) sign whole fraction → ⊥
 
 -- the bytes behind a number do not go on with it
 abbrev pub EndsBefore : List ℕ → List ℕ → Type 0

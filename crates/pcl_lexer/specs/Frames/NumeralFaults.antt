@@ -12,10 +12,12 @@ pub data NumeralFault (Good : List ℕ → Type 0) : List ℕ → LexCause → T
   long : {text whole : List ℕ} {sign : Sign} {fraction : Option (List ℕ)} (rest : List ℕ) →
       IsShape text sign whole fraction → 16 < length text → NumeralFault Good (text ++ rest) BadNumber
   no_digit : {text whole : List ℕ} {sign : Sign} {fraction : Option (List ℕ)} {byte : ℕ} (rest : List ℕ) →
-      IsShape text sign whole fraction → length text ≤ 16 → length whole + length (decimals_of fraction) ≡ 0 → Ends text byte →
+      IsShape text sign whole fraction → length text ≤ 16 → length whole + length (decimals_of fraction) ≡ 0 →
+      Ends text byte →
       NumeralFault Good (text ++ byte ∷ rest) Syntax
   no_value : {text whole : List ℕ} {sign : Sign} {fraction : Option (List ℕ)} {byte : ℕ} (rest : List ℕ) →
-      IsNumeral text sign whole fraction → (Good text → ⊥) → Ends text byte → NumeralFault Good (text ++ byte ∷ rest) BadNumber
+      IsNumeral text sign whole fraction → (Good text → ⊥) → Ends text byte →
+      NumeralFault Good (text ++ byte ∷ rest) BadNumber
   cut_number : {text whole : List ℕ} {sign : Sign} {fraction : Option (List ℕ)} →
       IsShape text sign whole fraction → length text ≤ 16 → (Good text → ⊥) → NumeralFault Good text Truncated
 

@@ -1,5 +1,6 @@
 -- What stands first in the bytes of a frame.
-use Rattle.std.specs.Prelude.{ℕ, ℤ, ◌+◌, ◌==◌, nat_lt, List, [], ◌∷◌, drop, Bool, true, false, Option, None, Some, if◌then◌else◌}
+use Rattle.std.specs.Prelude.{ℕ, ℤ, ◌+◌, ◌==◌, nat_lt, List, [], ◌∷◌, drop, Bool, true, false, Option, None, Some}
+use Rattle.std.specs.Prelude.{if◌then◌else◌}
 use Rattle.pcl_lexer.specs.declared.frame.Kind.{Kind}
 use Rattle.pcl_lexer.specs.declared.frame.Kind.TheVariants as kinds
 use Rattle.pcl_items.specs.declared.frame.Motion.{Motion}
@@ -35,7 +36,9 @@ after_language_field f (c ∷ bytes) = by_language (amount_of f) f.len c
 
 -- after ESC and `%`
 unfoldable pub language_in : List ℕ → First
-language_in bytes = if nat_lt 16 (field_at bytes).len then Faulty BadNumber else after_language_field (field_at bytes) (drop (field_at bytes).len bytes)
+language_in bytes =
+    if nat_lt 16 (field_at bytes).len then Faulty BadNumber
+    else after_language_field (field_at bytes) (drop (field_at bytes).len bytes)
 
 -- a frame stands behind it
 abbrev pub enters_frame : First → Bool
@@ -59,7 +62,8 @@ after_letter a (b ∷ bytes) = second_letter (kind_of b) a b
 abbrev pub after_frame_escape : List ℕ → First
 after_frame_escape [] = Open
 after_frame_escape (b ∷ bytes) =
-    if b == 69 then Begins Reset 2 Pcl else if b == 37 then exit_or (language_in bytes) bytes else Faulty (NotInProfile (names.Byte b))
+    if b == 69 then Begins Reset 2 Pcl
+    else if b == 37 then exit_or (language_in bytes) bytes else Faulty (NotInProfile (names.Byte b))
 
 abbrev pub by_kind : Kind → ℕ → List ℕ → First
 by_kind kinds.White b bytes = Passes 1 Frame
@@ -96,7 +100,8 @@ second_of_pair motion x (Read y len) = Begins (Move motion (Some (x, y))) len (N
 -- a number, where a command of these letters may have one
 abbrev pub first_number : Bool → Mnemonic → ℕ → List ℕ → First
 first_number whole mnemonics.Initialize n bytes = Faulty BadNumber
-first_number whole (mnemonics.Sets setting) n bytes = single n (λ amount. Single setting amount) (numeral_at setting_of whole bytes)
+first_number whole (mnemonics.Sets setting) n bytes =
+    single n (λ amount. Single setting amount) (numeral_at setting_of whole bytes)
 first_number whole (mnemonics.Moves motion) n bytes = first_of_pair n motion (numeral_at coordinate_of whole bytes)
 
 abbrev pub letters_by : Kind → Bool → Mnemonic → ℕ → List ℕ → First

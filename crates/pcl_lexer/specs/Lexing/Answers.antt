@@ -21,4 +21,5 @@ Answers old (Ok (answers.Item place item)) new = AdvancesOver old (at place (vie
 Answers old (Ok answers.NeedMore) new = AdvancesOver old [] new × (new.ended ≡ false) × WantsMore new
 Answers old (Ok answers.End) new = AdvancesOver old [] new × (new.ended ≡ true) × MayEndAt new.context × (new.rest ≡ [])
 Answers old (Err fault) new =
-    AdvancesOver old [] new × (fault.place ≡ item_place new.context new.place) × IsFault new.ended (first_of new.ended new.context new.rest) new.context new.rest fault.cause
+    AdvancesOver old [] new × (fault.place ≡ item_place new.context new.place)
+    × IsFault new.ended (first_of new.ended new.context new.rest) new.context new.rest fault.cause

@@ -6,8 +6,8 @@ use Rattle.pcl_lexer.specs.declared.frame.Gap.{Gap}
 pub use Rattle.pcl_lexer.specs.Frames.CommandParts.{Numbers, Single, Odd, Even, spaced}
 
 -- Between items of mode PCL; in a combined sequence of this group; between commands of a frame; behind the letters of a
--- command, which begins n bytes before; behind numbers and a gap, where the item begins n bytes before; between lines of
--- mode PJL.
+-- command, which begins n bytes before;
+-- behind numbers and a gap, where the item begins n bytes before; between lines of mode PJL.
 pub data Context : Type 0 where
   Pcl : Context
   Sequence : (group : Group) → Context

@@ -8,7 +8,8 @@ use Rattle.pcl_lexer.specs.declared.lexer.first.Context as code_context
 use Rattle.pcl_lexer.specs.declared.lexer.first.Context.TheVariants as contexts
 use Rattle.pcl_lexer.specs.declared.lexer.first.Numbers as code_numbers
 use Rattle.pcl_lexer.specs.declared.lexer.first.Numbers.TheVariants as numbers
-use Rattle.pcl_lexer.specs.Lexing.Contexts.{Context, Pcl, Sequence, Frame, Letters, Numbered, Pjl, Numbers, Single, Odd, Even, counted}
+use Rattle.pcl_lexer.specs.Lexing.Contexts.{Context, Pcl, Sequence, Frame, Letters, Numbered, Pjl, Numbers, Single, Odd}
+use Rattle.pcl_lexer.specs.Lexing.Contexts.{Even, counted}
 use Rattle.pcl_items.specs.Items.{Entry, Text, simple_view, WithData, PjlLine}
 use Rattle.pcl_items.specs.PjlLines.Text.{PjlCommand, Bare}
 use Rattle.pcl_items.specs.PjlLines.Reader.{pjl_command_of}
@@ -44,7 +45,8 @@ pjl_read (Some line) = line
 abbrev pub head_view : Head → ℕ → List ℕ → Entry
 head_view (heads.Text byte) len bytes = Text byte.code
 head_view (heads.Simple item) len bytes = simple_view item
-head_view (heads.WithData command count) len bytes = WithData command (take count.bytes (drop (len - count.bytes) bytes))
+head_view (heads.WithData command count) len bytes =
+    WithData command (take count.bytes (drop (len - count.bytes) bytes))
 head_view heads.PjlLine len bytes = PjlLine (pjl_read (pjl_command_of (take (len - 1) bytes)))
 
 -- where the item is a line, so many bytes in front spell one
@@ -52,7 +54,8 @@ abbrev pub HasPjl : Head → ℕ → List ℕ → Type 0
 HasPjl (heads.Text byte) len bytes = Unit {0}
 HasPjl (heads.Simple item) len bytes = Unit {0}
 HasPjl (heads.WithData command count) len bytes = Unit {0}
-HasPjl heads.PjlLine len bytes = (line : PjlCommand) × (pjl_command_of (take (len - 1) bytes) ≡ Some line) × IsSpelledPjl line
+HasPjl heads.PjlLine len bytes =
+    (line : PjlCommand) × (pjl_command_of (take (len - 1) bytes) ≡ Some line) × IsSpelledPjl line
 
 abbrev pub first_view : List ℕ → code.First → First
 first_view bytes firsts.Open = Open

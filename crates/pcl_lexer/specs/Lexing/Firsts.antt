@@ -6,8 +6,8 @@ use Rattle.pcl_lexer.specs.Lexing.Contexts.{Context, Pjl}
 use Rattle.pcl_items.specs.Items.{Entry, ExitLanguage}
 use Rattle.pcl_items.specs.PjlLines.Exit.{exit_field, begins_with}
 
--- The bytes decide nothing yet, or begin with so many bytes that end no item, or with the last so many bytes of an item,
--- or with a fault.
+-- The bytes decide nothing yet, or begin with so many bytes that end no item, or with the last so many
+-- bytes of an item, or with a fault.
 pub data First : Type 0 where
   Open : First
   Passes : (len : ℕ) (next : Context) → First

@@ -1,5 +1,6 @@
 -- What a lexer answers, and what that says of the job.
-use Rattle.std.specs.Prelude.{◌≡◌, ℕ, ◌+◌, ◌<◌, ◌≤◌, List, [], ◌∷◌, ◌++◌, length, Bool, true, false, Option, Some, None, Result, Ok, Err}
+use Rattle.std.specs.Prelude.{◌≡◌, ℕ, ◌+◌, ◌<◌, ◌≤◌, List, [], ◌∷◌, ◌++◌, length, Bool, true, false, Option, Some, None}
+use Rattle.std.specs.Prelude.{Result, Ok, Err}
 use Rattle.pcl_items.specs.declared.fault.LexCause.{LexCause}
 use Rattle.pcl_items.specs.declared.fault.LexFault.{LexFault}
 use Rattle.pcl_lexer.specs.Lexing.Contexts.{Pcl, item_place, MayEndAt}
@@ -29,7 +30,8 @@ MayBe ended bytes job = (more : List ℕ) × (job ≡ bytes ++ more) × (ended �
 -- these items stand first in every job that the bytes may be
 abbrev pub Decides : Bool → List ℕ → List Placed → Type 0
 Decides ended bytes items =
-    (job : List ℕ) (reading : Reading) → MayBe ended bytes job → IsReading job reading → (others : List Placed) × (items_of reading ≡ items ++ others)
+    (job : List ℕ) (reading : Reading) → MayBe ended bytes job → IsReading job reading →
+    (others : List Placed) × (items_of reading ≡ items ++ others)
 
 -- every job that the bytes may be has this reading
 abbrev pub Settles : Bool → List ℕ → Reading → Type 0
@@ -80,22 +82,26 @@ Advances old (Err fault) new = left new.context new.rest ≤ left old.context ol
 
 -- the mode before an item admits it, with the other mode behind; all else keeps the mode
 abbrev pub KeepsMode : LexerState → Result Lexed LexFault → LexerState → Type 0
-KeepsMode old (Ok (answers.Item place item)) new = follows (mode_of old.context) (view item) ≡ Some (mode_of new.context)
+KeepsMode old (Ok (answers.Item place item)) new =
+    follows (mode_of old.context) (view item) ≡ Some (mode_of new.context)
 KeepsMode old (Ok answers.NeedMore) new = mode_of new.context ≡ mode_of old.context
 KeepsMode old (Ok answers.End) new = mode_of new.context ≡ mode_of old.context
 KeepsMode old (Err fault) new = mode_of new.context ≡ mode_of old.context
 
--- More bytes are wanted only while more may come, and a piece may then be fed; the end is told only where none may come,
--- and a fault where it stands first. So a second call answers the same.
+-- More bytes are wanted only while more may come, and a piece may then be fed;
+-- the end is told only where none may come, and a fault where it stands first. So a second call answers the same.
 abbrev pub Allows : Result Lexed LexFault → LexerState → Type 0
 Allows (Ok (answers.Item place item)) new = Unit {0}
 Allows (Ok answers.NeedMore) new = (new.ended ≡ false) × WantsMore new
 Allows (Ok answers.End) new = (new.ended ≡ true) × MayEndAt new.context × (new.rest ≡ [])
-Allows (Err fault) new = (fault.place ≡ item_place new.context new.place) × IsFault new.ended (first_of new.ended new.context new.rest) new.context new.rest fault.cause
+Allows (Err fault) new =
+    (fault.place ≡ item_place new.context new.place)
+    × IsFault new.ended (first_of new.ended new.context new.rest) new.context new.rest fault.cause
 
 -- One answer of a lexer. No byte is lost.
 pub record IsNext (old : LexerState) (result : Result Lexed LexFault) (new : LexerState) : Type 0 where
-  pub reads : (bytes : List ℕ) (items : List Placed) → HasRead old bytes items → HasRead new bytes (items ++ given result)
+  pub reads : (bytes : List ℕ) (items : List Placed) → HasRead old bytes items →
+      HasRead new bytes (items ++ given result)
   pub advances : Advances old result new
   pub total : new.place + length new.rest ≡ old.place + length old.rest
   pub ended : new.ended ≡ old.ended

@@ -16,8 +16,10 @@ ahead_of lexer = ahead_in lexer.context lexer.rest
 
 -- these bytes were read, each as an item of its own
 pub record ReadsLines (old : LexerState) (codes : List ℕ) (new : LexerState) : Type 0 where
-  pub reads : (bytes : List ℕ) (items : List Placed) → HasRead old bytes items → HasRead new bytes (items ++ line_items old.place codes)
-  pub decides : (bytes : List ℕ) (items : List Placed) → HasRead old bytes items → Decides old.ended bytes (items ++ line_items old.place codes)
+  pub reads : (bytes : List ℕ) (items : List Placed) → HasRead old bytes items →
+      HasRead new bytes (items ++ line_items old.place codes)
+  pub decides : (bytes : List ℕ) (items : List Placed) → HasRead old bytes items →
+      Decides old.ended bytes (items ++ line_items old.place codes)
   pub place : new.place ≡ old.place + length codes
   pub total : new.place + length new.rest ≡ old.place + length old.rest
   pub ended : new.ended ≡ old.ended

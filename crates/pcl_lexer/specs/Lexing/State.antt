@@ -3,8 +3,8 @@ use Rattle.std.specs.Prelude.{◌≡◌, ℕ, List, [], Bool, false}
 use Rattle.pcl_lexer.specs.Lexing.Contexts.{Context, Pcl}
 use Rattle.pcl_lexer.specs.Reader.{Open, first_of}
 
--- the bytes that are not read yet, the number of bytes before them, what stands before, whether no more come, and how many
--- bytes are kept
+-- the bytes that are not read yet, the number of bytes before them, what stands before, whether no more
+-- come, and how many bytes are kept
 pub record LexerState : Type 0 where
   pub rest : List ℕ
   pub place : ℕ

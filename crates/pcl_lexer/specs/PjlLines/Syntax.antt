@@ -3,7 +3,8 @@ use Rattle.std.specs.Prelude.{◌≡◌, ◌⊎◌, ℕ, List, [], ◌∷◌, �
 use Rattle.pcl_items.specs.Frames.Mnemonics.{capital}
 use Rattle.pcl_items.specs.declared.pjl.Word.{Word}
 use Rattle.pcl_items.specs.declared.pjl.Word.TheVariants as words
-use Rattle.pcl_items.specs.PjlLines.Text.{is_blank, is_quotable, PjlCommand, Bare, Remark, JobBegins, JobEnds, EnterPcl, prefix, name, display, language, pcl, spelling}
+use Rattle.pcl_items.specs.PjlLines.Text.{is_blank, is_quotable, PjlCommand, Bare, Remark, JobBegins, JobEnds, EnterPcl}
+use Rattle.pcl_items.specs.PjlLines.Text.{prefix, name, display, language, pcl, spelling}
 
 -- each byte is of a class
 abbrev pub Each : (ℕ → Bool) → List ℕ → Type 0
@@ -39,13 +40,15 @@ IsName word text = ⊥
 
 -- a name and its text between quotes
 pub data IsPart : Word → List ℕ → Type 0 where
-  part : {word : Word} {sign : List ℕ} (title text : List ℕ) → IsName word title → IsEquals sign → Each is_quotable text →
+  part : {word : Word} {sign : List ℕ} (title text : List ℕ) → IsName word title → IsEquals sign →
+      Each is_quotable text →
       IsPart word (title ++ (sign ++ 34 ∷ (text ++ 34 ∷ [])))
 
 -- parts, each but the first behind a blank
 pub data AreParts : Word → List ℕ → Type 0 where
   one : {word : Word} {part : List ℕ} → IsPart word part → AreParts word part
-  more : {word : Word} {part parts : List ℕ} (b : ℕ) (blanks : List ℕ) → IsPart word part → is_blank b ≡ true → AreBlanks blanks → AreParts word parts →
+  more : {word : Word} {part parts : List ℕ} (b : ℕ) (blanks : List ℕ) → IsPart word part → is_blank b ≡ true →
+      AreBlanks blanks → AreParts word parts →
       AreParts word (part ++ b ∷ (blanks ++ parts))
 
 -- what may stand behind a word, and the line that it then is
@@ -55,16 +58,20 @@ pub data IsText : Word → List ℕ → PjlCommand → Type 0 where
   named_job : {text : List ℕ} → AreParts words.Job text → IsText words.Job text (JobBegins text)
   job_end : IsText words.EndOfJob [] (JobEnds [])
   named_end : {text : List ℕ} → IsPart words.EndOfJob text → IsText words.EndOfJob text (JobEnds text)
-  enter : {sign : List ℕ} (title value : List ℕ) → IsWord language title → IsEquals sign → IsWord pcl value → IsText words.Enter (title ++ (sign ++ value)) EnterPcl
+  enter : {sign : List ℕ} (title value : List ℕ) → IsWord language title → IsEquals sign → IsWord pcl value →
+      IsText words.Enter (title ++ (sign ++ value)) EnterPcl
 
 -- a word, alone or with a text behind at least a blank
 pub data AreWords : List ℕ → PjlCommand → Type 0 where
-  alone : {text : List ℕ} {line : PjlCommand} (word : Word) → IsWord (spelling word) text → IsText word [] line → AreWords text line
-  followed : {line : PjlCommand} (word : Word) (title : List ℕ) (b : ℕ) (blanks text : List ℕ) → IsWord (spelling word) title → is_blank b ≡ true → AreBlanks blanks → BeginsSolid text →
+  alone : {text : List ℕ} {line : PjlCommand} (word : Word) → IsWord (spelling word) text → IsText word [] line →
+      AreWords text line
+  followed : {line : PjlCommand} (word : Word) (title : List ℕ) (b : ℕ) (blanks text : List ℕ) →
+      IsWord (spelling word) title → is_blank b ≡ true → AreBlanks blanks → BeginsSolid text →
       IsText word text line → AreWords (title ++ b ∷ (blanks ++ text)) line
 
 -- a line without its newline
 pub data IsPjlCommand : List ℕ → PjlCommand → Type 0 where
   bare : (blanks : List ℕ) → AreBlanks blanks → IsPjlCommand (prefix ++ blanks) Bare
-  worded : {words : List ℕ} {line : PjlCommand} (b : ℕ) (before after : List ℕ) → is_blank b ≡ true → AreBlanks before → AreWords words line → EndsSolid words → AreBlanks after →
+  worded : {words : List ℕ} {line : PjlCommand} (b : ℕ) (before after : List ℕ) → is_blank b ≡ true → AreBlanks before →
+      AreWords words line → EndsSolid words → AreBlanks after →
       IsPjlCommand (prefix ++ b ∷ (before ++ (words ++ after))) line

@@ -3,7 +3,10 @@
 ghost use Rattle.std.specs.Prelude.{◌≡◌, ◌≤◌, ◌+◌, ◌^◌, List, ℕ, length};
 ghost use Rattle.pcl_lexer.specs.Lexing.Contexts.{Single, spaced};
 ghost use Rattle.pcl_lexer.specs.Lexing.FirstView.{first_view, numbers_view, Within};
-ghost use Rattle.pcl_lexer.specs.Frames.Reader.{language_in, enters_frame, after_letter, after_frame_escape, at_frame, single, first_number, first_of_pair, second_of_pair, after_letters, further, ended_by, ended, after_numbers};
+ghost use Rattle.pcl_lexer.specs.Frames.Reader.{language_in, enters_frame, after_letter};
+ghost use Rattle.pcl_lexer.specs.Frames.Reader.{after_frame_escape, at_frame, single, first_number};
+ghost use Rattle.pcl_lexer.specs.Frames.Reader.{first_of_pair, second_of_pair, after_letters};
+ghost use Rattle.pcl_lexer.specs.Frames.Reader.{further, ended_by, ended, after_numbers};
 ghost use Rattle.pcl_items.specs.Items.{bare, default_of, simple_view};
 ghost use Rattle.pcl_lexer.specs.Frames.NumeralView.{numeral_view, numeral_len};
 

@@ -4,7 +4,8 @@ ghost use Rattle.std.specs.Prelude.{◌≡◌, ◌≤◌, ◌==◌, length};
 ghost use Rattle.std.specs.List.{list_all};
 ghost use Rattle.std.specs.Option.{option_map};
 ghost use Rattle.pcl_lexer.specs.Escapes.Field.{field_at};
-ghost use Rattle.pcl_lexer.specs.Frames.Number.{numeral_at, has_digit, coordinate_by, coordinate_of, unsigned, setting_of};
+ghost use Rattle.pcl_lexer.specs.Frames.Number.{numeral_at, has_digit, coordinate_by};
+ghost use Rattle.pcl_lexer.specs.Frames.Number.{coordinate_of, unsigned, setting_of};
 ghost use Rattle.pcl_lexer.specs.Frames.NumeralView.{numeral_view, numeral_len};
 ghost use Rattle.pcl_items.specs.Items.{amount};
 

@@ -10,7 +10,8 @@ ghost use Rattle.pcl_lexer.specs.declared.frame.Gap.TheVariants.{Straight};
 ghost use Rattle.pcl_items.specs.declared.frame.Motion.{Motion};
 ghost use Rattle.pcl_lexer.specs.Lexing.Contexts.{Frame, Numbered, Even};
 ghost use Rattle.pcl_lexer.specs.Lexing.FirstView.{context_view};
-ghost use Rattle.pcl_lexer.specs.Frames.Pairs.{IsBareAhead, IsPairAhead, Leads, LeadsCommand, NamesMotion, HasLetters, IsCoordinateAhead};
+ghost use Rattle.pcl_lexer.specs.Frames.Pairs.{IsBareAhead, IsPairAhead, Leads, LeadsCommand};
+ghost use Rattle.pcl_lexer.specs.Frames.Pairs.{NamesMotion, HasLetters, IsCoordinateAhead};
 
 use crate::frame::Gap;
 use crate::frame::number::{Figures, PAST_COORDINATES};

@@ -2,7 +2,10 @@
 
 ghost use Rattle.std.specs.Prelude.{◌≡◌, ◌≤◌, ◌<◌, ◌+◌, ◌∷◌, [], List, ℕ, length, drop, Bool, Some};
 ghost use Rattle.std.specs.Option.{option_map};
-ghost use Rattle.pcl_lexer.specs.Reader.{command_in, behind_ungrouped, without_group, in_group, after_introducer, after_parenthesis, after_escape, first_of, behind, by_last_byte, by_last_letter, by_other_letter, by_termination, with_data};
+ghost use Rattle.pcl_lexer.specs.Reader.{command_in, behind_ungrouped, without_group, in_group};
+ghost use Rattle.pcl_lexer.specs.Reader.{after_introducer, after_parenthesis, after_escape};
+ghost use Rattle.pcl_lexer.specs.Reader.{first_of, behind, by_last_byte, by_last_letter};
+ghost use Rattle.pcl_lexer.specs.Reader.{by_other_letter, by_termination, with_data};
 ghost use Rattle.pcl_items.specs.Escapes.Commands.{group_at, data_command_at};
 ghost use Rattle.pcl_items.specs.Items.{amount, simple_view};
 ghost use Rattle.pcl_lexer.specs.Escapes.Ungrouped.{ungrouped_at};

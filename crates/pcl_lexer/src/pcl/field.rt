@@ -1,10 +1,13 @@
 //! Value fields.
 
-ghost use Rattle.std.specs.Prelude.{◌≡◌, ◌≤◌, ◌<◌, ◌+◌, ◌^◌, ◌==◌, nat_le, if◌then◌else◌, IsTrue, min, length, fold, drop, None};
+ghost use Rattle.std.specs.Prelude.{◌≡◌, ◌≤◌, ◌<◌, ◌+◌, ◌^◌, ◌==◌, nat_le, if◌then◌else◌, IsTrue};
+ghost use Rattle.std.specs.Prelude.{min, length, fold, drop, None};
 ghost use Rattle.std.specs.List.{list_all};
 ghost use Rattle.std.specs.Option.{option_map};
 ghost use Rattle.pcl_lexer.specs.Escapes.FieldEnd.{field_end, end_view, EndsWithin};
-ghost use Rattle.pcl_lexer.specs.Escapes.Field.{sign_at, sign_len, has_point, digits, decimal, four, field_at, amount_of, next_digit, within_limit};
+ghost use Rattle.pcl_lexer.specs.Escapes.Field.{sign_at, sign_len, has_point, digits, decimal};
+ghost use Rattle.pcl_lexer.specs.Escapes.Field.{four, field_at, amount_of, next_digit};
+ghost use Rattle.pcl_lexer.specs.Escapes.Field.{within_limit};
 ghost use Rattle.pcl_items.specs.Items.{amount};
 
 use pcl_items::{Number, Sign};

@@ -1,5 +1,6 @@
 -- The spelling of an item that stands first in the bytes of a frame.
-use Rattle.std.proofs.Common.{◌≡◌, ℕ, ◌+◌, ◌-◌, ◌<◌, ◌≤◌, ◌⊎◌, Bool, true, List, [], ◌∷◌, ◌++◌, length, take, drop, None, Some, refl, sym, ap, subst, ◌∙◌, arith, inl, inr}
+use Rattle.std.proofs.Common.{◌≡◌, ℕ, ◌+◌, ◌-◌, ◌<◌, ◌≤◌, ◌⊎◌, Bool, true, List, [], ◌∷◌, ◌++◌, length, take, drop, None, Some, refl, sym}
+use Rattle.std.proofs.Common.{ap, subst, ◌∙◌, arith, inl, inr}
 use Rattle.std.specs.Fmt.{signed_decimal}
 use Rattle.std.specs.Prelude.{min}
 use Rattle.std.proofs.lemmas.Bool.{cases_lt}
@@ -74,28 +75,35 @@ record NextItem (w : Bool) (d : Context) (l : List ℕ) (item : Entry) : Type 0 
   next : Context
   first : first_of w d l ≡ Begins item len next
 
-next_item : {w : Bool} {c d c2 : Context} {p q p2 : ℕ} {bytes l rest : List ℕ} {xs ys : List Placed} (place : ℕ) (item : Entry) → ReadsTo w c p bytes xs d q l → xs ≡ [] → ReadsTo w c p bytes ys c2 p2 rest → ys ≡ at place item ∷ [] →
+next_item : {w : Bool} {c d c2 : Context} {p q p2 : ℕ} {bytes l rest : List ℕ} {xs ys : List Placed} (place : ℕ) (item : Entry) →
+    ReadsTo w c p bytes xs d q l → xs ≡ [] → ReadsTo w c p bytes ys c2 p2 rest → ys ≡ at place item ∷ [] →
     ((len : ℕ) (next : Context) → first_of w d l ≡ Passes len next → ⊥) → NextItem w d l item
 next_item place item here e here f stops = absurd cc
 next_item place item here e (passes len next g k) f stops = absurd (stops len next g)
-next_item place item here e (begins entry len next g k) f stops = record { len = len; next = next; first = g ∙ ap (λ x. Begins x len next) (one_item f) }
+next_item place item here e (begins entry len next g k) f stops =
+    record { len = len; next = next; first = g ∙ ap (λ x. Begins x len next) (one_item f) }
 next_item place item (passes len next g h) e here f stops = absurd cc
-next_item place item (passes {whole = w} {context = c} {bytes = bytes} len next g h) e (begins entry n d i k) f stops = absurd (not_both (first_of w c bytes) entry n len d next i g)
+next_item place item (passes {whole = w} {context = c} {bytes = bytes} len next g h) e (begins entry n d i k) f stops =
+    absurd (not_both (first_of w c bytes) entry n len d next i g)
 next_item place item (passes {whole = w} {context = c} {place = p} {bytes = bytes} len next g h) e (passes len2 next2 i k) f stops =
     let b = same_pass (first_of w c bytes) len len2 next next2 g i in
     next_item place item h e (moved p bytes len next b.0 b.1 k) f stops
 next_item place item (begins entry len next g h) e k f stops = absurd cc
 
 -- where an item's spelling stands first in the bytes, it is read in their front
-stands_ahead : (bytes : List ℕ) (n : ℕ) (ahead : Ahead) (item : Entry) (end : ℕ) (next : Mode) → (length bytes ≤ n) ⊎ (64 ≤ n) → StandsAhead true Frame 0 (take n bytes) ahead → StandsAt modes.Frame bytes 0 item end next →
+stands_ahead : (bytes : List ℕ) (n : ℕ) (ahead : Ahead) (item : Entry) (end : ℕ) (next : Mode) → (length bytes ≤ n) ⊎ (64 ≤ n) →
+    StandsAhead true Frame 0 (take n bytes) ahead → StandsAt modes.Frame bytes 0 item end next →
     NextItem true (context_view ahead.context) (drop ahead.start (take n bytes)) item
 stands_ahead bytes n ahead item end next size h s =
     let text : List ℕ = canon item in
     let long : length text ≤ n = long_enough size in
     let front_is : take n bytes ≡ text ++ take (n - length text) s.rest = ap (take n) s.spelled ∙ front_spelled n text s.rest long in
-    let read : ReadsTo true Frame 0 (text ++ take (n - length text) s.rest) (at 0 item ∷ []) (between next) (0 + length text) (take (n - length text) s.rest) = (has_canon modes.Frame next item s.is_item s.admitted).reads true 0 (take (n - length text) s.rest) in
+    let read : ReadsTo true Frame 0 (text ++ take (n - length text) s.rest) (at 0 item ∷ []) (between next) (0 + length text)
+    (take (n - length text) s.rest) =
+    (has_canon modes.Frame next item s.is_item s.admitted).reads true 0 (take (n - length text) s.rest) in
     let front_read : ReadsTo true Frame 0 (take n bytes) (at 0 item ∷ []) (between next) (0 + length text) (take (n - length text) s.rest) =
-    subst (λ (l : List ℕ). ReadsTo true Frame 0 l (at 0 item ∷ []) (between next) (0 + length text) (take (n - length text) s.rest)) (sym front_is) read in
+    subst (λ (l : List ℕ). ReadsTo true Frame 0 l (at 0 item ∷ []) (between next) (0 + length text) (take (n - length text) s.rest))
+    (sym front_is) read in
     next_item 0 item (h.reads 0) refl front_read refl (λ len next e. h.stops len next (h.first_is ∙ e))
   where
     long_enough : (length bytes ≤ n) ⊎ (64 ≤ n) → length (canon item) ≤ n
@@ -104,7 +112,8 @@ stands_ahead bytes n ahead item end next size h s =
 
 -- ---- the item that was read
 
-pub ahead_mode : (front : List ℕ) (ahead : Ahead) → StandsAhead true Frame 0 front ahead → mode_of (context_view ahead.context) ≡ modes.Frame
+pub ahead_mode : (front : List ℕ) (ahead : Ahead) → StandsAhead true Frame 0 front ahead →
+    mode_of (context_view ahead.context) ≡ modes.Frame
 ahead_mode front ahead h = let behind : Some modes.Frame ≡ Some (mode_of (context_view ahead.context)) = reads_mode (h.reads 0) in cc
 
 no_data : (item : Entry) (next : Mode) → follows modes.Frame item ≡ Some next → data_of item ≡ []
@@ -119,14 +128,17 @@ pub record IsAheadAs (front text : List ℕ) (item : Entry) (ahead : Ahead) (nex
   pub admitted : follows modes.Frame item ≡ Some (mode_of next)
   pub text_is : text ≡ canon item
 
-pub ahead_as : (front text : List ℕ) (item : Item) (ahead : Ahead) (head : Head) (len : ℕ) (next : code_context.Context) → StandsAhead true Frame 0 front ahead → ahead.first ≡ codes.Begins len head next →
-    view item ≡ head_view head len (drop ahead.start front) → text ++ data_of (view item) ≡ canon (view item) → IsAheadAs front text (view item) ahead (context_view next)
+pub ahead_as : (front text : List ℕ) (item : Item) (ahead : Ahead) (head : Head) (len : ℕ) (next : code_context.Context) →
+    StandsAhead true Frame 0 front ahead → ahead.first ≡ codes.Begins len head next →
+    view item ≡ head_view head len (drop ahead.start front) → text ++ data_of (view item) ≡ canon (view item) →
+    IsAheadAs front text (view item) ahead (context_view next)
 ahead_as front text item ahead head len next h is item_is text_is =
     let rest : List ℕ = drop ahead.start front in
     let read : first_of true (context_view ahead.context) rest ≡ Begins (view item) len (context_view next) =
     sym h.first_is ∙ ap (first_view rest) is ∙ ap (λ x. Begins x len (context_view next)) (sym item_is) in
     let admitted : follows modes.Frame (view item) ≡ Some (mode_of (context_view next)) =
-    ap (λ m. follows m (view item)) (sym (ahead_mode front ahead h)) ∙ begins_in_mode true (context_view ahead.context) rest (view item) len (context_view next) read in
+    ap (λ m. follows m (view item)) (sym (ahead_mode front ahead h))
+    ∙ begins_in_mode true (context_view ahead.context) rest (view item) len (context_view next) read in
     record {
       len = len;
       is_item = item_known item;
@@ -136,7 +148,8 @@ ahead_as front text item ahead head len next h is item_is text_is =
     }
 
 -- its spelling stands there where the bytes begin with the text
-pub ahead_stands : (bytes front text : List ℕ) (item : Entry) (ahead : Ahead) (next : Context) → IsAheadAs front text item ahead next → bytes ≡ text ++ drop (length text) bytes → StandsAt modes.Frame bytes 0 item (length text) (mode_of next)
+pub ahead_stands : (bytes front text : List ℕ) (item : Entry) (ahead : Ahead) (next : Context) → IsAheadAs front text item ahead next →
+    bytes ≡ text ++ drop (length text) bytes → StandsAt modes.Frame bytes 0 item (length text) (mode_of next)
 ahead_stands bytes front text item ahead next h begins_so = record {
   is_item = h.is_item;
   admitted = h.admitted;
@@ -146,7 +159,8 @@ ahead_stands bytes front text item ahead next h begins_so = record {
 }
 
 -- and nothing does where they don't
-pub ahead_differs : (bytes : List ℕ) (n : ℕ) (text : List ℕ) (item : Entry) (ahead : Ahead) (next : Context) → (length bytes ≤ n) ⊎ (64 ≤ n) → StandsAhead true Frame 0 (take n bytes) ahead → IsAheadAs (take n bytes) text item ahead next →
+pub ahead_differs : (bytes : List ℕ) (n : ℕ) (text : List ℕ) (item : Entry) (ahead : Ahead) (next : Context) →
+    (length bytes ≤ n) ⊎ (64 ≤ n) → StandsAhead true Frame 0 (take n bytes) ahead → IsAheadAs (take n bytes) text item ahead next →
     ((rest : List ℕ) → bytes ≡ text ++ rest → ⊥) → NothingStands modes.Frame bytes 0
 ahead_differs bytes n text item ahead next size h r differs other end mode s =
     let first = stands_ahead bytes n ahead other end mode size h s in
@@ -155,12 +169,16 @@ ahead_differs bytes n text item ahead next size h r differs other end mode s =
     differs s.rest (s.spelled ∙ ap (λ t. t ++ s.rest) (ap canon same ∙ sym r.text_is))
 
 -- nor where no item was read ahead
-pub nothing_ahead : (bytes : List ℕ) (n : ℕ) (ahead : Ahead) → (length bytes ≤ n) ⊎ (64 ≤ n) → StandsAhead true Frame 0 (take n bytes) ahead → ((len : ℕ) (head : Head) (next : code_context.Context) → ahead.first ≡ codes.Begins len head next → ⊥) → NothingStands modes.Frame bytes 0
+pub nothing_ahead : (bytes : List ℕ) (n : ℕ) (ahead : Ahead) → (length bytes ≤ n) ⊎ (64 ≤ n) →
+    StandsAhead true Frame 0 (take n bytes) ahead →
+    ((len : ℕ) (head : Head) (next : code_context.Context) → ahead.first ≡ codes.Begins len head next → ⊥) →
+    NothingStands modes.Frame bytes 0
 nothing_ahead bytes n ahead size h none other end mode s =
     let first = stands_ahead bytes n ahead other end mode size h s in
     no_begin (drop ahead.start (take n bytes)) ahead.first (h.first_is ∙ first.first) none
   where
-    no_begin : (rest : List ℕ) (f : codes.the_data) {item : Entry} {len : ℕ} {c : Context} → first_view rest f ≡ Begins item len c → ((len : ℕ) (head : Head) (next : code_context.Context) → f ≡ codes.Begins len head next → ⊥) → ⊥
+    no_begin : (rest : List ℕ) (f : codes.the_data) {item : Entry} {len : ℕ} {c : Context} → first_view rest f ≡ Begins item len c →
+        ((len : ℕ) (head : Head) (next : code_context.Context) → f ≡ codes.Begins len head next → ⊥) → ⊥
     no_begin rest codes.Open e k = absurd cc
     no_begin rest (codes.Passes len next) e k = absurd cc
     no_begin rest (codes.Begins len head next) e k = k len head next refl

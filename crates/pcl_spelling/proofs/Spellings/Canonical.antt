@@ -1,5 +1,6 @@
 -- The one spelling of each item of mode PCL is one unit of it.
-use Rattle.std.proofs.Common.{◌≡◌, ℕ, ◌+◌, ◌*◌, ◌^◌, ◌/◌, ◌%◌, ◌<◌, ◌≤◌, List, [], ◌∷◌, ◌++◌, length, Option, None, Some, refl, sym, ap, subst, ◌∙◌, arith}
+use Rattle.std.proofs.Common.{◌≡◌, ℕ, ◌+◌, ◌*◌, ◌^◌, ◌/◌, ◌%◌, ◌<◌, ◌≤◌, List, [], ◌∷◌, ◌++◌, length, Option, None, Some, refl, sym, ap}
+use Rattle.std.proofs.Common.{subst, ◌∙◌, arith}
 use Rattle.std.specs.Prelude.{◌==◌, decimal}
 use Rattle.std.specs.Char.{digit_value}
 use Rattle.std.specs.Str.Parse.{AllDigits, digits_value, digits_value_after}
@@ -14,8 +15,11 @@ use Rattle.pcl_items.specs.declared.item.Mode.TheVariants as modes
 use Rattle.pcl_items.specs.Escapes.Value.{Amount, Counts, most, most_data}
 use Rattle.pcl_items.specs.Escapes.ValueField.{sign_text, fraction_text, decimals_of, IsWritten, IsField}
 use Rattle.pcl_lexer.specs.Frames.NumberText.{IsSetting}
-use Rattle.pcl_items.specs.Items.{Entry, Text, CarriageReturn, LineFeed, FormFeed, Reset, ClearMargins, HalfLineFeed, Parameterized, SymbolSet, DefaultFont, EnterFrame, LeaveFrame, Initialize, Set, Move, WithData, ExitLanguage, PjlLine, at}
-use Rattle.pcl_lexer.specs.Grammar.{last, with_data, symbol_set, default_font, leave_frame, previous, current, IsUnit, text_byte, control_code, two_characters, ungrouped, combined}
+use Rattle.pcl_items.specs.Items.{Entry, Text, CarriageReturn, LineFeed, FormFeed, Reset, ClearMargins, HalfLineFeed, Parameterized}
+use Rattle.pcl_items.specs.Items.{SymbolSet, DefaultFont, EnterFrame, LeaveFrame, Initialize, Set, Move, WithData, ExitLanguage, PjlLine}
+use Rattle.pcl_items.specs.Items.{at}
+use Rattle.pcl_lexer.specs.Grammar.{last, with_data, symbol_set, default_font, leave_frame, previous, current, IsUnit, text_byte}
+use Rattle.pcl_lexer.specs.Grammar.{control_code, two_characters, ungrouped, combined}
 use Rattle.pcl_items.specs.Modes.{follows}
 use Rattle.pcl_items.specs.Spellings.Canon.{four_decimals, before, without_zeros, with_point, magnitude_text, amount_text, canon, IsItem}
 use Rattle.pcl_lexer.proofs.Escapes.Values.{after-append, ten_more}
@@ -29,7 +33,10 @@ digit_small : (n : ℕ) → n < 10 → digit_value (48 + n) < 10
 digit_small n h = omega (arith, digit_of n h)
 
 four_digits : (n : ℕ) → AllDigits 10 (four_decimals n)
-four_digits n = (digit_small (n / 1000 % 10) (omega arith), (digit_small (n / 100 % 10) (omega arith), (digit_small (n / 10 % 10) (omega arith), (digit_small (n % 10) (omega arith), tt))))
+four_digits n = (
+  digit_small (n / 1000 % 10) (omega arith),
+  (digit_small (n / 100 % 10) (omega arith), (digit_small (n / 10 % 10) (omega arith), (digit_small (n % 10) (omega arith), tt))),
+)
 
 four_written : (n : ℕ) → n * 10 ^ length (four_decimals n) ≡ 10000 * digits_value_after 10 (n / 10000) (four_decimals n)
 four_written n =
@@ -68,7 +75,8 @@ before-writes t n d (e ∷ ds) h = sym (ten_more t (length (e ∷ ds))) ∙ h
 
 zeros-writes : (t n : ℕ) (ds : List ℕ) → Writes t n ds → Writes t n (without_zeros ds)
 zeros-writes t n [] h = h
-zeros-writes t n (d ∷ ds) h = before-writes t n d (without_zeros ds) (zeros-writes (t * 10) (n * 10 + digit_value d) ds (ten_more t (length ds) ∙ h))
+zeros-writes t n (d ∷ ds) h =
+    before-writes t n d (without_zeros ds) (zeros-writes (t * 10) (n * 10 + digit_value d) ds (ten_more t (length ds) ∙ h))
 
 -- ---- a field
 
@@ -111,7 +119,8 @@ amount_spelled a h =
         spelled = ap (λ t. sign_text a.sign ++ (decimal (n / 10000) ++ t)) (fraction_is ds);
         digits = (whole.0.1, subst (AllDigits 10) (sym (decimals_are ds)) (zeros-digits (four_decimals n) (four_digits n)));
       };
-      short = omega (arith, length-append (sign_text a.sign) (magnitude_text n), length-append (decimal (n / 10000)) (with_point ds), sign-length a.sign, length-decimal-le 5 (n / 10000) (omega arith) five high, with_point-length ds, zeros-length (four_decimals n));
+      short = omega (arith, length-append (sign_text a.sign) (magnitude_text n), length-append (decimal (n / 10000)) (with_point ds),
+      sign-length a.sign, length-decimal-le 5 (n / 10000) (omega arith) five high, with_point-length ds, zeros-length (four_decimals n));
       written = subst (IsWritten n (decimal (n / 10000))) (sym (decimals_are ds)) written;
       limited = h;
     }
@@ -151,10 +160,24 @@ count_spelled n h =
     }
 
 pub zero_spelled : IsField (48 ∷ []) (record { sign = Absent; ten_thousandths = 0 })
-zero_spelled = record { whole = 48 ∷ []; fraction = None; shape = record { spelled = refl; digits = ((digit_small 0 (omega arith), tt), tt) }; short = omega arith; written = refl; limited = omega arith }
+zero_spelled = record {
+  whole = 48 ∷ [];
+  fraction = None;
+  shape = record { spelled = refl; digits = ((digit_small 0 (omega arith), tt), tt) };
+  short = omega arith;
+  written = refl;
+  limited = omega arith;
+}
 
 pub one_spelled : IsField (49 ∷ []) (record { sign = Absent; ten_thousandths = 10000 })
-one_spelled = record { whole = 49 ∷ []; fraction = None; shape = record { spelled = refl; digits = ((digit_small 1 (omega arith), tt), tt) }; short = omega arith; written = refl; limited = omega arith }
+one_spelled = record {
+  whole = 49 ∷ [];
+  fraction = None;
+  shape = record { spelled = refl; digits = ((digit_small 1 (omega arith), tt), tt) };
+  short = omega arith;
+  written = refl;
+  limited = omega arith;
+}
 
 three_spelled : IsField (51 ∷ []) (record { sign = Absent; ten_thousandths = 30000 })
 three_spelled = record {
@@ -168,7 +191,8 @@ three_spelled = record {
 
 -- ---- the items
 
-pub between_unit : (item : Entry) → IsItem item → follows modes.Pcl item ≡ Some modes.Pcl → (place : ℕ) (rest : List ℕ) → IsUnit modes.Pcl place (canon item) rest (at place item ∷ []) modes.Pcl
+pub between_unit : (item : Entry) → IsItem item → follows modes.Pcl item ≡ Some modes.Pcl → (place : ℕ) (rest : List ℕ) →
+    IsUnit modes.Pcl place (canon item) rest (at place item ∷ []) modes.Pcl
 between_unit (Text code) h e place rest = text_byte h
 between_unit CarriageReturn h e place rest = control_code refl
 between_unit LineFeed h e place rest = control_code refl
@@ -187,4 +211,5 @@ between_unit (Set setting ten_thousandths) h e place rest = absurd cc
 between_unit (Move motion to) h e place rest = absurd cc
 between_unit ExitLanguage h e place rest = absurd cc
 between_unit (PjlLine line) h e place rest = absurd cc
-between_unit (WithData command bytes) h e place rest = combined (with_data command (count_spelled (length bytes) h) (counts (length bytes) h))
+between_unit (WithData command bytes) h e place rest =
+    combined (with_data command (count_spelled (length bytes) h) (counts (length bytes) h))

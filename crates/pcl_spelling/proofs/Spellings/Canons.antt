@@ -1,12 +1,15 @@
 -- In each mode that admits an item its one spelling is one unit, and is read as that item.
-use Rattle.std.proofs.Common.{◌≡◌, ◌≢◌, ℕ, ◌+◌, List, [], ◌∷◌, ◌++◌, length, Bool, true, false, cond, None, Some, refl, sym, ap, subst, arith}
+use Rattle.std.proofs.Common.{◌≡◌, ◌≢◌, ℕ, ◌+◌, List, [], ◌∷◌, ◌++◌, length, Bool, true, false, cond, None, Some, refl, sym, ap, subst}
+use Rattle.std.proofs.Common.{arith}
 use Rattle.std.specs.Prelude.{◌==◌}
 use Rattle.std.proofs.lemmas.Bool.{eqb-false}
 use Rattle.pcl_items.specs.declared.frame.Handover.{Handover}
 use Rattle.pcl_items.specs.declared.frame.Handover.TheVariants.{Previous, Current}
 use Rattle.pcl_items.specs.declared.item.Mode.{Mode}
 use Rattle.pcl_items.specs.declared.item.Mode.TheVariants as modes
-use Rattle.pcl_items.specs.Items.{Entry, Placed, Text, CarriageReturn, LineFeed, FormFeed, Reset, ClearMargins, HalfLineFeed, Parameterized, SymbolSet, DefaultFont, EnterFrame, LeaveFrame, Initialize, Set, Move, WithData, ExitLanguage, PjlLine, at}
+use Rattle.pcl_items.specs.Items.{Entry, Placed, Text, CarriageReturn, LineFeed, FormFeed, Reset, ClearMargins, HalfLineFeed, Parameterized}
+use Rattle.pcl_items.specs.Items.{SymbolSet, DefaultFont, EnterFrame, LeaveFrame, Initialize, Set, Move, WithData, ExitLanguage, PjlLine}
+use Rattle.pcl_items.specs.Items.{at}
 use Rattle.pcl_items.specs.PjlLines.Text.{at_sign, PjlCommand}
 use Rattle.pcl_lexer.specs.Lexing.Contexts.{Frame}
 use Rattle.pcl_lexer.specs.Grammar as grammar
@@ -25,15 +28,19 @@ use Rattle.pcl_spelling.proofs.Spellings.Canonical.{between_unit, zero_spelled, 
 use Rattle.pcl_spelling.proofs.Frames.Canonical.{IsEnded, ended, IsFrameItem, frame_ended, reset_leaves, language_leaves}
 
 made : (mode mode2 : Mode) (item : Entry) → ((place : ℕ) (rest : List ℕ) → IsUnit mode place (canon item) rest (at place item ∷ []) mode2) →
-    ((whole : Bool) (place : ℕ) (rest : List ℕ) → ReadsTo whole (between mode) place (canon item ++ rest) (at place item ∷ []) (between mode2) (place + length (canon item)) rest) → HasCanon mode item mode2
+    ((whole : Bool) (place : ℕ) (rest : List ℕ) →
+    ReadsTo whole (between mode) place (canon item ++ rest) (at place item ∷ []) (between mode2) (place + length (canon item)) rest) →
+    HasCanon mode item mode2
 made mode mode2 item unit reads = record { unit = unit; spells = λ place rest. grammar.next (unit place rest) grammar.here; reads = reads }
 
 -- ---- in mode PCL
 
-between_canon : (mode2 : Mode) (item : Entry) → ((place : ℕ) (rest : List ℕ) → IsUnit modes.Pcl place (canon item) rest (at place item ∷ []) mode2) → HasCanon modes.Pcl item mode2
+between_canon : (mode2 : Mode) (item : Entry) →
+    ((place : ℕ) (rest : List ℕ) → IsUnit modes.Pcl place (canon item) rest (at place item ∷ []) mode2) → HasCanon modes.Pcl item mode2
 between_canon mode2 item unit = made modes.Pcl mode2 item unit (λ whole place rest. unit_read whole tt (unit place rest))
 
-enter_unit : (handover : Handover) (place : ℕ) (rest : List ℕ) → IsUnit modes.Pcl place (canon (EnterFrame handover)) rest (at place (EnterFrame handover) ∷ []) modes.Frame
+enter_unit : (handover : Handover) (place : ℕ) (rest : List ℕ) →
+    IsUnit modes.Pcl place (canon (EnterFrame handover)) rest (at place (EnterFrame handover) ∷ []) modes.Frame
 enter_unit Previous place rest = ungrouped zero_spelled (enter_frame (previous refl))
 enter_unit Current place rest = ungrouped one_spelled (enter_frame (current refl (λ e. absurd cc)))
 
@@ -44,9 +51,12 @@ enters _ e = absurd cc
 -- ---- in a frame
 
 leaves : (item : Entry) → follows modes.Frame item ≡ Some modes.Pcl → HasCanon modes.Frame item modes.Pcl
-leaves Reset e = made modes.Frame modes.Pcl Reset (λ place rest. out_of_frame (reset_leaves place)) (λ whole place rest. leaves_reads whole rest (reset_leaves place))
+leaves Reset e =
+    made modes.Frame modes.Pcl Reset (λ place rest. out_of_frame (reset_leaves place))
+    (λ whole place rest. leaves_reads whole rest (reset_leaves place))
 leaves (LeaveFrame handover) e =
-    made modes.Frame modes.Pcl (LeaveFrame handover) (λ place rest. out_of_frame (language_leaves handover place)) (λ whole place rest. leaves_reads whole rest (language_leaves handover place))
+    made modes.Frame modes.Pcl (LeaveFrame handover) (λ place rest. out_of_frame (language_leaves handover place))
+    (λ whole place rest. leaves_reads whole rest (language_leaves handover place))
 leaves _ e = absurd cc
 
 framed : (item : Entry) → follows modes.Frame item ≡ Some modes.Frame → IsFrameItem item
@@ -58,7 +68,8 @@ framed _ e = absurd cc
 ended_unit : {place : ℕ} {text rest : List ℕ} {items : List Placed} → IsEnded place text rest items → IsFrameUnit place text rest items
 ended_unit (ended c) = ended_command c
 
-ended_read : {place : ℕ} {text rest : List ℕ} {items : List Placed} (whole : Bool) → IsEnded place text rest items → ReadsTo whole Frame place (text ++ rest) items Frame (place + length text) rest
+ended_read : {place : ℕ} {text rest : List ℕ} {items : List Placed} (whole : Bool) → IsEnded place text rest items →
+    ReadsTo whole Frame place (text ++ rest) items Frame (place + length text) rest
 ended_read whole (ended c) = ended_reads whole c
 
 stays : (item : Entry) → IsItem item → follows modes.Frame item ≡ Some modes.Frame → HasCanon modes.Frame item modes.Frame
@@ -81,10 +92,12 @@ only_exit modes.Pjl item h e = absurd (h refl)
 into_pjl : (mode : Mode) (item : Entry) → (mode ≡ modes.Pjl → ⊥) → follows mode item ≡ Some modes.Pjl → HasCanon mode item modes.Pjl
 into_pjl mode item h e = subst (λ (x : Entry). HasCanon mode x modes.Pjl) (sym (only_exit mode item h e)) (exits mode)
 
-line_unit : (l : PjlCommand) → IsSpelledPjl l → (place : ℕ) (rest : List ℕ) → IsUnit modes.Pjl place (canon (PjlLine l)) rest (at place (PjlLine l) ∷ []) (behind_pjl l)
+line_unit : (l : PjlCommand) → IsSpelledPjl l → (place : ℕ) (rest : List ℕ) →
+    IsUnit modes.Pjl place (canon (PjlLine l)) rest (at place (PjlLine l) ∷ []) (behind_pjl l)
 line_unit l h place rest = line (canon_unit l h)
 
-in_pjl : (mode2 : Mode) (item : Entry) → ((place : ℕ) (rest : List ℕ) → IsUnit modes.Pjl place (canon item) rest (at place item ∷ []) mode2) → HasCanon modes.Pjl item mode2
+in_pjl : (mode2 : Mode) (item : Entry) →
+    ((place : ℕ) (rest : List ℕ) → IsUnit modes.Pjl place (canon item) rest (at place item ∷ []) mode2) → HasCanon modes.Pjl item mode2
 in_pjl mode2 item unit = made modes.Pjl mode2 item unit (λ whole place rest. unit_read whole tt (unit place rest))
 
 -- what mode PCL admits
@@ -101,16 +114,19 @@ pub record Otherwise (mode2 : Mode) (item : Entry) : Type 0 where
   pub spelled : canon item ≡ first ∷ others
   pub other : first ≢ at_sign
 
-escaped : {mode2 : Mode} {item : Entry} (others : List ℕ) → follows modes.Pcl item ≡ Some mode2 → canon item ≡ 27 ∷ others → Otherwise mode2 item
+escaped : {mode2 : Mode} {item : Entry} (others : List ℕ) → follows modes.Pcl item ≡ Some mode2 → canon item ≡ 27 ∷ others →
+    Otherwise mode2 item
 escaped others e s = record { admitted = e; first = 27; others = others; spelled = s; other = λ k. absurd (omega (arith, k)) }
 
-text_otherwise : (mode2 : Mode) (code : ℕ) (c : Bool) → (code == 64) ≡ c → cond c None (Some modes.Pcl) ≡ Some mode2 → Otherwise mode2 (Text code)
+text_otherwise : (mode2 : Mode) (code : ℕ) (c : Bool) → (code == 64) ≡ c → cond c None (Some modes.Pcl) ≡ Some mode2 →
+    Otherwise mode2 (Text code)
 text_otherwise mode2 code true k e = absurd cc
 text_otherwise mode2 code false k e = record { admitted = e; first = code; others = []; spelled = refl; other = eqb-false code 64 k }
 
 pub otherwise_item : (mode2 : Mode) (item : Entry) → IsNoPjl item → follows modes.Pjl item ≡ Some mode2 → Otherwise mode2 item
 otherwise_item mode2 (Text code) n e = text_otherwise mode2 code (code == 64) refl e
-otherwise_item mode2 CarriageReturn n e = record { admitted = e; first = 13; others = []; spelled = refl; other = λ k. absurd (omega (arith, k)) }
+otherwise_item mode2 CarriageReturn n e =
+    record { admitted = e; first = 13; others = []; spelled = refl; other = λ k. absurd (omega (arith, k)) }
 otherwise_item mode2 LineFeed n e = record { admitted = e; first = 10; others = []; spelled = refl; other = λ k. absurd (omega (arith, k)) }
 otherwise_item mode2 FormFeed n e = record { admitted = e; first = 12; others = []; spelled = refl; other = λ k. absurd (omega (arith, k)) }
 otherwise_item mode2 Reset n e = escaped _ e refl
@@ -130,7 +146,8 @@ otherwise_item mode2 (PjlLine l) n e = absurd n
 
 otherwise_canon : (mode2 : Mode) (item : Entry) → IsItem item → Otherwise mode2 item → HasCanon modes.Pjl item mode2
 otherwise_canon mode2 item h o =
-    in_pjl mode2 item (λ place rest. unit_otherwise (canon item) rest o.other (ap (λ l. l ++ rest) o.spelled) ((pcl_canon mode2 item h o.admitted).unit place rest))
+    in_pjl mode2 item (λ place rest.
+    unit_otherwise (canon item) rest o.other (ap (λ l. l ++ rest) o.spelled) ((pcl_canon mode2 item h o.admitted).unit place rest))
 
 pjl_canon : (mode2 : Mode) (item : Entry) → IsItem item → follows modes.Pjl item ≡ Some mode2 → HasCanon modes.Pjl item mode2
 pjl_canon mode2 (PjlLine l) h e =

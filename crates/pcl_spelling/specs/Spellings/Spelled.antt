@@ -7,7 +7,8 @@ use Rattle.pcl_items.specs.Spellings.Canon.{canon, IsItem}
 use Rattle.pcl_lexer.specs.Reading.{items_of, left, read_on}
 use Rattle.pcl_lexer.specs.Modes.{between}
 
--- the spelling of an item that the mode admits stands at a place of the bytes, and ends before another, in the next mode
+-- the spelling of an item that the mode admits stands at a place of the bytes, and ends before another, in
+-- the next mode
 pub record StandsAt (mode : Mode) (bytes : List ℕ) (at : ℕ) (item : Entry) (end : ℕ) (next : Mode) : Type 0 where
   pub is_item : IsItem item
   pub admitted : follows mode item ≡ Some next
@@ -26,7 +27,8 @@ spelled (item ∷ items) = canon item ++ spelled items
 -- items that a mode admits, each of the others being admitted by the mode behind the one before it
 pub data AreAdmitted : Mode → List Entry → Type 0 where
   none : {mode : Mode} → AreAdmitted mode []
-  some : {mode next : Mode} {item : Entry} {items : List Entry} → IsItem item → follows mode item ≡ Some next → AreAdmitted next items → AreAdmitted mode (item ∷ items)
+  some : {mode next : Mode} {item : Entry} {items : List Entry} → IsItem item → follows mode item ≡ Some next →
+      AreAdmitted next items → AreAdmitted mode (item ∷ items)
 
 -- the bytes are the spellings of such items
 abbrev pub IsSpelled : Mode → List ℕ → Type 0

@@ -24,15 +24,20 @@ pub record IsFurther (first last : LexerState) : Type 0 where
 
 -- A loop executed what stands next, and answered whether the check is still open. Then no item is told.
 pub record ExecutesOn {A P : Type 0} (old new : Checking A P) (answer : Bool) : Type 0 where
-  pub came : StandsBy new.standing (λ failed. ComesThrough failed new.culprit old.lexer new.lexer (machines_of old.machines) (machines_of new.machines) (counts_of old.machines) (counts_of new.machines))
+  pub came : StandsBy new.standing (λ failed.
+      ComesThrough failed new.culprit old.lexer new.lexer (machines_of old.machines) (machines_of new.machines)
+      (counts_of old.machines) (counts_of new.machines))
   pub tells : answer ≡ is_open new.standing
   pub untold : IsTrue answer → new.culprit ≡ old.culprit
   pub further : IsFurther old.lexer new.lexer
 
 -- So did the loop over all that the bytes decide.
 pub record ExecutesDecided {A P : Type 0} (old new : Checking A P) (answer : Bool) : Type 0 where
-  pub came : StandsBy new.standing (λ failed. (fleet : List Printer) (bytes : List ℕ) → HasExecuted fleet bytes old.lexer (machines_of old.machines) (counts_of old.machines)
-      → CameTo fleet bytes old.lexer.ended failed new.culprit new.lexer (machines_of new.machines) (counts_of new.machines))
+  pub came : StandsBy new.standing (λ failed.
+      (fleet : List Printer) (bytes : List ℕ) →
+      HasExecuted fleet bytes old.lexer (machines_of old.machines) (counts_of old.machines)
+      → CameTo fleet bytes old.lexer.ended failed new.culprit new.lexer (machines_of new.machines)
+          (counts_of new.machines))
   pub tells : answer ≡ is_open new.standing
   pub untold : IsTrue answer → new.culprit ≡ None
   pub ended : new.lexer.ended ≡ old.lexer.ended

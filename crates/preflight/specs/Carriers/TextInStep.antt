@@ -25,4 +25,5 @@ GoOnAll look from codes machines = AllByRecursion (GoOn look from codes) machine
 abbrev pub PrintInStep : List ℕ → List MachineState → List MachineState → Counts → Counts → Type 0
 PrintInStep [] old new counts counts' = (new ≡ old) × (counts' ≡ counts)
 PrintInStep (code ∷ codes) old new counts counts' =
-    (mid : List MachineState) × (between : Counts) × GoesAlike (Execute (line_item code)) old mid counts between × PrintInStep codes mid new between counts'
+    (mid : List MachineState) × (between : Counts) × GoesAlike (Execute (line_item code)) old mid counts between
+    × PrintInStep codes mid new between counts'

@@ -27,7 +27,8 @@ LeadsTo old new kept page event = AddsFront old new (kept ++ event_line page eve
 abbrev pub TakesLine : {W A : Type 0} → (W → OutletState) → PageText W A → Event → PageText W A → Type 0
 TakesLine state old event new =
     (new.outlet.ghost_name ≡ old.outlet.ghost_name) × (new.kept.ghost_name ≡ old.kept.ghost_name)
-    × LeadsOn (state old.outlet.now) (state new.outlet.now) old.kept.now.items new.kept.now.items old.page new.page event
+    × LeadsOn (state old.outlet.now)
+    (state new.outlet.now) old.kept.now.items new.kept.now.items old.page new.page event
 
 abbrev pub RefusesLine : {W A : Type 0} → (W → OutletState) → PageText W A → Event → PageText W A → Type 0
 RefusesLine state old event new =
@@ -36,11 +37,14 @@ RefusesLine state old event new =
 
 -- a machine that knows its panel stands for one state, whatever this one is
 abbrev pub any_panel : Panel
-any_panel = record { size = 0; orientation = 0; vmi = 0; font = 0; copies = 0; sides = 0; tray = 0; line_termination = 0 }
+any_panel =
+    record { size = 0; orientation = 0; vmi = 0; font = 0; copies = 0; sides = 0; tray = 0; line_termination = 0 }
 
 -- the run of the rest of a job from where the machine stands
 abbrev pub rest_run : MachineState → Reading → JobRun
-rest_run machine reading = reading_run machine.printer (settings_at any_panel machine.defaults) reading machine.macros (state_at any_panel machine.page)
+rest_run machine reading =
+    reading_run machine.printer (settings_at any_panel machine.defaults) reading machine.macros
+    (state_at any_panel machine.page)
 
 -- what is due of it, where the page of this number is open
 abbrev pub pages_from : MachineState → ℕ → Rendering

@@ -13,7 +13,8 @@ use Rattle.streams.specs.Pieces.{MayBeBy}
 use Rattle.renderings.specs.Carriers.Rendering.{HasRendered, IsFrontFor}
 
 -- It wants more, all that was rendered is written, and all bytes together with so many more are at most 2^62.
-pub record CanRender (is_in : Mode → Type 0) (failed : Bool) (kept : List ℕ) (total : ℕ) (lexer : LexerState) (more : ℕ) : Type 0 where
+pub record CanRender (is_in : Mode → Type 0) (failed : Bool) (kept : List ℕ) (total : ℕ)
+    (lexer : LexerState) (more : ℕ) : Type 0 where
   pub working : failed ≡ false
   pub nothing_kept : kept ≡ []
   pub mode : is_in (mode_of lexer.context)
@@ -23,7 +24,9 @@ pub record CanRender (is_in : Mode → Type 0) (failed : Bool) (kept : List ℕ)
   pub most : total + more ≤ 2 ^ 62
 
 -- All items that the bytes decide were rendered, and what is due of them was written.
-pub record RendersOn (first : Rendering) (start : OutletState) (is_in : Mode → Type 0) (bytes : List ℕ) (rendering : Rendering) (written : OutletState) (kept : List ℕ) (total total' : ℕ) (lexer : LexerState) : Type 0 where
+pub record RendersOn (first : Rendering) (start : OutletState) (is_in : Mode → Type 0) (bytes : List ℕ)
+    (rendering : Rendering) (written : OutletState) (kept : List ℕ) (total total' : ℕ)
+    (lexer : LexerState) : Type 0 where
   pub rendered : HasRendered first start bytes lexer rendering written []
   pub no_more : Undecided bytes rendered.items
   pub total_is : total' ≡ total + length bytes
@@ -36,13 +39,15 @@ pub record RendersOn (first : Rendering) (start : OutletState) (is_in : Mode →
   pub fed : lexer.place + length lexer.rest ≡ total'
 
 -- The text was written, and nothing else, that is due for every job that may be by these pieces.
-pub record IsRendered (first : Rendering) (start : OutletState) (pieces : List (List ℕ)) (written : OutletState) (outcome : Outcome) : Type 0 where
+pub record IsRendered (first : Rendering) (start : OutletState) (pieces : List (List ℕ)) (written : OutletState)
+    (outcome : Outcome) : Type 0 where
   pub text : List ℕ
   pub adds : Adds start written text
   pub due : (job : List ℕ) → MayBeBy pieces job → IsDue first job text outcome
   pub working : written.failed ≡ false
 
 -- A front was written, and nothing else, of what is due for these bytes as a whole job.
-pub record IsCutOff (first : Rendering) (start : OutletState) (bytes : List ℕ) (written : OutletState) (error : Error) : Type 0 where
+pub record IsCutOff (first : Rendering) (start : OutletState) (bytes : List ℕ) (written : OutletState)
+    (error : Error) : Type 0 where
   pub front : IsFrontFor first start written bytes
   pub status : written.failed ≡ is_write error

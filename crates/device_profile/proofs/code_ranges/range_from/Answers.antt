@@ -10,6 +10,8 @@ returns-then-is_some c =
     let first = c.first_part.result.0.now in
     let last = c.first_part-2.result.0.now in
     let more = c.first_part-2.result.1 in
-    let parts : slice_split (λ b. b == 45) word ≡ first ∷ last ∷ option_map_or (λ (rest : Bor (List ℕ)). slice_split (λ b. b == 45) rest.now) more [] = search rules in
+    let parts :
+    slice_split (λ b. b == 45) word ≡ first ∷ last ∷ option_map_or (λ (rest : Bor (List ℕ)). slice_split (λ b. b == 45) rest.now) more [] =
+    search rules in
     let some : is_some more ≡ true = search rules in
     no_third c.args.least word first last more parts some

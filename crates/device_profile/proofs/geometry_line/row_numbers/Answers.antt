@@ -6,7 +6,8 @@ use Rattle.std.proofs.lemmas.List.Folds.{list_all-append}
 use Rattle.device_profile.specs.FaceLine.{between}
 use Rattle.device_profile.specs.GeometryLine.{is_row_number, row_numbers_of}
 use Rattle.device_profile.specs.Words.{number_of, words_of}
-use Rattle.device_profile.proofs.RowNumbers.{row_numbers_with, row_numbers-start, row_numbers-short, row_numbers-stop, row_numbers-step, row_numbers-long, row_numbers-all, is_row_number-between}
+use Rattle.device_profile.proofs.RowNumbers.{row_numbers_with, row_numbers-start, row_numbers-short, row_numbers-stop, row_numbers-step}
+use Rattle.device_profile.proofs.RowNumbers.{row_numbers-long, row_numbers-all, is_row_number-between}
 use Rattle.device_profile.proofs.geometry_line.row_numbers.Goals as goal
 
 pub loop-i-init : goal.loop-i-init
@@ -18,7 +19,8 @@ returns-in_err-word c =
     let numbers = c.loop-i.numbers in
     let size : length (take i numbers) ≡ i = length-take-le i numbers (omega (arith, c.loop-i.invariant.2)) in
     let ended : words_of c.loop-i.rest.now ≡ [] = search rules in
-    let none : row_numbers_of (words_of c.args.words.now) ≡ None = c.loop-i.invariant.0 ∙ row_numbers-short (take i numbers) (words_of c.loop-i.rest.now) (omega arith) ended in
+    let none : row_numbers_of (words_of c.args.words.now) ≡ None =
+    c.loop-i.invariant.0 ∙ row_numbers-short (take i numbers) (words_of c.loop-i.rest.now) (omega arith) ended in
     search (rules, sym none)
 
 pub returns-in_err-numbers : goal.returns-in_err-numbers
@@ -27,7 +29,8 @@ returns-in_err-numbers c =
     let cut : words_of c.loop-i.rest.now ≡ word ∷ words_of c.in_ok-word.after.now = search rules in
     let stops : None ≡ between 0 720_000 (number_of word) = search rules in
     let none : row_numbers_of (words_of c.args.words.now) ≡ None =
-    c.loop-i.invariant.0 ∙ row_numbers-stop (take c.loop-i.i c.loop-i.numbers) (words_of c.loop-i.rest.now) word (words_of c.in_ok-word.after.now) cut stops in
+    c.loop-i.invariant.0
+    ∙ row_numbers-stop (take c.loop-i.i c.loop-i.numbers) (words_of c.loop-i.rest.now) word (words_of c.in_ok-word.after.now) cut stops in
     search (rules, sym none)
 
 pub loop-i-preserved : goal.loop-i-preserved
@@ -38,7 +41,8 @@ loop-i-preserved c =
     let word = c.in_ok-word.word.now in
     let cut : words_of c.loop-i.rest.now ≡ word ∷ words_of c.in_ok-word.after.now = search rules in
     let gives : Some n ≡ between 0 720_000 (number_of word) = search rules in
-    let more : take (i + 1) (slice_set numbers i n) ≡ take i numbers ++ n ∷ [] = take_more_set numbers i n (omega (arith, c.loop-i.invariant.2)) in
+    let more : take (i + 1) (slice_set numbers i n) ≡ take i numbers ++ n ∷ [] =
+    take_more_set numbers i n (omega (arith, c.loop-i.invariant.2)) in
     let kept : length (slice_set numbers i n) ≡ 12 = search rules in (
       c.loop-i.invariant.0
           ∙ (row_numbers-step (take i numbers) (words_of c.loop-i.rest.now) word (words_of c.in_ok-word.after.now) n cut gives

@@ -13,7 +13,8 @@ returns-in_err-number c =
 
 pub returns-then-point-word : goal.returns-then-point-word
 returns-then-point-word c =
-    amount-of_number c.args.word.now c.place_of-point.result c.from-whole.result c.if-point-word.true c.place_of-point.ensures.before (search rules)
+    amount-of_number c.args.word.now c.place_of-point.result c.from-whole.result c.if-point-word.true
+    c.place_of-point.ensures.before (search rules)
 
 pub returns-in_err-decimals : goal.returns-in_err-decimals
 returns-in_err-decimals c =
@@ -24,7 +25,8 @@ returns-in_err-decimals c =
     let rest = take (length word - (n + 1)) (drop (n + 1) word) in
     let none : decimals_of rest ≡ None = search rules in
     let whole : number_of (take n word) ≡ Some c.from-whole.result = search rules in
-    let is : amount_of word ≡ None = amount-of_decimals word n c.from-whole.result inside point.ensures.before (point.ensures.found inside) whole
+    let is : amount_of word ≡ None =
+    amount-of_decimals word n c.from-whole.result inside point.ensures.before (point.ensures.found inside) whole
     ∙ ap (option_map (λ d. c.from-whole.result * 10_000 + d)) none in
     search (rules, sym is)
 

@@ -5,4 +5,5 @@ use Rattle.device_profile.proofs.values.each_value.Given as goal
 
 abbrev pub invariant-loop-number : goal.invariant-loop-number
 invariant-loop-number g l =
-    (list_all (is_value l.field) l.numbers ≡ list_all (is_value l.field) (drop l.number-index l.numbers)) × (l.values.items ≡ take l.number-index l.numbers)
+    (list_all (is_value l.field) l.numbers ≡ list_all (is_value l.field) (drop l.number-index l.numbers))
+    × (l.values.items ≡ take l.number-index l.numbers)

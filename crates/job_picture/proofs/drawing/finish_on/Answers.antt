@@ -19,8 +19,13 @@ returns-in-Ok-clause-finishes g c =
     let outlet_is : sink.outlet.now ≡ c.outlet-1.given.0 = search rules in
     let kept_is : sink.kept.now ≡ c.kept-1.given.0 = search rules in (
       state_at any_panel c.finish.new.self.page,
-      same_places (λ outlet kept. Draws c.args.sheet.now ((end_of c.args.machine.now).run any_panel) (Done (state_at any_panel c.finish.new.self.page)) (g.W.Outlet.state c.args.outlet.now) (g.W.Outlet.state outlet) c.args.kept.now.items kept.items c.args.progress.now sink.progress) sink.outlet.now c.outlet-1.given.0 sink.kept.now c.kept-1.given.0 outlet_is kept_is
-          (draws_all g.W.Outlet.state _ sink (end_of c.args.machine.now).run c.requires.working (λ panel. (Done (state_at panel c.finish.new.self.page))) took),
+      same_places
+          (λ outlet kept.
+          Draws c.args.sheet.now ((end_of c.args.machine.now).run any_panel) (Done (state_at any_panel c.finish.new.self.page))
+          (g.W.Outlet.state c.args.outlet.now) (g.W.Outlet.state outlet) c.args.kept.now.items kept.items c.args.progress.now sink.progress)
+          sink.outlet.now c.outlet-1.given.0 sink.kept.now c.kept-1.given.0 outlet_is kept_is
+          (draws_all g.W.Outlet.state _ sink (end_of c.args.machine.now).run c.requires.working
+              (λ panel. (Done (state_at panel c.finish.new.self.page))) took),
     )
 
 pub returns-in-Ok-clause-status : goal.returns-in-Ok-clause-status
@@ -37,21 +42,32 @@ pub returns-in-Err-Found-clause-finishes : goal.returns-in-Err-Found-clause-fini
 returns-in-Err-Found-clause-finishes g c =
     let sink = c.finish.new.sink in
     let is = c.in-Err-Found.is ∙ ap Err c.in-Err-Found.field-0-is in
-    let executed = subst (CarriesOn (TakesPart g.W.Outlet.state) (RefusesPart g.W.Outlet.state) (end_of c.args.machine.now) true _ c.finish.new.sink c.args.machine.now c.finish.new.self) is c.finish.ensures in
+    let executed =
+    subst
+    (CarriesOn (TakesPart g.W.Outlet.state) (RefusesPart g.W.Outlet.state)
+    (end_of c.args.machine.now) true _ c.finish.new.sink c.args.machine.now c.finish.new.self)
+    is c.finish.ensures in
     let took = executed.2 in
     let led = led_all g.W.Outlet.state _ sink took.events c.requires.working took.leads in
     let same_outlet = led.same_outlet in
     let same_kept = led.same_kept in
     let outlet_is : sink.outlet.now ≡ c.outlet-in-Err-Found-1.given.0 = search rules in
     let kept_is : sink.kept.now ≡ c.kept-in-Err-Found-1.given.0 = search rules in
-    same_places (λ outlet kept. Draws c.args.sheet.now ((end_of c.args.machine.now).run any_panel) (Halts c.in-Err-Found.finding) (g.W.Outlet.state c.args.outlet.now) (g.W.Outlet.state outlet) c.args.kept.now.items kept.items c.args.progress.now sink.progress) sink.outlet.now c.outlet-in-Err-Found-1.given.0 sink.kept.now c.kept-in-Err-Found-1.given.0 outlet_is kept_is
+    same_places
+    (λ outlet kept. Draws c.args.sheet.now ((end_of c.args.machine.now).run any_panel) (Halts c.in-Err-Found.finding)
+    (g.W.Outlet.state c.args.outlet.now) (g.W.Outlet.state outlet) c.args.kept.now.items kept.items c.args.progress.now sink.progress)
+    sink.outlet.now c.outlet-in-Err-Found-1.given.0 sink.kept.now c.kept-in-Err-Found-1.given.0 outlet_is kept_is
     (draws_all g.W.Outlet.state _ sink (end_of c.args.machine.now).run c.requires.working (λ panel. (Halts c.in-Err-Found.finding)) took)
 
 pub returns-in-Err-Found-clause-status : goal.returns-in-Err-Found-clause-status
 returns-in-Err-Found-clause-status g c =
     let sink = c.finish.new.sink in
     let is = c.in-Err-Found.is ∙ ap Err c.in-Err-Found.field-0-is in
-    let executed = subst (CarriesOn (TakesPart g.W.Outlet.state) (RefusesPart g.W.Outlet.state) (end_of c.args.machine.now) true _ c.finish.new.sink c.args.machine.now c.finish.new.self) is c.finish.ensures in
+    let executed =
+    subst
+    (CarriesOn (TakesPart g.W.Outlet.state) (RefusesPart g.W.Outlet.state)
+    (end_of c.args.machine.now) true _ c.finish.new.sink c.args.machine.now c.finish.new.self)
+    is c.finish.ensures in
     let took = executed.2 in
     let led = led_all g.W.Outlet.state _ sink took.events c.requires.working took.leads in
     let same_outlet = led.same_outlet in
@@ -63,19 +79,30 @@ pub returns-in-Err-Refused-clause-finishes : goal.returns-in-Err-Refused-clause-
 returns-in-Err-Refused-clause-finishes g c =
     let sink = c.finish.new.sink in
     let is = c.in-Err-Refused.is ∙ ap Err c.in-Err-Refused.field-0-is in
-    let executed = subst (CarriesOn (TakesPart g.W.Outlet.state) (RefusesPart g.W.Outlet.state) (end_of c.args.machine.now) true _ c.finish.new.sink c.args.machine.now c.finish.new.self) is c.finish.ensures in
+    let executed =
+    subst
+    (CarriesOn (TakesPart g.W.Outlet.state) (RefusesPart g.W.Outlet.state)
+    (end_of c.args.machine.now) true _ c.finish.new.sink c.args.machine.now c.finish.new.self)
+    is c.finish.ensures in
     let refused = executed.2 in
     let led = led_all g.W.Outlet.state _ refused.mid refused.before.events c.requires.working refused.before.leads in
     let same_outlet = refused.refused.0.0 ∙ led.same_outlet in
     let outlet_is : sink.outlet.now ≡ c.outlet-in-Err-Refused-1.given.0 = search rules in
-    subst (λ outlet. DrawsFront c.args.sheet.now ((end_of c.args.machine.now).run any_panel) (g.W.Outlet.state c.args.outlet.now) (g.W.Outlet.state outlet) c.args.kept.now.items c.args.progress.now) outlet_is
+    subst
+    (λ outlet. DrawsFront c.args.sheet.now ((end_of c.args.machine.now).run any_panel) (g.W.Outlet.state c.args.outlet.now)
+    (g.W.Outlet.state outlet) c.args.kept.now.items c.args.progress.now)
+    outlet_is
     (draws_refused g.W.Outlet.state _ sink (end_of c.args.machine.now).run c.requires.working refused)
 
 pub returns-in-Err-Refused-clause-status : goal.returns-in-Err-Refused-clause-status
 returns-in-Err-Refused-clause-status g c =
     let sink = c.finish.new.sink in
     let is = c.in-Err-Refused.is ∙ ap Err c.in-Err-Refused.field-0-is in
-    let executed = subst (CarriesOn (TakesPart g.W.Outlet.state) (RefusesPart g.W.Outlet.state) (end_of c.args.machine.now) true _ c.finish.new.sink c.args.machine.now c.finish.new.self) is c.finish.ensures in
+    let executed =
+    subst
+    (CarriesOn (TakesPart g.W.Outlet.state) (RefusesPart g.W.Outlet.state)
+    (end_of c.args.machine.now) true _ c.finish.new.sink c.args.machine.now c.finish.new.self)
+    is c.finish.ensures in
     let refused = executed.2 in
     let led = led_all g.W.Outlet.state _ refused.mid refused.before.events c.requires.working refused.before.leads in
     let same_outlet = refused.refused.0.0 ∙ led.same_outlet in

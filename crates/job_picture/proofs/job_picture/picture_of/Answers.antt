@@ -5,5 +5,9 @@ use Rattle.job_picture.proofs.job_picture.picture_of.Goals as goal
 
 pub returns : goal.returns
 returns g c =
-    subst (λ rendering. Renders rendering (g.S.Source.state c.args.reader.now) (g.S.Source.state c.render_job.new.reader) (g.W.Outlet.state c.args.writer.now) (g.W.Outlet.state c.render_job.new.writer) c.render_job.result)
-    (drawing_start c.args.wanted.now.selection c.args.wanted.now.sentence.now c.args.profile.now c.args.panel.now c.new.result c.first_page.result c.new.ensures c.first_page.ensures) c.render_job.ensures
+    subst (λ rendering.
+    Renders rendering (g.S.Source.state c.args.reader.now) (g.S.Source.state c.render_job.new.reader) (g.W.Outlet.state c.args.writer.now)
+    (g.W.Outlet.state c.render_job.new.writer) c.render_job.result)
+    (drawing_start c.args.wanted.now.selection c.args.wanted.now.sentence.now c.args.profile.now c.args.panel.now c.new.result
+    c.first_page.result c.new.ensures c.first_page.ensures)
+    c.render_job.ensures

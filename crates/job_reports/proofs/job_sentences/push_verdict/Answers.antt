@@ -6,6 +6,7 @@ use Rattle.job_reports.proofs.job_sentences.push_verdict.Goals as goal
 
 pub returns-in_ok-push_named-in-Pass-2 : goal.returns-in_ok-push_named-in-Pass-2
 returns-in_ok-push_named-in-Pass-2 g c =
-    three_appended c.extend_from_slice.result c.args.line.now.items _ _ _ (named (codes " prints this job (pages=") c.in-Pass.pages) (named (codes " marks=") c.in-Pass.marks) (codes ")") _
+    three_appended c.extend_from_slice.result c.args.line.now.items _ _ _ (named (codes " prints this job (pages=") c.in-Pass.pages)
+    (named (codes " marks=") c.in-Pass.marks) (codes ")") _
     c.in_ok-push_named-in-Pass.ensures c.in_ok-push_named-in-Pass-2.ensures c.extend_from_slice.ensures.items
     (ap (verdict_phrase c.args.culprit) c.in-Pass.is)

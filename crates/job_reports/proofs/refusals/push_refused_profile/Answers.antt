@@ -11,7 +11,8 @@ returns g c =
     let word = shown c.as_bytes.result.now in
     let fault = fault_part c.args.line c.args.cause in
     c.in_ok-push_fault.ensures
-    ∙ ap (λ l. l ++ fault) (c.in_ok-push_shown.ensures ∙ ap (λ l. l ++ word) (c.in_ok-push.ensures.items ∙ ap (λ l. l ++ 32 ∷ []) c.in_ok-push_named.ensures))
+    ∙ ap (λ l. l ++ fault)
+    (c.in_ok-push_shown.ensures ∙ ap (λ l. l ++ word) (c.in_ok-push.ensures.items ∙ ap (λ l. l ++ 32 ∷ []) c.in_ok-push_named.ensures))
     ∙ append_assoc ((old ++ number) ++ 32 ∷ []) word fault
     ∙ append_assoc (old ++ number) (32 ∷ []) (word ++ fault)
     ∙ append_assoc old number (32 ∷ (word ++ fault))

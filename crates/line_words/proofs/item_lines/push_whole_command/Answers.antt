@@ -29,6 +29,7 @@ write_digits-start-requires-2 g c =
 
 pub returns : goal.returns
 returns g c =
-    whole_line_is_pushed c.args.place c.args.command (amount c.args.number) c.args.text.now.items c.extend_from_slice.new.self.items (drop c.write_digits-start-2.result c.write_digits-start-2.new.buf) c.extend_from_slice.result c.args.number.within c.requires
+    whole_line_is_pushed c.args.place c.args.command (amount c.args.number) c.args.text.now.items c.extend_from_slice.new.self.items
+    (drop c.write_digits-start-2.result c.write_digits-start-2.new.buf) c.extend_from_slice.result c.args.number.within c.requires
     (grind (arith, common_steps))
     (grind (arith, common_steps))

@@ -8,11 +8,13 @@ use Rattle.macro_store.proofs.commands.spell_behind.Goals as goal
 
 pub returns-in_default-clause-stored : goal.returns-in_default-clause-stored
 returns-in_default-clause-stored g c =
-    stored_spelled c.args.pool.now.items c.spell.new.bytes.items (canon (view c.args.item.now)) c.args.commands.now.items c.spell.result c.spell.ensures.ok c.spell.ensures.err c.requires.stored
+    stored_spelled c.args.pool.now.items c.spell.new.bytes.items
+    (canon (view c.args.item.now)) c.args.commands.now.items c.spell.result c.spell.ensures.ok c.spell.ensures.err c.requires.stored
 
 pub returns-clause-stored : goal.returns-clause-stored
 returns-clause-stored g c =
-    let is : view c.args.item.now ≡ Parameterized c.in-Simple-Parameterized.command (amount c.in-Simple-Parameterized.number) = search rules in
+    let is : view c.args.item.now ≡ Parameterized c.in-Simple-Parameterized.command (amount c.in-Simple-Parameterized.number) =
+    search rules in
     command_stored c.args.pool.now.items c.spell-2.new.bytes.items c.reserve.new.self.items c.push.new.self.items _
     (c.in_ok-spell.ensures.ok ∙ ap (λ item. c.args.pool.now.items ++ canon item) is)
     (subst IsItem is (item_known c.args.item.now))

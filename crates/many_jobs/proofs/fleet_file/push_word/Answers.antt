@@ -7,7 +7,8 @@ use Rattle.many_jobs.proofs.fleet_file.push_word.Goals as goal
 pub returns-then-is_passed_over : goal.returns-then-is_passed_over
 returns-then-is_passed_over g c =
     let words = c.args.words.now.items in
-    subst (AddsBytes string_bytes words words) (sym (line_words-none c.args.path.now c.args.line.now (sym c.is_passed_over.ensures ∙ c.if-is_passed_over.true)))
+    subst (AddsBytes string_bytes words words)
+    (sym (line_words-none c.args.path.now c.args.line.now (sym c.is_passed_over.ensures ∙ c.if-is_passed_over.true)))
     (adds_none string_bytes words)
 
 pub returns : goal.returns
@@ -15,5 +16,6 @@ returns g c =
     let old = c.args.words.now.items in
     let new = c.push.new.self.items in
     let word = ap (λ bytes. bytes ∷ []) c.in_ok-word.ensures in
-    subst (AddsBytes string_bytes old new) (word ∙ sym (line_words-one c.args.path.now c.args.line.now (sym c.is_passed_over.ensures ∙ c.if-is_passed_over.false)))
+    subst (AddsBytes string_bytes old new)
+    (word ∙ sym (line_words-one c.args.path.now c.args.line.now (sym c.is_passed_over.ensures ∙ c.if-is_passed_over.false)))
     (adds_one string_bytes old new c.in_ok-word.word c.in_ok-push.ensures.items)

@@ -7,6 +7,7 @@ abbrev pub invariant-loop-name : goal.invariant-loop-name
 invariant-loop-name g l = record {
   working : IsFalse (g.O.Outlet.state l.stdout).failed;
   start : g.J.Jobs.start l.jobs ≡ g.J.Jobs.start l.initial.jobs;
-  told : TellsAll l.printers (told_by l.telling) (flat_map (due_of l.printers) (map (λ name. name.now) (take l.name-index l.names))) (g.J.Jobs.start l.initial.jobs) l.ending
+  told : TellsAll l.printers (told_by l.telling) (flat_map (due_of l.printers) (map (λ name. name.now) (take l.name-index l.names)))
+      (g.J.Jobs.start l.initial.jobs) l.ending
       (work (g.O.Outlet.state l.initial.stdout) (g.J.Jobs.ended l.initial.jobs)) (work (g.O.Outlet.state l.stdout) (g.J.Jobs.ended l.jobs));
 }

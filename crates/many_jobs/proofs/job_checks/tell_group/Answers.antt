@@ -22,10 +22,16 @@ returns-in_err-tell_line-clause-front g c =
     let answer = c.check_group-answer.result in
     let old = work (g.O.Outlet.state c.args.stdout.now) (g.J.Jobs.ended c.args.jobs.now) in
     let mid = work (g.O.Outlet.state c.tell_line.new.stdout) (g.J.Jobs.ended c.end.new.self) in
-    let right = subst (λ (part : Groups). IsRightAnswer part.fleet (start name) after answer) c.part-group.ensures (subst (λ (s : SourceState). IsRightAnswer c.part-group.result.fleet s after answer) c.job-job.ensures.start c.check_group-answer.ensures) in
+    let right =
+    subst (λ (part : Groups). IsRightAnswer part.fleet (start name) after answer) c.part-group.ensures
+    (subst
+    (λ (s : SourceState). IsRightAnswer c.part-group.result.fleet s after answer) c.job-job.ensures.start c.check_group-answer.ensures) in
     let error = c.in_err-tell_line.field-0.0 in
-    let cut = subst (λ (part : Groups). CutsTold error (λ cause. report_text telling (reported part name answer cause)) old.out mid.out) c.part-group.ensures c.in_err-tell_line.ensures.cut in
-    where_err c.from_residual.result _ (cuts_line printers telling start name number after answer right old mid c.end.ensures.ended error cut)
+    let cut =
+    subst (λ (part : Groups). CutsTold error (λ cause. report_text telling (reported part name answer cause)) old.out mid.out)
+    c.part-group.ensures c.in_err-tell_line.ensures.cut in
+    where_err c.from_residual.result _
+    (cuts_line printers telling start name number after answer right old mid c.end.ensures.ended error cut)
 
 pub returns-in-None-clause-told : goal.returns-in-None-clause-told
 returns-in-None-clause-told g c =
@@ -38,11 +44,18 @@ returns-in-None-clause-told g c =
     let answer = c.check_group-answer.result in
     let old = work (g.O.Outlet.state c.args.stdout.now) (g.J.Jobs.ended c.args.jobs.now) in
     let mid = work (g.O.Outlet.state c.tell_line.new.stdout) (g.J.Jobs.ended c.end.new.self) in
-    let right = subst (λ (part : Groups). IsRightAnswer part.fleet (start name) after answer) c.part-group.ensures (subst (λ (s : SourceState). IsRightAnswer c.part-group.result.fleet s after answer) c.job-job.ensures.start c.check_group-answer.ensures) in
-    let adds = subst (λ (part : Groups). AddsTold (λ cause. report_text telling (reported part name answer cause)) old.out mid.out) c.part-group.ensures c.in_ok-tell_line.ensures.told in
+    let right =
+    subst (λ (part : Groups). IsRightAnswer part.fleet (start name) after answer) c.part-group.ensures
+    (subst
+    (λ (s : SourceState). IsRightAnswer c.part-group.result.fleet s after answer) c.job-job.ensures.start c.check_group-answer.ensures) in
+    let adds =
+    subst (λ (part : Groups). AddsTold (λ cause. report_text telling (reported part name answer cause)) old.out mid.out)
+    c.part-group.ensures c.in_ok-tell_line.ensures.told in
     let none : note_printer (verdict_of answer) (group_at printers number).note_printers ≡ None =
-    ap (λ (part : Groups). note_printer (verdict_of answer) part.note_printers) (sym c.part-group.ensures) ∙ (ap (note_printer (verdict_of answer)) (sym c.note_printers.ensures) ∙ sym c.in-None.ensures) in
-    tells_alone printers telling start name number after answer right old mid c.end.ensures.ended c.of-ending.result none adds c.of-ending.ensures
+    ap (λ (part : Groups). note_printer (verdict_of answer) part.note_printers) (sym c.part-group.ensures)
+    ∙ (ap (note_printer (verdict_of answer)) (sym c.note_printers.ensures) ∙ sym c.in-None.ensures) in
+    tells_alone printers telling start name number after answer right old mid c.end.ensures.ended c.of-ending.result none
+    adds c.of-ending.ensures
 
 pub returns-in_err-noted-in-Some-clause-front : goal.returns-in_err-noted-in-Some-clause-front
 returns-in_err-noted-in-Some-clause-front g c =
@@ -55,16 +68,26 @@ returns-in_err-noted-in-Some-clause-front g c =
     let answer = c.check_group-answer.result in
     let old = work (g.O.Outlet.state c.args.stdout.now) (g.J.Jobs.ended c.args.jobs.now) in
     let mid = work (g.O.Outlet.state c.tell_line.new.stdout) (g.J.Jobs.ended c.end.new.self) in
-    let right = subst (λ (part : Groups). IsRightAnswer part.fleet (start name) after answer) c.part-group.ensures (subst (λ (s : SourceState). IsRightAnswer c.part-group.result.fleet s after answer) c.job-job.ensures.start c.check_group-answer.ensures) in
+    let right =
+    subst (λ (part : Groups). IsRightAnswer part.fleet (start name) after answer) c.part-group.ensures
+    (subst
+    (λ (s : SourceState). IsRightAnswer c.part-group.result.fleet s after answer) c.job-job.ensures.start c.check_group-answer.ensures) in
     let new = work (g.O.Outlet.state c.tell_notes.new.stdout) (g.J.Jobs.ended c.tell_notes.new.jobs) in
-    let adds = subst (λ (part : Groups). AddsTold (λ cause. report_text telling (reported part name answer cause)) old.out mid.out) c.part-group.ensures c.in_ok-tell_line.ensures.told in
+    let adds =
+    subst (λ (part : Groups). AddsTold (λ cause. report_text telling (reported part name answer cause)) old.out mid.out)
+    c.part-group.ensures c.in_ok-tell_line.ensures.told in
     let printer = c.in-Some.printer.now in
     let has : note_printer (verdict_of answer) (group_at printers number).note_printers ≡ Some printer =
-    ap (λ (part : Groups). note_printer (verdict_of answer) part.note_printers) (sym c.part-group.ensures) ∙ (ap (note_printer (verdict_of answer)) (sym c.note_printers.ensures) ∙ sym c.in-Some.ensures) in
+    ap (λ (part : Groups). note_printer (verdict_of answer) part.note_printers) (sym c.part-group.ensures)
+    ∙ (ap (note_printer (verdict_of answer)) (sym c.note_printers.ensures) ∙ sym c.in-Some.ensures) in
     let error = c.in_err-noted-in-Some.field-0.0 in
-    let cut = subst (λ (part : Groups). CutsNotes error part telling printer (g.J.Jobs.start c.end.new.self name) name mid new) c.part-group.ensures c.in_err-noted-in-Some.ensures.cut in
-    let cut' = subst (λ start_of. CutsNotes error (group_at printers number) telling printer (start_of name) name mid new) c.end.ensures.start cut in
-    where_err c.from_residual-in_err-noted-in-Some.result _ (cuts_notes printers telling start name number after answer right printer has old mid new c.end.ensures.ended adds error cut')
+    let cut =
+    subst (λ (part : Groups). CutsNotes error part telling printer (g.J.Jobs.start c.end.new.self name) name mid new) c.part-group.ensures
+    c.in_err-noted-in-Some.ensures.cut in
+    let cut' =
+    subst (λ start_of. CutsNotes error (group_at printers number) telling printer (start_of name) name mid new) c.end.ensures.start cut in
+    where_err c.from_residual-in_err-noted-in-Some.result _
+    (cuts_notes printers telling start name number after answer right printer has old mid new c.end.ensures.ended adds error cut')
 
 pub returns-in_ok-noted-in-Some-clause-told : goal.returns-in_ok-noted-in-Some-clause-told
 returns-in_ok-noted-in-Some-clause-told g c =
@@ -77,14 +100,26 @@ returns-in_ok-noted-in-Some-clause-told g c =
     let answer = c.check_group-answer.result in
     let old = work (g.O.Outlet.state c.args.stdout.now) (g.J.Jobs.ended c.args.jobs.now) in
     let mid = work (g.O.Outlet.state c.tell_line.new.stdout) (g.J.Jobs.ended c.end.new.self) in
-    let right = subst (λ (part : Groups). IsRightAnswer part.fleet (start name) after answer) c.part-group.ensures (subst (λ (s : SourceState). IsRightAnswer c.part-group.result.fleet s after answer) c.job-job.ensures.start c.check_group-answer.ensures) in
+    let right =
+    subst (λ (part : Groups). IsRightAnswer part.fleet (start name) after answer) c.part-group.ensures
+    (subst
+    (λ (s : SourceState). IsRightAnswer c.part-group.result.fleet s after answer) c.job-job.ensures.start c.check_group-answer.ensures) in
     let new = work (g.O.Outlet.state c.tell_notes.new.stdout) (g.J.Jobs.ended c.tell_notes.new.jobs) in
-    let adds = subst (λ (part : Groups). AddsTold (λ cause. report_text telling (reported part name answer cause)) old.out mid.out) c.part-group.ensures c.in_ok-tell_line.ensures.told in
+    let adds =
+    subst (λ (part : Groups). AddsTold (λ cause. report_text telling (reported part name answer cause)) old.out mid.out)
+    c.part-group.ensures c.in_ok-tell_line.ensures.told in
     let printer = c.in-Some.printer.now in
     let has : note_printer (verdict_of answer) (group_at printers number).note_printers ≡ Some printer =
-    ap (λ (part : Groups). note_printer (verdict_of answer) part.note_printers) (sym c.part-group.ensures) ∙ (ap (note_printer (verdict_of answer)) (sym c.note_printers.ensures) ∙ sym c.in-Some.ensures) in
+    ap (λ (part : Groups). note_printer (verdict_of answer) part.note_printers) (sym c.part-group.ensures)
+    ∙ (ap (note_printer (verdict_of answer)) (sym c.note_printers.ensures) ∙ sym c.in-Some.ensures) in
     let told = c.in_ok-noted-in-Some.ensures.told in
-    let tells = subst (λ (part : Groups). TellsNotes part telling printer (g.J.Jobs.start c.end.new.self name) name mid new (Adds mid.out new.out) told.0) c.part-group.ensures told.2 in
-    let tells' = subst (λ start_of. TellsNotes (group_at printers number) telling printer (start_of name) name mid new (Adds mid.out new.out) told.0) c.end.ensures.start tells in
+    let tells =
+    subst
+    (λ (part : Groups). TellsNotes part telling printer (g.J.Jobs.start c.end.new.self name) name mid new (Adds mid.out new.out) told.0)
+    c.part-group.ensures told.2 in
+    let tells' =
+    subst (λ start_of. TellsNotes (group_at printers number) telling printer (start_of name) name mid new (Adds mid.out new.out) told.0)
+    c.end.ensures.start tells in
     rw c.worse.ensures
-    (tells_noted printers telling start name number after answer right printer has old mid new c.end.ensures.ended adds told.0 c.of-ending.result c.in_ok-noted-in-Some.noted tells' c.of-ending.ensures told.1)
+    (tells_noted printers telling start name number after answer right printer has old mid new c.end.ensures.ended adds told.0
+    c.of-ending.result c.in_ok-noted-in-Some.noted tells' c.of-ending.ensures told.1)

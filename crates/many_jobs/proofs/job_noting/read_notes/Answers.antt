@@ -14,8 +14,12 @@ returns-in-Ok-Done g c =
     let after = g.S.Source.state c.notes_of.new.reader in
     let text = c.into_bytes.result.items in
     let done = rw c.in-Ok-Done.field-0-is at c.in-Ok-Done.ensures in
-    subst (λ (name : List ℕ). AreRightNotes (told_note telling (record { job = c.args.name.now; printer = name })) c.args.printer.now start after (Ok text)) c.first_name.ensures
-    (notes_had (told_note telling (record { job = c.args.name.now; printer = c.first_name.result.now })) c.args.printer.now c.first_panel-panel.result c.first_panel-panel.ensures.value start after _ _
+    subst
+    (λ (name : List ℕ).
+    AreRightNotes (told_note telling (record { job = c.args.name.now; printer = name })) c.args.printer.now start after (Ok text))
+    c.first_name.ensures
+    (notes_had (told_note telling (record { job = c.args.name.now; printer = c.first_name.result.now })) c.args.printer.now
+    c.first_panel-panel.result c.first_panel-panel.ensures.value start after _ _
     text done c.new-text.ensures.bytes c.into_bytes.ensures)
 
 pub returns-in-Ok-Fail : goal.returns-in-Ok-Fail
@@ -24,6 +28,10 @@ returns-in-Ok-Fail g c =
     let start = g.S.Source.state c.args.job.now in
     let after = g.S.Source.state c.notes_of.new.reader in
     let fails = rw c.in-Ok-Fail.field-0-is at c.in-Ok-Fail.ensures in
-    subst (λ (name : List ℕ). AreRightNotes (told_note telling (record { job = c.args.name.now; printer = name })) c.args.printer.now start after (Err Read)) c.first_name.ensures
-    (notes_lost (told_note telling (record { job = c.args.name.now; printer = c.first_name.result.now })) c.args.printer.now c.first_panel-panel.result c.first_panel-panel.ensures.value start after _ _
+    subst
+    (λ (name : List ℕ).
+    AreRightNotes (told_note telling (record { job = c.args.name.now; printer = name })) c.args.printer.now start after (Err Read))
+    c.first_name.ensures
+    (notes_lost (told_note telling (record { job = c.args.name.now; printer = c.first_name.result.now })) c.args.printer.now
+    c.first_panel-panel.result c.first_panel-panel.ensures.value start after _ _
     _ _ _ fails c.new-text.ensures.bytes)

@@ -13,9 +13,13 @@ returns-clause-told g c =
     let name = c.args.name.now in
     let after = g.J.Job.Source.state c.read_notes-notes.new.job in
     let notes = kept_notes (λ text. text.items) c.read_notes-notes.result in
-    let right = subst (λ (start : SourceState). AreRightNotes (told_note telling (subject_of c.args.group.now name)) c.args.printer.now start after notes) c.job-job.ensures.start c.read_notes-notes.ensures in
+    let right =
+    subst
+    (λ (start : SourceState). AreRightNotes (told_note telling (subject_of c.args.group.now name)) c.args.printer.now start after notes)
+    c.job-job.ensures.start c.read_notes-notes.ensures in
     notes_told c.args.group.now telling c.args.printer.now (g.J.Jobs.start c.args.jobs.now name) after name
-    (work (g.O.Outlet.state c.args.stdout.now) (g.J.Jobs.ended c.args.jobs.now)) (work (g.O.Outlet.state c.write_notes.new.stdout) (g.J.Jobs.ended c.end.new.self))
+    (work (g.O.Outlet.state c.args.stdout.now) (g.J.Jobs.ended c.args.jobs.now))
+    (work (g.O.Outlet.state c.write_notes.new.stdout) (g.J.Jobs.ended c.end.new.self))
     notes right c.end.ensures.ended c.write_notes.result c.write_notes.ensures.told
 
 pub returns-clause-cut : goal.returns-clause-cut
@@ -24,7 +28,11 @@ returns-clause-cut g c =
     let name = c.args.name.now in
     let after = g.J.Job.Source.state c.read_notes-notes.new.job in
     let notes = kept_notes (λ text. text.items) c.read_notes-notes.result in
-    let right = subst (λ (start : SourceState). AreRightNotes (told_note telling (subject_of c.args.group.now name)) c.args.printer.now start after notes) c.job-job.ensures.start c.read_notes-notes.ensures in
+    let right =
+    subst
+    (λ (start : SourceState). AreRightNotes (told_note telling (subject_of c.args.group.now name)) c.args.printer.now start after notes)
+    c.job-job.ensures.start c.read_notes-notes.ensures in
     notes_cut c.args.group.now telling c.args.printer.now (g.J.Jobs.start c.args.jobs.now name) after name
-    (work (g.O.Outlet.state c.args.stdout.now) (g.J.Jobs.ended c.args.jobs.now)) (work (g.O.Outlet.state c.write_notes.new.stdout) (g.J.Jobs.ended c.end.new.self))
+    (work (g.O.Outlet.state c.args.stdout.now) (g.J.Jobs.ended c.args.jobs.now))
+    (work (g.O.Outlet.state c.write_notes.new.stdout) (g.J.Jobs.ended c.end.new.self))
     notes right c.end.ensures.ended c.write_notes.result c.write_notes.ensures.cut

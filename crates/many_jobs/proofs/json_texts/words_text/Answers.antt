@@ -6,7 +6,8 @@ use Rattle.many_jobs.proofs.json_texts.words_text.Goals as goal
 pub returns-in-Ok : goal.returns-in-Ok
 returns-in-Ok c =
     let words = c.args.words.now in
-    IfOk-weaker c.from_str.result _ _ (λ text e. e ∙ c.in-Ok.ensures.cases.0 ∙ text_of_utf8 words words c.in-Ok.ensures.cases.1) c.from_str.ensures.ok
+    IfOk-weaker c.from_str.result _ _
+    (λ text e. e ∙ c.in-Ok.ensures.cases.0 ∙ text_of_utf8 words words c.in-Ok.ensures.cases.1) c.from_str.ensures.ok
 
 pub returns-in-Err : goal.returns-in-Err
 returns-in-Err c =

@@ -14,4 +14,5 @@ returns-in-Ok-clause-kept g c =
 
 pub returns-clause-profile : goal.returns-clause-profile
 returns-clause-profile g c =
-    read_refused _ c.in_ok-text.text.items c.args.number c.in-Err.fault _ c.in_ok-text.ensures.bytes (subst (λ bytes. IsErrorOfText bytes c.in-Err.fault) c.as_slice.ensures.value c.in-Err.ensures) c.refusal.ensures
+    read_refused _ c.in_ok-text.text.items c.args.number c.in-Err.fault _ c.in_ok-text.ensures.bytes
+    (subst (λ bytes. IsErrorOfText bytes c.in-Err.fault) c.as_slice.ensures.value c.in-Err.ensures) c.refusal.ensures

@@ -12,6 +12,8 @@ loop-text-preserved g c =
     let printers = c.loop-text.printers.items in
     let bytes : Vec ℕ g.row.A.Denot → List ℕ = λ text. text.items in
     let is : printer_of_text (bytes (get_or texts i c.text-item.result)) ≡ Ok c.in-Ok.printer =
-    subst (λ (text : List ℕ). printer_of_text text ≡ Ok c.in-Ok.printer) (c.as_slice.ensures.value ∙ ap bytes c.text-item.is) c.in-Ok.ensures in
-    subst (λ (ps : List Printer). AreNotePrinters true (map bytes (take (i + 1) texts)) ps) (sym (c.in_ok-push.ensures.items ∙ ap (λ (p : Printer). printers ++ p ∷ []) c.limit_items.ensures))
+    subst (λ (text : List ℕ). printer_of_text text ≡ Ok c.in-Ok.printer)
+    (c.as_slice.ensures.value ∙ ap bytes c.text-item.is) c.in-Ok.ensures in
+    subst (λ (ps : List Printer). AreNotePrinters true (map bytes (take (i + 1) texts)) ps)
+    (sym (c.in_ok-push.ensures.items ∙ ap (λ (p : Printer). printers ++ p ∷ []) c.limit_items.ensures))
     (note_printers_more bytes texts i c.text-item.result printers c.in-Ok.printer (search rules) c.loop-text.invariant is)

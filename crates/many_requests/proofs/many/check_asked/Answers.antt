@@ -11,7 +11,8 @@ use Rattle.many_requests.proofs.many.check_asked.Goals as goal
 pub returns-in-Err-read_names : goal.returns-in-Err-read_names
 returns-in-Err-read_names g c =
     inr (
-      names_lack (map (λ word. word.now) c.args.words.now.fleets.items) c.args.words.now.names_from c.in-Err-read_names.status (g.E.Outlet.state c.read_fleets.new.stderr) (g.E.Outlet.state c.args.stderr.now) (g.E.Outlet.state c.read_names.new.stderr)
+      names_lack (map (λ word. word.now) c.args.words.now.fleets.items) c.args.words.now.names_from c.in-Err-read_names.status
+          (g.E.Outlet.state c.read_fleets.new.stderr) (g.E.Outlet.state c.args.stderr.now) (g.E.Outlet.state c.read_names.new.stderr)
           (ap g.E.Outlet.state c.in-Ok.ensures.quiet) c.in-Err-read_names.ensures.end,
       refl,
     )
@@ -19,18 +20,24 @@ returns-in-Err-read_names g c =
 pub check_all-requires-clause-some : goal.check_all-requires-clause-some
 check_all-requires-clause-some g c =
     let words = c.args.words.now in
-    let each = subst (λ fleets. length (map (λ word. word.now) fleets) ≤ length (map string_bytes c.in-Ok.fleets.items)) c.as_slice.ensures.value (fleets_count text_named _ _ _ _ c.in-Ok.ensures.read) in
+    let each =
+    subst (λ fleets. length (map (λ word. word.now) fleets) ≤ length (map string_bytes c.in-Ok.fleets.items)) c.as_slice.ensures.value
+    (fleets_count text_named _ _ _ _ c.in-Ok.ensures.read) in
     let printers = ap (map (λ word. word.now)) c.as_slice-7.ensures.value ∙ c.in-Ok-all_printers.ensures
     ∙ ap (λ all. map (λ word. word.now) all ++ map string_bytes c.as_slice-3.result.now) c.as_slice-2.ensures.value
     ∙ ap (λ fleets. map (λ word. word.now) words.printers.items ++ map string_bytes fleets) c.as_slice-3.ensures.value in
-    some_printer words.printers.items words.fleets.items c.in-Ok.fleets.items string_bytes c.as_slice-7.result.now c.requires.some each printers
+    some_printer words.printers.items words.fleets.items c.in-Ok.fleets.items string_bytes c.as_slice-7.result.now
+    c.requires.some each printers
 
 pub returns : goal.returns
 returns g c =
     let words = c.args.words.now in
     let given = c.read_fleets.new.texts.given in
     let reads =
-    subst (λ fleets. ReadsFleets text_named (map (λ word. word.now) fleets) c.new-texts.result.given given (map string_bytes c.in-Ok.fleets.items)) c.as_slice.ensures.value c.in-Ok.ensures.read in
+    subst
+    (λ fleets.
+    ReadsFleets text_named (map (λ word. word.now) fleets) c.new-texts.result.given given (map string_bytes c.in-Ok.fleets.items))
+    c.as_slice.ensures.value c.in-Ok.ensures.read in
     let asked : Asked = record {
       jobs = map (λ name. name.now) c.as_slice-6.result.now;
       printers = map (λ word. word.now) c.as_slice-7.result.now;
@@ -58,5 +65,8 @@ returns g c =
         tells_notes = refl;
         telling = c.telling_of.ensures;
       },
-      subst (λ err. LeavesAsked (option_map (λ word. word.now) words.names_from) asked c.check_all.result (g.O.Outlet.state c.args.stdout.now) (g.O.Outlet.state c.check_all.new.stdout) (g.E.Outlet.state err) (g.E.Outlet.state c.check_all.new.stderr)) (c.in-Ok-read_names.ensures.quiet ∙ c.in-Ok.ensures.quiet) c.check_all.ensures,
+      subst
+          (λ err. LeavesAsked (option_map (λ word. word.now) words.names_from) asked c.check_all.result (g.O.Outlet.state c.args.stdout.now)
+          (g.O.Outlet.state c.check_all.new.stdout) (g.E.Outlet.state err) (g.E.Outlet.state c.check_all.new.stderr))
+          (c.in-Ok-read_names.ensures.quiet ∙ c.in-Ok.ensures.quiet) c.check_all.ensures,
     )

@@ -11,7 +11,9 @@ loop-path-init g c = record {
   working = c.requires.texts;
   same = refl;
   quiet = refl;
-  read = reads_none (g.T.ProfileTexts.text_of c.args.texts.now) (g.T.ProfileTexts.given c.args.texts.now) _ (ap (map string_bytes) c.new-words.ensures.items);
+  read =
+      reads_none (g.T.ProfileTexts.text_of c.args.texts.now) (g.T.ProfileTexts.given c.args.texts.now) _
+      (ap (map string_bytes) c.new-words.ensures.items);
 }
 
 pub loop-path-preserved : goal.loop-path-preserved
@@ -22,9 +24,12 @@ loop-path-preserved g c =
       same = c.read_fleet_file.ensures.same ∙ c.loop-path.invariant.same;
       quiet = c.in_ok-read_fleet_file.ensures.quiet ∙ c.loop-path.invariant.quiet;
       read =
-          reads_more string_bytes (g.T.ProfileTexts.text_of c.args.texts.now) (g.T.ProfileTexts.text_of c.loop-path.texts) c.args.paths.now c.loop-path.path-index path
-          (g.T.ProfileTexts.given c.args.texts.now) (g.T.ProfileTexts.given c.loop-path.texts) (g.T.ProfileTexts.given c.read_fleet_file.new.texts)
-          c.loop-path.words.items c.read_fleet_file.new.words.items c.loop-path-test.true (search rules) c.loop-path.invariant.same c.loop-path.invariant.read c.in_ok-read_fleet_file.ensures.named;
+          reads_more string_bytes (g.T.ProfileTexts.text_of c.args.texts.now)
+              (g.T.ProfileTexts.text_of c.loop-path.texts) c.args.paths.now c.loop-path.path-index path
+          (g.T.ProfileTexts.given c.args.texts.now) (g.T.ProfileTexts.given c.loop-path.texts)
+              (g.T.ProfileTexts.given c.read_fleet_file.new.texts)
+          c.loop-path.words.items c.read_fleet_file.new.words.items c.loop-path-test.true
+              (search rules) c.loop-path.invariant.same c.loop-path.invariant.read c.in_ok-read_fleet_file.ensures.named;
     }
 
 pub returns-in_err-read_fleet_file-clause-end : goal.returns-in_err-read_fleet_file-clause-end
@@ -34,10 +39,14 @@ returns-in_err-read_fleet_file-clause-end g c =
     rw (ends.1, ends.2) (
       path.now,
       contained c.args.paths.now c.loop-path.path-index _ c.loop-path-test.true,
-      subst (λ err. TellsOfFleet path.now c.in_err-read_fleet_file.field-0.0 (g.E.Outlet.state err) (g.E.Outlet.state c.read_fleet_file.new.stderr)) c.loop-path.invariant.quiet c.in_err-read_fleet_file.ensures.end,
+      subst
+          (λ err.
+          TellsOfFleet path.now c.in_err-read_fleet_file.field-0.0 (g.E.Outlet.state err) (g.E.Outlet.state c.read_fleet_file.new.stderr))
+          c.loop-path.invariant.quiet c.in_err-read_fleet_file.ensures.end,
     )
 
 pub returns-clause-read : goal.returns-clause-read
 returns-clause-read g c =
-    reads_all (g.T.ProfileTexts.text_of c.args.texts.now) c.args.paths.now c.loop-path.path-index (g.T.ProfileTexts.given c.args.texts.now) (g.T.ProfileTexts.given c.loop-path.texts) (map string_bytes c.loop-path.words.items)
+    reads_all (g.T.ProfileTexts.text_of c.args.texts.now) c.args.paths.now c.loop-path.path-index (g.T.ProfileTexts.given c.args.texts.now)
+    (g.T.ProfileTexts.given c.loop-path.texts) (map string_bytes c.loop-path.words.items)
     (search rules) c.loop-path.invariant.read

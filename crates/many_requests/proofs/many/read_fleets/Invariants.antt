@@ -8,5 +8,6 @@ invariant-loop-path g l = record {
   working : IsFalse (g.T.ProfileTexts.failed l.texts);
   same : g.T.ProfileTexts.text_of l.texts ≡ g.T.ProfileTexts.text_of l.initial.texts;
   quiet : l.stderr ≡ l.initial.stderr;
-  read : ReadsFleets (g.T.ProfileTexts.text_of l.initial.texts) (map (λ path. path.now) (take l.path-index l.paths)) (g.T.ProfileTexts.given l.initial.texts) (g.T.ProfileTexts.given l.texts) (map string_bytes l.words.items);
+  read : ReadsFleets (g.T.ProfileTexts.text_of l.initial.texts) (map (λ path. path.now) (take l.path-index l.paths))
+      (g.T.ProfileTexts.given l.initial.texts) (g.T.ProfileTexts.given l.texts) (map string_bytes l.words.items);
 }

@@ -3,4 +3,6 @@ use Rattle.meanings.specs.Explanations.{explained_by}
 use Rattle.meanings.proofs.explain.explained_by.Given as goal
 
 abbrev pub invariant-loop-text : goal.invariant-loop-text
-invariant-loop-text l = explained_by (decimal l.number) (map (λ text. text.now) l.texts) ≡ explained_by (decimal l.number) (map (λ text. text.now) (drop l.text-index l.texts))
+invariant-loop-text l =
+    explained_by (decimal l.number) (map (λ text. text.now) l.texts)
+    ≡ explained_by (decimal l.number) (map (λ text. text.now) (drop l.text-index l.texts))

@@ -7,7 +7,8 @@ use Rattle.meanings.proofs.explain.write_asked.Goals as goal
 
 pub returns-in_err-write_text-clause-text : goal.returns-in_err-write_text-clause-text
 returns-in_err-write_text-clause-text g c =
-    told_cut (is_asked (option_map (λ word. word.now) c.args.code)) (λ text. text.now) c.args.texts.now c.loop-text.text-index _ _ _ _ (search rules)
+    told_cut (is_asked (option_map (λ word. word.now) c.args.code))
+    (λ text. text.now) c.args.texts.now c.loop-text.text-index _ _ _ _ (search rules)
     c.loop-text.invariant.1 _ (search rules) c.as_bytes.ensures.value (search rules) c.write_text.ensures.text.front
 
 pub loop-text-init : goal.loop-text-init
@@ -18,16 +19,22 @@ loop-text-preserved g c =
     elim c.if-is_asked.branch [
       | then-is_asked+in_ok-write_text w ↦ (
         search rules,
-        rw w.stdout-is (told_more (is_asked (option_map (λ word. word.now) c.args.code)) (λ text. text.now) c.args.texts.now c.loop-text.text-index _ _ _ _
-            (search rules) c.loop-text.invariant.1 _ w.as_bytes.ensures.value (search rules) (w.write_text.ensures.text.whole (search rules))),
+        rw w.stdout-is
+            (told_more (is_asked (option_map (λ word. word.now) c.args.code))
+            (λ text. text.now) c.args.texts.now c.loop-text.text-index _ _ _ _
+            (search rules) c.loop-text.invariant.1 _ w.as_bytes.ensures.value (search rules)
+                (w.write_text.ensures.text.whole (search rules))),
       )
       | else-is_asked w ↦ (
         search rules,
-        rw w.stdout-is (told_past (is_asked (option_map (λ word. word.now) c.args.code)) (λ text. text.now) c.args.texts.now c.loop-text.text-index _ _ _
+        rw w.stdout-is
+            (told_past (is_asked (option_map (λ word. word.now) c.args.code))
+            (λ text. text.now) c.args.texts.now c.loop-text.text-index _ _ _
             (search rules) c.loop-text.invariant.1 (sym c.is_asked.ensures ∙ w.if-is_asked.false)),
       )
     ]
 
 pub returns-clause-text : goal.returns-clause-text
 returns-clause-text g c =
-    told_to_the_end (is_asked (option_map (λ word. word.now) c.args.code)) (λ text. text.now) c.args.texts.now c.loop-text.text-index _ _ c.loop-text-test.false c.loop-text.invariant.1
+    told_to_the_end (is_asked (option_map (λ word. word.now) c.args.code))
+    (λ text. text.now) c.args.texts.now c.loop-text.text-index _ _ c.loop-text-test.false c.loop-text.invariant.1

@@ -8,14 +8,17 @@ returns-in_err-profile-clause-fleet g c =
     let start = g.T.ProfileTexts.text_of c.args.texts.now in
     let now = g.T.ProfileTexts.text_of c.loop-i.texts in
     let ended : IsEndOfFleet (map (λ word. start word.now) c.args.words.now) c.in_err-profile.field-0.0 =
-    fleet_ends start now (λ word. word.now) c.args.words.now c.loop-i.i _ c.loop-i.fleet.items c.in_err-profile.field-0.0 (search rules) c.loop-i.invariant.1 c.loop-i.invariant.2 c.in_err-profile.ensures.profile in
+    fleet_ends start now (λ word. word.now) c.args.words.now c.loop-i.i _ c.loop-i.fleet.items c.in_err-profile.field-0.0
+    (search rules) c.loop-i.invariant.1 c.loop-i.invariant.2 c.in_err-profile.ensures.profile in
     search rules
 
 pub returns-in_err-profile-clause-given : goal.returns-in_err-profile-clause-given
 returns-in_err-profile-clause-given g c =
     let start = g.T.ProfileTexts.text_of c.args.texts.now in
-    let refused : RefusesBy (g.T.ProfileTexts.given c.args.texts.now) (g.T.ProfileTexts.given c.read_profile.new.texts) c.in_err-profile.field-0.0 =
-    refused_behind (λ word. start word.now) c.args.words.now c.loop-i.i _ _ _ c.loop-i.fleet.items c.in_err-profile.field-0.0 (search rules) c.loop-i.invariant.2 c.loop-i.invariant.3 c.in_err-profile.ensures.given in
+    let refused :
+    RefusesBy (g.T.ProfileTexts.given c.args.texts.now) (g.T.ProfileTexts.given c.read_profile.new.texts) c.in_err-profile.field-0.0 =
+    refused_behind (λ word. start word.now) c.args.words.now c.loop-i.i _ _ _ c.loop-i.fleet.items c.in_err-profile.field-0.0
+    (search rules) c.loop-i.invariant.2 c.loop-i.invariant.3 c.in_err-profile.ensures.given in
     search rules
 
 pub loop-i-preserved : goal.loop-i-preserved
@@ -24,7 +27,9 @@ loop-i-preserved g c =
     let now = g.T.ProfileTexts.text_of c.loop-i.texts in (
       search rules,
       search rules,
-      rw c.in_ok-push.ensures.items (DescribeFleet-next start now (λ word. word.now) c.args.words.now c.loop-i.i _ c.loop-i.fleet.items c.in_ok-profile.profile (search rules) c.loop-i.invariant.1 c.loop-i.invariant.2 c.in_ok-profile.ensures.profile),
+      rw c.in_ok-push.ensures.items
+          (DescribeFleet-next start now (λ word. word.now) c.args.words.now c.loop-i.i _ c.loop-i.fleet.items c.in_ok-profile.profile
+          (search rules) c.loop-i.invariant.1 c.loop-i.invariant.2 c.in_ok-profile.ensures.profile),
       rw c.in_ok-push.ensures.items (DescribeBy-more _ _ _ c.loop-i.fleet.items _ c.loop-i.invariant.3 c.in_ok-profile.ensures.given),
     )
 

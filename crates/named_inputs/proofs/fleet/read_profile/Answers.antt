@@ -10,8 +10,10 @@ returns-in-Ok-clause-profile g c =
 
 pub returns-clause-profile : goal.returns-clause-profile
 returns-clause-profile g c =
-    read_refused _ c.in_ok-text.text.items c.args.number c.in-Err.fault _ c.in_ok-text.ensures.bytes (subst (λ bytes. IsErrorOfText bytes c.in-Err.fault) c.as_slice.ensures.value c.in-Err.ensures) c.refusal.ensures
+    read_refused _ c.in_ok-text.text.items c.args.number c.in-Err.fault _ c.in_ok-text.ensures.bytes
+    (subst (λ bytes. IsErrorOfText bytes c.in-Err.fault) c.as_slice.ensures.value c.in-Err.ensures) c.refusal.ensures
 
 pub returns-clause-given : goal.returns-clause-given
 returns-clause-given g c =
-    read_is_refused _ _ c.in_ok-text.text.items c.args.number c.in-Err.fault _ (search rules) (subst (λ bytes. IsErrorOfText bytes c.in-Err.fault) c.as_slice.ensures.value c.in-Err.ensures) c.refusal.ensures
+    read_is_refused _ _ c.in_ok-text.text.items c.args.number c.in-Err.fault _ (search rules)
+    (subst (λ bytes. IsErrorOfText bytes c.in-Err.fault) c.as_slice.ensures.value c.in-Err.ensures) c.refusal.ensures

@@ -22,7 +22,9 @@ loop-piece-preserved g c =
       search rules,
       rw (c.in_ok-extend_from_slice.ensures.items, same) (Consumes-trans _ _ _ _ _ c.loop-piece.invariant.1 c.in-Ok.ensures.read.bytes.0),
       search rules,
-      rw (c.in_ok-extend_from_slice.ensures.items, same) (HasGiven-more _ _ _ c.loop-piece.front.items (take c.in-Ok.count c.read.new.buf) c.loop-piece.invariant.3 c.in-Ok.ensures.read.given (search rules)),
+      rw (c.in_ok-extend_from_slice.ensures.items, same)
+          (HasGiven-more _ _ _ c.loop-piece.front.items
+          (take c.in-Ok.count c.read.new.buf) c.loop-piece.invariant.3 c.in-Ok.ensures.read.given (search rules)),
     )
 
 pub returns-clause-given : goal.returns-clause-given

@@ -11,6 +11,7 @@ returns c =
     let spaced : (c.args.vmi == 0) ≡ false = search rules in
     let by = ticks_in FortyEighthInch c.args.vmi * c.args.lines in
     at
-    ∙ ap (λ z. place_between c.args.place c.args.foot z) (c.below.ensures ∙ ap (λ line. c.args.place +ℤ pos (line * c.args.lines)) c.ticks_in-line.ensures.value)
+    ∙ ap (λ z. place_between c.args.place c.args.foot z)
+    (c.below.ensures ∙ ap (λ line. c.args.place +ℤ pos (line * c.args.lines)) c.ticks_in-line.ensures.value)
     ∙ below_is_between c.args.place c.args.foot by
     ∙ ap (λ b. cond (b || int_lt c.args.foot (c.args.place +ℤ pos by)) None (Some (c.args.place +ℤ pos by))) (sym spaced)

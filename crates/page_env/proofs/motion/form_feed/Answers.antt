@@ -14,5 +14,6 @@ returns-in_err-termination c =
 pub returns : goal.returns
 unfolding CarriesOut Changes
 returns c =
-    carries_behind c.args.page.now (λ termination s. Ends (moving (before_feed termination s))) c.in_ok-termination.termination c.return_before_feed.new.page (Ok Ending) c.in_ok-termination.ensures
+    carries_behind c.args.page.now (λ termination s. Ends (moving (before_feed termination s))) c.in_ok-termination.termination
+    c.return_before_feed.new.page (Ok Ending) c.in_ok-termination.ensures
     (λ panel defaults. ap GoesThenEnds (c.return_before_feed.ensures c.args.page.now.env panel))

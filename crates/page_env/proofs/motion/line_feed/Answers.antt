@@ -11,5 +11,7 @@ returns-in_err-termination g c =
 pub returns : goal.returns
 returns g c =
     let termination = c.in_ok-termination.termination in
-    carries_behind c.args.page.now (λ termination s. feed_by c.args.profile.now (before_feed termination s) WholeLine) termination _ _ c.in_ok-termination.ensures
-    (carries_after (before_feed termination) (before_keeps termination) _ _ c.return_before_feed.ensures (λ defaults s. feed_by c.args.profile.now s WholeLine) _ _ c.feed_by.ensures)
+    carries_behind c.args.page.now
+    (λ termination s. feed_by c.args.profile.now (before_feed termination s) WholeLine) termination _ _ c.in_ok-termination.ensures
+    (carries_after (before_feed termination) (before_keeps termination) _ _ c.return_before_feed.ensures
+    (λ defaults s. feed_by c.args.profile.now s WholeLine) _ _ c.feed_by.ensures)

@@ -4,7 +4,8 @@ use Rattle.page_env.proofs.motion.return_line.Goals as goal
 
 pub returns-in_err-read : goal.returns-in_err-read
 returns-in_err-read g c =
-    unset_behind c.args.page.now (return_with c.args.profile.now) c.in_err-read.field-0.0 _ c.from_residual.result c.in_err-read.ensures c.from_residual.ensures.1
+    unset_behind c.args.page.now
+    (return_with c.args.profile.now) c.in_err-read.field-0.0 _ c.from_residual.result c.in_err-read.ensures c.from_residual.ensures.1
 
 pub returns : goal.returns
 returns g c =

@@ -13,7 +13,8 @@ returns-then-termination g c = λ panel defaults.
     let s = state_at panel c.args.page.now in
     first_transition s.settings (feed_by c.args.profile.now (carriage_return s) WholeLine) (Step (moving (carriage_return s))) _ _
     c.if-termination.true
-    (carries_after carriage_return (λ t. refl) c.args.page.now c.go_left.new.page c.go_left.ensures (λ defaults t. feed_by c.args.profile.now t WholeLine) c.feed_by.new.page _ c.feed_by.ensures panel defaults)
+    (carries_after carriage_return (λ t. refl) c.args.page.now c.go_left.new.page c.go_left.ensures
+    (λ defaults t. feed_by c.args.profile.now t WholeLine) c.feed_by.new.page _ c.feed_by.ensures panel defaults)
 
 pub returns-else-termination : goal.returns-else-termination
 unfolding CarriesOut

@@ -18,4 +18,5 @@ returns c =
     let line : PenLine = line_between c.args.origin frame pen.width start to in
     let drawn : Some c.in-Some.line ≡ cond (is_inside g (line_bounds line)) (Some line) None = search rules in
     let stays : Some c.in-Some-place_within.place ≡ cond (stays_in_frame frame start to) (Some to) None = search rules in
-    line_passes g c.args.origin frame pen.width pen.place start to c.in-Some-place_within.place c.in-Some.line c.own_place-start.ensures drawn stays
+    line_passes g c.args.origin frame pen.width pen.place start to c.in-Some-place_within.place c.in-Some.line
+    c.own_place-start.ensures drawn stays

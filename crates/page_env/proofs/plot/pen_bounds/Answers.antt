@@ -19,7 +19,11 @@ returns-then-lies_within g c =
       no_raster = is_none page.raster (sym c.is_some.ensures ∙ c.if-is_some.false);
       is_down = down;
       kept = c.box_for-bounds.ensures ∙ c.kept_by.ensures;
-      inside = ap (lies_within c.box_for-bounds.result) (sym c.own_place.ensures) ∙ sym c.lies_within.ensures.within ∙ c.if-lies_within.true;
+      inside =
+          ap (lies_within c.box_for-bounds.result) (sym c.own_place.ensures) ∙ sym c.lies_within.ensures.within ∙ c.if-lies_within.true;
       line = λ from target. line_between origin frame page.env.job.pen.width from target;
-      draws = draws_within c.args.profile.now page c.box_for-bounds.result c.in-Some.geometry.now origin frame down (ne_eqb page.env.job.pen.number 0 c.if-pen-eq0.false) c.in-Some.ensures c.frame_on-frame.ensures (c.lines_go.ensures c.if-lines_go.true);
+      draws =
+          draws_within c.args.profile.now page c.box_for-bounds.result c.in-Some.geometry.now origin frame down
+          (ne_eqb page.env.job.pen.number 0 c.if-pen-eq0.false) c.in-Some.ensures c.frame_on-frame.ensures
+          (c.lines_go.ensures c.if-lines_go.true);
     }

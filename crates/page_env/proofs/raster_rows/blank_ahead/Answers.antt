@@ -21,17 +21,20 @@ returns-then-blank-lt-LANES c =
     let bytes = c.args.bytes.now in
     let ahead = c.loop-ahead.ahead in
     let is = c.blank_lanes-blank.ensures.value ∙ ap (λ l. blank (take 16 l)) (take_rest bytes ahead) in
-    let there = black_there 16 bytes ahead c.blank_lanes-blank.result c.loop-ahead.invariant c.loop-ahead-test.true is c.if-blank-lt-LANES.true in
+    let there =
+    black_there 16 bytes ahead c.blank_lanes-blank.result c.loop-ahead.invariant c.loop-ahead-test.true is c.if-blank-lt-LANES.true in
     found bytes _ there.0 there.1
 
 pub returns-in-None : goal.returns-in-None
 unfolding blank_ahead
 returns-in-None c =
     let bytes = c.args.bytes.now in
-    found_none bytes c.loop-ahead.ahead c.loop-ahead.invariant (c.in-None.ensures.value ∙ ap (position is_black) (take_rest bytes c.loop-ahead.ahead))
+    found_none bytes c.loop-ahead.ahead c.loop-ahead.invariant
+    (c.in-None.ensures.value ∙ ap (position is_black) (take_rest bytes c.loop-ahead.ahead))
 
 pub returns-in-Some : goal.returns-in-Some
 unfolding blank_ahead
 returns-in-Some c =
     let bytes = c.args.bytes.now in
-    (found_behind bytes c.loop-ahead.ahead c.loop-ahead.invariant c.in-Some.few (c.in-Some.ensures.value ∙ ap (position is_black) (take_rest bytes c.loop-ahead.ahead))).0
+    (found_behind bytes c.loop-ahead.ahead c.loop-ahead.invariant c.in-Some.few
+    (c.in-Some.ensures.value ∙ ap (position is_black) (take_rest bytes c.loop-ahead.ahead))).0

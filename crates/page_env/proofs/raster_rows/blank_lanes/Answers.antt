@@ -12,7 +12,8 @@ counted : (c : goal.After-first_set) → c.first_set.result ≡ blank (take 16 c
 counted c =
     let v : List ℕ = chunk 0 16 c.args.bytes.now in
     let long : length v ≡ 16 = length-chunk 0 16 c.args.bytes.now c.requires in
-    c.first_set.ensures ∙ ap (λ m. first_set m 16) (bitmask_splat w8 (λ (a b : ℕ). not (a == b)) v 16 0 long (omega arith)) ∙ first_set_mask_l is_black v 16 long (omega arith)
+    c.first_set.ensures ∙ ap (λ m. first_set m 16) (bitmask_splat w8 (λ (a b : ℕ). not (a == b)) v 16 0 long (omega arith))
+    ∙ first_set_mask_l is_black v 16 long (omega arith)
 
 pub returns-clause-value : goal.returns-clause-value
 returns-clause-value c = counted c

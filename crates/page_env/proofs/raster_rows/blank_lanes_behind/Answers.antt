@@ -19,7 +19,8 @@ counted : (c : goal.After-lanes_behind) → c.lanes_behind.result ≡ blank (rev
 counted c =
     let v : List ℕ = chunk 0 16 c.args.bytes.now in
     let long : length v ≡ 16 = length-chunk 0 16 c.args.bytes.now c.requires in
-    c.lanes_behind.ensures ∙ ap (λ m. leading_zeros w16 m) (bitmask_splat w8 (λ (a b : ℕ). not (a == b)) v 16 0 long (omega arith)) ∙ lanes_behind_last v long
+    c.lanes_behind.ensures ∙ ap (λ m. leading_zeros w16 m) (bitmask_splat w8 (λ (a b : ℕ). not (a == b)) v 16 0 long (omega arith))
+    ∙ lanes_behind_last v long
 
 pub returns-clause-value : goal.returns-clause-value
 returns-clause-value c = counted c

@@ -13,7 +13,8 @@ unfolding Acts
 returns-in-LineFeed g c = (refl, ap simple_view c.in-LineFeed.is)
 
 pub returns-in-Parameterized : goal.returns-in-Parameterized
-returns-in-Parameterized g c = rw (c.in-Parameterized.is, c.valued.ensures) (as_valued _ _ _ _ _ c.carry_out_command.result c.carry_out_command.ensures)
+returns-in-Parameterized g c =
+    rw (c.in-Parameterized.is, c.valued.ensures) (as_valued _ _ _ _ _ c.carry_out_command.result c.carry_out_command.ensures)
 
 pub returns-in-Move : goal.returns-in-Move
 unfolding Acts

@@ -11,5 +11,13 @@ pub returns-in_err-geometry : goal.returns-in_err-geometry
 unfolding text_reads
 returns-in_err-geometry g c =
     reads_fail c.args.page.now.env (text_reads c.args.page.now.cursor.y (font_reads c.args.page.now.env.job.font))
-    (λ panel. (geometry_of c.args.profile.now (state_at panel c.args.page.now), origin_of c.args.profile.now (state_at panel c.args.page.now), vertical_place (state_at panel c.args.page.now), request_of c.args.profile.now (state_at panel c.args.page.now))) c.in_err-geometry.field-0.0 _ c.from_residual.ensures.1
-    (λ panel. unset_in_first (settings_at panel c.args.page.now.env) c.in_err-geometry.field-0.0 (Size ∷ Orientation ∷ vertical_reads c.args.page.now.cursor.y) (font_reads c.args.page.now.env.job.font) ((rw c.in_err-geometry.was at c.geometry_origin_and_vertical.ensures) panel))
+    (λ panel. (
+      geometry_of c.args.profile.now (state_at panel c.args.page.now),
+      origin_of c.args.profile.now (state_at panel c.args.page.now),
+      vertical_place (state_at panel c.args.page.now),
+      request_of c.args.profile.now (state_at panel c.args.page.now),
+    ))
+    c.in_err-geometry.field-0.0 _ c.from_residual.ensures.1
+    (λ panel. unset_in_first (settings_at panel c.args.page.now.env) c.in_err-geometry.field-0.0
+    (Size ∷ Orientation ∷ vertical_reads c.args.page.now.cursor.y) (font_reads c.args.page.now.env.job.font)
+    ((rw c.in_err-geometry.was at c.geometry_origin_and_vertical.ensures) panel))

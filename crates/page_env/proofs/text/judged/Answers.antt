@@ -14,5 +14,9 @@ returns-in-Err g c =
     let behind : ℤ = page_x +ℤ pos (column_with page.env.job.hmi c.args.face.now) in
     let left : Bool = int_lt page_x right in
     let has : has_code c.args.face.now.codes c.args.code ≡ true = search rules in
-    let edge : cond (not left && int_lt c.args.geometry.now.logical_width behind) (Some OffPage) (cond (left && int_lt right behind) (Some PastRightMargin) None) ≡ Some c.in-Err.finding = search rules in
-    found_at_edge (has_code c.args.face.now.codes c.args.code) (not left && int_lt c.args.geometry.now.logical_width behind) (left && int_lt right behind) NoGlyph OffPage PastRightMargin c.in-Err.finding _ has edge
+    let edge : cond (not left && int_lt c.args.geometry.now.logical_width behind) (Some OffPage)
+    (cond (left && int_lt right behind) (Some PastRightMargin) None)
+    ≡ Some c.in-Err.finding =
+    search rules in
+    found_at_edge (has_code c.args.face.now.codes c.args.code) (not left && int_lt c.args.geometry.now.logical_width behind)
+    (left && int_lt right behind) NoGlyph OffPage PastRightMargin c.in-Err.finding _ has edge

@@ -10,5 +10,12 @@ pub returns-in_err-geometry : goal.returns-in_err-geometry
 unfolding text_reads
 returns-in_err-geometry g c =
     reads_fail c.args.page.now.env (text_reads c.args.page.now.cursor.y (column_reads c.args.page.now.env.job))
-    (λ panel. (geometry_of c.args.profile.now (state_at panel c.args.page.now), vertical_place (state_at panel c.args.page.now), column_of c.args.profile.now (state_at panel c.args.page.now))) c.in_err-geometry.field-0.0 _ c.from_residual.ensures.1
-    (λ panel. unset_in_first (settings_at panel c.args.page.now.env) c.in_err-geometry.field-0.0 (Size ∷ Orientation ∷ vertical_reads c.args.page.now.cursor.y) (column_reads c.args.page.now.env.job) ((rw c.in_err-geometry.was at c.geometry_and_vertical.ensures) panel))
+    (λ panel. (
+      geometry_of c.args.profile.now (state_at panel c.args.page.now),
+      vertical_place (state_at panel c.args.page.now),
+      column_of c.args.profile.now (state_at panel c.args.page.now),
+    ))
+    c.in_err-geometry.field-0.0 _ c.from_residual.ensures.1
+    (λ panel. unset_in_first (settings_at panel c.args.page.now.env) c.in_err-geometry.field-0.0
+    (Size ∷ Orientation ∷ vertical_reads c.args.page.now.cursor.y) (column_reads c.args.page.now.env.job)
+    ((rw c.in_err-geometry.was at c.geometry_and_vertical.ensures) panel))

@@ -14,7 +14,8 @@ some_is (Some x) P v w h e = h.1 ∙ e
 fits : (z : ℤ) → IsWithin (2 ^ 62) z → cast_signed w64 (cast_unsigned w64 z) ≡ z
 fits z h = grind (arith, ints, to_z-of_z, h)
 
-near : (edge origin advance : ℤ) → IsInRange edge → IsWithin (2 ^ 60 + 2 ^ 50) origin → IsInRange advance → IsWithin (2 ^ 62) (edge -ℤ origin) × IsWithin (2 ^ 62) ((edge -ℤ origin) -ℤ advance)
+near : (edge origin advance : ℤ) → IsInRange edge → IsWithin (2 ^ 60 + 2 ^ 50) origin → IsInRange advance →
+    IsWithin (2 ^ 62) (edge -ℤ origin) × IsWithin (2 ^ 62) ((edge -ℤ origin) -ℤ advance)
 near edge origin advance e o a = ((omega (arith, ints), omega (arith, ints)), (omega (arith, ints), omega (arith, ints)))
 
 pub returns-clause-value : goal.returns-clause-value
@@ -28,7 +29,8 @@ returns-clause-value g c =
     let origin_is : cast c.ticks-2.result ≡ origin = grind (arith, to_z-of_z, c.ticks-2.ensures) in
     let advance_is : cast c.ticks-3.result ≡ advance = grind (arith, to_z-of_z, c.ticks-3.ensures) in
     let small = near edge origin advance c.ticks.ensures.in_range c.ticks-2.ensures.in_range c.ticks-3.ensures.in_range in
-    some_is c.from_ticks.result _ _ ((c.args.measure.now.bounds.area.right -ℤ c.args.measure.now.look.origin.x) -ℤ c.args.measure.now.look.advance) c.from_ticks.ensures
+    some_is c.from_ticks.result _ _
+    ((c.args.measure.now.bounds.area.right -ℤ c.args.measure.now.look.origin.x) -ℤ c.args.measure.now.look.advance) c.from_ticks.ensures
     (ap (λ z. cast (cast (z -ℤ cast c.ticks-2.result) -ℤ cast c.ticks-3.result)) edge_is
     ∙ ap (λ z. cast (cast (edge -ℤ z) -ℤ cast c.ticks-3.result)) origin_is
     ∙ ap (λ z. cast (z -ℤ cast c.ticks-3.result)) (fits (edge -ℤ origin) small.0)

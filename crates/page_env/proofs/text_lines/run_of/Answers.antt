@@ -16,7 +16,9 @@ returns-clause-room g c = run_room c.args.measure.now c.args.bytes.now c.args.pl
 pub returns-clause-end : goal.returns-clause-end
 returns-clause-end g c =
     let m = c.args.measure.now in
-    let x = c.columns_behind-x.ensures ∙ ap (λ (n : TextMeasure). c.args.place.x +ℤ pos (length c.args.bytes.now * n.look.column)) c.measure.view_is in
+    let x =
+    c.columns_behind-x.ensures
+    ∙ ap (λ (n : TextMeasure). c.args.place.x +ℤ pos (length c.args.bytes.now * n.look.column)) c.measure.view_is in
     (λ i. record c.args.place { x = x i }) ∙ run_leads m.look m.codes c.args.bytes.now c.args.place c.requires.in_face
 
 pub returns-clause-glyphs : goal.returns-clause-glyphs

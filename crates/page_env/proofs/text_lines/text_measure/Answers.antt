@@ -25,14 +25,24 @@ returns g c =
             request = known.3;
             face = c.in_ok-face.face.now;
             face_is = ap (face_for c.args.profile.now.faces) known.3 ∙ sym c.font.ensures.face ∙ ap option_copied c.in_ok-face.was;
-            looks = record { advance = sym c.advance.ensures.value; ascent = sym c.ascent.ensures.value; descent = sym c.descent.ensures.value; codes_are = refl };
+            looks = record {
+              advance = sym c.advance.ensures.value;
+              ascent = sym c.ascent.ensures.value;
+              descent = sym c.descent.ensures.value;
+              codes_are = refl;
+            };
             origin = known.2;
             column = sym c.column_width.ensures;
             left = refl;
             area = ap area_of known.1 ∙ sym bounds.area;
             width = ap (λ (q : Geometry). q.logical_width) known.1 ∙ sym bounds.width;
             right = ap (λ (q : Geometry). unwrap_or job.right_margin q.logical_width) known.1 ∙ sym bounds.right;
-            foot = ap (λ (q : Geometry). cond job.skips_perforation (unwrap_or job.bottom_margin (q.logical_height -ℤ half_inch)) q.logical_height) known.1 ∙ sym bounds.foot;
+            foot =
+                ap
+                (λ (q : Geometry).
+                cond job.skips_perforation (unwrap_or job.bottom_margin (q.logical_height -ℤ half_inch)) q.logical_height)
+                known.1
+                ∙ sym bounds.foot;
             ends = λ ends_lines.
                 let e = c.line_ends-ends.ensures.known (sym bounds.ends_lines ∙ ends_lines) panel in
                 record { read = e.0; line_read = e.1; termination = e.2; line = e.3 };

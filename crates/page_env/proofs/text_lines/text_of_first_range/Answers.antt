@@ -9,4 +9,5 @@ loop-preserved g c = (
 )
 
 pub returns-then-count-lt-LANES-clause-known : goal.returns-then-count-lt-LANES-clause-known
-returns-then-count-lt-LANES-clause-known g c = further_in_first _ _ _ _ _ _ c.codes.ensures c.in-len1-up.len_at_least c.loop.invariant.1 c.text_of_range-count.ensures.known
+returns-then-count-lt-LANES-clause-known g c =
+    further_in_first _ _ _ _ _ _ c.codes.ensures c.in-len1-up.len_at_least c.loop.invariant.1 c.text_of_range-count.ensures.known

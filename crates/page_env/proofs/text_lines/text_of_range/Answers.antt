@@ -22,12 +22,16 @@ counted c =
     let above = zip2_splat_left (λ (a b : ℕ). set (nat_lt a b)) last 32 v long in
     let no_space = zip2_splat (λ (a b : ℕ). set (not (a == b))) v 32 32 long in
     let outside = zip2_of_maps bit_or (λ (x : ℕ). set (nat_lt x first)) (λ x. set (nat_lt last x)) v below above in
-    let other = zip2_of_maps bit_and (λ (x : ℕ). bit_or (set (nat_lt x first)) (set (nat_lt last x))) (λ x. set (not (x == 32))) v outside no_space in
+    let other =
+    zip2_of_maps bit_and (λ (x : ℕ). bit_or (set (nat_lt x first)) (set (nat_lt last x))) (λ x. set (not (x == 32))) v outside no_space in
     before_first (is_other c.args.range) (λ x. bit_and (bit_or (set (nat_lt x first)) (set (nat_lt last x))) (set (not (x == 32))))
     (λ x. tops (nat_lt x first) (nat_lt last x) (not (x == 32))) v _ long other c.first_set.result c.first_set.ensures
 
 pub returns-clause-short : goal.returns-clause-short
-returns-clause-short c = omega (arith, counted c, prefix_len-le-length (λ x. not (is_other c.args.range x)) (take 32 c.args.bytes.now), length-chunk 0 32 c.args.bytes.now c.requires.room)
+returns-clause-short c = omega (arith, counted c, prefix_len-le-length (λ x. not (is_other c.args.range x)) (take 32 c.args.bytes.now),
+length-chunk 0 32 c.args.bytes.now c.requires.room)
 
 pub returns-clause-known : goal.returns-clause-known
-returns-clause-known c = λ others. subst (λ (n : ℕ). CanGoIn (c.args.range ∷ others) (take n c.args.bytes.now)) (sym (counted c)) (can_go_before c.args.range others c.requires.text 32 c.args.bytes.now)
+returns-clause-known c =
+    λ others. subst (λ (n : ℕ). CanGoIn (c.args.range ∷ others) (take n c.args.bytes.now)) (sym (counted c))
+    (can_go_before c.args.range others c.requires.text 32 c.args.bytes.now)

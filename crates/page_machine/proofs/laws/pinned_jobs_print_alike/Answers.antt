@@ -28,4 +28,5 @@ returns c printer panel set none flags from items all =
       bare_bytes = bare.bytes printer;
       bare_moves = bare.moves printer;
     } in
-    unlimited_alike printer flags from panel laws (request_at printer.faces panel.font) (can_be_sent printer panel set) refl (tray_is_some printer panel set) items (place_behind 0 (pinned_entries printer panel items)) none all
+    unlimited_alike printer flags from panel laws (request_at printer.faces panel.font) (can_be_sent printer panel set) refl
+    (tray_is_some printer panel set) items (place_behind 0 (pinned_entries printer panel items)) none all

@@ -5,4 +5,5 @@ pub returns : goal.returns
 returns c =
     let sound = c.items_are_sound.ensures in
     let untouched = c.items_leave_untouched.ensures in
-    unset_read sound.items (λ printer. record { bytes = sound.bytes printer; moves = sound.moves printer }) untouched.items untouched.bytes untouched.moves
+    unset_read sound.items
+    (λ printer. record { bytes = sound.bytes printer; moves = sound.moves printer }) untouched.items untouched.bytes untouched.moves

@@ -1,7 +1,8 @@
 use Rattle.std.proofs.Common.{sym, ◌∙◌}
 use Rattle.page_machine.specs.MachineState.{MachineState}
 use Rattle.page_machine.specs.Machine.{fields_of}
-use Rattle.page_machine.proofs.Answering.{carried_end, end-is_refused, end-is_carried, Carries-is, Carries-found, Carries-done, Carries-halted}
+use Rattle.page_machine.proofs.Answering.{carried_end, end-is_refused, end-is_carried, Carries-is, Carries-found, Carries-done}
+use Rattle.page_machine.proofs.Answering.{Carries-halted}
 use Rattle.page_machine.proofs.machine.end.Goals as goal
 
 pub returns-then-is_open : goal.returns-then-is_open

@@ -21,9 +21,19 @@ returns-in-Ok-Stepped-clause-carries g c =
     let open_is : is_defining machine.macros ≡ false = ap (λ d. is_some d) c.requires.no_definition in
     let field = rw c.in-Ok-Stepped.is at c.in-Ok-Stepped.field-0-is in
     let stepped : c.carry_out_page_item-carried.result ≡ Ok Stepped = c.in-Ok-Stepped.is ∙ ap Ok field in
-    Carries-is _ _ _ _ _ _ (alone item machine) _ _ _ (item-is_alone item machine open_is (left_leaves c.args.profile.now (page_view c.args.item) c.args.item c.args.page.now c.carry_out_page_item-carried.new.page c.carry_out_page_item-carried.result refl c.requires.begun c.carry_out_page_item-carried.ensures stepped))
+    Carries-is _ _ _ _ _ _ (alone item machine) _ _ _
+    (item-is_alone item machine open_is
+    (left_leaves c.args.profile.now (page_view c.args.item) c.args.item c.args.page.now c.carry_out_page_item-carried.new.page
+    c.carry_out_page_item-carried.result refl c.requires.begun c.carry_out_page_item-carried.ensures stepped))
     (Carries-done _ _ _ _ _ _ (alone item machine) _ tt _
-    (Follows-is _ _ _ _ _ _ _ _ _ (λ panel. left_runs c.args.profile.now (page_view c.args.item) c.args.item c.args.page.now c.carry_out_page_item-carried.new.page c.carry_out_page_item-carried.result refl c.requires.begun c.carry_out_page_item-carried.ensures (in_job (context_of machine panel)) panel ∙ ap (λ result. effect_run (in_job (context_of machine panel)) (effect_at panel (settings_at panel c.args.defaults.now) c.carry_out_page_item-carried.new.page result)) stepped)
+    (Follows-is _ _ _ _ _ _ _ _ _ (λ panel.
+        left_runs c.args.profile.now (page_view c.args.item) c.args.item c.args.page.now c.carry_out_page_item-carried.new.page
+        c.carry_out_page_item-carried.result refl c.requires.begun c.carry_out_page_item-carried.ensures
+        (in_job (context_of machine panel)) panel
+        ∙ ap
+        (λ result. effect_run (in_job (context_of machine panel))
+        (effect_at panel (settings_at panel c.args.defaults.now) c.carry_out_page_item-carried.new.page result))
+        stepped)
     (Follows-stepped _ _ _ _ c.carry_out_page_item-carried.new.page tt)) refl)
 
 pub returns-clause-carries : goal.returns-clause-carries

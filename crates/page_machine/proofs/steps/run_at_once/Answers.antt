@@ -16,14 +16,16 @@ pub returns-in-Text : goal.returns-in-Text
 returns-in-Text g c =
     let is : view c.args.item.now ≡ Text c.in-Text.byte.code = ap view c.in-Text.is in (
       subst LeavesMacros (sym is) (refl, refl),
-      Follows-begun (view c.args.item.now) c.args.page.now c.begin_item.new.page c.begin_item.ensures _ _ _ _ _ _ c.args.profile.now _ (Text c.in-Text.byte.code) c.begin_item.new.page is refl c.run_text.ensures,
+      Follows-begun (view c.args.item.now) c.args.page.now c.begin_item.new.page c.begin_item.ensures _ _ _ _ _ _ c.args.profile.now _
+          (Text c.in-Text.byte.code) c.begin_item.new.page is refl c.run_text.ensures,
     )
 
 pub returns-in-WithData : goal.returns-in-WithData
 returns-in-WithData g c =
     let is : view c.args.item.now ≡ WithData c.in-WithData.command c.in-WithData.«data».bytes.now = ap view c.in-WithData.is in (
       subst LeavesMacros (sym is) (refl, refl),
-      Follows-begun (view c.args.item.now) c.args.page.now c.begin_item.new.page c.begin_item.ensures _ _ _ _ _ _ c.args.profile.now _ (WithData c.in-WithData.command c.in-WithData.«data».bytes.now) c.begin_item.new.page is refl c.run_data.ensures,
+      Follows-begun (view c.args.item.now) c.args.page.now c.begin_item.new.page c.begin_item.ensures _ _ _ _ _ _ c.args.profile.now _
+          (WithData c.in-WithData.command c.in-WithData.«data».bytes.now) c.begin_item.new.page is refl c.run_data.ensures,
     )
 
 pub returns-in-PjlLine : goal.returns-in-PjlLine
@@ -32,11 +34,13 @@ returns-in-PjlLine g c =
     let item : Entry = view c.args.item.now in
     let begun : Page = c.begin_item.new.page in
     let ends : EndsWithStep item = rw c.in-PjlLine.is (refl, refl) in
-    let carried : CarriesOut (λ defaults s. transition_of c.args.profile.now defaults s item) begun begun (carried_of (Ok tt)) = rw c.in-PjlLine.is (λ panel defaults. refl) in (
+    let carried : CarriesOut (λ defaults s. transition_of c.args.profile.now defaults s item) begun begun (carried_of (Ok tt)) =
+    rw c.in-PjlLine.is (λ panel defaults. refl) in (
       step_leaves c.args.profile.now item begun begun (Ok tt) ends carried,
       λ conditions.
           Follows-is _ _ _ _ _ _ _ _ _
-          (λ panel. ap (begun_run c.args.profile.now (conditions panel) item) (c.begin_item.ensures panel) ∙ step_runs c.args.profile.now item begun begun (Ok tt) ends carried (conditions panel) panel)
+          (λ panel. ap (begun_run c.args.profile.now (conditions panel) item) (c.begin_item.ensures panel)
+              ∙ step_runs c.args.profile.now item begun begun (Ok tt) ends carried (conditions panel) panel)
           (Follows-stepped _ _ _ _ begun _),
     )
 
@@ -46,10 +50,15 @@ returns-in-Err g c =
     let item : Entry = simple_view c.in-Simple.item in
     let is : view c.args.item.now ≡ item = ap view c.in-Simple.is in
     rw c.halted.ensures (
-      subst LeavesMacros (sym is) (step_leaves c.args.profile.now item c.begin_item.new.page c.carry_out.new.page (Err c.in-Err.finding) c.in-Err.ensures.0 c.in-Err.ensures.1),
+      subst LeavesMacros (sym is)
+          (step_leaves c.args.profile.now item c.begin_item.new.page c.carry_out.new.page
+          (Err c.in-Err.finding) c.in-Err.ensures.0 c.in-Err.ensures.1),
       λ conditions.
           Follows-found _ _ _ _ _ _ _
-          (λ panel. ap (begun_run c.args.profile.now (conditions panel) (view c.args.item.now)) (c.begin_item.ensures panel) ∙ ap (λ entry. begun_run c.args.profile.now (conditions panel) entry (state_at panel c.begin_item.new.page)) is ∙ step_runs c.args.profile.now item c.begin_item.new.page c.carry_out.new.page (Err c.in-Err.finding) c.in-Err.ensures.0 c.in-Err.ensures.1 (conditions panel) panel),
+          (λ panel. ap (begun_run c.args.profile.now (conditions panel) (view c.args.item.now)) (c.begin_item.ensures panel)
+              ∙ ap (λ entry. begun_run c.args.profile.now (conditions panel) entry (state_at panel c.begin_item.new.page)) is
+              ∙ step_runs c.args.profile.now item c.begin_item.new.page c.carry_out.new.page
+              (Err c.in-Err.finding) c.in-Err.ensures.0 c.in-Err.ensures.1 (conditions panel) panel),
     )
 
 pub returns-in-Ok-Stepped : goal.returns-in-Ok-Stepped
@@ -61,7 +70,9 @@ returns-in-Ok-Stepped g c =
       subst LeavesMacros (sym is) (step_leaves c.args.profile.now item c.begin_item.new.page c.carry_out.new.page (Ok tt) acts.0 acts.1),
       λ conditions.
           Follows-is _ _ _ _ _ _ _ _ _
-          (λ panel. ap (begun_run c.args.profile.now (conditions panel) (view c.args.item.now)) (c.begin_item.ensures panel) ∙ ap (λ entry. begun_run c.args.profile.now (conditions panel) entry (state_at panel c.begin_item.new.page)) is ∙ step_runs c.args.profile.now item c.begin_item.new.page c.carry_out.new.page (Ok tt) acts.0 acts.1 (conditions panel) panel)
+          (λ panel. ap (begun_run c.args.profile.now (conditions panel) (view c.args.item.now)) (c.begin_item.ensures panel)
+              ∙ ap (λ entry. begun_run c.args.profile.now (conditions panel) entry (state_at panel c.begin_item.new.page)) is
+              ∙ step_runs c.args.profile.now item c.begin_item.new.page c.carry_out.new.page (Ok tt) acts.0 acts.1 (conditions panel) panel)
           (Follows-stepped _ _ _ _ c.carry_out.new.page _),
     )
 
@@ -71,7 +82,8 @@ returns-in-Ok-Fill g c =
     let acts = rw c.in-Ok-Fill.field-0-is at c.in-Ok-Fill.ensures in
     let is : view c.args.item.now ≡ Parameterized FillRectangle (amount c.in-Ok-Fill.n) = ap view c.in-Simple.is ∙ acts.1 in (
       subst LeavesMacros (sym is) (refl, refl),
-      Follows-begun (view c.args.item.now) c.args.page.now c.begin_item.new.page c.begin_item.ensures _ _ _ _ _ _ c.args.profile.now _ (Parameterized FillRectangle (amount c.in-Ok-Fill.n)) c.carry_out.new.page is acts.0 c.run_fill.ensures,
+      Follows-begun (view c.args.item.now) c.args.page.now c.begin_item.new.page c.begin_item.ensures _ _ _ _ _ _ c.args.profile.now _
+          (Parameterized FillRectangle (amount c.in-Ok-Fill.n)) c.carry_out.new.page is acts.0 c.run_fill.ensures,
     )
 
 pub returns-in-Ok-Move : goal.returns-in-Ok-Move
@@ -80,7 +92,8 @@ returns-in-Ok-Move g c =
     let acts = rw c.in-Ok-Move.field-0-is at c.in-Ok-Move.ensures in
     let is : view c.args.item.now ≡ Move c.in-Ok-Move.motion (pair c.in-Ok-Move.to) = ap view c.in-Simple.is ∙ acts.1 in (
       subst LeavesMacros (sym is) (refl, refl),
-      Follows-begun (view c.args.item.now) c.args.page.now c.begin_item.new.page c.begin_item.ensures _ _ _ _ _ _ c.args.profile.now _ (Move c.in-Ok-Move.motion (pair c.in-Ok-Move.to)) c.carry_out.new.page is acts.0 c.run_motion.ensures,
+      Follows-begun (view c.args.item.now) c.args.page.now c.begin_item.new.page c.begin_item.ensures _ _ _ _ _ _ c.args.profile.now _
+          (Move c.in-Ok-Move.motion (pair c.in-Ok-Move.to)) c.carry_out.new.page is acts.0 c.run_motion.ensures,
     )
 
 pub returns-in-Ok-Page : goal.returns-in-Ok-Page

@@ -8,17 +8,34 @@ use Rattle.page_machine.proofs.steps.run_data.Goals as goal
 pub returns-in_err-run_bytes-in-TransparentText : goal.returns-in_err-run_bytes-in-TransparentText
 returns-in_err-run_bytes-in-TransparentText g c = λ conditions.
     Follows-handed _ _ _ _ _ _ _ c.in_err-run_bytes-in-TransparentText.field-0.0 c.from_residual.result c.from_residual.ensures.1
-    (Follows-is _ _ _ _ _ _ _ _ _ (λ panel. ap (λ command. begun_run c.args.profile.now (conditions panel) (WithData command c.args.lent.bytes.now) (state_at panel c.args.page.now)) c.in-TransparentText.is) (c.in_err-run_bytes-in-TransparentText.ensures conditions))
+    (Follows-is _ _ _ _ _ _ _ _ _
+    (λ panel. ap
+    (λ command. begun_run c.args.profile.now (conditions panel) (WithData command c.args.lent.bytes.now) (state_at panel c.args.page.now))
+    c.in-TransparentText.is)
+    (c.in_err-run_bytes-in-TransparentText.ensures conditions))
 
 pub returns-in_ok-run_bytes-in-TransparentText : goal.returns-in_ok-run_bytes-in-TransparentText
 returns-in_ok-run_bytes-in-TransparentText g c = λ conditions.
-    Follows-is _ _ _ _ _ _ _ _ _ (λ panel. ap (λ command. begun_run c.args.profile.now (conditions panel) (WithData command c.args.lent.bytes.now) (state_at panel c.args.page.now)) c.in-TransparentText.is) (c.in_ok-run_bytes-in-TransparentText.ensures conditions)
+    Follows-is _ _ _ _ _ _ _ _ _
+    (λ panel. ap
+    (λ command. begun_run c.args.profile.now (conditions panel) (WithData command c.args.lent.bytes.now) (state_at panel c.args.page.now))
+    c.in-TransparentText.is)
+    (c.in_ok-run_bytes-in-TransparentText.ensures conditions)
 
 pub returns-in_err-run_row-in-RasterRow : goal.returns-in_err-run_row-in-RasterRow
 returns-in_err-run_row-in-RasterRow g c = λ conditions.
-    Follows-handed _ _ _ _ _ _ _ c.in_err-run_row-in-RasterRow.field-0.0 c.from_residual-in_err-run_row-in-RasterRow.result c.from_residual-in_err-run_row-in-RasterRow.ensures.1
-    (Follows-is _ _ _ _ _ _ _ _ _ (λ panel. ap (λ command. begun_run c.args.profile.now (conditions panel) (WithData command c.args.lent.bytes.now) (state_at panel c.args.page.now)) c.in-RasterRow.is) (c.in_err-run_row-in-RasterRow.ensures conditions))
+    Follows-handed _ _ _ _ _ _ _ c.in_err-run_row-in-RasterRow.field-0.0 c.from_residual-in_err-run_row-in-RasterRow.result
+    c.from_residual-in_err-run_row-in-RasterRow.ensures.1
+    (Follows-is _ _ _ _ _ _ _ _ _
+    (λ panel. ap
+    (λ command. begun_run c.args.profile.now (conditions panel) (WithData command c.args.lent.bytes.now) (state_at panel c.args.page.now))
+    c.in-RasterRow.is)
+    (c.in_err-run_row-in-RasterRow.ensures conditions))
 
 pub returns-in_ok-run_row-in-RasterRow : goal.returns-in_ok-run_row-in-RasterRow
 returns-in_ok-run_row-in-RasterRow g c = λ conditions.
-    Follows-is _ _ _ _ _ _ _ _ _ (λ panel. ap (λ command. begun_run c.args.profile.now (conditions panel) (WithData command c.args.lent.bytes.now) (state_at panel c.args.page.now)) c.in-RasterRow.is) (c.in_ok-run_row-in-RasterRow.ensures conditions)
+    Follows-is _ _ _ _ _ _ _ _ _
+    (λ panel. ap
+    (λ command. begun_run c.args.profile.now (conditions panel) (WithData command c.args.lent.bytes.now) (state_at panel c.args.page.now))
+    c.in-RasterRow.is)
+    (c.in_ok-run_row-in-RasterRow.ensures conditions)

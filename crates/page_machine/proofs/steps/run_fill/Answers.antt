@@ -10,5 +10,6 @@ pub returns : goal.returns
 unfolding Marks
 returns g c = λ conditions.
     c.hand_over.ensures conditions
-    (λ panel. effect_of (settings_at panel c.args.page.now.env) (Step (fill_rectangle c.args.profile.now (state_at panel c.args.page.now) (amount c.args.n))))
+    (λ panel. effect_of (settings_at panel c.args.page.now.env)
+    (Step (fill_rectangle c.args.profile.now (state_at panel c.args.page.now) (amount c.args.n))))
     (λ panel. c.fill_rectangle.ensures panel ∙ c.marked-filled.ensures panel c.fill_rectangle.new.page)

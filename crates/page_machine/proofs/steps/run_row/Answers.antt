@@ -8,5 +8,6 @@ pub returns : goal.returns
 unfolding Marks
 returns g c = λ conditions.
     c.hand_over.ensures conditions
-    (λ panel. effect_of (settings_at panel c.args.page.now.env) (Step (print_row c.args.profile.now (state_at panel c.args.page.now) c.args.bytes.now)))
+    (λ panel. effect_of (settings_at panel c.args.page.now.env)
+    (Step (print_row c.args.profile.now (state_at panel c.args.page.now) c.args.bytes.now)))
     c.print_row-printed.ensures

@@ -9,5 +9,6 @@ pub returns : goal.returns
 unfolding Marks
 returns g c = λ conditions.
     c.hand_over.ensures conditions
-    (λ panel. effect_of (settings_at panel c.args.page.now.env) (Step (print_byte c.args.profile.now (state_at panel c.args.page.now) c.args.code)))
+    (λ panel.
+    effect_of (settings_at panel c.args.page.now.env) (Step (print_byte c.args.profile.now (state_at panel c.args.page.now) c.args.code)))
     (λ panel. c.print_byte.ensures panel ∙ c.marked-printed.ensures panel c.print_byte.new.page)

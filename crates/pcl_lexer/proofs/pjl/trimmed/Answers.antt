@@ -6,6 +6,9 @@ use Rattle.pcl_lexer.proofs.pjl.trimmed.Goals.{then-loop-len-test+else-is_blank,
 pub returns : goal.returns
 returns c =
     elim c.loop-len-test.branch [
-      | then-loop-len-test+else-is_blank w ↦ sym (solid_last c.args.bytes.now c.loop-len.len w.loop-len-test.true c.loop-len.invariant.0 (sym w.is_blank.ensures ∙ w.if-is_blank.false)) ∙ c.loop-len.invariant.1
+      | then-loop-len-test+else-is_blank w ↦
+          sym (solid_last c.args.bytes.now c.loop-len.len w.loop-len-test.true c.loop-len.invariant.0
+          (sym w.is_blank.ensures ∙ w.if-is_blank.false))
+          ∙ c.loop-len.invariant.1
       | else-loop-len-test w ↦ none_left c.args.bytes.now c.loop-len.len (omega arith) c.loop-len.invariant.1
     ]

@@ -8,4 +8,5 @@ first_spelled_pjl-requires c = begins_pjl c.args.bytes.now (sym c.begins_pjl.ens
 pub returns-else-begins_pjl : goal.returns-else-begins_pjl
 returns-else-begins_pjl c =
     let other = begins_other c.args.bytes.now (sym c.begins_pjl.ensures ∙ c.if-begins_pjl.false) in
-    match_map c.first_item.result (nothing_in_pjl c.args.bytes.now other) (λ found s. stands_in_pjl c.args.bytes.now _ _ _ other s) c.first_item.ensures
+    match_map c.first_item.result (nothing_in_pjl c.args.bytes.now other)
+    (λ found s. stands_in_pjl c.args.bytes.now _ _ _ other s) c.first_item.ensures

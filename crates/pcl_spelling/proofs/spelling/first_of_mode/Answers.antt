@@ -7,12 +7,21 @@ use Rattle.pcl_spelling.proofs.spelling.first_of_mode.Goals as goal
 
 pub returns-in-Pcl : goal.returns-in-Pcl
 returns-in-Pcl c =
-    subst (λ (mode : Mode). MatchOption c.first_item.result (NothingStands mode c.args.bytes.now 0) (λ found. StandsAt mode c.args.bytes.now 0 (view found.0) found.1 found.2)) (sym c.in-Pcl.is) c.first_item.ensures
+    subst
+    (λ (mode : Mode). MatchOption c.first_item.result (NothingStands mode c.args.bytes.now 0)
+    (λ found. StandsAt mode c.args.bytes.now 0 (view found.0) found.1 found.2))
+    (sym c.in-Pcl.is) c.first_item.ensures
 
 pub returns-in-Frame : goal.returns-in-Frame
 returns-in-Frame c =
-    subst (λ (mode : Mode). MatchOption c.first_of_frame.result (NothingStands mode c.args.bytes.now 0) (λ found. StandsAt mode c.args.bytes.now 0 (view found.0) found.1 found.2)) (sym c.in-Frame.is) c.first_of_frame.ensures
+    subst
+    (λ (mode : Mode). MatchOption c.first_of_frame.result (NothingStands mode c.args.bytes.now 0)
+    (λ found. StandsAt mode c.args.bytes.now 0 (view found.0) found.1 found.2))
+    (sym c.in-Frame.is) c.first_of_frame.ensures
 
 pub returns-in-Pjl : goal.returns-in-Pjl
 returns-in-Pjl c =
-    subst (λ (mode : Mode). MatchOption c.first_in_pjl.result (NothingStands mode c.args.bytes.now 0) (λ found. StandsAt mode c.args.bytes.now 0 (view found.0) found.1 found.2)) (sym c.in-Pjl.is) c.first_in_pjl.ensures
+    subst
+    (λ (mode : Mode). MatchOption c.first_in_pjl.result (NothingStands mode c.args.bytes.now 0)
+    (λ found. StandsAt mode c.args.bytes.now 0 (view found.0) found.1 found.2))
+    (sym c.in-Pjl.is) c.first_in_pjl.ensures

@@ -8,12 +8,15 @@ use Rattle.pcl_spelling.proofs.spelling.pjl_parts.Goals as goal
 
 pub returns-in-Remark-clause-room : goal.returns-in-Remark-clause-room
 returns-in-Remark-clause-room c =
-    room (codes "@PJL COMMENT") c.in-Remark.text.now (Remark c.in-Remark.text.now) (subst (λ (l : code.PjlCommand). IsSpelledPjl (pjl_view l)) c.in-Remark.is c.args.spelled.now.spelled) refl (omega arith)
+    room (codes "@PJL COMMENT") c.in-Remark.text.now (Remark c.in-Remark.text.now)
+    (subst (λ (l : code.PjlCommand). IsSpelledPjl (pjl_view l)) c.in-Remark.is c.args.spelled.now.spelled) refl (omega arith)
 
 pub returns-in-JobBegins-clause-room : goal.returns-in-JobBegins-clause-room
 returns-in-JobBegins-clause-room c =
-    room (codes "@PJL JOB") c.in-JobBegins.text.now (JobBegins c.in-JobBegins.text.now) (subst (λ (l : code.PjlCommand). IsSpelledPjl (pjl_view l)) c.in-JobBegins.is c.args.spelled.now.spelled) refl (omega arith)
+    room (codes "@PJL JOB") c.in-JobBegins.text.now (JobBegins c.in-JobBegins.text.now)
+    (subst (λ (l : code.PjlCommand). IsSpelledPjl (pjl_view l)) c.in-JobBegins.is c.args.spelled.now.spelled) refl (omega arith)
 
 pub returns-in-JobEnds-clause-room : goal.returns-in-JobEnds-clause-room
 returns-in-JobEnds-clause-room c =
-    room (codes "@PJL EOJ") c.in-JobEnds.text.now (JobEnds c.in-JobEnds.text.now) (subst (λ (l : code.PjlCommand). IsSpelledPjl (pjl_view l)) c.in-JobEnds.is c.args.spelled.now.spelled) refl (omega arith)
+    room (codes "@PJL EOJ") c.in-JobEnds.text.now (JobEnds c.in-JobEnds.text.now)
+    (subst (λ (l : code.PjlCommand). IsSpelledPjl (pjl_view l)) c.in-JobEnds.is c.args.spelled.now.spelled) refl (omega arith)

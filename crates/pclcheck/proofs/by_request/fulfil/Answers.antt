@@ -8,7 +8,13 @@ use Rattle.pclcheck.proofs.by_request.fulfil.Goals as goal
 pub returns-in-Check : goal.returns-in-Check
 returns-in-Check g c =
     asked _ _ _ _ _ _ _ _ c.in-Check.is
-    (subst (λ words. LeavesCheck (map (λ word. text_named word.now) words) c.check.result (g.O.Outlet.state c.args.stdout.now) (g.O.Outlet.state c.check.new.stdout)) c.as_slice.ensures.value c.check.ensures, refl)
+    (
+      subst
+          (λ words. LeavesCheck (map (λ word. text_named word.now) words) c.check.result (g.O.Outlet.state c.args.stdout.now)
+          (g.O.Outlet.state c.check.new.stdout))
+          c.as_slice.ensures.value c.check.ensures,
+      refl,
+    )
 
 pub returns-in-CheckMany : goal.returns-in-CheckMany
 returns-in-CheckMany g c = asked _ _ _ _ _ _ _ _ c.in-CheckMany.is c.check_asked.ensures
@@ -43,7 +49,8 @@ returns-in-ProfileNew g c =
     let words = c.in-ProfileNew.words in
     asked _ _ _ _ _ _ _ _ c.in-ProfileNew.is
     (subst (λ names. LeavesProfile words.model.now (map (λ name. name.now) names) words.lists c.profile_new.result
-    (g.O.Outlet.state c.args.stdout.now) (g.O.Outlet.state c.profile_new.new.stdout) (g.E.Outlet.state c.args.stderr.now) (g.E.Outlet.state c.profile_new.new.stderr))
+    (g.O.Outlet.state c.args.stdout.now) (g.O.Outlet.state c.profile_new.new.stdout) (g.E.Outlet.state c.args.stderr.now)
+        (g.E.Outlet.state c.profile_new.new.stderr))
     c.as_slice-papers.ensures.value c.profile_new.ensures)
 
 pub returns-in-ProfileShow : goal.returns-in-ProfileShow

@@ -30,7 +30,9 @@ returns-then-is_missing-clause-left g c = record {
     missing = λ missing. record {
       status_is = refl;
       undrawn = (refl, Stays-none _);
-      told = subst (Writes (g.E.Outlet.state c.args.stderr.now) (g.E.Outlet.state c.write_text.new.outlet)) c.as_slice.ensures.value c.write_text.ensures.text;
+      told =
+          subst (Writes (g.E.Outlet.state c.args.stderr.now) (g.E.Outlet.state c.write_text.new.outlet)) c.as_slice.ensures.value
+          c.write_text.ensures.text;
     };
     drawn = λ drawn. absurd cc;
   };

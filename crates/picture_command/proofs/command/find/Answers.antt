@@ -12,8 +12,10 @@ returns-in-Ok-clause-told g c =
     let drawn = c.args.drawn.now in
     let job = g.S.Source.state c.args.job.now in
     let job' = g.S.Source.state c.render_job.new.reader in
-    kept_told (search_rendering drawn.profile.now drawn.panel drawn.selection drawn.names.job.now drawn.names.printers.now) job job' c.new-text.result c.render_job.new.writer c.in-Ok.outcome c.into_bytes.result.items
-    (subst (λ rendering. Renders rendering job job' c.new-text.result c.render_job.new.writer (Ok c.in-Ok.outcome)) c.new-search.ensures.rendering c.in-Ok.ensures)
+    kept_told (search_rendering drawn.profile.now drawn.panel drawn.selection drawn.names.job.now drawn.names.printers.now) job job'
+    c.new-text.result c.render_job.new.writer c.in-Ok.outcome c.into_bytes.result.items
+    (subst (λ rendering. Renders rendering job job' c.new-text.result c.render_job.new.writer (Ok c.in-Ok.outcome))
+    c.new-search.ensures.rendering c.in-Ok.ensures)
     c.new-text.ensures.bytes c.into_bytes.ensures
 
 pub returns-in-Ok-clause-read : goal.returns-in-Ok-clause-read
@@ -21,7 +23,8 @@ returns-in-Ok-clause-read g c = c.in-Ok.ensures.read
 
 pub returns-clause-error : goal.returns-clause-error
 returns-clause-error g c =
-    subst IsErrorOfSearch (sym c.kept_error.ensures) (search_stops c.in-Err.error c.in-Err.ensures.never_no_profile c.in-Err.ensures.never_items)
+    subst IsErrorOfSearch (sym c.kept_error.ensures)
+    (search_stops c.in-Err.error c.in-Err.ensures.never_no_profile c.in-Err.ensures.never_items)
 
 pub returns-clause-read : goal.returns-clause-read
 returns-clause-read g c = c.in-Err.ensures.read ∙ (kept_read c.in-Err.error ∙ ap is_read (sym c.kept_error.ensures))

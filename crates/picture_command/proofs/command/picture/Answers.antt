@@ -5,13 +5,15 @@ use Rattle.requests.specs.Status.{is_err_at_read}
 use Rattle.std.proofs.Math.Bool.{or-false}
 use Rattle.streams.specs.Outlet.{Stays}
 use Rattle.picture_command.specs.Picture.{Around, Draws, IsNamedBy}
-use Rattle.picture_command.proofs.Commands.{Stays-none, choice_ends, choice_told, early_end, names_of, no_choice, no_panel, no_printer, no_text_refused, none_refused, picture_left, refused_nothing}
+use Rattle.picture_command.proofs.Commands.{Stays-none, choice_ends, choice_told, early_end, names_of, no_choice, no_panel, no_printer}
+use Rattle.picture_command.proofs.Commands.{no_text_refused, none_refused, picture_left, refused_nothing}
 use Rattle.picture_command.proofs.command.picture.Goals as goal
 
 -- ---- the profile is not had
 
 pub returns-in-Err-clause-left : goal.returns-in-Err-clause-left
-returns-in-Err-clause-left g c = no_printer _ _ _ _ _ 1 _ c.in-Err.status ((refl, (refl, Stays-none _)), Stays-none _) c.in-Err.ensures.printer
+returns-in-Err-clause-left g c =
+    no_printer _ _ _ _ _ 1 _ c.in-Err.status ((refl, (refl, Stays-none _)), Stays-none _) c.in-Err.ensures.printer
 
 pub returns-in-Err-clause-read : goal.returns-in-Err-clause-read
 returns-in-Err-clause-read g c =
@@ -38,7 +40,10 @@ returns-in-Err-clause-refused g c = c.in-Err.ensures.refused
 
 pub returns-in-Err-chosen_panel-clause-left : goal.returns-in-Err-chosen_panel-clause-left
 returns-in-Err-chosen_panel-clause-left g c =
-    no_panel _ _ _ _ _ c.refuse_choice.result c.in-Ok.printer.profile c.in-Err-chosen_panel.choice (refl, (refl, Stays-none _)) (λ quiet. subst (λ err. Stays (g.E.Outlet.state c.args.stderr.now) (g.E.Outlet.state err)) (sym (c.refuse_choice.ensures.quiet quiet)) (Stays-none _)) c.refuse_choice.ensures.choice
+    no_panel _ _ _ _ _ c.refuse_choice.result c.in-Ok.printer.profile c.in-Err-chosen_panel.choice (refl, (refl, Stays-none _))
+    (λ quiet. subst (λ err. Stays (g.E.Outlet.state c.args.stderr.now) (g.E.Outlet.state err))
+    (sym (c.refuse_choice.ensures.quiet quiet)) (Stays-none _))
+    c.refuse_choice.ensures.choice
 
 pub returns-in-Err-chosen_panel-clause-read : goal.returns-in-Err-chosen_panel-clause-read
 returns-in-Err-chosen_panel-clause-read g c =
@@ -51,10 +56,12 @@ returns-in-Err-chosen_panel-clause-read g c =
     ∙ (choice_ends c.refuse_choice.result _ _ _ _ c.refuse_choice.ensures.choice).read)))
 
 pub returns-in-Err-chosen_panel-clause-write : goal.returns-in-Err-chosen_panel-clause-write
-returns-in-Err-chosen_panel-clause-write g c = c.requires.stdout ∙ (choice_ends c.refuse_choice.result _ _ _ _ c.refuse_choice.ensures.choice).write
+returns-in-Err-chosen_panel-clause-write g c =
+    c.requires.stdout ∙ (choice_ends c.refuse_choice.result _ _ _ _ c.refuse_choice.ensures.choice).write
 
 pub returns-in-Err-chosen_panel-clause-turns : goal.returns-in-Err-chosen_panel-clause-turns
-returns-in-Err-chosen_panel-clause-turns g c = λ is. absurd ((choice_ends c.refuse_choice.result _ _ _ _ c.refuse_choice.ensures.choice).turns is)
+returns-in-Err-chosen_panel-clause-turns g c =
+    λ is. absurd ((choice_ends c.refuse_choice.result _ _ _ _ c.refuse_choice.ensures.choice).turns is)
 
 pub returns-in-Err-chosen_panel-clause-refusal : goal.returns-in-Err-chosen_panel-clause-refusal
 returns-in-Err-chosen_panel-clause-refusal g c = (choice_ends c.refuse_choice.result _ _ _ _ c.refuse_choice.ensures.choice).one _
@@ -64,8 +71,11 @@ returns-in-Err-chosen_panel-clause-refused g c = (choice_ends c.refuse_choice.re
 
 pub returns-in-Err-chosen_panel-clause-choice : goal.returns-in-Err-chosen_panel-clause-choice
 returns-in-Err-chosen_panel-clause-choice g c =
-    let named = IsNamed (g.T.ProfileTexts.text_of c.args.texts.now c.args.asked.now.setting.profile.now) (g.T.ProfileTexts.given c.args.texts.now) (g.T.ProfileTexts.given c.read_printer.new.texts) in
-    choice_told c.refuse_choice.result c.in-Ok.printer.profile c.in-Err-chosen_panel.choice named _ _ _ c.in-Ok.ensures.printer.2.0 (sym c.in-Err-chosen_panel.ensures.value) c.refuse_choice.ensures.choice
+    let named =
+    IsNamed (g.T.ProfileTexts.text_of c.args.texts.now c.args.asked.now.setting.profile.now) (g.T.ProfileTexts.given c.args.texts.now)
+    (g.T.ProfileTexts.given c.read_printer.new.texts) in
+    choice_told c.refuse_choice.result c.in-Ok.printer.profile c.in-Err-chosen_panel.choice named _ _ _ c.in-Ok.ensures.printer.2.0
+    (sym c.in-Err-chosen_panel.ensures.value) c.refuse_choice.ensures.choice
 
 -- ---- the job is gone through
 
@@ -89,9 +99,15 @@ returns-clause-left g c =
       panel = c.in-Ok-chosen_panel.panel;
       panel_is = sym c.in-Ok-chosen_panel.ensures.value;
       group = c.new-printers.result;
-      names_are = names_of _ _ _ _ c.new-printers.result (ap (λ (group : Groups). group.names) c.new-printers.ensures) c.as_slice.ensures.value c.in-Ok.ensures.printer.1;
+      names_are =
+          names_of _ _ _ _ c.new-printers.result
+          (ap (λ (group : Groups). group.names) c.new-printers.ensures) c.as_slice.ensures.value c.in-Ok.ensures.printer.1;
       is_whole = ap (λ (group : Groups). group.is_each) c.new-printers.ensures;
-      draws = subst (λ (job : List ℕ). Draws c.draw.result c.in-Ok.printer.profile c.in-Ok-chosen_panel.panel asked.selection job c.new-printers.result around) c.as_bytes.ensures.value c.draw.ensures.left;
+      draws =
+          subst
+          (λ (job : List ℕ).
+          Draws c.draw.result c.in-Ok.printer.profile c.in-Ok-chosen_panel.panel asked.selection job c.new-printers.result around)
+          c.as_bytes.ensures.value c.draw.ensures.left;
     }
 
 pub returns-clause-read : goal.returns-clause-read
@@ -112,7 +128,8 @@ pub returns-clause-refused : goal.returns-clause-refused
 returns-clause-refused g c = no_text_refused c.draw.result _ _ c.draw.ensures.end
 
 pub returns-clause-unread : goal.returns-clause-unread
-returns-clause-unread g c = λ unread. absurd (refused_nothing _ _ c.draw.ensures.end (c.read_printer.ensures.read ∙ ap is_err_at_read c.in-Ok.is) unread)
+returns-clause-unread g c =
+    λ unread. absurd (refused_nothing _ _ c.draw.ensures.end (c.read_printer.ensures.read ∙ ap is_err_at_read c.in-Ok.is) unread)
 
 pub returns-clause-choice : goal.returns-clause-choice
 returns-clause-choice g c = no_choice c.draw.result _ _ _ _ c.draw.ensures.end

@@ -18,4 +18,5 @@ returns-in-Ok-clause-printer g c =
 
 pub returns-clause-printer : goal.returns-clause-printer
 returns-clause-printer g c =
-    read_refused _ c.in_ok-text.text.items 1 c.in-Err.fault _ c.in_ok-text.ensures.bytes (subst (λ bytes. IsErrorOfText bytes c.in-Err.fault) c.as_slice.ensures.value c.in-Err.ensures) c.refusal.ensures
+    read_refused _ c.in_ok-text.text.items 1 c.in-Err.fault _ c.in_ok-text.ensures.bytes
+    (subst (λ bytes. IsErrorOfText bytes c.in-Err.fault) c.as_slice.ensures.value c.in-Err.ensures) c.refusal.ensures

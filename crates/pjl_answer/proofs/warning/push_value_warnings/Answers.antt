@@ -7,6 +7,7 @@ use Rattle.pjl_answer.proofs.warning.push_value_warnings.Goals as goal
 
 pub loop-variable-preserved : goal.loop-variable-preserved
 loop-variable-preserved g c =
-    further (value_warning c.args.answer.now) c.args.variables.now c.loop-variable.variable-index _ c.args.all.now.items c.loop-variable.all.items c.push_some.new.all.items
+    further (value_warning c.args.answer.now) c.args.variables.now c.loop-variable.variable-index _ c.args.all.now.items
+    c.loop-variable.all.items c.push_some.new.all.items
     c.loop-variable-test.true c.loop-variable.invariant
     (c.in_ok-push_some.ensures ∙ ap (λ (given : Option Warning). c.loop-variable.all.items ++ option_to_list given) c.value_warning.ensures)

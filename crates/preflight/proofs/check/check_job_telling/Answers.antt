@@ -15,38 +15,52 @@ same_error a b x y left right e = cc
 pub returns-in_err-verdict-clause-never_write : goal.returns-in_err-verdict-clause-never_write
 returns-in_err-verdict-clause-never_write g c =
     let same = err_from_is_err_and c.from_residual-in_err-verdict.result c.from_residual-in_err-verdict.ensures.1 in
-    rw (same.1, same.2) (never_write (c.in_ok-session.session, tt) (c.read_job.new.consumer, tt) _ _ (Err c.in_err-verdict.field-0.0) c.in_err-verdict.ensures.stopped)
+    rw (same.1, same.2)
+    (never_write (c.in_ok-session.session, tt) (c.read_job.new.consumer, tt) _ _
+    (Err c.in_err-verdict.field-0.0) c.in_err-verdict.ensures.stopped)
 
 pub returns-in_err-verdict-clause-never_items : goal.returns-in_err-verdict-clause-never_items
 returns-in_err-verdict-clause-never_items g c =
     let same = err_from_is_err_and c.from_residual-in_err-verdict.result c.from_residual-in_err-verdict.ensures.1 in
-    rw (same.1, same.2) (never_items (c.in_ok-session.session, tt) (c.read_job.new.consumer, tt) _ _ (Err c.in_err-verdict.field-0.0) c.in_err-verdict.ensures.stopped)
+    rw (same.1, same.2)
+    (never_items (c.in_ok-session.session, tt) (c.read_job.new.consumer, tt) _ _
+    (Err c.in_err-verdict.field-0.0) c.in_err-verdict.ensures.stopped)
 
 pub returns-clause-exact : goal.returns-clause-exact
 returns-clause-exact g c =
-    exact c.args.fleet.now (c.in_ok-session.session, tt) (c.read_job.new.consumer, tt) c.in_ok-session.ensures.none _ _ (Ok c.in_ok-verdict.verdict) c.in_ok-verdict.ensures.answered
+    exact c.args.fleet.now (c.in_ok-session.session, tt) (c.read_job.new.consumer, tt) c.in_ok-session.ensures.none _ _
+    (Ok c.in_ok-verdict.verdict) c.in_ok-verdict.ensures.answered
 
 pub returns-clause-headline : goal.returns-clause-headline
 returns-clause-headline g c =
-    headline c.args.fleet.now (c.in_ok-session.session, tt) (c.read_job.new.consumer, tt) c.in_ok-session.ensures.none _ _ (Ok c.in_ok-verdict.verdict) c.in_ok-verdict.ensures.answered
+    headline c.args.fleet.now (c.in_ok-session.session, tt) (c.read_job.new.consumer, tt) c.in_ok-session.ensures.none _ _
+    (Ok c.in_ok-verdict.verdict) c.in_ok-verdict.ensures.answered
 
 pub returns-clause-known_exact : goal.returns-clause-known_exact
-returns-clause-known_exact g c = known_ok _ _ (λ job verdict. IsExact c.args.fleet.now job verdict) (Ok c.in_ok-verdict.verdict) (returns-clause-exact g c)
+returns-clause-known_exact g c =
+    known_ok _ _ (λ job verdict. IsExact c.args.fleet.now job verdict) (Ok c.in_ok-verdict.verdict) (returns-clause-exact g c)
 
 pub returns-clause-known_headline : goal.returns-clause-known_headline
-returns-clause-known_headline g c = known_ok _ _ (λ job verdict. KeepsPromise c.args.fleet.now job verdict) (Ok c.in_ok-verdict.verdict) (returns-clause-headline g c)
+returns-clause-known_headline g c =
+    known_ok _ _ (λ job verdict. KeepsPromise c.args.fleet.now job verdict) (Ok c.in_ok-verdict.verdict) (returns-clause-headline g c)
 
 pub returns-clause-told : goal.returns-clause-told
 returns-clause-told g c =
-    subst (λ culprit. ByReads (g.S.Source.state c.args.reader.now) (g.S.Source.state c.read_job.new.reader) (λ job. IsTold job c.in_ok-verdict.verdict culprit)) (sym c.culprit.ensures.value)
-    (told c.args.fleet.now (c.in_ok-session.session, tt) (c.read_job.new.consumer, tt) c.in_ok-session.ensures.none _ _ (Ok c.in_ok-verdict.verdict) c.in_ok-verdict.ensures.answered)
+    subst
+    (λ culprit. ByReads (g.S.Source.state c.args.reader.now) (g.S.Source.state c.read_job.new.reader)
+    (λ job. IsTold job c.in_ok-verdict.verdict culprit))
+    (sym c.culprit.ensures.value)
+    (told c.args.fleet.now (c.in_ok-session.session, tt) (c.read_job.new.consumer, tt) c.in_ok-session.ensures.none _ _
+    (Ok c.in_ok-verdict.verdict) c.in_ok-verdict.ensures.answered)
 
 pub returns-clause-known_told : goal.returns-clause-known_told
-returns-clause-known_told g c = known_ok _ _ (λ job verdict. IsTold job verdict c.culprit.result) (Ok c.in_ok-verdict.verdict) (returns-clause-told g c)
+returns-clause-known_told g c =
+    known_ok _ _ (λ job verdict. IsTold job verdict c.culprit.result) (Ok c.in_ok-verdict.verdict) (returns-clause-told g c)
 
 pub returns-clause-needed : goal.returns-clause-needed
 returns-clause-needed g c =
-    needed c.args.fleet.now (c.in_ok-session.session, tt) (c.read_job.new.consumer, tt) c.in_ok-session.ensures.none _ _ (Ok c.in_ok-verdict.verdict) c.in_ok-verdict.ensures.answered
+    needed c.args.fleet.now (c.in_ok-session.session, tt) (c.read_job.new.consumer, tt) c.in_ok-session.ensures.none _ _
+    (Ok c.in_ok-verdict.verdict) c.in_ok-verdict.ensures.answered
 
 pub returns-in_err-verdict-clause-long : goal.returns-in_err-verdict-clause-long
 returns-in_err-verdict-clause-long g c =

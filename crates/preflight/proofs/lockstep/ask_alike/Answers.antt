@@ -12,11 +12,14 @@ loop-machine-init g c = tt
 
 pub loop-machine-preserved : goal.loop-machine-preserved
 loop-machine-preserved g c =
-    one_more (λ (m : MachineState). asks_alike c.args.first.now.printer m.printer (view c.args.item.now) ≡ true) c.args.others.now c.loop-machine.machine-index c.machine-item.result c.loop-machine-test.true c.machine-item.is
+    one_more (λ (m : MachineState). asks_alike c.args.first.now.printer m.printer (view c.args.item.now) ≡ true) c.args.others.now
+    c.loop-machine.machine-index c.machine-item.result c.loop-machine-test.true c.machine-item.is
     (subst (λ q. asks_alike c.args.first.now.printer q (view c.args.item.now) ≡ true) c.profile-in-loop-machine.ensures
-    (subst (λ p. asks_alike p c.profile-in-loop-machine.result.now (view c.args.item.now) ≡ true) c.profile.ensures (sym c.asks_alike.ensures ∙ c.if-not-asks_alike.false)))
+    (subst (λ p. asks_alike p c.profile-in-loop-machine.result.now (view c.args.item.now) ≡ true) c.profile.ensures
+        (sym c.asks_alike.ensures ∙ c.if-not-asks_alike.false)))
     c.loop-machine.invariant
 
 pub returns : goal.returns
 returns g c = λ _.
-    subst (λ ms. AskAlike c.args.first.now (view c.args.item.now) ms) (take_all c.loop-machine.machine-index c.args.others.now (omega (arith, c.loop-machine-test.false))) c.loop-machine.invariant
+    subst (λ ms. AskAlike c.args.first.now (view c.args.item.now) ms)
+    (take_all c.loop-machine.machine-index c.args.others.now (omega (arith, c.loop-machine-test.false))) c.loop-machine.invariant

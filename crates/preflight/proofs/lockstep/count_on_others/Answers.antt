@@ -16,8 +16,12 @@ loop-machine-preserved g c =
     let count = c.in_ok-count.count in
     let far = c.in_ok-count.ensures in
     let most : count ≤ c.loop-machine.count = omega (arith, far.short, length-take-le c.loop-machine.count bytes h.0) in
-    let is = subst (λ at. IsMeasuredAt c.machine-item.result c.in_ok-own.own at) (same_place c.in_ok-own.at from (sym c.ne.ensures ∙ c.if-ne.false)) c.in_ok-own.ensures in (
+    let is =
+    subst (λ at. IsMeasuredAt c.machine-item.result c.in_ok-own.own at)
+    (same_place c.in_ok-own.at from (sym c.ne.ensures ∙ c.if-ne.false)) c.in_ok-own.ensures in (
       omega (arith, most, h.0),
-      more_go look from count c.loop-machine.count bytes c.args.machines.now c.loop-machine.machine-index c.machine-item.result c.loop-machine-test.true most c.machine-item.is h.1
-          (measured_goes c.machine-item.result c.in_ok-own.own look from (take count (take c.loop-machine.count bytes)) is far.look far.room),
+      more_go look from count c.loop-machine.count bytes c.args.machines.now c.loop-machine.machine-index c.machine-item.result
+          c.loop-machine-test.true most c.machine-item.is h.1
+          (measured_goes c.machine-item.result c.in_ok-own.own look from
+              (take count (take c.loop-machine.count bytes)) is far.look far.room),
     )

@@ -6,7 +6,8 @@ use Rattle.sinks.specs.Owned.{event_of}
 use Rattle.sinks.specs.Comparer.{Compares}
 use Rattle.preflight.specs.Carriers.Lockstep.{action_of, ModeAdmits, WrongFrom}
 use Rattle.sinks.proofs.Recording.{differs_exactly}
-use Rattle.preflight.proofs.Executing.{SoFar, none_so_far, next_is, all_there, so_far_more, stops_so_far, all_so_far, other_so_far, was_running, does_by, fails_by, differ_of}
+use Rattle.preflight.proofs.Executing.{SoFar, none_so_far, next_is, all_there, so_far_more, stops_so_far, all_so_far, other_so_far}
+use Rattle.preflight.proofs.Executing.{was_running, does_by, fails_by, differ_of}
 use Rattle.preflight.specs.Standing.{is_open}
 use Rattle.preflight.proofs.Standings.{failed_by, open_by, open_is}
 use Rattle.preflight.proofs.lockstep.execute_by_others.Goals.{then-differs, else-differs}
@@ -30,16 +31,21 @@ pub execute_by-answer-requires : goal.execute_by-answer-requires
 execute_by-answer-requires g c =
     let machine = get_or c.loop-index.others c.loop-index.index c.index-others-index.result in
     all_there (λ m. ModeAdmits m.mode (action_of c.args.task.now)) c.loop-index.index c.args.others.now machine _
-    (next_is (action_of c.args.task.now) c.args.place (map event_of c.args.events.now) [] c.loop-index.index c.loop-index.first_other c.args.others.now c.loop-index.others c.index-others-index.result machine c.loop-index.invariant.so_far (omega (arith, c.loop-index-test.true, c.loop-index.auto.others)))
+    (next_is (action_of c.args.task.now) c.args.place (map event_of c.args.events.now) [] c.loop-index.index c.loop-index.first_other
+    c.args.others.now c.loop-index.others c.index-others-index.result machine c.loop-index.invariant.so_far
+    (omega (arith, c.loop-index-test.true, c.loop-index.auto.others)))
     c.requires.admitted
 
 pub judge-requires-clause-running : goal.judge-requires-clause-running
 judge-requires-clause-running g c =
     let machine = get_or c.loop-index.others c.loop-index.index c.index-others-index.result in
     let running : machine.stopped ≡ false = all_there (λ m. m.stopped ≡ false) c.loop-index.index c.args.others.now machine _
-    (next_is (action_of c.args.task.now) c.args.place (map event_of c.args.events.now) [] c.loop-index.index c.loop-index.first_other c.args.others.now c.loop-index.others c.index-others-index.result machine c.loop-index.invariant.so_far (omega (arith, c.loop-index-test.true, c.loop-index.auto.others)))
+    (next_is (action_of c.args.task.now) c.args.place (map event_of c.args.events.now) [] c.loop-index.index c.loop-index.first_other
+    c.args.others.now c.loop-index.others c.index-others-index.result machine c.loop-index.invariant.so_far
+    (omega (arith, c.loop-index-test.true, c.loop-index.auto.others)))
     c.requires.running in
-    was_running Compares never (action_of c.args.task.now) _ c.execute_by-answer.new.sink machine c.execute_by-answer.new.machine c.execute_by-answer.result running c.execute_by-answer.ensures
+    was_running Compares never (action_of c.args.task.now) _ c.execute_by-answer.new.sink machine c.execute_by-answer.new.machine
+    c.execute_by-answer.result running c.execute_by-answer.ensures
 
 pub loop-index-preserved : goal.loop-index-preserved
 loop-index-preserved g c =
@@ -47,17 +53,30 @@ loop-index-preserved g c =
     let machine = get_or c.loop-index.others c.loop-index.index c.index-others-index.result in
     let number = c.loop-index.index + 2 in
     let went = sym c.judge.ensures.open ∙ c.if-not-judge.false in
-    let did = does_by Compares never (action_of c.args.task.now) _ c.execute_by-answer.new.sink machine c.execute_by-answer.new.machine c.args.place number c.execute_by-answer.result c.judge.new.self c.judge.ensures.standing went c.execute_by-answer.ensures in
+    let did =
+    does_by Compares never (action_of c.args.task.now) _ c.execute_by-answer.new.sink machine c.execute_by-answer.new.machine c.args.place
+    number c.execute_by-answer.result c.judge.new.self c.judge.ensures.standing went c.execute_by-answer.ensures in
     let leads = subst (λ o. TakesAll Compares o did.0 c.execute_by-answer.new.sink) c.new-comparer.ensures did.2 in
     let told = differs_exactly events did.0 c.execute_by-answer.new.sink c.differs.result leads c.differs.ensures in
-    let other : c.if-differs.first_other ≡ option_or c.loop-index.first_other (then_some c.differs.result number) = elim c.if-differs.branch [
-      | then-differs w ↦ w.first_other-is ∙ w.keep_first-first_other.ensures ∙ ap (λ b. option_or c.loop-index.first_other (then_some b number)) (sym w.if-differs.true)
-      | else-differs w ↦ w.first_other-is ∙ or_none c.loop-index.first_other ∙ ap (λ b. option_or c.loop-index.first_other (then_some b number)) (sym w.if-differs.false)
+    let other : c.if-differs.first_other ≡ option_or c.loop-index.first_other (then_some c.differs.result number) = elim
+    c.if-differs.branch [
+      | then-differs w ↦
+          w.first_other-is ∙ w.keep_first-first_other.ensures
+          ∙ ap (λ b. option_or c.loop-index.first_other (then_some b number)) (sym w.if-differs.true)
+      | else-differs w ↦
+          w.first_other-is ∙ or_none c.loop-index.first_other
+          ∙ ap (λ b. option_or c.loop-index.first_other (then_some b number)) (sym w.if-differs.false)
     ] in
     record {
       stands_open = open_is c.judge.new.self went;
-      so_far = subst (λ o. SoFar (action_of c.args.task.now) c.args.place events (c.loop-index.index + 1) o c.args.others.now (set c.loop-index.others c.loop-index.index c.execute_by-answer.new.machine)) (sym other)
-          (so_far_more (action_of c.args.task.now) c.args.place events did.0 c.loop-index.index c.loop-index.first_other c.args.others.now c.loop-index.others c.index-others-index.result c.execute_by-answer.new.machine c.loop-index.invariant.so_far (omega (arith, c.loop-index-test.true, c.loop-index.auto.others))
+      so_far =
+          subst
+          (λ o. SoFar (action_of c.args.task.now) c.args.place events (c.loop-index.index + 1) o c.args.others.now
+          (set c.loop-index.others c.loop-index.index c.execute_by-answer.new.machine))
+          (sym other)
+          (so_far_more (action_of c.args.task.now) c.args.place events did.0 c.loop-index.index c.loop-index.first_other c.args.others.now
+              c.loop-index.others c.index-others-index.result c.execute_by-answer.new.machine c.loop-index.invariant.so_far
+              (omega (arith, c.loop-index-test.true, c.loop-index.auto.others))
           c.differs.result did.1 told.0 (differ_of did.0 events c.differs.result told));
     }
 
@@ -65,23 +84,41 @@ pub returns-then-not-judge-clause-came : goal.returns-then-not-judge-clause-came
 returns-then-not-judge-clause-came g c =
     let machine = get_or c.loop-index.others c.loop-index.index c.index-others-index.result in
     let events = map event_of c.args.events.now in
-    fails_by Compares never (action_of c.args.task.now) _ c.execute_by-answer.new.sink machine c.execute_by-answer.new.machine _ c.args.place (c.loop-index.index + 2) c.execute_by-answer.result c.judge.new.self c.judge.ensures.standing (sym c.judge.ensures.open ∙ c.if-not-judge.true) c.execute_by-answer.ensures
-    (λ finding finds. (refl, stops_so_far (action_of c.args.task.now) c.args.place events [] c.loop-index.index c.loop-index.first_other c.args.others.now c.loop-index.others c.index-others-index.result c.execute_by-answer.new.machine c.loop-index.invariant.so_far (omega (arith, c.loop-index-test.true, c.loop-index.auto.others)) finding finds))
+    fails_by Compares never (action_of c.args.task.now) _ c.execute_by-answer.new.sink machine c.execute_by-answer.new.machine _
+    c.args.place (c.loop-index.index + 2) c.execute_by-answer.result c.judge.new.self c.judge.ensures.standing
+    (sym c.judge.ensures.open ∙ c.if-not-judge.true) c.execute_by-answer.ensures
+    (λ finding finds. (
+      refl,
+      stops_so_far (action_of c.args.task.now) c.args.place events [] c.loop-index.index c.loop-index.first_other c.args.others.now
+          c.loop-index.others c.index-others-index.result c.execute_by-answer.new.machine c.loop-index.invariant.so_far
+          (omega (arith, c.loop-index-test.true, c.loop-index.auto.others)) finding finds,
+    ))
 
 pub returns-in-Some-clause-came : goal.returns-in-Some-clause-came
 returns-in-Some-clause-came g c =
     let events = map event_of c.args.events.now in
-    let differs = other_so_far (action_of c.args.task.now) c.args.place events c.loop-index.index c.in-Some.number c.args.others.now c.loop-index.others
-    (subst (λ o. SoFar (action_of c.args.task.now) c.args.place events c.loop-index.index o c.args.others.now c.loop-index.others) c.in-Some.is c.loop-index.invariant.so_far) (omega (arith, c.loop-index-test.false, c.loop-index.auto.others)) in
+    let differs =
+    other_so_far (action_of c.args.task.now) c.args.place events c.loop-index.index c.in-Some.number c.args.others.now c.loop-index.others
+    (subst (λ o. SoFar (action_of c.args.task.now) c.args.place events c.loop-index.index o c.args.others.now c.loop-index.others)
+    c.in-Some.is c.loop-index.invariant.so_far)
+    (omega (arith, c.loop-index-test.false, c.loop-index.auto.others)) in
     failed_by _ _ _ c.fail.ensures.standing
-    (subst (λ failure. (failure.place ≡ c.args.place) × WrongFrom (action_of c.args.task.now) events 2 c.args.others.now failure.profile failure.reason) (sym c.of_difference.ensures)
+    (subst
+    (λ failure.
+    (failure.place ≡ c.args.place) × WrongFrom (action_of c.args.task.now) events 2 c.args.others.now failure.profile failure.reason)
+    (sym c.of_difference.ensures)
     (refl, differs))
 
 pub returns-in-None-clause-came : goal.returns-in-None-clause-came
 returns-in-None-clause-came g c =
     open_by _ _ c.loop-index.invariant.stands_open
-    (all_so_far (action_of c.args.task.now) c.args.place (map event_of c.args.events.now) c.loop-index.index c.args.others.now c.loop-index.others
-    (subst (λ o. SoFar (action_of c.args.task.now) c.args.place (map event_of c.args.events.now) c.loop-index.index o c.args.others.now c.loop-index.others) c.in-None.is c.loop-index.invariant.so_far) (omega (arith, c.loop-index-test.false, c.loop-index.auto.others)))
+    (all_so_far (action_of c.args.task.now) c.args.place
+    (map event_of c.args.events.now) c.loop-index.index c.args.others.now c.loop-index.others
+    (subst
+        (λ o. SoFar (action_of c.args.task.now) c.args.place
+        (map event_of c.args.events.now) c.loop-index.index o c.args.others.now c.loop-index.others)
+        c.in-None.is c.loop-index.invariant.so_far)
+        (omega (arith, c.loop-index-test.false, c.loop-index.auto.others)))
 
 pub returns-in-None-clause-open : goal.returns-in-None-clause-open
 returns-in-None-clause-open g c = sym (ap is_open c.loop-index.invariant.stands_open)

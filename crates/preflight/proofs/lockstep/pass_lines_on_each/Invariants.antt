@@ -9,5 +9,6 @@ use Rattle.preflight.proofs.lockstep.pass_lines_on_each.Given as goal
 
 abbrev pub invariant-loop-machine : goal.invariant-loop-machine
 invariant-loop-machine g l =
-    (look : Look) (from : TextPlace) (bytes : List ℕ) → GoOnAll look from bytes l.initial.machines → l.lines.end ≡ place_behind look bytes from → l.lines.glyphs ≡ glyph_count bytes
+    (look : Look) (from : TextPlace) (bytes : List ℕ) → GoOnAll look from bytes l.initial.machines →
+    l.lines.end ≡ place_behind look bytes from → l.lines.glyphs ≡ glyph_count bytes
     → ChangedUpTo (PrintsLines look from bytes) l.machine-index l.initial.machines l.machines

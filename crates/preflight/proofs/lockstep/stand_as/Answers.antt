@@ -12,7 +12,8 @@ stand_as-requires g c =
     let old = c.args.machines.now in
     let new = c.loop-machine.machines in
     let inside : i < length new = omega (arith, c.loop-machine-test.true, c.loop-machine.auto.machines) in
-    subst (λ (m : MachineState). m.macros.definition ≡ None) (sym (unchanged_at (StandsAs c.args.first.now) i old new d c.loop-machine.invariant inside))
+    subst (λ (m : MachineState). m.macros.definition ≡ None)
+    (sym (unchanged_at (StandsAs c.args.first.now) i old new d c.loop-machine.invariant inside))
     (all_at (λ (m : MachineState). m.macros.definition ≡ None) i old d c.loop-machine-test.true c.requires)
 
 pub loop-machine-preserved : goal.loop-machine-preserved

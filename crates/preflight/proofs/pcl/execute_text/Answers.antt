@@ -13,25 +13,35 @@ pub returns-clause-modes : goal.returns-clause-modes
 returns-clause-modes g c =
     let before = c.args.machines.now in
     let after = c.execute_text-passed.new.self in
-    let step = subst (λ ahead. PrintInStep (take c.execute_text-passed.result ahead) (machines_of before) (machines_of after) (counts_of before) (counts_of after)) c.ahead.ensures c.execute_text-passed.ensures.step in
+    let step =
+    subst
+    (λ ahead.
+    PrintInStep (take c.execute_text-passed.result ahead) (machines_of before) (machines_of after) (counts_of before) (counts_of after))
+    c.ahead.ensures c.execute_text-passed.ensures.step in
     line_modes _ _ _ c.pass_lines.ensures _ _ _ _ step c.requires.modes
 
 pub returns-clause-executed : goal.returns-clause-executed
 returns-clause-executed g c = λ fleet bytes executed.
     let before = c.args.machines.now in
     let after = c.execute_text-passed.new.self in
-    let step = subst (λ ahead. PrintInStep (take c.execute_text-passed.result ahead) (machines_of before) (machines_of after) (counts_of before) (counts_of after)) c.ahead.ensures c.execute_text-passed.ensures.step in
+    let step =
+    subst
+    (λ ahead.
+    PrintInStep (take c.execute_text-passed.result ahead) (machines_of before) (machines_of after) (counts_of before) (counts_of after))
+    c.ahead.ensures c.execute_text-passed.ensures.step in
     lines_done fleet bytes _ _ _ _ _ _ _ c.pass_lines.ensures step executed
 
 pub returns-clause-no_more : goal.returns-clause-no_more
 returns-clause-no_more g c =
     let ahead = ahead_of c.args.lexer.now in
-    let some : length (take c.execute_text-passed.result ahead) ≡ c.execute_text-passed.result = length-take-le c.execute_text-passed.result ahead (omega (arith, c.execute_text-passed.ensures.short, ap length c.ahead.ensures)) in
+    let some : length (take c.execute_text-passed.result ahead) ≡ c.execute_text-passed.result =
+    length-take-le c.execute_text-passed.result ahead (omega (arith, c.execute_text-passed.ensures.short, ap length c.ahead.ensures)) in
     let less = lines_less _ _ _ c.pass_lines.ensures (omega (arith, some)) in
     omega (arith, less)
 
 pub returns-clause-less : goal.returns-clause-less
 returns-clause-less g c = λ is.
     let ahead = ahead_of c.args.lexer.now in
-    let some : length (take c.execute_text-passed.result ahead) ≡ c.execute_text-passed.result = length-take-le c.execute_text-passed.result ahead (omega (arith, c.execute_text-passed.ensures.short, ap length c.ahead.ensures)) in
+    let some : length (take c.execute_text-passed.result ahead) ≡ c.execute_text-passed.result =
+    length-take-le c.execute_text-passed.result ahead (omega (arith, c.execute_text-passed.ensures.short, ap length c.ahead.ensures)) in
     lines_less _ _ _ c.pass_lines.ensures (omega (arith, some))

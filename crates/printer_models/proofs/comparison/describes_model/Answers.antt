@@ -12,10 +12,13 @@ use Rattle.printer_models.proofs.NotDifferent.{not_different}
 use Rattle.printer_models.proofs.comparison.describes_model.Goals as goal
 
 -- a text with this name and printer describes the model where the printer is that of the model
-describes : {E : Type 0} (model : Model) (papers : List Paper) (lists : PanelLists) (text : List ℕ) (printer : Printer) (result : Result Bool E) →
+describes : {E : Type 0} (model : Model) (papers : List Paper) (lists : PanelLists) (text : List ℕ) (printer : Printer)
+    (result : Result Bool E) →
     printer_of_text text ≡ Ok printer → printer_name text ≡ (facts_of model).word →
-    IfOk result (λ is. IsTrue is → IsPrinterOf model papers lists printer) → IfOk result (λ is. IsTrue is → DescribesModel model papers lists text)
-describes model papers lists text printer (Ok is) is_read name is_that = λ h. record { printer = printer; is_read = is_read; is_that = is_that h; name = name }
+    IfOk result (λ is. IsTrue is → IsPrinterOf model papers lists printer) →
+    IfOk result (λ is. IsTrue is → DescribesModel model papers lists text)
+describes model papers lists text printer (Ok is) is_read name is_that =
+    λ h. record { printer = printer; is_read = is_read; is_that = is_that h; name = name }
 describes model papers lists text printer (Err error) is_read name is_that = is_that
 
 pub returns : goal.returns

@@ -15,7 +15,8 @@ of_each P each Sides = each 5 Size (lit< tt)
 of_each P each Tray = each 6 Size (lit< tt)
 of_each P each LineTerm = each 7 Size (lit< tt)
 
-if_each : {E : Type 0} (P : Field → Type 0) (result : Result Bool E) → IfOk result (λ has. IsTrue has → All P every_field) → IfOk result (λ has. IsTrue has → (field : Field) → P field)
+if_each : {E : Type 0} (P : Field → Type 0) (result : Result Bool E) → IfOk result (λ has. IsTrue has → All P every_field) →
+    IfOk result (λ has. IsTrue has → (field : Field) → P field)
 if_each P (Ok has) each = λ is. of_each P (each is)
 if_each P (Err error) each = each
 

@@ -6,5 +6,6 @@ use Rattle.printer_models.proofs.comparison.has_values_in.Goals as goal
 
 pub loop-field-preserved : goal.loop-field-preserved
 loop-field-preserved g c =
-    All-more (λ field. values_of c.args.profile.now field ≡ panel_values c.args.model c.args.papers.now c.args.lists field) c.args.fields.now c.loop-field.field-index _ c.loop-field-test.true c.loop-field.invariant
+    All-more (λ field. values_of c.args.profile.now field ≡ panel_values c.args.model c.args.papers.now c.args.lists field)
+    c.args.fields.now c.loop-field.field-index _ c.loop-field-test.true c.loop-field.invariant
     (c.in_ok-has.ensures c.if-not-has.false)

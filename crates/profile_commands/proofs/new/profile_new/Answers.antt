@@ -5,7 +5,8 @@ use Rattle.profile_commands.specs.WholeText.{WritesWhole}
 use Rattle.profile_commands.proofs.new.profile_new.Goals as goal
 
 pub bounds-papers-wrong : goal.bounds-papers-wrong
-bounds-papers-wrong g c = told_of_one _ c.args.papers.now c.in-Err-Paper.wrong c.in-Err-Paper.field-0 c.in-Err-Paper.field-0-is c.in-Err-Paper.ensures.err
+bounds-papers-wrong g c =
+    told_of_one _ c.args.papers.now c.in-Err-Paper.wrong c.in-Err-Paper.field-0 c.in-Err-Paper.field-0-is c.in-Err-Paper.ensures.err
 
 pub offset_bounds-papers-wrong : goal.offset_bounds-papers-wrong
 offset_bounds-papers-wrong g c =
@@ -16,13 +17,15 @@ returns-in-Ok g c =
     inl (
       c.in-Ok.text.items,
       c.in-Ok.ensures.text,
-      subst (λ text. WritesWhole text c.write_whole.result (g.O.Outlet.state c.args.stdout.now) (g.O.Outlet.state c.write_whole.new.stdout)) c.as_slice.ensures.value c.write_whole.ensures,
+      subst (λ text. WritesWhole text c.write_whole.result (g.O.Outlet.state c.args.stdout.now) (g.O.Outlet.state c.write_whole.new.stdout))
+          c.as_slice.ensures.value c.write_whole.ensures,
       refl,
     )
 
 pub returns-in-Err-Paper : goal.returns-in-Err-Paper
 returns-in-Err-Paper g c =
-    let within = told_of_one _ c.args.papers.now c.in-Err-Paper.wrong c.in-Err-Paper.field-0 c.in-Err-Paper.field-0-is c.in-Err-Paper.ensures.err in
+    let within =
+    told_of_one _ c.args.papers.now c.in-Err-Paper.wrong c.in-Err-Paper.field-0 c.in-Err-Paper.field-0-is c.in-Err-Paper.ensures.err in
     inr (
       WrongPaper c.in-Err-Paper.wrong,
       rw c.in-Err-Paper.field-0-is at c.in-Err-Paper.ensures.err,
@@ -32,7 +35,12 @@ returns-in-Err-Paper g c =
 
 pub returns-in-Err-Mismatch : goal.returns-in-Err-Mismatch
 returns-in-Err-Mismatch g c =
-    inr (OtherText, rw c.in-Err-Mismatch.field-0-is at c.in-Err-Mismatch.ensures.err, (c.tell_mismatch.ensures.status, c.tell_mismatch.ensures.line), refl)
+    inr (
+      OtherText,
+      rw c.in-Err-Mismatch.field-0-is at c.in-Err-Mismatch.ensures.err,
+      (c.tell_mismatch.ensures.status, c.tell_mismatch.ensures.line),
+      refl,
+    )
 
 pub returns-in-Err-Memory : goal.returns-in-Err-Memory
 returns-in-Err-Memory g c =

@@ -5,6 +5,7 @@ use Rattle.profile_commands.proofs.show.profile_show.Goals as goal
 pub returns-in-Err-profile_of : goal.returns-in-Err-profile_of
 returns-in-Err-profile_of g c =
     inr (
-      faults_told _ c.args.word.now _ _ _ _ _ _ _ _ _ c.in-Ok.ensures.text c.as_slice.ensures.value (ap g.E.Outlet.state c.in-Ok.ensures.quiet) c.in-Err-profile_of.ensures.none,
+      faults_told _ c.args.word.now _ _ _ _ _ _ _ _ _ c.in-Ok.ensures.text c.as_slice.ensures.value
+          (ap g.E.Outlet.state c.in-Ok.ensures.quiet) c.in-Err-profile_of.ensures.none,
       refl,
     )

@@ -10,7 +10,8 @@ returns g c =
     let start : List ℕ = codes "face " ++ decimal c.args.face ++ codes ": advance, ascent and descent are " in
     let own = numbers_words c.args.own in
     let wanted = numbers_words c.args.wanted in
-    last_is_pushed c.push_differ.result c.push_differ.new.out.items _ (old ++ ((((start ++ own) ++ codes ", but ") ++ wanted) ++ differ_words))
+    last_is_pushed c.push_differ.result c.push_differ.new.out.items _
+    (old ++ ((((start ++ own) ++ codes ", but ") ++ wanted) ++ differ_words))
     (joined old (((start ++ own) ++ codes ", but ") ++ wanted) _ differ_words (c.in_ok-push_numbers-2.ensures
     ∙ joined old ((start ++ own) ++ codes ", but ") _ wanted (c.in_ok-extend_from_slice.ensures.items
     ∙ joined old (start ++ own) _ (codes ", but ") (c.in_ok-push_numbers.ensures

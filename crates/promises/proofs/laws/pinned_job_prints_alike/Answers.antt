@@ -17,7 +17,9 @@ returns c printer panel set job items place is all =
     let reading = pinned_reading printer panel (entries items) in
     let run = plain_run printer panel (moved_reading printer panel (entries items)) in
     record {
-      read = subst (λ text. IsReading text reading) (sym (text_is_spelled panel (request_at printer.faces panel.font) true items all)) (pinned_is_read printer panel set job items place is);
+      read =
+          subst (λ text. IsReading text reading) (sym (text_is_spelled panel (request_at printer.faces panel.font) true items all))
+          (pinned_is_read printer panel set job items place is);
       moved = moved_entries panel (request_at printer.faces panel.font) 0 true (entries items);
       prints = λ none from. alike none unwatched from (entries items) (all_entries items all);
       verdict = λ none room.

@@ -13,7 +13,8 @@ invariant-loop-read g l = record {
   place : l.lexer.place + length l.lexer.rest ≡ l.initial.lexer.place + length l.initial.lexer.rest;
   mode : g.R.Renderer.is_in l.renderer (mode_of l.lexer.context);
   rendered : (first : Rendering) (start : OutletState) (bytes : List ℕ) →
-      HasRendered first start bytes l.initial.lexer (g.R.Renderer.rendering l.initial.renderer) (g.W.Outlet.state l.initial.outlet) l.initial.kept.items →
+      HasRendered first start bytes l.initial.lexer (g.R.Renderer.rendering l.initial.renderer)
+          (g.W.Outlet.state l.initial.outlet) l.initial.kept.items →
       HasRendered first start bytes l.lexer (g.R.Renderer.rendering l.renderer) (g.W.Outlet.state l.outlet) l.kept.items;
 }
 

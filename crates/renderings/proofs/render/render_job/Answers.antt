@@ -13,7 +13,8 @@ use Rattle.renderings.proofs.render.render_job.Goals as goal
 
 pub read_job-requires-clause-fresh : goal.read_job-requires-clause-fresh
 read_job-requires-clause-fresh g c = record {
-  rendered = rendered_none (g.R.Renderer.rendering c.args.renderer.now) (g.W.Outlet.state c.args.writer.now) c.new.result c.new.ensures.reads;
+  rendered =
+      rendered_none (g.R.Renderer.rendering c.args.renderer.now) (g.W.Outlet.state c.args.writer.now) c.new.result c.new.ensures.reads;
   no_more = nothing_decided;
   total_is = refl;
   begun = refl;
@@ -35,18 +36,24 @@ returns g c =
     let source' = g.S.Source.state new.reader in
     let outlet = g.W.Outlet.state c.args.writer.now in
     let outlet' = g.W.Outlet.state new.outlet in
-    let Open : List ℕ → Type 0 = λ bytes. RendersOn rendering outlet (g.R.Renderer.is_in new.consumer.renderer.now) bytes (g.R.Renderer.rendering new.consumer.renderer.now) outlet' new.consumer.kept.items 0 new.consumer.total new.consumer.lexer in
+    let Open : List ℕ → Type 0 =
+    λ bytes. RendersOn rendering outlet (g.R.Renderer.is_in new.consumer.renderer.now) bytes
+    (g.R.Renderer.rendering new.consumer.renderer.now) outlet' new.consumer.kept.items 0 new.consumer.total new.consumer.lexer in
     let CutOff : List ℕ → Error → Type 0 = λ bytes error. IsCutOff rendering outlet bytes outlet' error in
     let Front : Error → Type 0 = λ _. WritesFront rendering source source' outlet outlet' in
     let Decided : Error → Type 0 = λ error. error ≡ Read → WritesDecided rendering source source' outlet outlet' in
     let decided : IfErr result Decided = stop_gives result stopped
     (λ error is.
-    by_whose (Open is.bytes) (λ e. CutOff is.bytes e × (e ≡ Read → ⊥)) Decided error (own_read (Open is.bytes) (CutOff is.bytes) error is.came)
-    (λ h _. decided_told rendering outlet outlet' source source' is.pieces is.bytes is.given_is is.joined is.consumed _ _ _ _ _ _ h (g.met.R.Renderer.adds_at_fault new.consumer.renderer.now))
+    by_whose (Open is.bytes) (λ e. CutOff is.bytes e × (e ≡ Read → ⊥)) Decided error
+        (own_read (Open is.bytes) (CutOff is.bytes) error is.came)
+    (λ h _. decided_told rendering outlet outlet' source source' is.pieces is.bytes is.given_is is.joined is.consumed _ _ _ _ _ _ h
+        (g.met.R.Renderer.adds_at_fault new.consumer.renderer.now))
     (λ h turns. let both : Turns ≡ Read = turns in absurd cc)
     (λ e h read. absurd (h.1 read))) in
     record {
-      written = answer_gives result c.read_job.ensures.answered (λ outcome is. due_by rendering outlet outlet' source source' _ outcome is.given_is is.known is.answered);
+      written =
+          answer_gives result c.read_job.ensures.answered
+          (λ outcome is. due_by rendering outlet outlet' source source' _ outcome is.given_is is.known is.answered);
       front = stop_gives result stopped
           (λ error is.
           by_whose (Open is.bytes) (CutOff is.bytes) Front error is.came
@@ -58,7 +65,8 @@ returns g c =
       write = write_status result outlet'.failed
           (answer_gives result c.read_job.ensures.answered (λ outcome is. is.answered.working))
           (stop_gives result stopped
-          (λ error is. by_whose (Open is.bytes) (CutOff is.bytes) (λ e. outlet'.failed ≡ is_write e) error is.came (λ h. h.working) (λ h. h.working) (λ e h. h.status)));
+          (λ error is. by_whose (Open is.bytes) (CutOff is.bytes) (λ e. outlet'.failed ≡ is_write e) error is.came (λ h. h.working)
+              (λ h. h.working) (λ e h. h.status)));
       turns = c.read_job.ensures.turns;
       long = c.read_job.ensures.long;
       never_no_profile = stop_gives result stopped (λ error is. never_none (Open is.bytes) (CutOff is.bytes) error is.came);

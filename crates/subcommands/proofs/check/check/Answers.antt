@@ -7,12 +7,18 @@ use Rattle.subcommands.proofs.check.check.Goals as goal
 
 pub write_verdict-requires-clause-some : goal.write_verdict-requires-clause-some
 write_verdict-requires-clause-some g c =
-    DescribeFleet-some _ c.args.profiles.now c.as_slice.result.now (subst (DescribeFleet _) (sym c.as_slice.ensures.value) c.in-Ok.ensures.fleet) c.requires.some
+    DescribeFleet-some _ c.args.profiles.now c.as_slice.result.now
+    (subst (DescribeFleet _) (sym c.as_slice.ensures.value) c.in-Ok.ensures.fleet) c.requires.some
 
 pub returns-clause-line : goal.returns-clause-line
 returns-clause-line g c =
     LeavesAtStop-more c.in-Err-write_verdict.error _ _ _ _
-    (λ verdict right. (c.as_slice.result.now, subst (DescribeFleet _) (sym c.as_slice.ensures.value) c.in-Ok.ensures.fleet, subst (DescribeBy _ _) (sym c.as_slice.ensures.value) c.in-Ok.ensures.given, right))
+    (λ verdict right. (
+      c.as_slice.result.now,
+      subst (DescribeFleet _) (sym c.as_slice.ensures.value) c.in-Ok.ensures.fleet,
+      subst (DescribeBy _ _) (sym c.as_slice.ensures.value) c.in-Ok.ensures.given,
+      right,
+    ))
     c.in-Err-write_verdict.ensures.err
 
 pub returns-in-Err-clause-line : goal.returns-in-Err-clause-line
@@ -20,7 +26,8 @@ returns-in-Err-clause-line g c = no_line _ c.in-Err.status _ _ c.in-Err.ensures.
 
 pub returns-in-Err-clause-read : goal.returns-in-Err-clause-read
 returns-in-Err-clause-read g c =
-    ap (λ failed. failed || g.T.ProfileTexts.failed c.read_fleet.new.texts) c.requires.job ∙ (c.read_fleet.ensures.read ∙ ap is_err_at_read c.in-Err.is)
+    ap (λ failed. failed || g.T.ProfileTexts.failed c.read_fleet.new.texts) c.requires.job
+    ∙ (c.read_fleet.ensures.read ∙ ap is_err_at_read c.in-Err.is)
 
 pub returns-in-Err-clause-write : goal.returns-in-Err-clause-write
 returns-in-Err-clause-write g c = c.requires.stdout ∙ no_write _ c.in-Err.status c.in-Err.ensures.fleet

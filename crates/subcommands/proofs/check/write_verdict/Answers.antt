@@ -14,7 +14,8 @@ returns-in_err-line-clause-err g c =
 pub returns-clause-ok : goal.returns-clause-ok
 returns-clause-ok g c = (
   record { exact = c.in_ok-verdict.ensures.exact; promise = c.in_ok-verdict.ensures.headline; needed = c.in_ok-verdict.ensures.needed },
-  subst (λ text. Adds (g.O.Outlet.state c.args.stdout.now) (g.O.Outlet.state c.write_text.new.outlet) text) (c.as_slice.ensures.value ∙ c.in_ok-line.ensures)
+  subst (λ text. Adds (g.O.Outlet.state c.args.stdout.now) (g.O.Outlet.state c.write_text.new.outlet) text)
+      (c.as_slice.ensures.value ∙ c.in_ok-line.ensures)
       (c.in_ok-write_text.ensures.text.whole (search rules)),
 )
 

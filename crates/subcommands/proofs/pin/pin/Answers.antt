@@ -6,7 +6,8 @@ use Rattle.streams.specs.Source.{SourceState}
 use Rattle.named_inputs.specs.Choices.{TellsOfPin}
 use Rattle.named_inputs.specs.Fleet.{IsNamed, IsEndOfProfile}
 use Rattle.requests.specs.Status.{is_err_at_read, is_err_at_write, is_overwriting, is_refusal, IsEndOfOpening}
-use Rattle.subcommands.proofs.JobTexts.{choice_refused, choice_told, ended, ended_write_beside, no_pinned, opening_left, out_left, pinned_left, rendered_from, sound_beside}
+use Rattle.subcommands.proofs.JobTexts.{choice_refused, choice_told, ended, ended_write_beside, no_pinned, opening_left, out_left}
+use Rattle.subcommands.proofs.JobTexts.{pinned_left, rendered_from, sound_beside}
 use Rattle.named_inputs.proofs.FleetFacts.{no_write_before}
 use Rattle.subcommands.proofs.JudgedFirst.{ends_by, judged_first}
 use Rattle.subcommands.proofs.pin.pin.Goals as goal
@@ -17,22 +18,31 @@ end_by-requires g c = sound_beside c.pin_job-work.result _ c.requires.stdout
 pub returns-in-Err-clause-ends : goal.returns-in-Err-clause-ends
 returns-in-Err-clause-ends g c = record {
   left = no_pinned 1 _ c.in-Err.status _ _ _ _ _ c.in-Err.ensures.profile;
-  read = ap (λ failed. failed || g.T.ProfileTexts.failed c.read_profile.new.texts) c.requires.job ∙ (c.read_profile.ensures.read ∙ ap is_err_at_read c.in-Err.is);
-  write = ap (λ failed. failed || (g.O.Outlet.state c.args.stdout.now).failed) c.requires.out ∙ (c.requires.stdout ∙ no_write_before 1 _ c.in-Err.status c.in-Err.ensures.profile);
+  read =
+      ap (λ failed. failed || g.T.ProfileTexts.failed c.read_profile.new.texts) c.requires.job
+      ∙ (c.read_profile.ensures.read ∙ ap is_err_at_read c.in-Err.is);
+  write =
+      ap (λ failed. failed || (g.O.Outlet.state c.args.stdout.now).failed) c.requires.out
+      ∙ (c.requires.stdout ∙ no_write_before 1 _ c.in-Err.status c.in-Err.ensures.profile);
   turns = λ is. absurd (subst (IsEndOfProfile 1 _) is c.in-Err.ensures.profile);
 }
 
 pub returns-in-Err-chosen_panel-clause-ends : goal.returns-in-Err-chosen_panel-clause-ends
 returns-in-Err-chosen_panel-clause-ends g c =
-    let named = IsNamed (g.T.ProfileTexts.text_of c.args.texts.now c.args.setting.now.profile.now) (g.T.ProfileTexts.given c.args.texts.now) (g.T.ProfileTexts.given c.read_profile.new.texts) in
+    let named =
+    IsNamed (g.T.ProfileTexts.text_of c.args.texts.now c.args.setting.now.profile.now) (g.T.ProfileTexts.given c.args.texts.now)
+    (g.T.ProfileTexts.given c.read_profile.new.texts) in
     choice_refused c.refuse_choice.result c.in-Ok.profile c.in-Err-chosen_panel.choice named _ _ _ _ _ _ _ _
-    (ap (λ failed. failed || g.T.ProfileTexts.failed c.read_profile.new.texts) c.requires.job ∙ (c.read_profile.ensures.read ∙ ap is_err_at_read c.in-Ok.is))
+    (ap (λ failed. failed || g.T.ProfileTexts.failed c.read_profile.new.texts) c.requires.job
+    ∙ (c.read_profile.ensures.read ∙ ap is_err_at_read c.in-Ok.is))
     (ap (λ failed. failed || (g.O.Outlet.state c.args.stdout.now).failed) c.requires.out ∙ c.requires.stdout)
     c.refuse_choice.ensures.choice
 
 pub returns-in-Err-chosen_panel-clause-choice : goal.returns-in-Err-chosen_panel-clause-choice
 returns-in-Err-chosen_panel-clause-choice g c =
-    let named = IsNamed (g.T.ProfileTexts.text_of c.args.texts.now c.args.setting.now.profile.now) (g.T.ProfileTexts.given c.args.texts.now) (g.T.ProfileTexts.given c.read_profile.new.texts) in
+    let named =
+    IsNamed (g.T.ProfileTexts.text_of c.args.texts.now c.args.setting.now.profile.now) (g.T.ProfileTexts.given c.args.texts.now)
+    (g.T.ProfileTexts.given c.read_profile.new.texts) in
     choice_told c.refuse_choice.result c.in-Ok.profile c.in-Err-chosen_panel.choice named _ _ _
     (c.in-Ok.ensures.profile, c.in-Ok.ensures.given) (sym c.in-Err-chosen_panel.ensures.value) c.refuse_choice.ensures.choice
 
@@ -48,20 +58,26 @@ returns-in-Err-open_and_create-clause-ends g c =
         panel,
         (c.in-Ok.ensures.profile, c.in-Ok.ensures.given),
         sym c.in-Ok-chosen_panel.ensures.value,
-        opening_left status (pinned_rendering printer panel) _ _ _ _ _ _ _ c.in-Err-open_and_create.ensures.err opening.source opening.outlet,
+        opening_left status
+            (pinned_rendering printer panel) _ _ _ _ _ _ _ c.in-Err-open_and_create.ensures.err opening.source opening.outlet,
       );
       read =
-          ap (λ failed. (g.S.Source.state c.open_and_create.new.job).failed || failed) (c.read_profile.ensures.read ∙ ap is_err_at_read c.in-Ok.is)
-          ∙ or-false (g.S.Source.state c.open_and_create.new.job).failed ∙ ap (λ (s : SourceState). s.failed) opening.source ∙ ap is_err_at_read c.in-Err-open_and_create.is;
+          ap (λ failed. (g.S.Source.state c.open_and_create.new.job).failed || failed)
+              (c.read_profile.ensures.read ∙ ap is_err_at_read c.in-Ok.is)
+          ∙ or-false (g.S.Source.state c.open_and_create.new.job).failed ∙ ap (λ (s : SourceState). s.failed) opening.source
+              ∙ ap is_err_at_read c.in-Err-open_and_create.is;
       write =
-          ap (λ failed. (g.W.Outlet.state c.open_and_create.new.out).failed || failed) c.requires.stdout ∙ or-false (g.W.Outlet.state c.open_and_create.new.out).failed
+          ap (λ failed. (g.W.Outlet.state c.open_and_create.new.out).failed || failed) c.requires.stdout
+              ∙ or-false (g.W.Outlet.state c.open_and_create.new.out).failed
           ∙ ap (λ (o : OutletState). o.failed) opening.outlet ∙ ap is_err_at_write c.in-Err-open_and_create.is;
       turns = λ is. absurd (subst IsEndOfOpening is c.in-Err-open_and_create.ensures.err);
     }
 
 pub returns-clause-ends : goal.returns-clause-ends
 returns-clause-ends g c =
-    let named = IsNamed (g.T.ProfileTexts.text_of c.args.texts.now c.args.setting.now.profile.now) (g.T.ProfileTexts.given c.args.texts.now) (g.T.ProfileTexts.given c.read_profile.new.texts) in
+    let named =
+    IsNamed (g.T.ProfileTexts.text_of c.args.texts.now c.args.setting.now.profile.now) (g.T.ProfileTexts.given c.args.texts.now)
+    (g.T.ProfileTexts.given c.read_profile.new.texts) in
     let printer = c.in-Ok.profile in
     let panel = c.in-Ok-chosen_panel.panel in
     let work = c.pin_job-work.result in
@@ -72,7 +88,9 @@ returns-clause-ends g c =
     let start = g.O.Outlet.state c.args.stdout.now in
     let end = g.O.Outlet.state c.end_by.new.stdout in
     let opening = c.in_default.ensures in
-    let rendered = rendered_from (pinned_rendering printer panel) job _ job' old _ new work c.requires.job opening.source c.requires.out opening.outlet c.pin_job-work.ensures in
+    let rendered =
+    rendered_from (pinned_rendering printer panel) job _ job' old _ new work c.requires.job opening.source c.requires.out
+    opening.outlet c.pin_job-work.ensures in
     record {
       left = pinned_left c.end_by.result named c.args.setting.now.choices.now job job' old new start end (
         printer,
@@ -80,26 +98,35 @@ returns-clause-ends g c =
         (c.in-Ok.ensures.profile, c.in-Ok.ensures.given),
         sym c.in-Ok-chosen_panel.ensures.value,
         out_left c.end_by.result (pinned_rendering printer panel) job job' old new start end
-            (ended g.O.Outlet.state c.args.stdout.now c.end_by.new.stdout work c.end_by.result (pinned_rendering printer panel) job job' old new
+            (ended g.O.Outlet.state c.args.stdout.now c.end_by.new.stdout work c.end_by.result
+                (pinned_rendering printer panel) job job' old new
             rendered c.end_by.ensures.ok c.end_by.ensures.err),
       );
       read =
           ap (λ failed. job'.failed || failed) (c.read_profile.ensures.read ∙ ap is_err_at_read c.in-Ok.is)
           ∙ or-false job'.failed ∙ rendered.read ∙ sym c.end_by.ensures.read;
-      write = ended_write_beside g.O.Outlet.state c.args.stdout.now c.end_by.new.stdout work c.end_by.result _ rendered.write c.requires.stdout c.end_by.ensures.err c.end_by.ensures.write;
+      write =
+          ended_write_beside g.O.Outlet.state c.args.stdout.now c.end_by.new.stdout work c.end_by.result _ rendered.write c.requires.stdout
+          c.end_by.ensures.err c.end_by.ensures.write;
       turns = λ is. rendered.turns (c.end_by.ensures.turns is);
     }
 
 pub returns-clause-first : goal.returns-clause-first
 returns-clause-first g c =
-    judged_first c.end_by.result _ _ _ _ _ _ (ends_by (λ status. is_refusal status ≡ false) refl refl (λ error. refl) c.end_by.result c.end_by.ensures.end) (c.read_profile.ensures.read ∙ ap is_err_at_read c.in-Ok.is)
+    judged_first c.end_by.result _ _ _ _ _ _
+    (ends_by (λ status. is_refusal status ≡ false) refl refl (λ error. refl) c.end_by.result c.end_by.ensures.end)
+    (c.read_profile.ensures.read ∙ ap is_err_at_read c.in-Ok.is)
 
 pub returns-clause-kept : goal.returns-clause-kept
 returns-clause-kept g c = λ is.
-    absurd (true≢false (sym is ∙ ends_by (λ status. is_overwriting status ≡ false) refl refl (λ error. refl) c.end_by.result c.end_by.ensures.end))
+    absurd
+    (true≢false (sym is ∙ ends_by (λ status. is_overwriting status ≡ false) refl refl (λ error. refl) c.end_by.result c.end_by.ensures.end))
 
 pub returns-clause-choice : goal.returns-clause-choice
 returns-clause-choice g c =
-    let named = IsNamed (g.T.ProfileTexts.text_of c.args.texts.now c.args.setting.now.profile.now) (g.T.ProfileTexts.given c.args.texts.now) (g.T.ProfileTexts.given c.read_profile.new.texts) in
+    let named =
+    IsNamed (g.T.ProfileTexts.text_of c.args.texts.now c.args.setting.now.profile.now) (g.T.ProfileTexts.given c.args.texts.now)
+    (g.T.ProfileTexts.given c.read_profile.new.texts) in
     let told = g.E.Outlet.state c.args.stderr.now in
-    ends_by (λ status. TellsOfPin status named c.args.setting.now.choices.now told told) tt tt (λ error. tt) c.end_by.result c.end_by.ensures.end
+    ends_by (λ status. TellsOfPin status named c.args.setting.now.choices.now told told) tt tt
+    (λ error. tt) c.end_by.result c.end_by.ensures.end

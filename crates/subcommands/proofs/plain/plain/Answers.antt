@@ -17,7 +17,8 @@ returns-in-Err-clause-ends g c =
       left = opening_left c.in-Err.status plain_rendering _ _ _ _ _ _ _ c.in-Err.ensures.err opening.source opening.outlet;
       read = ap (λ (s : SourceState). s.failed) opening.source ∙ ap is_err_at_read c.in-Err.is;
       write =
-          ap (λ failed. (g.W.Outlet.state c.open_and_create.new.out).failed || failed) c.requires.stdout ∙ or-false (g.W.Outlet.state c.open_and_create.new.out).failed
+          ap (λ failed. (g.W.Outlet.state c.open_and_create.new.out).failed || failed) c.requires.stdout
+              ∙ or-false (g.W.Outlet.state c.open_and_create.new.out).failed
           ∙ ap (λ (o : OutletState). o.failed) opening.outlet ∙ ap is_err_at_write c.in-Err.is;
       turns = λ is. absurd (subst IsEndOfOpening is c.in-Err.ensures.err);
     }
@@ -30,11 +31,16 @@ returns-clause-ends g c =
     let job' = g.S.Source.state c.plain_job-work.new.reader in
     let old = g.W.Outlet.state c.args.out.now in
     let new = g.W.Outlet.state c.plain_job-work.new.writer in
-    let rendered = rendered_from plain_rendering job _ job' old _ new work c.requires.job c.in_default.ensures.source c.requires.out c.in_default.ensures.outlet c.plain_job-work.ensures in
+    let rendered =
+    rendered_from plain_rendering job _ job' old _ new work c.requires.job c.in_default.ensures.source c.requires.out
+    c.in_default.ensures.outlet c.plain_job-work.ensures in
     record {
       left = out_left c.end_by.result plain_rendering job job' old new _ _
-          (ended g.O.Outlet.state c.args.stdout.now c.end_by.new.stdout work c.end_by.result plain_rendering job job' old new rendered c.end_by.ensures.ok c.end_by.ensures.err);
+          (ended g.O.Outlet.state c.args.stdout.now c.end_by.new.stdout work c.end_by.result plain_rendering job job' old new rendered
+              c.end_by.ensures.ok c.end_by.ensures.err);
       read = rendered.read ∙ sym c.end_by.ensures.read;
-      write = ended_write_beside g.O.Outlet.state c.args.stdout.now c.end_by.new.stdout work c.end_by.result _ rendered.write c.requires.stdout c.end_by.ensures.err c.end_by.ensures.write;
+      write =
+          ended_write_beside g.O.Outlet.state c.args.stdout.now c.end_by.new.stdout work c.end_by.result _ rendered.write c.requires.stdout
+          c.end_by.ensures.err c.end_by.ensures.write;
       turns = λ is. rendered.turns (c.end_by.ensures.turns is);
     }

@@ -6,7 +6,8 @@ use Rattle.device_profile.proofs.profile.Profile.geometry.Goals as goal
 
 pub returns-clause-fits : goal.returns-clause-fits
 returns-clause-fits g c =
-    subst (λ (printer : Printer). IfSome (row_at printer.geometries c.args.size c.args.orientation) (λ page. IsTrue (fits_page page))) c.self.view_is
+    subst (λ (printer : Printer). IfSome (row_at printer.geometries c.args.size c.args.orientation) (λ page. IsTrue (fits_page page)))
+    c.self.view_is
     (IfSome-row_at (printer_of c.self.inside) c.args.size c.args.orientation c.self.invariant)
 
 pub returns-clause-allowed : goal.returns-clause-allowed

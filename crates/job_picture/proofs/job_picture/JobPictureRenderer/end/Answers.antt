@@ -13,7 +13,9 @@ use Rattle.job_picture.proofs.job_picture.JobPictureRenderer.end.Goals as goal
 pub returns-in_err-push_start_if_due-clause-rendered : goal.returns-in_err-push_start_if_due-clause-rendered
 returns-in_err-push_start_if_due-clause-rendered g c =
     let own = c.args.self.now in
-    end_none (drawn_from own.wanted.selection own.wanted.sentence.now own.machine own.progress own.is_started) (λ reading. reading ≡ Whole [] c.args.place) (g.W.Outlet.state c.args.outlet.now) c.args.kept.now.items c.push_start_if_due.new.text.items c.from_residual.result c.from_residual.ensures.0
+    end_none (drawn_from own.wanted.selection own.wanted.sentence.now own.machine own.progress own.is_started)
+    (λ reading. reading ≡ Whole [] c.args.place) (g.W.Outlet.state c.args.outlet.now) c.args.kept.now.items
+    c.push_start_if_due.new.text.items c.from_residual.result c.from_residual.ensures.0
 
 pub returns-in_err-found-clause-rendered : goal.returns-in_err-found-clause-rendered
 returns-in_err-found-clause-rendered g c =
@@ -26,7 +28,10 @@ returns-in_err-found-clause-rendered g c =
     ∙ ap (λ (page : Page). sheet_of selection sentence own.machine.printer (state_at any_panel page)) c.page.ensures) in
     let spot_is : c.spot_of-spot.result ≡ spot_of c.sheet_of-sheet.result.paper (state_at any_panel own.machine.page) =
     c.spot_of-spot.ensures ∙ ap (λ (page : Page). spot_of c.sheet_of-sheet.result.paper (state_at any_panel page)) c.page-2.ensures in
-    end_stops selection sentence own.machine own.progress own.is_started (g.W.Outlet.state c.args.outlet.now) (g.W.Outlet.state c.finish_on.new.outlet) c.args.kept.now.items c.push_start_if_due.new.text.items c.finish_on.new.kept.items c.in_ok-push_start_if_due.ensures c.sheet_of-sheet.result sheet_is c.spot_of-spot.result spot_is c.args.place c.finish_on.new.kept.items c.finish_on.new.progress
+    end_stops selection sentence own.machine own.progress own.is_started (g.W.Outlet.state c.args.outlet.now)
+    (g.W.Outlet.state c.finish_on.new.outlet) c.args.kept.now.items c.push_start_if_due.new.text.items c.finish_on.new.kept.items
+    c.in_ok-push_start_if_due.ensures c.sheet_of-sheet.result sheet_is c.spot_of-spot.result spot_is c.args.place c.finish_on.new.kept.items
+    c.finish_on.new.progress
     c.in_err-found.field-0.0 c.in_err-found.ensures.finishes c.from_residual-in_err-found.result c.from_residual-in_err-found.ensures.0
 
 pub returns-then-is_behind-clause-rendered : goal.returns-then-is_behind-clause-rendered
@@ -40,7 +45,10 @@ returns-then-is_behind-clause-rendered g c =
     ∙ ap (λ (page : Page). sheet_of selection sentence own.machine.printer (state_at any_panel page)) c.page.ensures) in
     let spot_is : c.spot_of-spot.result ≡ spot_of c.sheet_of-sheet.result.paper (state_at any_panel own.machine.page) =
     c.spot_of-spot.ensures ∙ ap (λ (page : Page). spot_of c.sheet_of-sheet.result.paper (state_at any_panel page)) c.page-2.ensures in
-    end_ends selection sentence own.machine own.progress own.is_started (g.W.Outlet.state c.args.outlet.now) (g.W.Outlet.state c.finish_on.new.outlet) c.args.kept.now.items c.push_start_if_due.new.text.items c.finish_on.new.kept.items c.in_ok-push_start_if_due.ensures c.sheet_of-sheet.result sheet_is c.spot_of-spot.result spot_is c.args.place c.finish_on.new.kept.items c.finish_on.new.progress
+    end_ends selection sentence own.machine own.progress own.is_started (g.W.Outlet.state c.args.outlet.now)
+    (g.W.Outlet.state c.finish_on.new.outlet) c.args.kept.now.items c.push_start_if_due.new.text.items c.finish_on.new.kept.items
+    c.in_ok-push_start_if_due.ensures c.sheet_of-sheet.result sheet_is c.spot_of-spot.result spot_is c.args.place c.finish_on.new.kept.items
+    c.finish_on.new.progress
     c.in_ok-found.found refl c.in_ok-found.ensures.finishes c.if-is_behind.ensures
 
 pub returns-in_err-push_end_of_all-in-None-clause-rendered : goal.returns-in_err-push_end_of_all-in-None-clause-rendered
@@ -54,8 +62,12 @@ returns-in_err-push_end_of_all-in-None-clause-rendered g c =
     ∙ ap (λ (page : Page). sheet_of selection sentence own.machine.printer (state_at any_panel page)) c.page.ensures) in
     let spot_is : c.spot_of-spot.result ≡ spot_of c.sheet_of-sheet.result.paper (state_at any_panel own.machine.page) =
     c.spot_of-spot.ensures ∙ ap (λ (page : Page). spot_of c.sheet_of-sheet.result.paper (state_at any_panel page)) c.page-2.ensures in
-    end_cuts selection sentence own.machine own.progress own.is_started (g.W.Outlet.state c.args.outlet.now) (g.W.Outlet.state c.finish_on.new.outlet) c.args.kept.now.items c.push_start_if_due.new.text.items c.push_end_of_all.new.text.items c.in_ok-push_start_if_due.ensures c.sheet_of-sheet.result sheet_is c.spot_of-spot.result spot_is c.args.place c.finish_on.new.kept.items c.finish_on.new.progress
-    c.in_ok-found.found c.in_ok-found.ensures.finishes c.from_residual-in_err-push_end_of_all-in-None.result c.from_residual-in_err-push_end_of_all-in-None.ensures.0
+    end_cuts selection sentence own.machine own.progress own.is_started (g.W.Outlet.state c.args.outlet.now)
+    (g.W.Outlet.state c.finish_on.new.outlet) c.args.kept.now.items c.push_start_if_due.new.text.items c.push_end_of_all.new.text.items
+    c.in_ok-push_start_if_due.ensures c.sheet_of-sheet.result sheet_is c.spot_of-spot.result spot_is c.args.place c.finish_on.new.kept.items
+    c.finish_on.new.progress
+    c.in_ok-found.found c.in_ok-found.ensures.finishes c.from_residual-in_err-push_end_of_all-in-None.result
+    c.from_residual-in_err-push_end_of_all-in-None.ensures.0
 
 pub returns-in_err-push_failed-in-Some-clause-rendered : goal.returns-in_err-push_failed-in-Some-clause-rendered
 returns-in_err-push_failed-in-Some-clause-rendered g c =
@@ -68,8 +80,12 @@ returns-in_err-push_failed-in-Some-clause-rendered g c =
     ∙ ap (λ (page : Page). sheet_of selection sentence own.machine.printer (state_at any_panel page)) c.page.ensures) in
     let spot_is : c.spot_of-spot.result ≡ spot_of c.sheet_of-sheet.result.paper (state_at any_panel own.machine.page) =
     c.spot_of-spot.ensures ∙ ap (λ (page : Page). spot_of c.sheet_of-sheet.result.paper (state_at any_panel page)) c.page-2.ensures in
-    end_cuts selection sentence own.machine own.progress own.is_started (g.W.Outlet.state c.args.outlet.now) (g.W.Outlet.state c.finish_on.new.outlet) c.args.kept.now.items c.push_start_if_due.new.text.items c.push_failed.new.text.items c.in_ok-push_start_if_due.ensures c.sheet_of-sheet.result sheet_is c.spot_of-spot.result spot_is c.args.place c.finish_on.new.kept.items c.finish_on.new.progress
-    c.in_ok-found.found c.in_ok-found.ensures.finishes c.from_residual-in_err-push_failed-in-Some.result c.from_residual-in_err-push_failed-in-Some.ensures.0
+    end_cuts selection sentence own.machine own.progress own.is_started (g.W.Outlet.state c.args.outlet.now)
+    (g.W.Outlet.state c.finish_on.new.outlet) c.args.kept.now.items c.push_start_if_due.new.text.items c.push_failed.new.text.items
+    c.in_ok-push_start_if_due.ensures c.sheet_of-sheet.result sheet_is c.spot_of-spot.result spot_is c.args.place c.finish_on.new.kept.items
+    c.finish_on.new.progress
+    c.in_ok-found.found c.in_ok-found.ensures.finishes c.from_residual-in_err-push_failed-in-Some.result
+    c.from_residual-in_err-push_failed-in-Some.ensures.0
 
 pub returns-in_ok-push_end_of_all-in-None-clause-rendered : goal.returns-in_ok-push_end_of_all-in-None-clause-rendered
 returns-in_ok-push_end_of_all-in-None-clause-rendered g c =
@@ -82,8 +98,12 @@ returns-in_ok-push_end_of_all-in-None-clause-rendered g c =
     ∙ ap (λ (page : Page). sheet_of selection sentence own.machine.printer (state_at any_panel page)) c.page.ensures) in
     let spot_is : c.spot_of-spot.result ≡ spot_of c.sheet_of-sheet.result.paper (state_at any_panel own.machine.page) =
     c.spot_of-spot.ensures ∙ ap (λ (page : Page). spot_of c.sheet_of-sheet.result.paper (state_at any_panel page)) c.page-2.ensures in
-    end_goes_on selection sentence own.machine own.progress own.is_started (g.W.Outlet.state c.args.outlet.now) (g.W.Outlet.state c.finish_on.new.outlet) c.args.kept.now.items c.push_start_if_due.new.text.items c.push_end_of_all.new.text.items c.in_ok-push_start_if_due.ensures c.sheet_of-sheet.result sheet_is c.spot_of-spot.result spot_is c.args.place c.finish_on.new.kept.items c.finish_on.new.progress
-    c.in_ok-found.found c.in-None.is c.in_ok-push_end_of_all-in-None.ensures c.in_ok-found.ensures.finishes c.if-is_behind.ensures c.late_end.result c.late_end.ensures
+    end_goes_on selection sentence own.machine own.progress own.is_started (g.W.Outlet.state c.args.outlet.now)
+    (g.W.Outlet.state c.finish_on.new.outlet) c.args.kept.now.items c.push_start_if_due.new.text.items c.push_end_of_all.new.text.items
+    c.in_ok-push_start_if_due.ensures c.sheet_of-sheet.result sheet_is c.spot_of-spot.result spot_is c.args.place c.finish_on.new.kept.items
+    c.finish_on.new.progress
+    c.in_ok-found.found c.in-None.is c.in_ok-push_end_of_all-in-None.ensures c.in_ok-found.ensures.finishes c.if-is_behind.ensures
+    c.late_end.result c.late_end.ensures
 
 pub returns-in_ok-push_failed-in-Some-clause-rendered : goal.returns-in_ok-push_failed-in-Some-clause-rendered
 returns-in_ok-push_failed-in-Some-clause-rendered g c =
@@ -96,5 +116,9 @@ returns-in_ok-push_failed-in-Some-clause-rendered g c =
     ∙ ap (λ (page : Page). sheet_of selection sentence own.machine.printer (state_at any_panel page)) c.page.ensures) in
     let spot_is : c.spot_of-spot.result ≡ spot_of c.sheet_of-sheet.result.paper (state_at any_panel own.machine.page) =
     c.spot_of-spot.ensures ∙ ap (λ (page : Page). spot_of c.sheet_of-sheet.result.paper (state_at any_panel page)) c.page-2.ensures in
-    end_fails selection sentence own.machine own.progress own.is_started (g.W.Outlet.state c.args.outlet.now) (g.W.Outlet.state c.finish_on.new.outlet) c.args.kept.now.items c.push_start_if_due.new.text.items c.push_failed.new.text.items c.in_ok-push_start_if_due.ensures c.sheet_of-sheet.result sheet_is c.spot_of-spot.result spot_is c.args.place c.finish_on.new.kept.items c.finish_on.new.progress
-    c.in_ok-found.found c.in-Some.finding c.in-Some.is c.in_ok-push_failed-in-Some.ensures c.in_ok-found.ensures.finishes c.if-is_behind.ensures c.fails_at.result c.fails_at.ensures
+    end_fails selection sentence own.machine own.progress own.is_started (g.W.Outlet.state c.args.outlet.now)
+    (g.W.Outlet.state c.finish_on.new.outlet) c.args.kept.now.items c.push_start_if_due.new.text.items c.push_failed.new.text.items
+    c.in_ok-push_start_if_due.ensures c.sheet_of-sheet.result sheet_is c.spot_of-spot.result spot_is c.args.place c.finish_on.new.kept.items
+    c.finish_on.new.progress
+    c.in_ok-found.found c.in-Some.finding c.in-Some.is c.in_ok-push_failed-in-Some.ensures c.in_ok-found.ensures.finishes
+    c.if-is_behind.ensures c.fails_at.result c.fails_at.ensures

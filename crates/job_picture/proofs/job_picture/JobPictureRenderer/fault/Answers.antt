@@ -13,12 +13,16 @@ use Rattle.job_picture.proofs.job_picture.JobPictureRenderer.fault.Goals as goal
 pub returns-in_err-push_start_if_due-clause-rendered : goal.returns-in_err-push_start_if_due-clause-rendered
 returns-in_err-push_start_if_due-clause-rendered g c =
     let own = c.args.self.now in
-    end_none (drawn_from own.wanted.selection own.wanted.sentence.now own.machine own.progress own.is_started) (λ reading. reading ≡ Stopped [] c.args.fault.place c.args.fault.cause) (g.W.Outlet.state c.args._outlet.now) c.args.kept.now.items c.push_start_if_due.new.text.items c.from_residual.result c.from_residual.ensures.0
+    end_none (drawn_from own.wanted.selection own.wanted.sentence.now own.machine own.progress own.is_started)
+    (λ reading. reading ≡ Stopped [] c.args.fault.place c.args.fault.cause) (g.W.Outlet.state c.args._outlet.now) c.args.kept.now.items
+    c.push_start_if_due.new.text.items c.from_residual.result c.from_residual.ensures.0
 
 pub returns-in_err-push_failed-clause-rendered : goal.returns-in_err-push_failed-clause-rendered
 returns-in_err-push_failed-clause-rendered g c =
     let own = c.args.self.now in
-    end_none (drawn_from own.wanted.selection own.wanted.sentence.now own.machine own.progress own.is_started) (λ reading. reading ≡ Stopped [] c.args.fault.place c.args.fault.cause) (g.W.Outlet.state c.args._outlet.now) c.args.kept.now.items c.push_failed.new.text.items c.from_residual-in_err-push_failed.result c.from_residual-in_err-push_failed.ensures.0
+    end_none (drawn_from own.wanted.selection own.wanted.sentence.now own.machine own.progress own.is_started)
+    (λ reading. reading ≡ Stopped [] c.args.fault.place c.args.fault.cause) (g.W.Outlet.state c.args._outlet.now) c.args.kept.now.items
+    c.push_failed.new.text.items c.from_residual-in_err-push_failed.result c.from_residual-in_err-push_failed.ensures.0
 
 pub returns-clause-rendered : goal.returns-clause-rendered
 returns-clause-rendered g c =
@@ -32,5 +36,7 @@ returns-clause-rendered g c =
     let spot_is : c.spot_of-spot.result ≡ spot_of c.sheet_of-sheet.result.paper (state_at any_panel own.machine.page) =
     c.spot_of-spot.ensures ∙ ap (λ (page : Page). spot_of c.sheet_of-sheet.result.paper (state_at any_panel page)) c.page-2.ensures in
     let outlet = g.W.Outlet.state c.args._outlet.now in
-    fault_fails selection sentence own.machine own.progress own.is_started outlet outlet c.args.kept.now.items c.push_start_if_due.new.text.items c.push_failed.new.text.items c.in_ok-push_start_if_due.ensures c.sheet_of-sheet.result sheet_is c.spot_of-spot.result spot_is
+    fault_fails selection sentence own.machine own.progress own.is_started outlet outlet c.args.kept.now.items
+    c.push_start_if_due.new.text.items c.push_failed.new.text.items c.in_ok-push_start_if_due.ensures c.sheet_of-sheet.result sheet_is
+    c.spot_of-spot.result spot_is
     c.args.fault.place c.args.fault.cause refl c.in_ok-push_failed.ensures c.fails_by.result c.fails_by.ensures

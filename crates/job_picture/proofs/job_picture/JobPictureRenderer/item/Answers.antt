@@ -14,7 +14,8 @@ pub returns-in_err-push_start_if_due-clause-rendered : goal.returns-in_err-push_
 returns-in_err-push_start_if_due-clause-rendered g c =
     let own = c.args.self.now in
     let rendering = drawn_from own.wanted.selection own.wanted.sentence.now own.machine own.progress own.is_started in
-    item_none rendering rendering (at c.args.place (view c.args.item.now)) (g.W.Outlet.state c.args.outlet.now) c.args.kept.now.items c.push_start_if_due.new.text.items c.from_residual.result c.from_residual.ensures.0
+    item_none rendering rendering (at c.args.place (view c.args.item.now)) (g.W.Outlet.state c.args.outlet.now) c.args.kept.now.items
+    c.push_start_if_due.new.text.items c.from_residual.result c.from_residual.ensures.0
 
 pub returns-in_err-found-clause-rendered : goal.returns-in_err-found-clause-rendered
 returns-in_err-found-clause-rendered g c =
@@ -27,8 +28,12 @@ returns-in_err-found-clause-rendered g c =
     ∙ ap (λ (page : Page). sheet_of selection sentence own.machine.printer (state_at any_panel page)) c.page.ensures) in
     let spot_is : c.spot_of-spot.result ≡ spot_of c.sheet_of-sheet.result.paper (state_at any_panel own.machine.page) =
     c.spot_of-spot.ensures ∙ ap (λ (page : Page). spot_of c.sheet_of-sheet.result.paper (state_at any_panel page)) c.page-2.ensures in
-    item_stops selection sentence own.machine own.progress own.is_started (g.W.Outlet.state c.args.outlet.now) (g.W.Outlet.state c.step_on.new.outlet) c.args.kept.now.items c.push_start_if_due.new.text.items c.step_on.new.kept.items c.in_ok-push_start_if_due.ensures c.sheet_of-sheet.result sheet_is c.spot_of-spot.result spot_is (at c.args.place (view c.args.item.now)) c.step_on.new.machine c.step_on.new.kept.items c.step_on.new.progress
-    (drawn_from selection sentence c.step_on.new.machine c.step_on.new.progress true) c.in_err-found.field-0.0 c.in_err-found.ensures.steps c.from_residual-in_err-found.result c.from_residual-in_err-found.ensures.0
+    item_stops selection sentence own.machine own.progress own.is_started (g.W.Outlet.state c.args.outlet.now)
+    (g.W.Outlet.state c.step_on.new.outlet) c.args.kept.now.items c.push_start_if_due.new.text.items c.step_on.new.kept.items
+    c.in_ok-push_start_if_due.ensures c.sheet_of-sheet.result sheet_is c.spot_of-spot.result spot_is
+    (at c.args.place (view c.args.item.now)) c.step_on.new.machine c.step_on.new.kept.items c.step_on.new.progress
+    (drawn_from selection sentence c.step_on.new.machine c.step_on.new.progress true) c.in_err-found.field-0.0 c.in_err-found.ensures.steps
+    c.from_residual-in_err-found.result c.from_residual-in_err-found.ensures.0
 
 pub returns-then-is_behind-clause-rendered : goal.returns-then-is_behind-clause-rendered
 returns-then-is_behind-clause-rendered g c =
@@ -41,7 +46,10 @@ returns-then-is_behind-clause-rendered g c =
     ∙ ap (λ (page : Page). sheet_of selection sentence own.machine.printer (state_at any_panel page)) c.page.ensures) in
     let spot_is : c.spot_of-spot.result ≡ spot_of c.sheet_of-sheet.result.paper (state_at any_panel own.machine.page) =
     c.spot_of-spot.ensures ∙ ap (λ (page : Page). spot_of c.sheet_of-sheet.result.paper (state_at any_panel page)) c.page-2.ensures in
-    item_ends selection sentence own.machine own.progress own.is_started (g.W.Outlet.state c.args.outlet.now) (g.W.Outlet.state c.step_on.new.outlet) c.args.kept.now.items c.push_start_if_due.new.text.items c.step_on.new.kept.items c.in_ok-push_start_if_due.ensures c.sheet_of-sheet.result sheet_is c.spot_of-spot.result spot_is (at c.args.place (view c.args.item.now)) c.step_on.new.machine c.step_on.new.kept.items c.step_on.new.progress
+    item_ends selection sentence own.machine own.progress own.is_started (g.W.Outlet.state c.args.outlet.now)
+    (g.W.Outlet.state c.step_on.new.outlet) c.args.kept.now.items c.push_start_if_due.new.text.items c.step_on.new.kept.items
+    c.in_ok-push_start_if_due.ensures c.sheet_of-sheet.result sheet_is c.spot_of-spot.result spot_is
+    (at c.args.place (view c.args.item.now)) c.step_on.new.machine c.step_on.new.kept.items c.step_on.new.progress
     c.in_ok-found.found refl c.in_ok-found.ensures.steps c.if-is_behind.ensures
 
 pub returns-in_err-push_failed-in-Some-clause-rendered : goal.returns-in_err-push_failed-in-Some-clause-rendered
@@ -55,8 +63,12 @@ returns-in_err-push_failed-in-Some-clause-rendered g c =
     ∙ ap (λ (page : Page). sheet_of selection sentence own.machine.printer (state_at any_panel page)) c.page.ensures) in
     let spot_is : c.spot_of-spot.result ≡ spot_of c.sheet_of-sheet.result.paper (state_at any_panel own.machine.page) =
     c.spot_of-spot.ensures ∙ ap (λ (page : Page). spot_of c.sheet_of-sheet.result.paper (state_at any_panel page)) c.page-2.ensures in
-    item_cuts selection sentence own.machine own.progress own.is_started (g.W.Outlet.state c.args.outlet.now) (g.W.Outlet.state c.step_on.new.outlet) c.args.kept.now.items c.push_start_if_due.new.text.items c.push_failed.new.text.items c.in_ok-push_start_if_due.ensures c.sheet_of-sheet.result sheet_is c.spot_of-spot.result spot_is (at c.args.place (view c.args.item.now)) c.step_on.new.machine c.step_on.new.kept.items c.step_on.new.progress
-    c.in_ok-found.found c.in-Some.finding c.in-Some.is (drawn_from selection sentence c.step_on.new.machine c.step_on.new.progress true) c.in_ok-found.ensures.steps c.from_residual-in_err-push_failed-in-Some.result c.from_residual-in_err-push_failed-in-Some.ensures.0
+    item_cuts selection sentence own.machine own.progress own.is_started (g.W.Outlet.state c.args.outlet.now)
+    (g.W.Outlet.state c.step_on.new.outlet) c.args.kept.now.items c.push_start_if_due.new.text.items c.push_failed.new.text.items
+    c.in_ok-push_start_if_due.ensures c.sheet_of-sheet.result sheet_is c.spot_of-spot.result spot_is
+    (at c.args.place (view c.args.item.now)) c.step_on.new.machine c.step_on.new.kept.items c.step_on.new.progress
+    c.in_ok-found.found c.in-Some.finding c.in-Some.is (drawn_from selection sentence c.step_on.new.machine c.step_on.new.progress true)
+    c.in_ok-found.ensures.steps c.from_residual-in_err-push_failed-in-Some.result c.from_residual-in_err-push_failed-in-Some.ensures.0
 
 pub returns-in-None-clause-rendered : goal.returns-in-None-clause-rendered
 returns-in-None-clause-rendered g c =
@@ -69,7 +81,10 @@ returns-in-None-clause-rendered g c =
     ∙ ap (λ (page : Page). sheet_of selection sentence own.machine.printer (state_at any_panel page)) c.page.ensures) in
     let spot_is : c.spot_of-spot.result ≡ spot_of c.sheet_of-sheet.result.paper (state_at any_panel own.machine.page) =
     c.spot_of-spot.ensures ∙ ap (λ (page : Page). spot_of c.sheet_of-sheet.result.paper (state_at any_panel page)) c.page-2.ensures in
-    item_goes_on selection sentence own.machine own.progress own.is_started (g.W.Outlet.state c.args.outlet.now) (g.W.Outlet.state c.step_on.new.outlet) c.args.kept.now.items c.push_start_if_due.new.text.items c.step_on.new.kept.items c.in_ok-push_start_if_due.ensures c.sheet_of-sheet.result sheet_is c.spot_of-spot.result spot_is (at c.args.place (view c.args.item.now)) c.step_on.new.machine c.step_on.new.kept.items c.step_on.new.progress
+    item_goes_on selection sentence own.machine own.progress own.is_started (g.W.Outlet.state c.args.outlet.now)
+    (g.W.Outlet.state c.step_on.new.outlet) c.args.kept.now.items c.push_start_if_due.new.text.items c.step_on.new.kept.items
+    c.in_ok-push_start_if_due.ensures c.sheet_of-sheet.result sheet_is c.spot_of-spot.result spot_is
+    (at c.args.place (view c.args.item.now)) c.step_on.new.machine c.step_on.new.kept.items c.step_on.new.progress
     c.in_ok-found.found c.in-None.is refl c.in_ok-found.ensures.steps c.if-is_behind.ensures
 
 pub returns-in_ok-push_failed-in-Some-clause-rendered : goal.returns-in_ok-push_failed-in-Some-clause-rendered
@@ -83,5 +98,9 @@ returns-in_ok-push_failed-in-Some-clause-rendered g c =
     ∙ ap (λ (page : Page). sheet_of selection sentence own.machine.printer (state_at any_panel page)) c.page.ensures) in
     let spot_is : c.spot_of-spot.result ≡ spot_of c.sheet_of-sheet.result.paper (state_at any_panel own.machine.page) =
     c.spot_of-spot.ensures ∙ ap (λ (page : Page). spot_of c.sheet_of-sheet.result.paper (state_at any_panel page)) c.page-2.ensures in
-    item_fails selection sentence own.machine own.progress own.is_started (g.W.Outlet.state c.args.outlet.now) (g.W.Outlet.state c.step_on.new.outlet) c.args.kept.now.items c.push_start_if_due.new.text.items c.push_failed.new.text.items c.in_ok-push_start_if_due.ensures c.sheet_of-sheet.result sheet_is c.spot_of-spot.result spot_is (at c.args.place (view c.args.item.now)) c.step_on.new.machine c.step_on.new.kept.items c.step_on.new.progress
-    c.in_ok-found.found c.in-Some.finding c.in-Some.is c.in_ok-push_failed-in-Some.ensures c.in_ok-found.ensures.steps c.if-is_behind.ensures c.fails_at.result c.fails_at.ensures
+    item_fails selection sentence own.machine own.progress own.is_started (g.W.Outlet.state c.args.outlet.now)
+    (g.W.Outlet.state c.step_on.new.outlet) c.args.kept.now.items c.push_start_if_due.new.text.items c.push_failed.new.text.items
+    c.in_ok-push_start_if_due.ensures c.sheet_of-sheet.result sheet_is c.spot_of-spot.result spot_is
+    (at c.args.place (view c.args.item.now)) c.step_on.new.machine c.step_on.new.kept.items c.step_on.new.progress
+    c.in_ok-found.found c.in-Some.finding c.in-Some.is c.in_ok-push_failed-in-Some.ensures c.in_ok-found.ensures.steps
+    c.if-is_behind.ensures c.fails_at.result c.fails_at.ensures

@@ -11,7 +11,8 @@ invariant_of-self c =
     let next = next_of c.self.inside.rest.now c.self.invariant.0 (view c.in-Some.item) c.in-Some.end c.in-Some.mode c.in-Some.ensures in
     let left = take_rest c.self.inside.rest.now c.in-Some.end in (
       subst (IsSpelled c.in-Some.mode) (sym left) next.left,
-      lies_on c.self.inside.at c.self.inside.rest.now c.self.inside.commands.now c.self.invariant.1 c.in-Some.end (end_within c.self.inside.rest.now 0 c.in-Some.end (view c.in-Some.item) c.in-Some.ensures) _ left,
+      lies_on c.self.inside.at c.self.inside.rest.now c.self.inside.commands.now c.self.invariant.1 c.in-Some.end
+          (end_within c.self.inside.rest.now 0 c.in-Some.end (view c.in-Some.item) c.in-Some.ensures) _ left,
     )
 
 pub returns-in-None : goal.returns-in-None
@@ -21,4 +22,5 @@ returns-in-None c =
 pub returns-in-Some : goal.returns-in-Some
 returns-in-Some c =
     let next = next_of c.self.inside.rest.now c.self.invariant.0 (view c.in-Some.item) c.in-Some.end c.in-Some.mode c.in-Some.ensures in
-    sym c.self.view_is ∙ next.items ∙ ap (λ bytes. view c.in-Some.item ∷ items_in c.in-Some.mode bytes) (sym (take_rest c.self.inside.rest.now c.in-Some.end))
+    sym c.self.view_is ∙ next.items
+    ∙ ap (λ bytes. view c.in-Some.item ∷ items_in c.in-Some.mode bytes) (sym (take_rest c.self.inside.rest.now c.in-Some.end))

@@ -18,15 +18,22 @@ module _ (c : goal.After-result-2-1) where
 
   next : IsNext Pcl c.self.inside.rest.now (Parameterized c.first-item.result.command (amount c.first-item.result.number)) len Pcl
   next =
-      next_of c.self.inside.rest.now (subst (λ mode. IsSpelled mode c.self.inside.rest.now) c.in-Pcl-len1-up.is-0 c.self.invariant.0) _ len Pcl
-      (stands_first c.self.inside.at c.self.inside.rest.now c.self.inside.commands.now c.self.invariant.1 c.first-item.result stored c.if-first-self.false len (omega (arith, stored.ends)) c.if-self-len.false)
+      next_of c.self.inside.rest.now
+      (subst (λ mode. IsSpelled mode c.self.inside.rest.now) c.in-Pcl-len1-up.is-0 c.self.invariant.0) _ len Pcl
+      (stands_first c.self.inside.at c.self.inside.rest.now c.self.inside.commands.now c.self.invariant.1 c.first-item.result stored
+      c.if-first-self.false len (omega (arith, stored.ends)) c.if-self-len.false)
 
 pub invariant_of-self : goal.invariant_of-self
 invariant_of-self c =
     let left = take_rest c.self.inside.rest.now (len c) in
-    let others = subst (AreStored c.self.invariant.1.pool) (sym (take_rest c.self.inside.commands.now 1)) (All-drop (IsStored c.self.invariant.1.pool) 1 c.self.inside.commands.now c.self.invariant.1.stored) in (
-      subst (IsSpelled c.self.inside.mode) (sym left) (subst (λ mode. IsSpelled mode (drop (len c) c.self.inside.rest.now)) (sym c.in-Pcl-len1-up.is-0) (next c).left),
-      lies_on c.self.inside.at c.self.inside.rest.now _ (lies_with c.self.inside.at c.self.inside.rest.now c.self.inside.commands.now c.self.invariant.1 _ others) (len c) c.if-self-len.false _ left,
+    let others =
+    subst (AreStored c.self.invariant.1.pool) (sym (take_rest c.self.inside.commands.now 1))
+    (All-drop (IsStored c.self.invariant.1.pool) 1 c.self.inside.commands.now c.self.invariant.1.stored) in (
+      subst (IsSpelled c.self.inside.mode) (sym left)
+          (subst (λ mode. IsSpelled mode (drop (len c) c.self.inside.rest.now)) (sym c.in-Pcl-len1-up.is-0) (next c).left),
+      lies_on c.self.inside.at c.self.inside.rest.now _
+          (lies_with c.self.inside.at c.self.inside.rest.now c.self.inside.commands.now c.self.invariant.1 _ others)
+          (len c) c.if-self-len.false _ left,
     )
 
 pub returns-clause-some : goal.returns-clause-some

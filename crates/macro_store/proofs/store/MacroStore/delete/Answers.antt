@@ -18,8 +18,10 @@ invariant_of-self g c =
 
 pub returns-clause-deleted : goal.returns-clause-deleted
 returns-clause-deleted g c =
-    deleted_store c.self.inside.limit c.self.inside.pool.items c.take_out.new.pool.items c.self.inside.spans.entries c.take_out.new.spans.entries c.self.inside.definition
-    (not_defined c.self.inside.pool.items c.self.inside.definition (ap (λ s. s.definition) c.self.view_is ∙ c.requires)) c.args.id c.take_out.ensures.bodies c.self.view_is
+    deleted_store c.self.inside.limit c.self.inside.pool.items c.take_out.new.pool.items c.self.inside.spans.entries
+    c.take_out.new.spans.entries c.self.inside.definition
+    (not_defined c.self.inside.pool.items c.self.inside.definition (ap (λ s. s.definition) c.self.view_is ∙ c.requires)) c.args.id
+    c.take_out.ensures.bodies c.self.view_is
 
 pub returns-clause-gone : goal.returns-clause-gone
 returns-clause-gone g c = body_gone c.take_out.new.pool.items c.args.id c.take_out.new.spans.entries c.take_out.ensures.gone

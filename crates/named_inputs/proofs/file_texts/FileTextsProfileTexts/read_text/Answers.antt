@@ -6,4 +6,5 @@ use Rattle.named_inputs.proofs.file_texts.FileTextsProfileTexts.read_text.Goals 
 pub returns-in-Ok-clause-reads : goal.returns-in-Ok-clause-reads
 returns-in-Ok-clause-reads g c =
     let read = c.read_named-result in
-    subst (λ pieces. IfOk read.result (λ text. IsTextBy pieces text.items)) (sym (ap (λ (s : FileState). s.reads) c.self.view_is)) read.ensures.reads
+    subst (λ pieces. IfOk read.result (λ text. IsTextBy pieces text.items))
+    (sym (ap (λ (s : FileState). s.reads) c.self.view_is)) read.ensures.reads

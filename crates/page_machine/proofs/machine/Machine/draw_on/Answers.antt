@@ -14,6 +14,9 @@ returns-clause-drawn g c = λ yes draws.
       mode = c.self.inside.mode;
       stopped = c.self.inside.stopped;
     } in
-    subst (λ machine. DrawsPair c.args.bounds.now c.args.motion (c.args.to.x.units, c.args.to.y.units) machine (record fields { page = c.draw_on.new.page })) c.self.view_is
+    subst
+    (λ machine.
+    DrawsPair c.args.bounds.now c.args.motion (c.args.to.x.units, c.args.to.y.units) machine (record fields { page = c.draw_on.new.page }))
+    c.self.view_is
     (pair_draws c.args.bounds.now fields c.args.motion (c.args.to.x.units, c.args.to.y.units) c.draw_on.new.page
     (subst (DrawsIn c.args.bounds.now) (sym c.self.view_is) draws) (c.draw_on.ensures.drawn yes))

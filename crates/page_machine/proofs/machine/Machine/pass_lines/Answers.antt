@@ -15,7 +15,9 @@ returns g c = λ look from bytes none h.
       mode = c.self.inside.mode;
       stopped = c.self.inside.stopped;
     } in
-    let goes : GoAs fields.printer fields.page look from bytes c.args.lines.now = subst (λ m. GoAs m.printer m.page look from bytes c.args.lines.now) (sym c.self.view_is) h in
+    let goes : GoAs fields.printer fields.page look from bytes c.args.lines.now =
+    subst (λ m. GoAs m.printer m.page look from bytes c.args.lines.now) (sym c.self.view_is) h in
     let closed : fields.macros.definition ≡ None = subst (λ m. m.macros.definition ≡ None) (sym c.self.view_is) none in
     subst (λ m. PrintsLines look from bytes m (record fields { page = c.pass_lines.new.page })) c.self.view_is
-    (subst (λ p. PrintsLines look from bytes fields (record fields { page = p })) (sym (c.pass_lines.ensures fields.printer look from bytes goes)) (prints_lines bytes look from fields closed goes.go))
+    (subst (λ p. PrintsLines look from bytes fields (record fields { page = p }))
+    (sym (c.pass_lines.ensures fields.printer look from bytes goes)) (prints_lines bytes look from fields closed goes.go))

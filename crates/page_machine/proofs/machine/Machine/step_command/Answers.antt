@@ -18,7 +18,9 @@ use Rattle.page_machine.proofs.machine.Machine.step_command.Goals as goal
 pub store_command-requires-clause-admitted : goal.store_command-requires-clause-admitted
 store_command-requires-clause-admitted g c =
     subst (λ machine. follows machine.mode (Parameterized c.args.command (amount c.args.n)) ≡ Some Pcl) c.self.view_is
-    (command_leaves c.self.inside.mode c.args.command (amount c.args.n) (subst (λ machine. machine.stopped ≡ false → IsSome (follows machine.mode (Parameterized c.args.command (amount c.args.n)))) (sym c.self.view_is) c.requires c.if-self.false))
+    (command_leaves c.self.inside.mode c.args.command (amount c.args.n)
+    (subst (λ machine. machine.stopped ≡ false → IsSome (follows machine.mode (Parameterized c.args.command (amount c.args.n))))
+    (sym c.self.view_is) c.requires c.if-self.false))
 
 pub returns-then-is_open : goal.returns-then-is_open
 returns-then-is_open g c = c.store_command.ensures c.args.sink.now
@@ -35,12 +37,18 @@ returns-in-Ended-Ok g c =
       stopped = c.self.inside.stopped;
     } in
     let after : MachineState = record fields { page = c.run_command.new.page; mode = Pcl } in
-    let leaves : unwrap_or (follows fields.mode item) fields.mode ≡ Pcl = ap (λ o. unwrap_or o fields.mode) (command_leaves c.self.inside.mode c.args.command (amount c.args.n) (subst (λ machine. machine.stopped ≡ false → IsSome (follows machine.mode (Parameterized c.args.command (amount c.args.n)))) (sym c.self.view_is) c.requires c.if-self.false)) in
+    let leaves : unwrap_or (follows fields.mode item) fields.mode ≡ Pcl =
+    ap (λ o. unwrap_or o fields.mode)
+    (command_leaves c.self.inside.mode c.args.command (amount c.args.n)
+    (subst (λ machine. machine.stopped ≡ false → IsSome (follows machine.mode (Parameterized c.args.command (amount c.args.n))))
+    (sym c.self.view_is) c.requires c.if-self.false)) in
     let open_is : is_defining fields.macros ≡ false = sym c.is_open.ensures ∙ c.if-is_open.false in
-    CarriesOn-done g.S.MarkSink.takes g.S.MarkSink.refuses _ (λ machine. item_of machine item) false _ _ fields c.args.self.now c.self.view_is c.if-self.false c.run_command.new.page fields.macros Pcl leaves after _ _
+    CarriesOn-done g.S.MarkSink.takes g.S.MarkSink.refuses _ (λ machine. item_of machine item) false _ _ fields c.args.self.now
+    c.self.view_is c.if-self.false c.run_command.new.page fields.macros Pcl leaves after _ _
     (ap (λ stopped. record after { stopped = stopped }) c.if-self.false)
     (Carries-is _ _ _ _ _ _ (alone item fields) _ _ _ (item-is_alone item fields open_is c.in-Ended-Ok.ensures.0)
-    (Carries-done _ _ _ _ _ _ (alone item fields) _ _ _ (rw c.in-Ended-Ok.field-0-is at c.in-Ended-Ok.ensures.1 (λ panel. in_job (context_of fields panel))) refl))
+    (Carries-done _ _ _ _ _ _ (alone item fields) _ _ _
+        (rw c.in-Ended-Ok.field-0-is at c.in-Ended-Ok.ensures.1 (λ panel. in_job (context_of fields panel))) refl))
 
 pub returns-in-Ended-Err : goal.returns-in-Ended-Err
 returns-in-Ended-Err g c =
@@ -56,18 +64,23 @@ returns-in-Ended-Err g c =
     let open_is : is_defining fields.macros ≡ false = sym c.is_open.ensures ∙ c.if-is_open.false in
     let after : MachineState = record fields { page = c.run_command.new.page; stopped = true } in
     rw c.stop_of.ensures
-    (CarriesOn-stopped g.S.MarkSink.takes g.S.MarkSink.refuses _ (λ machine. item_of machine item) false _ _ fields c.args.self.now c.self.view_is c.if-self.false c.run_command.new.page fields.macros _ refl after _ refl
+    (CarriesOn-stopped g.S.MarkSink.takes g.S.MarkSink.refuses _ (λ machine. item_of machine item) false _ _ fields c.args.self.now
+    c.self.view_is c.if-self.false c.run_command.new.page fields.macros _ refl after _ refl
     (Carries-is _ _ _ _ _ _ (alone item fields) _ _ _ (item-is_alone item fields open_is c.in-Ended-Err.ensures.0)
-    (Carries-halted _ _ _ _ _ _ (alone item fields) _ _ (rw c.in-Ended-Err.field-0-is at c.in-Ended-Err.ensures.1 (λ panel. in_job (context_of fields panel))))))
+    (Carries-halted _ _ _ _ _ _ (alone item fields) _ _
+        (rw c.in-Ended-Err.field-0-is at c.in-Ended-Err.ensures.1 (λ panel. in_job (context_of fields panel))))))
 
 pub step_page_item-requires-clause-admitted : goal.step_page_item-requires-clause-admitted
 step_page_item-requires-clause-admitted g c =
     ap (follows c.self.inside.mode) (sym c.in-Left.ensures.0)
-    ∙ command_leaves c.self.inside.mode c.args.command (amount c.args.n) (subst (λ machine. machine.stopped ≡ false → IsSome (follows machine.mode (Parameterized c.args.command (amount c.args.n)))) (sym c.self.view_is) c.requires c.if-self.false)
+    ∙ command_leaves c.self.inside.mode c.args.command (amount c.args.n)
+    (subst (λ machine. machine.stopped ≡ false → IsSome (follows machine.mode (Parameterized c.args.command (amount c.args.n))))
+    (sym c.self.view_is) c.requires c.if-self.false)
 
 pub step_page_item-requires-clause-begun : goal.step_page_item-requires-clause-begun
 step_page_item-requires-clause-begun g c =
-    subst (λ entry. (panel : Panel) → begun_by entry (state_at panel c.run_command.new.page) ≡ state_at panel c.run_command.new.page) c.in-Left.ensures.0
+    subst (λ entry. (panel : Panel) → begun_by entry (state_at panel c.run_command.new.page) ≡ state_at panel c.run_command.new.page)
+    c.in-Left.ensures.0
     (begins_again (Parameterized c.args.command (amount c.args.n)) c.self.inside.page c.run_command.new.page c.in-Left.ensures.2)
 
 pub returns-in-Left : goal.returns-in-Left
@@ -82,8 +95,16 @@ returns-in-Left g c =
       stopped = c.self.inside.stopped;
     } in
     let open_is : is_defining fields.macros ≡ false = sym c.is_open.ensures ∙ c.if-is_open.false in
-    subst (λ machine. CarriesOn {F = g.row.S-Fault.Denot} g.S.MarkSink.takes g.S.MarkSink.refuses (item_of machine item) false c.args.sink.now c.step_page_item.new.sink machine c.step_page_item.new.self c.step_page_item.result) c.self.view_is
-    (CarriesOn-begun g.S.MarkSink.takes g.S.MarkSink.refuses g.row.S-Fault.Denot c.args.sink.now c.step_page_item.new.sink item fields c.step_page_item.new.self c.run_command.new.page c.if-self.false c.step_page_item.result
+    subst
+    (λ machine. CarriesOn {F = g.row.S-Fault.Denot} g.S.MarkSink.takes g.S.MarkSink.refuses
+    (item_of machine item) false c.args.sink.now c.step_page_item.new.sink machine c.step_page_item.new.self c.step_page_item.result)
+    c.self.view_is
+    (CarriesOn-begun g.S.MarkSink.takes g.S.MarkSink.refuses g.row.S-Fault.Denot c.args.sink.now c.step_page_item.new.sink item fields
+    c.step_page_item.new.self c.run_command.new.page c.if-self.false c.step_page_item.result
     (item-has_begun item fields.page c.run_command.new.page c.in-Left.ensures.2 fields.printer fields.defaults fields.macros open_is)
-    (subst (λ entry. CarriesOn {F = g.row.S-Fault.Denot} g.S.MarkSink.takes g.S.MarkSink.refuses (item_of (record fields { page = c.run_command.new.page }) entry) false c.args.sink.now c.step_page_item.new.sink (record fields { page = c.run_command.new.page }) c.step_page_item.new.self c.step_page_item.result) (sym c.in-Left.ensures.0)
+    (subst
+        (λ entry. CarriesOn {F = g.row.S-Fault.Denot} g.S.MarkSink.takes g.S.MarkSink.refuses
+        (item_of (record fields { page = c.run_command.new.page }) entry) false c.args.sink.now c.step_page_item.new.sink
+        (record fields { page = c.run_command.new.page }) c.step_page_item.new.self c.step_page_item.result)
+        (sym c.in-Left.ensures.0)
     (rw c.in-Left.ensures.1 at c.step_page_item.ensures)))

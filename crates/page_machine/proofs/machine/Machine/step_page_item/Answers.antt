@@ -12,11 +12,13 @@ use Rattle.page_machine.proofs.machine.Machine.step_page_item.Goals as goal
 
 pub run_page_item-requires-clause-begun : goal.run_page_item-requires-clause-begun
 run_page_item-requires-clause-begun g c =
-    subst (λ machine. (panel : Panel) → begun_by (page_view c.args.item) (state_at panel machine.page) ≡ state_at panel machine.page) (sym c.self.view_is) c.requires.begun
+    subst (λ machine. (panel : Panel) → begun_by (page_view c.args.item) (state_at panel machine.page) ≡ state_at panel machine.page)
+    (sym c.self.view_is) c.requires.begun
 
 pub invariant_of-self : goal.invariant_of-self
 invariant_of-self g c = λ running.
-    c.in-Ok.ensures.stands c.self.inside.mode c.args.mode (ap (λ machine. follows machine.mode (page_view c.args.item)) c.self.view_is ∙ c.requires.admitted)
+    c.in-Ok.ensures.stands c.self.inside.mode c.args.mode
+    (ap (λ machine. follows machine.mode (page_view c.args.item)) c.self.view_is ∙ c.requires.admitted)
 
 pub returns-in-Ok : goal.returns-in-Ok
 returns-in-Ok g c =
@@ -30,10 +32,14 @@ returns-in-Ok g c =
     } in
     let item : Entry = page_view c.args.item in
     let after : MachineState = record fields { page = c.run_page_item.new.page; macros = c.run_page_item.new.macros; mode = c.args.mode } in
-    let leaves : unwrap_or (follows fields.mode item) fields.mode ≡ c.args.mode = ap (λ o. unwrap_or o fields.mode) (ap (λ machine. follows machine.mode item) c.self.view_is ∙ c.requires.admitted) in
-    CarriesOn-done g.S.MarkSink.takes g.S.MarkSink.refuses _ (λ machine. item_of machine item) false _ _ fields c.args.self.now c.self.view_is (ap (λ machine. machine.stopped) c.self.view_is ∙ c.requires.running) c.run_page_item.new.page c.run_page_item.new.macros c.args.mode leaves after _ _
+    let leaves : unwrap_or (follows fields.mode item) fields.mode ≡ c.args.mode =
+    ap (λ o. unwrap_or o fields.mode) (ap (λ machine. follows machine.mode item) c.self.view_is ∙ c.requires.admitted) in
+    CarriesOn-done g.S.MarkSink.takes g.S.MarkSink.refuses _ (λ machine. item_of machine item) false _ _ fields c.args.self.now
+    c.self.view_is (ap (λ machine. machine.stopped) c.self.view_is ∙ c.requires.running) c.run_page_item.new.page c.run_page_item.new.macros
+    c.args.mode leaves after _ _
     (ap (λ stopped. record after { stopped = stopped }) (ap (λ machine. machine.stopped) c.self.view_is ∙ c.requires.running))
-    (Carries-is _ _ _ _ _ _ (item_of (fields_of fields.printer fields.defaults fields.page fields.macros) item) _ (item_of fields item) _ ((λ panel. refl), refl, refl) c.in-Ok.ensures.carries)
+    (Carries-is _ _ _ _ _ _ (item_of (fields_of fields.printer fields.defaults fields.page fields.macros) item) _ (item_of fields item) _
+    ((λ panel. refl), refl, refl) c.in-Ok.ensures.carries)
 
 pub returns-in-Err : goal.returns-in-Err
 returns-in-Err g c =
@@ -47,5 +53,8 @@ returns-in-Err g c =
     } in
     let item : Entry = page_view c.args.item in
     let after : MachineState = record fields { page = c.run_page_item.new.page; macros = c.run_page_item.new.macros; stopped = true } in
-    CarriesOn-stopped g.S.MarkSink.takes g.S.MarkSink.refuses _ (λ machine. item_of machine item) false _ _ fields c.args.self.now c.self.view_is (ap (λ machine. machine.stopped) c.self.view_is ∙ c.requires.running) c.run_page_item.new.page c.run_page_item.new.macros _ refl after _ refl
-    (Carries-is _ _ _ _ _ _ (item_of (fields_of fields.printer fields.defaults fields.page fields.macros) item) _ (item_of fields item) _ ((λ panel. refl), refl, refl) c.in-Err.ensures.carries)
+    CarriesOn-stopped g.S.MarkSink.takes g.S.MarkSink.refuses _ (λ machine. item_of machine item) false _ _ fields c.args.self.now
+    c.self.view_is (ap (λ machine. machine.stopped) c.self.view_is ∙ c.requires.running) c.run_page_item.new.page
+    c.run_page_item.new.macros _ refl after _ refl
+    (Carries-is _ _ _ _ _ _ (item_of (fields_of fields.printer fields.defaults fields.page fields.macros) item) _ (item_of fields item) _
+    ((λ panel. refl), refl, refl) c.in-Err.ensures.carries)

@@ -15,7 +15,8 @@ none_follows : (a : ℕ) (bytes : List ℕ) → None ≡ slice_get bytes 0 → O
 none_follows a [] e = refl
 none_follows a (b ∷ bytes) e = absurd cc
 
-follows : (a b : ℕ) (bytes : List ℕ) (kind : Kind) → Some b ≡ slice_get bytes 0 → kind ≡ kind_of b → second_letter kind a b ≡ after_letter a bytes
+follows : (a b : ℕ) (bytes : List ℕ) (kind : Kind) → Some b ≡ slice_get bytes 0 → kind ≡ kind_of b →
+    second_letter kind a b ≡ after_letter a bytes
 follows a b [] kind e k = absurd cc
 follows a b (first ∷ bytes) kind e k =
     let same : b ≡ first = cc in
@@ -37,7 +38,8 @@ no_letter _ a b e = refl
 
 -- the command of two letters, or none
 named : (a b : ℕ) (kind : Kind) (upper_a upper_b : ℕ) (found : Option Mnemonic) →
-    false ≡ not (sameb the_type kind kinds.Letter) → upper_a ≡ capital a → upper_b ≡ capital b → found ≡ mnemonic_at upper_a upper_b → in_command found upper_a upper_b ≡ second_letter kind a b
+    false ≡ not (sameb the_type kind kinds.Letter) → upper_a ≡ capital a → upper_b ≡ capital b → found ≡ mnemonic_at upper_a upper_b →
+    in_command found upper_a upper_b ≡ second_letter kind a b
 named a b kind upper_a upper_b found letter p q e =
     ap (λ o. in_command o upper_a upper_b) e
     ∙ ap (λ x. in_command (mnemonic_at x upper_b) x upper_b) p
@@ -54,10 +56,12 @@ returns-then-ne-clause-first c = λ all.
 
 pub returns-in-Some-of-clause-first : goal.returns-in-Some-of-clause-first
 returns-in-Some-of-clause-first c = λ all.
-    named c.args.first c.in-Some.second.now c.of.result c.capital-a.result c.capital-b.result (Some c.in-Some-of.mnemonic) c.if-ne.ensures c.capital-a.ensures c.capital-b.ensures c.in-Some-of.ensures
+    named c.args.first c.in-Some.second.now c.of.result c.capital-a.result c.capital-b.result
+    (Some c.in-Some-of.mnemonic) c.if-ne.ensures c.capital-a.ensures c.capital-b.ensures c.in-Some-of.ensures
     ∙ follows c.args.first c.in-Some.second.now c.args.bytes.now c.of.result c.in-Some.ensures.value c.of.ensures
 
 pub returns-in-None-clause-first : goal.returns-in-None-clause-first
 returns-in-None-clause-first c = λ all.
-    named c.args.first c.in-Some.second.now c.of.result c.capital-a.result c.capital-b.result None c.if-ne.ensures c.capital-a.ensures c.capital-b.ensures c.in-None.ensures
+    named c.args.first c.in-Some.second.now c.of.result c.capital-a.result c.capital-b.result None c.if-ne.ensures c.capital-a.ensures
+    c.capital-b.ensures c.in-None.ensures
     ∙ follows c.args.first c.in-Some.second.now c.args.bytes.now c.of.result c.in-Some.ensures.value c.of.ensures

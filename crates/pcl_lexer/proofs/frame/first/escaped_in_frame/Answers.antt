@@ -26,10 +26,13 @@ goes_on (b ∷ bytes) one e =
     ap (λ l. exit_or (language_in l) l) all
     ∙ sym (cond-false (b == 69) _ _ (ap (λ x. x == 69) e) ∙ cond-true (b == 37) _ _ (ap (λ x. x == 37) e))
 
-other : (bytes : List ℕ) → 1 ≤ length bytes → (get_or bytes 0 0 ≡ 69 → ⊥) → (get_or bytes 0 0 ≡ 37 → ⊥) → Faulty (NotInProfile (names.Byte (get_or bytes 0 0))) ≡ after_frame_escape bytes
+other : (bytes : List ℕ) → 1 ≤ length bytes → (get_or bytes 0 0 ≡ 69 → ⊥) → (get_or bytes 0 0 ≡ 37 → ⊥) →
+    Faulty (NotInProfile (names.Byte (get_or bytes 0 0))) ≡ after_frame_escape bytes
 other [] one no_reset no_language = absurd (omega (arith, one))
 other (b ∷ bytes) one no_reset no_language =
-    sym (cond-false (b == 69) _ _ (by_test (b == 69) (λ e. no_reset (eqb-true b 69 e))) ∙ cond-false (b == 37) _ _ (by_test (b == 37) (λ e. no_language (eqb-true b 37 e))))
+    sym
+    (cond-false (b == 69) _ _ (by_test (b == 69) (λ e. no_reset (eqb-true b 69 e)))
+    ∙ cond-false (b == 37) _ _ (by_test (b == 37) (λ e. no_language (eqb-true b 37 e))))
 
 pub returns-in-69-clause-first : goal.returns-in-69-clause-first
 returns-in-69-clause-first c = λ all. resets c.args.bytes.now c.in-69.len_at_least (omega arith)
@@ -38,7 +41,8 @@ pub returns-in-37-clause-first : goal.returns-in-37-clause-first
 returns-in-37-clause-first c = λ all.
     let bytes : List ℕ = c.args.bytes.now in
     let rest : List ℕ = take (length bytes - 1) (drop 1 bytes) in
-    sym (cond-true (begins_with exit_field rest) _ (language_in rest) (sym c.if-begins_exit.ensures)) ∙ goes_on bytes c.in-37.len_at_least (omega arith)
+    sym (cond-true (begins_with exit_field rest) _ (language_in rest) (sym c.if-begins_exit.ensures))
+    ∙ goes_on bytes c.in-37.len_at_least (omega arith)
 
 pub returns-in-37-2-clause-first : goal.returns-in-37-2-clause-first
 returns-in-37-2-clause-first c = λ all.

@@ -11,7 +11,8 @@ returns-in-59-clause-frame c =
     let inside : len < length bytes = omega (arith, c.in-59.len_at_least, ap length (rest_is bytes len), length-drop len bytes) in
     let first : (get_or (rest_from bytes len) 0 0 ≡ 59) ⊎ (get_or (rest_from bytes len) 0 0 ≡ 80) = search rules in
     let same : len + 0 ≡ len = omega arith in
-    let there : get_or (rest_from bytes len) 0 0 ≡ get_or bytes len 0 = ap (λ (l : List ℕ). get_or l 0 0) (rest_is bytes len) ∙ get_or-drop len bytes 0 0 ∙ ap (λ k. get_or bytes k 0) same in
+    let there : get_or (rest_from bytes len) 0 0 ≡ get_or bytes len 0 =
+    ap (λ (l : List ℕ). get_or l 0 0) (rest_is bytes len) ∙ get_or-drop len bytes 0 0 ∙ ap (λ k. get_or bytes k 0) same in
     bare_stands c.in_ok-lead.lead c.args.place bytes c.in_ok-lead.ensures inside (subst (λ (b : ℕ). (b ≡ 59) ⊎ (b ≡ 80)) there first)
 
 pub returns-in-59-clause-behind : goal.returns-in-59-clause-behind
@@ -21,5 +22,6 @@ returns-in-59-clause-behind c =
     let inside : len < length bytes = omega (arith, c.in-59.len_at_least, ap length (rest_is bytes len), length-drop len bytes) in
     let first : (get_or (rest_from bytes len) 0 0 ≡ 59) ⊎ (get_or (rest_from bytes len) 0 0 ≡ 80) = search rules in
     let same : len + 0 ≡ len = omega arith in
-    let there : get_or (rest_from bytes len) 0 0 ≡ get_or bytes len 0 = ap (λ (l : List ℕ). get_or l 0 0) (rest_is bytes len) ∙ get_or-drop len bytes 0 0 ∙ ap (λ k. get_or bytes k 0) same in
+    let there : get_or (rest_from bytes len) 0 0 ≡ get_or bytes len 0 =
+    ap (λ (l : List ℕ). get_or l 0 0) (rest_is bytes len) ∙ get_or-drop len bytes 0 0 ∙ ap (λ k. get_or bytes k 0) same in
     bare_behind c.in_ok-lead.lead c.args.place bytes c.in_ok-lead.ensures inside (subst (λ (b : ℕ). (b ≡ 59) ⊎ (b ≡ 80)) there first)

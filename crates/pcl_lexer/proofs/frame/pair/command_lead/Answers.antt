@@ -7,7 +7,8 @@ returns-in_ok-leading_motion-in-59 c =
     let bytes = c.args.bytes.now in
     let is_semicolon : get_or bytes 0 0 ≡ 59 = search rules in
     let is_newline : get_or bytes 1 0 ≡ 10 = search rules in
-    line_leads c.in_ok-leading_motion-in-59.field-0 c.args.place bytes c.in-59.len_at_least is_semicolon is_newline c.in_ok-leading_motion-in-59.ensures
+    line_leads c.in_ok-leading_motion-in-59.field-0 c.args.place bytes c.in-59.len_at_least is_semicolon is_newline
+    c.in_ok-leading_motion-in-59.ensures
 
 pub returns-in_ok-leading_motion-in-59-2 : goal.returns-in_ok-leading_motion-in-59-2
 returns-in_ok-leading_motion-in-59-2 c =

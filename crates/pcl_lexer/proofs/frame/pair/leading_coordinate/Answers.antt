@@ -14,4 +14,5 @@ returns c =
     let some : 0 < found.len = omega (arith, c.if-digits-eq0.false) in
     let short : found.len < 8 = search rules in
     let value : coordinate_by c.leading_sign-sign.result.0 found.number true ≡ Some c.in_ok-coordinate.field-0.units = search rules in
-    coordinate_in_front 8 c.args.bytes.now _ _ found (get_or (take 8 rest) found.len 0) c.in_ok-coordinate.field-0 (omega arith) sign.sign sign.len long digits.len digits.number some short (search rules) c.if-last-eq46.false value
+    coordinate_in_front 8 c.args.bytes.now _ _ found (get_or (take 8 rest) found.len 0) c.in_ok-coordinate.field-0
+    (omega arith) sign.sign sign.len long digits.len digits.number some short (search rules) c.if-last-eq46.false value

@@ -21,11 +21,16 @@ returns-in-Some g c =
     let result : ℕ → Result Lexed LexFault = λ place. Ok (answers.Item place item) in
     let new : LexerState = standing window (l.at + 1) l.dropped (context_view l.context) l.ended held in
     let place : l.dropped + l.at ≡ c.place-place.result = ap (λ (s : LexerState). s.place) c.self.view_is ∙ sym c.place-place.ensures in
-    let first : StandsFirst item 1 (drop l.at window) = subst (λ (bytes : List ℕ). StandsFirst item 1 bytes) (c.unread.ensures ∙ sym (ap (λ (s : LexerState). s.rest) c.self.view_is)) c.in-Some.ensures.first in
+    let first : StandsFirst item 1 (drop l.at window) =
+    subst (λ (bytes : List ℕ). StandsFirst item 1 bytes)
+    (c.unread.ensures ∙ sym (ap (λ (s : LexerState). s.rest) c.self.view_is)) c.in-Some.ensures.first in
     let exact : Answers c.args.self.now (result c.place-place.result) new =
     subst (λ (n : ℕ). Answers c.args.self.now (result n) new) place
     (subst (λ (old : LexerState). Answers old (result (l.dropped + l.at)) new) c.self.view_is
-    (subst (λ (context : Context). Answers (standing window l.at l.dropped context l.ended held) (result (l.dropped + l.at)) (standing window (l.at + 1) l.dropped context l.ended held)) (sym (ap context_view c.in-Pcl.is))
+    (subst
+        (λ (context : Context). Answers (standing window l.at l.dropped context l.ended held) (result (l.dropped + l.at))
+        (standing window (l.at + 1) l.dropped context l.ended held))
+        (sym (ap context_view c.in-Pcl.is))
     (unit_is_answer window l.at l.dropped 1 l.ended held item first))) in
     ((refl, λ _. tt, is_next _ _ _ exact), tt)
 
@@ -33,7 +38,16 @@ pub returns-in-Some-next_command : goal.returns-in-Some-next_command
 returns-in-Some-next_command g c = ((refl, λ _. tt, c.in-Some-next_command.ensures.command), tt)
 
 pub returns-in-Some-next_pair : goal.returns-in-Some-next_pair
-returns-in-Some-next_pair g c = ((refl, λ _. tt, next_behind _ _ _ _ c.in_default-next_command.ensures.none c.in-Some-next_pair.ensures.pair), tt)
+returns-in-Some-next_pair g c =
+    ((refl, λ _. tt, next_behind _ _ _ _ c.in_default-next_command.ensures.none c.in-Some-next_pair.ensures.pair), tt)
 
 pub returns : goal.returns
-returns g c = ((refl, λ _. tt, next_behind _ _ _ _ (c.in_default-next_pair.ensures.none ∙ c.in_default-next_command.ensures.none) (is_next _ _ _ c.step.follows.holds-at-none)), tt)
+returns g c = (
+  (
+        refl,
+        λ _. tt,
+        next_behind _ _ _ _ (c.in_default-next_pair.ensures.none ∙ c.in_default-next_command.ensures.none)
+            (is_next _ _ _ c.step.follows.holds-at-none),
+      ),
+  tt,
+)

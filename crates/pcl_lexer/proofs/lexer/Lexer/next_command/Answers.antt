@@ -20,10 +20,13 @@ returns-clause-command g c =
     let read = c.in-Some.read in
     let window : List ℕ = l.window.items in
     let held = vec_len l.window in
-    let result : ℕ → Result Lexed LexFault = λ place. Ok (answers.Item place (items.Simple (simple.Parameterized read.command read.number))) in
+    let result : ℕ → Result Lexed LexFault =
+    λ place. Ok (answers.Item place (items.Simple (simple.Parameterized read.command read.number))) in
     let new : LexerState = standing window (l.at + read.len) l.dropped (context_view read.next) l.ended held in
     let place : l.dropped + l.at ≡ c.place-place.result = ap (λ (s : LexerState). s.place) c.self.view_is ∙ sym c.place-place.ensures in
-    let first : IsAhead read (context_view l.context) (drop l.at window) = subst (λ (bytes : List ℕ). IsAhead read (context_view l.context) bytes) (c.unread.ensures ∙ sym (ap (λ (s : LexerState). s.rest) c.self.view_is)) c.in-Some.ensures in
+    let first : IsAhead read (context_view l.context) (drop l.at window) =
+    subst (λ (bytes : List ℕ). IsAhead read (context_view l.context) bytes)
+    (c.unread.ensures ∙ sym (ap (λ (s : LexerState). s.rest) c.self.view_is)) c.in-Some.ensures in
     let exact : Answers c.args.self.now (result c.place-place.result) new =
     subst (λ (n : ℕ). Answers c.args.self.now (result n) new) place
     (subst (λ (old : LexerState). Answers old (result (l.dropped + l.at)) new) c.self.view_is
@@ -35,7 +38,9 @@ invariant_of-self g c =
     let l = c.self.inside in
     let read = c.in-Some.read in
     let window : List ℕ = l.window.items in
-    let first : IsAhead read (context_view l.context) (drop l.at window) = subst (λ (bytes : List ℕ). IsAhead read (context_view l.context) bytes) (c.unread.ensures ∙ sym (ap (λ (s : LexerState). s.rest) c.self.view_is)) c.in-Some.ensures in
+    let first : IsAhead read (context_view l.context) (drop l.at window) =
+    subst (λ (bytes : List ℕ). IsAhead read (context_view l.context) bytes)
+    (c.unread.ensures ∙ sym (ap (λ (s : LexerState). s.rest) c.self.view_is)) c.in-Some.ensures in
     let counts = command_counts (context_view l.context) (drop l.at window) read first in
     let before = c.self.invariant in
     (omega (arith, first.1, length-drop l.at window, before.0), before.1, before.2, omega (arith, counts, before.3))

@@ -23,10 +23,15 @@ returns-clause-line_end g c =
     let result : ℕ → Result Lexed LexFault = λ place. Ok (answers.Item place item) in
     let new : LexerState = standing window (l.at + 1) l.dropped (context_view l.context) l.ended held in
     let place : l.dropped + l.at ≡ c.place-place.result = ap (λ (s : LexerState). s.place) c.self.view_is ∙ sym c.place-place.ensures in
-    let first : StandsFirst item 1 (drop l.at window) = subst (λ (bytes : List ℕ). StandsFirst item 1 bytes) (c.unread.ensures ∙ sym (ap (λ (s : LexerState). s.rest) c.self.view_is)) c.in_ok-line_end.ensures in
+    let first : StandsFirst item 1 (drop l.at window) =
+    subst (λ (bytes : List ℕ). StandsFirst item 1 bytes)
+    (c.unread.ensures ∙ sym (ap (λ (s : LexerState). s.rest) c.self.view_is)) c.in_ok-line_end.ensures in
     let exact : Answers c.args.self.now (result c.place-place.result) new =
     subst (λ (n : ℕ). Answers c.args.self.now (result n) new) place
     (subst (λ (old : LexerState). Answers old (result (l.dropped + l.at)) new) c.self.view_is
-    (subst (λ (context : Context). Answers (standing window l.at l.dropped context l.ended held) (result (l.dropped + l.at)) (standing window (l.at + 1) l.dropped context l.ended held)) (sym (ap context_view c.in-Pcl.is))
+    (subst
+        (λ (context : Context). Answers (standing window l.at l.dropped context l.ended held) (result (l.dropped + l.at))
+        (standing window (l.at + 1) l.dropped context l.ended held))
+        (sym (ap context_view c.in-Pcl.is))
     (unit_is_answer window l.at l.dropped 1 l.ended held item first))) in
     is_next _ _ _ exact

@@ -21,12 +21,17 @@ returns-in-Some g c =
     let held = vec_len l.window in
     let result : ℕ → Result Lexed LexFault = λ place. Ok (answers.Item place item) in
     let place : l.dropped + l.at ≡ c.place-place.result = ap (λ (s : LexerState). s.place) c.self.view_is ∙ sym c.place-place.ensures in
-    let first : StandsFirst item 1 (drop l.at window) = subst (λ (bytes : List ℕ). StandsFirst item 1 bytes) (c.unread.ensures ∙ sym (ap (λ (s : LexerState). s.rest) c.self.view_is)) c.in-Some.ensures in
+    let first : StandsFirst item 1 (drop l.at window) =
+    subst (λ (bytes : List ℕ). StandsFirst item 1 bytes)
+    (c.unread.ensures ∙ sym (ap (λ (s : LexerState). s.rest) c.self.view_is)) c.in-Some.ensures in
     let new : LexerState = standing window (l.at + 1) l.dropped (context_view l.context) l.ended held in
     let exact : Answers c.args.self.now (result c.place-place.result) new =
     subst (λ (n : ℕ). Answers c.args.self.now (result n) new) place
     (subst (λ (old : LexerState). Answers old (result (l.dropped + l.at)) new) c.self.view_is
-    (subst (λ (context : Context). Answers (standing window l.at l.dropped context l.ended held) (result (l.dropped + l.at)) (standing window (l.at + 1) l.dropped context l.ended held)) (sym (ap context_view c.in-Pcl.is))
+    (subst
+        (λ (context : Context). Answers (standing window l.at l.dropped context l.ended held) (result (l.dropped + l.at))
+        (standing window (l.at + 1) l.dropped context l.ended held))
+        (sym (ap context_view c.in-Pcl.is))
     (unit_is_answer window l.at l.dropped 1 l.ended held item first))) in
     ((refl, λ _. tt, is_next _ _ _ exact), tt)
 
@@ -37,13 +42,19 @@ returns-in-Some-sequence_in g c =
     let window : List ℕ = l.window.items in
     let held = vec_len l.window in
     let result : ℕ → Result Lexed LexFault = λ place. Ok (answers.Item place item) in
-    let place : l.dropped + l.at ≡ c.place-place-in-Some-sequence_in.result = ap (λ (s : LexerState). s.place) c.self.view_is ∙ sym c.place-place-in-Some-sequence_in.ensures in
-    let first : StandsFirst item 2 (drop l.at window) = subst (λ (bytes : List ℕ). StandsFirst item 2 bytes) (c.unread-in-Pcl.ensures ∙ sym (ap (λ (s : LexerState). s.rest) c.self.view_is)) c.in-Some-sequence_in.ensures in
+    let place : l.dropped + l.at ≡ c.place-place-in-Some-sequence_in.result =
+    ap (λ (s : LexerState). s.place) c.self.view_is ∙ sym c.place-place-in-Some-sequence_in.ensures in
+    let first : StandsFirst item 2 (drop l.at window) =
+    subst (λ (bytes : List ℕ). StandsFirst item 2 bytes)
+    (c.unread-in-Pcl.ensures ∙ sym (ap (λ (s : LexerState). s.rest) c.self.view_is)) c.in-Some-sequence_in.ensures in
     let new : LexerState = standing window (l.at + 2) l.dropped (context_view l.context) l.ended held in
     let exact : Answers c.args.self.now (result c.place-place-in-Some-sequence_in.result) new =
     subst (λ (n : ℕ). Answers c.args.self.now (result n) new) place
     (subst (λ (old : LexerState). Answers old (result (l.dropped + l.at)) new) c.self.view_is
-    (subst (λ (context : Context). Answers (standing window l.at l.dropped context l.ended held) (result (l.dropped + l.at)) (standing window (l.at + 2) l.dropped context l.ended held)) (sym (ap context_view c.in-Pcl.is))
+    (subst
+        (λ (context : Context). Answers (standing window l.at l.dropped context l.ended held) (result (l.dropped + l.at))
+        (standing window (l.at + 2) l.dropped context l.ended held))
+        (sym (ap context_view c.in-Pcl.is))
     (unit_is_answer window l.at l.dropped 2 l.ended held item first))) in
     ((refl, λ _. tt, is_next _ _ _ exact), tt)
 

@@ -28,14 +28,21 @@ returns-clause-pair g c =
     let behind : Context = Numbered (Even read.motion) Straight 0 in
     let new : LexerState = standing window (l.at + read.len) l.dropped behind l.ended held in
     let place : c.place.result ≡ l.dropped + l.at = c.place.ensures ∙ sym (ap (λ (s : LexerState). s.place) c.self.view_is) in
-    let there : IsPairAhead read (context_view l.context) c.place.result (drop l.at window) = subst (λ (bytes : List ℕ). IsPairAhead read (context_view l.context) c.place.result bytes) (c.unread.ensures ∙ sym (ap (λ (s : LexerState). s.rest) c.self.view_is)) c.in-Some.ensures in
-    let first : IsPairAhead read (context_view l.context) (l.dropped + l.at) (drop l.at window) = subst (λ (n : ℕ). IsPairAhead read (context_view l.context) n (drop l.at window)) place there in
+    let there : IsPairAhead read (context_view l.context) c.place.result (drop l.at window) =
+    subst (λ (bytes : List ℕ). IsPairAhead read (context_view l.context) c.place.result bytes)
+    (c.unread.ensures ∙ sym (ap (λ (s : LexerState). s.rest) c.self.view_is)) c.in-Some.ensures in
+    let first : IsPairAhead read (context_view l.context) (l.dropped + l.at) (drop l.at window) =
+    subst (λ (n : ℕ). IsPairAhead read (context_view l.context) n (drop l.at window)) place there in
     let exact : Answers c.args.self.now result new =
     subst (λ (old : LexerState). Answers old result new) c.self.view_is
     (pair_is_answer window l.at l.dropped (context_view l.context) l.ended held read first) in
     elim c.if-not-read.branch [
       | then-not-read w ↦ rw w.self-is (is_next _ _ _ exact)
-      | else-not-read w ↦ rw w.self-is (is_next _ _ _ (subst (λ (context : Context). Answers c.args.self.now result (standing window (l.at + read.len) l.dropped context l.ended held)) (sym (first.same (not-false read.is_further w.if-not-read.false))) exact))
+      | else-not-read w ↦
+          rw w.self-is
+          (is_next _ _ _
+          (subst (λ (context : Context). Answers c.args.self.now result (standing window (l.at + read.len) l.dropped context l.ended held))
+          (sym (first.same (not-false read.is_further w.if-not-read.false))) exact))
     ]
 
 pub invariant_of-self : goal.invariant_of-self
@@ -43,6 +50,8 @@ invariant_of-self g c =
     let l = c.self.inside in
     let read = c.in-Some.read in
     let window : List ℕ = l.window.items in
-    let there : IsPairAhead read (context_view l.context) c.place.result (drop l.at window) = subst (λ (bytes : List ℕ). IsPairAhead read (context_view l.context) c.place.result bytes) (c.unread.ensures ∙ sym (ap (λ (s : LexerState). s.rest) c.self.view_is)) c.in-Some.ensures in
+    let there : IsPairAhead read (context_view l.context) c.place.result (drop l.at window) =
+    subst (λ (bytes : List ℕ). IsPairAhead read (context_view l.context) c.place.result bytes)
+    (c.unread.ensures ∙ sym (ap (λ (s : LexerState). s.rest) c.self.view_is)) c.in-Some.ensures in
     let before = c.self.invariant in
     (omega (arith, there.within, length-drop l.at window, before.0), before.1, before.2, omega arith)

@@ -21,12 +21,15 @@ returns g c =
     let row : PlacedRow = record { place = c.place-place.result; lent = c.data_before-lent.result } in
     let new : LexerState = standing window (l.at + read.len) l.dropped (context_view read.next) l.ended held in
     let place : c.place-place.result ≡ l.dropped + l.at = c.place-place.ensures in
-    let first : IsAheadWithData read Pcl (drop l.at window) = subst (λ (bytes : List ℕ). IsAheadWithData read Pcl bytes) c.unread.ensures c.in-Some.ensures.1 in
+    let first : IsAheadWithData read Pcl (drop l.at window) =
+    subst (λ (bytes : List ℕ). IsAheadWithData read Pcl bytes) c.unread.ensures c.in-Some.ensures.1 in
     let there : row.lent.bytes.now ≡ take read.count.bytes (drop (l.at + read.len - read.count.bytes) window) =
-    c.data_before-lent.ensures ∙ ap (λ (bytes : List ℕ). take read.count.bytes (drop (l.at + read.len - read.count.bytes) bytes)) c.deref.ensures.value in
+    c.data_before-lent.ensures
+    ∙ ap (λ (bytes : List ℕ). take read.count.bytes (drop (l.at + read.len - read.count.bytes) bytes)) c.deref.ensures.value in
     let exact : Answers c.args.self.now (answer_of_row row) new =
     subst (λ (old : LexerState). Answers old (answer_of_row row) new) c.self.view_is
-    (subst (λ (context : Context). Answers (standing window l.at l.dropped context l.ended held) (answer_of_row row) new) (sym (ap context_view c.in-Pcl.is))
+    (subst (λ (context : Context). Answers (standing window l.at l.dropped context l.ended held) (answer_of_row row) new)
+    (sym (ap context_view c.in-Pcl.is))
     (row_is_answer window l.at l.dropped l.ended held read row c.in-Some.ensures.0 first place there)) in
     ((refl, λ _. tt, (is_next _ _ _ exact, sym (ap (λ (s : LexerState). s.context) c.self.view_is) ∙ ap context_view c.in-Pcl.is)), tt)
 
@@ -35,7 +38,8 @@ invariant_of-self-4 g c =
     let l = c.self.inside in
     let read = c.in-Some.read in
     let window : List ℕ = l.window.items in
-    let first : IsAheadWithData read Pcl (drop l.at window) = subst (λ (bytes : List ℕ). IsAheadWithData read Pcl bytes) c.unread.ensures c.in-Some.ensures.1 in
+    let first : IsAheadWithData read Pcl (drop l.at window) =
+    subst (λ (bytes : List ℕ). IsAheadWithData read Pcl bytes) c.unread.ensures c.in-Some.ensures.1 in
     let counts = row_counts (drop l.at window) read first in
     let before = c.self.invariant in
     (omega (arith, first.1.0, length-drop l.at window, before.0), before.1, before.2, omega (arith, counts, before.3))
@@ -45,7 +49,8 @@ data_before-lent-requires-clause-inside g c =
     let l = c.self.inside in
     let read = c.in-Some.read in
     let window : List ℕ = l.window.items in
-    let first : IsAheadWithData read Pcl (drop l.at window) = subst (λ (bytes : List ℕ). IsAheadWithData read Pcl bytes) c.unread.ensures c.in-Some.ensures.1 in
+    let first : IsAheadWithData read Pcl (drop l.at window) =
+    subst (λ (bytes : List ℕ). IsAheadWithData read Pcl bytes) c.unread.ensures c.in-Some.ensures.1 in
     omega (arith, first.1.0, length-drop l.at window, c.self.invariant.0, ap length c.deref.ensures.value)
 
 pub data_before-lent-requires-clause-there : goal.data_before-lent-requires-clause-there

@@ -12,4 +12,5 @@ returns g c =
     let n = c.args.count in
     let new : LexerState = standing l.window.items (l.at + n) l.dropped (context_view l.context) l.ended (vec_len l.window) in
     subst (λ (old : LexerState). Passing n old new) c.self.view_is
-    (passed l.window.items l.at l.dropped (context_view l.context) l.ended (vec_len l.window) n) c.requires.some c.requires.ahead c.requires.lines
+    (passed l.window.items l.at l.dropped (context_view l.context) l.ended (vec_len l.window) n) c.requires.some
+    c.requires.ahead c.requires.lines

@@ -12,9 +12,11 @@ use Rattle.pcl_lexer.proofs.lexer.ahead.next_ahead.Goals as goal
 
 -- what stands first in the slice stands first from its place on
 there : (window : List ℕ) (at : ℕ) (first : code.First) (whole : Bool) (context : code_context.Context) →
-    first_view (take (length window - at) (drop at window)) first ≡ first_of whole (context_view context) (take (length window - at) (drop at window)) →
+    first_view (take (length window - at) (drop at window)) first
+    ≡ first_of whole (context_view context) (take (length window - at) (drop at window)) →
     first_view (drop at window) first ≡ first_of whole (context_view context) (drop at window)
-there window at first whole context = subst (λ (l : List ℕ). first_view l first ≡ first_of whole (context_view context) l) (take_rest window at)
+there window at first whole context =
+    subst (λ (l : List ℕ). first_view l first ≡ first_of whole (context_view context) l) (take_rest window at)
 
 pub loop-len-init : goal.loop-len-init
 loop-len-init c = stays_here c.args.whole (context_view c.args.context) c.args.start c.args.window.now c.requires.inside
@@ -22,19 +24,22 @@ loop-len-init c = stays_here c.args.whole (context_view c.args.context) c.args.s
 pub loop-len-preserved : goal.loop-len-preserved
 loop-len-preserved c =
     let first = there c.args.window.now c.loop-len.at c.first_ahead.result c.args.whole c.loop-len.before c.first_ahead.ensures.first in
-    passes_on c.args.whole (context_view c.args.context) c.args.start c.args.window.now (context_view c.loop-len.before) c.loop-len.at c.first_ahead.result c.in-Passes.len c.in-Passes.next c.loop-len.invariant (first, c.in-Passes.is)
+    passes_on c.args.whole (context_view c.args.context) c.args.start c.args.window.now (context_view c.loop-len.before) c.loop-len.at
+    c.first_ahead.result c.in-Passes.len c.in-Passes.next c.loop-len.invariant (first, c.in-Passes.is)
 
 pub loop-len-smaller : goal.loop-len-smaller
 loop-len-smaller c =
     let first = there c.args.window.now c.loop-len.at c.first_ahead.result c.args.whole c.loop-len.before c.first_ahead.ensures.first in
-    less_left c.args.whole (context_view c.loop-len.before) c.args.window.now c.loop-len.at c.first_ahead.result c.in-Passes.len c.in-Passes.next (first, c.in-Passes.is)
+    less_left c.args.whole (context_view c.loop-len.before) c.args.window.now c.loop-len.at c.first_ahead.result c.in-Passes.len
+    c.in-Passes.next (first, c.in-Passes.is)
 
 pub first_ahead-requires : goal.first_ahead-requires
 first_ahead-requires c =
     let window = c.args.window.now in
     let at = c.loop-len.at in
     subst (λ (l : List ℕ). counted (context_view c.loop-len.before) + length l ≤ 2 ^ 62) (sym (take_rest window at))
-    (still_counts c.args.whole (context_view c.args.context) (context_view c.loop-len.before) c.args.start at (2 ^ 62) window c.loop-len.invariant c.requires.inside c.requires.counts)
+    (still_counts c.args.whole (context_view c.args.context) (context_view c.loop-len.before) c.args.start at
+    (2 ^ 62) window c.loop-len.invariant c.requires.inside c.requires.counts)
 
 pub returns-in_default : goal.returns-in_default
 returns-in_default c =

@@ -13,4 +13,5 @@ returns-in-BadNumber-clause-first c = command_by c.args.group c.args.bytes.now B
 pub returns-in-Ended-clause-first : goal.returns-in-Ended-clause-first
 returns-in-Ended-clause-first c =
     let field = c.in-Ended.field in
-    c.ended_command.ensures.first ∙ command_by c.args.group c.args.bytes.now (Ended (amount field.number) field.len field.last) c.in-Ended.ensures.end
+    c.ended_command.ensures.first
+    ∙ command_by c.args.group c.args.bytes.now (Ended (amount field.number) field.len field.last) c.in-Ended.ensures.end

@@ -34,7 +34,8 @@ pub returns-in-37-clause-first : goal.returns-in-37-clause-first
 returns-in-37-clause-first c =
     let rest : List ℕ = c.in-Some.rest.now in
     let whole : c.args.bytes.now ≡ 37 ∷ rest = c.in-Some.ensures.cases.0 ∙ ap (λ b. b ∷ rest) c.in-37.is in
-    sym (cond-true (begins_with exit_field rest) _ (without_group 37 rest) (sym c.if-begins_exit.ensures)) ∙ behind c.args.bytes.now rest 37 whole
+    sym (cond-true (begins_with exit_field rest) _ (without_group 37 rest) (sym c.if-begins_exit.ensures))
+    ∙ behind c.args.bytes.now rest 37 whole
 
 pub returns-in-37-2-clause-first : goal.returns-in-37-2-clause-first
 returns-in-37-2-clause-first c =

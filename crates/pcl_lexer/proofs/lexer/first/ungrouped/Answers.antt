@@ -13,4 +13,5 @@ returns-in-BadNumber-clause-first c = λ all. ungrouped_by c.args.introducer c.a
 pub returns-in-Ended-clause-first : goal.returns-in-Ended-clause-first
 returns-in-Ended-clause-first c = λ all.
     let field = c.in-Ended.field in
-    c.ended_ungrouped.ensures.first all ∙ ungrouped_by c.args.introducer c.args.bytes.now (Ended (amount field.number) field.len field.last) c.in-Ended.ensures.end
+    c.ended_ungrouped.ensures.first all
+    ∙ ungrouped_by c.args.introducer c.args.bytes.now (Ended (amount field.number) field.len field.last) c.in-Ended.ensures.end

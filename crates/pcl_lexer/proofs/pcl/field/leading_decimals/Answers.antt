@@ -1,7 +1,10 @@
 use Rattle.std.proofs.Common.{get_or, refl, sym, subst, rules}
-use Rattle.pcl_lexer.proofs.Escapes.Digits.{digits_end, digits_all, StaysExact, worthless, zero_digit, worth_some, decimals_more, decimals_are}
+use Rattle.pcl_lexer.proofs.Escapes.Digits.{digits_end, digits_all, StaysExact, worthless, zero_digit, worth_some, decimals_more}
+use Rattle.pcl_lexer.proofs.Escapes.Digits.{decimals_are}
 use Rattle.pcl_lexer.proofs.pcl.field.leading_decimals.Goals as goal
-use Rattle.pcl_lexer.proofs.pcl.field.leading_decimals.Goals.{then-worth-eq0+then-byte-ne48, else-worth-eq0, else-worth-eq0-via-then-worth-eq0+else-byte-ne48, else-worth-eq0-via-else-worth-eq0}
+use Rattle.pcl_lexer.proofs.pcl.field.leading_decimals.Goals.{then-worth-eq0+then-byte-ne48, else-worth-eq0}
+use Rattle.pcl_lexer.proofs.pcl.field.leading_decimals.Goals.{else-worth-eq0-via-then-worth-eq0+else-byte-ne48}
+use Rattle.pcl_lexer.proofs.pcl.field.leading_decimals.Goals.{else-worth-eq0-via-else-worth-eq0}
 
 pub loop-len-preserved : goal.loop-len-preserved
 loop-len-preserved c =
@@ -18,10 +21,12 @@ loop-len-preserved c =
     decimals_more _ _ _ _ _ byte _ _ _ c.loop-len.invariant c.loop-len-test.true refl (search rules) c.from.ensures stays
 
 pub returns-then-not-is_ascii_digit-clause-value : goal.returns-then-not-is_ascii_digit-clause-value
-returns-then-not-is_ascii_digit-clause-value c = (decimals_are _ _ _ _ _ _ c.loop-len.invariant (digits_end _ _ _ c.loop-len-test.true refl (search rules))).value
+returns-then-not-is_ascii_digit-clause-value c =
+    (decimals_are _ _ _ _ _ _ c.loop-len.invariant (digits_end _ _ _ c.loop-len-test.true refl (search rules))).value
 
 pub returns-then-not-is_ascii_digit-clause-exact : goal.returns-then-not-is_ascii_digit-clause-exact
-returns-then-not-is_ascii_digit-clause-exact c = (decimals_are _ _ _ _ _ _ c.loop-len.invariant (digits_end _ _ _ c.loop-len-test.true refl (search rules))).is_exact
+returns-then-not-is_ascii_digit-clause-exact c =
+    (decimals_are _ _ _ _ _ _ c.loop-len.invariant (digits_end _ _ _ c.loop-len-test.true refl (search rules))).is_exact
 
 pub returns-clause-value : goal.returns-clause-value
 returns-clause-value c = (decimals_are _ _ _ _ _ _ c.loop-len.invariant (digits_all _ _ c.loop-len-test.false)).value

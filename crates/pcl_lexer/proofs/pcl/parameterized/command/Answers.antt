@@ -2,4 +2,6 @@ use Rattle.pcl_lexer.proofs.Escapes.ReadCommands.{in_group}
 use Rattle.pcl_lexer.proofs.pcl.parameterized.command.Goals as goal
 
 pub returns-in-Ended : goal.returns-in-Ended
-returns-in-Ended c = in_group c.ended_by.result c.args.group c.in-Ended.field c.args.bytes.now c.in-Ended.ensures.end c.in-Ended.ensures.within.1 c.ended_by.ensures
+returns-in-Ended c =
+    in_group c.ended_by.result c.args.group c.in-Ended.field c.args.bytes.now c.in-Ended.ensures.end
+    c.in-Ended.ensures.within.1 c.ended_by.ensures

@@ -11,4 +11,5 @@ returns-in-27 c =
     let bytes = c.args.bytes.now in
     let is_escape : get_or bytes 0 0 ≡ 27 = omega arith in
     subst (λ (context : Context). IfSome c.escaped.result (λ read. IsAhead read context bytes)) (sym (ap context_view c.in-Pcl.is))
-    (subst (λ (l : List ℕ). IfSome c.escaped.result (λ read. IsAhead read Pcl l)) (behind_escape bytes c.in-27.len_at_least is_escape) c.escaped.ensures)
+    (subst (λ (l : List ℕ). IfSome c.escaped.result (λ read. IsAhead read Pcl l))
+    (behind_escape bytes c.in-27.len_at_least is_escape) c.escaped.ensures)

@@ -23,7 +23,9 @@ loop-read-preserved g c =
         stands = so_far.stands;
         untold = so_far.untold;
         further = further _ _ _ _ _ _ refl next so_far.further;
-        through = through_both _ _ _ _ _ _ _ _ _ so_far.through (item_through _ _ _ next _ _ refl _ _ _ _ so_far.through.modes (drawn.drawn c.if-not-draw_pair.false));
+        through =
+            through_both _ _ _ _ _ _ _ _ _ so_far.through
+            (item_through _ _ _ next _ _ refl _ _ _ _ so_far.through.modes (drawn.drawn c.if-not-draw_pair.false));
       };
     }
 
@@ -41,4 +43,5 @@ pub returns-then-not-draw_pair : goal.returns-then-not-draw_pair
 returns-then-not-draw_pair g c =
     let goes = goes_unmoved _ _ _ (c.draw_pair.ensures.same c.if-not-draw_pair.true) c.loop-read.invariant.goes in
     let step = c.step_other.ensures in
-    item_behind _ _ _ _ c.one_reading.ensures c.watched_runs_are_alike.ensures _ _ _ refl goes c.in-Some-next_pair.ensures.pair step.open step.told step.untold step.came
+    item_behind _ _ _ _ c.one_reading.ensures c.watched_runs_are_alike.ensures _ _ _ refl goes c.in-Some-next_pair.ensures.pair step.open
+    step.told step.untold step.came

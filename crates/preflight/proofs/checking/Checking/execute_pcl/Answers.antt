@@ -19,34 +19,44 @@ pub loop-read-preserved-else-not-step_read : goal.loop-read-preserved-else-not-s
 loop-read-preserved-else-not-step_read g c =
     let step = c.step_read.ensures in
     goes_open _ _ _ c.if-not-step_read.false
-    (item_behind _ _ _ _ c.one_reading.ensures c.watched_runs_are_alike.ensures _ _ _ refl c.loop-read.invariant c.in-Some.ensures.command step.open step.told step.untold step.came)
+    (item_behind _ _ _ _ c.one_reading.ensures c.watched_runs_are_alike.ensures _ _ _ refl c.loop-read.invariant c.in-Some.ensures.command
+    step.open step.told step.untold step.came)
 
 pub returns-then-not-step_read : goal.returns-then-not-step_read
 returns-then-not-step_read g c =
     let step = c.step_read.ensures in
     answered _ _ _ _ c.if-not-step_read.true
-    (item_behind _ _ _ _ c.one_reading.ensures c.watched_runs_are_alike.ensures _ _ _ refl c.loop-read.invariant c.in-Some.ensures.command step.open step.told step.untold step.came)
+    (item_behind _ _ _ _ c.one_reading.ensures c.watched_runs_are_alike.ensures _ _ _ refl c.loop-read.invariant c.in-Some.ensures.command
+    step.open step.told step.untold step.came)
 
 -- ---- the end of a line
 
 pub step_line_end-requires-clause-admitted : goal.step_line_end-requires-clause-admitted
 step_line_end-requires-clause-admitted g c =
-    let next = subst (λ old. IsNext old (answer_of_end c.in-Some-next_line_end.read) c.next_line_end.new.self) c.in_default.ensures.none c.in-Some-next_line_end.ensures.line_end in
+    let next =
+    subst (λ old. IsNext old (answer_of_end c.in-Some-next_line_end.read) c.next_line_end.new.self) c.in_default.ensures.none
+    c.in-Some-next_line_end.ensures.line_end in
     all_admit_next _ _ _ next _ _ refl _ c.loop-read.invariant.through.modes
 
 pub loop-read-preserved-else-not-step_line_end : goal.loop-read-preserved-else-not-step_line_end
 loop-read-preserved-else-not-step_line_end g c =
-    let next = subst (λ old. IsNext old (answer_of_end c.in-Some-next_line_end.read) c.next_line_end.new.self) c.in_default.ensures.none c.in-Some-next_line_end.ensures.line_end in
+    let next =
+    subst (λ old. IsNext old (answer_of_end c.in-Some-next_line_end.read) c.next_line_end.new.self) c.in_default.ensures.none
+    c.in-Some-next_line_end.ensures.line_end in
     let step = c.step_line_end.ensures in
     goes_open _ _ _ c.if-not-step_line_end.false
-    (item_behind _ _ _ _ c.one_reading.ensures c.watched_runs_are_alike.ensures _ _ _ refl c.loop-read.invariant next step.open step.told step.untold step.came)
+    (item_behind _ _ _ _ c.one_reading.ensures c.watched_runs_are_alike.ensures _ _ _ refl c.loop-read.invariant next step.open
+    step.told step.untold step.came)
 
 pub returns-then-not-step_line_end : goal.returns-then-not-step_line_end
 returns-then-not-step_line_end g c =
-    let next = subst (λ old. IsNext old (answer_of_end c.in-Some-next_line_end.read) c.next_line_end.new.self) c.in_default.ensures.none c.in-Some-next_line_end.ensures.line_end in
+    let next =
+    subst (λ old. IsNext old (answer_of_end c.in-Some-next_line_end.read) c.next_line_end.new.self) c.in_default.ensures.none
+    c.in-Some-next_line_end.ensures.line_end in
     let step = c.step_line_end.ensures in
     answered _ _ _ _ c.if-not-step_line_end.true
-    (item_behind _ _ _ _ c.one_reading.ensures c.watched_runs_are_alike.ensures _ _ _ refl c.loop-read.invariant next step.open step.told step.untold step.came)
+    (item_behind _ _ _ _ c.one_reading.ensures c.watched_runs_are_alike.ensures _ _ _ refl c.loop-read.invariant next step.open
+    step.told step.untold step.came)
 
 -- ---- lines of text
 
@@ -63,8 +73,12 @@ loop-read-preserved g c =
     record {
       stands = so_far.stands;
       untold = so_far.untold;
-      further = further_by_text _ _ _ c.execute_text.new.lexer here so_far.further record { ended = text.ended; place = text.place; no_more = text.no_more };
-      through = text_through _ _ _ _ _ _ _ _ _ _ here so_far.through record { running = text.running; modes = text.modes; executed = text.executed };
+      further =
+          further_by_text _ _ _ c.execute_text.new.lexer here so_far.further
+          record { ended = text.ended; place = text.place; no_more = text.no_more };
+      through =
+          text_through _ _ _ _ _ _ _ _ _ _ here so_far.through
+          record { running = text.running; modes = text.modes; executed = text.executed };
     }
 
 pub returns-then-not-execute_text : goal.returns-then-not-execute_text
@@ -75,6 +89,10 @@ returns-then-not-execute_text g c =
     on_open _ _ record {
       stands = so_far.stands;
       untold = so_far.untold;
-      further = further_by_text _ _ _ c.execute_text.new.lexer here so_far.further record { ended = text.ended; place = text.place; no_more = text.no_more };
-      through = text_through _ _ _ _ _ _ _ _ _ _ here so_far.through record { running = text.running; modes = text.modes; executed = text.executed };
+      further =
+          further_by_text _ _ _ c.execute_text.new.lexer here so_far.further
+          record { ended = text.ended; place = text.place; no_more = text.no_more };
+      through =
+          text_through _ _ _ _ _ _ _ _ _ _ here so_far.through
+          record { running = text.running; modes = text.modes; executed = text.executed };
     }

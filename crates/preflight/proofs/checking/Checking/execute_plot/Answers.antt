@@ -38,14 +38,16 @@ loop-self-preserved-else-not-step g c =
     let goes = goes_behind _ _ _ _ c.loop-self.invariant c.if-not-execute_further.false c.execute_further.ensures in
     let step = c.step.ensures in
     goes_open _ _ _ c.if-not-step.false
-    (item_behind _ _ _ _ c.one_reading.ensures c.watched_runs_are_alike.ensures _ _ _ refl goes c.in-Some.ensures.pair step.open step.told step.untold step.came)
+    (item_behind _ _ _ _ c.one_reading.ensures c.watched_runs_are_alike.ensures _ _ _ refl goes c.in-Some.ensures.pair step.open
+    step.told step.untold step.came)
 
 pub returns-then-not-step : goal.returns-then-not-step
 returns-then-not-step g c =
     let goes = goes_behind _ _ _ _ c.loop-self.invariant c.if-not-execute_further.false c.execute_further.ensures in
     let step = c.step.ensures in
     answered _ _ _ _ c.if-not-step.true
-    (item_behind _ _ _ _ c.one_reading.ensures c.watched_runs_are_alike.ensures _ _ _ refl goes c.in-Some.ensures.pair step.open step.told step.untold step.came)
+    (item_behind _ _ _ _ c.one_reading.ensures c.watched_runs_are_alike.ensures _ _ _ refl goes c.in-Some.ensures.pair step.open
+    step.told step.untold step.came)
 
 -- ---- a command without coordinates
 
@@ -57,7 +59,9 @@ step_other-requires-clause-running g c =
 pub step_other-requires-clause-admitted : goal.step_other-requires-clause-admitted
 step_other-requires-clause-admitted g c =
     let goes = goes_behind _ _ _ _ c.loop-self.invariant c.if-not-execute_further.false c.execute_further.ensures in
-    let next = subst (λ old. IsNext old (answer_of c.in-Some-next_motion.read) c.next_motion.new.self) c.in_default.ensures.none c.in-Some-next_motion.ensures.motion in
+    let next =
+    subst (λ old. IsNext old (answer_of c.in-Some-next_motion.read) c.next_motion.new.self) c.in_default.ensures.none
+    c.in-Some-next_motion.ensures.motion in
     all_admit_next _ _ _ next _ _ refl _ goes.through.modes
 
 pub step_other-requires-clause-open : goal.step_other-requires-clause-open
@@ -68,18 +72,24 @@ step_other-requires-clause-open g c =
 pub loop-self-preserved : goal.loop-self-preserved
 loop-self-preserved g c =
     let goes = goes_behind _ _ _ _ c.loop-self.invariant c.if-not-execute_further.false c.execute_further.ensures in
-    let next = subst (λ old. IsNext old (answer_of c.in-Some-next_motion.read) c.next_motion.new.self) c.in_default.ensures.none c.in-Some-next_motion.ensures.motion in
+    let next =
+    subst (λ old. IsNext old (answer_of c.in-Some-next_motion.read) c.next_motion.new.self) c.in_default.ensures.none
+    c.in-Some-next_motion.ensures.motion in
     let step = c.step_other.ensures in
     goes_open _ _ _ c.if-not-step_other.false
-    (item_behind _ _ _ _ c.one_reading.ensures c.watched_runs_are_alike.ensures _ _ _ refl goes next step.open step.told step.untold step.came)
+    (item_behind _ _ _ _ c.one_reading.ensures c.watched_runs_are_alike.ensures _ _ _ refl goes next step.open
+    step.told step.untold step.came)
 
 pub returns-then-not-step_other : goal.returns-then-not-step_other
 returns-then-not-step_other g c =
     let goes = goes_behind _ _ _ _ c.loop-self.invariant c.if-not-execute_further.false c.execute_further.ensures in
-    let next = subst (λ old. IsNext old (answer_of c.in-Some-next_motion.read) c.next_motion.new.self) c.in_default.ensures.none c.in-Some-next_motion.ensures.motion in
+    let next =
+    subst (λ old. IsNext old (answer_of c.in-Some-next_motion.read) c.next_motion.new.self) c.in_default.ensures.none
+    c.in-Some-next_motion.ensures.motion in
     let step = c.step_other.ensures in
     answered _ _ _ _ c.if-not-step_other.true
-    (item_behind _ _ _ _ c.one_reading.ensures c.watched_runs_are_alike.ensures _ _ _ refl goes next step.open step.told step.untold step.came)
+    (item_behind _ _ _ _ c.one_reading.ensures c.watched_runs_are_alike.ensures _ _ _ refl goes next step.open
+    step.told step.untold step.came)
 
 -- ---- nothing of a plot
 

@@ -17,7 +17,8 @@ loop-row-preserved g c =
     let next = row_is_next _ _ _ c.next_row.follows.holds-at-none c.in-Some.row c.in-Some.is in
     let step = c.step.ensures in
     goes_open _ _ _ c.if-not-step.false
-    (item_behind _ _ _ _ c.one_reading.ensures c.watched_runs_are_alike.ensures _ _ _ refl c.loop-row.invariant next.0 step.open step.told step.untold step.came)
+    (item_behind _ _ _ _ c.one_reading.ensures c.watched_runs_are_alike.ensures _ _ _ refl c.loop-row.invariant next.0 step.open
+    step.told step.untold step.came)
 
 pub loop-row-smaller : goal.loop-row-smaller
 loop-row-smaller g c =
@@ -32,4 +33,5 @@ returns-then-not-step g c =
     let next = row_is_next _ _ _ c.next_row.follows.holds-at-none c.in-Some.row c.in-Some.is in
     let step = c.step.ensures in
     answered _ _ _ _ c.if-not-step.true
-    (item_behind _ _ _ _ c.one_reading.ensures c.watched_runs_are_alike.ensures _ _ _ refl c.loop-row.invariant next.0 step.open step.told step.untold step.came)
+    (item_behind _ _ _ _ c.one_reading.ensures c.watched_runs_are_alike.ensures _ _ _ refl c.loop-row.invariant next.0 step.open
+    step.told step.untold step.came)

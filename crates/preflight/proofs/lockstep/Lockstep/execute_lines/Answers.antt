@@ -19,7 +19,8 @@ use Rattle.preflight.specs.Carriers.TextInStep.{GoOnAll, PrintInStep}
 use Rattle.preflight.proofs.Executing.{written_back}
 use Rattle.preflight.proofs.TextInStep.{all_in_pcl, all_print, lines_of, print_in_step, shape_count, shapes_of, stay_formed}
 use Rattle.preflight.proofs.lockstep.Lockstep.execute_lines.Given.{Over}
-use Rattle.preflight.proofs.lockstep.Lockstep.execute_lines.Goals.{After-add_marks, in-Apart, in_default-formation, in-Apart-formation, in_default-formation-2}
+use Rattle.preflight.proofs.lockstep.Lockstep.execute_lines.Goals.{After-add_marks, in-Apart, in_default-formation, in-Apart-formation}
+use Rattle.preflight.proofs.lockstep.Lockstep.execute_lines.Goals.{in_default-formation-2}
 use Rattle.preflight.proofs.lockstep.Lockstep.execute_lines.Goals as goal
 
 module _ (g : Over) (c : After-add_marks g) where
@@ -37,12 +38,18 @@ module _ (g : Over) (c : After-add_marks g) where
 
   are_lines : AreLinesFrom c.in-Some.measure c.in-Some.from c.args.bytes.now c.in-Some-found.lines
   are_lines = elim c.match-self.branch [
-    | in-Apart w ↦ subst (λ (o : Option TextLines). IfSome o (λ lines. AreLinesFrom c.in-Some.measure c.in-Some.from c.args.bytes.now lines)) (sym w.found-is ∙ c.in-Some-found.is) w.lines_on_all-found.ensures.lines
-    | in_default-formation w ↦ subst (λ (o : Option TextLines). IfSome o (λ lines. AreLinesFrom c.in-Some.measure c.in-Some.from c.args.bytes.now lines)) (sym w.found-is ∙ c.in-Some-found.is) w.lines_ahead.ensures
+    | in-Apart w ↦
+        subst (λ (o : Option TextLines). IfSome o (λ lines. AreLinesFrom c.in-Some.measure c.in-Some.from c.args.bytes.now lines))
+        (sym w.found-is ∙ c.in-Some-found.is) w.lines_on_all-found.ensures.lines
+    | in_default-formation w ↦
+        subst (λ (o : Option TextLines). IfSome o (λ lines. AreLinesFrom c.in-Some.measure c.in-Some.from c.args.bytes.now lines))
+        (sym w.found-is ∙ c.in-Some-found.is) w.lines_ahead.ensures
   ]
 
   goes : GoAs c.self.inside.first.printer c.self.inside.first.page look c.in-Some.from text c.in-Some-found.lines
-  goes = measured_lines_go c.self.inside.first.printer c.in-Some.measure c.self.inside.first.page c.in-Some.from c.args.bytes.now c.in-Some-found.lines c.in-Some.ensures.measure c.in-Some.ensures.stands are_lines
+  goes =
+      measured_lines_go c.self.inside.first.printer c.in-Some.measure c.self.inside.first.page c.in-Some.from c.args.bytes.now
+      c.in-Some-found.lines c.in-Some.ensures.measure c.in-Some.ensures.stands are_lines
 
   prints : PrintsLines look c.in-Some.from text c.self.inside.first c.pass_lines.new.self
   prints = c.pass_lines.ensures look c.in-Some.from text c.in-Some.ensures.no_definition goes
@@ -52,7 +59,10 @@ module _ (g : Over) (c : After-add_marks g) where
   go_on apart = elim c.match-self.branch [
     | in-Apart w ↦
         subst (λ ms. GoOnAll look c.in-Some.from text ms) w.deref.ensures.value
-        (subst (λ (o : Option TextLines). IfSome o (λ lines. GoOnAll look c.in-Some.from (take lines.count c.args.bytes.now) w.deref.result.now)) (sym w.found-is ∙ c.in-Some-found.is) w.lines_on_all-found.ensures.go)
+        (subst
+            (λ (o : Option TextLines).
+            IfSome o (λ lines. GoOnAll look c.in-Some.from (take lines.count c.args.bytes.now) w.deref.result.now))
+            (sym w.found-is ∙ c.in-Some-found.is) w.lines_on_all-found.ensures.go)
     | in_default-formation w ↦ absurd (w.in_default-formation.not-Apart apart)
   ]
 
@@ -79,10 +89,15 @@ module _ (g : Over) (c : After-add_marks g) where
     | in-Apart-formation w ↦
         let n = c.self.inside.others.len in
         let others = w.pass_lines_on_each.new.machines in
-        let whole : take n (others ++ drop (length others) before) ≡ others = written_back n before others (omega (arith, w.pass_lines_on_each.auto.machines, w.deref_mut.ensures.len)) (omega (arith, c.self.inside.others.ok.0)) in
+        let whole : take n (others ++ drop (length others) before) ≡ others =
+            written_back n before others (omega (arith, w.pass_lines_on_each.auto.machines, w.deref_mut.ensures.len))
+            (omega (arith, c.self.inside.others.ok.0)) in
         let go = subst (λ ms. GoOnAll look c.in-Some.from text ms) (sym w.deref_mut.ensures.value) (go_on apart) in
-        let each = subst (λ ms. Each (PrintsLines look c.in-Some.from text) ms others) w.deref_mut.ensures.value (w.pass_lines_on_each.ensures look c.in-Some.from text go are_lines.end are_lines.glyphs) in
-        subst (λ ms. Each (PrintsLines look c.in-Some.from text) before ms) (sym (ap (λ s. s.others.items) w.self-inside-is)) (subst (λ ms. Each (PrintsLines look c.in-Some.from text) before ms) (sym whole) each)
+        let each =
+            subst (λ ms. Each (PrintsLines look c.in-Some.from text) ms others) w.deref_mut.ensures.value
+            (w.pass_lines_on_each.ensures look c.in-Some.from text go are_lines.end are_lines.glyphs) in
+        subst (λ ms. Each (PrintsLines look c.in-Some.from text) before ms) (sym (ap (λ s. s.others.items) w.self-inside-is))
+            (subst (λ ms. Each (PrintsLines look c.in-Some.from text) before ms) (sym whole) each)
     | in_default-formation-2 w ↦ absurd (w.in_default-formation-2.not-Apart apart)
   ]
 
@@ -111,7 +126,8 @@ pub invariant_of-self : goal.invariant_of-self
 invariant_of-self g c = λ _.
     subst (λ m. IsFormed c.match-self-2.self-inside.formation m (behind g c)) (sym (first_is g c))
     (subst (λ (f : Formation). IsFormed f c.pass_lines.new.self (behind g c)) (sym (formation_is g c))
-    (stay_formed c.items_go_on_like_printers.ensures.items (look g c) c.in-Some.from (text g c) c.self.inside.first c.pass_lines.new.self (goes g c).go (prints g c) c.self.inside.formation (before g c) (behind g c) (formed g c) (others_are g c)))
+    (stay_formed c.items_go_on_like_printers.ensures.items (look g c) c.in-Some.from (text g c) c.self.inside.first c.pass_lines.new.self
+        (goes g c).go (prints g c) c.self.inside.formation (before g c) (behind g c) (formed g c) (others_are g c)))
 
 pub returns-clause-step : goal.returns-clause-step
 returns-clause-step g c =
@@ -119,10 +135,28 @@ returns-clause-step g c =
     let formation = c.self.inside.formation in
     let shapes = shapes_of (look g c) c.in-Some.from (text g c) in
     let counted : c.add_marks.new.self ≡ counts_after (map Marked shapes) c.self.inside.counts =
-    c.add_marks.ensures shapes (shape_count (text g c) (look g c) c.in-Some.from ∙ sym (goes g c).glyphs) ∙ ap (counts_after (map Marked shapes)) (counts_are g c) in
-    let each = all_print c.items_go_on_like_printers.ensures.items (look g c) c.in-Some.from (text g c) first c.pass_lines.new.self (goes g c).go (prints g c) formation (before g c) (behind g c) (formed g c) (others_print g c) (others_are g c) in
-    subst (λ (f : Fleet). PrintInStep (text g c) f.machines (c.match-self-2.self-inside.first ∷ others_in c.match-self-2.self-inside.formation c.match-self-2.self-inside.first (behind g c)) f.counts c.add_marks.new.self) c.self.view_is
-    (subst (λ m. PrintInStep (text g c) (first ∷ others_in formation first (before g c)) (m ∷ others_in c.match-self-2.self-inside.formation m (behind g c)) c.self.inside.counts c.add_marks.new.self) (sym (first_is g c))
-    (subst (λ (f : Formation). PrintInStep (text g c) (first ∷ others_in formation first (before g c)) (c.pass_lines.new.self ∷ others_in f c.pass_lines.new.self (behind g c)) c.self.inside.counts c.add_marks.new.self) (sym (formation_is g c))
-    (subst (λ (counts : Counts). PrintInStep (text g c) (first ∷ others_in formation first (before g c)) (c.pass_lines.new.self ∷ others_in formation c.pass_lines.new.self (behind g c)) c.self.inside.counts counts) (sym counted)
-    (print_in_step (text g c) (look g c) c.in-Some.from (first ∷ others_in formation first (before g c)) (c.pass_lines.new.self ∷ others_in formation c.pass_lines.new.self (behind g c)) c.self.inside.counts (running g c) (in_pcl g c) each))))
+    c.add_marks.ensures shapes (shape_count (text g c) (look g c) c.in-Some.from ∙ sym (goes g c).glyphs)
+    ∙ ap (counts_after (map Marked shapes)) (counts_are g c) in
+    let each =
+    all_print c.items_go_on_like_printers.ensures.items (look g c) c.in-Some.from (text g c) first c.pass_lines.new.self (goes g c).go
+    (prints g c) formation (before g c) (behind g c) (formed g c) (others_print g c) (others_are g c) in
+    subst
+    (λ (f : Fleet). PrintInStep (text g c) f.machines
+    (c.match-self-2.self-inside.first ∷ others_in c.match-self-2.self-inside.formation c.match-self-2.self-inside.first (behind g c))
+    f.counts c.add_marks.new.self)
+    c.self.view_is
+    (subst
+    (λ m. PrintInStep (text g c) (first ∷ others_in formation first (before g c))
+    (m ∷ others_in c.match-self-2.self-inside.formation m (behind g c)) c.self.inside.counts c.add_marks.new.self)
+    (sym (first_is g c))
+    (subst
+        (λ (f : Formation). PrintInStep (text g c) (first ∷ others_in formation first (before g c))
+        (c.pass_lines.new.self ∷ others_in f c.pass_lines.new.self (behind g c)) c.self.inside.counts c.add_marks.new.self)
+        (sym (formation_is g c))
+    (subst
+        (λ (counts : Counts). PrintInStep (text g c) (first ∷ others_in formation first (before g c))
+        (c.pass_lines.new.self ∷ others_in formation c.pass_lines.new.self (behind g c)) c.self.inside.counts counts)
+        (sym counted)
+    (print_in_step (text g c) (look g c) c.in-Some.from (first ∷ others_in formation first (before g c))
+        (c.pass_lines.new.self ∷ others_in formation c.pass_lines.new.self (behind g c)) c.self.inside.counts
+        (running g c) (in_pcl g c) each))))

@@ -26,26 +26,36 @@ execute_by-answer-requires g c =
 
 pub judge-requires-clause-running : goal.judge-requires-clause-running
 judge-requires-clause-running g c =
-    was_running recorder_takes recorder_refuses (action_of c.args.task.now) _ _ c.self.inside.first c.execute_by-answer.new.machine c.execute_by-answer.result
+    was_running recorder_takes recorder_refuses
+    (action_of c.args.task.now) _ _ c.self.inside.first c.execute_by-answer.new.machine c.execute_by-answer.result
     (subst (λ (f : Fleet). AreRunning f.machines) (sym c.self.view_is) c.requires.running).0 c.execute_by-answer.ensures
 
 pub returns-then-not-judge-clause-came : goal.returns-then-not-judge-clause-came
 returns-then-not-judge-clause-came g c =
-    fails_by recorder_takes recorder_refuses (action_of c.args.task.now) _ _ c.self.inside.first c.execute_by-answer.new.machine _ c.args.place 1 c.execute_by-answer.result c.judge.new.self c.judge.ensures.standing (sym c.judge.ensures.open ∙ c.if-not-judge.true) c.execute_by-answer.ensures
-    (λ finding finds. (refl, subst (λ (f : Fleet). FoundFrom (action_of c.args.task.now) finding 1 1 f.machines) c.self.view_is (inl (refl, finds))))
+    fails_by recorder_takes recorder_refuses (action_of c.args.task.now) _ _ c.self.inside.first c.execute_by-answer.new.machine _
+    c.args.place 1 c.execute_by-answer.result c.judge.new.self c.judge.ensures.standing
+    (sym c.judge.ensures.open ∙ c.if-not-judge.true) c.execute_by-answer.ensures
+    (λ finding finds.
+    (refl, subst (λ (f : Fleet). FoundFrom (action_of c.args.task.now) finding 1 1 f.machines) c.self.view_is (inl (refl, finds))))
 
 pub execute_by_others-requires-clause-running : goal.execute_by_others-requires-clause-running
 execute_by_others-requires-clause-running g c =
     let before = c.self.inside in
     let n = before.others.len in
-    let stand = parted before.formation before.first n before.others.items c.deref_mut.result.now c.part.new.others c.deref_mut-2.result.now c.deref_mut-2.ensures.value c.part.ensures c.deref_mut.ensures.value (omega (arith, c.part.auto.others, c.deref_mut.ensures.len)) (omega (arith, before.others.ok.0)) in
+    let stand =
+    parted before.formation before.first n before.others.items c.deref_mut.result.now c.part.new.others c.deref_mut-2.result.now
+    c.deref_mut-2.ensures.value c.part.ensures c.deref_mut.ensures.value (omega (arith, c.part.auto.others, c.deref_mut.ensures.len))
+    (omega (arith, before.others.ok.0)) in
     subst AreRunning (sym stand) (subst (λ (f : Fleet). AreRunning f.machines) (sym c.self.view_is) c.requires.running).1
 
 pub execute_by_others-requires-clause-admitted : goal.execute_by_others-requires-clause-admitted
 execute_by_others-requires-clause-admitted g c =
     let before = c.self.inside in
     let n = before.others.len in
-    let stand = parted before.formation before.first n before.others.items c.deref_mut.result.now c.part.new.others c.deref_mut-2.result.now c.deref_mut-2.ensures.value c.part.ensures c.deref_mut.ensures.value (omega (arith, c.part.auto.others, c.deref_mut.ensures.len)) (omega (arith, before.others.ok.0)) in
+    let stand =
+    parted before.formation before.first n before.others.items c.deref_mut.result.now c.part.new.others c.deref_mut-2.result.now
+    c.deref_mut-2.ensures.value c.part.ensures c.deref_mut.ensures.value (omega (arith, c.part.auto.others, c.deref_mut.ensures.len))
+    (omega (arith, before.others.ok.0)) in
     let action = action_of c.args.task.now in
     subst (AllAdmit action) (sym stand) (subst (λ (f : Fleet). AllAdmit action f.machines) (sym c.self.view_is) c.requires.admitted).1
 
@@ -62,20 +72,38 @@ returns-clause-came g c =
     let others = c.execute_by_others.new.others in
     let begun : Recorded = record { events = []; counts = before.counts } in
     let events = map event_of c.events-events.result.now in
-    let did = does_by recorder_takes recorder_refuses action _ after before.first first c.args.place 1 c.execute_by-answer.result c.judge.new.self c.judge.ensures.standing (sym c.judge.ensures.open ∙ c.if-not-judge.false) c.execute_by-answer.ensures in
+    let did =
+    does_by recorder_takes recorder_refuses action _ after before.first first c.args.place 1 c.execute_by-answer.result c.judge.new.self
+    c.judge.ensures.standing (sym c.judge.ensures.open ∙ c.if-not-judge.false) c.execute_by-answer.ensures in
     let items : List MachineState = take n (c.part.new.others ++ drop (length c.part.new.others) before.others.items) in
     let len : length before.others.items ≡ n = omega (arith, before.others.ok.0) in
     let parted_len : length c.part.new.others ≡ n = omega (arith, c.part.auto.others, c.deref_mut.ensures.len) in
-    let stand = parted before.formation before.first n before.others.items c.deref_mut.result.now c.part.new.others c.deref_mut-2.result.now c.deref_mut-2.ensures.value c.part.ensures c.deref_mut.ensures.value parted_len len in
-    let whole : take n (others ++ drop (length others) items) ≡ others = written_back n items others (omega (arith, c.execute_by_others.auto.others, c.deref_mut-2.ensures.len)) (omega (arith, ap length (sym c.deref_mut-2.ensures.value), c.deref_mut-2.ensures.len)) in
-    subst (λ (f : Fleet). StandsBy c.execute_by_others.new.standing (λ failed. GoesInStep action c.args.place f.machines (first ∷ take n (others ++ drop (length others) items)) f.counts c.counts-self-inside.result failed)) c.self.view_is
+    let stand =
+    parted before.formation before.first n before.others.items c.deref_mut.result.now c.part.new.others c.deref_mut-2.result.now
+    c.deref_mut-2.ensures.value c.part.ensures c.deref_mut.ensures.value parted_len len in
+    let whole : take n (others ++ drop (length others) items) ≡ others =
+    written_back n items others (omega (arith, c.execute_by_others.auto.others, c.deref_mut-2.ensures.len))
+    (omega (arith, ap length (sym c.deref_mut-2.ensures.value), c.deref_mut-2.ensures.len)) in
+    subst
+    (λ (f : Fleet). StandsBy c.execute_by_others.new.standing (λ failed.
+    GoesInStep action c.args.place f.machines
+    (first ∷ take n (others ++ drop (length others) items)) f.counts c.counts-self-inside.result failed))
+    c.self.view_is
     (stands_on (Compared action c.args.place events 2 c.deref_mut-2.result.now others)
-    (GoesInStep action c.args.place (before.first ∷ others_in before.formation before.first before.others.items) (first ∷ take n (others ++ drop (length others) items)) before.counts c.counts-self-inside.result)
+    (GoesInStep action c.args.place (before.first ∷ others_in before.formation before.first before.others.items)
+        (first ∷ take n (others ++ drop (length others) items)) before.counts c.counts-self-inside.result)
     c.execute_by_others.new.standing
     (λ failed compared.
-    subst (λ xs. GoesInStep action c.args.place (before.first ∷ others_in before.formation before.first before.others.items) (first ∷ xs) before.counts c.counts-self-inside.result failed) (sym whole)
-    (subst (λ counts. GoesInStep action c.args.place (before.first ∷ others_in before.formation before.first before.others.items) (first ∷ others) before.counts counts failed) (sym c.counts-self-inside.ensures)
-    (step_recorded action c.args.place before.first first (others_in before.formation before.first before.others.items) others begun c.restart.new.self after did.0 _ failed
+    subst
+        (λ xs. GoesInStep action c.args.place (before.first ∷ others_in before.formation before.first before.others.items)
+        (first ∷ xs) before.counts c.counts-self-inside.result failed)
+        (sym whole)
+    (subst
+        (λ counts. GoesInStep action c.args.place (before.first ∷ others_in before.formation before.first before.others.items)
+        (first ∷ others) before.counts counts failed)
+        (sym c.counts-self-inside.ensures)
+    (step_recorded action c.args.place before.first first
+        (others_in before.formation before.first before.others.items) others begun c.restart.new.self after did.0 _ failed
     c.restart.ensures did.1 did.2 c.events-events.ensures
     (subst (λ xs. Compared action c.args.place events 2 xs others failed) stand compared))))
     c.execute_by_others.ensures.came)

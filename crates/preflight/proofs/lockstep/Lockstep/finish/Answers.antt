@@ -16,7 +16,13 @@ returns-in-Alone-clause-came g c =
     let before = c.self.inside in
     let others : List MachineState = before.others.items in
     let first = c.finish-answer.new.self in
-    subst (λ (f : Fleet). StandsBy c.judge.new.self (λ failed. GoesInStep Finish c.args.place f.machines (first ∷ others_in before.formation first others) f.counts c.finish-answer.new.sink failed)) c.self.view_is
+    subst
+    (λ (f : Fleet). StandsBy c.judge.new.self (λ failed.
+    GoesInStep Finish c.args.place f.machines (first ∷ others_in before.formation first others) f.counts c.finish-answer.new.sink failed))
+    c.self.view_is
     (as_one_in_step Finish c.args.place before.formation before.counts c.finish-answer.new.sink before.first first others
-    (λ events does. subst (λ formation. Each (Does Finish events) (before.first ∷ others_in formation before.first others) (first ∷ others_in formation first others)) (sym c.in-Alone.is) (does, tt))
+    (λ events does. subst
+        (λ formation.
+        Each (Does Finish events) (before.first ∷ others_in formation before.first others) (first ∷ others_in formation first others))
+        (sym c.in-Alone.is) (does, tt))
     c.finish-answer.result c.judge.new.self c.judge.ensures.standing c.finish-answer.ensures)

@@ -13,7 +13,8 @@ step-answer-requires g c = λ _.
 
 pub judge-is_open-requires-clause-running : goal.judge-is_open-requires-clause-running
 judge-is_open-requires-clause-running g c =
-    was_running counter_takes counter_refuses (Execute (view c.args.item.now)) _ _ c.self.inside.first c.step-answer.new.self c.step-answer.result
+    was_running counter_takes counter_refuses
+    (Execute (view c.args.item.now)) _ _ c.self.inside.first c.step-answer.new.self c.step-answer.result
     (subst (λ (f : Fleet). AreRunning f.machines) (sym c.self.view_is) c.requires.running).0 c.step-answer.ensures
 
 pub invariant_of-self : goal.invariant_of-self
@@ -21,8 +22,10 @@ invariant_of-self g c = λ runs.
     let before = c.self.inside in
     let item = view c.args.item.now in
     let running = (subst (λ (f : Fleet). AreRunning f.machines) (sym c.self.view_is) c.requires.running).0 in
-    let goes = subst (λ ms. GoesAsOne before.formation before.first ms item) c.deref.ensures.value (c.goes_as_one.ensures c.if-goes_as_one.true) in
-    as_one_formed c.items_run_on_like_printers.ensures item before.formation before.counts c.step-answer.new.sink before.first c.step-answer.new.self before.others.items (c.self.invariant running) goes
+    let goes =
+    subst (λ ms. GoesAsOne before.formation before.first ms item) c.deref.ensures.value (c.goes_as_one.ensures c.if-goes_as_one.true) in
+    as_one_formed c.items_run_on_like_printers.ensures item before.formation before.counts c.step-answer.new.sink before.first
+    c.step-answer.new.self before.others.items (c.self.invariant running) goes
     c.step-answer.result running runs c.step-answer.ensures
 
 pub returns-then-not-is_open-clause-came : goal.returns-then-not-is_open-clause-came
@@ -31,10 +34,14 @@ returns-then-not-is_open-clause-came g c = elim c.if-goes_as_one.branch [
       let before = c.self.inside in
       let item = view c.args.item.now in
       let running = (subst (λ (f : Fleet). AreRunning f.machines) (sym c.self.view_is) c.requires.running).0 in
-      let goes = subst (λ ms. GoesAsOne before.formation before.first ms item) c.deref.ensures.value (c.goes_as_one.ensures w.if-goes_as_one.true) in
+      let goes =
+          subst (λ ms. GoesAsOne before.formation before.first ms item) c.deref.ensures.value
+          (c.goes_as_one.ensures w.if-goes_as_one.true) in
       rw (w.self-is, w.standing-is)
-      (item_in_step c.items_run_on_like_printers.ensures item before.formation before.counts w.step-answer.new.sink before.first w.step-answer.new.self before.others.items (c.self.invariant running) goes
-      item refl c.args.self.now c.self.view_is c.args.place w.step-answer.result w.judge-is_open.new.self w.judge-is_open.ensures.standing w.step-answer.ensures)
+      (item_in_step c.items_run_on_like_printers.ensures item before.formation before.counts w.step-answer.new.sink before.first
+          w.step-answer.new.self before.others.items (c.self.invariant running) goes
+      item refl c.args.self.now c.self.view_is c.args.place w.step-answer.result w.judge-is_open.new.self
+          w.judge-is_open.ensures.standing w.step-answer.ensures)
   | else-goes_as_one w ↦ rw (w.self-is, w.standing-is) w.step_apart-is_open.ensures.came
 ]
 
@@ -44,10 +51,14 @@ returns-else-not-is_open-clause-came g c = elim c.if-goes_as_one.branch [
       let before = c.self.inside in
       let item = view c.args.item.now in
       let running = (subst (λ (f : Fleet). AreRunning f.machines) (sym c.self.view_is) c.requires.running).0 in
-      let goes = subst (λ ms. GoesAsOne before.formation before.first ms item) c.deref.ensures.value (c.goes_as_one.ensures w.if-goes_as_one.true) in
+      let goes =
+          subst (λ ms. GoesAsOne before.formation before.first ms item) c.deref.ensures.value
+          (c.goes_as_one.ensures w.if-goes_as_one.true) in
       rw (w.self-is, w.standing-is)
-      (item_in_step c.items_run_on_like_printers.ensures item before.formation before.counts w.step-answer.new.sink before.first w.step-answer.new.self before.others.items (c.self.invariant running) goes
-      item refl c.args.self.now c.self.view_is c.args.place w.step-answer.result w.judge-is_open.new.self w.judge-is_open.ensures.standing w.step-answer.ensures)
+      (item_in_step c.items_run_on_like_printers.ensures item before.formation before.counts w.step-answer.new.sink before.first
+          w.step-answer.new.self before.others.items (c.self.invariant running) goes
+      item refl c.args.self.now c.self.view_is c.args.place w.step-answer.result w.judge-is_open.new.self
+          w.judge-is_open.ensures.standing w.step-answer.ensures)
   | else-goes_as_one w ↦ rw (w.self-is, w.standing-is) w.step_apart-is_open.ensures.came
 ]
 

@@ -8,13 +8,15 @@ use Rattle.preflight.proofs.session.Session.end.Goals as goal
 
 pub returns-clause-exact : goal.returns-clause-exact
 returns-clause-exact g c =
-    IfOk-weaker c.verdict.result (λ verdict. (fleet : List Printer) (bytes : List ℕ) → HasChecked fleet bytes c.args.self → IsRight fleet bytes verdict c.verdict.new.self.culprit)
+    IfOk-weaker c.verdict.result (λ verdict.
+    (fleet : List Printer) (bytes : List ℕ) → HasChecked fleet bytes c.args.self → IsRight fleet bytes verdict c.verdict.new.self.culprit)
     (λ verdict. (fleet : List Printer) (bytes : List ℕ) → HasChecked fleet bytes c.args.self → IsExact fleet bytes verdict)
     (λ verdict ended fleet bytes checked. (ended fleet bytes checked).0) c.verdict.ensures.ended
 
 pub returns-clause-headline : goal.returns-clause-headline
 returns-clause-headline g c =
-    IfOk-weaker c.verdict.result (λ verdict. (fleet : List Printer) (bytes : List ℕ) → HasChecked fleet bytes c.args.self → IsRight fleet bytes verdict c.verdict.new.self.culprit)
+    IfOk-weaker c.verdict.result (λ verdict.
+    (fleet : List Printer) (bytes : List ℕ) → HasChecked fleet bytes c.args.self → IsRight fleet bytes verdict c.verdict.new.self.culprit)
     (λ verdict. (fleet : List Printer) (bytes : List ℕ) → HasChecked fleet bytes c.args.self → KeepsPromise fleet bytes verdict)
     (λ verdict ended fleet bytes checked. (ended fleet bytes checked).1) c.verdict.ensures.ended
 

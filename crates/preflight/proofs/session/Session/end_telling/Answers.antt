@@ -27,7 +27,8 @@ returns-clause-headline g c = λ fleet bytes checked. (c.in_ok-verdict.ensures.e
 
 pub returns-clause-told : goal.returns-clause-told
 returns-clause-told g c = λ fleet bytes checked.
-    subst (λ culprit. IsTold bytes c.in_ok-verdict.verdict culprit) (sym (ap (λ s. s.culprit) c.self.view_is)) (c.in_ok-verdict.ensures.ended fleet bytes checked).2
+    subst (λ culprit. IsTold bytes c.in_ok-verdict.verdict culprit) (sym (ap (λ s. s.culprit) c.self.view_is))
+    (c.in_ok-verdict.ensures.ended fleet bytes checked).2
 
 pub returns-clause-after_verdict : goal.returns-clause-after_verdict
 returns-clause-after_verdict g c = λ verdict is.

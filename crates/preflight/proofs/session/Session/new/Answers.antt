@@ -30,7 +30,8 @@ returns-in_ok-machines-in-len1-up-clause-none g c =
     let others : List Printer = c.first-item.result ∷ take (length c.args.fleet.now - 1) (drop 1 c.args.fleet.now) in
     let fleet = first_and_others c.args.fleet.now c.first-item.result c.in-len1-up.len_at_least c.first-item.is in (
       subst (λ printers. HasExecuted printers [] lexer.result (machines_of machines.machines) (counts_of machines.machines)) (sym fleet)
-          (executed_none others lexer.result (machines_of machines.machines) (counts_of machines.machines) (omega arith) lexer.ensures.reads machines.ensures.machines machines.ensures.counts),
+          (executed_none others lexer.result (machines_of machines.machines) (counts_of machines.machines)
+              (omega arith) lexer.ensures.reads machines.ensures.machines machines.ensures.counts),
       refl,
     )
 

@@ -17,15 +17,32 @@ returns g c = λ first bytes goes.
     let inside = c.self.inside in
     let before = inside.checking in
     let new = c.finish.new.self in
-    let old : SessionState = record { lexer = before.lexer; machines = machines_of before.machines; counts = counts_of before.machines; total = inside.total; standing = before.standing; culprit = before.culprit } in
-    let after : SessionState = record { lexer = new.lexer; machines = machines_of new.machines; counts = counts_of new.machines; total = inside.total; standing = new.standing; culprit = new.culprit } in
+    let old : SessionState = record {
+      lexer = before.lexer;
+      machines = machines_of before.machines;
+      counts = counts_of before.machines;
+      total = inside.total;
+      standing = before.standing;
+      culprit = before.culprit;
+    } in
+    let after : SessionState = record {
+      lexer = new.lexer;
+      machines = machines_of new.machines;
+      counts = counts_of new.machines;
+      total = inside.total;
+      standing = new.standing;
+      culprit = new.culprit;
+    } in
     elim c.match-self.branch [
       | in-Judged w ↦
           let verdict = w.in-Judged.verdict in
-          rw w.result-is (judged_at_end first.0 old after bytes (subst (ChecksOn first.0 bytes) (sym c.self.view_is) goes) verdict w.in-Judged.is (judged_ends new.standing _ verdict w.in-Judged.is c.finish.ensures))
+          rw w.result-is
+              (judged_at_end first.0 old after bytes (subst (ChecksOn first.0 bytes) (sym c.self.view_is) goes) verdict w.in-Judged.is
+              (judged_ends new.standing _ verdict w.in-Judged.is c.finish.ensures))
       | in-Stopped w ↦
           let error = w.in-Stopped.error in
-          rw w.result-is (out_of_memory new.standing error w.in-Stopped.is (stopped_ends new.standing _ error w.in-Stopped.is c.finish.ensures))
+          rw w.result-is
+              (out_of_memory new.standing error w.in-Stopped.is (stopped_ends new.standing _ error w.in-Stopped.is c.finish.ensures))
     ]
 
 pub unreachable-requires : goal.unreachable-requires

@@ -37,8 +37,22 @@ returns g c = λ first bytes goes.
     let piece = c.args.piece.now in
     let here = inside.checking in
     let new = c.execute_decided.new.self in
-    let old : SessionState = record { lexer = here.lexer; machines = machines_of here.machines; counts = counts_of here.machines; total = inside.total; standing = here.standing; culprit = here.culprit } in
-    let after : SessionState = record { lexer = new.lexer; machines = machines_of new.machines; counts = counts_of new.machines; total = inside.total + length piece; standing = new.standing; culprit = new.culprit } in
+    let old : SessionState = record {
+      lexer = here.lexer;
+      machines = machines_of here.machines;
+      counts = counts_of here.machines;
+      total = inside.total;
+      standing = here.standing;
+      culprit = here.culprit;
+    } in
+    let after : SessionState = record {
+      lexer = new.lexer;
+      machines = machines_of new.machines;
+      counts = counts_of new.machines;
+      total = inside.total + length piece;
+      standing = new.standing;
+      culprit = new.culprit;
+    } in
     let before : ChecksOn first.0 bytes old = subst (ChecksOn first.0 bytes) (sym c.self.view_is) goes in
     let fed = fed_ok c.feed.result (sym c.is_err.ensures.value ∙ c.if-is_err.false) c.feed.ensures.ok in
     let reads = fed_ok c.feed.result (sym c.is_err.ensures.value ∙ c.if-is_err.false) c.feed.ensures.reads in
@@ -51,7 +65,8 @@ returns g c = λ first bytes goes.
           rw w.result-is
           (checks_more first.0 old after bytes before piece w.in-Open.is refl (went.ended ∙ not_ended) on.0
           (λ fleet base executed.
-          let came = came_open _ _ _ new.lexer _ (machines_of new.machines) _ (counts_of new.machines) new.standing is went.came fleet (base ++ piece)
+          let came =
+          came_open _ _ _ new.lexer _ (machines_of new.machines) _ (counts_of new.machines) new.standing is went.came fleet (base ++ piece)
           (executed_fed fleet base piece here.lexer c.feed.new.self (machines_of here.machines) (counts_of here.machines) reads executed) in
           came.0))
       | in-Judged w ↦
@@ -60,9 +75,15 @@ returns g c = λ first bytes goes.
           rw w.result-is
           (judged_by_piece first.0 old after bytes before c.fails_say.ensures piece judged.0 verdict judged.1 w.in-Judged.is
           (λ fleet base executed.
-          subst (λ ended. (job : List ℕ) → MayBe ended (base ++ piece) job → IsExact fleet job (failing judged.0) × IsTold job (failing judged.0) new.culprit) not_ended
-          (judged.2 fleet (base ++ piece) (executed_fed fleet base piece here.lexer c.feed.new.self (machines_of here.machines) (counts_of here.machines) reads executed))))
+          subst
+              (λ ended. (job : List ℕ) → MayBe ended (base ++ piece) job →
+              IsExact fleet job (failing judged.0) × IsTold job (failing judged.0) new.culprit)
+              not_ended
+          (judged.2 fleet (base ++ piece)
+              (executed_fed fleet base piece here.lexer c.feed.new.self (machines_of here.machines)
+              (counts_of here.machines) reads executed))))
       | in-Stopped w ↦
           let error = w.in-Stopped.error in
-          rw w.result-is (out_of_memory new.standing error w.in-Stopped.is (stopped_stands new.standing _ error w.in-Stopped.is went.goes_on))
+          rw w.result-is
+              (out_of_memory new.standing error w.in-Stopped.is (stopped_stands new.standing _ error w.in-Stopped.is went.goes_on))
     ]

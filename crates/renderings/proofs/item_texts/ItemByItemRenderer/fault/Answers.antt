@@ -7,4 +7,5 @@ use Rattle.renderings.proofs.item_texts.ItemByItemRenderer.fault.Goals as goal
 pub returns-clause-rendered : goal.returns-clause-rendered
 returns-clause-rendered g c =
     let kept = c.args._kept.now.items in
-    last_told (item_by_item g.T.ItemText.text) (Stopped [] c.args.fault.place c.args.fault.cause) (g.W.Outlet.state c.args._outlet.now) kept kept [] c.of_fault.result (sym (append-nil kept)) refl (sym c.of_fault.ensures)
+    last_told (item_by_item g.T.ItemText.text) (Stopped [] c.args.fault.place c.args.fault.cause)
+    (g.W.Outlet.state c.args._outlet.now) kept kept [] c.of_fault.result (sym (append-nil kept)) refl (sym c.of_fault.ensures)

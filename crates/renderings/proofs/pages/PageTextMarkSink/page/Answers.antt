@@ -7,4 +7,9 @@ use Rattle.renderings.proofs.pages.PageTextMarkSink.page.Goals as goal
 
 pub returns-in_err-push_page-clause-err : goal.returns-in_err-push_page-clause-err
 returns-in_err-push_page-clause-err g c =
-    if_err c.from_residual.result (refl, refl, AddsFront-none (g.W.Outlet.state c.args.self.now.outlet.now) (c.args.self.now.kept.now.items ++ event_line c.args.self.now.page (Ended c.args.page)))
+    if_err c.from_residual.result (
+      refl,
+      refl,
+      AddsFront-none (g.W.Outlet.state c.args.self.now.outlet.now)
+          (c.args.self.now.kept.now.items ++ event_line c.args.self.now.page (Ended c.args.page)),
+    )

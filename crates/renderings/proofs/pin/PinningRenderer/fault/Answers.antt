@@ -8,4 +8,5 @@ pub returns-clause-rendered : goal.returns-clause-rendered
 returns-clause-rendered g c =
     let pinning = c.args.self.now in
     let kept = c.args._kept.now.items in
-    last_told (pins_from pinning.settings.panel pinning.settings.request pinning.is_due) (Stopped [] c.args.fault.place c.args.fault.cause) (g.W.Outlet.state c.args._outlet.now) kept kept [] c.of_fault.result (sym (append-nil kept)) refl (sym c.of_fault.ensures)
+    last_told (pins_from pinning.settings.panel pinning.settings.request pinning.is_due) (Stopped [] c.args.fault.place c.args.fault.cause)
+    (g.W.Outlet.state c.args._outlet.now) kept kept [] c.of_fault.result (sym (append-nil kept)) refl (sym c.of_fault.ensures)
