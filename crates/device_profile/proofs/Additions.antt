@@ -100,8 +100,7 @@ list_taken : (field : Field) (words : List (List ℕ)) (held : List ℕ) (new : 
 list_taken field words held new put next is =
     let single = unrepeated (not (length held == 0)) (or_cause put (values_on_line field words)) next is in
     let given = of_cause put (values_on_line field words) next single.1 in
-    let are : IsTrue (are_choices field given.0) = are_choices-on_line field words given.0 given.1 in
-    (
+    let are : IsTrue (are_choices field given.0) = are_choices-on_line field words given.0 given.1 in (
       given.0,
       ap (or_none new) given.1,
       and_from (length held == 0) (are_choices field given.0) (not-false (length held == 0) single.0) are,
@@ -114,8 +113,7 @@ number_taken : (most : ℕ) (words : List (List ℕ)) (held : Option ℕ) (new :
 number_taken most words held new put next is =
     let single = unrepeated (is_some held) (or_range put (number_on_line most words)) next is in
     let given = of_number put (number_on_line most words) next single.1 in
-    let few : IsTrue (nat_le given.0 most) = at_most-on_line most words given.0 given.1 in
-    (
+    let few : IsTrue (nat_le given.0 most) = at_most-on_line most words given.0 given.1 in (
       given.0,
       ap (option_map new) given.1,
       and_from (not (is_some held)) (nat_le given.0 most) (not_from_false (is_some held) single.0) few,

@@ -94,10 +94,10 @@ behind_point whole rest =
       | inr some ↦
           let none : decimals_of rest ≡ None =
           cond-false (are_digits 4 rest) (Some (value_after 0 rest * 10 ^ (4 - length rest))) None
-              (and_right (nat_lt 0 (length rest) && nat_le (length rest) 4) (list_all is_digit rest) some) in
+          (and_right (nat_lt 0 (length rest) && nat_le (length rest) 4) (list_all is_digit rest) some) in
           no_decimals whole rest (slice_split p rest) (omega (arith, length-slice_split p rest)) (join_with_byte-slice_split 46 rest) none
           ∙ sym
-              (ap (λ d. option_and_then (λ n. option_map (λ m. n * 10_000 + m) d) (number_of whole)) none ∙ none_for_each (number_of whole))
+          (ap (λ d. option_and_then (λ n. option_map (λ m. n * 10_000 + m) d) (number_of whole)) none ∙ none_for_each (number_of whole))
     ]
 
 -- a text without a point is a whole amount
@@ -129,13 +129,13 @@ amount-none word n within none here number =
       | inl e ↦
           let whole : take n word ≡ word = take_all n word (omega arith) in
           sym
-              (amount-whole word (subst (Lacks 46) whole none) ∙ ap (λ l. option_map (λ n. n * 10_000) (number_of l)) (sym whole)
-              ∙ ap (option_map (λ n. n * 10_000)) number)
+          (amount-whole word (subst (Lacks 46) whole none) ∙ ap (λ l. option_map (λ n. n * 10_000) (number_of l)) (sym whole)
+          ∙ ap (option_map (λ n. n * 10_000)) number)
       | inr more ↦
           let rest = take (length word - (n + 1)) (drop (n + 1) word) in
           sym
-              (amount-cut word n more none (here more)
-              ∙ ap (option_and_then (λ whole. option_map (λ d. whole * 10_000 + d) (decimals_of rest))) number)
+          (amount-cut word n more none (here more)
+          ∙ ap (option_and_then (λ whole. option_map (λ d. whole * 10_000 + d) (decimals_of rest))) number)
     ]
 
 -- a number without a point is so many times ten thousand

@@ -29,9 +29,32 @@ is_valid-sound draft s complete pages choices =
     let p1 = and_parts sized turned p2.0 in
     let o2 = and_parts (faced && held) sided choices in
     let o1 = and_parts faced held o2.0 in
-    rw (chosen Size, chosen Orientation, chosen Vmi, chosen Font, chosen Copies, chosen Sides, chosen Tray, chosen LineTerm,
-    s.device_trays (given Trays), p1.0, p1.1, o1.0, o1.1, o2.1, s.depth, s.memory, s.few_pages, s.new_pages, p2.1, s.pages, s.few_faces,
-    s.new_ids, s.new_requests, s.faces)
+    rw (
+      chosen Size,
+      chosen Orientation,
+      chosen Vmi,
+      chosen Font,
+      chosen Copies,
+      chosen Sides,
+      chosen Tray,
+      chosen LineTerm,
+      s.device_trays (given Trays),
+      p1.0,
+      p1.1,
+      o1.0,
+      o1.1,
+      o2.1,
+      s.depth,
+      s.memory,
+      s.few_pages,
+      s.new_pages,
+      p2.1,
+      s.pages,
+      s.few_faces,
+      s.new_ids,
+      s.new_requests,
+      s.faces,
+    )
 
 -- a draft that some lines gave is a valid printer where nothing is wrong with the whole
 pub is_valid-given : (draft : Draft) → IsGiven draft → IsTrue (is_complete draft) → IsTrue (has_its_pages draft) →

@@ -167,8 +167,7 @@ length_is : (least most : ℕ) (word : List ℕ) (length : ℤ) → length_betwe
 length_is least most word length is =
     let given = of_mapped of_7200ths (between least most (number_of word)) length is in
     let inner = of_value (λ n. if is_between least most n then Some n else None) (number_of word) given.0 given.1 in
-    let kept = passed_some (is_between least most inner.0) inner.0 given.0 inner.2 in
-    (
+    let kept = passed_some (is_between least most inner.0) inner.0 given.0 inner.2 in (
       given.0,
       subst (λ (n : ℕ). IsTrue (nat_le least n)) kept.1 ((and_parts (nat_le least inner.0) (nat_le inner.0 most) kept.0).0),
       given.2,
@@ -236,7 +235,7 @@ is_weight-given word weight is =
     (λ yes got.
     let given = of_mapped (λ n. neg_ℤ (pos n)) (whole_of 7 (drop 1 word)) weight got in
     subst (λ (z : ℤ). IsTrue (is_whole_up_to 7 (unsigned_abs z))) given.2
-        (rw (abs-neg given.0) (is_whole-given 7 (drop 1 word) given.0 given.1)))
+    (rw (abs-neg given.0) (is_whole-given 7 (drop 1 word) given.0 given.1)))
     (λ no got.
     let given = of_mapped (λ n. pos n) (whole_of 7 word) weight got in
     subst (λ (z : ℤ). IsTrue (is_whole_up_to 7 (unsigned_abs z))) given.2 (is_whole-given 7 word given.0 given.1))

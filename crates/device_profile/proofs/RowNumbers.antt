@@ -67,7 +67,7 @@ value-stop read (Some m) tail count few is =
     let large : is_row_number m ≡ false = grind (arith, nat_tests) in
     twelve-too_large (length read + suc count) (read ++ m ∷ tail)
     (list_all-append is_row_number read (m ∷ tail)
-        ∙ and_right (list_all is_row_number read) _ (and_left (is_row_number m) (list_all is_row_number tail) large)))
+    ∙ and_right (list_all is_row_number read) _ (and_left (is_row_number m) (list_all is_row_number tail) large)))
     is
 
 -- one more word gives a number

@@ -11,10 +11,10 @@ abbrev pub is_same_page : Geometry → Geometry → Bool
 is_same_page a b =
     (a.size == b.size) && ((a.orientation == b.orientation) && (int_eq a.page_width b.page_width && (int_eq a.page_height b.page_height
     && (int_eq a.logical_left b.logical_left
-        && (int_eq a.logical_top b.logical_top && (int_eq a.logical_width b.logical_width && (int_eq a.logical_height b.logical_height
+    && (int_eq a.logical_top b.logical_top && (int_eq a.logical_width b.logical_width && (int_eq a.logical_height b.logical_height
     && (int_eq a.printable_left b.printable_left
-        && (int_eq a.printable_top b.printable_top
-        && (int_eq a.printable_right b.printable_right && int_eq a.printable_bottom b.printable_bottom))))))))))
+    && (int_eq a.printable_top b.printable_top
+    && (int_eq a.printable_right b.printable_right && int_eq a.printable_bottom b.printable_bottom))))))))))
 
 page_decides : (a b : Geometry) → Decides (is_same_page a b) (a ≡ b)
 page_decides a b =
@@ -50,12 +50,12 @@ page_decides a b =
                   (
                     ap (λ (g : Geometry). g.logical_height) e,
                     (
-                          ap (λ (g : Geometry). g.printable_left) e,
-                          (
-                                ap (λ (g : Geometry). g.printable_top) e,
-                                (ap (λ (g : Geometry). g.printable_right) e, ap (λ (g : Geometry). g.printable_bottom) e),
-                              ),
-                        ),
+                      ap (λ (g : Geometry). g.printable_left) e,
+                      (
+                        ap (λ (g : Geometry). g.printable_top) e,
+                        (ap (λ (g : Geometry). g.printable_right) e, ap (λ (g : Geometry). g.printable_bottom) e),
+                      ),
+                    ),
                   ),
                 ),
               ),
@@ -68,13 +68,13 @@ page_decides a b =
     (Decides-and _ _ (Decides-eqb a.orientation b.orientation)
     (Decides-and _ _ (Decides-int_eq a.page_width b.page_width) (Decides-and _ _ (Decides-int_eq a.page_height b.page_height)
     (Decides-and _ _ (Decides-int_eq a.logical_left b.logical_left)
-        (Decides-and _ _ (Decides-int_eq a.logical_top b.logical_top)
-        (Decides-and _ _ (Decides-int_eq a.logical_width b.logical_width)
-        (Decides-and _ _ (Decides-int_eq a.logical_height b.logical_height)
+    (Decides-and _ _ (Decides-int_eq a.logical_top b.logical_top)
+    (Decides-and _ _ (Decides-int_eq a.logical_width b.logical_width)
+    (Decides-and _ _ (Decides-int_eq a.logical_height b.logical_height)
     (Decides-and _ _ (Decides-int_eq a.printable_left b.printable_left)
-        (Decides-and _ _ (Decides-int_eq a.printable_top b.printable_top)
-        (Decides-and _ _ (Decides-int_eq a.printable_right b.printable_right)
-        (Decides-int_eq a.printable_bottom b.printable_bottom))))))))))))
+    (Decides-and _ _ (Decides-int_eq a.printable_top b.printable_top)
+    (Decides-and _ _ (Decides-int_eq a.printable_right b.printable_right)
+    (Decides-int_eq a.printable_bottom b.printable_bottom))))))))))))
 
 pub pages_decide : (xs ys : List Geometry) (r : Bool) → r ≡ pointwise is_same_page xs ys → Decides r (xs ≡ ys)
 pages_decide xs ys r e = slice_eq-Decides page_decides xs ys r e

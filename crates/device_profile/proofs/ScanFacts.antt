@@ -81,16 +81,16 @@ words-cut line n some within none here =
           let whole : take n line ≡ line = take_all n line all in
           let end : drop n line ≡ [] = drop_of_length-le line all in
           ap words_of (sym whole)
-              ∙ (ap (filter q) (slice_split_none p (take n line) none)
-              ∙ (words-kept (take n line) [] long ∙ ap (λ l. take n line ∷ words_of l) (sym end)))
+          ∙ (ap (filter q) (slice_split_none p (take n line) none)
+          ∙ (words-kept (take n line) [] long ∙ ap (λ l. take n line ∷ words_of l) (sym end)))
       | inr more ↦
           let rest = drop (n + 1) line in
           let after : drop n line ≡ 32 ∷ rest =
-              drop-cons line n 0 more ∙ ap (λ b. b ∷ drop (suc n) line) (here more) ∙ ap (λ m. 32 ∷ drop m line) (sym (add-one n)) in
+          drop-cons line n 0 more ∙ ap (λ b. b ∷ drop (suc n) line) (here more) ∙ ap (λ m. 32 ∷ drop m line) (sym (add-one n)) in
           let whole : line ≡ take n line ++ 32 ∷ rest = sym (take-append-drop n line) ∙ ap (λ l. take n line ++ l) after in
           ap words_of whole
-              ∙ (ap (filter q) (slice_split_at p (take n line) 32 rest none refl)
-              ∙ (words-kept (take n line) (slice_split p rest) long ∙ ap (λ l. take n line ∷ words_of l) (sym after)))
+          ∙ (ap (filter q) (slice_split_at p (take n line) 32 rest none refl)
+          ∙ (words-kept (take n line) (slice_split p rest) long ∙ ap (λ l. take n line ∷ words_of l) (sym after)))
     ] in
     cut ∙ ap (λ l. take n line ∷ words_of l) (sym (take_rest line n))
 

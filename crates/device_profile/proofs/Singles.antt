@@ -280,7 +280,7 @@ all_once_of format first later draft version is complete =
     (λ key awaited.
     let parts = and_parts (is_single key) (not (is_given (no_draft format) key)) awaited in
     stands_once key parts.0 format (not-true (is_given (no_draft format) key) parts.1) first later draft version is
-        (each_given draft complete key))
+    (each_given draft complete key))
 
 pub all_once : (all : List (List ℕ)) (draft : Draft) (format : Format) → draft_of all ≡ Ok draft →
     format_of (words_of (get_or all 0 [])) ≡ Some format → IsTrue (is_complete draft)

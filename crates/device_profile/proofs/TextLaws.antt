@@ -121,8 +121,8 @@ pairs_moved a b moved pairs =
     (λ (sized : Geometry). list_all (λ (turned : Geometry). has_row b sized.size turned.orientation) b) a
     (λ sized each. all_moved (λ (turned : Geometry). has_row b sized.size turned.orientation) a b moved
     (sym (agree (λ (turned : Geometry). has_row a sized.size turned.orientation)
-        (λ (turned : Geometry). has_row b sized.size turned.orientation) a (λ turned. row_moved a b moved sized.size turned.orientation))
-        ∙ each))
+    (λ (turned : Geometry). has_row b sized.size turned.orientation) a (λ turned. row_moved a b moved sized.size turned.orientation))
+    ∙ each))
     pairs)
 
 -- of similar drafts either is complete, has its pages and its choices

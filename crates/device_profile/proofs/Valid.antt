@@ -247,5 +247,5 @@ CanBeSet-valid printer valid panel allowed =
           (IsSome-find (λ (face : Face). face.id == panel.font) printer.faces
           (passes-at (λ font. has_face printer.faces font) printer.fonts panel.font parts.faced allowed.font))
           (IfSome-find (λ face. IsTrue (is_request face.request))
-              (λ (face : Face). face.id == panel.font) is_face printer.faces face_request parts.faces);
+          (λ (face : Face). face.id == panel.font) is_face printer.faces face_request parts.faces);
     }

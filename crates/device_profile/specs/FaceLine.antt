@@ -47,14 +47,14 @@ request_of words =
     option_and_then
     (λ pitch. option_and_then (λ height. option_and_then (λ style. option_and_then (λ weight. option_map (λ typeface.
     record {
-          symbol_set = symbol_set;
-          spacing = 0;
-          pitch = pitch;
-          height = height;
-          style = style;
-          weight = weight;
-          typeface = typeface;
-        })
+      symbol_set = symbol_set;
+      spacing = 0;
+      pitch = pitch;
+      height = height;
+      style = style;
+      weight = weight;
+      typeface = typeface;
+    })
     (whole_of 65_535 (get_or words 5 [])))
     (weight_of (get_or words 4 [])))
     (whole_of 65_535 (get_or words 3 [])))

@@ -102,9 +102,9 @@ plain_left job job' status out out' file file' new unwritten ends = record {
       (file'.failed || out'.failed))
       unwritten
       (subst
-          (λ s. EndsBy status (λ s s'. LeavesOut status plain_rendering s s' file file' out out') s job' job'.failed
-          (file'.failed || out'.failed))
-          new ends);
+      (λ s. EndsBy status (λ s s'. LeavesOut status plain_rendering s s' file file' out out') s job' job'.failed
+      (file'.failed || out'.failed))
+      new ends);
 }
 
 -- the work stopped at a read just where one failed, whichever it was
@@ -131,13 +131,13 @@ pages_left word given texts failed job job' status out out' none new ends = reco
       at_reads status (λ s s'. LeavesPages status (IsNamed (text_named word) [] texts) s s' out out') no_source job'
       (job'.failed || failed) out'.failed
       (subst
-          (λ g. EndsBy status (λ s s'. LeavesPages status (IsNamed (text_named word) g texts) s s' out out') no_source job'
-          (job'.failed || failed) out'.failed)
-          none
+      (λ g. EndsBy status (λ s s'. LeavesPages status (IsNamed (text_named word) g texts) s s' out out') no_source job'
+      (job'.failed || failed) out'.failed)
+      none
       (subst
-          (λ s. EndsBy status (λ s s'. LeavesPages status (IsNamed (text_named word) given texts) s s' out out') s job'
-          (job'.failed || failed) out'.failed)
-          new ends));
+      (λ s. EndsBy status (λ s s'. LeavesPages status (IsNamed (text_named word) given texts) s s' out out') s job'
+      (job'.failed || failed) out'.failed)
+      new ends));
 }
 
 pub notes_left : (word : List ℕ) (given texts : List (List ℕ)) (failed : Bool) (job job' : SourceState) (status : Status)
@@ -153,13 +153,13 @@ notes_left word given texts failed job job' status out out' none new ends = reco
       at_reads status (λ s s'. LeavesNotes status (IsNamed (text_named word) [] texts) s s' out out') no_source job'
       (job'.failed || failed) out'.failed
       (subst
-          (λ g. EndsBy status (λ s s'. LeavesNotes status (IsNamed (text_named word) g texts) s s' out out') no_source job'
-          (job'.failed || failed) out'.failed)
-          none
+      (λ g. EndsBy status (λ s s'. LeavesNotes status (IsNamed (text_named word) g texts) s s' out out') no_source job'
+      (job'.failed || failed) out'.failed)
+      none
       (subst
-          (λ s. EndsBy status (λ s s'. LeavesNotes status (IsNamed (text_named word) given texts) s s' out out') s job'
-          (job'.failed || failed) out'.failed)
-          new ends));
+      (λ s. EndsBy status (λ s s'. LeavesNotes status (IsNamed (text_named word) given texts) s s' out out') s job'
+      (job'.failed || failed) out'.failed)
+      new ends));
 }
 
 pub pin_left : (word : List ℕ) (choices : List Choice) (given texts : List (List ℕ)) (failed : Bool) (job job' : SourceState)
@@ -176,17 +176,17 @@ pin_left word choices given texts failed job job' status out out' file file' err
       at_reads status (λ s s'. LeavesPinned status (IsNamed (text_named word) [] texts) choices s s' no_outlet file' out out') no_source
       job' (job'.failed || failed) (file'.failed || out'.failed)
       (subst
-          (λ f. EndsBy status (λ s s'. LeavesPinned status (IsNamed (text_named word) [] texts) choices s s' f file' out out') no_source
-          job' (job'.failed || failed) (file'.failed || out'.failed))
-          unwritten
+      (λ f. EndsBy status (λ s s'. LeavesPinned status (IsNamed (text_named word) [] texts) choices s s' f file' out out') no_source
+      job' (job'.failed || failed) (file'.failed || out'.failed))
+      unwritten
       (subst
-          (λ g. EndsBy status (λ s s'. LeavesPinned status (IsNamed (text_named word) g texts) choices s s' file file' out out') no_source
-          job' (job'.failed || failed) (file'.failed || out'.failed))
-          none
+      (λ g. EndsBy status (λ s s'. LeavesPinned status (IsNamed (text_named word) g texts) choices s s' file file' out out') no_source
+      job' (job'.failed || failed) (file'.failed || out'.failed))
+      none
       (subst
-          (λ s. EndsBy status (λ s s'. LeavesPinned status (IsNamed (text_named word) given texts) choices s s' file file' out out') s job'
-          (job'.failed || failed) (file'.failed || out'.failed))
-          new ends)));
+      (λ s. EndsBy status (λ s s'. LeavesPinned status (IsNamed (text_named word) given texts) choices s s' file file' out out') s job'
+      (job'.failed || failed) (file'.failed || out'.failed))
+      new ends)));
   choice = subst (λ g. TellsOfPin status (IsNamed (text_named word) g texts) choices err err') none choice;
 }
 

@@ -154,17 +154,17 @@ module _ (selection : Selection) (sentence : List ℕ) where
             fault = λ rest place cause.
                 let behind : List Event → Ending → Bool → List ℕ =
                 λ l ending is_over. if is_over then []
-                    else (added_at_ending ending
-                    (λ s. fault_behind selection sentence machine.printer defaults place cause (progress_behind_all p l) rest macros s)) in
+                else (added_at_ending ending
+                (λ s. fault_behind selection sentence machine.printer defaults place cause (progress_behind_all p l) rest macros s)) in
                 ap (λ (r : Run). behind r.events r.ending (is_behind selection (progress_behind_all p r.events).page)) run
                 ∙ (ap (λ l. behind l (Done t) (is_behind selection (progress_behind_all p l).page)) (append-nil events)
                 ∙ (ap (behind events (Done t)) goes
                 ∙ (added rest place cause
                 ∙ ap
-                    (λ b. start_if_due selection sentence b
-                    ++ fault_behind selection sentence machine'.printer
-                    (settings_at any_panel machine'.defaults) place cause p' rest machine'.macros t)
-                    (sym (started-more rest)))));
+                (λ b. start_if_due selection sentence b
+                ++ fault_behind selection sentence machine'.printer
+                (settings_at any_panel machine'.defaults) place cause p' rest machine'.macros t)
+                (sym (started-more rest)))));
           }
 
       -- all that is wanted is drawn behind it, however it ended
@@ -270,7 +270,7 @@ module _ (selection : Selection) (sentence : List ℕ) where
                 ap rendering.text is
                 ∙ (ap (λ (d : Drawing). start ++ d.text) known
                 ∙ sym (append_assoc start (drawn_events here_sheet p events)
-                    (failed machine.printer p here place last (progress_behind_all p events) finding).text));
+                (failed machine.printer p here place last (progress_behind_all p events) finding).text));
             outcome_is = λ reading is. ap rendering.outcome is ∙ ap (λ (d : Drawing). d.outcome) known;
           }
 

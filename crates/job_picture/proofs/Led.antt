@@ -62,13 +62,13 @@ module _ {W A : Type 0} (state : W → OutletState) where
             (state new.outlet.now) old.kept.now.items mid.kept.now.items new.kept.now.items
             (drawn_event old.sheet old.progress e) (drawn_events old.sheet (progress_behind old.progress e) es) first.puts
             (subst
-                (λ p.
-                Puts (state mid.outlet.now) (state new.outlet.now) mid.kept.now.items new.kept.now.items (drawn_events old.sheet p es))
-                first.progress_is
+            (λ p.
+            Puts (state mid.outlet.now) (state new.outlet.now) mid.kept.now.items new.kept.now.items (drawn_events old.sheet p es))
+            first.progress_is
             (subst
-                (λ s.
-                Puts (state mid.outlet.now) (state new.outlet.now) mid.kept.now.items new.kept.now.items (drawn_events s mid.progress es))
-                sheet_is rest.puts));
+            (λ s.
+            Puts (state mid.outlet.now) (state new.outlet.now) mid.kept.now.items new.kept.now.items (drawn_events s mid.progress es))
+            sheet_is rest.puts));
         progress_is = rest.progress_is ∙ ap (λ p. progress_behind_all p es) first.progress_is;
       }
 

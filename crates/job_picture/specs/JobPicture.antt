@@ -76,7 +76,7 @@ run_drawing selection sentence printer p s place r next =
     then_draws (drawn_events (sheet_of selection sentence printer s) p r.events)
     (if is_behind selection p'.page then drawn_out
     else (behind_ending r.ending (next p') (λ finding.
-        at_failure selection sentence printer s p' (Fail place 1 (FindingOfRun finding)))))
+    at_failure selection sentence printer s p' (Fail place 1 (FindingOfRun finding)))))
 
 -- of items, and then what comes last
 abbrev pub items_drawing : Selection → (sentence : List ℕ) → Printer → Settings → (Progress → Store → State → Drawing) →
@@ -153,5 +153,5 @@ picture_rendering printer panel selection sentence = record {
       let defaults : Settings = user_defaults unwatched panel in
       start_if_due selection sentence (started_behind false items)
       ++ fault_behind selection sentence printer defaults place cause first_page items (no_macros printer.memory)
-          (start_state printer.most_items defaults);
+      (start_state printer.most_items defaults);
 }

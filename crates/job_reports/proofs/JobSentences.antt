@@ -60,8 +60,12 @@ sign_short Minus = omega arith
 
 number_short : (number : Number) → length (amount_text (amount number)) ≤ 17
 number_short number =
-    omega (arith, length-append (sign_text number.sign) (magnitude_text number.ten_thousandths), sign_short number.sign,
-    (setting_spelled number.ten_thousandths number.within).field.short)
+    omega (
+      arith,
+      length-append (sign_text number.sign) (magnitude_text number.ten_thousandths),
+      sign_short number.sign,
+      (setting_spelled number.ten_thousandths number.within).field.short,
+    )
 
 simple_short : (item : SimpleItem) → length (canon (simple_view item)) ≤ 36
 simple_short simple.CarriageReturn = omega arith
@@ -87,8 +91,13 @@ simple_short (simple.Move motion None) = omega arith
 simple_short (simple.Move motion (Some to)) =
     let x : List ℕ = signed_decimal to.x.units in
     let y : List ℕ = signed_decimal to.y.units in
-    omega (arith, length-append x (44 ∷ y), length-append (x ++ 44 ∷ y) (59 ∷ []),
-    (coordinate_spelled to.x.units to.x.within).numeral.short, (coordinate_spelled to.y.units to.y.within).numeral.short)
+    omega (
+      arith,
+      length-append x (44 ∷ y),
+      length-append (x ++ 44 ∷ y) (59 ∷ []),
+      (coordinate_spelled to.x.units to.x.within).numeral.short,
+      (coordinate_spelled to.y.units to.y.within).numeral.short,
+    )
 simple_short simple.ExitLanguage = omega arith
 
 simple_part : (item : SimpleItem) → IsWithin 144 (flat_map code_words (canon (simple_view item)))
@@ -268,7 +277,7 @@ answer_part report (Err error) h k l =
     (joined ((front ++ cause_phrase report.cause) ++ codes " (") (error_words error)
     (joined (front ++ cause_phrase report.cause) (codes " (")
     (joined front (cause_phrase report.cause) (joined (error_phrase error) _ (error_part error) (for_part report.names _ h))
-        (cause_part report.cause))
+    (cause_part report.cause))
     (literal 2 _ refl refl)) (error_words_part error)) (literal 1 _ refl refl))
 
 -- ---- the sentence
@@ -288,8 +297,7 @@ named_first_part name =
 
 pub sentence_is_short : (report : Reported) → IsOfParts report → IsSentence (job_sentence report)
 sentence_is_short report h =
-    let answer : List ℕ = answer_phrase report (verdict_of report.answer) in
-    (
+    let answer : List ℕ = answer_phrase report (verdict_of report.answer) in (
       named_first report.job ++ answer,
       refl,
       wider 999 _ (omega arith)

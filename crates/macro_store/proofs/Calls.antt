@@ -98,13 +98,13 @@ module _ (limit : ℕ) (pool : List ℕ) (spans : List (ℕ × Span)) where
           ap (λ start. spans ++ (d.id, record { start = start; end = length pool }) ∷ []) start_is
           ∙ ap (λ end. spans ++ (d.id, record { start = 0 + length (texts h.bodies); end = end }) ∷ []) end_is
           ∙ ap
-              (λ xs. xs
-              ++ (
-                d.id,
-                record { start = 0 + length (texts h.bodies); end = (0 + length (texts h.bodies)) + length (spelled h.items) },
-              )
-              ∷ [])
-              h.spans_are
+          (λ xs. xs
+          ++ (
+            d.id,
+            record { start = 0 + length (texts h.bodies); end = (0 + length (texts h.bodies)) + length (spelled h.items) },
+          )
+          ∷ [])
+          h.spans_are
           ∙ sym (spans_more 0 h.bodies (d.id, h.items));
       pool_is =
           h.pool_is
@@ -151,8 +151,14 @@ module _ (limit : ℕ) (pool : List ℕ) (spans : List (ℕ × Span)) where
       pub fewer : length left_pool ≤ length pool
       fewer =
           let f = found_in pool spans None h id span found in
-          omega (arith, length-append (take span.start pool) (drop span.end pool),
-          length-take-le span.start pool (omega (arith, f.forward, f.within)), length-drop span.end pool, f.forward, f.within)
+          omega (
+            arith,
+            length-append (take span.start pool) (drop span.end pool),
+            length-take-le span.start pool (omega (arith, f.forward, f.within)),
+            length-drop span.end pool,
+            f.forward,
+            f.within,
+          )
 
   -- a definition begins behind the bodies
   module _ (h : IsLaidOut pool spans None) (id : ℕ) (gone : lookup (nat_eq id) spans ≡ None) where

@@ -156,7 +156,7 @@ out_case : (b : Bool) (pool front rest : List ℕ) (m : ℕ × List Entry) (ms :
     (here ≡ span → IsOut pool span spans (spans_from place ms) (front ++ (texts ms ++ rest))) →
     (others ≡ Some span →
     IsOut pool span ((m.0, here) ∷ remove_entry (nat_eq id) spans) ((m.0, here) ∷ spans_from end fewer)
-        (front ++ ((spelled m.1 ++ texts fewer) ++ rest))) →
+    (front ++ ((spelled m.1 ++ texts fewer) ++ rest))) →
     here ≡ record { start = place; end = end } →
     IsOut pool span (cond b spans ((m.0, here) ∷ remove_entry (nat_eq id) spans)) (spans_from place (cond b ms (m ∷ fewer)))
     (front ++ (texts (cond b ms (m ∷ fewer)) ++ rest))

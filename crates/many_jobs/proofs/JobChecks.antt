@@ -96,7 +96,7 @@ module _ (groups : Groups) (telling : HowTold) (start : List ℕ → SourceState
       right = All-append (IsRightLine groups telling start) lines lines' first.right second.right;
       written = subst (Adds old.out new.out) (sym (flat_map-append (line_text groups telling) lines lines'))
           (Adds-trans old.out mid.out new.out (flat_map (line_text groups telling) lines)
-              (flat_map (line_text groups telling) lines') first.written second.written);
+          (flat_map (line_text groups telling) lines') first.written second.written);
       ended = second.ended ∙ ap (λ es. es ++ afters lines') first.ended ∙ append_assoc old.ended (afters lines) (afters lines')
           ∙ ap (λ es. old.ended ++ es) (sym (flat_map-append afters_of lines lines'));
     }
@@ -122,10 +122,10 @@ module _ (groups : Groups) (telling : HowTold) (start : List ℕ → SourceState
           untold = second.untold;
           in_order =
               ap (λ ks. ks ++ (second.later ++ later))
-                  (map-append key first.0 second.lines ∙ ap (λ ks. ks ++ map key second.lines) first.1.in_order)
+              (map-append key first.0 second.lines ∙ ap (λ ks. ks ++ map key second.lines) first.1.in_order)
               ∙ append_assoc due (map key second.lines) (second.later ++ later)
               ∙ ap (λ ks. due ++ ks)
-                  (sym (append_assoc (map key second.lines) second.later later) ∙ ap (λ ks. ks ++ later) second.in_order);
+              (sym (append_assoc (map key second.lines) second.later later) ∙ ap (λ ks. ks ++ later) second.in_order);
           right = right_behind first.0 second.lines first.1.right second.right;
           written = (
             text ++ more.0,
@@ -137,8 +137,8 @@ module _ (groups : Groups) (telling : HowTold) (start : List ℕ → SourceState
           ended = second.ended ∙ ap (λ es. es ++ (afters second.lines ++ second.untold)) first.1.ended
               ∙ append_assoc old.ended (afters first.0) (afters second.lines ++ second.untold)
               ∙ ap (λ es. old.ended ++ es)
-                  (sym (append_assoc (afters first.0) (afters second.lines) second.untold)
-                  ∙ ap (λ es. es ++ second.untold) (sym (flat_map-append afters_of first.0 second.lines)));
+              (sym (append_assoc (afters first.0) (afters second.lines) second.untold)
+              ∙ ap (λ es. es ++ second.untold) (sym (flat_map-append afters_of first.0 second.lines)));
         }
 
   -- ---- one line

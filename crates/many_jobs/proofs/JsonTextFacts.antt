@@ -22,7 +22,7 @@ escaped-ascii false b h l =
     let low = hex_digit (b % 16) in
     IsAscii-cons 92 (120 ∷ high ∷ low ∷ []) (omega arith) (IsAscii-cons 120 (high ∷ low ∷ []) (omega arith)
     (IsAscii-cons high (low ∷ []) (hex_digit-ascii (b / 16) (omega arith))
-        (IsAscii-cons low [] (hex_digit-ascii (b % 16) (omega arith)) IsAscii-nil)))
+    (IsAscii-cons low [] (hex_digit-ascii (b % 16) (omega arith)) IsAscii-nil)))
 
 IsAscii-shown_byte : (b : ℕ) → b < 256 → IsAscii (shown_byte b)
 IsAscii-shown_byte b h = escaped-ascii _ b (grind (arith, nat_tests)) h

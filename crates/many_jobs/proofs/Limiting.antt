@@ -23,7 +23,7 @@ limited_more most i old new d h inside =
       take_more_set new i it inside
           ∙ (ap (λ (front : List Printer). front ++ it ∷ []) h.1
           ∙ (ap (λ (p : Printer). map (limited most) (take i old) ++ limited most p ∷ []) first
-              ∙ sym (map_more (limited most) old i d there))),
+          ∙ sym (map_more (limited most) old i d there))),
       drop-set-lt (i + 1) new i it (omega arith) ∙ behind,
     )
 

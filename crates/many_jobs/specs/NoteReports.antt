@@ -54,7 +54,7 @@ told_members explanation subject told =
     (with_text (codes "note") (words_text (note_name told.note)) (with_number (codes "code") (note_number told.note)
     (with_number (codes "at") told.place
     (with_text (codes "printer") (name_text subject.printer)
-        (with_text (codes "job") (name_text subject.job) no_members)))))
+    (with_text (codes "job") (name_text subject.job) no_members)))))
 
 abbrev pub told_object : List ℕ → NoteSubject → Told → List ℕ
 told_object explanation subject told = compact_text (object (told_members explanation subject told)) ++ 10 ∷ []

@@ -25,6 +25,6 @@ asked_left known read_failed names_from asked before ended status out out' told 
       subst (λ texts. LeavesMany texts read_failed asked (λ name. no_source) status (work out []) (work out' ended) err err') known_is
           (subst (λ jobs. LeavesMany known read_failed asked (λ name. no_source) status (work out jobs) (work out' ended) err err') none
           (subst
-              (λ e. LeavesMany known read_failed asked (λ name. no_source) status (work out before) (work out' ended) e err') quiet left)),
+          (λ e. LeavesMany known read_failed asked (λ name. no_source) status (work out before) (work out' ended) e err') quiet left)),
       write,
     )

@@ -43,11 +43,11 @@ reads_more bytes text_of now_of paths i path start old new words words' within h
       };
       given =
           adds.read ∙ ap (λ texts. texts ++ adds.text ∷ []) reads.given
-              ∙ append_assoc start (map (λ fleet. fleet.text) reads.fleets) (adds.text ∷ [])
+          ∙ append_assoc start (map (λ fleet. fleet.text) reads.fleets) (adds.text ∷ [])
           ∙ ap (λ texts. start ++ texts) (sym (map-append (λ fleet. fleet.text) reads.fleets (fleet ∷ [])));
       words_are =
           ap (map bytes) adds.adds.behind ∙ map-append bytes words adds.adds.more
-              ∙ ap (λ front. front ++ map bytes adds.adds.more) reads.words_are
+          ∙ ap (λ front. front ++ map bytes adds.adds.more) reads.words_are
           ∙ ap (λ named. flat_map words_named reads.fleets ++ named) (adds.adds.bytes_are ∙ sym (append-nil (words_named fleet)))
           ∙ sym (flat_map-append words_named reads.fleets (fleet ∷ []));
     }

@@ -97,7 +97,7 @@ abbrev pub LeavesAsked : Option (List ℕ) → Asked → Status → OutletState 
 LeavesAsked names_from asked status out out' err err' =
     (IsFalse (reads_input_again names_from asked) × (ended : List SourceState) × (read_failed : Bool)
     × LeavesMany (map text_named asked.printers) read_failed asked (λ name. no_source) status (work out [])
-        (work out' ended) err err'
+    (work out' ended) err err'
     × (out'.failed ≡ is_stop_of_write status))
     ⊎ (RefusesInput names_from asked status err err' × (out' ≡ out))
 

@@ -134,8 +134,13 @@ behind_described start mid after printers i (Profile number line cause) describe
   before = described.0;
   text = refused.1;
   read = refused.2 ∙ ap (λ front. front ++ refused.1 ∷ []) described.1 ∙ append_assoc start described.0 (refused.1 ∷ []);
-  number_is = omega (arith, refused.0, count, described_count (map (λ text. Some text) described.0) printers described.2,
-  length-map described.0 (λ text. Some text));
+  number_is = omega (
+    arith,
+    refused.0,
+    count,
+    described_count (map (λ text. Some text) described.0) printers described.2,
+    length-map described.0 (λ text. Some text),
+  );
   printers = printers;
   accepted = described.2;
   refused = refused.3;

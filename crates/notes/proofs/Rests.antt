@@ -137,7 +137,7 @@ module _ (machine : MachineState) (panel : Panel) (past : Past) (closed : Bool) 
       (past_notes past x
       ++ ended_notes machine.printer machine.macros x here r.ending
       (rest_of_items machine.printer defaults (rest_of_end past closed (with_item x rest) (after_item x.place r (behind_item x rest)))
-          (past_behind past x.item) (items_of rest) (item_of machine x.item).macros))
+      (past_behind past x.item) (items_of rest) (item_of machine x.item).macros))
       ++ long_run (run_outcome (after_item x.place r (behind_item x rest)).items (reading_outcome (with_item x rest)))
 
   item_first : (x : Placed) (rest : Reading) →
@@ -226,7 +226,7 @@ module _ (machine : MachineState) (panel : Panel) (past : Past) (closed : Bool) 
         record {
           due = λ rest.
               ap (λ l. flat_map write (firsts told l))
-                  (item_first x rest ∙ (ap (by_run x rest) run ∙ (by_done x events peaks rest t ∙ ap (λ l. held ++ l) (others_are rest))))
+              (item_first x rest ∙ (ap (by_run x rest) run ∙ (by_done x events peaks rest t ∙ ap (λ l. held ++ l) (others_are rest))))
               ∙ lines-then write told held (rest_notes machine' panel (past_behind past x.item) (closed || closes_page events) rest);
           outcome = λ rest.
               ap noted_outcome (ap (λ (j : JobRun). run_outcome j.items (reading_outcome (with_item x rest))) (run_first x rest)
@@ -248,7 +248,7 @@ module _ (machine : MachineState) (panel : Panel) (past : Past) (closed : Bool) 
           due = λ reading starts.
               ap (notes_from write machine panel past closed told).text starts.1
               ∙ ap (λ l. flat_map write (firsts told l))
-                  (item_first x starts.0 ∙ (ap (by_run x starts.0) run ∙ by_found x events peaks starts.0 finding));
+              (item_first x starts.0 ∙ (ap (by_run x starts.0) run ∙ by_found x events peaks starts.0 finding));
           outcome_is = λ reading starts.
               ap (notes_from write machine panel past closed told).outcome starts.1
               ∙ ap noted_outcome (ap (λ (j : JobRun). run_outcome j.items (reading_outcome (with_item x starts.0))) (run_first x starts.0)
@@ -352,11 +352,11 @@ module _ (write : Told → List ℕ) (machine : MachineState) (panel : Panel) (p
         puts a kept kept' text both.text_is,
         subst (λ (l : List Note). RestGoesOn rendering (notes_from write machine' panel past' closing'.closed l) x text) (sym both.told_is)
             (subst (λ (b : Bool). RestGoesOn rendering (notes_from write machine' panel past' b (told_behind told (own ++ carried))) x text)
-                (sym closed_is)
+            (sym closed_is)
             (subst
-                (λ (p : Past). RestGoesOn rendering
-                (notes_from write machine' panel p (closing.closed || closes_page took.events) (told_behind told (own ++ carried))) x text)
-                (sym past_is)
+            (λ (p : Past). RestGoesOn rendering
+            (notes_from write machine' panel p (closing.closed || closes_page took.events) (told_behind told (own ++ carried))) x text)
+            (sym past_is)
             (item_goes machine panel past closing.closed write told x machine' took.events (took.peaks panel) is (took.is panel)))),
       )
 
@@ -366,8 +366,7 @@ module _ (write : Told → List ℕ) (machine : MachineState) (panel : Panel) (p
       → WritesNotes write told told' kept kept' (past_notes past x ++ long_run (Fail x.place 1 (FindingOfRun finding)))
       → EndedWith rendering (StartsWith x) a a kept kept' (Ok (noted_outcome (Fail x.place 1 (FindingOfRun finding))))
   tells_finding x closing' told' finding took tells =
-      let text : List ℕ = flat_map write (firsts told (past_notes past x ++ long_run (Fail x.place 1 (FindingOfRun finding)))) in
-      (
+      let text : List ℕ = flat_map write (firsts told (past_notes past x ++ long_run (Fail x.place 1 (FindingOfRun finding)))) in (
         text,
         puts a kept kept' text tells.text_is,
         item_found machine panel past closing.closed write told x finding took.events (took.peaks panel) (took.is panel),
@@ -387,9 +386,9 @@ module _ (write : Told → List ℕ) (machine : MachineState) (panel : Panel) (p
         puts a kept kept' (text closing'.closed is_short) last.text_is,
         subst (λ (rows : Bool). EndsWith rendering (λ reading. reading ≡ Whole [] place) (text closing'.closed rows) AllDone) (sym rows_are)
             (subst
-                (λ (b : Bool).
-                EndsWith rendering (λ reading. reading ≡ Whole [] place) (text b (has_rows_left machine.page.raster)) AllDone)
-                (sym closed_is)
+            (λ (b : Bool).
+            EndsWith rendering (λ reading. reading ≡ Whole [] place) (text b (has_rows_left machine.page.raster)) AllDone)
+            (sym closed_is)
             (end_goes machine panel past closing.closed write told place (s panel) took.events (took.peaks panel) (took.is panel))),
       )
 
@@ -398,8 +397,7 @@ module _ (write : Told → List ℕ) (machine : MachineState) (panel : Panel) (p
       → WritesNotes write told told' kept kept' (long_run (Fail place 1 (FindingOfRun finding)))
       → EndedWith rendering (λ reading. reading ≡ Whole [] place) a a kept kept' (Ok (noted_outcome (Fail place 1 (FindingOfRun finding))))
   tells_end_finding place closing' told' finding took tells =
-      let text : List ℕ = flat_map write (firsts told (long_run (Fail place 1 (FindingOfRun finding)))) in
-      (
+      let text : List ℕ = flat_map write (firsts told (long_run (Fail place 1 (FindingOfRun finding)))) in (
         text,
         puts a kept kept' text tells.text_is,
         end_found machine panel past closing.closed write told place finding took.events (took.peaks panel) (took.is panel),
@@ -408,12 +406,11 @@ module _ (write : Told → List ℕ) (machine : MachineState) (panel : Panel) (p
   -- the bytes have a fault
   pub tells_fault : (place : ℕ) (cause : LexCause) → kept' ≡ kept →
       EndedWith rendering (λ reading. reading ≡ Stopped [] place cause) a a kept kept' (Ok (Fail place 0 (Fault cause)))
-  tells_fault place cause same =
-      (
-        [],
-        puts a kept kept' [] (same ∙ sym (append-nil kept)),
-        record { due = λ reading is. ap rendering.text is; outcome_is = λ reading is. ap rendering.outcome is },
-      )
+  tells_fault place cause same = (
+    [],
+    puts a kept kept' [] (same ∙ sym (append-nil kept)),
+    record { due = λ reading is. ap rendering.text is; outcome_is = λ reading is. ap rendering.outcome is },
+  )
 
 -- the mode behind an item that was executed
 pub mode_goes : (machine machine' : MachineState) (item : Entry) (mode next : Mode) →

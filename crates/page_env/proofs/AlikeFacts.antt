@@ -76,7 +76,7 @@ module _ (panel : Panel) (s : State) (line line' : TableLine) (alike : IsAlike p
       (λ none. behind_reads panel (first_unset s.settings line.reads) (first_unset (settings_with panel s.settings) line'.reads) _ _
       (ap (λ reads. first_unset (settings_with panel s.settings) reads) alike.reads ∙ same_first_unset panel s.settings line.reads)
       (λ set. behind_check panel (first_finding line.after) (first_finding line'.after) e e'
-          (ap (λ l. first_finding l.after) (alike.same set)) (λ none. h (alike.same set))))
+      (ap (λ l. first_finding l.after) (alike.same set)) (λ none. h (alike.same set))))
 
   pub step_alike : GoesAlike panel (effect_of s.settings (Step line)) (effect_of (settings_with panel s.settings) (Step line'))
   step_alike =

@@ -265,9 +265,9 @@ module _ (printer : Printer) (panel : Panel) where
       reads = refl;
       same = λ set. by_text (Same (λ t. space printer t)) (column_reads s.settings.job) set
           (λ rest. columns_set (Same (λ t. space printer t)) (spaced (at_place (paged s) None)) rest (λ parts. refl)
-              (λ a b c d e w f. refl) (λ hmi. refl))
+          (λ a b c d e w f. refl) (λ hmi. refl))
           (λ y rest. columns_set (Same (λ t. space printer t)) (at_place (paged s) (Some y)) rest (λ parts. refl)
-              (λ a b c d e w f. refl) (λ hmi. refl));
+          (λ a b c d e w f. refl) (λ hmi. refl));
     }
 
     byte_alike : (code : ℕ) → IsAlike panel s (print_byte printer s code) (print_byte printer (there s) code)

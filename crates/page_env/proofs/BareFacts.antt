@@ -128,11 +128,11 @@ module _ (printer : Printer) (defaults : Settings) where
   command_keeps Orientation n s r d e = (
     e,
     λ t k. (
-          refl,
-          ap (λ (u : Flags). record u { orientation = false; vmi = defaults.unset.vmi }) k.1
-              ∙ ap (λ (u : Flags). record unwatched { orientation = false; vmi = u.vmi }) d.1,
-          k.2,
-        ),
+      refl,
+      ap (λ (u : Flags). record u { orientation = false; vmi = defaults.unset.vmi }) k.1
+          ∙ ap (λ (u : Flags). record unwatched { orientation = false; vmi = u.vmi }) d.1,
+      k.2,
+    ),
   )
   command_keeps VerticalMotionIndex n s r d e = (e.0, ap (λ (u : Flags). record u { vmi = false }) e.1, e.2)
   command_keeps LineSpacing n s r d e = (e.0, ap (λ (u : Flags). record u { vmi = false }) e.1, e.2)

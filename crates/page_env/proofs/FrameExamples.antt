@@ -136,7 +136,7 @@ abbrev low : State
 low =
     record
     (with_job start (record start.settings.job { frame = record start.settings.job.frame { top = pos 91_440_000_000 }; pen = pen_1 })) {
-      in_frame = true
+      in_frame = true;
     }
 
 no_cursor_below_the_page : effect low (leave_frame printer_a low Current) ≡ Fails OffPage
@@ -151,7 +151,7 @@ no_line_below_the_page = refl
 anchored : effect (holding (units 9 9 pen_1)) (set_frame_anchor (holding (units 9 9 pen_1)) (number 0))
     ≡ Goes (record start {
       settings = record start.settings {
-        job = record start.settings.job { frame = record start.settings.job.frame { top = pos 22_860_000_000 }; pen = pen_1 }
+        job = record start.settings.job { frame = record start.settings.job.frame { top = pos 22_860_000_000 }; pen = pen_1 };
       };
       cursor = record start.cursor { y = Some (pos 22_860_000_000) };
     }) []
@@ -170,7 +170,7 @@ at_100 = record start { cursor = record { x = pos 12_192_000_000; y = Some (pos 
 pen_comes_to_the_cursor : effect at_100 (enter_frame printer_a at_100 Current)
     ≡ Goes
     (record (with_pen at_100 (record default_pen { place = record { x = pos 12_192_000_000; y = pos 353_568_000_000 } })) {
-      in_frame = true
+      in_frame = true;
     })
     []
 unfolding geometry_at row_at
@@ -179,11 +179,11 @@ pen_comes_to_the_cursor = refl
 -- the cursor goes back to where the pen came from
 cursor_comes_to_the_pen :
     effect (record (with_pen start (record default_pen { place = record { x = pos 12_192_000_000; y = pos 353_568_000_000 } })) {
-      in_frame = true
+      in_frame = true;
     })
     (leave_frame printer_a
     (record (with_pen start (record default_pen { place = record { x = pos 12_192_000_000; y = pos 353_568_000_000 } })) {
-      in_frame = true
+      in_frame = true;
     })
     Current)
     ≡ Goes (with_pen at_100 (record default_pen { place = record { x = pos 12_192_000_000; y = pos 353_568_000_000 } })) []

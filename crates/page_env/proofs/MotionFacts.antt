@@ -18,8 +18,7 @@ module _ (printer : Printer) (defaults : Settings) where
   feed_is_sound by s t marked settings stack =
       either printer defaults (is_past_bottom printer t (fed_to t by)) s (Closes (reading t page_and_line_reads) false at_home)
       (Step (feed_down printer t (fed_to t by))) (Closes (reading (plain_state t) page_and_line_reads) false at_home)
-      (Step (feed_down printer (plain_state t) (fed_to t by)))
-      (
+      (Step (feed_down printer (plain_state t) (fed_to t by))) (
         from_there s t _ _ marked settings stack (quiet page_and_line_rises refl refl refl refl refl refl refl),
         calm (λ u. refl) (λ u. refl) (λ u. refl) (λ u. refl),
         refl,

@@ -39,9 +39,9 @@ module _ (printer : Printer) (defaults : Settings) (s : State) where
       page = λ pairs begun none t h.
           size_is_found printer.geometries pairs t.settings.fields.size (whole_of n) t.settings.fields.orientation
           (was_true (has_size printer.geometries (whole_of n))
-              (second_finds_nothing (not (is_whole_between 1 999 n))
-              (not (has_size printer.geometries (whole_of n))) BadValue NotOnDevice none))
-              h;
+          (second_finds_nothing (not (is_whole_between 1 999 n))
+          (not (has_size printer.geometries (whole_of n))) BadValue NotOnDevice none))
+          h;
     },
     refl,
   )
@@ -58,9 +58,9 @@ module _ (printer : Printer) (defaults : Settings) (s : State) where
       page = λ pairs begun none t h.
           orientation_is_found printer.geometries pairs t.settings.fields.size t.settings.fields.orientation (whole_of n)
           (was_true (has_orientation printer.geometries (whole_of n))
-              (second_finds_nothing (not (is_whole_between 0 3 n))
-              (not (has_orientation printer.geometries (whole_of n))) BadValue NotOnDevice none))
-              h;
+          (second_finds_nothing (not (is_whole_between 0 3 n))
+          (not (has_orientation printer.geometries (whole_of n))) BadValue NotOnDevice none))
+          h;
     },
     refl,
   )

@@ -193,7 +193,7 @@ module _ (printer : Printer) (page : Page) (box : PenBounds) (g : Geometry) (ori
       let s = state_at panel (page_at from marked page) in
       let drawn : Bool → State =
       λ (is_down : Bool). state_at panel (page_at target true (record page {
-        env = record page.env { job = record page.env.job { pen = record pen { is_down = is_down } } }
+        env = record page.env { job = record page.env.job { pen = record pen { is_down = is_down } } };
       })) in
       let judges : Geometry → Origin → Frame → Effect =
       λ g' origin' frame'. fails_or (first_finding (line_checks g' origin' frame' pen.width from target))

@@ -40,18 +40,18 @@ eq_request_decides a b =
     (λ e. (
       ap (λ (x : FontRequest). x.symbol_set) e,
       (
-            ap (λ (x : FontRequest). x.spacing) e,
+        ap (λ (x : FontRequest). x.spacing) e,
+        (
+          ap (λ (x : FontRequest). x.pitch) e,
+          (
+            ap (λ (x : FontRequest). x.height) e,
             (
-                  ap (λ (x : FontRequest). x.pitch) e,
-                  (
-                        ap (λ (x : FontRequest). x.height) e,
-                        (
-                              ap (λ (x : FontRequest). x.style) e,
-                              (ap (λ (x : FontRequest). x.weight) e, ap (λ (x : FontRequest). x.typeface) e),
-                            ),
-                      ),
-                ),
+              ap (λ (x : FontRequest). x.style) e,
+              (ap (λ (x : FontRequest). x.weight) e, ap (λ (x : FontRequest). x.typeface) e),
+            ),
           ),
+        ),
+      ),
     ))
     (Decides-and _ _ (eq_set_decides a.symbol_set b.symbol_set)
     (Decides-and _ _ (Decides-eqb a.spacing b.spacing)
@@ -111,29 +111,29 @@ eq_look_decides a b =
     (λ e. (
       ap (λ (x : Look). x.request) e,
       (
-            ap (λ (x : Look). x.origin) e,
+        ap (λ (x : Look). x.origin) e,
+        (
+          ap (λ (x : Look). x.advance) e,
+          (
+            ap (λ (x : Look). x.ascent) e,
             (
-                  ap (λ (x : Look). x.advance) e,
-                  (
-                        ap (λ (x : Look). x.ascent) e,
-                        (
-                              ap (λ (x : Look). x.descent) e,
-                              (
-                                    ap (λ (x : Look). x.column) e,
-                                    (ap (λ (x : Look). x.left) e, (ap (λ (x : Look). x.line) e, ap (λ (x : Look). x.termination) e)),
-                                  ),
-                            ),
-                      ),
-                ),
+              ap (λ (x : Look). x.descent) e,
+              (
+                ap (λ (x : Look). x.column) e,
+                (ap (λ (x : Look). x.left) e, (ap (λ (x : Look). x.line) e, ap (λ (x : Look). x.termination) e)),
+              ),
+            ),
           ),
+        ),
+      ),
     ))
     (Decides-and _ _ (eq_request_decides a.request b.request)
     (Decides-and _ _ (eq_origin_decides a.origin b.origin)
     (Decides-and _ _ (Decides-int_eq a.advance b.advance)
     (Decides-and _ _ (Decides-int_eq a.ascent b.ascent) (Decides-and _ _ (Decides-int_eq a.descent b.descent)
     (Decides-and _ _ (Decides-eqb a.column b.column)
-        (Decides-and _ _ (Decides-int_eq a.left b.left)
-        (Decides-and _ _ (Decides-int_eq a.line b.line) (eq_termination_decides a.termination b.termination)))))))))
+    (Decides-and _ _ (Decides-int_eq a.left b.left)
+    (Decides-and _ _ (Decides-int_eq a.line b.line) (eq_termination_decides a.termination b.termination)))))))))
 
 abbrev pub eq_bounds : TextBounds → TextBounds → Bool
 eq_bounds a b =
@@ -145,9 +145,9 @@ eq_bounds_decides a b =
     (λ e. (
       ap (λ (x : TextBounds). x.area) e,
       (
-            ap (λ (x : TextBounds). x.width) e,
-            (ap (λ (x : TextBounds). x.right) e, (ap (λ (x : TextBounds). x.foot) e, ap (λ (x : TextBounds). x.ends_lines) e)),
-          ),
+        ap (λ (x : TextBounds). x.width) e,
+        (ap (λ (x : TextBounds). x.right) e, (ap (λ (x : TextBounds). x.foot) e, ap (λ (x : TextBounds). x.ends_lines) e)),
+      ),
     ))
     (Decides-and _ _ (eq_box_decides a.area b.area)
     (Decides-and _ _ (Decides-int_eq a.width b.width)

@@ -71,8 +71,7 @@ module _ (printer : Printer) (m : TextMeasure) where
       AllGo printer m.look place (page_at place page) codes
   all_go [] place page h room = tt
   all_go (code ∷ codes) place page h room =
-      let marked = not (is_blank code) || page.marked in
-      (
+      let marked = not (is_blank code) || page.marked in (
         goes place page code h room.0,
         all_go codes (behind m.look code place) (record page { marked = marked }) (measure_stays marked page h) room.1,
       )
@@ -203,8 +202,7 @@ run_room m [] place h k = tt
 run_room m (code ∷ codes) place h k =
     let room : HasRoom m place code =
     subst (λ b. HasRoomFor m place code b (code == 10)) (sym (no_return m.codes code k.0))
-    (subst (λ b. HasRoomFor m place code false b) (sym (no_feed m.codes code k.0)) (h.0, k.0)) in
-    (
+    (subst (λ b. HasRoomFor m place code false b) (sym (no_feed m.codes code k.0)) (h.0, k.0)) in (
       room,
       subst (λ p. AllHaveRoom m p codes) (sym (text_leads m.look m.codes code place k.0))
           (run_room m codes (record place { x = place.x +ℤ pos m.look.column }) h.1 k.1),

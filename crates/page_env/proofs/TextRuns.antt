@@ -122,8 +122,7 @@ module _ (m : TextMeasure) where
         let one = suc-mul j c in
         let first : (p.x +ℤ pos c) ≤ℤ edge = omega (arith, ints, e, two) in
         let next = one_column p here is first inside in
-        let further = box_inside p inside ahead (omega (arith, ints, f, two, one)) in
-        (
+        let further = box_inside p inside ahead (omega (arith, ints, f, two, one)) in (
           next,
           columns (column_on p) (suc j) next.within (edge_stays p.x j is e) further
               (λ some. (omega (arith, ints, e, two), omega (arith, ints, f, two))),

@@ -210,10 +210,10 @@ module _ (watched : Flags) where
         command_leaves commands.Orientation n s r e = (
           ((refl, λ h. refl), e),
           λ t k. (
-                ap (λ (f : Flags). record f { orientation = false; vmi = defaults.unset.vmi }) k.0
-                    ∙ ap (λ (f : Flags). record (unset_where watched u) { orientation = false; vmi = f.vmi }) d.0,
-                k.1,
-              ),
+            ap (λ (f : Flags). record f { orientation = false; vmi = defaults.unset.vmi }) k.0
+                ∙ ap (λ (f : Flags). record (unset_where watched u) { orientation = false; vmi = f.vmi }) d.0,
+            k.1,
+          ),
         )
         command_leaves commands.VerticalMotionIndex n s r e = ((refl, λ h. refl), (ap (λ (f : Flags). record f { vmi = false }) e.0, e.1))
         command_leaves commands.LineSpacing n s r e = ((refl, λ h. refl), (ap (λ (f : Flags). record f { vmi = false }) e.0, e.1))

@@ -30,7 +30,7 @@ set_part s n parts = setting (check (is_negative n) BadValue ∷ []) (with_font 
 -- `ESC (` symbol set, by number and letter
 abbrev pub set_symbol_set : State → Amount → ℕ → TableLine
 set_symbol_set s n letter = set_part s n (record s.settings.job.font {
-  symbol_set = Some (record { number = n.ten_thousandths; letter = letter })
+  symbol_set = Some (record { number = n.ten_thousandths; letter = letter });
 })
 
 -- `(s#P` primary spacing: 0 is fixed

@@ -51,7 +51,7 @@ set_frame_anchor s n =
       reads = vertical_reads s.cursor.y;
       after = [];
       state = record (with_frame s (record s.settings.job.frame { left = s.cursor.x; top = y })) {
-        cursor = record s.cursor { y = Some y }
+        cursor = record s.cursor { y = Some y };
       };
       marks = [];
     }
@@ -106,10 +106,10 @@ enter_at_cursor printer s =
       reads = Size ∷ Orientation ∷ vertical_reads s.cursor.y;
       after = [];
       state = record
-      (with_job s (record job { pen = record job.pen { place = place_in (frame_of printer s) s.cursor.x y } })) {
-        cursor = record s.cursor { y = Some y };
-        in_frame = true;
-      };
+          (with_job s (record job { pen = record job.pen { place = place_in (frame_of printer s) s.cursor.x y } })) {
+            cursor = record s.cursor { y = Some y };
+            in_frame = true;
+          };
       marks = [];
     }
 

@@ -132,7 +132,7 @@ pen_target pen to =
 -- the raised pen moves to a place
 abbrev pub carry_pen : State → PenPlace → TableLine
 carry_pen s to = record (moving (with_pen s (record s.settings.job.pen { place = to }))) {
-  after = check (is_too_far to) OutsideFrame ∷ []
+  after = check (is_too_far to) OutsideFrame ∷ [];
 }
 
 -- a pair of coordinates moves the pen, behind the own step of its command: where it is down it draws

@@ -37,7 +37,7 @@ pinned printer defaults s = record s {
     fields = record s.settings.fields { font = defaults.fields.font };
     unset = record unwatched { font = defaults.unset.font };
     job = record s.settings.job {
-      font = with_all_parts (request_at printer.faces s.settings.fields.font) s.settings.job.font
+      font = with_all_parts (request_at printer.faces s.settings.fields.font) s.settings.job.font;
     };
   };
 }

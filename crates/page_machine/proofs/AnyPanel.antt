@@ -127,7 +127,7 @@ module _ (panel : Panel) where
         (close_and_change elsewhere (there s) change') refl
         (after_alike [] (peaks_of s) rest rest'
         (followed_alike (marked_close close s) (marked_close close' (there s)) (λ u. just [] (Done (change u)))
-            (λ u. just [] (Done (change' u))) (marked_alike s)
+        (λ u. just [] (Done (change' u))) (marked_alike s)
         (λ u. ap (λ v. just [] (Done v)) (same u))))
 
     -- like effects come to like runs
@@ -273,8 +273,8 @@ module _ (panel : Panel) where
       at : (size orientation copies sides tray : Bool) → State
       at size orientation copies sides tray = record s {
         settings = record s.settings {
-          unset = record s.settings.unset { size = size; orientation = orientation; copies = copies; sides = sides; tray = tray }
-        }
+          unset = record s.settings.unset { size = size; orientation = orientation; copies = copies; sides = sides; tray = tray };
+        };
       }
 
       by : (size orientation copies sides tray : Bool) → first_unset (at size orientation copies sides tray).settings closing_reads ≡ None →
@@ -385,8 +385,8 @@ module _ (panel : Panel) where
           (followed_by (entries_run run' entries (there s)) raster_ended)
           (followed_alike (entries_run run entries s) (entries_run run' entries (there s)) raster_ended raster_ended
           (entries_alike run run'
-              (macro_alike close close' inner inner' closes (body_alike close close' closes left (suc level)) nesting) entries s)
-              (λ t. refl))
+          (macro_alike close close' inner inner' closes (body_alike close close' closes left (suc level)) nesting) entries s)
+          (λ t. refl))
 
       -- a page and its overlay
       overlay_alike : (s : State) (overlay : Option ℕ) → Alike (overlay_run ours s overlay) (overlay_run theirs (there s) overlay)

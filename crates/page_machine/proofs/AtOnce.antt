@@ -169,12 +169,11 @@ module _ {S : Type 0} (takes refuses : S → Event → S → Type 0) (F : Type 0
     TakesUpTo-is takes refuses sink sink' (item_of from item).run (item_of old item).run
         (λ panel. just [] (Done (state_at panel machine'.page))) e.0 h.2,
   )
-  CarriesOn-begun (Err (stops.Found finding)) e h =
-      (
-        running,
-        h.1,
-        TakesUpTo-is takes refuses sink sink' (item_of from item).run (item_of old item).run (λ panel. just [] (Halts finding)) e.0 h.2,
-      )
+  CarriesOn-begun (Err (stops.Found finding)) e h = (
+    running,
+    h.1,
+    TakesUpTo-is takes refuses sink sink' (item_of from item).run (item_of old item).run (λ panel. just [] (Halts finding)) e.0 h.2,
+  )
   CarriesOn-begun (Err (stops.Refused fault)) e h = (
     running,
     h.1,
@@ -188,15 +187,14 @@ module _ {S : Type 0} (takes refuses : S → Event → S → Type 0) (F : Type 0
       refused = h.2.refused;
     },
   )
-  CarriesOn-begun (Err (stops.Memory error)) e h =
-      (
-        running,
-        h.1,
-        e.2 ∙ h.2,
-        (
-              h.3.0,
-              TakesUpTo-is takes refuses sink sink' (item_of from item).run (item_of old item).run
-                  (λ panel. just [] (Done (state_at panel h.3.0))) e.0 h.3.1,
-            ),
-      )
+  CarriesOn-begun (Err (stops.Memory error)) e h = (
+    running,
+    h.1,
+    e.2 ∙ h.2,
+    (
+      h.3.0,
+      TakesUpTo-is takes refuses sink sink' (item_of from item).run (item_of old item).run
+          (λ panel. just [] (Done (state_at panel h.3.0))) e.0 h.3.1,
+    ),
+  )
   CarriesOn-begun (Err stops.Stopped) e h = absurd (not_both (sym running ∙ h.0))

@@ -108,7 +108,7 @@ module _ (printer : Printer) (from : Settings) where
         (sym (bodies id))
         (found_alike v (body_of macros id) s run run' o
         (λ body e. put_back_alike s (inner (called_in nesting) body s)
-            (inner' (called_in nesting) (pin_body v body) (pinned printer from s)) o (p (called_in nesting) body s (all id body e) o)))
+        (inner' (called_in nesting) (pin_body v body) (pinned printer from s)) o (p (called_in nesting) body s (all id body e) o)))
     control_body_alike _ s o = done_alike printer from s o
 
     known_alike : (found : Option (List Entry)) → is_some (option_map (pin_body v) found) ≡ is_some found
@@ -136,10 +136,10 @@ module _ (printer : Printer) (from : Settings) where
         (finding_or (checks known) (followed_by (goes u []) (control_body macros' inner' nesting control))))
         (sym (ap (λ l. l.state) moved.0))
         (finding_alike printer from (checks known) rest
-            (followed_by (goes (pinned printer from t) []) (control_body macros' inner' nesting control))
-            (line_is_set (control_line known (is_macro nesting) control s) ((sound s known (is_macro nesting) control).ordered)).0
+        (followed_by (goes (pinned printer from t) []) (control_body macros' inner' nesting control))
+        (line_is_set (control_line known (is_macro nesting) control s) ((sound s known (is_macro nesting) control).ordered)).0
         (followed_alike printer from (goes t []) (goes (pinned printer from t) []) (control_body macros inner nesting control)
-            (control_body macros' inner' nesting control)
+        (control_body macros' inner' nesting control)
         (record { events = refl; ending = refl; bare = bare; set = tt }) (control_body_alike control))))
 
   -- ---- items one after another
@@ -323,5 +323,5 @@ module _ (printer : Printer) (defaults from : Settings) (laws : AreLaws printer 
       (followed_alike printer from (entries_run run items s)
       (entries_run run' (pin_body v items) (pinned printer from s)) raster_ended raster_ended
       (entries_alike printer from v run run' (macro_alike inner inner' deeper nesting)
-          (macro_turn inner inner' deeper nesting) items s all o)
+      (macro_turn inner inner' deeper nesting) items s all o)
       (λ t k. record { events = refl; ending = refl; bare = k; set = tt }))

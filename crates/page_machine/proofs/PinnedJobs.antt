@@ -298,7 +298,7 @@ module _ (printer : Printer) (from : Settings) where
           (nat_lt macros.limit (stored_bytes others + length (canon item)))
           (nat_lt macros.limit (stored_bytes store + length (canon (spacing v))))
           (of_memory (stored_bytes (appended item macros))) (of_memory (stored_bytes (appended item others)))
-              (of_memory (stored_bytes (appended (spacing v) store))) s o
+          (of_memory (stored_bytes (appended (spacing v) store))) s o
           (full_later macros.limit (stored_bytes macros) (stored_bytes others) (length (canon item)) (stored_le v macros)))
       turned_when false n s e o =
           let first : Run = item_run printer (in_job (context macros)) (Parameterized Orientation n) s in

@@ -81,10 +81,10 @@ restarted place r r' t t' next next' same p = by same.ending
         (λ room.
         let rest = p room in
         record {
-              events = ap (λ l. l ++ events_of (next' t').items) same.events ∙ ap (λ l. r.events ++ l) rest.events;
-              finding = rest.finding;
-              set = rest.set;
-            }))
+          events = ap (λ l. l ++ events_of (next' t').items) same.events ∙ ap (λ l. r.events ++ l) rest.events;
+          finding = rest.finding;
+          set = rest.set;
+        }))
     by (inr both) =
         subst (λ (e : Ending). pair e r'.ending) (sym both.1)
         (subst (λ (e : Ending). pair (Halts both.0) e) (sym both.2)

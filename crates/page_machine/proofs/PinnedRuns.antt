@@ -200,7 +200,7 @@ module _ (printer : Printer) (from : Settings) where
         (close_and_change there (pinned printer from s) change') (halts_alike InMacro tt)
         (after_alike (peaks_of s) (peaks_of (pinned printer from s)) rest rest'
         (followed_alike (marked_close close s) (marked_close close' (pinned printer from s)) (λ t. just [] (Done (change t)))
-            (λ t. just [] (Done (change' t))) (marked_alike s o)
+        (λ t. just [] (Done (change' t))) (marked_alike s o)
         (λ t k. record { events = refl; ending = ap (λ u. Done u) (same t); bare = keeps t k; set = tt })))
 
     -- what comes behind the checks of a line, where nothing that is read is unset
@@ -229,7 +229,7 @@ module _ (printer : Printer) (from : Settings) where
         Alike printer from run (effect_run there (fails_or (first_finding l.before) (fails_or (first_finding l.after) e'))))
         (sym goes.0)
         (parts_alike (first_finding line.before) (first_finding line.after) (first_unset s.settings line.reads) e e'
-            (nothing_unset s line.reads o) set.0 set.1 p))
+        (nothing_unset s line.reads o) set.0 set.1 p))
 
     behind_alike : (unset : Option Field) (e : Effect) (r' : Run) → unset ≡ None → Alike printer from (effect_run here e) r' →
         Alike printer from (effect_run here (effect.unset_or unset e)) r'
@@ -257,7 +257,7 @@ module _ (printer : Printer) (from : Settings) where
         judged_alike s line line' (GoesThenEnds line.state) (GoesThenEnds line'.state) o ordered g
         (subst (λ (l : TableLine). Alike printer from run (effect_run there (GoesThenEnds l.state))) (sym g.0)
         (after_alike (peaks_of line.state) (peaks_of (pinned printer from line.state)) (close line.state)
-            (close' (pinned printer from line.state)) (closes line.state keeps)))
+        (close' (pinned printer from line.state)) (closes line.state keeps)))
     transition_alike s (Behind reads m) (Behind reads' m') o keeps ordered g =
         let run : Run = effect_run here (effect.unset_or (first_unset s.settings reads) (effect_of s.settings m)) in
         subst

@@ -131,10 +131,10 @@ module _ (printer : Printer) (conditions : Conditions) where
       subst (λ (o : Option Finding). LeadsTo (effect_run conditions (fails_or o (GoesThenCloses w true change))) (change w)) (sym e)
       (subst (λ (b : Bool). LeadsTo (cond b (just [] (Halts InMacro)) (close_and_change conditions w change)) (change w)) (sym free)
       (subst
-          (λ (b : Bool).
-          LeadsTo (after [] (peaks_of w) (followed_by (cond b (conditions.close w) (just [] (Done w))) (λ t. just [] (Done (change t)))))
-          (change w))
-          (sym unmarked)
+      (λ (b : Bool).
+      LeadsTo (after [] (peaks_of w) (followed_by (cond b (conditions.close w) (just [] (Done w))) (λ t. just [] (Done (change t)))))
+      (change w))
+      (sym unmarked)
       (record { events = refl; ending = refl })))
 
   -- the paper can be set, on a page without a mark
@@ -228,7 +228,7 @@ module _ (printer : Printer) (flags : Flags) (origin panel : Panel) (request : F
 
   abbrev with_symbols : State
   with_symbols = with_font spaced (record spaced.settings.job.font {
-    symbol_set = Some (record { number = request.symbol_set.number; letter = request.symbol_set.letter })
+    symbol_set = Some (record { number = request.symbol_set.number; letter = request.symbol_set.letter });
   })
 
   abbrev with_spacing : State
@@ -272,27 +272,27 @@ module _ (printer : Printer) (flags : Flags) (origin panel : Panel) (request : F
       (on (first_of (following 1)) (following 2) r sized oriented (λ id. refl)
       (orientation_leads printer conditions sized refl refl panel.orientation can.orientation can.has_orientation)
       (on (first_of (following 2)) (following 3) r oriented copied (λ id. refl)
-          (copies_leads printer conditions panel.copies oriented can.copies)
+      (copies_leads printer conditions panel.copies oriented can.copies)
       (on (first_of (following 3)) (following 4) r copied sided (λ id. refl)
-          (sides_leads printer conditions copied refl refl panel.sides can.sides can.duplex)
+      (sides_leads printer conditions copied refl refl panel.sides can.sides can.duplex)
       (on (first_of (following 4)) (following 5) r sided fed (λ id. refl)
-          (source_leads printer conditions sided refl refl panel.tray can.tray can.has_tray)
+      (source_leads printer conditions sided refl refl panel.tray can.tray can.has_tray)
       (on (first_of (following 5)) (following 6) r fed spaced (λ id. refl) (vmi_leads printer conditions panel.vmi fed can.vmi)
       (on (first_of (following 6)) (following 7) r spaced with_symbols (λ id. refl)
-          (symbol_set_leads printer conditions request.symbol_set.number request.symbol_set.letter spaced)
+      (symbol_set_leads printer conditions request.symbol_set.number request.symbol_set.letter spaced)
       (on (first_of (following 7)) (following 8) r with_symbols with_spacing (λ id. refl) (fixed)
       (on (first_of (following 8)) (following 9) r with_spacing with_pitch (λ id. refl)
-          (pitch_leads printer conditions request.pitch with_spacing)
+      (pitch_leads printer conditions request.pitch with_spacing)
       (on (first_of (following 9)) (following 10) r with_pitch with_height (λ id. refl)
-          (height_leads printer conditions request.height with_pitch)
+      (height_leads printer conditions request.height with_pitch)
       (on (first_of (following 10)) (following 11) r with_height with_style (λ id. refl)
-          (style_leads printer conditions request.style with_height)
+      (style_leads printer conditions request.style with_height)
       (on (first_of (following 11)) (following 12) r with_style with_weight (λ id. refl)
-          (weight_leads printer conditions (weight_amount request.weight) with_style)
+      (weight_leads printer conditions (weight_amount request.weight) with_style)
       (on (first_of (following 12)) (following 13) r with_weight with_typeface (λ id. refl)
-          (typeface_leads printer conditions request.typeface with_weight)
+      (typeface_leads printer conditions request.typeface with_weight)
       (on (first_of (following 13)) (following 14) r with_typeface terminated (λ id. refl)
-          (line_termination_leads printer conditions panel.line_termination with_typeface can.line_termination)
+      (line_termination_leads printer conditions panel.line_termination with_typeface can.line_termination)
       behind)))))))))))))
     where
       fixed :
@@ -347,23 +347,23 @@ module _ (printer : Printer) (flags : Flags) (origin panel : Panel) (request : F
       (unset (read panel.tray)) request)
       (whole_of_whole panel.size)
       ∙ (ap
-          (λ n. put panel.size n (read panel.copies) (read panel.sides) (tray (read panel.tray)) (read panel.line_termination)
-          (unset (read panel.tray)) request)
-          (whole_of_whole panel.orientation)
+      (λ n. put panel.size n (read panel.copies) (read panel.sides) (tray (read panel.tray)) (read panel.line_termination)
+      (unset (read panel.tray)) request)
+      (whole_of_whole panel.orientation)
       ∙ (ap
-          (λ n. put panel.size panel.orientation n (read panel.sides) (tray (read panel.tray)) (read panel.line_termination)
-          (unset (read panel.tray)) request)
-          (whole_of_whole panel.copies)
+      (λ n. put panel.size panel.orientation n (read panel.sides) (tray (read panel.tray)) (read panel.line_termination)
+      (unset (read panel.tray)) request)
+      (whole_of_whole panel.copies)
       ∙ (ap
-          (λ n. put panel.size panel.orientation panel.copies n (tray (read panel.tray)) (read panel.line_termination)
-          (unset (read panel.tray)) request)
-          (whole_of_whole panel.sides)
+      (λ n. put panel.size panel.orientation panel.copies n (tray (read panel.tray)) (read panel.line_termination)
+      (unset (read panel.tray)) request)
+      (whole_of_whole panel.sides)
       ∙ (ap (λ n. put panel.size panel.orientation panel.copies panel.sides (tray n) (read panel.line_termination) (unset n) request)
-          (whole_of_whole panel.tray)
+      (whole_of_whole panel.tray)
       ∙ (ap (λ n. put panel.size panel.orientation panel.copies panel.sides n (read panel.line_termination) (unset panel.tray) request)
-          (tray_set (panel.tray == 0) trayed).0
+      (tray_set (panel.tray == 0) trayed).0
       ∙ (ap (λ b. put panel.size panel.orientation panel.copies panel.sides panel.tray (read panel.line_termination) b request)
-          (tray_set (panel.tray == 0) trayed).1
+      (tray_set (panel.tray == 0) trayed).1
       ∙ (ap (λ n. put panel.size panel.orientation panel.copies panel.sides panel.tray n false request)
-          (whole_of_whole panel.line_termination)
+      (whole_of_whole panel.line_termination)
       ∙ ap (λ r. put panel.size panel.orientation panel.copies panel.sides panel.tray panel.line_termination false r) same))))))))

@@ -272,8 +272,8 @@ module _ (watched : Flags) where
         judged_comes u left R s line line' (GoesThenEnds line.state) sound leaves.0.0 says (λ f h. inl h)
         (λ b a. leads_on u left R (close line.state).ending leaves.1
         (weaken u (λ f. closing f u (plain_state line.state)) R
-            (λ f c. inr (subst (BehindReads fixed (closing f u) (controlling f u)) (sym (comes_to b a)) c)) (close line.state).ending
-            (closes u line.state leaves.0.1)))
+        (λ f c. inr (subst (BehindReads fixed (closing f u) (controlling f u)) (sym (comes_to b a)) c)) (close line.state).ending
+        (closes u line.state leaves.0.1)))
     transition_comes u left s (Behind reads m) (Behind reads' m') sound leaves says =
         by (transition_comes u left s m m' sound.1 leaves.1 says) (first_unset s.settings reads) refl
       where
@@ -338,8 +338,8 @@ module _ (watched : Flags) where
           (byte_plainly printer defaults fixed close close' control control' closes_plainly controls_plainly sound parts code))
           (followed_comes u u R r (byte_run printer here code) c
           (λ t is at. weaken u (λ f. LineReads f u (print_transparent printer (plain_state t) code)) R
-              (λ f h. into f (inl (plain_state t, plain_done r r' p t is, h))) (byte_run printer here code t).ending
-              (byte_comes code u t at)))
+          (λ f h. into f (inl (plain_state t, plain_done r r' p t is, h))) (byte_run printer here code t).ending
+          (byte_comes code u t at)))
           (λ f h. into f (inr h))
 
       move_comes : (to : ℤ × ℤ) (u : Untouched) (s : State) → Says u s →
@@ -687,7 +687,7 @@ module _ (watched : Flags) where
               (λ f. BodyReads f unwatching refused (λ v t. ⊥) printer.depth 1 Overlaid untouched_in_overlay body (plain_state begun)) R
               (λ f h. (id, is, body, found, h)) (run body).ending
               (body_comes refused refused (λ f v t. ⊥) (λ t h. refl) (λ v t at. set_comes v (λ f. ⊥) InMacro tt) printer.depth 1 Overlaid
-                  untouched_in_overlay body begun (overlay_says defaults s chosen set)))
+              untouched_in_overlay body begun (overlay_says defaults s chosen set)))
 
           by : (overlay : Option ℕ) → s.settings.job.overlay ≡ overlay → Comes u R (overlay_run watching s overlay).ending
           by None is = says

@@ -77,9 +77,8 @@ pub prints_lines : (codes : List ℕ) (look : Look) (place : TextPlace) (machine
     AllGo machine.printer look place machine.page codes →
     PrintsLines look place codes machine (record machine { page = page_behind_all look place codes machine.page })
 prints_lines [] look place machine none h = refl
-prints_lines (code ∷ codes) look place machine none h =
-    (
-      byte_prints machine code none look place h.0,
-      macros_stay machine code none,
-      prints_lines codes look (behind look code place) (machine_behind look place code machine) none h.1,
-    )
+prints_lines (code ∷ codes) look place machine none h = (
+  byte_prints machine code none look place h.0,
+  macros_stay machine code none,
+  prints_lines codes look (behind look code place) (machine_behind look place code machine) none h.1,
+)

@@ -43,7 +43,7 @@ rectangle_page : reading_of (esc (codes "E") ++ esc (codes "&l2a0O") ++ esc (cod
     (at 0 Reset ∷ at 2 (sent commands.PageSize Absent 20000) ∷ at 7 (sent commands.Orientation Absent 0)
     ∷ at 9 (sent commands.HorizontalUnits Absent 3000000) ∷ at 16 (sent commands.VerticalUnits Absent 3000000)
     ∷ at 20 (sent commands.RectangleWidth Absent 1000000) ∷ at 27 (sent commands.RectangleHeight Absent 500000)
-        ∷ at 30 (sent commands.FillRectangle Absent 0) ∷ at 32 FormFeed ∷ []) 33
+    ∷ at 30 (sent commands.FillRectangle Absent 0) ∷ at 32 FormFeed ∷ []) 33
 unfolding reading_of read_on first_of after_escape after_introducer command_in field_at amount_of
 rectangle_page = refl
 
@@ -171,9 +171,9 @@ settings : reading_of (esc (codes "&u300D") ++ esc (codes "&l1x0s1h8c6d2e60f1L")
     (at 0 (sent commands.UnitOfMeasure Absent 3000000) ∷ at 7 (sent commands.Copies Absent 10000) ∷ at 12 (sent commands.Sides Absent 0)
     ∷ at 14 (sent commands.Source Absent 10000)
     ∷ at 16 (sent commands.VerticalMotionIndex Absent 80000) ∷ at 18 (sent commands.LineSpacing Absent 60000)
-        ∷ at 20 (sent commands.TopMargin Absent 20000) ∷ at 22 (sent commands.TextLength Absent 600000)
+    ∷ at 20 (sent commands.TopMargin Absent 20000) ∷ at 22 (sent commands.TextLength Absent 600000)
     ∷ at 25 (sent commands.PerforationSkip Absent 10000) ∷ at 27 (sent commands.HorizontalMotionIndex Absent 120000)
-        ∷ at 33 (sent commands.LineTermination Absent 20000) ∷ []) 35
+    ∷ at 33 (sent commands.LineTermination Absent 20000) ∷ []) 35
 unfolding reading_of read_on first_of after_escape after_introducer command_in field_at amount_of
 settings = refl
 
@@ -183,7 +183,7 @@ cursor : reading_of (esc (codes "&a5l75m10c+2r720h-36.5V") ++ esc (codes "&f0s1S
     (at 0 (sent commands.LeftMargin Absent 50000) ∷ at 5 (sent commands.RightMargin Absent 750000)
     ∷ at 8 (sent commands.Column Absent 100000) ∷ at 11 (sent commands.Row Plus 20000)
     ∷ at 14 (sent commands.HorizontalDecipoints Absent 7200000) ∷ at 18 (sent commands.VerticalDecipoints Minus 365000)
-        ∷ at 24 (sent commands.CursorStack Absent 0) ∷ at 29 (sent commands.CursorStack Absent 10000) ∷ []) 31
+    ∷ at 24 (sent commands.CursorStack Absent 0) ∷ at 29 (sent commands.CursorStack Absent 10000) ∷ []) 31
 unfolding reading_of read_on first_of after_escape after_introducer command_in field_at amount_of
 cursor = refl
 

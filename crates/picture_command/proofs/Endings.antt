@@ -85,7 +85,7 @@ module _ (selection : Selection) (job : List ℕ) (group : Groups) (machine : Ma
         (item_found selection job group machine counts counts' x finding halts (sym goes))
         (subst (λ (f : Failure). Keeps kept kept' (found_at_failure selection job group counts' (at_item x.item) f) r) failure_is
         (subst (λ words. Keeps kept kept' (found_at_failure selection job group counts' words failure) r)
-            (culprit_at_item culprit x.item named) told))
+        (culprit_at_item culprit x.item named) told))
 
   -- ---- the end of the bytes
 

@@ -144,12 +144,11 @@ module _ (anywhere : (printer : Printer) (reading : Reading) → IsWatchedAlike 
     is_numbered = numbered;
     is_not_first = not_first of.before refl;
     through = λ each has panel allowed.
-        let counted = all_contained (IsCounted findings_in found reading) fleet each all_found has in
-        (
-              (from_any each counted panel allowed).0,
-              subst (GoesThrough its.count w.place) (sym (same_items anywhere plainly each panel reading allowed))
-                  (goes_there each counted),
-            );
+        let counted = all_contained (IsCounted findings_in found reading) fleet each all_found has in (
+          (from_any each counted panel allowed).0,
+          subst (GoesThrough its.count w.place) (sym (same_items anywhere plainly each panel reading allowed))
+              (goes_there each counted),
+        );
     shared = events_before its.count first_items;
     alike = alike_before;
     events = events_behind its.count first_items;

@@ -91,28 +91,27 @@ module _ (action : Action) (place : ℕ) (formation : Formation) (counts counts'
     (others : List MachineState)
     (all : (events : List Event) → Does action events first first' →
     Each (Does action events) (first ∷ others_in formation first others) (first' ∷ others_in formation first' others))
-    where
-  abbrev came : Option Failure → Type 0
-  came failed =
-      GoesInStep action place (first ∷ others_in formation first others) (first' ∷ others_in formation first' others) counts counts' failed
+  where
+    abbrev came : Option Failure → Type 0
+    came failed =
+        GoesInStep action place (first ∷ others_in formation first others) (first' ∷ others_in formation first' others) counts counts' failed
 
-  pub as_one_in_step : {F : Type 0} (answer : Result Unit (Stop F)) (standing : Standing) → StandsAfter place 1 answer standing
-      → CarriesOn counter_takes counter_refuses (carrying_of first action) (is_last action) counts counts' first first' answer
-      → StandsBy standing (λ failed.
-      GoesInStep action place (first ∷ others_in formation first others) (first' ∷ others_in formation first' others) counts counts' failed)
-  as_one_in_step (Ok done) standing stands h =
-      open_by came standing stands
-      (
-        h.2.events,
-        all h.2.events (does_of counter_takes action counts counts' first first' h.1 h.2),
-        TakesAll-counts counts counts' h.2.events h.2.leads,
-      )
-  as_one_in_step (Err (stops.Found finding)) standing stands h =
-      failed_by came standing (found_at place 1 finding) stands
-      (refl, inl (refl, record { events = h.2.events; peaks = h.2.peaks; run = h.2.is }))
-  as_one_in_step (Err (stops.Refused fault)) standing stands h = refused_by came standing stands
-  as_one_in_step (Err (stops.Memory error)) standing stands h = refused_by came standing stands
-  as_one_in_step (Err stops.Stopped) standing stands h = absurd stands
+    pub as_one_in_step : {F : Type 0} (answer : Result Unit (Stop F)) (standing : Standing) → StandsAfter place 1 answer standing
+        → CarriesOn counter_takes counter_refuses (carrying_of first action) (is_last action) counts counts' first first' answer
+        → StandsBy standing (λ failed.
+        GoesInStep action place (first ∷ others_in formation first others) (first' ∷ others_in formation first' others) counts counts' failed)
+    as_one_in_step (Ok done) standing stands h =
+        open_by came standing stands (
+          h.2.events,
+          all h.2.events (does_of counter_takes action counts counts' first first' h.1 h.2),
+          TakesAll-counts counts counts' h.2.events h.2.leads,
+        )
+    as_one_in_step (Err (stops.Found finding)) standing stands h =
+        failed_by came standing (found_at place 1 finding) stands
+        (refl, inl (refl, record { events = h.2.events; peaks = h.2.peaks; run = h.2.is }))
+    as_one_in_step (Err (stops.Refused fault)) standing stands h = refused_by came standing stands
+    as_one_in_step (Err (stops.Memory error)) standing stands h = refused_by came standing stands
+    as_one_in_step (Err stops.Stopped) standing stands h = absurd stands
 
 -- an item that does the same on all
 module _ (law : (item : Entry) → RunsOnLike item) (item : Entry) (formation : Formation) (counts counts' : Counts)
@@ -134,7 +133,7 @@ module _ (law : (item : Entry) → RunsOnLike item) (item : Entry) (formation : 
       (λ failed. GoesInStep (Execute item) place f.machines (first' ∷ others_in formation first' others) f.counts counts' failed))
       stood
       (as_one_in_step (Execute item) place formation counts counts' first first' others
-          (λ events does. all_do law item events first first' does formation others formed goes) answer standing stands h))
+      (λ events does. all_do law item events first first' does formation others formed goes) answer standing stands h))
 
   -- where it goes on they stand as they stood
   pub as_one_formed : {F : Type 0} (answer : Result Unit (Stop F)) → first.stopped ≡ false → first'.stopped ≡ false
@@ -313,15 +312,14 @@ module _ (action : Action) (place : ℕ) (events given : List Event) (i : ℕ) (
         (subst (λ k. GoesOnTo action place events k (option_or other (then_some differs (i + 2))) (drop (i + 1) old) later failed) n h) in
         subst (λ xs. Compared action place events 2 old xs failed) (sym front)
         (so_far.leads (machine' ∷ later) failed
-            (subst (λ xs. GoesOnTo action place events (i + 2) other xs (machine' ∷ later) failed) (sym next_is) on));
+        (subst (λ xs. GoesOnTo action place events (i + 2) other xs (machine' ∷ later) failed) (sym next_is) on));
   }
 
   -- the machine has a finding
   pub stops_so_far : (finding : Finding) → Finds action finding machine → WrongFrom action events 2 old (i + 2) (reasons.Finding finding)
   stops_so_far finding finds =
       let failure : Failure = record { place = place; profile = i + 2; reason = reasons.Finding finding } in
-      let wrong = so_far.leads [] (Some failure)
-      (
+      let wrong = so_far.leads [] (Some failure) (
         refl,
         subst (λ xs. WrongWhere action events (i + 2) other xs (i + 2) (reasons.Finding finding)) (sym next_is)
             (stops_at action events (i + 2) other finding machine (drop (i + 1) old) finds),

@@ -69,8 +69,7 @@ module _ (anywhere : (printer : Printer) (reading : Reading) → IsWatchedAlike 
       by None is (Whole items at) same e = absurd cc
       by None is (Stopped items at cause) same e =
           let h = fail_is at 0 place number (Fault cause) reason e in
-          subst (λ r. FailSays fleet reading place number r) h.2
-          (
+          subst (λ r. FailSays fleet reading place number r) h.2 (
             sym h.1,
             (items, sym same ∙ ap (λ here. Stopped items here cause) h.0),
             (events_by_item (first_run (runs_of fleet reading)), finds_nothing fleet reading (are_one reading fleet is)),

@@ -52,7 +52,7 @@ module _ (law : (item : Entry) → RunsOnLike item) (item : Entry) (events : Lis
           let defaults : Settings = settings_at panel first.defaults in
           let s : State = state_at panel first.page in
           let own : (printer : Printer) (macros : Store) → Run =
-              λ printer macros. job_item_run (record { printer = printer; defaults = defaults; macros = macros }) item s in
+          λ printer macros. job_item_run (record { printer = printer; defaults = defaults; macros = macros }) item s in
           ap (own m.printer) known ∙ both.same defaults s overlay ∙ sym (ap (own first.printer) none) ∙ does.run panel;
     }
 

@@ -138,19 +138,19 @@ module _ (anywhere : (printer : Printer) (reading : Reading) → IsWatchedAlike 
       let watched_goes = subst (GoesThrough n last.0) (sym same) goes in
       let plain = goes_plainly plainly each panel n last.0 reading watched_goes in (
         (
-              goes_on n last.0 (plain_run each panel reading).items plain.0,
-              goes_on n last.0 (watched_run each panel reading).items watched_goes,
-            ),
+          goes_on n last.0 (plain_run each panel reading).items plain.0,
+          goes_on n last.0 (watched_run each panel reading).items watched_goes,
+        ),
         one_more n first_items (plain_run each panel reading).items first_more
             (more_through n last.0 (plain_run each panel reading).items plain.0)
             (plain.2
-                ∙ (ap (events_before n) same
-                ∙ same_before others.0 0 n first_items (watched_items each reading)
-                (λ v h. omega (arith, less, differs_no_sooner v (others.1 v h))) first_more more))
+            ∙ (ap (events_before n) same
+            ∙ same_before others.0 0 n first_items (watched_items each reading)
+            (λ v h. omega (arith, less, differs_no_sooner v (others.1 v h))) first_more more))
             (plain.1
-                ∙ (ap (events_behind n) same
-                ∙ same_there others.0 0 n first_items (watched_items each reading)
-                (λ v h. omega (arith, less, differs_no_sooner v (others.1 v h))) first_more more)),
+            ∙ (ap (events_behind n) same
+            ∙ same_there others.0 0 n first_items (watched_items each reading)
+            (λ v h. omega (arith, less, differs_no_sooner v (others.1 v h))) first_more more)),
       )
 
   each_alike : (each : Printer) → Contains fleet each → (panel : Panel) → IsAllowed each panel → ComesAlike its.count each panel
@@ -202,9 +202,9 @@ module _ (anywhere : (printer : Printer) (reading : Reading) → IsWatchedAlike 
     plain = λ set panel allowed.
         let run = watched_run of.printer panel reading in
         let ends =
-            halts_there of.printer (watched of.printer) panel reading w.place its.finding
-            (finding_behind its.count w.place its.finding run.items (there panel allowed)) in
+        halts_there of.printer (watched of.printer) panel reading w.place its.finding
+        (finding_behind its.count w.place its.finding run.items (there panel allowed)) in
         subst (FindsBehind its.count w.place its.finding)
-            (sym (plain_items anywhere plainly of.printer panel reading allowed (subst IsSet (sym ends) set))) its.there;
+        (sym (plain_items anywhere plainly of.printer panel reading allowed (subst IsSet (sym ends) set))) its.there;
     unset = says_unset;
   }

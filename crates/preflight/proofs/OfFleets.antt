@@ -144,8 +144,8 @@ module _ (each : ℕ → ℕ → List ItemRun → List Wrong)
       elim (cases_lt w.before v.before) [
         | inl later ↦ later
         | inr sooner ↦ elim
-        (in_either w ahead of_lower (in_front w v (ahead ++ of_lower) (of_others ++ behind) soon_split (its_own v has) sooner)) [
-          | inl one ↦ absurd (not_ahead one)
-          | inr one ↦ absurd (none_of_lower one)
-        ]
+            (in_either w ahead of_lower (in_front w v (ahead ++ of_lower) (of_others ++ behind) soon_split (its_own v has) sooner)) [
+              | inl one ↦ absurd (not_ahead one)
+              | inr one ↦ absurd (none_of_lower one)
+            ]
       ]

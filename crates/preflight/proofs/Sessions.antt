@@ -58,7 +58,7 @@ module _ (first old new : SessionState) (bytes : List ℕ) (goes : ChecksOn firs
         let same : (base ++ bytes) ++ piece ≡ base ++ (bytes ++ piece) = append_assoc base bytes piece in
         subst (λ l. HasChecked fleet l new) same
         (subst (λ s. ChecksTo s fleet ((base ++ bytes) ++ piece) new) (sym is)
-            (more fleet (base ++ bytes) before.0, omega (arith, total_is, before.1, length-append (base ++ bytes) piece)));
+        (more fleet (base ++ bytes) before.0, omega (arith, total_is, before.1, length-append (base ++ bytes) piece)));
   }
 
   -- or the job fails, whatever follows
@@ -77,7 +77,7 @@ module _ (first old new : SessionState) (bytes : List ℕ) (goes : ChecksOn firs
         ∙ (sym (append_assoc base (bytes ++ piece) split.0)
         ∙ ap (λ l. l ++ split.0) (sym (append_assoc base bytes piece))) in
         right_failing says fleet (base ++ rest) failure verdict new.culprit is
-            (fails fleet (base ++ bytes) before.0 (base ++ rest) (split.0, job_is, λ e. let both : false ≡ true = e in absurd cc));
+        (fails fleet (base ++ bytes) before.0 (base ++ rest) (split.0, job_is, λ e. let both : false ≡ true = e in absurd cc));
   }
 
   -- the end came

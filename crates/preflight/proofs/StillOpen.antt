@@ -187,8 +187,10 @@ module _ (fleet : List Printer) (bytes : List ℕ) (lexer : LexerState) (machine
             let by_1 =
             is_fault (1 ∷ []) (NotInProfile (names.Byte 1))
             (behind_whole lexer.context lexer.rest (1 ∷ []) (NotInProfile (names.Byte 1)) whole.1 (byte_1 lexer.context whole.0)) in
-            absurd (omega (arith,
-            one_byte 0 1 (one_cause place_here (NotInProfile (names.Byte 0)) (NotInProfile (names.Byte 1)) (sym by_0 ∙ by_1))))
+            absurd (omega (
+              arith,
+              one_byte 0 1 (one_cause place_here (NotInProfile (names.Byte 0)) (NotInProfile (names.Byte 1)) (sym by_0 ∙ by_1)),
+            ))
 
     not_opened : Opened lexer.context lexer.rest → ⊥
     not_opened (refuses more r ending) = not_refused more r ending

@@ -149,7 +149,7 @@ print_in_step (code ∷ codes) look place old new counts running in_pcl h =
       (glyph_events look place code, each_does look place code codes old new running in_pcl h, refl),
       subst (λ c. PrintInStep codes mid new between c) (count_one (glyph_at look place code) (shapes_of look next codes) counts)
           (print_in_step codes look next mid new between (still_running look place code old running)
-              (still_in_pcl look place code old in_pcl) (each_prints look place code codes old new h)),
+          (still_in_pcl look place code old in_pcl) (each_prints look place code codes old new h)),
     )
 
 -- ---- machines that stand together
@@ -179,8 +179,8 @@ module _ (law : (item : Entry) → GoesOnLike item) (look : Look) where
       no_raster = h.0.no_raster;
       goes = λ panel defaults.
           ap (effect_of (settings_at panel page.env))
-              ((law (line_item code) p q defaults like (line_asks p q code)).same (state_at panel page))
-              ∙ h.0.goes panel defaults;
+          ((law (line_item code) p q defaults like (line_asks p q code)).same (state_at panel page))
+          ∙ h.0.goes panel defaults;
     },
     goes_on_like p q like codes (behind look code place) (page_behind look place code page) h.1,
   )
@@ -208,14 +208,13 @@ module _ (law : (item : Entry) → GoesOnLike item) (look : Look) where
         (formation ≡ Apart → Each (PrintsLines look place codes) others others') → ((formation ≡ Apart → ⊥) → others' ≡ others) →
         Each (PrintsLines look place codes) (first ∷ others_in formation first others) (first' ∷ others_in formation first' others')
     all_print Alone others others' formed apart same = (prints, tt)
-    all_print Together others others' formed apart same =
-        (
-          prints,
-          subst
-              (λ (ms : List MachineState).
-              Each (PrintsLines look place codes) (map (standing_as first) others) (map (standing_as first') ms))
-              (sym (same (λ e. cc))) (followers_print others formed.1),
-        )
+    all_print Together others others' formed apart same = (
+      prints,
+      subst
+          (λ (ms : List MachineState).
+          Each (PrintsLines look place codes) (map (standing_as first) others) (map (standing_as first') ms))
+          (sym (same (λ e. cc))) (followers_print others formed.1),
+    )
     all_print Apart others others' formed apart same = (prints, apart refl)
 
     pub stay_formed : (formation : Formation) (others others' : List MachineState) → IsFormed formation first others →
@@ -271,16 +270,15 @@ front_goes printer (suc k) (code ∷ codes) look place page h =
 pub fewer_go : (look : Look) (from : TextPlace) (k : ℕ) (codes : List ℕ) (machines : List MachineState) → GoOnAll look from codes machines →
     GoOnAll look from (take k codes) machines
 fewer_go look from k codes [] h = tt
-fewer_go look from k codes (m ∷ machines) h =
-    (
-      record {
-            stands = h.0.stands;
-            go = front_goes m.printer k codes look from m.page h.0.go;
-            no_definition = h.0.no_definition;
-            mode = h.0.mode;
-          },
-      fewer_go look from k codes machines h.1,
-    )
+fewer_go look from k codes (m ∷ machines) h = (
+  record {
+    stands = h.0.stands;
+    go = front_goes m.printer k codes look from m.page h.0.go;
+    no_definition = h.0.no_definition;
+    mode = h.0.mode;
+  },
+  fewer_go look from k codes machines h.1,
+)
 
 one_more : (look : Look) (from : TextPlace) (codes : List ℕ) (machines : List MachineState) (m : MachineState) →
     GoOnAll look from codes machines → GoOn look from codes m → GoOnAll look from codes (machines ++ m ∷ [])
@@ -395,8 +393,8 @@ module _ (fleet : List Printer) where
         each_along (Along items h.done) (Does (Execute (line_item code)) step.0)
         (Along (items ++ at place (line_item code) ∷ []) (h.done ++ done_item place step.0 ∷ []))
         (λ printer machine machine' along does. along_more items h.done printer machine along (Execute (line_item code))
-            (at place (line_item code)) (λ m. refl) step.0 machine' does)
-            fleet machines mid h.along step.1;
+        (at place (line_item code)) (λ m. refl) step.0 machine' does)
+        fleet machines mid h.along step.1;
   }
 
   items_on : (codes : List ℕ) (items : List Placed) (place : ℕ) (machines machines' : List MachineState) (counts counts' : Counts) →

@@ -230,7 +230,7 @@ told_by_lines (first ∷ more) =
     elim (format_of (words_of first)) as
     (λ format. IsToldBy
     (elim (option_map_or (λ f. draft_of_lines f (no_draft f) 2 more) format (Err (Fault 1 Version)))
-        [ Ok draft ↦ printer_of draft | Err fault ↦ Err fault ])
+    [ Ok draft ↦ printer_of draft | Err fault ↦ Err fault ])
     (option_map_or (λ f. faults_behind f more) format (NoVersion ∷ []))) [
       | Some format ↦
           told_behind (draft_of_lines format (no_draft format) 2 more) (faults_on_lines format (no_draft format) 2 more)

@@ -151,7 +151,7 @@ module _ (plainly : (printer : Printer) (panel : Panel) (reading : Reading) → 
   clean_passes nothing clean =
       let right = all_of (IsRight whole clean.events) fleet (λ p has.
       let same : (plain_run p (first_panel p) whole).items ≡ watched_items p whole =
-          ap (λ flags. (run_from p flags (first_panel p) whole).items) (sym (not_watched p (nothing p has))) in
+      ap (λ flags. (run_from p flags (first_panel p) whole).items) (sym (not_watched p (nothing p has))) in
       let ends : Ends (plain_run p (first_panel p) whole).ending = subst Ends (sym (clean.clean p has).is_done) tt in
       (subst Agreed same (agrees_at_end p unwatched (first_panel p) whole ends), ap events_by_item (sym same) ∙ clean.alike p has)) in
       subst (λ o. IsPass (verdict_by o whole (events_of (first_run (runs_of fleet whole)))))

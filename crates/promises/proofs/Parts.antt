@@ -16,11 +16,10 @@ use Rattle.preflight.proofs.Parts.{AreOne, are_one}
 all_parts : (reading : Reading) (fleet part : List Printer) → AreOne reading fleet → AllByRecursion (Contains fleet) part →
     AllByRecursion (λ r. r ≡ first_run (runs_of fleet reading)) (runs_of part reading)
 all_parts reading fleet [] one c = tt
-all_parts reading fleet (p ∷ ps) one c =
-    (
-      all_contained (λ printer. watched_items printer reading ≡ first_run (runs_of fleet reading)) fleet p one.one c.0,
-      all_parts reading fleet ps one c.1,
-    )
+all_parts reading fleet (p ∷ ps) one c = (
+  all_contained (λ printer. watched_items printer reading ≡ first_run (runs_of fleet reading)) fleet p one.one c.0,
+  all_parts reading fleet ps one c.1,
+)
 
 first_part : (run : List ItemRun) (reading : Reading) (part : List Printer) → 0 < length part →
     AllByRecursion (λ r. r ≡ run) (runs_of part reading) → first_run (runs_of part reading) ≡ run

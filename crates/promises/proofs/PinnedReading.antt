@@ -145,10 +145,10 @@ module _ (printer : Printer) (panel : Panel) (set : CanBeSetTo printer panel) wh
           let ending : panel.line_termination ≤ 3 = (within 0 3 panel.line_termination set.values.line_termination).1 in
           some (omega arith) refl (some (omega arith) refl (some (omega arith) refl (some (omega arith) refl (some spacing_is refl
           (some (can.number, can.letter) refl
-              (some can.spacing refl
-              (some can.pitch refl
-              (some can.height refl
-              (some can.style refl (some can.weight refl (some can.typeface refl (some (omega arith) refl none))))))))))))
+          (some can.spacing refl
+          (some can.pitch refl
+          (some can.height refl
+          (some can.style refl (some can.weight refl (some can.typeface refl (some (omega arith) refl none))))))))))))
 
       by : (mode : Mode) → MayEnd mode → AreAdmitted mode (prologue panel request)
       by Pcl out = some size_is refl behind_first

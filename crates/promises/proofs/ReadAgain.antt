@@ -222,8 +222,8 @@ is_read_again job reading is =
       whole = λ items place e.
           let spells : plain_text reading ≡ spelled (entries items) = ap plain_text e ∙ plain_spelled items in
           subst (λ bytes. IsReading bytes (Whole (placed_from 0 (entries items)) (place_behind 0 (entries items)))) (sym spells)
-              (spelled_is_read job items place (subst (IsReading job) e is)
-              (items_admitted job (Whole items place) (subst (IsReading job) e is)));
+          (spelled_is_read job items place (subst (IsReading job) e is)
+          (items_admitted job (Whole items place) (subst (IsReading job) e is)));
       again = plain_spelled (items_of (reading_of (plain_text reading))) ∙ (ap spelled same ∙ sym text);
     }
 

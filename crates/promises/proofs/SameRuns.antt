@@ -118,5 +118,5 @@ plain_is_set unset printer panel reading = by (plain_run printer panel reading).
     by (Halts finding) is = is_not_unset finding (λ field same.
         let its = has_its_finding printer panel reading finding is in
         not_watched field
-            (unset printer unwatched panel reading its.0 its.1 field
-            (subst (λ f. FindsBehind its.0 its.1 f (plain_run printer panel reading).items) same its.2)).0)
+        (unset printer unwatched panel reading its.0 its.1 field
+        (subst (λ f. FindsBehind its.0 its.1 f (plain_run printer panel reading).items) same its.2)).0)

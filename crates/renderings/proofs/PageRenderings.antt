@@ -77,7 +77,7 @@ module _ {W A : Type 0} (state : W → OutletState) where
             Puts-trans (state old.outlet.now) (state mid.outlet.now) (state new.outlet.now) old.kept.now.items mid.kept.now.items
             new.kept.now.items line (events_text (page_after old.page e) es) h.1.2.puts
             (subst (λ n. Puts (state mid.outlet.now) (state new.outlet.now) mid.kept.now.items new.kept.now.items (events_text n es))
-                h.1.2.page_is rest.puts);
+            h.1.2.page_is rest.puts);
         page_is = rest.page_is ∙ ap (λ n. pages_after n es) h.1.2.page_is;
       }
 
@@ -207,8 +207,7 @@ module _ (machine : MachineState) (n : ℕ) where
   pub item_begun : (x : Placed) (events others : List Event) → ((item_of machine x.item).run any_panel).events ≡ events ++ others →
       BeginsWith (pages_from machine n) (StartsWith x) (events_text n events)
   item_begun x events others run = λ reading starts.
-      let begun = text_begun n x.place ((item_of machine x.item).run any_panel) (behind_item x starts.0) AllDone events others run in
-      (
+      let begun = text_begun n x.place ((item_of machine x.item).run any_panel) (behind_item x starts.0) AllDone events others run in (
         begun.0,
         ap (pages_from machine n).text starts.1
             ∙ (ap (λ (j : JobRun). events_text n (events_of j.items)) (item_first x starts.0) ∙ begun.1),
@@ -287,8 +286,7 @@ module _ {W A : Type 0} (state : W → OutletState) (machine : MachineState) (ol
       Ended rendering (StartsWith x) (state old.outlet.now) (state new.outlet.now) old.kept.now.items new.kept.now.items
       (Ok (Fail x.place 1 (FindingOfRun finding)))
   tells_finding x finding took =
-      let h = led new took.events took.leads in
-      (
+      let h = led new took.events took.leads in (
         events_text old.page took.events,
         h.puts,
         item_found machine old.page x finding took.events (took.peaks any_panel) (took.is any_panel),
@@ -326,8 +324,7 @@ module _ {W A : Type 0} (state : W → OutletState) (machine : MachineState) (ol
       Ended rendering (λ reading. reading ≡ Whole [] place) (state old.outlet.now)
       (state new.outlet.now) old.kept.now.items new.kept.now.items (Ok AllDone)
   tells_end place s took =
-      let h = led new took.events took.leads in
-      (
+      let h = led new took.events took.leads in (
         events_text old.page took.events,
         h.puts,
         end_goes machine old.page place (s any_panel) took.events (took.peaks any_panel) (took.is any_panel),
@@ -338,8 +335,7 @@ module _ {W A : Type 0} (state : W → OutletState) (machine : MachineState) (ol
       Ended rendering (λ reading. reading ≡ Whole [] place) (state old.outlet.now)
       (state new.outlet.now) old.kept.now.items new.kept.now.items (Ok (Fail place 1 (FindingOfRun finding)))
   tells_end_finding place finding took =
-      let h = led new took.events took.leads in
-      (
+      let h = led new took.events took.leads in (
         events_text old.page took.events,
         h.puts,
         end_found machine old.page place finding took.events (took.peaks any_panel) (took.is any_panel),

@@ -299,7 +299,7 @@ module _ (first : Rendering) (start : OutletState) (bytes : List ℕ) (old : Lex
           subst (AddsFront start written')
               (append_assoc rendered.text h.0 more.0 ∙ (ap (λ l. rendered.text ++ l) (sym more.1) ∙ sym (rendered.due t.0)))
               (AddsFront-more start written' (rendered.text ++ h.0) more.0
-                  (Puts-front start written written' [] kept rendered.text h.0 rendered.puts h.1)),
+              (Puts-front start written written' [] kept rendered.text h.0 rendered.puts h.1)),
         )
 
   module _ (answer : Result Lexed LexFault) (new : LexerState) (next : IsNext old answer new) where
@@ -365,8 +365,7 @@ module _ (first : Rendering) (start : OutletState) (bytes : List ℕ) (old : Lex
         let tells = subst (λ a. LexerTells old.ended bytes rendered.items a) is (next.tells bytes rendered.items rendered.reads) in
         let all : bytes ≡ job = sym (may.1 ∙ (ap (λ l. bytes ++ l) (may.2 (sym same ∙ tells.0)) ∙ append-nil bytes)) in
         let whole : Whole rendered.items (length bytes) ≡ behind rendered.items (Whole [] total) =
-        ap (Whole rendered.items) (sym total_is) ∙ ap (λ l. Whole l total) (sym (append-nil rendered.items)) in
-        (
+        ap (Whole rendered.items) (sym total_is) ∙ ap (λ l. Whole l total) (sym (append-nil rendered.items)) in (
           Whole [] total,
           refl,
           subst (λ (j : List ℕ). IsReading j (behind rendered.items (Whole [] total))) all (subst (IsReading bytes) whole tells.1),
@@ -379,8 +378,7 @@ module _ (first : Rendering) (start : OutletState) (bytes : List ℕ) (old : Lex
         let tells : Settles old.ended bytes (Stopped rendered.items fault.place fault.cause) =
         subst (λ a. LexerTells old.ended bytes rendered.items a) is (next.tells bytes rendered.items rendered.reads) in
         let stopped : Stopped rendered.items fault.place fault.cause ≡ behind rendered.items (Stopped [] fault.place fault.cause) =
-        ap (λ l. Stopped l fault.place fault.cause) (sym (append-nil rendered.items)) in
-        (
+        ap (λ l. Stopped l fault.place fault.cause) (sym (append-nil rendered.items)) in (
           Stopped [] fault.place fault.cause,
           refl,
           subst (IsReading job) stopped (tells job (subst (λ w. MayBe w bytes job) (sym same) may)),

@@ -61,7 +61,7 @@ module _ (first : Rendering) (start written : OutletState) (source source' : Sou
       items = goes.rendered.items;
       decided = subst (λ (l : List ℕ). Decides false l goes.rendered.items) (sym joined)
           (subst (λ w. Decides w bytes goes.rendered.items) goes.open_input
-              (decides lexer.ended bytes goes.rendered.items lexer.context lexer.place lexer.rest goes.rendered.reads.reads));
+          (decides lexer.ended bytes goes.rendered.items lexer.context lexer.place lexer.rest goes.rendered.reads.reads));
       no_more = subst (λ (l : List ℕ). Undecided l goes.rendered.items) (sym joined) goes.no_more;
       text = goes.rendered.text;
       adds = Puts-all start written goes.rendered.text goes.rendered.puts;

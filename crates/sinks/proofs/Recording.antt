@@ -32,8 +32,7 @@ TakesAll-compared old new (e ∷ es) h rest =
 pub differs_exactly : (expected events : List Event) (new : Option (List Event)) (differs : Bool) →
     TakesAll Compares (Some expected) events new → (IsFalse differs ↔ (new ≡ Some [])) → IsFalse differs ↔ (events ≡ expected)
 differs_exactly expected events new differs leads is =
-    let done = TakesAll-compared (Some expected) new events leads [] in
-    (
+    let done = TakesAll-compared (Some expected) new events leads [] in (
       λ same. sym (ap (λ (o : Option (List Event)). unwrap_or o []) (done.0 (is.0 same)) ∙ append-nil events),
       λ same. is.1 (done.1 (ap Some (sym same ∙ sym (append-nil events)))),
     )

@@ -134,7 +134,7 @@ module _ {C : Type 0} (goes_on : C → List ℕ → C → Type 0) (stops : C →
                 (way.pieces ++ piece ∷ []) all_spelled;
             known = at_front (way.pieces ++ piece ∷ []) source.remaining after.remaining (way.bytes ++ piece) all_consumed
                 (λ more. subst (λ ps. MayBeBy ps ((way.bytes ++ piece) ++ more)) (append-nil (way.pieces ++ piece ∷ []))
-                    (all_spelled.led [] more tt));
+                (all_spelled.led [] more tt));
           }
 
       -- the end was read

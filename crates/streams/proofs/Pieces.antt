@@ -32,7 +32,7 @@ spell_more pieces bytes piece some spelled = record {
   led = λ later more h.
       let both = spelled.led (piece ∷ later) (piece ++ more) (in_front piece later more some h) in
       subst (λ ps. MayBeBy ps (bytes ++ piece ++ more)) (sym (append_assoc pieces (piece ∷ []) later))
-          (subst (MayBeBy (pieces ++ piece ∷ later)) (sym (append_assoc bytes piece more)) both);
+      (subst (MayBeBy (pieces ++ piece ∷ later)) (sym (append_assoc bytes piece more)) both);
 }
 
 -- one more piece was given

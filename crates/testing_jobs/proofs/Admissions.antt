@@ -50,6 +50,6 @@ module _ {M : Type 1} {𝓤 : Ura M} (𝓛 : Logic 𝓤) (at_mem : Memory → SP
       (id⊢ 𝓤 _) $
       await ! tt $ pick ! (λ r.
       split ! $ split ! $ move ! (1 ∷ []) $
-          feq_l ! (λ e.
-          split ! $ at_once ! $ show ! (λ (r : Bool). guard 𝓤 (v ≡ vbool r) (A.lft κ q)) r $ check ! (ap only e) $ keep ! (0 ∷ []) $
-          done !))
+      feq_l ! (λ e.
+      split ! $ at_once ! $ show ! (λ (r : Bool). guard 𝓤 (v ≡ vbool r) (A.lft κ q)) r $ check ! (ap only e) $ keep ! (0 ∷ []) $
+      done !))

@@ -26,5 +26,5 @@ drawn_from selection sentence machine p is_started = record {
   at_fault = λ items place cause.
       start_if_due selection sentence (started_behind is_started items)
       ++ fault_behind selection sentence machine.printer
-          (settings_at any_panel machine.defaults) place cause p items machine.macros (state_at any_panel machine.page);
+      (settings_at any_panel machine.defaults) place cause p items machine.macros (state_at any_panel machine.page);
 }

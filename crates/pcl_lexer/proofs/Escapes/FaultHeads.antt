@@ -61,11 +61,11 @@ unknown : (g : Group) (letter : ℕ) → command_at g letter ≡ None → data_c
 unknown g letter e d = record {
   no_command = λ command p q.
       let found : command_at g letter ≡ Some command =
-          sym (ap (λ h. command_at h (letter_of command)) p ∙ ap (command_at g) q) ∙ command_known command in
+      sym (ap (λ h. command_at h (letter_of command)) p ∙ ap (command_at g) q) ∙ command_known command in
       let both : None ≡ Some command = sym e ∙ found in absurd cc;
   no_data_command = λ command p q.
       let found : data_command_at g letter ≡ Some command =
-          sym (ap (λ h. data_command_at h (data_letter_of command)) p ∙ ap (data_command_at g) q) ∙ data_command_known command in
+      sym (ap (λ h. data_command_at h (data_letter_of command)) p ∙ ap (data_command_at g) q) ∙ data_command_known command in
       let both : None ≡ Some command = sym d ∙ found in absurd cc;
 }
 
@@ -116,9 +116,9 @@ told_byte g text a c rest len f ends =
     cond_both (is_group_or_parameter c) _ _ (TellsCommand g (text ++ c ∷ rest))
     (λ e. told_other_letter (data_command_at g (c - 32)) g text a c rest (len + 1) f (small_is c e) refl) (λ d.
     cond_both (is_termination c) _ _ (TellsCommand g (text ++ c ∷ rest))
-        (λ e. told_last_letter (data_command_at g c) g text a c rest (len + 1) f (capital_is c e) refl) (λ e.
+    (λ e. told_last_letter (data_command_at g c) g text a c rest (len + 1) f (capital_is c e) refl) (λ e.
     no_letter rest f ends (λ h. both_ways (is_termination c) e (is_capital c h))
-        (λ h. both_ways (is_group_or_parameter c) d (is_small c h))))
+    (λ h. both_ways (is_group_or_parameter c) d (is_small c h))))
 
 -- the field, and the byte behind it
 pub record Front (bytes : List ℕ) (a : Amount) (c : ℕ) (rest : List ℕ) : Type 0 where
@@ -281,17 +281,17 @@ character_told None b bytes none =
     cond_both ((b == 38) || (b == 42)) _ _ (TellsUnit (escape ∷ b ∷ bytes))
     (λ e. let h = has_groups b (either_byte b e) in introducer_told b bytes h.0 h.1) (λ eg.
     cond_both (b == 40) _ _ (TellsUnit (escape ∷ b ∷ bytes))
-        (λ e. subst (λ (n : ℕ). TellsUnit (escape ∷ n ∷ bytes) (after_parenthesis bytes)) (sym (eqb-true b 40 e)) (parenthesis_told bytes))
-        (λ e40.
+    (λ e. subst (λ (n : ℕ). TellsUnit (escape ∷ n ∷ bytes) (after_parenthesis bytes)) (sym (eqb-true b 40 e)) (parenthesis_told bytes))
+    (λ e40.
     cond_both (b == 37) _ _ (TellsUnit (escape ∷ b ∷ bytes))
-        (λ e. subst (λ (n : ℕ). TellsUnit (escape ∷ n ∷ bytes) (exit_or (without_group 37 bytes) bytes))
-        (sym (eqb-true b 37 e)) (percent_told bytes))
-        (λ e37.
+    (λ e. subst (λ (n : ℕ). TellsUnit (escape ∷ n ∷ bytes) (exit_or (without_group 37 bytes) bytes))
+    (sym (eqb-true b 37 e)) (percent_told bytes))
+    (λ e37.
     cond_both (is_in_range 33 126 b) _ _ (TellsUnit (escape ∷ b ∷ bytes))
     (λ e. let t = both_true (nat_le 33 b) (nat_le b 126) e in
-        no_sequence (leb-true 33 b t.0) (leb-true b 126 t.1) none (eqb-false b 37 e37) (without_groups b eg e40))
+    no_sequence (leb-true 33 b t.0) (leb-true b 126 t.1) none (eqb-false b 37 e37) (without_groups b eg e40))
     (λ e. no_character
-        (λ l h. both_ways (is_in_range 33 126 b) e (and_from (nat_le 33 b) (nat_le b 126) (le-leb 33 b l) (le-leb b 126 h)))))))
+    (λ l h. both_ways (is_in_range 33 126 b) e (and_from (nat_le 33 b) (nat_le b 126) (le-leb 33 b l) (le-leb b 126 h)))))))
 
 escape_told : (bytes : List ℕ) → TellsUnit (escape ∷ bytes) (after_escape bytes)
 unfolding after_escape

@@ -120,7 +120,7 @@ field_parts l =
     (λ h.
     let more : drop b l ≡ 46 ∷ (d ++ drop (b + 1 + length d) l) =
     point_front (drop b l) h
-        ∙ ap (λ t. 46 ∷ t) (drop-drop 1 b l ∙ digits_front (drop (b + 1) l) ∙ ap (λ t. d ++ t) (drop-drop (length d) (b + 1) l)) in
+    ∙ ap (λ t. 46 ∷ t) (drop-drop 1 b l ∙ digits_front (drop (b + 1) l) ∙ ap (λ t. d ++ t) (drop-drop (length d) (b + 1) l)) in
     record {
       fraction = Some d;
       decimals = refl;
@@ -272,8 +272,8 @@ field_read text a rest f end =
       len = ap (λ g. g.len) read ∙ ap length (sym f.shape.spelled);
       amount = ap amount_of read
           ∙ cond-true
-              (nat_le (first_four (decimal f.whole) (decimals_of f.fraction)) most
-              && list_all (λ d. d == 48) (drop 4 (decimals_of f.fraction)))
-              _ _ (and_from _ _ limited only.1)
+          (nat_le (first_four (decimal f.whole) (decimals_of f.fraction)) most
+          && list_all (λ d. d == 48) (drop 4 (decimals_of f.fraction)))
+          _ _ (and_from _ _ limited only.1)
           ∙ ap (λ n. Some (record { sign = a.sign; ten_thousandths = n })) (sym only.0);
     }

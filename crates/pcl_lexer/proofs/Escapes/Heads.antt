@@ -185,7 +185,7 @@ data_told (Some n) g d text a rest f e k =
     let whole : bytes ++ drop n rest ≡ rest = take-append-drop n rest in
     let size : length bytes ≡ n = length-take-le n rest (bools.ltb-false (length rest) n t) in
     let left : drop (length text + 1 + n) (text ++ c ∷ rest) ≡ drop n rest =
-        sym (drop-drop n (length text + 1) (text ++ c ∷ rest)) ∙ ap (drop n) (drop_behind text c rest) in
+    sym (drop-drop n (length text + 1) (text ++ c ∷ rest)) ∙ ap (drop n) (drop_behind text c rest) in
     let head : HeadCommand (data_group_of d) (text ++ c ∷ (bytes ++ drop n rest)) (WithData d bytes)
     (length text + 1 + length bytes) Pcl (drop n rest) =
     ends_with_data d f (subst (Counts a) (sym size) (counts_of a n k)) in
@@ -193,9 +193,9 @@ data_told (Some n) g d text a rest f e k =
     (subst (λ (h : Group). HeadCommand h (text ++ c ∷ rest) (WithData d bytes) (length text + 1 + n) Pcl (drop n rest)) e
     (subst (λ (m : ℕ). HeadCommand (data_group_of d) (text ++ c ∷ rest) (WithData d bytes) (length text + 1 + m) Pcl (drop n rest)) size
     (subst
-        (λ (l : List ℕ).
-        HeadCommand (data_group_of d) (text ++ c ∷ l) (WithData d bytes) (length text + 1 + length bytes) Pcl (drop n rest))
-        whole head))))
+    (λ (l : List ℕ).
+    HeadCommand (data_group_of d) (text ++ c ∷ l) (WithData d bytes) (length text + 1 + length bytes) Pcl (drop n rest))
+    whole head))))
 
 last_told : (o : Option DataCommand) (g : Group) (c : ℕ) (text : List ℕ) (a : Amount) (rest : List ℕ) → IsField text a →
     data_command_at g c ≡ o → Tells g (text ++ c ∷ rest) (by_last_letter o g c a (length text + 1) rest)
@@ -345,7 +345,7 @@ ungrouped_amount_told (Some a) i bytes c rest short e d =
     subst (λ (n : ℕ). TellsUnit (escape ∷ i ∷ bytes) (by_termination (Some a) i n c)) (sym f.3)
     (subst (λ (l : List ℕ). TellsUnit (escape ∷ i ∷ l) (by_termination (Some a) i (length f.0) c)) (sym whole)
     (cond_both (is_termination c) _ _ (TellsUnit (escape ∷ i ∷ (f.0 ++ c ∷ rest)))
-        (λ _. ungrouped_told (ungrouped_at i a c) i f.0 a c rest f.1 refl) (λ _. tt)))
+    (λ _. ungrouped_told (ungrouped_at i a c) i f.0 a c rest f.1 refl) (λ _. tt)))
 
 ungrouped_rest_told : (i : ℕ) (bytes behind : List ℕ) → (field_at bytes).len ≤ 16 → drop (field_at bytes).len bytes ≡ behind →
     TellsUnit (escape ∷ i ∷ bytes) (after_ungrouped_field i (field_at bytes) behind)
@@ -379,13 +379,13 @@ by_character_told (Some item) b bytes e = two_characters e
 by_character_told None b bytes e =
     cond_both ((b == 38) || (b == 42)) _ _ (TellsUnit (escape ∷ b ∷ bytes)) (λ _. after_introducer_told b bytes) (λ _.
     cond_both (b == 40) _ _ (TellsUnit (escape ∷ b ∷ bytes))
-        (λ e.
-        subst (λ (n : ℕ). TellsUnit (escape ∷ n ∷ bytes) (after_parenthesis bytes)) (sym (eqb-true b 40 e)) (after_parenthesis_told bytes))
-        (λ _.
+    (λ e.
+    subst (λ (n : ℕ). TellsUnit (escape ∷ n ∷ bytes) (after_parenthesis bytes)) (sym (eqb-true b 40 e)) (after_parenthesis_told bytes))
+    (λ _.
     cond_both (b == 37) _ _ (TellsUnit (escape ∷ b ∷ bytes))
-        (λ e. subst (λ (n : ℕ). TellsUnit (escape ∷ n ∷ bytes) (exit_or (without_group 37 bytes) bytes))
-        (sym (eqb-true b 37 e)) (percent_told bytes))
-        (λ _.
+    (λ e. subst (λ (n : ℕ). TellsUnit (escape ∷ n ∷ bytes) (exit_or (without_group 37 bytes) bytes))
+    (sym (eqb-true b 37 e)) (percent_told bytes))
+    (λ _.
     cond_both (is_in_range 33 126 b) _ _ (TellsUnit (escape ∷ b ∷ bytes)) (λ _. tt) (λ _. tt))))
 
 after_escape_told : (bytes : List ℕ) → TellsUnit (escape ∷ bytes) (after_escape bytes)

@@ -82,7 +82,7 @@ ends_in text s w o c rest h e = record {
   no_point = λ n. by_test (c == 46) (λ t. no_more_point text s w c (subst (IsShape text s w) n h) e (eqb-true c 46 t));
   no_sign = λ a b n.
       let bare : IsShape text Absent [] None =
-          subst (λ (z : Sign). IsShape text z [] None) a (subst (λ (v : List ℕ). IsShape text s v None) b (subst (IsShape text s w) n h)) in
+      subst (λ (z : Sign). IsShape text z [] None) a (subst (λ (v : List ℕ). IsShape text s v None) b (subst (IsShape text s w) n h)) in
       cond-false (c == 43) _ _ (by_test (c == 43) (λ t. no_sign_first text c bare e Plus (ap (λ n. n ∷ []) (eqb-true c 43 t))))
       ∙ cond-false (c == 45) _ _ (by_test (c == 45) (λ t. no_sign_first text c bare e Minus (ap (λ n. n ∷ []) (eqb-true c 45 t))));
 }
@@ -94,7 +94,7 @@ longest text c rest e = record {
   longest = λ s w o h.
       let same : (text ++ c ∷ []) ++ rest ≡ text ++ c ∷ rest = append_assoc text (c ∷ []) rest in
       let long : length (text ++ c ∷ []) ≤ (field_at (text ++ c ∷ rest)).len =
-          subst (λ (l : List ℕ). length (text ++ c ∷ []) ≤ (field_at l).len) same (shape_len (text ++ c ∷ []) s w o rest h) in
+      subst (λ (l : List ℕ). length (text ++ c ∷ []) ≤ (field_at l).len) same (shape_len (text ++ c ∷ []) s w o rest h) in
       absurd (omega (arith, length-append text (c ∷ [])));
 }
 
@@ -131,11 +131,11 @@ range_fault bytes c rest short d e =
     (record { sign = f.sign; ten_thousandths = ten_thousandths_of f }) e in
     subst NumberFault (sym whole) (out_of_range rest (parts_shape bytes f p) (omega (arith, p.len)) (longest text c rest len) (λ n written.
     let only =
-        only_written n f.whole f.decimals p.whole_digits (subst (AllDigits 10) (sym p.decimals) p.fraction_digits)
-        (subst (IsWritten n f.whole) (sym p.decimals) written) in
+    only_written n f.whole f.decimals p.whole_digits (subst (AllDigits 10) (sym p.decimals) p.fraction_digits)
+    (subst (IsWritten n f.whole) (sym p.decimals) written) in
     let past : most < ten_thousandths_of f =
-        bools.leb-false (ten_thousandths_of f) most
-        (past_limit (nat_le (ten_thousandths_of f) most) (list_all (λ d. d == 48) (drop 4 f.decimals)) test only.1) in
+    bools.leb-false (ten_thousandths_of f) most
+    (past_limit (nat_le (ten_thousandths_of f) most) (list_all (λ d. d == 48) (drop 4 f.decimals)) test only.1) in
     subst (λ (m : ℕ). most < m) (sym only.0) past))
 
 pub cut_shape : (bytes : List ℕ) → (field_at bytes).len ≤ 16 → drop (field_at bytes).len bytes ≡ [] → IsCut bytes
@@ -184,8 +184,7 @@ cut_read next bytes (cut {text = text} {whole = whole} {sign = sign} {fraction =
     let read : field_at text ≡ of_parts sign whole fraction =
     ap field_at (sym (append-nil text)) ∙ shape_read text sign whole fraction [] h (ends_at_end sign whole fraction) in
     let len : (field_at text).len ≡ length text = ap (λ f. f.len) read ∙ ap length (sym h.spelled) in
-    let fits : (field_at text).len ≤ 16 = omega (arith, len, short) in
-    (
+    let fits : (field_at text).len ≤ 16 = omega (arith, len, short) in (
       field_at text,
       cond-false (nat_lt 16 (field_at text).len) _ _ (le-ltb 16 (field_at text).len fits) ∙ ap (λ k. next (field_at text) (drop k text)) len
           ∙ ap (next (field_at text)) (drop-length text),
@@ -199,8 +198,7 @@ cut_goes_on next bytes c rest high (cut {text = text} {whole = whole} {sign = si
     let read : field_at l ≡ of_parts sign whole fraction =
     shape_read text sign whole fraction (c ∷ rest) h (ends_at_letter sign whole fraction c rest high) in
     let len : (field_at l).len ≡ length text = ap (λ f. f.len) read ∙ ap length (sym h.spelled) in
-    let fits : (field_at l).len ≤ 16 = omega (arith, len, short) in
-    (
+    let fits : (field_at l).len ≤ 16 = omega (arith, len, short) in (
       field_at l,
       cond-false (nat_lt 16 (field_at l).len) _ _ (le-ltb 16 (field_at l).len fits) ∙ ap (λ k. next (field_at l) (drop k l)) len
           ∙ ap (next (field_at l)) (drop-append_seam text (c ∷ rest)),

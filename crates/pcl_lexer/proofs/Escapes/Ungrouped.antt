@@ -35,7 +35,7 @@ font_found a c =
     let t = both_true (c == 64) (is_three a) e in
     let u = both_true (a.ten_thousandths == 30000) (not (is_minus a.sign)) t.1 in
     subst (λ n. IsFound 40 a n (Some DefaultFont)) (sym (eqb-true c 64 t.0))
-        (modes.Pcl, default_font (eqb-true a.ten_thousandths 30000 u.0) (not_minus a.sign u.1), refl)) (λ _. tt))
+    (modes.Pcl, default_font (eqb-true a.ten_thousandths 30000 u.0) (not_minus a.sign u.1), refl)) (λ _. tt))
 
 -- whose position a number hands over
 abbrev pub IsHandedOver : Amount → Option Handover → Type 0
@@ -63,13 +63,13 @@ language_found a c =
     subst (λ n. IsFound 37 a n (entering (handover_of a))) (sym (eqb-true c 66 e)) (entering_found a (handover_of a) (hands_over a))) (λ _.
     cond_both (c == 65) _ _ (IsFound 37 a c) (λ e.
     subst (λ n. IsFound 37 a n (leaving (handover_of a))) (sym (eqb-true c 65 e))
-        (leaving_found a (handover_of a) (hands_over a))) (λ _. tt))
+    (leaving_found a (handover_of a) (hands_over a))) (λ _. tt))
 
 is_found : (i : ℕ) (a : Amount) (c : ℕ) → IsFound i a c (ungrouped_at i a c)
 is_found i a c =
     cond_both (i == 40) _ _ (IsFound i a c) (λ e. subst (λ n. IsFound n a c (font_at a c)) (sym (eqb-true i 40 e)) (font_found a c)) (λ _.
     cond_both (i == 37) _ _ (IsFound i a c)
-        (λ e. subst (λ n. IsFound n a c (language_at a c)) (sym (eqb-true i 37 e)) (language_found a c)) (λ _. tt))
+    (λ e. subst (λ n. IsFound n a c (language_at a c)) (sym (eqb-true i 37 e)) (language_found a c)) (λ _. tt))
 
 pub ungrouped_found : (i : ℕ) (a : Amount) (c : ℕ) (item : Entry) → ungrouped_at i a c ≡ Some item →
     (mode : Mode) × IsUngrouped i a c item mode × (behind_ungrouped item ≡ between mode)

@@ -271,8 +271,8 @@ second_told Q closed motion x gap n place b rest (Read y len) k f h = λ items q
     number_more Q start begin text h.text (drop len (b ∷ rest)) (b ∷ rest) (at (place - n) (Move motion (Some (x, y))) ∷ items) h.whole
     (subst (λ (p : ℕ). Q (In start) begin ((text ++ h.text) ++ drop len (b ∷ rest)) (at p (Move motion (Some (x, y))) ∷ items)) stands
     (closed.pair start begin items
-        (second_coordinate began (f h.text (drop len (b ∷ rest)) h.whole (coordinate_led h.text y h.is)) h.is h.ends)
-        (at_place Q (In (BehindPair motion)) (place + len) (begin + length (text ++ h.text)) (drop len (b ∷ rest)) items behind next)))
+    (second_coordinate began (f h.text (drop len (b ∷ rest)) h.whole (coordinate_led h.text y h.is)) h.is h.ends)
+    (at_place Q (In (BehindPair motion)) (place + len) (begin + length (text ++ h.text)) (drop len (b ∷ rest)) items behind next)))
 
 -- ---- behind the letters
 
@@ -474,7 +474,7 @@ escape_told Q closed place (b ∷ rest) =
     (λ no_reset.
     cond_both (b == 37) _ _ (Tells Q Frame place (escape ∷ b ∷ rest))
     (λ t. subst (λ (c : ℕ). Tells Q Frame place (escape ∷ c ∷ rest) (exit_or (language_in rest) rest)) (sym (eqb-true b 37 t))
-        (percent_told Q closed place rest))
+    (percent_told Q closed place rest))
     (λ no_percent. other_sequence (eqb-false b 69 no_reset) (eqb-false b 37 no_percent)))
 
 kind_told : (Q : Motive) → Closed Q → (k : Kind) (place b : ℕ) (rest : List ℕ) → kind_of b ≡ k →

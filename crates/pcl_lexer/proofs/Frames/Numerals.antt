@@ -249,8 +249,8 @@ numeral_faulty value Is k _ _ (cut_number {text = text} {whole = w} {sign = s} {
     (sym (ap (numeral_at value true) (sym (append-nil text)) ∙ short_read true value text s w o [] h short tt))
     (cond_both (has_digit (of_parts s w o)) _ _ (λ (n : Numeral _). CausesNumeral n Truncated)
     (λ d. no_value_read value Is k text s w o Cut (value (of_parts s w o)) Truncated
-        (record { shape = h; digit = digit_positive _ d; short = short }) g refl refl)
-        (λ _. refl))
+    (record { shape = h; digit = digit_positive _ d; short = short }) g refl refl)
+    (λ _. refl))
 
 -- ---- coordinates
 

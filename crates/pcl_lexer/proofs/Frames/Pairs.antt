@@ -147,10 +147,10 @@ comma_leads motion place bytes some e = record {
   reads = λ whole x len h.
       let gap : Context = Numbered (Even motion) Comma 1 in
       let number =
-          further_led whole (Even motion) 1 (drop 1 bytes) (begins_number (drop 1 bytes) x len h) ∙ ap (first_of_pair 0 motion) (h whole) in
+      further_led whole (Even motion) 1 (drop 1 bytes) (begins_number (drop 1 bytes) x len h) ∙ ap (first_of_pair 0 motion) (h whole) in
       with_count (omega arith)
       (passes 1 gap (comma_first whole (Even motion) 0 bytes some e)
-          (one_pass whole gap (Numbered (Odd motion x) Straight (0 + len)) bytes 1 place len number));
+      (one_pass whole gap (Numbered (Odd motion x) Straight (0 + len)) bytes 1 place len number));
   behind = omega arith;
   within = some;
   same = λ is. refl;
@@ -296,15 +296,15 @@ module _ (lead : Lead) (place : ℕ) (bytes : List ℕ) (h : LeadsCommand lead p
         let item : Entry = Move lead.motion None in
         let context : Context = Letters (Moves lead.motion) 2 in
         let first : first_of whole context (drop lead.len bytes) ≡ Begins item 0 Frame =
-            at_drop_more (first_of whole context) bytes lead.len 0 inside ∙ letters_end whole lead.motion (get_or bytes lead.len 0) _ e in
+        at_drop_more (first_of whole context) bytes lead.len 0 inside ∙ letters_end whole lead.motion (get_or bytes lead.len 0) _ e in
         let last = one_item whole context Frame bytes lead.len place 0 item first in
         let stands : item_place context (place + lead.len) ≡ lead.place = omega (arith, h.placed) in
         let same : lead.len + 0 ≡ lead.len = omega arith in
         subst (λ (p : ℕ). ReadsTo whole Frame place bytes (at p item ∷ []) Frame (place + lead.len) (drop lead.len bytes)) stands
         (subst
-            (λ (k : ℕ).
-            ReadsTo whole Frame place bytes (at (item_place context (place + lead.len)) item ∷ []) Frame (place + k) (drop k bytes))
-            same (ReadsTo-append (h.letters whole) last));
+        (λ (k : ℕ).
+        ReadsTo whole Frame place bytes (at (item_place context (place + lead.len)) item ∷ []) Frame (place + k) (drop k bytes))
+        same (ReadsTo-append (h.letters whole) last));
     within = h.leads.within;
   }
 
@@ -346,13 +346,13 @@ pair_stands lead x y context place bytes h first comma second =
           let begun = h.reads whole x.coordinate.units x.len to_first.number in
           let passed = one_pass whole (Numbered odd Straight k) gap bytes a place 1 (comma_first whole odd k (drop a bytes) some is) in
           let number =
-              further_led whole odd (k + 1) (drop (a + 1) bytes) (begins_number _ _ _ to_second.number)
-              ∙ ap (second_of_pair lead.motion x.coordinate.units) (to_second.number whole) in
+          further_led whole odd (k + 1) (drop (a + 1) bytes) (begins_number _ _ _ to_second.number)
+          ∙ ap (second_of_pair lead.motion x.coordinate.units) (to_second.number whole) in
           let last = one_item whole gap (Numbered (Even lead.motion) Straight 0) bytes (a + 1) place y.len item number in
           subst
-              (λ (p : ℕ). ReadsTo whole context place bytes (at p item ∷ []) (Numbered (Even lead.motion) Straight 0)
-              (place + (a + 1 + y.len)) (drop (a + 1 + y.len) bytes))
-              stands
+          (λ (p : ℕ). ReadsTo whole context place bytes (at p item ∷ []) (Numbered (Even lead.motion) Straight 0)
+          (place + (a + 1 + y.len)) (drop (a + 1 + y.len) bytes))
+          stands
           (ReadsTo-append begun (ReadsTo-append passed last));
       within = omega (arith, to_second.within, length-drop (a + 1) bytes);
       same = h.same;

@@ -97,7 +97,7 @@ frame_escape_short a (b ∷ bytes) =
     let n : ℕ = length (a ∷ b ∷ bytes) in
     cond_both (b == 69) _ _ (IsShort n) (λ _ e. absurd cc) (λ _.
     cond_both (b == 37) _ _ (IsShort n)
-        (λ _ e. omega (arith, language_short bytes (exit_open (language_in bytes) bytes e))) (λ _ e. absurd cc))
+    (λ _ e. omega (arith, language_short bytes (exit_open (language_in bytes) bytes e))) (λ _ e. absurd cc))
 
 letter_short : (a : ℕ) (bytes : List ℕ) → IsShort (length (a ∷ bytes)) (after_letter a bytes)
 letter_short a [] = λ e. omega arith

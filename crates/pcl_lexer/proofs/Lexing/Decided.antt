@@ -177,8 +177,8 @@ field-grows (x ∷ rest) ys =
     let e2 : w' ≡ w = ap digits (drop-append-le a xs ys small) ∙ digits-stay (drop a xs) ys (omega (arith, length-drop a xs)) in
     let e3 : b' ≡ b = ap (λ v. a + length v) e2 in
     let e4 : p' ≡ p =
-        ap (λ n. has_point (drop n zs)) e3 ∙ ap has_point (drop-append-le b xs ys below)
-        ∙ point-stays (drop b xs) ys (omega (arith, length-drop b xs)) in
+    ap (λ n. has_point (drop n zs)) e3 ∙ ap has_point (drop-append-le b xs ys below)
+    ∙ point-stays (drop b xs) ys (omega (arith, length-drop b xs)) in
     let e5 : d' ≡ digits (drop (b + 1) xs ++ ys) = ap (λ n. digits (drop (n + 1) zs)) e3 ∙ ap digits (drop-append-le (b + 1) xs ys after) in
     (e4 ∙ t, rw e5 (digits-grow (drop (b + 1) xs) ys)))
 

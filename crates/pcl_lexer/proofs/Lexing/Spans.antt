@@ -207,7 +207,7 @@ by_character-span None a b bytes =
     cond_both ((b == 38) || (b == 42)) _ _ (IsSpan n) (λ _. after_introducer-span a b bytes) (λ _.
     cond_both (b == 40) _ _ (IsSpan n) (λ _. after_parenthesis-span a b bytes) (λ _.
     cond_both (b == 37) _ _ (IsSpan n)
-        (λ _. exit_or-span (without_group 37 bytes) bytes n (omega arith) (without_group-span 37 bytes n (omega arith))) (λ _.
+    (λ _. exit_or-span (without_group 37 bytes) bytes n (omega arith) (without_group-span 37 bytes n (omega arith))) (λ _.
     cond_both (is_in_range 33 126 b) _ _ (IsSpan n) (λ _. tt) (λ _. tt))))
 
 after_escape-span : (a : ℕ) (bytes : List ℕ) → IsSpan (length (a ∷ bytes)) (after_escape bytes)
@@ -267,8 +267,7 @@ line-length (whole_line words h e short) = omega (arith, length-append words (10
 by_pjl-span : (bytes : List ℕ) (f : lines.FirstPjl) → lines.at_pjl bytes ≡ f → IsSpan (length bytes) (by_pjl f)
 by_pjl-span bytes lines.Open e = tt
 by_pjl-span bytes (lines.Begins line len) e =
-    let b = (lines_by_rules bytes).line line len e in
-    (
+    let b = (lines_by_rules bytes).line line len e in (
       omega (arith, b.size, line-length b.unit),
       omega (arith, b.size, ap length b.all, length-append b.text b.rest),
       line-counted line,
@@ -372,9 +371,9 @@ frame_escape-step b (c ∷ bytes) =
     let n : ℕ = length (b ∷ c ∷ bytes) in
     cond_both (c == 69) _ _ (IsStep Frame n) (λ _. (omega arith, omega arith, omega arith)) (λ _.
     cond_both (c == 37) _ _ (IsStep Frame n)
-        (λ _. span-step Frame n (exit_or (language_in bytes) bytes)
-        (exit_or-span (language_in bytes) bytes n (omega arith) (language-span b c bytes)))
-        (λ _. tt))
+    (λ _. span-step Frame n (exit_or (language_in bytes) bytes)
+    (exit_or-span (language_in bytes) bytes n (omega arith) (language-span b c bytes)))
+    (λ _. tt))
 
 kind-step : (k : Kind) (b : ℕ) (bytes : List ℕ) → IsStep Frame (length (b ∷ bytes)) (by_kind k b bytes)
 kind-step kinds.White b bytes = (omega arith, omega arith, omega arith)

@@ -194,22 +194,20 @@ module _ (window : List ℕ) (start dropped : ℕ) (context : Context) (ended : 
 
   pub fault_ahead : (fault : LexFault) → fault.place ≡ item_place (context_view ahead.context) (dropped + ahead.start) →
       first_view (drop ahead.start window) ahead.first ≡ Faulty fault.cause → Answers old (Err fault) there
-  fault_ahead fault p e =
-      (
-        passed_over,
-        p,
-        subst (λ (f : First). IsFault ended f (context_view ahead.context) (drop ahead.start window) fault.cause) (sym e ∙ h.first_is) refl,
-      )
+  fault_ahead fault p e = (
+    passed_over,
+    p,
+    subst (λ (f : First). IsFault ended f (context_view ahead.context) (drop ahead.start window) fault.cause) (sym e ∙ h.first_is) refl,
+  )
 
   pub open_ahead : (result : Result Lexed LexFault) (place : ℕ) → place ≡ item_place (context_view ahead.context) (dropped + ahead.start) →
       first_view (drop ahead.start window) ahead.first ≡ Open →
       IsUndecided ended (context_view ahead.context) place (drop ahead.start window) result → Answers old result there
-  open_ahead (Ok answers.NeedMore) place p e u =
-      (
-        passed_over,
-        u,
-        subst (λ (w : Bool). first_of w (context_view ahead.context) (drop ahead.start window) ≡ Open) u (sym h.first_is ∙ e),
-      )
+  open_ahead (Ok answers.NeedMore) place p e u = (
+    passed_over,
+    u,
+    subst (λ (w : Bool). first_of w (context_view ahead.context) (drop ahead.start window) ≡ Open) u (sym h.first_is ∙ e),
+  )
   open_ahead (Ok answers.End) place p e u =
       let w = whole_end (context_view ahead.context) (drop ahead.start window) u.1 in
       (passed_over, u.0, w.0, w.1)
@@ -217,8 +215,7 @@ module _ (window : List ℕ) (start dropped : ℕ) (context : Context) (ended : 
   open_ahead (Err fault) place p e u =
       let is_open : Open ≡ first_of ended (context_view ahead.context) (drop ahead.start window) = sym e ∙ h.first_is in
       let whole : IsFault ended Open (context_view ahead.context) (drop ahead.start window) fault.cause =
-      subst (λ (w : Bool). IsFault w Open (context_view ahead.context) (drop ahead.start window) fault.cause) (sym u.0) u.2 in
-      (
+      subst (λ (w : Bool). IsFault w Open (context_view ahead.context) (drop ahead.start window) fault.cause) (sym u.0) u.2 in (
         passed_over,
         u.1 ∙ p,
         subst (λ (f : First). IsFault ended f (context_view ahead.context) (drop ahead.start window) fault.cause) is_open whole,

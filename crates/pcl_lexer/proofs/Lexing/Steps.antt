@@ -227,18 +227,18 @@ refused_there bytes xs c p rest more h r ending =
     record {
       no_item = λ x d.
           let t =
-              d (bytes ++ more) (Stopped xs (item_place c p) r.cause) (goes_on bytes more)
-              ((read_by_rules (bytes ++ more) (Stopped xs (item_place c p) r.cause)).sound there) in
+          d (bytes ++ more) (Stopped xs (item_place c p) r.cause) (goes_on bytes more)
+          ((read_by_rules (bytes ++ more) (Stopped xs (item_place c p) r.cause)).sound there) in
           no_more xs t.0 x t.1;
       no_fault = λ place cause s.
           let all = read_behind end.reading (closes h) end.read in
           let last =
-              one_only bytes (with_items xs end.reading) (Stopped xs place cause) all
-              ((read_by_rules bytes (Stopped xs place cause)).complete (s bytes (itself bytes))) in
+          one_only bytes (with_items xs end.reading) (Stopped xs place cause) all
+          ((read_by_rules bytes (Stopped xs place cause)).complete (s bytes (itself bytes))) in
           let at_end : IsAtEnd cause = behind_end xs end.reading end.at_end xs place cause last in
           let same =
-              one_only (bytes ++ more) (Stopped xs (item_place c p) r.cause) (Stopped xs place cause) there
-              ((read_by_rules (bytes ++ more) (Stopped xs place cause)).complete (s (bytes ++ more) (goes_on bytes more))) in
+          one_only (bytes ++ more) (Stopped xs (item_place c p) r.cause) (Stopped xs place cause) there
+          ((read_by_rules (bytes ++ more) (Stopped xs place cause)).complete (s (bytes ++ more) (goes_on bytes more))) in
           let cause_is : r.cause ≡ cause = cc in
           r.other (subst IsAtEnd (sym cause_is) at_end);
     }
@@ -257,13 +257,13 @@ completed_there bytes xs c p rest more entry len next h e at_end =
     record {
       no_item = λ y d.
           let t =
-              d bytes (with_items xs (end_of c p rest)) (itself bytes)
-              ((read_by_rules bytes (with_items xs (end_of c p rest))).sound end) in
+          d bytes (with_items xs (end_of c p rest)) (itself bytes)
+          ((read_by_rules bytes (with_items xs (end_of c p rest))).sound end) in
           no_more xs t.0 y (sym (items_end xs (end_cause c rest) c p) ∙ t.1);
       no_fault = λ place cause s.
           let is = (read_by_rules (bytes ++ more) (Stopped xs place cause)).complete (s (bytes ++ more) (goes_on bytes more)) in
           let front =
-              front_read (bytes ++ more) (Stopped xs place cause) (xs ++ x ∷ []) next (p + len) (drop len (rest ++ more)) longer is in
+          front_read (bytes ++ more) (Stopped xs place cause) (xs ++ x ∷ []) next (p + len) (drop len (rest ++ more)) longer is in
           no_more xs front.0 x front.1;
     }
 
@@ -282,7 +282,7 @@ went_on : (old new : LexerState) (bytes : List ℕ) (items ys : List Placed) →
 went_on old new bytes items ys g r = record {
   reads =
       subst (λ (w : Bool). ReadsTo w Pcl 0 bytes (items ++ ys) new.context new.place new.rest) (sym g.ended)
-      (ReadsTo-append r.reads g.reads)
+      (ReadsTo-append r.reads g.reads);
 }
 
 -- how the lexer went on
@@ -304,8 +304,7 @@ tells old (Ok (answers.Item place item)) new a bytes items r =
     subst (λ (w : Bool). Decides w bytes (items ++ at place (view item) ∷ [])) a.ended
     (decides new.ended bytes (items ++ at place (view item) ∷ []) new.context new.place new.rest read.reads)
 tells old (Ok answers.NeedMore) new a bytes items r =
-    let read = here_read old new bytes items a.0 r in
-    (
+    let read = here_read old new bytes items a.0 r in (
       sym a.0.ended ∙ a.1,
       undecided bytes items new.context new.place new.rest
           (subst (λ (w : Bool). ReadsTo w Pcl 0 bytes items new.context new.place new.rest) a.1 read.reads) a.2,
@@ -313,8 +312,7 @@ tells old (Ok answers.NeedMore) new a bytes items r =
 tells old (Ok answers.End) new a bytes items r =
     let read = here_read old new bytes items a.0 r in
     let all : ReadsTo true Pcl 0 bytes items new.context new.place [] =
-    subst (λ (l : List ℕ). ReadsTo true Pcl 0 bytes items new.context new.place l) a.3 (closes read.reads) in
-    (
+    subst (λ (l : List ℕ). ReadsTo true Pcl 0 bytes items new.context new.place l) a.3 (closes read.reads) in (
       sym a.0.ended ∙ a.1,
       (read_by_rules bytes (Whole items (length bytes))).sound
           (new.context, a.2, ReadsTo-at refl refl (omega (arith, ReadsTo-place all)) all),

@@ -84,7 +84,7 @@ spelling_of word text line (rules.enter {sign = sign} title value ht hs hv) = re
       let a : length title ≡ 8 = len_word language title ht in
       let b : length value ≡ 3 = len_word pcl value hv in
       let c : 12 ≤ length (title ++ (sign ++ value)) =
-          omega (arith, a, b, len_sign sign hs, length-append title (sign ++ value), length-append sign value) in
+      omega (arith, a, b, len_sign sign hs, length-append title (sign ++ value), length-append sign value) in
       c;
 }
 
@@ -147,19 +147,19 @@ from_words word old line n s t e l =
       inside = subst (Each is_inside) (sym q) (
         refl,
         (
+          refl,
+          (
+            refl,
+            (
               refl,
               (
-                    refl,
-                    (
-                          refl,
-                          (
-                                refl,
-                                each_append is_inside (spelling word) (behind_space s.text) (spelled_inside word)
-                                    (behind_inside s.text (s.inside e)),
-                              ),
-                        ),
-                  ),
+                refl,
+                each_append is_inside (spelling word) (behind_space s.text) (spelled_inside word)
+                    (behind_inside s.text (s.inside e)),
+              ),
             ),
+          ),
+        ),
       );
       short = subst (λ b. length b ≤ n) (sym q) (omega (arith, l s.text s.short));
     }
@@ -173,8 +173,16 @@ by_words text line n (rules.followed word title b blanks rest h f hb s t) e i l 
     let last : EndsSolid rest = ends_behind (b ∷ blanks) rest (f, hb) (ends_front title (blanks ++ rest) b e) in
     from_words word rest line n (spelling_of word rest line t) (tidy rest s last)
     (each_back is_inside blanks rest (each_back is_inside title (b ∷ (blanks ++ rest)) i).1)
-    (λ more m. omega (arith, m, l, len_word (spelling word) title h, length-append (spelling word) (behind_space more), len_behind more,
-    length-append title (b ∷ (blanks ++ rest)), length-append blanks rest))
+    (λ more m. omega (
+      arith,
+      m,
+      l,
+      len_word (spelling word) title h,
+      length-append (spelling word) (behind_space more),
+      len_behind more,
+      length-append title (b ∷ (blanks ++ rest)),
+      length-append blanks rest,
+    ))
 
 canonical : (text : List ℕ) (line : PjlCommand) → IsPjlCommand text line → Each is_inside text → Canonical line (length text)
 canonical text line (rules.bare blanks h) i = record {
@@ -234,5 +242,10 @@ pub room : (fore text : List ℕ) (line : PjlCommand) → IsSpelledPjl line → 
     length fore ≤ 23 → length fore + length text + 2 ≤ 1024
 room fore [] line h e l = omega (arith, l)
 room fore (b ∷ text) line h e l =
-    omega (arith, canon_is_short line h, ap length e, length-append fore (behind_space (b ∷ text) ++ 10 ∷ []),
-    length-append (behind_space (b ∷ text)) (10 ∷ []))
+    omega (
+      arith,
+      canon_is_short line h,
+      ap length e,
+      length-append fore (behind_space (b ∷ text) ++ 10 ∷ []),
+      length-append (behind_space (b ∷ text)) (10 ∷ []),
+    )

@@ -103,8 +103,7 @@ by_pjl : (bytes rest : List ℕ) (o : Option PjlCommand) → pjl_command_of (fro
     Tells bytes (read_pjl o (N bytes))
 by_pjl bytes rest None e q n l =
     let none : (line : PjlCommand) → IsPjlCommand (front is_inside bytes) line → ⊥ =
-    λ line h. let r = sym e ∙ pjl_read (front is_inside bytes) line h in absurd cc in
-    (
+    λ line h. let r = sym e ∙ pjl_read (front is_inside bytes) line h in absurd cc in (
       subst (λ t. PjlFault t Pjl) (sym q)
           (rules.no_line (front is_inside bytes) rest (each_front is_inside bytes) (omega (arith, n, l)) none),
       refl,
@@ -112,8 +111,11 @@ by_pjl bytes rest None e q n l =
 by_pjl bytes rest (Some line) e q n l = record {
   text = front is_inside bytes ++ 10 ∷ [];
   rest = rest;
-  unit = rules.whole_line (front is_inside bytes) (line_told (front is_inside bytes) line e) (each_front is_inside bytes) (omega (arith, n,
-  l));
+  unit = rules.whole_line (front is_inside bytes) (line_told (front is_inside bytes) line e) (each_front is_inside bytes) (omega (
+    arith,
+    n,
+    l,
+  ));
   all = q ∙ sym (append_assoc (front is_inside bytes) (10 ∷ []) rest);
   size = omega (arith, n, length-append (front is_inside bytes) (10 ∷ []));
 }

@@ -368,8 +368,8 @@ combined_read {whole = whole} {group = group} {place = place} {bytes = bytes} {f
     ReadsTo whole Pcl place (escape ∷ introducer_of group ∷ character_of group ∷ bytes) (at place entry ∷ xs) c2 end rest)
     others_are
     (begins entry (3 + len) next
-        (same_between whole (escape ∷ introducer_of group ∷ character_of group ∷ bytes) ∙ group_read group bytes
-        ∙ ap (behind 3) (read ∙ same))
+    (same_between whole (escape ∷ introducer_of group ∷ character_of group ∷ bytes) ∙ group_read group bytes
+    ∙ ap (behind 3) (read ∙ same))
     (ReadsTo-at start (sym (drop_three escape (introducer_of group) (character_of group) len bytes)) refl h)))
 
 -- what a field and a letter begin with is no group character

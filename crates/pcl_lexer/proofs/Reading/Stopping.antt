@@ -429,8 +429,8 @@ reach_otherwise {cause = cause} b bytes k r = go r.reads refl refl r.stands r.fa
       fault = subst (λ (t : List ℕ). IsFault true (first_of true Pjl t) Pjl t cause) (sym f)
           (subst (λ (x : First). IsFault true x Pjl (b ∷ bytes) cause) (sym (otherwise_read true b bytes k))
           (by_pcl b bytes (first_of true Pcl (b ∷ bytes)) cause
-              (subst (λ (t : List ℕ). IsFault true (first_of true Pcl t) Pcl t cause) f
-              (subst (λ (x : Context). IsFault true (first_of true x l) x l cause) e h))));
+          (subst (λ (t : List ℕ). IsFault true (first_of true Pcl t) Pcl t cause) f
+          (subst (λ (x : Context). IsFault true (first_of true x l) x l cause) e h))));
     }
     go {d = d} {q = q} {rest = rest} (passes len next g r) e f s h =
         record { context = d; end = q; rest = rest; reads = otherwise_begun b bytes k (passes len next g r) e f tt; stands = s; fault = h }

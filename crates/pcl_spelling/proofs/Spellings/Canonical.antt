@@ -119,8 +119,15 @@ amount_spelled a h =
         spelled = ap (λ t. sign_text a.sign ++ (decimal (n / 10000) ++ t)) (fraction_is ds);
         digits = (whole.0.1, subst (AllDigits 10) (sym (decimals_are ds)) (zeros-digits (four_decimals n) (four_digits n)));
       };
-      short = omega (arith, length-append (sign_text a.sign) (magnitude_text n), length-append (decimal (n / 10000)) (with_point ds),
-      sign-length a.sign, length-decimal-le 5 (n / 10000) (omega arith) five high, with_point-length ds, zeros-length (four_decimals n));
+      short = omega (
+        arith,
+        length-append (sign_text a.sign) (magnitude_text n),
+        length-append (decimal (n / 10000)) (with_point ds),
+        sign-length a.sign,
+        length-decimal-le 5 (n / 10000) (omega arith) five high,
+        with_point-length ds,
+        zeros-length (four_decimals n),
+      );
       written = subst (IsWritten n (decimal (n / 10000))) (sym (decimals_are ds)) written;
       limited = h;
     }

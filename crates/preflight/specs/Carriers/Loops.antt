@@ -37,7 +37,7 @@ pub record ExecutesDecided {A P : Type 0} (old new : Checking A P) (answer : Boo
       (fleet : List Printer) (bytes : List ℕ) →
       HasExecuted fleet bytes old.lexer (machines_of old.machines) (counts_of old.machines)
       → CameTo fleet bytes old.lexer.ended failed new.culprit new.lexer (machines_of new.machines)
-          (counts_of new.machines))
+      (counts_of new.machines))
   pub tells : answer ≡ is_open new.standing
   pub untold : IsTrue answer → new.culprit ≡ None
   pub ended : new.lexer.ended ≡ old.lexer.ended

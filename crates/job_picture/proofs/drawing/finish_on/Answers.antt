@@ -25,7 +25,7 @@ returns-in-Ok-clause-finishes g c =
           (g.W.Outlet.state c.args.outlet.now) (g.W.Outlet.state outlet) c.args.kept.now.items kept.items c.args.progress.now sink.progress)
           sink.outlet.now c.outlet-1.given.0 sink.kept.now c.kept-1.given.0 outlet_is kept_is
           (draws_all g.W.Outlet.state _ sink (end_of c.args.machine.now).run c.requires.working
-              (λ panel. (Done (state_at panel c.finish.new.self.page))) took),
+          (λ panel. (Done (state_at panel c.finish.new.self.page))) took),
     )
 
 pub returns-in-Ok-clause-status : goal.returns-in-Ok-clause-status

@@ -26,7 +26,7 @@ returns-in-Ok-clause-steps g c =
           (g.W.Outlet.state outlet) c.args.kept.now.items kept.items c.args.progress.now sink.progress)
           sink.outlet.now c.outlet-1.given.0 sink.kept.now c.kept-1.given.0 outlet_is kept_is
           (draws_all g.W.Outlet.state _ sink (item_of c.args.machine.now (view c.args.item.now)).run c.requires.working
-              (λ panel. (Done (state_at panel c.step.new.self.page))) took),
+          (λ panel. (Done (state_at panel c.step.new.self.page))) took),
     )
 
 pub returns-in-Ok-clause-status : goal.returns-in-Ok-clause-status

@@ -7,12 +7,11 @@ use Rattle.job_reports.proofs.refusals.tell_unread.Goals as goal
 pub returns : goal.returns
 returns g c =
     let cause = option_map (λ words. words.now) c.map-cause.result in
-    let told : c.as_slice.result.now ≡ unread c.args.front.now c.args.word.now cause = grind (arith, common_steps) in
-    (
+    let told : c.as_slice.result.now ≡ unread c.args.front.now c.args.word.now cause = grind (arith, common_steps) in (
       cause,
       (
-            refl,
-            subst (λ text. Writes (g.E.Outlet.state c.args.stderr.now) (g.E.Outlet.state c.write_text.new.outlet) text) told
-                c.write_text.ensures.text,
-          ),
+        refl,
+        subst (λ text. Writes (g.E.Outlet.state c.args.stderr.now) (g.E.Outlet.state c.write_text.new.outlet) text) told
+            c.write_text.ensures.text,
+      ),
     )

@@ -88,6 +88,6 @@ returns g c =
       read =
           lines_told (asked_for asked) c.new-printers.result (g.J.Jobs.start c.args.jobs.now) c.check_for.result
           (work (g.O.Outlet.state c.args.stdout.now) (g.J.Jobs.ended c.args.jobs.now))
-              (work (g.O.Outlet.state c.check_for.new.stdout) (g.J.Jobs.ended c.check_for.new.jobs)) c.check_for.ensures.left;
+          (work (g.O.Outlet.state c.check_for.new.stdout) (g.J.Jobs.ended c.check_for.new.jobs)) c.check_for.ensures.left;
       write = c.check_for.ensures.write;
     }

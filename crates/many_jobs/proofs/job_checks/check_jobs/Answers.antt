@@ -15,6 +15,6 @@ loop-name-preserved g c = record {
   start = c.tell_job.ensures.start ∙ c.loop-name.invariant.start;
   told = rw c.worse-ending.ensures
       (jobs_more c.args.printers.now (told_by c.args.telling.now) (g.J.Jobs.start c.args.jobs.now)
-          (λ name. name.now) c.args.names.now c.loop-name.name-index _ _ _ _ _ _
-          (search rules) _ c.loop-name.invariant.start c.loop-name.invariant.told c.in_ok-told.ensures.told);
+      (λ name. name.now) c.args.names.now c.loop-name.name-index _ _ _ _ _ _
+      (search rules) _ c.loop-name.invariant.start c.loop-name.invariant.told c.in_ok-told.ensures.told);
 }

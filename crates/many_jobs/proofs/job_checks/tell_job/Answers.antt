@@ -24,8 +24,8 @@ loop-number-preserved g c =
       start = c.tell_group.ensures.start ∙ c.loop-number.invariant.start;
       told = rw c.worse-ending.ensures
           (groups_more c.args.printers.now (told_by c.args.telling.now)
-              (g.J.Jobs.start c.args.jobs.now) c.args.name.now c.loop-number.number old mid new c.loop-number.ending
-              c.loop-number.invariant.told _ c.loop-number.invariant.start _ c.in_ok-told.ensures.told);
+          (g.J.Jobs.start c.args.jobs.now) c.args.name.now c.loop-number.number old mid new c.loop-number.ending
+          c.loop-number.invariant.told _ c.loop-number.invariant.start _ c.in_ok-told.ensures.told);
     }
 
 pub loop-number-init : goal.loop-number-init
@@ -43,8 +43,8 @@ tell_group-requires g c =
     λ k. (
       (refl, tt),
       (
-            c.loop-number.invariant.working,
-            of_group-some printers.is_each printers.fleet c.loop-number.number c.requires.some
-                (subst (λ n. c.loop-number.number < n) c.count-number-end.ensures (search rules)),
-          ),
+        c.loop-number.invariant.working,
+        of_group-some printers.is_each printers.fleet c.loop-number.number c.requires.some
+            (subst (λ n. c.loop-number.number < n) c.count-number-end.ensures (search rules)),
+      ),
     )

@@ -25,11 +25,11 @@ loop-path-preserved g c =
       quiet = c.in_ok-read_fleet_file.ensures.quiet ∙ c.loop-path.invariant.quiet;
       read =
           reads_more string_bytes (g.T.ProfileTexts.text_of c.args.texts.now)
-              (g.T.ProfileTexts.text_of c.loop-path.texts) c.args.paths.now c.loop-path.path-index path
+          (g.T.ProfileTexts.text_of c.loop-path.texts) c.args.paths.now c.loop-path.path-index path
           (g.T.ProfileTexts.given c.args.texts.now) (g.T.ProfileTexts.given c.loop-path.texts)
-              (g.T.ProfileTexts.given c.read_fleet_file.new.texts)
+          (g.T.ProfileTexts.given c.read_fleet_file.new.texts)
           c.loop-path.words.items c.read_fleet_file.new.words.items c.loop-path-test.true
-              (search rules) c.loop-path.invariant.same c.loop-path.invariant.read c.in_ok-read_fleet_file.ensures.named;
+          (search rules) c.loop-path.invariant.same c.loop-path.invariant.read c.in_ok-read_fleet_file.ensures.named;
     }
 
 pub returns-in_err-read_fleet_file-clause-end : goal.returns-in_err-read_fleet_file-clause-end

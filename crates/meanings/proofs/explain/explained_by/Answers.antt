@@ -6,7 +6,7 @@ pub returns-then-is_about : goal.returns-then-is_about
 returns-then-is_about c =
     sym (c.loop-text.invariant
     ∙ explained_at (decimal c.args.number) (λ text. text.now) c.args.texts.now c.loop-text.text-index _ c.format-code.result.now
-        c.format-code.ensures.text c.loop-text-test.true c.is_about.result c.is_about.ensures c.if-is_about.true)
+    c.format-code.ensures.text c.loop-text-test.true c.is_about.result c.is_about.ensures c.if-is_about.true)
 
 pub loop-text-preserved : goal.loop-text-preserved
 loop-text-preserved c =

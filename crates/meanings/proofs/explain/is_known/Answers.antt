@@ -8,7 +8,7 @@ pub returns-then-is_about : goal.returns-then-is_about
 returns-then-is_about c =
     sym (any_of_map (is_about c.args.code.now) (λ text. text.now) c.args.texts.now
     ∙ list_any_at (λ text. is_about c.args.code.now text.now) c.args.texts.now c.loop-text.text-index _ (search rules)
-        (sym c.is_about.ensures ∙ c.if-is_about.true))
+    (sym c.is_about.ensures ∙ c.if-is_about.true))
 
 pub loop-text-preserved : goal.loop-text-preserved
 loop-text-preserved c =
@@ -19,4 +19,4 @@ pub returns : goal.returns
 returns c =
     sym (any_of_map (is_about c.args.code.now) (λ text. text.now) c.args.texts.now
     ∙ none_at_all
-        (λ text. is_about c.args.code.now text.now) c.args.texts.now c.loop-text.text-index c.loop-text-test.false c.loop-text.invariant)
+    (λ text. is_about c.args.code.now text.now) c.args.texts.now c.loop-text.text-index c.loop-text-test.false c.loop-text.invariant)

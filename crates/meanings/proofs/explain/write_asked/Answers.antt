@@ -23,7 +23,7 @@ loop-text-preserved g c =
             (told_more (is_asked (option_map (λ word. word.now) c.args.code))
             (λ text. text.now) c.args.texts.now c.loop-text.text-index _ _ _ _
             (search rules) c.loop-text.invariant.1 _ w.as_bytes.ensures.value (search rules)
-                (w.write_text.ensures.text.whole (search rules))),
+            (w.write_text.ensures.text.whole (search rules))),
       )
       | else-is_asked w ↦ (
         search rules,

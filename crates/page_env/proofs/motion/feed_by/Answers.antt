@@ -29,7 +29,7 @@ returns-in-None g c = λ panel defaults.
     let past : None ≡ cond (int_lt limit place) None (Some place) = search rules in
     rw c.past_limit.ensures (feed-past c.args.profile.now panel c.args.page.now c.args.by
     c.in_ok-geometry.geometry c.in_ok-geometry.vmi (ap (λ r. r.0) ((c.in_ok-geometry.ensures panel).1))
-        (ap (λ r. r.1) ((c.in_ok-geometry.ensures panel).1)) ((c.in_ok-geometry.ensures panel).0)
+    (ap (λ r. r.1) ((c.in_ok-geometry.ensures panel).1)) ((c.in_ok-geometry.ensures panel).0)
     defaults (is_late (int_lt limit place) place past))
 
 pub returns-in-Some : goal.returns-in-Some
@@ -45,5 +45,5 @@ returns-in-Some g c = λ panel defaults.
     let near : Some c.in-Some.y ≡ cond (int_lt limit place) None (Some place) = search rules in
     rw (sym (taken-at (int_lt limit place) place c.in-Some.y near)) (feed-steps c.args.profile.now panel c.args.page.now c.args.by
     c.in_ok-geometry.geometry c.in_ok-geometry.vmi (ap (λ r. r.0) ((c.in_ok-geometry.ensures panel).1))
-        (ap (λ r. r.1) ((c.in_ok-geometry.ensures panel).1)) ((c.in_ok-geometry.ensures panel).0)
+    (ap (λ r. r.1) ((c.in_ok-geometry.ensures panel).1)) ((c.in_ok-geometry.ensures panel).0)
     (is_taken (int_lt limit place) place c.in-Some.y near))

@@ -14,11 +14,11 @@ returns-then-lies_between-clause-near c = λ yes.
     let low_y = between_low box.low.y box.high.y c.args.place.y y in
     let high_y = between_high box.low.y box.high.y c.args.place.y y in (
       (
-            omega (arith, ints, low_x, c.ticks.ensures.in_range, c.ticks.ensures.value),
-            omega (arith, ints, high_x, c.ticks-2.ensures.in_range, c.ticks-2.ensures.value),
-          ),
+        omega (arith, ints, low_x, c.ticks.ensures.in_range, c.ticks.ensures.value),
+        omega (arith, ints, high_x, c.ticks-2.ensures.in_range, c.ticks-2.ensures.value),
+      ),
       (
-            omega (arith, ints, low_y, c.ticks-then-lies_between.ensures.in_range, c.ticks-then-lies_between.ensures.value),
-            omega (arith, ints, high_y, c.ticks-then-lies_between-2.ensures.in_range, c.ticks-then-lies_between-2.ensures.value),
-          ),
+        omega (arith, ints, low_y, c.ticks-then-lies_between.ensures.in_range, c.ticks-then-lies_between.ensures.value),
+        omega (arith, ints, high_y, c.ticks-then-lies_between-2.ensures.in_range, c.ticks-then-lies_between-2.ensures.value),
+      ),
     )

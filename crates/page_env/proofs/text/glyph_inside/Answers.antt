@@ -30,4 +30,4 @@ returns-in-Some g c =
     taken_as (is_inside c.args.geometry.now box) box c.in-Some.bounds _ _ was
     (ap (λ b. record { code = c.args.code; request = c.args.request; y = c.baseline-y.result; bounds = b }) is
     ∙ ap (λ y. record { code = c.args.code; request = c.args.request; y = y; bounds = box })
-        (c.baseline-y.ensures ∙ ap (λ a. c.in-Some.bounds.top +ℤ a) c.ascent.ensures.value ∙ line))
+    (c.baseline-y.ensures ∙ ap (λ a. c.in-Some.bounds.top +ℤ a) c.ascent.ensures.value ∙ line))

@@ -13,4 +13,4 @@ returns-in_err-x g c = λ panel.
     (state_at panel c.args.page.now) c.args.code c.in-Some.face.now c.in_ok-geometry.geometry c.in_ok-geometry.origin c.in_ok-geometry.y
     c.in_ok-geometry.request c.on_sheet-place.result.x c.on_sheet-place.result.y c.in_err-x.field-0.0
     ((c.in_ok-geometry.ensures panel).0) ((c.in_ok-geometry.ensures panel).1) c.on_sheet-place.ensures.x c.on_sheet-place.ensures.y
-        c.in-Some.ensures.face c.in_err-x.ensures)
+    c.in-Some.ensures.face c.in_err-x.ensures)

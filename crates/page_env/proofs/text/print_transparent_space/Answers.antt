@@ -26,5 +26,5 @@ returns-in_err-x g c = λ panel.
     (late_line s.settings (transparent_space printer s) (Goes (transparent_space printer s).state []) c.in_err-x.field-0.0 refl
     ((c.in_ok-geometry.ensures panel).0)
     (space_judged printer s c.in-Some.face.now geometry c.in_ok-geometry.field-0-1 c.in_ok-geometry.y c.in_ok-geometry.request
-        ((c.in_ok-geometry.ensures panel).1) c.in-Some.ensures.face
-        ∙ at_edge))
+    ((c.in_ok-geometry.ensures panel).1) c.in-Some.ensures.face
+    ∙ at_edge))

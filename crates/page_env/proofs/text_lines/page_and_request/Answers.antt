@@ -11,8 +11,7 @@ unfolding page_reads
 returns g c = λ panel.
     let env = c.args.page.now.env in
     let known = c.in-Some.ensures panel in
-    let request = c.in-Ok.ensures panel in
-    (
+    let request = c.in-Ok.ensures panel in (
       unset_in_second (settings_at panel env) (Size ∷ Orientation ∷ []) (font_reads env.job.font) None known.0 request.0,
       known.1,
       known.2,

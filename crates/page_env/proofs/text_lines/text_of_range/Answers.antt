@@ -28,8 +28,13 @@ counted c =
     (λ x. tops (nat_lt x first) (nat_lt last x) (not (x == 32))) v _ long other c.first_set.result c.first_set.ensures
 
 pub returns-clause-short : goal.returns-clause-short
-returns-clause-short c = omega (arith, counted c, prefix_len-le-length (λ x. not (is_other c.args.range x)) (take 32 c.args.bytes.now),
-length-chunk 0 32 c.args.bytes.now c.requires.room)
+returns-clause-short c =
+    omega (
+      arith,
+      counted c,
+      prefix_len-le-length (λ x. not (is_other c.args.range x)) (take 32 c.args.bytes.now),
+      length-chunk 0 32 c.args.bytes.now c.requires.room,
+    )
 
 pub returns-clause-known : goal.returns-clause-known
 returns-clause-known c =

@@ -77,7 +77,7 @@ page_close-returns-in_err-run_overlay-in-Ok g t c =
     page_close-passes (context_with c.args.around.now panel) (state_at panel c.args.page.now)
     (c.is_too_deep.ensures panel ∙ c.if-is_too_deep.false) (c.in-Ok.ensures panel).0)
     (Follows-stopped _ _ _ _ _ c.run_overlay.new.page _ _ (λ panel. ended) _
-        (c.in_err-run_overlay-in-Ok.ensures.runs (λ panel. c.overlay_page-overlaid.ensures panel))))
+    (c.in_err-run_overlay-in-Ok.ensures.runs (λ panel. c.overlay_page-overlaid.ensures panel))))
 
 pub page_close-returns-in_ok-run_overlay-in-Ok : goal.page_close-returns-in_ok-run_overlay-in-Ok
 page_close-returns-in_ok-run_overlay-in-Ok g t c =
@@ -98,12 +98,12 @@ run_overlay-returns-in_err-run_body-clause-runs g t c = λ begins.
     Follows-handed _ _ _ _ _ _ _ c.in_err-run_body.field-0.0 c.from_residual.result c.from_residual.ensures.1
     (Follows-is _ _ _ _ _ _ _ _ _
     (λ panel. overlay_run-found (context_with c.args.around.now panel)
-        (state_at panel c.args.page.now) c.args.page.now.env.job.overlay c.in-Some.id c.in-Some.is c.in-Some-body.body
-        (state_at panel c.args.overlaid.now) (sym c.body.ensures ∙ c.in-Some-body.is) (begins panel)
+    (state_at panel c.args.page.now) c.args.page.now.env.job.overlay c.in-Some.id c.in-Some.is c.in-Some-body.body
+    (state_at panel c.args.overlaid.now) (sym c.body.ensures ∙ c.in-Some-body.is) (begins panel)
     ∙ ap
-        (λ n. give_up (state_at panel c.args.page.now)
-        (body_run (context_with c.args.around.now panel) refused n 1 Overlaid c.in-Some-body.body (state_at panel c.args.overlaid.now)))
-        (sym c.depth.ensures))
+    (λ n. give_up (state_at panel c.args.page.now)
+    (body_run (context_with c.args.around.now panel) refused n 1 Overlaid c.in-Some-body.body (state_at panel c.args.overlaid.now)))
+    (sym c.depth.ensures))
     (Follows-overlay_stopped _ _ _ _ _ c.run_body.new.page c.args.page.now _ _ _ (c.in_err-run_body.ensures 1)))
 
 pub run_overlay-returns-clause-runs : goal.run_overlay-returns-clause-runs
@@ -113,9 +113,9 @@ run_overlay-returns-clause-runs g t c = λ begins.
     overlay_run-found (context_with c.args.around.now panel) (state_at panel c.args.page.now) c.args.page.now.env.job.overlay c.in-Some.id
     c.in-Some.is c.in-Some-body.body (state_at panel c.args.overlaid.now) (sym c.body.ensures ∙ c.in-Some-body.is) (begins panel)
     ∙ ap
-        (λ n. give_up (state_at panel c.args.page.now)
-        (body_run (context_with c.args.around.now panel) refused n 1 Overlaid c.in-Some-body.body (state_at panel c.args.overlaid.now)))
-        (sym c.depth.ensures))
+    (λ n. give_up (state_at panel c.args.page.now)
+    (body_run (context_with c.args.around.now panel) refused n 1 Overlaid c.in-Some-body.body (state_at panel c.args.overlaid.now)))
+    (sym c.depth.ensures))
     (Follows-give_up _ _ _ _ _ c.run_body.new.page c.args.page.now _ _ _ (c.in_ok-run_body.ensures 1))
 
 -- ---- bodies
@@ -145,7 +145,7 @@ run_body-returns g t c = λ level.
     (Follows-step _ _ _ _ _ _ _ (λ panel. at_level level) _
     (Follows-onward _ _ _ _ _ _ c.run_items.new.page _ _ (λ panel. raster_ended) _ _ (c.in_ok-run_items.ensures (suc level))
     (Follows-done _ _ _ c.run_items.new.sink (record c.run_items.new.page { raster = None })
-        (λ panel. raster_ended (state_at panel c.run_items.new.page)) _ (λ panel. refl))))
+    (λ panel. raster_ended (state_at panel c.run_items.new.page)) _ (λ panel. refl))))
 
 pub run_items-loop-item-init : goal.run_items-loop-item-init
 run_items-loop-item-init g t c = λ level. TakesUpTo-none _ g.S.MarkSink.refuses _ _ _ (λ panel. refl)
@@ -165,10 +165,10 @@ run_items-loop-item-preserved-in-Some g t c = λ level.
     entries_run-next (macro_item_run c.args.around.now.profile.now (conditions_with c.args.around.now level panel)) c.loop-item.body
     c.next_command.new.self (simple_view c.in-Some.item) (state_at panel c.loop-item.page) (c.in-Some.ensures.some))
     (TakesUpTo-first _ g.S.MarkSink.refuses _ _
-        (λ panel. macro_item_run c.args.around.now.profile.now (conditions_with c.args.around.now level panel) (simple_view c.in-Some.item)
-        (state_at panel c.loop-item.page))
-        (λ panel. state_at panel c.run_macro_item.new.page) (λ panel.
-        entries_run (macro_item_run c.args.around.now.profile.now (conditions_with c.args.around.now level panel)) c.next_command.new.self)
+    (λ panel. macro_item_run c.args.around.now.profile.now (conditions_with c.args.around.now level panel) (simple_view c.in-Some.item)
+    (state_at panel c.loop-item.page))
+    (λ panel. state_at panel c.run_macro_item.new.page) (λ panel.
+    entries_run (macro_item_run c.args.around.now.profile.now (conditions_with c.args.around.now level panel)) c.next_command.new.self)
     (TakesUpTo-done _ g.S.MarkSink.refuses _ _ _ c.run_macro_item.new.page _ _ (c.in_ok-run_macro_item.ensures level))))
 
 pub run_items-loop-item-preserved : goal.run_items-loop-item-preserved
@@ -178,10 +178,10 @@ run_items-loop-item-preserved g t c = λ level.
     entries_run-next (macro_item_run c.args.around.now.profile.now (conditions_with c.args.around.now level panel)) c.loop-item.body
     c.next.new.self (view c.in-Some-next.item) (state_at panel c.loop-item.page) (sym c.in_default.ensures.none ∙ c.in-Some-next.ensures))
     (TakesUpTo-first _ g.S.MarkSink.refuses _ _
-        (λ panel. macro_item_run c.args.around.now.profile.now (conditions_with c.args.around.now level panel) (view c.in-Some-next.item)
-        (state_at panel c.loop-item.page))
-        (λ panel. state_at panel c.run_macro_item-in-loop-item.new.page) (λ panel.
-        entries_run (macro_item_run c.args.around.now.profile.now (conditions_with c.args.around.now level panel)) c.next.new.self)
+    (λ panel. macro_item_run c.args.around.now.profile.now (conditions_with c.args.around.now level panel) (view c.in-Some-next.item)
+    (state_at panel c.loop-item.page))
+    (λ panel. state_at panel c.run_macro_item-in-loop-item.new.page) (λ panel.
+    entries_run (macro_item_run c.args.around.now.profile.now (conditions_with c.args.around.now level panel)) c.next.new.self)
     (TakesUpTo-done _ g.S.MarkSink.refuses _ _ _ c.run_macro_item-in-loop-item.new.page _ _ (c.in_ok-run_macro_item-2.ensures level))))
 
 pub run_items-returns-in_err-run_macro_item : goal.run_items-returns-in_err-run_macro_item
@@ -189,14 +189,14 @@ run_items-returns-in_err-run_macro_item g t c = λ level.
     Follows-handed _ _ _ _ _ _ _ c.in_err-run_macro_item.field-0.0 c.from_residual.result c.from_residual.ensures.1
     (Follows-after _ _ _ _ _ _ c.run_macro_item.new.page _ _ _ (c.loop-item.invariant level)
     (Follows-is _ _ _ _ _ _ _ _ _ (λ panel.
-        entries_run-next (macro_item_run c.args.around.now.profile.now (conditions_with c.args.around.now level panel)) c.loop-item.body
-        c.next_command.new.self (simple_view c.in-Some.item) (state_at panel c.loop-item.page) (c.in-Some.ensures.some))
+    entries_run-next (macro_item_run c.args.around.now.profile.now (conditions_with c.args.around.now level panel)) c.loop-item.body
+    c.next_command.new.self (simple_view c.in-Some.item) (state_at panel c.loop-item.page) (c.in-Some.ensures.some))
     (Follows-stopped _ _ _ _ _ c.run_macro_item.new.page _
-        (λ panel. macro_item_run c.args.around.now.profile.now (conditions_with c.args.around.now level panel) (simple_view c.in-Some.item)
-        (state_at panel c.loop-item.page))
-        (λ panel.
-        entries_run (macro_item_run c.args.around.now.profile.now (conditions_with c.args.around.now level panel)) c.next_command.new.self)
-        _ (c.in_err-run_macro_item.ensures level))))
+    (λ panel. macro_item_run c.args.around.now.profile.now (conditions_with c.args.around.now level panel) (simple_view c.in-Some.item)
+    (state_at panel c.loop-item.page))
+    (λ panel.
+    entries_run (macro_item_run c.args.around.now.profile.now (conditions_with c.args.around.now level panel)) c.next_command.new.self)
+    _ (c.in_err-run_macro_item.ensures level))))
 
 pub run_items-returns-in_err-run_macro_item-2 : goal.run_items-returns-in_err-run_macro_item-2
 run_items-returns-in_err-run_macro_item-2 g t c = λ level.
@@ -204,15 +204,15 @@ run_items-returns-in_err-run_macro_item-2 g t c = λ level.
     c.from_residual-in_err-run_macro_item-2.ensures.1
     (Follows-after _ _ _ _ _ _ c.run_macro_item-in-loop-item.new.page _ _ _ (c.loop-item.invariant level)
     (Follows-is _ _ _ _ _ _ _ _ _ (λ panel.
-        entries_run-next
-        (macro_item_run c.args.around.now.profile.now (conditions_with c.args.around.now level panel)) c.loop-item.body c.next.new.self
-        (view c.in-Some-next.item) (state_at panel c.loop-item.page) (sym c.in_default.ensures.none ∙ c.in-Some-next.ensures))
+    entries_run-next
+    (macro_item_run c.args.around.now.profile.now (conditions_with c.args.around.now level panel)) c.loop-item.body c.next.new.self
+    (view c.in-Some-next.item) (state_at panel c.loop-item.page) (sym c.in_default.ensures.none ∙ c.in-Some-next.ensures))
     (Follows-stopped _ _ _ _ _ c.run_macro_item-in-loop-item.new.page _
-        (λ panel. macro_item_run c.args.around.now.profile.now (conditions_with c.args.around.now level panel) (view c.in-Some-next.item)
-        (state_at panel c.loop-item.page))
-        (λ panel.
-        entries_run (macro_item_run c.args.around.now.profile.now (conditions_with c.args.around.now level panel)) c.next.new.self)
-        _ (c.in_err-run_macro_item-2.ensures level))))
+    (λ panel. macro_item_run c.args.around.now.profile.now (conditions_with c.args.around.now level panel) (view c.in-Some-next.item)
+    (state_at panel c.loop-item.page))
+    (λ panel.
+    entries_run (macro_item_run c.args.around.now.profile.now (conditions_with c.args.around.now level panel)) c.next.new.self)
+    _ (c.in_err-run_macro_item-2.ensures level))))
 
 pub run_macro_item-returns-in-Err : goal.run_macro_item-returns-in-Err
 unfolding Marks
@@ -253,7 +253,7 @@ execute-returns-in-Some g t c = λ level.
     (close_in (context_with c.args.around.now panel) c.args.around.now.nesting) c.args.around.now.left level)
     c.args.around.now.nesting (state_at panel c.args.page.now) (Some c.in-Some.body) (sym c.body.ensures ∙ c.in-Some.is)
     ∙ executed_body (context_with c.args.around.now panel) c.args.around.now.left level c.args.around.now.nesting c.executed.result
-        c.in-Some.body (state_at panel c.args.page.now) c.executed.ensures)
+    c.in-Some.body (state_at panel c.args.page.now) c.executed.ensures)
     (c.run_body.ensures level)
 
 pub call-returns-in_default : goal.call-returns-in_default
@@ -269,12 +269,12 @@ call-returns-in_err-run_body g t c = λ level.
     Follows-handed _ _ _ _ _ _ _ c.in_err-run_body.field-0.0 c.from_residual.result c.from_residual.ensures.1
     (Follows-is _ _ _ _ _ _ _ _ _
     (λ panel. call-is c.args.around.now.macros.now
-        (body_run (context_with c.args.around.now panel)
-        (close_in (context_with c.args.around.now panel) c.args.around.now.nesting) c.args.around.now.left level)
-        c.args.around.now.nesting (state_at panel c.args.page.now) (Some c.in-Some.body) (sym c.body.ensures ∙ c.in-Some.is)
+    (body_run (context_with c.args.around.now panel)
+    (close_in (context_with c.args.around.now panel) c.args.around.now.nesting) c.args.around.now.left level)
+    c.args.around.now.nesting (state_at panel c.args.page.now) (Some c.in-Some.body) (sym c.body.ensures ∙ c.in-Some.is)
     ∙ ap (put_back (settings_at panel c.args.page.now.env))
-        (called_body (context_with c.args.around.now panel) c.args.around.now.left level c.args.around.now.nesting c.called.result
-        c.in-Some.body (state_at panel c.args.page.now) c.called.ensures))
+    (called_body (context_with c.args.around.now panel) c.args.around.now.left level c.args.around.now.nesting c.called.result
+    c.in-Some.body (state_at panel c.args.page.now) c.called.ensures))
     (Follows-call_stopped _ _ _ _ _ c.run_body.new.page _ c.args.page.now.env _ _ (c.in_err-run_body.ensures level)))
 
 pub call-returns : goal.call-returns
@@ -285,8 +285,8 @@ call-returns g t c = λ level.
     (close_in (context_with c.args.around.now panel) c.args.around.now.nesting) c.args.around.now.left level)
     c.args.around.now.nesting (state_at panel c.args.page.now) (Some c.in-Some.body) (sym c.body.ensures ∙ c.in-Some.is)
     ∙ ap (put_back (settings_at panel c.args.page.now.env))
-        (called_body (context_with c.args.around.now panel) c.args.around.now.left level c.args.around.now.nesting c.called.result
-        c.in-Some.body (state_at panel c.args.page.now) c.called.ensures))
+    (called_body (context_with c.args.around.now panel) c.args.around.now.left level c.args.around.now.nesting c.called.result
+    c.in-Some.body (state_at panel c.args.page.now) c.called.ensures))
     (Follows-put_back _ _ _ _ _ c.run_body.new.page c.args.page.now.env _ _ _ (c.in_ok-run_body.ensures level))
 
 pub run_control-returns-in-Err : goal.run_control-returns-in-Err
@@ -371,9 +371,9 @@ close_and_change-returns-in_err-close_marked g t c = λ level.
     (sym c.refuses.ensures ∙ c.if-refuses.false))
     (Follows-step _ _ _ _ _ _ _ (λ panel. peaks_of (state_at panel c.args.page.now)) _
     (Follows-stopped _ _ _ _ _ c.close_marked.new.page _
-        (λ panel. marked_close (close_in (context_with c.args.around.now panel) c.args.around.now.nesting) (state_at panel c.args.page.now))
+    (λ panel. marked_close (close_in (context_with c.args.around.now panel) c.args.around.now.nesting) (state_at panel c.args.page.now))
     (λ panel u. just [] (Done (changed (settings_at panel c.args.around.now.defaults.now) u c.args.change))) _
-        c.in_err-close_marked.ensures)))
+    c.in_err-close_marked.ensures)))
 
 pub close_and_change-returns : goal.close_and_change-returns
 unfolding Changes
@@ -386,11 +386,11 @@ close_and_change-returns g t c = λ level.
     (sym c.refuses.ensures ∙ c.if-refuses.false))
     (Follows-step _ _ _ _ _ _ _ (λ panel. peaks_of (state_at panel c.args.page.now)) _
     (Follows-onward _ _ _ _ c.close_marked.new.sink _ c.close_marked.new.page _
-        (λ panel. marked_close (close_in (context_with c.args.around.now panel) c.args.around.now.nesting) (state_at panel c.args.page.now))
+    (λ panel. marked_close (close_in (context_with c.args.around.now panel) c.args.around.now.nesting) (state_at panel c.args.page.now))
     (λ panel u. just [] (Done (changed (settings_at panel c.args.around.now.defaults.now) u c.args.change))) _ _
-        c.in_ok-close_marked.ensures
+    c.in_ok-close_marked.ensures
     (Follows-done _ _ _ c.close_marked.new.sink c.change_page.new.page _ _
-        (λ panel. ap (λ s. just [] (Done s)) (c.change_page.ensures panel)))))
+    (λ panel. ap (λ s. just [] (Done s)) (c.change_page.ensures panel)))))
 
 -- ---- items
 
@@ -401,7 +401,7 @@ run_page_item-returns g t c = λ level.
     (λ panel.
     page_run c.args.around.now.profile.now (conditions_with c.args.around.now level panel) c.args.item (state_at panel c.args.page.now)
     ∙ ap (effect_run (conditions_with c.args.around.now level panel))
-        (c.carry_out_page_item-carried.ensures panel (settings_at panel c.args.around.now.defaults.now)))
+    (c.carry_out_page_item-carried.ensures panel (settings_at panel c.args.around.now.defaults.now)))
     (c.go_on.ensures level
     (λ panel. effect_at panel
     (settings_at panel c.args.around.now.defaults.now) c.carry_out_page_item-carried.new.page c.carry_out_page_item-carried.result)

@@ -27,13 +27,13 @@ returns-in-Ok-Stepped-clause-carries g c =
     c.carry_out_page_item-carried.result refl c.requires.begun c.carry_out_page_item-carried.ensures stepped))
     (Carries-done _ _ _ _ _ _ (alone item machine) _ tt _
     (Follows-is _ _ _ _ _ _ _ _ _ (λ panel.
-        left_runs c.args.profile.now (page_view c.args.item) c.args.item c.args.page.now c.carry_out_page_item-carried.new.page
-        c.carry_out_page_item-carried.result refl c.requires.begun c.carry_out_page_item-carried.ensures
-        (in_job (context_of machine panel)) panel
-        ∙ ap
-        (λ result. effect_run (in_job (context_of machine panel))
-        (effect_at panel (settings_at panel c.args.defaults.now) c.carry_out_page_item-carried.new.page result))
-        stepped)
+    left_runs c.args.profile.now (page_view c.args.item) c.args.item c.args.page.now c.carry_out_page_item-carried.new.page
+    c.carry_out_page_item-carried.result refl c.requires.begun c.carry_out_page_item-carried.ensures
+    (in_job (context_of machine panel)) panel
+    ∙ ap
+    (λ result. effect_run (in_job (context_of machine panel))
+    (effect_at panel (settings_at panel c.args.defaults.now) c.carry_out_page_item-carried.new.page result))
+    stepped)
     (Follows-stepped _ _ _ _ c.carry_out_page_item-carried.new.page tt)) refl)
 
 pub returns-clause-carries : goal.returns-clause-carries

@@ -19,7 +19,7 @@ returns-in-Err g c = λ conditions effect is.
     Follows-is _ _ _ _ _ _ _ _ _ (λ panel. ap (effect_run (conditions panel)) (rw c.in-Some.is at is panel))
     (Follows-step _ _ _ _ _ _ marked (λ panel. peaks_of (here panel)) _
     (Follows-refused _ _ _ _ _ (Marked (shape_of c.in-Some.mark)) _ marked (λ panel. just [] (Done (here panel))) _
-        (λ panel. refl) c.in-Err.ensures.err))
+    (λ panel. refl) c.in-Err.ensures.err))
 
 pub returns-in-Ok : goal.returns-in-Ok
 returns-in-Ok g c = λ conditions effect is.

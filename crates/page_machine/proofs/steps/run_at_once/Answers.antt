@@ -40,7 +40,7 @@ returns-in-PjlLine g c =
       λ conditions.
           Follows-is _ _ _ _ _ _ _ _ _
           (λ panel. ap (begun_run c.args.profile.now (conditions panel) item) (c.begin_item.ensures panel)
-              ∙ step_runs c.args.profile.now item begun begun (Ok tt) ends carried (conditions panel) panel)
+          ∙ step_runs c.args.profile.now item begun begun (Ok tt) ends carried (conditions panel) panel)
           (Follows-stepped _ _ _ _ begun _),
     )
 
@@ -56,9 +56,9 @@ returns-in-Err g c =
       λ conditions.
           Follows-found _ _ _ _ _ _ _
           (λ panel. ap (begun_run c.args.profile.now (conditions panel) (view c.args.item.now)) (c.begin_item.ensures panel)
-              ∙ ap (λ entry. begun_run c.args.profile.now (conditions panel) entry (state_at panel c.begin_item.new.page)) is
-              ∙ step_runs c.args.profile.now item c.begin_item.new.page c.carry_out.new.page
-              (Err c.in-Err.finding) c.in-Err.ensures.0 c.in-Err.ensures.1 (conditions panel) panel),
+          ∙ ap (λ entry. begun_run c.args.profile.now (conditions panel) entry (state_at panel c.begin_item.new.page)) is
+          ∙ step_runs c.args.profile.now item c.begin_item.new.page c.carry_out.new.page
+          (Err c.in-Err.finding) c.in-Err.ensures.0 c.in-Err.ensures.1 (conditions panel) panel),
     )
 
 pub returns-in-Ok-Stepped : goal.returns-in-Ok-Stepped
@@ -71,8 +71,8 @@ returns-in-Ok-Stepped g c =
       λ conditions.
           Follows-is _ _ _ _ _ _ _ _ _
           (λ panel. ap (begun_run c.args.profile.now (conditions panel) (view c.args.item.now)) (c.begin_item.ensures panel)
-              ∙ ap (λ entry. begun_run c.args.profile.now (conditions panel) entry (state_at panel c.begin_item.new.page)) is
-              ∙ step_runs c.args.profile.now item c.begin_item.new.page c.carry_out.new.page (Ok tt) acts.0 acts.1 (conditions panel) panel)
+          ∙ ap (λ entry. begun_run c.args.profile.now (conditions panel) entry (state_at panel c.begin_item.new.page)) is
+          ∙ step_runs c.args.profile.now item c.begin_item.new.page c.carry_out.new.page (Ok tt) acts.0 acts.1 (conditions panel) panel)
           (Follows-stepped _ _ _ _ c.carry_out.new.page _),
     )
 

@@ -21,12 +21,12 @@ returns-in_err-run_byte g c = λ conditions.
     (Follows-is _ _ _ _ _ _ _ _ _
     (λ panel. printing-split c.args.profile.now (conditions panel) (start panel) c.args.bytes.now i _ (search rules))
     (Follows-cut _ _ _ _ _ _ c.args.profile.now conditions
-        (λ panel. followed_by (printing c.args.profile.now (conditions panel) (start panel) (take i c.args.bytes.now))
-        (byte_run c.args.profile.now (conditions panel) (get_or c.args.bytes.now i _)))
-        c.in_err-run_byte.field-0.0 (drop (suc i) c.args.bytes.now)
+    (λ panel. followed_by (printing c.args.profile.now (conditions panel) (start panel) (take i c.args.bytes.now))
+    (byte_run c.args.profile.now (conditions panel) (get_or c.args.bytes.now i _)))
+    c.in_err-run_byte.field-0.0 (drop (suc i) c.args.bytes.now)
     (Follows-onward _ _ _ _ c.loop-code.sink _ c.loop-code.page _ _
-        (λ panel. byte_run c.args.profile.now (conditions panel) (get_or c.args.bytes.now i _)) _ _ (c.loop-code.invariant conditions)
-        (c.in_err-run_byte.ensures conditions))))
+    (λ panel. byte_run c.args.profile.now (conditions panel) (get_or c.args.bytes.now i _)) _ _ (c.loop-code.invariant conditions)
+    (c.in_err-run_byte.ensures conditions))))
 
 pub loop-code-preserved : goal.loop-code-preserved
 loop-code-preserved g c = λ conditions.

@@ -22,8 +22,8 @@ returns-in-Err g c =
       λ conditions.
           Follows-found _ _ _ _ _ _ _
           (λ panel. ap (begun_run c.args.profile.now (conditions panel) item) (c.begin_command.ensures (amount c.args.n) panel)
-              ∙ step_runs c.args.profile.now item c.begin_command.new.page c.carry_out_usual_command.new.page
-              (Err c.in-Err.finding) acts.0 acts.1 (conditions panel) panel),
+          ∙ step_runs c.args.profile.now item c.begin_command.new.page c.carry_out_usual_command.new.page
+          (Err c.in-Err.finding) acts.0 acts.1 (conditions panel) panel),
     )
 
 pub returns-in-Ok-Stepped : goal.returns-in-Ok-Stepped
@@ -37,8 +37,8 @@ returns-in-Ok-Stepped g c =
       λ conditions.
           Follows-is _ _ _ _ _ _ _ _ _
           (λ panel. ap (begun_run c.args.profile.now (conditions panel) item) (c.begin_command.ensures (amount c.args.n) panel)
-              ∙ step_runs c.args.profile.now item c.begin_command.new.page c.carry_out_usual_command.new.page (Ok tt) acts.0 acts.1
-              (conditions panel) panel)
+          ∙ step_runs c.args.profile.now item c.begin_command.new.page c.carry_out_usual_command.new.page (Ok tt) acts.0 acts.1
+          (conditions panel) panel)
           (Follows-stepped _ _ _ _ c.carry_out_usual_command.new.page _),
     )
 

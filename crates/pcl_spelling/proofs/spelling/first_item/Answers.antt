@@ -33,8 +33,8 @@ returns-then-eq c =
     subst (λ (mode : Mode). StandsAt Pcl bytes 0 (view item.result) len mode) (sym c.mode.ensures)
     (spelling_stands bytes c.head_text-text.result.items (view item.result) len (context_view c.in-Begins.next)
     (read_as bytes c.head_text-text.result.items item.result c.first_between.result c.in-Begins.head len c.in-Begins.next
-        (c.first_between.ensures.first true) c.in-Begins.is item.ensures.item c.in-Begins.ensures.within.0 item.ensures.last
-        c.head_text-text.ensures)
+    (c.first_between.ensures.first true) c.in-Begins.is item.ensures.item c.in-Begins.ensures.within.0 item.ensures.last
+    c.head_text-text.ensures)
     (ap (λ d. take (len - length d) bytes) (sym c.data_of.ensures.data) ∙ equal ∙ c.as_slice.ensures.value))
 
 pub returns-else-eq : goal.returns-else-eq

@@ -35,7 +35,7 @@ returns-then-starts_with c =
     subst (λ (len : ℕ). StandsAt Frame bytes 0 (view item.result) len c.mode.result) (sym c.len.ensures.value)
     (subst (λ (mode : Mode). StandsAt Frame bytes 0 (view item.result) (length text) mode) (sym c.mode.ensures)
     (ahead_stands bytes (take c.min.result bytes) text (view item.result) c.next_ahead-ahead.result
-        (context_view c.in-Begins.next) read begins_so))
+    (context_view c.in-Begins.next) read begins_so))
 
 pub returns-else-starts_with : goal.returns-else-starts_with
 returns-else-starts_with c =

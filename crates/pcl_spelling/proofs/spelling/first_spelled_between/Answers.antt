@@ -31,4 +31,4 @@ returns c =
     subst (λ (mode : Mode). StandsAt Pcl c.args.bytes.now 0 (view c.with_its_data.result) c.in-Begins.len mode) (sym c.mode.ensures)
     (spelled_stands c.args.bytes.now c.requires (view c.with_its_data.result) c.in-Begins.len (context_view c.in-Begins.next)
     (sym (c.first_between.ensures.first true) ∙ ap (first_view c.args.bytes.now) c.in-Begins.is
-        ∙ ap (λ x. Begins x c.in-Begins.len (context_view c.in-Begins.next)) (sym c.with_its_data.ensures.item)))
+    ∙ ap (λ x. Begins x c.in-Begins.len (context_view c.in-Begins.next)) (sym c.with_its_data.ensures.item)))

@@ -7,8 +7,7 @@ use Rattle.pclcheck.proofs.by_request.fulfil.Goals as goal
 
 pub returns-in-Check : goal.returns-in-Check
 returns-in-Check g c =
-    asked _ _ _ _ _ _ _ _ c.in-Check.is
-    (
+    asked _ _ _ _ _ _ _ _ c.in-Check.is (
       subst
           (λ words. LeavesCheck (map (λ word. text_named word.now) words) c.check.result (g.O.Outlet.state c.args.stdout.now)
           (g.O.Outlet.state c.check.new.stdout))
@@ -50,7 +49,7 @@ returns-in-ProfileNew g c =
     asked _ _ _ _ _ _ _ _ c.in-ProfileNew.is
     (subst (λ names. LeavesProfile words.model.now (map (λ name. name.now) names) words.lists c.profile_new.result
     (g.O.Outlet.state c.args.stdout.now) (g.O.Outlet.state c.profile_new.new.stdout) (g.E.Outlet.state c.args.stderr.now)
-        (g.E.Outlet.state c.profile_new.new.stderr))
+    (g.E.Outlet.state c.profile_new.new.stderr))
     c.as_slice-papers.ensures.value c.profile_new.ensures)
 
 pub returns-in-ProfileShow : goal.returns-in-ProfileShow

@@ -16,7 +16,7 @@ loop-machine-preserved g c =
     c.loop-machine.machine-index c.machine-item.result c.loop-machine-test.true c.machine-item.is
     (subst (λ q. asks_alike c.args.first.now.printer q (view c.args.item.now) ≡ true) c.profile-in-loop-machine.ensures
     (subst (λ p. asks_alike p c.profile-in-loop-machine.result.now (view c.args.item.now) ≡ true) c.profile.ensures
-        (sym c.asks_alike.ensures ∙ c.if-not-asks_alike.false)))
+    (sym c.asks_alike.ensures ∙ c.if-not-asks_alike.false)))
     c.loop-machine.invariant
 
 pub returns : goal.returns

@@ -23,5 +23,5 @@ loop-machine-preserved g c =
       more_go look from count c.loop-machine.count bytes c.args.machines.now c.loop-machine.machine-index c.machine-item.result
           c.loop-machine-test.true most c.machine-item.is h.1
           (measured_goes c.machine-item.result c.in_ok-own.own look from
-              (take count (take c.loop-machine.count bytes)) is far.look far.room),
+          (take count (take c.loop-machine.count bytes)) is far.look far.room),
     )

@@ -75,8 +75,8 @@ loop-index-preserved g c =
           (set c.loop-index.others c.loop-index.index c.execute_by-answer.new.machine))
           (sym other)
           (so_far_more (action_of c.args.task.now) c.args.place events did.0 c.loop-index.index c.loop-index.first_other c.args.others.now
-              c.loop-index.others c.index-others-index.result c.execute_by-answer.new.machine c.loop-index.invariant.so_far
-              (omega (arith, c.loop-index-test.true, c.loop-index.auto.others))
+          c.loop-index.others c.index-others-index.result c.execute_by-answer.new.machine c.loop-index.invariant.so_far
+          (omega (arith, c.loop-index-test.true, c.loop-index.auto.others))
           c.differs.result did.1 told.0 (differ_of did.0 events c.differs.result told));
     }
 
@@ -115,10 +115,10 @@ returns-in-None-clause-came g c =
     (all_so_far (action_of c.args.task.now) c.args.place
     (map event_of c.args.events.now) c.loop-index.index c.args.others.now c.loop-index.others
     (subst
-        (λ o. SoFar (action_of c.args.task.now) c.args.place
-        (map event_of c.args.events.now) c.loop-index.index o c.args.others.now c.loop-index.others)
-        c.in-None.is c.loop-index.invariant.so_far)
-        (omega (arith, c.loop-index-test.false, c.loop-index.auto.others)))
+    (λ o. SoFar (action_of c.args.task.now) c.args.place
+    (map event_of c.args.events.now) c.loop-index.index o c.args.others.now c.loop-index.others)
+    c.in-None.is c.loop-index.invariant.so_far)
+    (omega (arith, c.loop-index-test.false, c.loop-index.auto.others)))
 
 pub returns-in-None-clause-open : goal.returns-in-None-clause-open
 returns-in-None-clause-open g c = sym (ap is_open c.loop-index.invariant.stands_open)

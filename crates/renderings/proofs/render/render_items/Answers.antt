@@ -20,8 +20,7 @@ item-requires-clause-admitted g c =
 
 pub render_other-requires-clause-admitted : goal.render_other-requires-clause-admitted
 render_other-requires-clause-admitted g c =
-    let is = c.in-Ok-Item.is ∙ ap Ok c.in-Ok-Item.field-0-is in
-    (
+    let is = c.in-Ok-Item.is ∙ ap Ok c.in-Ok-Item.field-0-is in (
       _,
       c.loop-read.invariant.mode,
       ap is_some
@@ -47,7 +46,7 @@ returns-in_err-rendered-clause-came g c = λ first start bytes h total.
     (rendered_failed first start bytes c.loop-read.lexer (g.R.Renderer.rendering c.loop-read.renderer)
     (g.W.Outlet.state c.loop-read.outlet) c.loop-read.kept.items rendered
     (StartsWith (at c.in-Some.read.place (view (Simple c.in-Some.read.item)))) c.loop-read.lexer.ended there
-        (g.W.Outlet.state c.item.new.outlet) c.item.new.kept.items c.in_err-rendered.field-0.0 c.in_err-rendered.ensures.rendered)
+    (g.W.Outlet.state c.item.new.outlet) c.item.new.kept.items c.in_err-rendered.field-0.0 c.in_err-rendered.ensures.rendered)
 
 pub returns-in_err-rendered-in-Ok-Item-clause-came : goal.returns-in_err-rendered-in-Ok-Item-clause-came
 returns-in_err-rendered-in-Ok-Item-clause-came g c = λ first start bytes h total.
@@ -66,7 +65,7 @@ returns-in_err-rendered-in-Ok-Item-clause-came g c = λ first start bytes h tota
     (rendered_failed first start bytes c.loop-read.lexer (g.R.Renderer.rendering c.loop-read.renderer)
     (g.W.Outlet.state c.loop-read.outlet) c.loop-read.kept.items rendered
     (StartsWith (at c.in-Ok-Item.place (view c.in-Ok-Item.item))) c.loop-read.lexer.ended there (g.W.Outlet.state c.render_other.new.outlet)
-        c.render_other.new.kept.items c.in_err-rendered-in-Ok-Item.field-0.0 c.in_err-rendered-in-Ok-Item.ensures.rendered)
+    c.render_other.new.kept.items c.in_err-rendered-in-Ok-Item.field-0.0 c.in_err-rendered-in-Ok-Item.ensures.rendered)
 
 pub loop-read-preserved-in-None : goal.loop-read-preserved-in-None
 loop-read-preserved-in-None g c =
@@ -86,12 +85,12 @@ loop-read-preserved-in-None g c =
           follows_on g.R.Renderer.is_in c.loop-read.renderer c.item.new.self (view (Simple c.in-Some.read.item)) c.in_ok-rendered.rendered
           c.in-None.is went.mode (mode_of c.loop-read.lexer.context) (mode_of c.next_command.new.self.context) so_far.mode
           (item_admitted c.loop-read.lexer c.next_command.new.self (answer_of c.in-Some.read) next c.in-Some.read.place
-              (Simple c.in-Some.read.item) refl);
+          (Simple c.in-Some.read.item) refl);
       rendered = λ first start bytes h.
           rendered_item first start bytes c.loop-read.lexer (g.R.Renderer.rendering c.loop-read.renderer)
-              (g.W.Outlet.state c.loop-read.outlet) c.loop-read.kept.items (so_far.rendered first start bytes h)
+          (g.W.Outlet.state c.loop-read.outlet) c.loop-read.kept.items (so_far.rendered first start bytes h)
           (answer_of c.in-Some.read) c.next_command.new.self next c.in-Some.read.place (Simple c.in-Some.read.item) refl
-              (g.R.Renderer.rendering c.item.new.self) (g.W.Outlet.state c.item.new.outlet) c.item.new.kept.items goes.0 goes.1 goes.2;
+          (g.R.Renderer.rendering c.item.new.self) (g.W.Outlet.state c.item.new.outlet) c.item.new.kept.items goes.0 goes.1 goes.2;
     }
 
 pub loop-read-preserved : goal.loop-read-preserved
@@ -117,10 +116,10 @@ loop-read-preserved g c =
           (item_admitted c.loop-read.lexer c.next.follows.lender-at-none c.next.result next c.in-Ok-Item.place c.in-Ok-Item.item is);
       rendered = λ first start bytes h.
           rendered_item first start bytes c.loop-read.lexer (g.R.Renderer.rendering c.loop-read.renderer)
-              (g.W.Outlet.state c.loop-read.outlet) c.loop-read.kept.items (so_far.rendered first start bytes h)
+          (g.W.Outlet.state c.loop-read.outlet) c.loop-read.kept.items (so_far.rendered first start bytes h)
           c.next.result c.next.follows.lender-at-none next c.in-Ok-Item.place c.in-Ok-Item.item is
-              (g.R.Renderer.rendering c.render_other.new.renderer)
-              (g.W.Outlet.state c.render_other.new.outlet) c.render_other.new.kept.items goes.0 goes.1 goes.2;
+          (g.R.Renderer.rendering c.render_other.new.renderer)
+          (g.W.Outlet.state c.render_other.new.outlet) c.render_other.new.kept.items goes.0 goes.1 goes.2;
     }
 
 pub returns-in-Some-rendered-clause-came : goal.returns-in-Some-rendered-clause-came
@@ -185,7 +184,7 @@ returns-in_err-outcome-in-Ok-End-clause-came g c = λ first start bytes h total.
     (rendered_failed first start bytes c.loop-read.lexer (g.R.Renderer.rendering c.loop-read.renderer)
     (g.W.Outlet.state c.loop-read.outlet) c.loop-read.kept.items rendered
     (λ reading. reading ≡ Whole [] c.args.total) c.args.lexer.now.ended there (g.W.Outlet.state c.end.new.outlet) c.end.new.kept.items
-        c.in_err-outcome-in-Ok-End.field-0.0 c.in_err-outcome-in-Ok-End.ensures.rendered)
+    c.in_err-outcome-in-Ok-End.field-0.0 c.in_err-outcome-in-Ok-End.ensures.rendered)
 
 pub returns-in-Ok-End-clause-came : goal.returns-in-Ok-End-clause-came
 returns-in-Ok-End-clause-came g c = λ first start bytes h total.
@@ -218,8 +217,8 @@ returns-in_err-outcome-in-Err-clause-came g c = λ first start bytes h total.
     (rendered_failed first start bytes c.loop-read.lexer (g.R.Renderer.rendering c.loop-read.renderer)
     (g.W.Outlet.state c.loop-read.outlet) c.loop-read.kept.items rendered
     (λ reading. reading ≡ Stopped [] c.in-Err.fault.place c.in-Err.fault.cause) c.args.lexer.now.ended there
-        (g.W.Outlet.state c.fault.new.outlet) c.fault.new.kept.items c.in_err-outcome-in-Err.field-0.0
-        c.in_err-outcome-in-Err.ensures.rendered)
+    (g.W.Outlet.state c.fault.new.outlet) c.fault.new.kept.items c.in_err-outcome-in-Err.field-0.0
+    c.in_err-outcome-in-Err.ensures.rendered)
 
 pub returns-in-Err-clause-came : goal.returns-in-Err-clause-came
 returns-in-Err-clause-came g c = λ first start bytes h total.

@@ -14,7 +14,7 @@ invariant-loop-read g l = record {
   mode : g.R.Renderer.is_in l.renderer (mode_of l.lexer.context);
   rendered : (first : Rendering) (start : OutletState) (bytes : List ℕ) →
       HasRendered first start bytes l.initial.lexer (g.R.Renderer.rendering l.initial.renderer)
-          (g.W.Outlet.state l.initial.outlet) l.initial.kept.items →
+      (g.W.Outlet.state l.initial.outlet) l.initial.kept.items →
       HasRendered first start bytes l.lexer (g.R.Renderer.rendering l.renderer) (g.W.Outlet.state l.outlet) l.kept.items;
 }
 

@@ -45,9 +45,9 @@ returns g c =
     let decided : IfErr result Decided = stop_gives result stopped
     (λ error is.
     by_whose (Open is.bytes) (λ e. CutOff is.bytes e × (e ≡ Read → ⊥)) Decided error
-        (own_read (Open is.bytes) (CutOff is.bytes) error is.came)
+    (own_read (Open is.bytes) (CutOff is.bytes) error is.came)
     (λ h _. decided_told rendering outlet outlet' source source' is.pieces is.bytes is.given_is is.joined is.consumed _ _ _ _ _ _ h
-        (g.met.R.Renderer.adds_at_fault new.consumer.renderer.now))
+    (g.met.R.Renderer.adds_at_fault new.consumer.renderer.now))
     (λ h turns. let both : Turns ≡ Read = turns in absurd cc)
     (λ e h read. absurd (h.1 read))) in
     record {
@@ -66,7 +66,7 @@ returns g c =
           (answer_gives result c.read_job.ensures.answered (λ outcome is. is.answered.working))
           (stop_gives result stopped
           (λ error is. by_whose (Open is.bytes) (CutOff is.bytes) (λ e. outlet'.failed ≡ is_write e) error is.came (λ h. h.working)
-              (λ h. h.working) (λ e h. h.status)));
+          (λ h. h.working) (λ e h. h.status)));
       turns = c.read_job.ensures.turns;
       long = c.read_job.ensures.long;
       never_no_profile = stop_gives result stopped (λ error is. never_none (Open is.bytes) (CutOff is.bytes) error is.came);

@@ -8,9 +8,8 @@ returns-in_err-write_text g c =
     (search rules) c.loop-piece.invariant.1 c.write_text.ensures.text.front
 
 pub loop-piece-preserved : goal.loop-piece-preserved
-loop-piece-preserved g c =
-    (
-      search rules,
-      pieces_more (λ piece. piece.now) c.args.pieces.now c.loop-piece.piece-index _ _ _ _ (search rules) c.loop-piece.invariant.1
-          (c.write_text.ensures.text.whole (search rules)),
-    )
+loop-piece-preserved g c = (
+  search rules,
+  pieces_more (λ piece. piece.now) c.args.pieces.now c.loop-piece.piece-index _ _ _ _ (search rules) c.loop-piece.invariant.1
+      (c.write_text.ensures.text.whole (search rules)),
+)

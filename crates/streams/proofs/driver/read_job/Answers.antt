@@ -44,7 +44,7 @@ loop-preserved g c =
           still_open g.C.Consumer.goes_on g.C.Consumer.stops (c.args.consumer.now, c.args.outlet.now) _ _ _ _ way _
           (take c.in-Ok.count c.read.new.buf) c.in-Ok.ensures.read.given c.in-Ok.ensures.read.bytes.0
           (search rules) (search rules) g.C.Consumer.answers (c.piece.new.self, c.piece.new.outlet) c.in_ok-came.came c.in-None.is
-              (c.in_ok-came.ensures _ _ way.left_open);
+          (c.in_ok-came.ensures _ _ way.left_open);
       working = search rules;
     }
 

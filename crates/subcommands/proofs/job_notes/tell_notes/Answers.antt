@@ -35,7 +35,7 @@ returns-clause-ends g c =
           notes_left named printer (c.in-Ok.ensures.profile, c.in-Ok.ensures.given) job job' work c.end_notes.result _ _ old
           (g.O.Outlet.state c.end_notes.new.stdout)
           rendered c.new-text.ensures.bytes c.end_notes.ensures.ok
-              (stop_state g.O.Outlet.state c.args.stdout.now c.end_notes.new.stdout work c.end_notes.result c.end_notes.ensures.err);
+          (stop_state g.O.Outlet.state c.args.stdout.now c.end_notes.new.stdout work c.end_notes.result c.end_notes.ensures.err);
       read =
           ap (λ failed. job'.failed || failed) (c.read_profile.ensures.read ∙ ap is_err_at_read c.in-Ok.is)
           ∙ or-false job'.failed ∙ rendered.read ∙ sym c.end_notes.ensures.read;

@@ -63,12 +63,12 @@ returns-in-Err-open_and_create-clause-ends g c =
       );
       read =
           ap (λ failed. (g.S.Source.state c.open_and_create.new.job).failed || failed)
-              (c.read_profile.ensures.read ∙ ap is_err_at_read c.in-Ok.is)
+          (c.read_profile.ensures.read ∙ ap is_err_at_read c.in-Ok.is)
           ∙ or-false (g.S.Source.state c.open_and_create.new.job).failed ∙ ap (λ (s : SourceState). s.failed) opening.source
-              ∙ ap is_err_at_read c.in-Err-open_and_create.is;
+          ∙ ap is_err_at_read c.in-Err-open_and_create.is;
       write =
           ap (λ failed. (g.W.Outlet.state c.open_and_create.new.out).failed || failed) c.requires.stdout
-              ∙ or-false (g.W.Outlet.state c.open_and_create.new.out).failed
+          ∙ or-false (g.W.Outlet.state c.open_and_create.new.out).failed
           ∙ ap (λ (o : OutletState). o.failed) opening.outlet ∙ ap is_err_at_write c.in-Err-open_and_create.is;
       turns = λ is. absurd (subst IsEndOfOpening is c.in-Err-open_and_create.ensures.err);
     }
@@ -99,7 +99,7 @@ returns-clause-ends g c =
         sym c.in-Ok-chosen_panel.ensures.value,
         out_left c.end_by.result (pinned_rendering printer panel) job job' old new start end
             (ended g.O.Outlet.state c.args.stdout.now c.end_by.new.stdout work c.end_by.result
-                (pinned_rendering printer panel) job job' old new
+            (pinned_rendering printer panel) job job' old new
             rendered c.end_by.ensures.ok c.end_by.ensures.err),
       );
       read =

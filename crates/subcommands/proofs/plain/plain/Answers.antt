@@ -18,7 +18,7 @@ returns-in-Err-clause-ends g c =
       read = ap (λ (s : SourceState). s.failed) opening.source ∙ ap is_err_at_read c.in-Err.is;
       write =
           ap (λ failed. (g.W.Outlet.state c.open_and_create.new.out).failed || failed) c.requires.stdout
-              ∙ or-false (g.W.Outlet.state c.open_and_create.new.out).failed
+          ∙ or-false (g.W.Outlet.state c.open_and_create.new.out).failed
           ∙ ap (λ (o : OutletState). o.failed) opening.outlet ∙ ap is_err_at_write c.in-Err.is;
       turns = λ is. absurd (subst IsEndOfOpening is c.in-Err.ensures.err);
     }
@@ -37,7 +37,7 @@ returns-clause-ends g c =
     record {
       left = out_left c.end_by.result plain_rendering job job' old new _ _
           (ended g.O.Outlet.state c.args.stdout.now c.end_by.new.stdout work c.end_by.result plain_rendering job job' old new rendered
-              c.end_by.ensures.ok c.end_by.ensures.err);
+          c.end_by.ensures.ok c.end_by.ensures.err);
       read = rendered.read ∙ sym c.end_by.ensures.read;
       write =
           ended_write_beside g.O.Outlet.state c.args.stdout.now c.end_by.new.stdout work c.end_by.result _ rendered.write c.requires.stdout

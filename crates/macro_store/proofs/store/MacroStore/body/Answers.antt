@@ -40,7 +40,7 @@ returns-in-None g c =
     sym (ap (λ store. body_of store c.args.id) (sym c.self.view_is)
     ∙ body_found c.self.inside.pool.items c.args.id c.self.inside.spans.entries
     ∙ ap (option_map (λ span. items_in Pcl (bytes_at c.self.inside.pool.items span)))
-        (sym c.get.ensures.value ∙ ap option_copied c.in-None.is))
+    (sym c.get.ensures.value ∙ ap option_copied c.in-None.is))
 
 pub returns-in-Some : goal.returns-in-Some
 returns-in-Some g c =
@@ -48,4 +48,4 @@ returns-in-Some g c =
     ∙ sym (ap (λ store. body_of store c.args.id) (sym c.self.view_is)
     ∙ body_found c.self.inside.pool.items c.args.id c.self.inside.spans.entries
     ∙ ap (option_map (λ span. items_in Pcl (bytes_at c.self.inside.pool.items span)))
-        (sym c.get.ensures.value ∙ ap option_copied c.in-Some.is))
+    (sym c.get.ensures.value ∙ ap option_copied c.in-Some.is))

@@ -48,7 +48,7 @@ returns-in-Ended-Ok g c =
     (ap (λ stopped. record after { stopped = stopped }) c.if-self.false)
     (Carries-is _ _ _ _ _ _ (alone item fields) _ _ _ (item-is_alone item fields open_is c.in-Ended-Ok.ensures.0)
     (Carries-done _ _ _ _ _ _ (alone item fields) _ _ _
-        (rw c.in-Ended-Ok.field-0-is at c.in-Ended-Ok.ensures.1 (λ panel. in_job (context_of fields panel))) refl))
+    (rw c.in-Ended-Ok.field-0-is at c.in-Ended-Ok.ensures.1 (λ panel. in_job (context_of fields panel))) refl))
 
 pub returns-in-Ended-Err : goal.returns-in-Ended-Err
 returns-in-Ended-Err g c =
@@ -68,7 +68,7 @@ returns-in-Ended-Err g c =
     c.self.view_is c.if-self.false c.run_command.new.page fields.macros _ refl after _ refl
     (Carries-is _ _ _ _ _ _ (alone item fields) _ _ _ (item-is_alone item fields open_is c.in-Ended-Err.ensures.0)
     (Carries-halted _ _ _ _ _ _ (alone item fields) _ _
-        (rw c.in-Ended-Err.field-0-is at c.in-Ended-Err.ensures.1 (λ panel. in_job (context_of fields panel))))))
+    (rw c.in-Ended-Err.field-0-is at c.in-Ended-Err.ensures.1 (λ panel. in_job (context_of fields panel))))))
 
 pub step_page_item-requires-clause-admitted : goal.step_page_item-requires-clause-admitted
 step_page_item-requires-clause-admitted g c =
@@ -103,8 +103,8 @@ returns-in-Left g c =
     c.step_page_item.new.self c.run_command.new.page c.if-self.false c.step_page_item.result
     (item-has_begun item fields.page c.run_command.new.page c.in-Left.ensures.2 fields.printer fields.defaults fields.macros open_is)
     (subst
-        (λ entry. CarriesOn {F = g.row.S-Fault.Denot} g.S.MarkSink.takes g.S.MarkSink.refuses
-        (item_of (record fields { page = c.run_command.new.page }) entry) false c.args.sink.now c.step_page_item.new.sink
-        (record fields { page = c.run_command.new.page }) c.step_page_item.new.self c.step_page_item.result)
-        (sym c.in-Left.ensures.0)
+    (λ entry. CarriesOn {F = g.row.S-Fault.Denot} g.S.MarkSink.takes g.S.MarkSink.refuses
+    (item_of (record fields { page = c.run_command.new.page }) entry) false c.args.sink.now c.step_page_item.new.sink
+    (record fields { page = c.run_command.new.page }) c.step_page_item.new.self c.step_page_item.result)
+    (sym c.in-Left.ensures.0)
     (rw c.in-Left.ensures.1 at c.step_page_item.ensures)))

@@ -42,7 +42,7 @@ returns-in-Ok g c = λ sink.
     (ap (λ stopped. record after { stopped = stopped }) (ap (λ machine. machine.stopped) c.self.view_is ∙ c.requires.running))
     (Carries-is _ _ g.row.S-Fault.Denot _ _ _ _ _ _ _ (item-is_stored item fields open_is)
     (Carries-defines g.S.MarkSink.takes g.S.MarkSink.refuses _ sink fields.page item fields.macros c.define.new.macros
-        (Ok tt) c.in-Ok.ensures.defines))
+    (Ok tt) c.in-Ok.ensures.defines))
 
 pub returns-in-Err : goal.returns-in-Err
 returns-in-Err g c = λ sink.
@@ -61,4 +61,4 @@ returns-in-Err g c = λ sink.
     c.self.view_is (ap (λ machine. machine.stopped) c.self.view_is ∙ c.requires.running) fields.page c.define.new.macros _ refl after _ refl
     (Carries-is _ _ g.row.S-Fault.Denot _ _ _ _ _ _ _ (item-is_stored item fields open_is)
     (Carries-defines g.S.MarkSink.takes g.S.MarkSink.refuses _ sink fields.page item fields.macros c.define.new.macros _
-        c.in-Err.ensures.defines))
+    c.in-Err.ensures.defines))

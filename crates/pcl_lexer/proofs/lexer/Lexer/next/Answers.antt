@@ -28,9 +28,9 @@ returns-in-Some g c =
     subst (λ (n : ℕ). Answers c.args.self.now (result n) new) place
     (subst (λ (old : LexerState). Answers old (result (l.dropped + l.at)) new) c.self.view_is
     (subst
-        (λ (context : Context). Answers (standing window l.at l.dropped context l.ended held) (result (l.dropped + l.at))
-        (standing window (l.at + 1) l.dropped context l.ended held))
-        (sym (ap context_view c.in-Pcl.is))
+    (λ (context : Context). Answers (standing window l.at l.dropped context l.ended held) (result (l.dropped + l.at))
+    (standing window (l.at + 1) l.dropped context l.ended held))
+    (sym (ap context_view c.in-Pcl.is))
     (unit_is_answer window l.at l.dropped 1 l.ended held item first))) in
     ((refl, λ _. tt, is_next _ _ _ exact), tt)
 
@@ -44,10 +44,10 @@ returns-in-Some-next_pair g c =
 pub returns : goal.returns
 returns g c = (
   (
-        refl,
-        λ _. tt,
-        next_behind _ _ _ _ (c.in_default-next_pair.ensures.none ∙ c.in_default-next_command.ensures.none)
-            (is_next _ _ _ c.step.follows.holds-at-none),
-      ),
+    refl,
+    λ _. tt,
+    next_behind _ _ _ _ (c.in_default-next_pair.ensures.none ∙ c.in_default-next_command.ensures.none)
+        (is_next _ _ _ c.step.follows.holds-at-none),
+  ),
   tt,
 )

@@ -29,9 +29,9 @@ returns-in-Some g c =
     subst (λ (n : ℕ). Answers c.args.self.now (result n) new) place
     (subst (λ (old : LexerState). Answers old (result (l.dropped + l.at)) new) c.self.view_is
     (subst
-        (λ (context : Context). Answers (standing window l.at l.dropped context l.ended held) (result (l.dropped + l.at))
-        (standing window (l.at + 1) l.dropped context l.ended held))
-        (sym (ap context_view c.in-Pcl.is))
+    (λ (context : Context). Answers (standing window l.at l.dropped context l.ended held) (result (l.dropped + l.at))
+    (standing window (l.at + 1) l.dropped context l.ended held))
+    (sym (ap context_view c.in-Pcl.is))
     (unit_is_answer window l.at l.dropped 1 l.ended held item first))) in
     ((refl, λ _. tt, is_next _ _ _ exact), tt)
 
@@ -52,9 +52,9 @@ returns-in-Some-sequence_in g c =
     subst (λ (n : ℕ). Answers c.args.self.now (result n) new) place
     (subst (λ (old : LexerState). Answers old (result (l.dropped + l.at)) new) c.self.view_is
     (subst
-        (λ (context : Context). Answers (standing window l.at l.dropped context l.ended held) (result (l.dropped + l.at))
-        (standing window (l.at + 2) l.dropped context l.ended held))
-        (sym (ap context_view c.in-Pcl.is))
+    (λ (context : Context). Answers (standing window l.at l.dropped context l.ended held) (result (l.dropped + l.at))
+    (standing window (l.at + 2) l.dropped context l.ended held))
+    (sym (ap context_view c.in-Pcl.is))
     (unit_is_answer window l.at l.dropped 2 l.ended held item first))) in
     ((refl, λ _. tt, is_next _ _ _ exact), tt)
 

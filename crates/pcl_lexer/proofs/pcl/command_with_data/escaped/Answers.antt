@@ -11,8 +11,7 @@ returns-in_ok-read-in-len2-up c =
     let two = c.in-len2-up.len_at_least in
     let known : group_at (get_or bytes 0 0) (get_or bytes 1 0) ≡ Some c.in_ok-group-in-len2-up.group =
     sym c.of.ensures ∙ c.in_ok-group-in-len2-up.was in
-    let read = c.in_ok-read-in-len2-up.ensures in
-    (
+    let read = c.in_ok-read-in-len2-up.ensures in (
       λ whole. behind_characters whole c.in_ok-group-in-len2-up.group bytes two known ∙ ap (behind 3) read.0
           ∙ with_data_behind c.in_ok-read-in-len2-up.read bytes two read.1.1,
       (omega (arith, read.1.0, two, length-take (length bytes - 2) (drop 2 bytes), length-drop 2 bytes), omega (arith, read.1.1)),

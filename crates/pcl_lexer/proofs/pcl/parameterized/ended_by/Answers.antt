@@ -19,18 +19,16 @@ returns c =
     elim c.if-field-lt96.branch [
       | in-0-to-95 w ↦
           let below : last < 96 = omega arith in
-          let named = ap (λ l. command_at group l.0) (sym w.letter-is) ∙ known in
-          (
-                λ bytes. named_capital group number len last bytes command below named
-                    ∙ ap (λ l. Begins (Parameterized command number) (len + 1) (context_view l.1)) (sym w.letter-is),
-                refl,
-              )
+          let named = ap (λ l. command_at group l.0) (sym w.letter-is) ∙ known in (
+            λ bytes. named_capital group number len last bytes command below named
+                ∙ ap (λ l. Begins (Parameterized command number) (len + 1) (context_view l.1)) (sym w.letter-is),
+            refl,
+          )
       | in-96-to-255 w ↦
           let above : 96 ≤ last = omega arith in
-          let named = ap (λ l. command_at group l.0) (sym w.letter-is) ∙ known in
-          (
-                λ bytes. named_small group number len last bytes command above named
-                    ∙ ap (λ l. Begins (Parameterized command number) (len + 1) (context_view l.1)) (sym w.letter-is),
-                refl,
-              )
+          let named = ap (λ l. command_at group l.0) (sym w.letter-is) ∙ known in (
+            λ bytes. named_small group number len last bytes command above named
+                ∙ ap (λ l. Begins (Parameterized command number) (len + 1) (context_view l.1)) (sym w.letter-is),
+            refl,
+          )
     ]

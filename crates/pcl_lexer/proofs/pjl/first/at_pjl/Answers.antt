@@ -9,5 +9,5 @@ invariant_of-result c =
     record {
       spelled =
           line_here c.args.bytes.now c.inside_len-len.result (pjl_view c.in-Some.command) c.inside_len-len.ensures.length
-          c.if-len-gt-MOST_INSIDE.false (sym c.pjl_command_of.ensures ∙ ap (option_map pjl_view) c.in-Some.is)
+          c.if-len-gt-MOST_INSIDE.false (sym c.pjl_command_of.ensures ∙ ap (option_map pjl_view) c.in-Some.is);
     }

@@ -176,15 +176,24 @@ pub loop-is_open-smaller-then-is_row : goal.loop-is_open-smaller-then-is_row
 loop-is_open-smaller-then-is_row g c =
     let here = c.in_default.ensures.none in
     let item = c.in-Ok-Item.is ∙ ap Ok c.in-Ok-Item.field-0-is in
-    omega (arith, item_takes _ _ _ c.next_other.follows.holds-at-none _ _ item, c.execute_pcl.ensures.further.no_more,
-    c.execute_rows.ensures.further.no_more, ap (λ lexer. left lexer.context lexer.rest) here)
+    omega (
+      arith,
+      item_takes _ _ _ c.next_other.follows.holds-at-none _ _ item,
+      c.execute_pcl.ensures.further.no_more,
+      c.execute_rows.ensures.further.no_more,
+      ap (λ lexer. left lexer.context lexer.rest) here,
+    )
 
 pub loop-is_open-smaller : goal.loop-is_open-smaller
 loop-is_open-smaller g c =
     let here = c.in_default.ensures.none in
     let item = c.in-Ok-Item.is ∙ ap Ok c.in-Ok-Item.field-0-is in
-    omega (arith, item_takes _ _ _ c.next_other.follows.holds-at-none _ _ item, c.execute_pcl.ensures.further.no_more,
-    ap (λ lexer. left lexer.context lexer.rest) here)
+    omega (
+      arith,
+      item_takes _ _ _ c.next_other.follows.holds-at-none _ _ item,
+      c.execute_pcl.ensures.further.no_more,
+      ap (λ lexer. left lexer.context lexer.rest) here,
+    )
 
 -- ---- the end
 
@@ -243,12 +252,11 @@ returns-in-Err g c =
     record {
       came = failed_by _ _ _ c.fail.ensures.standing (λ fleet bytes executed job may_be.
           subst (λ failure. IsExact fleet job (failing failure) × IsTold job (failing failure) c.execute_pcl.new.self.culprit)
-              (sym c.of_fault.ensures)
-          (
-                bytes_fail _ _ _ next c.in-Err.fault c.in-Err.is c.watched_runs_are_alike.ensures fleet bytes _ _ _ behind.further.ended
-                    (behind.through.executed fleet bytes executed) job may_be,
-                untold,
-              ));
+          (sym c.of_fault.ensures) (
+            bytes_fail _ _ _ next c.in-Err.fault c.in-Err.is c.watched_runs_are_alike.ensures fleet bytes _ _ _ behind.further.ended
+                (behind.through.executed fleet bytes executed) job may_be,
+            untold,
+          ));
       tells = c.fail.ensures.closed ∙ sym (ap is_open c.fail.ensures.standing);
       untold = λ is. absurd (both is c.fail.ensures.closed);
       ended = next.ended ∙ behind.further.ended;

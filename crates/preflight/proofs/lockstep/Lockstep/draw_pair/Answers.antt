@@ -23,19 +23,18 @@ returns g c =
     record {
       drawn = λ yes.
           subst
-              (λ (i : Entry). GoesAlike (Execute i) c.args.self.now.machines
-              (first ∷ others_in before.formation first others) c.args.self.now.counts c.add_marks.new.self)
-              (sym read)
+          (λ (i : Entry). GoesAlike (Execute i) c.args.self.now.machines
+          (first ∷ others_in before.formation first others) c.args.self.now.counts c.add_marks.new.self)
+          (sym read)
           (subst
-              (λ (f : Fleet). GoesAlike (Execute (Move motion (Some to))) f.machines
-              (first ∷ others_in before.formation first others) f.counts c.add_marks.new.self)
-              c.self.view_is
-          (
-                Marked (Line pair.line) ∷ [],
-                all_draw c.items_run_on_like_printers.ensures c.args.bounds.now motion to before.formation before.first first others running
-                    (c.self.invariant running) c.in-Alone.is draws.1 pair,
-                c.add_marks.ensures (Line pair.line ∷ []) refl,
-              ));
+          (λ (f : Fleet). GoesAlike (Execute (Move motion (Some to))) f.machines
+          (first ∷ others_in before.formation first others) f.counts c.add_marks.new.self)
+          c.self.view_is (
+            Marked (Line pair.line) ∷ [],
+            all_draw c.items_run_on_like_printers.ensures c.args.bounds.now motion to before.formation before.first first others running
+                (c.self.invariant running) c.in-Alone.is draws.1 pair,
+            c.add_marks.ensures (Line pair.line ∷ []) refl,
+          ));
       still = λ yes. (pair.still, pair.overlay ∙ draws.1);
       same = λ no. absurd cc;
     }

@@ -60,9 +60,9 @@ module _ (g : Over) (c : After-add_marks g) where
     | in-Apart w ↦
         subst (λ ms. GoOnAll look c.in-Some.from text ms) w.deref.ensures.value
         (subst
-            (λ (o : Option TextLines).
-            IfSome o (λ lines. GoOnAll look c.in-Some.from (take lines.count c.args.bytes.now) w.deref.result.now))
-            (sym w.found-is ∙ c.in-Some-found.is) w.lines_on_all-found.ensures.go)
+        (λ (o : Option TextLines).
+        IfSome o (λ lines. GoOnAll look c.in-Some.from (take lines.count c.args.bytes.now) w.deref.result.now))
+        (sym w.found-is ∙ c.in-Some-found.is) w.lines_on_all-found.ensures.go)
     | in_default-formation w ↦ absurd (w.in_default-formation.not-Apart apart)
   ]
 
@@ -90,14 +90,14 @@ module _ (g : Over) (c : After-add_marks g) where
         let n = c.self.inside.others.len in
         let others = w.pass_lines_on_each.new.machines in
         let whole : take n (others ++ drop (length others) before) ≡ others =
-            written_back n before others (omega (arith, w.pass_lines_on_each.auto.machines, w.deref_mut.ensures.len))
-            (omega (arith, c.self.inside.others.ok.0)) in
+        written_back n before others (omega (arith, w.pass_lines_on_each.auto.machines, w.deref_mut.ensures.len))
+        (omega (arith, c.self.inside.others.ok.0)) in
         let go = subst (λ ms. GoOnAll look c.in-Some.from text ms) (sym w.deref_mut.ensures.value) (go_on apart) in
         let each =
-            subst (λ ms. Each (PrintsLines look c.in-Some.from text) ms others) w.deref_mut.ensures.value
-            (w.pass_lines_on_each.ensures look c.in-Some.from text go are_lines.end are_lines.glyphs) in
+        subst (λ ms. Each (PrintsLines look c.in-Some.from text) ms others) w.deref_mut.ensures.value
+        (w.pass_lines_on_each.ensures look c.in-Some.from text go are_lines.end are_lines.glyphs) in
         subst (λ ms. Each (PrintsLines look c.in-Some.from text) before ms) (sym (ap (λ s. s.others.items) w.self-inside-is))
-            (subst (λ ms. Each (PrintsLines look c.in-Some.from text) before ms) (sym whole) each)
+        (subst (λ ms. Each (PrintsLines look c.in-Some.from text) before ms) (sym whole) each)
     | in_default-formation-2 w ↦ absurd (w.in_default-formation-2.not-Apart apart)
   ]
 
@@ -127,7 +127,7 @@ invariant_of-self g c = λ _.
     subst (λ m. IsFormed c.match-self-2.self-inside.formation m (behind g c)) (sym (first_is g c))
     (subst (λ (f : Formation). IsFormed f c.pass_lines.new.self (behind g c)) (sym (formation_is g c))
     (stay_formed c.items_go_on_like_printers.ensures.items (look g c) c.in-Some.from (text g c) c.self.inside.first c.pass_lines.new.self
-        (goes g c).go (prints g c) c.self.inside.formation (before g c) (behind g c) (formed g c) (others_are g c)))
+    (goes g c).go (prints g c) c.self.inside.formation (before g c) (behind g c) (formed g c) (others_are g c)))
 
 pub returns-clause-step : goal.returns-clause-step
 returns-clause-step g c =
@@ -150,13 +150,13 @@ returns-clause-step g c =
     (m ∷ others_in c.match-self-2.self-inside.formation m (behind g c)) c.self.inside.counts c.add_marks.new.self)
     (sym (first_is g c))
     (subst
-        (λ (f : Formation). PrintInStep (text g c) (first ∷ others_in formation first (before g c))
-        (c.pass_lines.new.self ∷ others_in f c.pass_lines.new.self (behind g c)) c.self.inside.counts c.add_marks.new.self)
-        (sym (formation_is g c))
+    (λ (f : Formation). PrintInStep (text g c) (first ∷ others_in formation first (before g c))
+    (c.pass_lines.new.self ∷ others_in f c.pass_lines.new.self (behind g c)) c.self.inside.counts c.add_marks.new.self)
+    (sym (formation_is g c))
     (subst
-        (λ (counts : Counts). PrintInStep (text g c) (first ∷ others_in formation first (before g c))
-        (c.pass_lines.new.self ∷ others_in formation c.pass_lines.new.self (behind g c)) c.self.inside.counts counts)
-        (sym counted)
+    (λ (counts : Counts). PrintInStep (text g c) (first ∷ others_in formation first (before g c))
+    (c.pass_lines.new.self ∷ others_in formation c.pass_lines.new.self (behind g c)) c.self.inside.counts counts)
+    (sym counted)
     (print_in_step (text g c) (look g c) c.in-Some.from (first ∷ others_in formation first (before g c))
-        (c.pass_lines.new.self ∷ others_in formation c.pass_lines.new.self (behind g c)) c.self.inside.counts
-        (running g c) (in_pcl g c) each))))
+    (c.pass_lines.new.self ∷ others_in formation c.pass_lines.new.self (behind g c)) c.self.inside.counts
+    (running g c) (in_pcl g c) each))))

@@ -91,19 +91,19 @@ returns-clause-came g c =
     c.self.view_is
     (stands_on (Compared action c.args.place events 2 c.deref_mut-2.result.now others)
     (GoesInStep action c.args.place (before.first ∷ others_in before.formation before.first before.others.items)
-        (first ∷ take n (others ++ drop (length others) items)) before.counts c.counts-self-inside.result)
+    (first ∷ take n (others ++ drop (length others) items)) before.counts c.counts-self-inside.result)
     c.execute_by_others.new.standing
     (λ failed compared.
     subst
-        (λ xs. GoesInStep action c.args.place (before.first ∷ others_in before.formation before.first before.others.items)
-        (first ∷ xs) before.counts c.counts-self-inside.result failed)
-        (sym whole)
+    (λ xs. GoesInStep action c.args.place (before.first ∷ others_in before.formation before.first before.others.items)
+    (first ∷ xs) before.counts c.counts-self-inside.result failed)
+    (sym whole)
     (subst
-        (λ counts. GoesInStep action c.args.place (before.first ∷ others_in before.formation before.first before.others.items)
-        (first ∷ others) before.counts counts failed)
-        (sym c.counts-self-inside.ensures)
+    (λ counts. GoesInStep action c.args.place (before.first ∷ others_in before.formation before.first before.others.items)
+    (first ∷ others) before.counts counts failed)
+    (sym c.counts-self-inside.ensures)
     (step_recorded action c.args.place before.first first
-        (others_in before.formation before.first before.others.items) others begun c.restart.new.self after did.0 _ failed
+    (others_in before.formation before.first before.others.items) others begun c.restart.new.self after did.0 _ failed
     c.restart.ensures did.1 did.2 c.events-events.ensures
     (subst (λ xs. Compared action c.args.place events 2 xs others failed) stand compared))))
     c.execute_by_others.ensures.came)

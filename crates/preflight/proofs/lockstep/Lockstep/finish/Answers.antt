@@ -22,7 +22,7 @@ returns-in-Alone-clause-came g c =
     c.self.view_is
     (as_one_in_step Finish c.args.place before.formation before.counts c.finish-answer.new.sink before.first first others
     (λ events does. subst
-        (λ formation.
-        Each (Does Finish events) (before.first ∷ others_in formation before.first others) (first ∷ others_in formation first others))
-        (sym c.in-Alone.is) (does, tt))
+    (λ formation.
+    Each (Does Finish events) (before.first ∷ others_in formation before.first others) (first ∷ others_in formation first others))
+    (sym c.in-Alone.is) (does, tt))
     c.finish-answer.result c.judge.new.self c.judge.ensures.standing c.finish-answer.ensures)

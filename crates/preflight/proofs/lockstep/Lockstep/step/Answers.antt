@@ -35,13 +35,13 @@ returns-then-not-is_open-clause-came g c = elim c.if-goes_as_one.branch [
       let item = view c.args.item.now in
       let running = (subst (λ (f : Fleet). AreRunning f.machines) (sym c.self.view_is) c.requires.running).0 in
       let goes =
-          subst (λ ms. GoesAsOne before.formation before.first ms item) c.deref.ensures.value
-          (c.goes_as_one.ensures w.if-goes_as_one.true) in
+      subst (λ ms. GoesAsOne before.formation before.first ms item) c.deref.ensures.value
+      (c.goes_as_one.ensures w.if-goes_as_one.true) in
       rw (w.self-is, w.standing-is)
       (item_in_step c.items_run_on_like_printers.ensures item before.formation before.counts w.step-answer.new.sink before.first
-          w.step-answer.new.self before.others.items (c.self.invariant running) goes
+      w.step-answer.new.self before.others.items (c.self.invariant running) goes
       item refl c.args.self.now c.self.view_is c.args.place w.step-answer.result w.judge-is_open.new.self
-          w.judge-is_open.ensures.standing w.step-answer.ensures)
+      w.judge-is_open.ensures.standing w.step-answer.ensures)
   | else-goes_as_one w ↦ rw (w.self-is, w.standing-is) w.step_apart-is_open.ensures.came
 ]
 
@@ -52,13 +52,13 @@ returns-else-not-is_open-clause-came g c = elim c.if-goes_as_one.branch [
       let item = view c.args.item.now in
       let running = (subst (λ (f : Fleet). AreRunning f.machines) (sym c.self.view_is) c.requires.running).0 in
       let goes =
-          subst (λ ms. GoesAsOne before.formation before.first ms item) c.deref.ensures.value
-          (c.goes_as_one.ensures w.if-goes_as_one.true) in
+      subst (λ ms. GoesAsOne before.formation before.first ms item) c.deref.ensures.value
+      (c.goes_as_one.ensures w.if-goes_as_one.true) in
       rw (w.self-is, w.standing-is)
       (item_in_step c.items_run_on_like_printers.ensures item before.formation before.counts w.step-answer.new.sink before.first
-          w.step-answer.new.self before.others.items (c.self.invariant running) goes
+      w.step-answer.new.self before.others.items (c.self.invariant running) goes
       item refl c.args.self.now c.self.view_is c.args.place w.step-answer.result w.judge-is_open.new.self
-          w.judge-is_open.ensures.standing w.step-answer.ensures)
+      w.judge-is_open.ensures.standing w.step-answer.ensures)
   | else-goes_as_one w ↦ rw (w.self-is, w.standing-is) w.step_apart-is_open.ensures.came
 ]
 

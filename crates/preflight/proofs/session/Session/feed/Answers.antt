@@ -22,8 +22,10 @@ returns-in_err-came-clause-turns g c = λ is.
     let came = c.in_err-came.ensures (c.args.self.now, tt) _ c.loop-rest.invariant.2 in
     let total : c.self.inside.total ≡ c.args.self.now.total = ap (λ (s : SessionState). s.total) c.self.view_is in
     let ready = c.self.invariant c.in-Open.is in
-    rw (same.1, same.2) (λ turns. absurd (not_turns c.in_err-came.field-0.0 came.0.0 turns),
-    λ past. absurd (omega (arith, past, total, ready.5, c.if-piece-self.false)))
+    rw (same.1, same.2) (
+      λ turns. absurd (not_turns c.in_err-came.field-0.0 came.0.0 turns),
+      λ past. absurd (omega (arith, past, total, ready.5, c.if-piece-self.false)),
+    )
 
 pub returns-in_err-came-clause-errors : goal.returns-in_err-came-clause-errors
 returns-in_err-came-clause-errors g c = λ is.
@@ -77,5 +79,5 @@ returns-in-Some-clause-total g c = λ is.
     let came = c.in_ok-came.ensures (mid, tt) [] (checks_on_none mid so_far.2.is_open so_far.2.open_input so_far.2.wants_more) in
     absurd (judged_not_open c.piece.new.self.standing c.in-Some.field-0
     (judged_standing mid c.piece.new.self part c.in-Some.field-0 (search rules)
-        (part_judged mid c.piece.new.self [] part c.in_ok-came.came came c.in-Some.field-0 c.in-Some.is))
-        is)
+    (part_judged mid c.piece.new.self [] part c.in_ok-came.came came c.in-Some.field-0 c.in-Some.is))
+    is)

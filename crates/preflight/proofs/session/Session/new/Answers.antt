@@ -31,7 +31,7 @@ returns-in_ok-machines-in-len1-up-clause-none g c =
     let fleet = first_and_others c.args.fleet.now c.first-item.result c.in-len1-up.len_at_least c.first-item.is in (
       subst (λ printers. HasExecuted printers [] lexer.result (machines_of machines.machines) (counts_of machines.machines)) (sym fleet)
           (executed_none others lexer.result (machines_of machines.machines) (counts_of machines.machines)
-              (omega arith) lexer.ensures.reads machines.ensures.machines machines.ensures.counts),
+          (omega arith) lexer.ensures.reads machines.ensures.machines machines.ensures.counts),
       refl,
     )
 

@@ -37,12 +37,12 @@ returns g c = λ first bytes goes.
       | in-Judged w ↦
           let verdict = w.in-Judged.verdict in
           rw w.result-is
-              (judged_at_end first.0 old after bytes (subst (ChecksOn first.0 bytes) (sym c.self.view_is) goes) verdict w.in-Judged.is
-              (judged_ends new.standing _ verdict w.in-Judged.is c.finish.ensures))
+          (judged_at_end first.0 old after bytes (subst (ChecksOn first.0 bytes) (sym c.self.view_is) goes) verdict w.in-Judged.is
+          (judged_ends new.standing _ verdict w.in-Judged.is c.finish.ensures))
       | in-Stopped w ↦
           let error = w.in-Stopped.error in
           rw w.result-is
-              (out_of_memory new.standing error w.in-Stopped.is (stopped_ends new.standing _ error w.in-Stopped.is c.finish.ensures))
+          (out_of_memory new.standing error w.in-Stopped.is (stopped_ends new.standing _ error w.in-Stopped.is c.finish.ensures))
     ]
 
 pub unreachable-requires : goal.unreachable-requires

@@ -76,14 +76,14 @@ returns g c = λ first bytes goes.
           (judged_by_piece first.0 old after bytes before c.fails_say.ensures piece judged.0 verdict judged.1 w.in-Judged.is
           (λ fleet base executed.
           subst
-              (λ ended. (job : List ℕ) → MayBe ended (base ++ piece) job →
-              IsExact fleet job (failing judged.0) × IsTold job (failing judged.0) new.culprit)
-              not_ended
+          (λ ended. (job : List ℕ) → MayBe ended (base ++ piece) job →
+          IsExact fleet job (failing judged.0) × IsTold job (failing judged.0) new.culprit)
+          not_ended
           (judged.2 fleet (base ++ piece)
-              (executed_fed fleet base piece here.lexer c.feed.new.self (machines_of here.machines)
-              (counts_of here.machines) reads executed))))
+          (executed_fed fleet base piece here.lexer c.feed.new.self (machines_of here.machines)
+          (counts_of here.machines) reads executed))))
       | in-Stopped w ↦
           let error = w.in-Stopped.error in
           rw w.result-is
-              (out_of_memory new.standing error w.in-Stopped.is (stopped_stands new.standing _ error w.in-Stopped.is went.goes_on))
+          (out_of_memory new.standing error w.in-Stopped.is (stopped_stands new.standing _ error w.in-Stopped.is went.goes_on))
     ]

@@ -76,8 +76,7 @@ module _ {M : Type 1} {𝓤 : Ura M} (𝓛 : Logic 𝓤) (at_mem : Memory → SP
 
   meets : (𝓣 : Tables 𝓤 H) → Meets 𝓛 ended.signature (WpFn 𝓤 H 𝓣.C 𝓣.Λ function) (closing 𝓛 ended held)
   meets 𝓣 =
-      walk_Meets 𝓛 ended stayed
-      (
+      walk_Meets 𝓛 ended stayed (
         Goes-dropped 𝓛 3 (RefOf (0 ∷ []) tt (plain (λ _. Given.the_row)) (λ _. tt)) yes (λ κs x f. refl),
         (Goes-dropped 𝓛 3 (RefOf (1 ∷ []) tt (plain (λ κs. Piece.the_row (named_lft 3 2 tt κs))) (λ _. tt)) yes (λ κs x f. refl), tt),
       ) held
