@@ -47,8 +47,8 @@ def put_files(tries: Tries) -> None:
     tries.put("printer", SAMPLE_B.encode())
 
 
-# Each form: its words, and how it tells of a job that there is no memory, and that it cannot be read
-# without what the system says.
+# Each form: its words, and how it tells of a job that there is no memory, and that it cannot be
+# read without what the system says.
 FORMS = (
     ((), "ERROR memory {}\n", "ERROR read {}\n"),
     (("--format=words", "--explain"), "{}: there is no memory to check this job (ERROR memory)\n",
@@ -82,8 +82,8 @@ def requests_refused(tries: Tries, shim: Shim) -> None:
 
 
 def is_right_without(run: Run, texts: List[bytes], others: List[List[bytes]]) -> bool:
-    """Whether a run is right that was refused a request: it stopped behind whole texts that are due,
-    or one of its jobs tells the refusal, or lacks what the system says."""
+    """Whether a run is right that was refused a request: it stopped behind whole texts that are
+    due, or one of its jobs tells the refusal, or lacks what the system says."""
     if run.status != STOPPED or run.errors not in (b"", MEMORY):
         return False
     if run.errors == MEMORY:

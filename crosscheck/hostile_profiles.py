@@ -1,4 +1,4 @@
-"""The commands on profiles, on texts and answers that are bad, on files that fail, and on limits."""
+"""The commands on profiles: texts and answers that are bad, files that fail, and limits."""
 
 import errno
 import os
@@ -29,7 +29,8 @@ def bad_texts() -> List[Tuple[str, bytes]]:
     text = SAMPLE_B.encode()
     return [("empty", b""), ("a line", b"\n"), ("binary", bytes(range(256)) * 40),
             ("zeros", bytes(1000)), ("a job", GOOD), ("UTF-16", SAMPLE_B.encode("utf-16")),
-            ("other words", "größe A4\nмакет\n".encode()), ("10 MB", text * (TEN_MEGABYTES // 4000)),
+            ("other words", "größe A4\nмакет\n".encode()),
+            ("10 MB", text * (TEN_MEGABYTES // 4000)),
             ("10 MB in one line", b"pclprofile 1\n" + b"x" * TEN_MEGABYTES),
             ("cut", text[:len(text) // 2]), ("a second text", text + text),
             ("a long line", text + b"name " + b"x" * 4000 + b"\n")]
@@ -40,7 +41,8 @@ def bad_answers() -> List[Tuple[str, bytes]]:
     return [("empty", b""), ("a line", b"\r\n"), ("binary", bytes(range(256)) * 40),
             ("zeros", bytes(1000)), ("a job", GOOD), ("other words", "ПАПКА=А4\n".encode()),
             ("web page", b"HTTP/1.1 400 Bad Request\r\n\r\n<html></html>\r\n"),
-            ("10 MB", ANSWER * (TEN_MEGABYTES // len(ANSWER))), ("10 MB of zeros", bytes(TEN_MEGABYTES))]
+            ("10 MB", ANSWER * (TEN_MEGABYTES // len(ANSWER))),
+            ("10 MB of zeros", bytes(TEN_MEGABYTES))]
 
 
 def names_its_place(name: str) -> Text:
@@ -158,8 +160,8 @@ def outs_that_are_the_profile(tries: Tries) -> None:
     with open(tries.path("printer"), "r+b") as file:
         for out in paths_of(tries, "printer", file.fileno()):
             run = tries.run(["profile", "sheet", "printer", out], pass_fds=(file.fileno(),))
-            tries.compare(out, run, REFUSED_PROFILE,
-                          "" if read_bytes(tries.path("printer")) == SAMPLE_B.encode() else "changed")
+            is_as_before = read_bytes(tries.path("printer")) == SAMPLE_B.encode()
+            tries.compare(out, run, REFUSED_PROFILE, "" if is_as_before else "changed")
     for out in ("none/out", "directory", "", "file/out", "loop"):
         tries.try_(f"sheet in {out!r}", ["profile", "sheet", "printer", out], stopped_by(WRITE))
 

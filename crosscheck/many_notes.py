@@ -53,8 +53,8 @@ def note_text(form: str, job: bytes, note: Note, explanation: bytes) -> bytes:
     if form != "json":
         return b"NOTE at=%d printer=%s %s %s\n" % (note.at, note.printer, words,
                                                    escaped(job)) + explanation
-    members = {"job": job.decode().replace("\\", "\\\\"), "printer": note.printer.decode(), "at": note.at, "code": note.code,
-               "note": note.name.decode()}
+    members = {"job": job.decode().replace("\\", "\\\\"), "printer": note.printer.decode(),
+               "at": note.at, "code": note.code, "note": note.name.decode()}
     if explanation:
         members["explanation"] = explanation.decode()
     return json.dumps(members, ensure_ascii=False, separators=(",", ":"),

@@ -39,7 +39,7 @@ class Answer:
 
 @dataclass
 class Due:
-    """The pages of a job by the lines of `pages`: the marks of each, and the line of its failure."""
+    """The pages of a job by the lines of `pages`: the marks of each, the line of its failure."""
 
     pages: List[List[str]] = field(default_factory=list)
     open_page: List[str] = field(default_factory=list)

@@ -1,11 +1,12 @@
 #!/usr/bin/env python3
 """Compares the tables of DEFINITIONS.md with the code.
 
-The table of commands has exactly the commands that the lexer knows, those of frames among them, each once; the table of macro
-controls has exactly the values and names of the code's; the table of faults and findings has exactly
-the numbers and names that the program writes, and the sentences of what the command `explain` writes
-of each; so has the table of notes; and each finding that the tables of commands and of controls name is one of these. What differs
-is printed, and the status is 1.
+The table of commands has exactly the commands that the lexer knows, those of frames among them,
+each once; the table of macro controls has exactly the values and names of the code's; the table of
+faults and findings has exactly the numbers and names that the program writes, and the sentences of
+what the command `explain` writes of each; so has the table of notes; and each finding that the
+tables of commands and of controls name is one of these. What differs is printed, and the status
+is 1.
 """
 
 import re
@@ -36,7 +37,8 @@ OTHERS = {
     "PjlLine": "`@PJL` line",
 }
 
-# The kinds of items that stand in a table of their own: of commands, of data, of the commands of frames.
+# The kinds of items that stand in a table of their own: of commands, of data, and of the commands
+# of frames.
 TABLED = ("Parameterized", "Simple", "WithData", "Initialize", "Set", "Move")
 
 # The names of the control codes, by their bytes.
@@ -76,7 +78,8 @@ def arms(path, head, pattern):
     body = body[2] or body[0]
     found = re.findall(pattern, body, re.MULTILINE)
     if not found or len(found) != body.count("Some("):
-        raise Unreadable(f"{path.relative_to(ROOT)}: the arms of `{head}` have another form than is read")
+        where = path.relative_to(ROOT)
+        raise Unreadable(f"{where}: the arms of `{head}` have another form than is read")
     return found
 
 
@@ -90,15 +93,16 @@ def commands_of_code():
         commands.append(f"`{name}` ({code})")
     for character in map(byte_of, arms(CODES, "pub fn sequence_at", single)):
         commands.append(f"`ESC {chr(character)}`")
+    pair = rf"\({literal}, {literal}\) => Some"
     groups = {
         group: chr(byte_of(first)) + chr(byte_of(second))
-        for first, second, group in arms(COMMANDS, "impl Group", rf"\({literal}, {literal}\) => Some\(Group::(\w+)\)")
+        for first, second, group in arms(COMMANDS, "impl Group", rf"{pair}\(Group::(\w+)\)")
     }
-    for group, letter in arms(COMMANDS, "impl Command", rf"\(Group::(\w+), {literal}\) => Some\(Command::\w+\)"):
-        commands.append(f"`ESC {groups.get(group, '?')}#{chr(byte_of(letter))}`")
-    for group, letter in arms(COMMANDS, "impl DataCommand", rf"\(Group::(\w+), {literal}\) => Some\(DataCommand::\w+\)"):
-        commands.append(f"`ESC {groups.get(group, '?')}#{chr(byte_of(letter))}`")
-    for first, second in arms(FRAMES, "impl Mnemonic", rf"\({literal}, {literal}\) => Some\(Mnemonic::\w+"):
+    for kind in ("Command", "DataCommand"):
+        of_group = rf"\(Group::(\w+), {literal}\) => Some\({kind}::\w+\)"
+        for group, letter in arms(COMMANDS, f"impl {kind}", of_group):
+            commands.append(f"`ESC {groups.get(group, '?')}#{chr(byte_of(letter))}`")
+    for first, second in arms(FRAMES, "impl Mnemonic", rf"{pair}\(Mnemonic::\w+"):
         commands.append(f"`{chr(byte_of(first))}{chr(byte_of(second))}`")
     return commands + [others_of_code(kind) for kind in other_kinds()]
 
@@ -115,7 +119,8 @@ def other_kinds():
 def others_of_code(kind):
     """Such a kind, as the first column of the table writes it."""
     if kind not in OTHERS:
-        raise Unreadable(f"{ITEMS.relative_to(ROOT)}: this script does not know the kind of item `{kind}`")
+        where = ITEMS.relative_to(ROOT)
+        raise Unreadable(f"{where}: this script does not know the kind of item `{kind}`")
     return OTHERS[kind]
 
 
@@ -150,20 +155,27 @@ def notes_of_code():
 def explanations_of_code():
     """What `explain` writes of each fault and finding, its number and name, and three texts; and of
     each note, with four."""
-    table = re.search(r"EXPLANATIONS: \[&str; (\d+)\] = \[\n(.*)\];", EXPLANATIONS.read_text(encoding="utf-8"), re.DOTALL)
+    code = EXPLANATIONS.read_text(encoding="utf-8")
+    table = re.search(r"EXPLANATIONS: \[&str; (\d+)\] = \[\n(.*)\];", code, re.DOTALL)
     found = re.findall(
-        r'^    "\\\n(\d+ \w+)\n  When: +(.*?)\n(?:  Printer: +(.*?)\n)?  Change: +(.*?)\n  Manual: +(.*?)\n",$',
+        r'^    "\\\n(\d+ \w+)\n'
+        r'  When: +(.*?)\n(?:  Printer: +(.*?)\n)?  Change: +(.*?)\n  Manual: +(.*?)\n",$',
         table.group(2) if table else "",
         re.MULTILINE | re.DOTALL,
     )
     if not found or len(found) != int(table.group(1)):
-        raise Unreadable(f"{EXPLANATIONS.relative_to(ROOT)} has no explanations in the form that is read")
-    plain = [(title, *(" ".join(text.replace(r'\"', '"').split()) for text in texts if text)) for title, *texts in found]
+        where = EXPLANATIONS.relative_to(ROOT)
+        raise Unreadable(f"{where} has no explanations in the form that is read")
+    plain = [
+        (title, *(" ".join(text.replace(r'\"', '"').split()) for text in texts if text))
+        for title, *texts in found
+    ]
     return [one for one in plain if len(one) == 4], [one for one in plain if len(one) == 5]
 
 
 def text_differences(explanations, rows, columns):
-    """The sentences of an explanation that are not those of its row, which has code between backticks."""
+    """The sentences of an explanation that are not those of its row, which has code between
+    backticks."""
     of_document = {row[0]: [cell.replace("`", "") for cell in row[1:]] for row in rows}
     return [
         f"the column `{column}` of {title} is not what `explain` writes of it"
@@ -191,10 +203,13 @@ def table_behind(heading):
 def differences(what, of_code, of_document):
     """What stands in one of two lists and not in the other, or twice in one."""
     lines = []
-    lines += [f"{what} {one} is in the code and not in the table" for one in of_code if one not in of_document]
-    lines += [f"{what} {one} is in the table and not in the code" for one in of_document if one not in of_code]
-    for name, ones in (("code", of_code), ("table", of_document)):
-        lines += [f"{what} {one} is in the {name} {count} times" for one, count in Counter(ones).items() if count > 1]
+    lists = (("code", of_code), ("table", of_document))
+    for (name, ones), (other_name, others) in (lists, lists[::-1]):
+        missing = [one for one in ones if one not in others]
+        lines += [f"{what} {one} is in the {name} and not in the {other_name}" for one in missing]
+    for name, ones in lists:
+        twice = [(one, count) for one, count in Counter(ones).items() if count > 1]
+        lines += [f"{what} {one} is in the {name} {count} times" for one, count in twice]
     return lines
 
 
@@ -204,7 +219,8 @@ def unknown_findings(rows, column, known):
     for row in rows:
         for finding in re.findall(r"\b\d+ [A-Z][A-Za-z]*", row[column]):
             if finding not in known:
-                lines.append(f"the row of {row[0]} names {finding}, which the program does not write")
+                named = f"the row of {row[0]} names {finding}"
+                lines.append(f"{named}, which the program does not write")
     return lines
 
 
@@ -219,13 +235,16 @@ def main():
         explanations, note_explanations = explanations_of_code()
         known = findings_of_code()
         lines = differences("the command", commands_of_code(), [row[0] for row in commands])
-        lines += differences("the macro control", controls_of_code(), [f"{row[0]} {row[1]}" for row in controls])
+        values = [f"{row[0]} {row[1]}" for row in controls]
+        lines += differences("the macro control", controls_of_code(), values)
         lines += differences("the finding", known, titles)
         lines += differences("the explanation of", [title for title, *_ in explanations], titles)
         lines += text_differences(explanations, findings, ("When", "What to change", "The manual"))
         lines += differences("the note", notes_of_code(), note_titles)
-        lines += differences("the explanation of", [title for title, *_ in note_explanations], note_titles)
-        lines += text_differences(note_explanations, notes, ("When", "What a printer may do", "What to change", "The manual"))
+        noted = [title for title, *_ in note_explanations]
+        lines += differences("the explanation of", noted, note_titles)
+        columns = ("When", "What a printer may do", "What to change", "The manual")
+        lines += text_differences(note_explanations, notes, columns)
         lines += unknown_findings(commands, 4, known)
         lines += unknown_findings(controls, 3, known)
     except (OSError, Unreadable) as fault:

@@ -3,8 +3,8 @@
     python3 docs/pictures.py PROGRAM [--write]
 
 There is a picture of the first page of each example that passes on the sample B and has a page, and
-of each page of the test sheet of a shipped profile; and no other file is there. Prints a line for each that
-differs, and at last `N compared, M differ`. The exit status is 0 where M is 0, else 1.
+of each page of the test sheet of a shipped profile; and no other file is there. Prints a line for
+each that differs, and at last `N compared, M differ`. The exit status is 0 where M is 0, else 1.
 """
 
 import subprocess
