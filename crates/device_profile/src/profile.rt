@@ -44,7 +44,10 @@ impl<A: Allocator> Model for Profile<A> {
 
 impl<A: Allocator> Profile<A> {
     ghost use Rattle.std.specs.Prelude.{◌≡◌, IsTrue, IfSome, pos, ◌≤ℤ◌};
-    ghost use Rattle.device_profile.specs.Printer.{values_of, row_at, geometry_at, has_size, has_orientation, first_panel, has_tray, IsAllowed, HasPages, HasFaces, HasTrays, CanBeSet, has_every_pair, fits_page};
+    ghost use Rattle.device_profile.specs.Printer.{values_of, row_at, geometry_at, has_size};
+    ghost use Rattle.device_profile.specs.Printer.{has_orientation, first_panel, has_tray};
+    ghost use Rattle.device_profile.specs.Printer.{IsAllowed, HasPages, HasFaces, HasTrays};
+    ghost use Rattle.device_profile.specs.Printer.{CanBeSet, has_every_pair, fits_page};
     ghost use Rattle.std.specs.Option.{option_copied};
     ghost use Rattle.device_profile.specs.Faces.{face_at, face_for, has_metrics};
 

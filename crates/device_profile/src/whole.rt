@@ -17,7 +17,8 @@ use crate::rows::{has_face, has_orientation, has_row, has_size};
 use std::alloc::Allocator;
 
 impl<A: Allocator> Draft<A> {
-    ghost use Rattle.device_profile.specs.Text.{is_complete, has_its_pages, is_duplex, has_its_choices, printer_of_draft, printer_of};
+    ghost use Rattle.device_profile.specs.Text.{is_complete, has_its_pages, is_duplex};
+    ghost use Rattle.device_profile.specs.Text.{has_its_choices, printer_of_draft, printer_of};
     ghost use Rattle.device_profile.specs.Given.{IsGiven};
 
     /// The profile that all lines give, or what is wrong with the whole.

@@ -9,7 +9,9 @@ ghost use Rattle.page_env.specs.Mark.{Shape, areas_of, characters_of, lines_of, 
 ghost use Rattle.page_env.specs.Settings.{state_at};
 ghost use Rattle.page_env.specs.declared.page.Page.{Page};
 ghost use Rattle.page_env.specs.Table.{page_end_of};
-ghost use Rattle.pcl_items.specs.declared.pcl.command.DataCommand.TheVariants.{RasterRow as RasterRowCommand};
+ghost use Rattle.pcl_items.specs.declared.pcl.command.DataCommand.TheVariants.{
+  RasterRow as RasterRowCommand,
+};
 ghost use Rattle.pcl_items.specs.declared.pcl.command.Command.TheVariants.{FillRectangle};
 ghost use Rattle.pcl_items.specs.Items.{Move, Parameterized, Text, WithData, amount, pair, view};
 ghost use Rattle.page_machine.specs.Run.{unmoved, effect_run, Conditions, byte_run, printing};

@@ -94,12 +94,14 @@ module _ (action : Action) (place : ℕ) (formation : Formation) (counts counts'
   where
     abbrev came : Option Failure → Type 0
     came failed =
-        GoesInStep action place (first ∷ others_in formation first others) (first' ∷ others_in formation first' others) counts counts' failed
+        GoesInStep action place (first ∷ others_in formation first others)
+        (first' ∷ others_in formation first' others) counts counts' failed
 
     pub as_one_in_step : {F : Type 0} (answer : Result Unit (Stop F)) (standing : Standing) → StandsAfter place 1 answer standing
         → CarriesOn counter_takes counter_refuses (carrying_of first action) (is_last action) counts counts' first first' answer
         → StandsBy standing (λ failed.
-        GoesInStep action place (first ∷ others_in formation first others) (first' ∷ others_in formation first' others) counts counts' failed)
+        GoesInStep action place (first ∷ others_in formation first others)
+        (first' ∷ others_in formation first' others) counts counts' failed)
     as_one_in_step (Ok done) standing stands h =
         open_by came standing stands (
           h.2.events,

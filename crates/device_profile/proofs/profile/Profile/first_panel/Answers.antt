@@ -31,7 +31,17 @@ first-requires-8 g c = some_allowed (printer_of c.self.inside) LineTerm c.self.i
 
 pub returns-clause-value : goal.returns-clause-value
 returns-clause-value g c =
-    rw (← c.self.view_is, c.first.ensures, c.first-2.ensures, c.first-3.ensures, c.first-4.ensures, c.first-5.ensures, c.first-6.ensures, c.first-7.ensures, c.first-8.ensures)
+    rw (
+      ← c.self.view_is,
+      c.first.ensures,
+      c.first-2.ensures,
+      c.first-3.ensures,
+      c.first-4.ensures,
+      c.first-5.ensures,
+      c.first-6.ensures,
+      c.first-7.ensures,
+      c.first-8.ensures,
+    )
 
 pub returns-clause-allowed : goal.returns-clause-allowed
 returns-clause-allowed g c =
