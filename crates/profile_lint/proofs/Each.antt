@@ -11,13 +11,14 @@ use Rattle.device_profile.specs.Printer.{has_row, has_every_pair}
 use Rattle.profile_lint.specs.Whole.{with_new, sizes_of, orientations_of}
 
 -- the numbers of rows, and that of one row more
-pub one_more : (f : Geometry → ℕ) (rows : List Geometry) (i : ℕ) (d : Geometry) (before after : List ℕ) → i < length rows
-    → before ≡ fold (λ ns row. with_new ns (f row)) [] (take i rows) → after ≡ with_new before (f (get_or rows i d))
-    → after ≡ fold (λ ns row. with_new ns (f row)) [] (take (i + 1) rows)
-one_more f rows i d before after h is_before is_after =
+pub one_more : (f : Geometry → ℕ) (rows : List Geometry) (i : ℕ) (row : Geometry) (before after : List ℕ) → i < length rows
+    → row ≡ get_or rows i row → before ≡ fold (λ ns r. with_new ns (f r)) [] (take i rows) → after ≡ with_new before (f row)
+    → after ≡ fold (λ ns r. with_new ns (f r)) [] (take (i + 1) rows)
+one_more f rows i row before after h is_row is_before is_after =
     is_after
-    ∙ ap (λ (ns : List ℕ). with_new ns (f (get_or rows i d))) is_before
-    ∙ sym (fold_more (λ ns row. with_new ns (f row)) [] rows i d h)
+    ∙ ap (λ (ns : List ℕ). with_new ns (f row)) is_before
+    ∙ ap (λ (r : Geometry). with_new (fold (λ ns r. with_new ns (f r)) [] (take i rows)) (f r)) is_row
+    ∙ sym (fold_more (λ ns r. with_new ns (f r)) [] rows i row h)
 
 twice : (a b : Bool) → (a && b) ≡ ((a && b) && a)
 twice true true = refl

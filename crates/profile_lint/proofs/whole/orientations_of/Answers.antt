@@ -3,5 +3,6 @@ use Rattle.profile_lint.proofs.whole.orientations_of.Goals as goal
 
 pub loop-row-preserved : goal.loop-row-preserved
 loop-row-preserved g c =
-    one_more (λ row. row.orientation) c.args.rows.now c.loop-row.row-index _ c.loop-row.orientations.items c.push_new.new.numbers.items
-    c.loop-row-test.true c.loop-row.invariant c.in_ok-push_new.ensures
+    one_more (λ row. row.orientation) c.args.rows.now c.loop-row.row-index c.row-item.result
+    c.loop-row.orientations.items c.push_new.new.numbers.items
+    c.loop-row-test.true c.row-item.is c.loop-row.invariant c.in_ok-push_new.ensures
