@@ -95,9 +95,15 @@ pub(crate) fn asks_for_many(found: &ArgMatches<'_>) -> bool {
     names_printers(found)
         || found.contains_id("FORM")
         || found.contains_id("MOST")
-        || ["EACH", "NOTES", "EXPLAIN", "ZERO"]
-            .iter()
-            .any(|option| found.get_flag(option))
+        || has_flag(found)
+}
+
+/// Whether an option of a check of many jobs comes that has no value.
+fn has_flag(found: &ArgMatches<'_>) -> bool {
+    found.get_flag("EACH")
+        || found.get_flag("NOTES")
+        || found.get_flag("EXPLAIN")
+        || found.get_flag("ZERO")
 }
 
 /// Whether printers come by options, so that every word is a job.
