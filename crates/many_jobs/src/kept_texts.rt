@@ -57,13 +57,12 @@ fn read_kept<T: ProfileTexts, A: Allocator + Copy>(
     ensures read { T.failed texts.new ≡ is_err_at_read result }
 {
     let text = texts.read_text(alloc, word)?;
-    match Profile::read(alloc, text.as_slice()) {
-        Ok(profile) => {
-            kept.push(text)?;
-            Ok(profile)
-        }
-        Err(fault) => Err(refusal(number, fault)),
-    }
+    let profile = match Profile::read(alloc, text.as_slice()) {
+        Ok(profile) => profile,
+        Err(fault) => return Err(refusal(number, fault)),
+    };
+    kept.push(text)?;
+    Ok(profile)
 }
 
 /// The names that texts of profiles give their printers.

@@ -4,7 +4,7 @@ use Rattle.std.proofs.Common.{length, length-append, map, refl, subst, sym, take
 use Rattle.std.specs.List.{AllByRecursion}
 use Rattle.std.specs.Prelude.{Option}
 use Rattle.std.proofs.lemmas.Grind.{flat_map-append}
-use Rattle.std.proofs.lemmas.List.{length-map, map-append, map_more, nil_from_length}
+use Rattle.std.proofs.lemmas.List.{length-map, map-append, map_more, nil_from_length, take_all}
 use Rattle.many_jobs.specs.FleetFile.{AddsFleet, AreFleets, FleetText, IsFleet, fleet_at, words_named}
 use Rattle.many_requests.specs.Checks.{ReadsFleets}
 
@@ -54,10 +54,11 @@ reads_more bytes text_of now_of paths i path start old new words words' within h
 
 -- of all paths
 pub reads_all : (text_of : List ℕ → Option (List ℕ)) (paths : List (Bor (List ℕ))) (i : ℕ) (old new words : List (List ℕ)) →
-    take i paths ≡ paths
+    length paths ≤ i
     → ReadsFleets text_of (map (λ path. path.now) (take i paths)) old new words
     → ReadsFleets text_of (map (λ path. path.now) paths) old new words
-reads_all text_of paths i old new words all reads = subst (λ ps. ReadsFleets text_of (map (λ path. path.now) ps) old new words) all reads
+reads_all text_of paths i old new words all reads =
+    subst (λ ps. ReadsFleets text_of (map (λ path. path.now) ps) old new words) (take_all i paths all) reads
 
 -- each names one word at least
 words_count : (text_of : List ℕ → Option (List ℕ)) (fleets : List FleetText) → AllByRecursion (IsFleet text_of) fleets →

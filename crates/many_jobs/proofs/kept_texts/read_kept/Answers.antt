@@ -4,15 +4,15 @@ use Rattle.named_inputs.proofs.TextFacts.{read_judged, read_refused}
 use Rattle.many_jobs.proofs.KeptFacts.{kept_more}
 use Rattle.many_jobs.proofs.kept_texts.read_kept.Goals as goal
 
-pub returns-in-Ok-clause-profile : goal.returns-in-Ok-clause-profile
-returns-in-Ok-clause-profile g c =
-    read_judged _ c.in_ok-text.text.items (Ok c.in-Ok.profile) c.in_ok-text.ensures.bytes (search rules)
-
-pub returns-in-Ok-clause-kept : goal.returns-in-Ok-clause-kept
-returns-in-Ok-clause-kept g c =
-    kept_more (λ text. text.items) c.args.kept.now.items _ c.in_ok-text.text c.in-Ok.profile c.in_ok-push.ensures.items (search rules)
-
 pub returns-clause-profile : goal.returns-clause-profile
 returns-clause-profile g c =
+    read_judged _ c.in_ok-text.text.items (Ok c.in-Ok.profile) c.in_ok-text.ensures.bytes (search rules)
+
+pub returns-clause-kept : goal.returns-clause-kept
+returns-clause-kept g c =
+    kept_more (λ text. text.items) c.args.kept.now.items _ c.in_ok-text.text c.in-Ok.profile c.in_ok-push.ensures.items (search rules)
+
+pub returns-in-Err-clause-profile : goal.returns-in-Err-clause-profile
+returns-in-Err-clause-profile g c =
     read_refused _ c.in_ok-text.text.items c.args.number c.in-Err.fault _ c.in_ok-text.ensures.bytes
     (subst (λ bytes. IsErrorOfText bytes c.in-Err.fault) c.as_slice.ensures.value c.in-Err.ensures) c.refusal.ensures
