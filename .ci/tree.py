@@ -19,6 +19,8 @@ ROOT = Path(__file__).resolve().parent.parent
 TRIED = ROOT / ".ci" / "edits_tried.txt"
 # What a copy of the tree is without.
 LEFT_OUT = ("out", "dist", ".git", "__pycache__", "must-fail")
+# So much memory, in KiB, that rt's own estimate of what checks take keeps no processor idle.
+PLENTY = 16_000_000
 # What an edit's verdict is kept for: what is stated and what is edited. Proofs may change below it.
 JUDGED = ("src", "specs", "must-fail")
 
@@ -86,15 +88,25 @@ def stands(crate: str, said: str | None) -> bool:
     return said is not None and said.split()[:2] == [checksum(crate), str(len(edits_of(crate)))]
 
 
-def lanes() -> dict[str, str]:
-    """The environment in which `rt ci` runs checks side by side: as many as RT_JOBS says, or else
-    as there are processors and as memory holds, at 3 GB each.
+def free_memory() -> int:
+    """The memory that is free, in KiB."""
+    return int(re.search(r"MemAvailable:\s+(\d+)", Path("/proc/meminfo").read_text())[1])
 
-    Without a number rt goes by an estimate of its own, by which the upper crates would wait until
-    nothing else runs."""
-    memory = int(re.search(r"MemAvailable:\s+(\d+)", Path("/proc/meminfo").read_text())[1])
-    most = max(1, min(os.cpu_count() or 1, memory // 3_000_000))
-    return os.environ | {"RT_JOBS": os.environ.get("RT_JOBS") or str(most)}
+
+def most_checks() -> int:
+    """How many checks run side by side: as many as RT_JOBS says, or else as there are processors
+    and as memory holds, at 3 GB each."""
+    said = os.environ.get("RT_JOBS")
+    return int(said) if said else max(1, min(os.cpu_count() or 1, free_memory() // 3_000_000))
+
+
+def lanes() -> dict[str, str]:
+    """The environment of `rt ci`. Where no number is told to it, it gives a crate the processors
+    that no other waits for; but by its estimate of memory, where there is not plenty, the upper
+    crates would wait until nothing else runs."""
+    if os.environ.get("RT_JOBS") or free_memory() >= PLENTY:
+        return dict(os.environ)
+    return os.environ | {"RT_JOBS": str(most_checks())}
 
 
 @contextlib.contextmanager
