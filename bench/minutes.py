@@ -7,9 +7,9 @@
 The first samples the processes of the toolchain while the words run, and prints a table on
 standard error: for each crate the processor seconds of its proof, of its tests, of its second
 proof (with which its edits begin), of its edits, and of LLVM, and the memory of its largest
-process. At the end stand the sums, the minutes by the clock, and how long the proof of
-`pcl_items` took, which tells how fast the machine was. Nothing else of the toolchain may run
-beside it. The exit status is that of the words.
+process. At the end stand the sums, the minutes by the clock, and how long the proofs of the
+language took (`pcl_items`, `pcl_lexer`, `pcl_spelling`), which tells how fast the machine was.
+Nothing else of the toolchain may run beside it. The exit status is that of the words.
 
 The second tells what the functions and lemmas of a crate take, by the times at which a check wrote
 their modules: run `rt check --jobs 1` in the crate's folder first, with its out/incremental
@@ -26,6 +26,7 @@ from pathlib import Path
 
 ROOT = Path(__file__).resolve().parent.parent
 KINDS = ("proof", "tests", "second proof", "edits", "LLVM")
+LANGUAGE = ("pcl_items", "pcl_lexer", "pcl_spelling")
 LLVM = re.compile(r"clang|ld\.lld|lld|ld-linux|rattle-link|opt|llc")
 TICKS = os.sysconf("SC_CLK_TCK")
 PAGE = os.sysconf("SC_PAGE_SIZE")
@@ -84,10 +85,11 @@ def told(seen: dict, minutes: float) -> str:
         cells = [f"{spent[crate][kind]:.0f}" if spent[crate][kind] >= 0.5 else "" for kind in KINDS]
         lines.append(f"| {crate} | {' | '.join(cells)} | {peak[crate] / 1e9:.1f} |")
     sums = [sum(it[kind] for it in spent.values()) / 60 for kind in KINDS]
+    language = sum(spent[crate]["proof"] for crate in LANGUAGE if crate in spent) / 60
     lines.append(f"| minutes | {' | '.join(f'{it:.1f}' for it in sums)} | |")
     lines.append(f"\n{sum(sums):.0f} processor minutes, {minutes:.1f} by the clock; "
                  f"largest process {max(peak.values(), default=0) / 1e9:.1f} GB; "
-                 f"proof of pcl_items {spent['pcl_items']['proof'] / 60:.1f} minutes")
+                 f"proofs of the language {language:.1f} minutes")
     return "\n".join(lines)
 
 
