@@ -7,9 +7,7 @@ mod panel_words;
 mod picture_words;
 mod profile_tool_words;
 mod profile_words;
-mod rows;
 mod text_commands;
-mod texts;
 mod words;
 
 pub use words::read_words;

@@ -2,10 +2,12 @@
 ghost use Rattle.std.specs.Prelude.{IfOk, IfSome};
 ghost use Rattle.requests.specs.Words.{NamesSome};
 
-use crate::profile_tool_words::{FROM_PJL, LINT, SHEET, SHOW, tool_request};
-use crate::rows::{CommandRow, Count, Need, OptionRow, Value, WordRow, with_commands};
-use crate::texts::texts_of;
-use clap::{ArgMatches, Command};
+use crate::profile_tool_words::{
+    from_pjl_command, lint_command, sheet_command, show_command, tool_request,
+};
+use crate::text_commands::{required, with_command};
+use clap::builder::ValueParser;
+use clap::{Arg, ArgAction, ArgMatches, Command};
 use printer_models::PanelLists;
 use requests::{NewProfile, Request};
 use std::alloc::{AllocError, Global};
@@ -69,56 +71,56 @@ Exit status:
 /// The words of the panels.
 const PANELS: &[&str] = &["fixed", "free"];
 
-const LIST: CommandRow = CommandRow {
-    name: "list",
-    about: "Lists the models of which there are profiles, and their papers",
-    explanation: LIST_EXPLANATION,
-    words: &[],
-    options: &[],
-};
+fn model<'a>(alloc: Global) -> Arg<'a> {
+    let help = "The model of the printer, by its name in 'pclcheck profile list'";
+    required(alloc, "MODEL", help)
+}
 
-const NEW: CommandRow = CommandRow {
-    name: "new",
-    about: "Writes the text of a profile of a model",
-    explanation: NEW_EXPLANATION,
-    words: &[WordRow {
-        id: "MODEL",
-        need: Need::Always,
-        count: Count::One,
-        help: "The model of the printer, by its name in 'pclcheck profile list'",
-    }],
-    options: &[
-        OptionRow {
-            id: "SIZE",
-            short: None,
-            long: "size",
-            value: Value::List("PAPER,.."),
-            excludes: None,
-            help: "The papers that are in the printer; without it letter and a4",
-        },
-        OptionRow {
-            id: "PANEL",
-            short: None,
-            long: "panel",
-            value: Value::OneOf {
-                words: PANELS,
-                usual: Some("fixed"),
-            },
-            excludes: None,
-            help: "Whether people change what the panel has",
-        },
-    ],
-};
+fn size<'a>(alloc: Global) -> Arg<'a> {
+    Arg::new(alloc, "SIZE")
+        .long("size")
+        .value_name("PAPER,..")
+        .value_delimiter(',')
+        .action(ArgAction::Set)
+        .help("The papers that are in the printer; without it letter and a4")
+}
 
-const COMMANDS: &[CommandRow] = &[LIST, NEW, LINT, SHOW, SHEET, FROM_PJL];
+fn panel<'a>(alloc: Global) -> Arg<'a> {
+    Arg::new(alloc, "PANEL")
+        .long("panel")
+        .action(ArgAction::Set)
+        .value_parser(ValueParser::Names(PANELS))
+        .default_value("fixed")
+        .help("Whether people change what the panel has")
+}
+
+fn list_command<'a>(alloc: Global) -> Command<'a> {
+    Command::new(alloc, "list")
+        .about("Lists the models of which there are profiles, and their papers")
+        .after_help(LIST_EXPLANATION)
+}
+
+fn new_command<'a>(alloc: Global) -> Result<Command<'a>, AllocError> {
+    Command::new(alloc, "new")
+        .about("Writes the text of a profile of a model")
+        .after_help(NEW_EXPLANATION)
+        .arg(model(alloc))?
+        .arg(size(alloc))?
+        .arg(panel(alloc))
+}
 
 /// The words of the command `profile`.
 pub fn profile_command<'a>(alloc: Global) -> Result<Command<'a>, AllocError> {
     let command = Command::new(alloc, "profile")
         .about("Makes, checks and shows profiles of printers")
         .after_help(PROFILE_EXPLANATION)
-        .subcommand_required(true);
-    with_commands(alloc, command, COMMANDS)
+        .subcommand_required(true)
+        .subcommand(list_command(alloc))?;
+    let command = with_command(command, new_command(alloc))?;
+    let command = with_command(command, lint_command(alloc))?;
+    let command = with_command(command, show_command(alloc))?;
+    let command = with_command(command, sheet_command(alloc))?;
+    with_command(command, from_pjl_command(alloc))
 }
 
 /// The request of the words behind `profile`.
@@ -131,20 +133,14 @@ pub fn profile_request<'a>(
     if found.subcommand_matches("list").is_some() {
         return Ok(Some(Request::ProfileList));
     }
-    match found.subcommand_matches("new") {
-        Some(found) => new_request(alloc, found),
-        None => tool_request(alloc, found),
-    }
-}
-
-/// The request of the words behind `profile new`.
-fn new_request<'a>(alloc: Global, found: &ArgMatches<'a>) -> Result<Option<Request<'a>>, AllocError>
-    ensures { IfOk result (λ request. IfSome request NamesSome) }
-{
+    let Some(found) = found.subcommand_matches("new") else {
+        return tool_request(alloc, found);
+    };
     let Some(model) = found.get_str("MODEL") else {
         return Ok(None);
     };
-    let papers = texts_of(alloc, found, "SIZE")?;
+    let mut papers = Vec::new(alloc);
+    papers.extend_from_slice(found.get_strs("SIZE").unwrap_or(&[]))?;
     Ok(Some(Request::ProfileNew(NewProfile {
         model,
         papers,
