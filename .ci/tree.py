@@ -19,7 +19,7 @@ ROOT = Path(__file__).resolve().parent.parent
 TRIED = ROOT / ".ci" / "edits_tried.txt"
 # What a copy of the tree is without.
 LEFT_OUT = ("out", "dist", ".git", "__pycache__", "must-fail")
-# So much memory, in KiB, that rt's own estimate of what checks take keeps no processor idle.
+# With so much memory free, in KiB, rt's own estimate lets large crates be proved side by side.
 PLENTY = 16_000_000
 # What an edit's verdict is kept for: what is stated and what is edited. Proofs may change below it.
 JUDGED = ("src", "specs", "must-fail")
@@ -101,9 +101,9 @@ def most_checks() -> int:
 
 
 def lanes() -> dict[str, str]:
-    """The environment of `rt ci`. Where no number is told to it, it gives a crate the processors
-    that no other waits for; but by its estimate of memory, where there is not plenty, the upper
-    crates would wait until nothing else runs."""
+    """The environment of `rt ci`. Where no number is told to it, it gives more than one processor
+    to a crate beside which no other is ready; but by its estimate of memory, where there is not
+    plenty, the upper crates would wait until nothing else runs."""
     if os.environ.get("RT_JOBS") or free_memory() >= PLENTY:
         return dict(os.environ)
     return os.environ | {"RT_JOBS": str(most_checks())}
