@@ -3,8 +3,8 @@ use Rattle.std.proofs.Common.{◌≡◌, ◌∙◌, ℕ, List, Bool, true, false
 use Rattle.pcl_items.specs.declared.fault.LexFault.{LexFault}
 use Rattle.pcl_items.specs.declared.item.Item.{Item}
 use Rattle.pcl_items.specs.Items.{view}
-use Rattle.pcl_lexer.specs.declared.lexer.Lexed.{Lexed}
-use Rattle.pcl_lexer.specs.declared.lexer.Lexed.TheVariants as answers
+use Rattle.pcl_lexer.specs.declared.lexer.lexed.Lexed.{Lexed}
+use Rattle.pcl_lexer.specs.declared.lexer.lexed.Lexed.TheVariants as answers
 use Rattle.pcl_lexer.specs.Laws.{HasOneReading}
 use Rattle.pcl_lexer.specs.Reading.{Reading}
 use Rattle.pcl_lexer.specs.Lexing.State.{LexerState}
