@@ -11,7 +11,7 @@ use crate::progress::Progress;
 use crate::sheet::{Sheet, push_drawn_end, push_drawn_mark};
 use page_env::{Finding, Mark, PageEnd};
 use page_machine::{Machine, MarkSink, Stop};
-use pcl_items::{Item, Place};
+use pcl_items::Item;
 use std::alloc::Allocator;
 use streams::{Error, Outlet, write_enough};
 
@@ -82,7 +82,6 @@ pub(crate) fn step_on<W: Outlet, A: Allocator, P: Allocator, B: Allocator + Copy
     progress: &mut Progress,
     outlet: &mut W,
     kept: &mut Vec<u8, A>,
-    place: Place,
     item: &Item<'_>,
 ) -> Result<Option<Finding>, Error>
     requires working { IsFalse (W.state outlet.old).failed }
@@ -100,7 +99,7 @@ pub(crate) fn step_on<W: Outlet, A: Allocator, P: Allocator, B: Allocator + Copy
         sheet: *sheet,
         progress: *progress,
     };
-    match machine.step(place, item, &mut text) {
+    match machine.step(item, &mut text) {
         Ok(()) => {
             *progress = text.progress;
             Ok(None)
@@ -123,7 +122,6 @@ pub(crate) fn finish_on<W: Outlet, A: Allocator, P: Allocator, B: Allocator + Co
     progress: &mut Progress,
     outlet: &mut W,
     kept: &mut Vec<u8, A>,
-    place: Place,
 ) -> Result<Option<Finding>, Error>
     requires working { IsFalse (W.state outlet.old).failed }
     requires running { machine.old.stopped ≡ false }
@@ -139,7 +137,7 @@ pub(crate) fn finish_on<W: Outlet, A: Allocator, P: Allocator, B: Allocator + Co
         sheet: *sheet,
         progress: *progress,
     };
-    match machine.finish(place, &mut text) {
+    match machine.finish(&mut text) {
         Ok(()) => {
             *progress = text.progress;
             Ok(None)

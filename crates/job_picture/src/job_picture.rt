@@ -159,7 +159,7 @@ impl<P: Allocator, B: Allocator + Copy> Renderer for JobPicture<'_, '_, P, B> {
         push_start_if_due(kept, &self.wanted, self.is_started)?;
         self.is_started = true;
         let (machine, progress) = (&mut self.machine, &mut self.progress);
-        let found = step_on(machine, &sheet, progress, outlet, kept, place, item)?;
+        let found = step_on(machine, &sheet, progress, outlet, kept, item)?;
         if self.wanted.selection.is_behind(self.progress.page) {
             return Ok(Some(Outcome::Done));
         }
@@ -182,7 +182,7 @@ impl<P: Allocator, B: Allocator + Copy> Renderer for JobPicture<'_, '_, P, B> {
         let spot = spot_of(&sheet, self.machine.page());
         push_start_if_due(kept, &self.wanted, self.is_started)?;
         let (machine, progress) = (&mut self.machine, &mut self.progress);
-        let found = finish_on(machine, &sheet, progress, outlet, kept, place)?;
+        let found = finish_on(machine, &sheet, progress, outlet, kept)?;
         if self.wanted.selection.is_behind(self.progress.page) {
             return Ok(Outcome::Done);
         }

@@ -98,7 +98,7 @@ impl<N: NoteText, P: Allocator, B: Allocator + Copy> Renderer for Notes<'_, N, P
     ) -> Result<Option<Outcome>, Error> {
         let before = state_before_at(&self.machine, &self.panel, item);
         tell_item(self.form, &mut self.told, kept, self.past, place, item)?;
-        match self.machine.step(place, item, &mut self.closing) {
+        match self.machine.step(item, &mut self.closing) {
             Ok(()) => {
                 let (page, panel) = (self.machine.page(), &self.panel);
                 tell_behind(
@@ -130,7 +130,7 @@ impl<N: NoteText, P: Allocator, B: Allocator + Copy> Renderer for Notes<'_, N, P
         place: Place,
     ) -> Result<Outcome, Error> {
         let is_short = has_rows_left(self.machine.page().raster);
-        match self.machine.finish(place, &mut self.closing) {
+        match self.machine.finish(&mut self.closing) {
             Ok(()) => {
                 let has_no_page = !self.closing.closed;
                 tell_end(

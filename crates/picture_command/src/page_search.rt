@@ -43,7 +43,6 @@ pub(crate) struct Names<'n, B: Allocator> {
 fn step_on<P: Allocator, B: Allocator + Copy>(
     machine: &mut Machine<'_, P, B>,
     counts: &mut Counts,
-    place: Place,
     item: &Item<'_>,
 ) -> Result<Option<Finding>, Error>
     requires running { machine.old.stopped ≡ false }
@@ -51,7 +50,7 @@ fn step_on<P: Allocator, B: Allocator + Copy>(
     ensures steps { Steps machine.old machine.new (view item.now) counts.old counts.new result }
     ensures err { IfErr result (λ error. error ≡ Error.Memory) }
 {
-    match machine.step(place, item, counts) {
+    match machine.step(item, counts) {
         Ok(()) => Ok(None),
         Err(Stop::Found(finding)) => Ok(Some(finding)),
         Err(Stop::Refused(never)) => match never {},
@@ -66,13 +65,12 @@ fn step_on<P: Allocator, B: Allocator + Copy>(
 fn finish_on<P: Allocator, B: Allocator + Copy>(
     machine: &mut Machine<'_, P, B>,
     counts: &mut Counts,
-    place: Place,
 ) -> Result<Option<Finding>, Error>
     requires { machine.old.stopped ≡ false }
     ensures finishes { Finishes machine.old counts.old counts.new result }
     ensures err { IfErr result (λ error. error ≡ Error.Memory) }
 {
-    match machine.finish(place, counts) {
+    match machine.finish(counts) {
         Ok(()) => Ok(None),
         Err(Stop::Found(finding)) => Ok(Some(finding)),
         Err(Stop::Refused(never)) => match never {},
@@ -252,7 +250,7 @@ impl<B: Allocator + Copy> Renderer for PageSearch<'_, '_, B> {
         place: Place,
         item: &Item<'_>,
     ) -> Result<Option<Outcome>, Error> {
-        let found = step_on(&mut self.machine, &mut self.counts, place, item)?;
+        let found = step_on(&mut self.machine, &mut self.counts, item)?;
         if self.is_over() {
             return Ok(Some(Outcome::Done));
         }
@@ -272,7 +270,7 @@ impl<B: Allocator + Copy> Renderer for PageSearch<'_, '_, B> {
         kept: &mut Vec<u8, A>,
         place: Place,
     ) -> Result<Outcome, Error> {
-        let found = finish_on(&mut self.machine, &mut self.counts, place)?;
+        let found = finish_on(&mut self.machine, &mut self.counts)?;
         if self.is_over() {
             return Ok(Outcome::Done);
         }

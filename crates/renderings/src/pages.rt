@@ -112,7 +112,7 @@ impl<P: Allocator, B: Allocator + Copy> Renderer for Pages<'_, P, B> {
             kept,
             page: self.page,
         };
-        match self.machine.step(place, item, &mut text) {
+        match self.machine.step(item, &mut text) {
             Ok(()) => {
                 self.page = text.page;
                 Ok(None)
@@ -136,7 +136,7 @@ impl<P: Allocator, B: Allocator + Copy> Renderer for Pages<'_, P, B> {
             kept,
             page: self.page,
         };
-        match self.machine.finish(place, &mut text) {
+        match self.machine.finish(&mut text) {
             Ok(()) => Ok(Outcome::Done),
             Err(Stop::Found(finding)) => Ok(fails_at(place, finding)),
             // Whether the outlet failed or memory was refused, the outlet tells.

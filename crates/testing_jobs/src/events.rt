@@ -32,7 +32,7 @@ fn step<P: Allocator, A: Allocator + Copy, S: MarkSink>(
     if item.follows(machine.mode()).is_none() {
         return Err(Fail::new(format_args!("no item of the mode at {place}")));
     }
-    Ok(machine.step(place, item, sink))
+    Ok(machine.step(item, sink))
 }
 
 /// Carries out items up to the first that does not go.
@@ -49,17 +49,16 @@ pub fn step_all<P: Allocator, A: Allocator + Copy, S: MarkSink>(
     Ok(Ok(()))
 }
 
-/// Whether all items go, and the end of the job at this place, too.
+/// Whether all items go, and the end of the job, too.
 fn all_go<S: MarkSink<Fault: Drop>>(
     alloc: Global,
     profile: &Profile,
     items: &[(Place, OwnedItem)],
-    end: Place,
     sink: &mut S,
 ) -> Result<bool, Fail> {
     let mut machine = Machine::new(alloc, profile, Start::Unknown);
     let items_go = step_all(&mut machine, items, sink)?.is_ok();
-    Ok(items_go && machine.finish(end, sink).is_ok())
+    Ok(items_go && machine.finish(sink).is_ok())
 }
 
 /// Runs the items of a job on sample B up to the first that does not go, and tells whether all go
@@ -71,5 +70,5 @@ pub fn run<S: MarkSink<Fault: Drop>>(
 ) -> Result<bool, Fail> {
     let items = items_of(alloc, job)?;
     let profile = Sample::B.profile(alloc)?;
-    all_go(alloc, &profile, &items, job.len() as u64, sink)
+    all_go(alloc, &profile, &items, sink)
 }

@@ -131,9 +131,9 @@ fn check_run(
         );
     }
     let left = sink.left;
-    assert!(rt; is_answer(machine.finish(99, &mut sink), end));
+    assert!(rt; is_answer(machine.finish(&mut sink), end));
     // A machine that is finished answers so.
-    assert!(rt; is_answer(machine.finish(99, &mut sink), Stopped));
+    assert!(rt; is_answer(machine.finish(&mut sink), Stopped));
     assert!(rt; sink.left == left);
     Ok(())
 }
