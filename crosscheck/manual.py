@@ -85,7 +85,8 @@ def compare_explanations(comparison: Comparison, program: Program) -> None:
     parts = re.split(r"(?m)^(?=\d+ \w+$)", program.output("explain"))
     comparison.same("what stands before all explanations", parts[0], "")
     codes = [part.split("\n", 1)[0].split() for part in parts[1:]]
-    comparison.same("the order of explanations", codes, sorted(codes, key=lambda one: int(one[0])))
+    numbers = [int(number) for number, _ in codes]
+    comparison.same("the order of explanations", numbers, sorted(numbers))
     for part, code in zip(parts[1:], codes):
         for word in code:
             comparison.same(f"explain {word}", program.output("explain", word), part)

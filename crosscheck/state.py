@@ -27,8 +27,8 @@ PAGE_FIELDS = ("Size", "Orientation", "Copies", "Sides", "Tray")
 RULES = (Path(__file__).resolve().parent.parent / "docs" / "DEFINITIONS.md").read_text()
 FINDINGS = {int(number): name
             for number, name in re.findall(r"(?m)^\| (\d\d) (\w+) \|", RULES)}
-CHECK_ORDER = tuple(map(int, re.search(
-    r"(?m)^At one step the first finding in the order ([\d, ]+) is reported", RULES)[1].split(", ")))
+ORDER = re.search(r"(?m)^At one step the first finding in the order ([\d, ]+) is reported", RULES)
+CHECK_ORDER = tuple(map(int, ORDER[1].split(", ")))
 
 
 class Finding(Exception):
