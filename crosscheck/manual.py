@@ -81,7 +81,7 @@ def compare_page(comparison: Comparison, program: Program, commands: List[Comman
 
 
 def compare_explanations(comparison: Comparison, program: Program) -> None:
-    """What `explain` tells of a number and of a name is what stands among all, by rising numbers."""
+    """What `explain` tells of a number or a name stands among all of them, by rising numbers."""
     parts = re.split(r"(?m)^(?=\d+ \w+$)", program.output("explain"))
     comparison.same("what stands before all explanations", parts[0], "")
     codes = [part.split("\n", 1)[0].split() for part in parts[1:]]

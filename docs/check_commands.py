@@ -5,8 +5,8 @@ The table of commands has exactly the commands that the lexer knows, those of fr
 each once; the table of macro controls has exactly the values and names of the code's; the table of
 faults and findings has exactly the numbers and names that the program writes, and the sentences of
 what the command `explain` writes of each; so has the table of notes; each finding that the tables
-of commands and of controls name is one of these; and the findings of a step are in the order of the
-definition. FINDINGS.md has a heading for each finding. What differs is printed, and the status is 1.
+of commands and of controls name is one of these; the findings of a step are in the order of the
+definition; and FINDINGS.md has a heading for each. What differs is printed, and the status is 1.
 """
 
 import re
