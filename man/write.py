@@ -4,8 +4,8 @@
     python3 man/write.py [--check]
 
 The section FINDINGS of pclcheck.1 gets an entry for each text of crates/meanings, in its words but
-for the section of HP's manual. What stands there before the first finding and before the first note
-is written by hand. With --check nothing is written, and the status is 1 where the page would change.
+for the section of HP's manual. What stands before the first finding and before the first note is
+written by hand. With --check nothing is written, and the status is 1 where the page would change.
 """
 
 import re
