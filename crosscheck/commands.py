@@ -16,7 +16,13 @@ from typing import Callable, Dict
 
 ONE = 10000
 
-FIELDS = ("Size", "Orientation", "Vmi", "Font", "Copies", "Sides", "Tray", "LineTerm")
+# The fields of the panel, in their order: the key of each, and its least and its greatest value.
+FIELDS = {
+    "Size": ("size", 1, 999), "Orientation": ("orientation", 0, 3), "Vmi": ("vmi", 0, 335),
+    "Font": ("font", 1, 255), "Copies": ("copies", 1, 32767), "Sides": ("sides", 0, 2),
+    "Tray": ("tray", 1, 255), "LineTerm": ("lineterm", 0, 3),
+}
+KEYS = {key: name for name, (key, _, _) in FIELDS.items()}
 
 
 @dataclass(frozen=True)

@@ -17,9 +17,12 @@ from samples import SAMPLES
 SECONDS = 60
 READ, WRITE, MEMORY = b"ERROR read\n", b"ERROR write\n", b"ERROR memory\n"
 STOPPED = 3
-COMMANDS = ("check", "list", "pages", "plain", "pin")
-WITH_PROFILE = ("check", "pages", "pin")
+# The commands that are tried; those that write their text on standard output, those that take a
+# PROFILE, and those that write to OUT.
+TELLING = ("list", "pages")
 WITH_OUT = ("plain", "pin")
+COMMANDS = ("check", *TELLING, *WITH_OUT)
+WITH_PROFILE = ("check", "pages", "pin")
 
 
 @dataclass(frozen=True)

@@ -7,9 +7,9 @@ from dataclasses import replace
 from typing import Callable, Dict, List, Sequence, Tuple
 
 import oracle
-from hostile_base import (COMMANDS, MEMORY, NO_FILE, READ, STOPPED, WITH_OUT, WRITE, Due, Run,
-                          Shim, Text, Tries, asked, due_of, exactly, front_of, one_of, read_bytes,
-                          stopped_by, whole)
+from hostile_base import (COMMANDS, MEMORY, NO_FILE, READ, STOPPED, TELLING, WITH_OUT, WRITE, Due,
+                          Run, Shim, Text, Tries, asked, due_of, exactly, front_of, one_of,
+                          read_bytes, stopped_by, whole)
 from hostile_jobs import GOOD, long_job, put_files
 from hostile_reads import open_for, write_all
 from samples import SAMPLE_B, with_lines
@@ -19,7 +19,7 @@ PAGE = 4096
 
 def text_parts(command: str, answer: oracle.Answer) -> Tuple[Text, Text]:
     """Fronts of what is due on standard output and in OUT."""
-    output = front_of(answer.output if command in ("list", "pages") else b"")
+    output = front_of(answer.output if command in TELLING else b"")
     if answer.written is None:
         return output, NO_FILE
     return output, Text("no OUT, or a front of what is due", lambda found: found is None

@@ -10,9 +10,9 @@ import time
 from dataclasses import replace
 from typing import Callable, Iterable, List
 
-from hostile_base import (COMMANDS, NO_FILE, NOTHING, READ, SECONDS, WITH_OUT, WITH_PROFILE,
-                          Due, Run, Shim, Tries, asked, due_of, exactly, front_of, one_of,
-                          stopped_by, text_of, whole)
+from hostile_base import (COMMANDS, NOTHING, NO_FILE, READ, SECONDS, TELLING, WITH_OUT,
+                          WITH_PROFILE, Due, Run, Shim, Tries, asked, due_of, exactly, front_of,
+                          one_of, stopped_by, text_of, whole)
 from hostile_jobs import (BAD, FAULT, GOOD, UNPINNABLE, cuts, decided, long_job, put_files,
                           told_before)
 from samples import SAMPLE_B
@@ -37,7 +37,7 @@ def job_reads_that_fail(tries: Tries, shim: Shim) -> None:
     frame = job.index(b"PW0.5") + 3
     for command in COMMANDS:
         answer = whole(command, job)
-        due = stopped_by(READ, front_of(answer.output if command in ("list", "pages") else b""),
+        due = stopped_by(READ, front_of(answer.output if command in TELLING else b""),
                          front_of(answer.written) if command in WITH_OUT else NO_FILE)
         shim.try_(f"{command}, EIO in a frame", asked(command, "job"), due,
                   read="job", at=frame, errno=errno.EIO)
@@ -232,7 +232,7 @@ def told_as_it_comes(tries: Tries) -> None:
     tries.kind = "a slow JOB is told"
     job = long_job()
     tries.remove("out")
-    for command in ("list", "pages"):
+    for command in TELLING:
         for count in (4096, 5000):
             due = told_before(command, job, count).output
             process = tries.start(asked(command, "fifo"))

@@ -5,8 +5,8 @@ import os
 from dataclasses import dataclass, replace
 from typing import Callable, List, Tuple
 
-from hostile_base import (COMMANDS, NO_FILE, NOTHING, READ, SOME, STOPPED, WITH_OUT, WRITE, Due,
-                          Shim, Tries, asked, due_of, exactly, front_of_length, read_bytes,
+from hostile_base import (COMMANDS, NOTHING, NO_FILE, READ, SOME, STOPPED, TELLING, WITH_OUT, WRITE,
+                          Due, Shim, Tries, asked, due_of, exactly, front_of_length, read_bytes,
                           stopped_by, whole)
 from hostile_jobs import BAD, GOOD, LONGER, UNPINNABLE, long_job, put_files
 from hostile_reads import pieces_of, through_fifo
@@ -128,7 +128,7 @@ def streams_without_reader(tries: Tries) -> None:
         tries.try_(f"{situation.name}, errors", situation.words,
                    on_streams(situation, True, False), stderr=gone)
         os.close(gone)
-    for command in ("list", "pages"):
+    for command in TELLING:
         process = tries.start(asked(command, "longer"))
         front = os.read(process.stdout.fileno(), 100)
         process.stdout.close()
@@ -142,7 +142,7 @@ def a_stream_that_does_not_wait(tries: Tries) -> None:
     """A full pipe that refuses what it has no room for: a failed write, and a front."""
     tries.kind = "pipes that do not wait"
     tries.remove("out")
-    for command in ("list", "pages"):
+    for command in TELLING:
         reader, writer = os.pipe()
         os.set_blocking(writer, False)
         run = tries.run(asked(command, "longer"), stdout=writer)

@@ -12,6 +12,7 @@ from random import Random
 from typing import Dict, List, Optional, Tuple
 
 import oracle
+from commands import FIELDS
 from edges import Edges
 from examples import TABLES, profile_text, unescape
 from items import FRAME, PCL, PJL, canon, spell_size
@@ -24,7 +25,6 @@ from state import PAGE_FIELDS, Level, State, default_settings
 # How often a piece that ends in a finding is kept, by the finding's number.
 KEPT = {12: 0.1, 13: 0.06, 10: 0.03, 14: 0.03, 15: 0.05, 17: 0.05, 25: 0.04, 33: 0.05}
 KEPT_ELSE = 0.2
-OPTION_OF_FIELD = {field: option for option, field in oracle.FIELD_OF_OPTION.items()}
 
 
 @dataclass
@@ -415,7 +415,7 @@ def panel_words(named: Dict[str, int]) -> str:
     words = []
     for name, value in named.items():
         shown = spell_size(value) if name == "Vmi" else str(value)
-        words.append(f"{OPTION_OF_FIELD[name]}={shown}")
+        words.append(f"{FIELDS[name][0]}={shown}")
     return ",".join(words)
 
 

@@ -3,11 +3,11 @@
     python3 crosscheck/manual.py PROGRAM
 
 man/pclcheck.1 has each command, argument, option, exit status and line of each help in the same
-words, each finding of `explain`, and no other option; man/pclcheck-profile.5 has what
-manual_profile.py says; each file in completions/ offers each command and option, the fixed values
-of options, and no other; debian/changelog and CHANGELOG.md begin with the program's version. Needs
-bash. Prints a line for each that differs, and at last `N compared, M differ`. The exit status is 0
-where M is 0, else 1.
+words, each finding of `explain`, and no other option; `explain` tells of each number and each name
+what it tells of it among all; man/pclcheck-profile.5 has what manual_profile.py says; each file in
+completions/ offers each command and option, the fixed values of options, and no other;
+debian/changelog and CHANGELOG.md begin with the program's version. Needs bash. Prints a line for
+each that differs, and at last `N compared, M differ`. The exit status is 0 where M is 0, else 1.
 """
 
 import re
@@ -80,6 +80,18 @@ def compare_page(comparison: Comparison, program: Program, commands: List[Comman
     compare_mentions(comparison, text, commands)
 
 
+def compare_explanations(comparison: Comparison, program: Program) -> None:
+    """What `explain` tells of a number or a name stands among all of them, by rising numbers."""
+    parts = re.split(r"(?m)^(?=\d+ \w+$)", program.output("explain"))
+    comparison.same("what stands before all explanations", parts[0], "")
+    codes = [part.split("\n", 1)[0].split() for part in parts[1:]]
+    numbers = [int(number) for number, _ in codes]
+    comparison.same("the order of explanations", numbers, sorted(numbers))
+    for part, code in zip(parts[1:], codes):
+        for word in code:
+            comparison.same(f"explain {word}", program.output("explain", word), part)
+
+
 def compare_mentions(comparison: Comparison, text: str, commands: List[Command]) -> None:
     """Each long option that the page names somewhere is one of the program's."""
     known = {way for command in commands for way in command.short_and_long()}
@@ -142,6 +154,7 @@ def main(words: List[str]) -> int:
     comparison, program = Comparison(), Program(words[0])
     commands = list(program.commands())
     compare_page(comparison, program, commands)
+    compare_explanations(comparison, program)
     compare_profile_page(comparison, program, PROFILE_PAGE)
     compare_completions(comparison, program, commands)
     compare_papers(comparison, program)

@@ -10,10 +10,6 @@ from printer_profile import Profile, ProfileFault, read_profile
 from state import Finding
 
 PASS, FAILED, BAD_WORDS = 0, 1, 2
-FIELD_OF_OPTION = {
-    "size": "Size", "orientation": "Orientation", "vmi": "Vmi", "font": "Font",
-    "copies": "Copies", "sides": "Sides", "tray": "Tray", "lineterm": "LineTerm",
-}
 
 
 @dataclass

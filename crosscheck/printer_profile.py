@@ -12,11 +12,8 @@ LARGEST_LENGTH = 720000
 MOST_ROWS = 64
 MOST_VALUES = 16
 
-LIST_KEYS = {
-    "size": ("Size", 1, 999), "orientation": ("Orientation", 0, 3), "vmi": ("Vmi", 0, 335),
-    "font": ("Font", 1, 255), "copies": ("Copies", 1, 32767), "sides": ("Sides", 0, 2),
-    "tray": ("Tray", 1, 255), "lineterm": ("LineTerm", 0, 3), "trays": ("trays", 1, 255),
-}
+LIST_KEYS = {key: (name, least, most) for name, (key, least, most) in FIELDS.items()}
+LIST_KEYS["trays"] = ("trays", 1, 255)
 NUMBER_KEYS = {"duplex": 1, "depth": 8, "memory": 1048576}
 ROW_KEYS = ("geometry", "face")
 

@@ -5,9 +5,8 @@ from dataclasses import dataclass, field
 from random import Random
 from typing import Dict, List, Tuple
 
+from commands import KEYS
 from samples import SAMPLES
-
-LISTS = ("size", "orientation", "vmi", "font", "copies", "sides", "tray", "lineterm")
 
 
 @dataclass
@@ -147,7 +146,7 @@ def is_sound(draft: Draft) -> bool:
 
 def write_draft(random: Random, draft: Draft) -> bytes:
     """The text, in any order of lines, at times with odd spaces and line ends."""
-    keys = list(LISTS) if draft.version == 2 else list(LISTS)[:-1]
+    keys = list(KEYS) if draft.version == 2 else list(KEYS)[:-1]
     lines = [f"{key} {' '.join(draft.lists[key])}" for key in keys]
     lines += [f"name {draft.name}", f"trays {' '.join(map(str, draft.trays))}",
               f"duplex {draft.duplex}", f"depth {draft.depth}", f"memory {draft.memory}"]

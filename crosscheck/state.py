@@ -3,9 +3,12 @@
 Lengths are in ticks of 1/36,576,000,000 inch, so that every unit is a whole number.
 """
 
+import re
 from dataclasses import dataclass, field
+from pathlib import Path
 from typing import Dict, FrozenSet, List, Optional, Tuple
 
+from commands import FIELDS
 from printer_profile import FontRequest, Profile
 
 INCH = 36_576_000_000
@@ -20,18 +23,12 @@ TEN_THOUSAND = 10000
 FONT_PARTS = ("symbol_set", "spacing", "pitch", "height", "style", "weight", "typeface")
 PAGE_FIELDS = ("Size", "Orientation", "Copies", "Sides", "Tray")
 
-FINDINGS = {
-    10: "BadValue", 11: "NotOnDevice", 12: "Unset", 13: "NoFont", 14: "NoGlyph",
-    15: "OffPage", 16: "PastRightMargin", 17: "NotPrintable", 18: "StackFull",
-    19: "StackEmpty", 20: "NoMacro", 21: "MacroDepth", 22: "MacroMemory", 23: "InMacro",
-    24: "DefinitionOpen", 25: "RasterNotStarted", 26: "RasterLocked", 27: "RasterTooBig",
-    28: "NoPen", 29: "OutsideFrame", 30: "EmptyRectangle", 31: "Inexact",
-    32: "MarginIgnored", 33: "Differs", 34: "RotatedRaster", 35: "Unpinnable",
-}
-
-# The checks of one step are made in this order.
-CHECK_ORDER = (24, 10, 11, 18, 19, 20, 21, 22, 23, 25, 26, 27, 28, 30, 12, 13, 14, 31, 34,
-               15, 16, 17, 29, 32)
+# The rules that are read here, with the names of findings and the order of the checks of one step.
+RULES = (Path(__file__).resolve().parent.parent / "docs" / "DEFINITIONS.md").read_text()
+FINDINGS = {int(number): name
+            for number, name in re.findall(r"(?m)^\| (\d\d) (\w+) \|", RULES)}
+ORDER = re.search(r"(?m)^At one step the first finding in the order ([\d, ]+) is reported", RULES)
+CHECK_ORDER = tuple(map(int, ORDER[1].split(", ")))
 
 
 class Finding(Exception):
@@ -119,7 +116,7 @@ class Level:
 
 
 def default_settings(panel: Dict[str, int]) -> Settings:
-    values = {name: panel[name] for name in PAGE_FIELDS + ("LineTerm",)}
+    values = {name: panel[name] for name in FIELDS if name not in ("Vmi", "Font")}
     return Settings(values=values, vmi=scaled(VMI_UNIT, panel["Vmi"]), font={})
 
 

@@ -4,9 +4,9 @@
 The table of commands has exactly the commands that the lexer knows, those of frames among them,
 each once; the table of macro controls has exactly the values and names of the code's; the table of
 faults and findings has exactly the numbers and names that the program writes, and the sentences of
-what the command `explain` writes of each; so has the table of notes; and each finding that the
-tables of commands and of controls name is one of these. What differs is printed, and the status
-is 1.
+what the command `explain` writes of each; so has the table of notes; each finding that the tables
+of commands and of controls name is one of these; the findings of a step are in the order of the
+definition; and FINDINGS.md has a heading for each. What differs is printed, and the status is 1.
 """
 
 import re
@@ -23,6 +23,8 @@ ITEMS = ROOT / "crates" / "pcl_items" / "src" / "item.rt"
 MACROS = ROOT / "crates" / "page_env" / "src" / "macros.rt"
 NUMBERS = [ROOT / "crates" / "verdict" / "src" / name for name in ("numbers.rt", "reason.rt")]
 NAMES = ROOT / "crates" / "line_words" / "src" / "words.rt"
+ORDER = ROOT / "crates" / "page_env" / "specs" / "Order.antt"
+CAUSES = ROOT / "docs" / "FINDINGS.md"
 NOTES = ROOT / "crates" / "notes" / "src" / "note.rt"
 EXPLANATIONS = ROOT / "crates" / "meanings" / "src" / "explanations.rt"
 
@@ -213,6 +215,29 @@ def differences(what, of_code, of_document):
     return lines
 
 
+def order_differences():
+    """Whether the document names the order of the findings of a step that the definition has."""
+    text = ORDER.read_text(encoding="utf-8")
+    found = re.search(r"^report_order =\n(.*?)\[\]", text, re.MULTILINE | re.DOTALL)
+    told = re.search(
+        r"^At one step the first finding in the order ([\d, ]+) is reported",
+        DOCUMENT.read_text(encoding="utf-8"),
+        re.MULTILINE,
+    )
+    if found is None or told is None:
+        raise Unreadable("the order of findings does not stand as it is read")
+    if re.findall(r"\d+", found[1]) != told[1].split(", "):
+        return [f"the order of findings is not that of {ORDER.relative_to(ROOT)}"]
+    return []
+
+
+def heading_differences(known):
+    """The findings that have no heading in FINDINGS.md, and headings of others."""
+    text = CAUSES.read_text(encoding="utf-8")
+    headings = re.findall(r"^## (\d+ \w+)$", text, re.MULTILINE)
+    return [f"FINDINGS.md: {line}" for line in differences("the heading of", known, headings)]
+
+
 def unknown_findings(rows, column, known):
     """The findings that rows name in this column and that the program does not write."""
     lines = []
@@ -238,6 +263,8 @@ def main():
         values = [f"{row[0]} {row[1]}" for row in controls]
         lines += differences("the macro control", controls_of_code(), values)
         lines += differences("the finding", known, titles)
+        lines += heading_differences(known)
+        lines += order_differences()
         lines += differences("the explanation of", [title for title, *_ in explanations], titles)
         lines += text_differences(explanations, findings, ("When", "What to change", "The manual"))
         lines += differences("the note", notes_of_code(), note_titles)
