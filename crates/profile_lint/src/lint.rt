@@ -1,9 +1,10 @@
 //! The text of all that is found in the texts of profiles.
-ghost use Rattle.std.specs.Prelude.{◌≡◌, ◌++◌, flat_map, map, IfOk, OnOk};
+ghost use Rattle.std.specs.Prelude.{◌≡◌, ◌++◌, ◌∷◌, [], flat_map, map, IfOk, OnOk};
 ghost use Rattle.profile_lint.specs.FaultLines.{fault_line};
 ghost use Rattle.profile_lint.specs.HintLines.{hint_line};
 ghost use Rattle.profile_lint.specs.Lint.{difference_text, faults_text, findings_text, have_faults};
-ghost use Rattle.profile_lint.specs.Lint.{lint_text, sound_printers, sound_words, word_at};
+ghost use Rattle.profile_lint.specs.Lint.{hints_text, lint_text, sound_printers, sound_words};
+ghost use Rattle.profile_lint.specs.Lint.{word_at};
 
 use crate::difference::{first_difference, push_difference};
 use crate::fault::TextFault;
@@ -50,9 +51,22 @@ pub fn faults_text<A: Allocator + Copy>(
     ensures { IfOk result (λ lines. lines.items ≡ faults_text word.now text.now) }
 {
     let mut lines = Vec::new(alloc);
-    let found = faults(alloc, text)?;
-    push_faults(&mut lines, word, text, &found)?;
+    push_faults_text(&mut lines, alloc, word, text)?;
     Ok(lines)
+}
+
+/// Appends a line for each fault of a text.
+fn push_faults_text<A: Allocator + Copy>(
+    lines: &mut Vec<u8, A>,
+    alloc: A,
+    word: &[u8],
+    text: &[u8],
+) -> Result<(), AllocError>
+    ensures { OnOk result
+        (lines.new.items ≡ lines.old.items ++ faults_text word.now text.now) }
+{
+    let found = faults(alloc, text)?;
+    push_faults(lines, word, text, &found)
 }
 
 /// Appends a line for each of these faults of a text.
@@ -86,6 +100,42 @@ fn push_hints<A: Allocator>(
     Ok(())
 }
 
+/// Appends a line for each hint on a profile.
+fn push_hints_text<A: Allocator + Copy>(
+    lines: &mut Vec<u8, A>,
+    alloc: A,
+    word: &[u8],
+    profile: &Profile<A>,
+) -> Result<(), AllocError>
+    ensures { OnOk result
+        (lines.new.items ≡ lines.old.items ++ hints_text word.now profile.now) }
+{
+    let found = hints(alloc, profile)?;
+    push_hints(lines, word, &found)
+}
+
+/// Appends the hints on a profile, and its word and itself behind others.
+fn take_sound<'w, A: Allocator + Copy>(
+    alloc: A,
+    lines: &mut Vec<u8, A>,
+    words: &mut Vec<&'w str, A>,
+    profiles: &mut Vec<Profile<A>, A>,
+    word: &'w str,
+    profile: Profile<A>,
+) -> Result<(), AllocError>
+    ensures lines { OnOk result
+        (lines.new.items ≡ lines.old.items ++ hints_text word.now profile) }
+    ensures words { OnOk result (map (λ word. word.now) words.new.items ≡
+        map (λ word. word.now) words.old.items ++ word.now ∷ []) }
+    ensures profiles { OnOk result
+        (profiles.new.items ≡ profiles.old.items ++ profile ∷ []) }
+{
+    push_hints_text(lines, alloc, word.as_bytes(), &profile)?;
+    words.push(word)?;
+    profiles.push(profile)?;
+    Ok(())
+}
+
 /// Appends what is found in a text; and where it has no fault, its word and its profile behind
 /// others.
 #[tactic(auto, unfolding(crate::specs::Lint::findings_text, crate::specs::Lint::sound_printers, crate::specs::Lint::sound_words))]
@@ -105,15 +155,8 @@ fn take_findings<'w, A: Allocator + Copy>(
 {
     let (word, text) = (named.word, named.text.as_slice());
     match Profile::read(alloc, text) {
-        Ok(profile) => {
-            push_hints(lines, word.as_bytes(), &hints(alloc, &profile)?)?;
-            words.push(word)?;
-            profiles.push(profile)?;
-            Ok(())
-        }
-        Err(ProfileFault::Fault { .. }) => {
-            push_faults(lines, word.as_bytes(), text, &faults(alloc, text)?)
-        }
+        Ok(profile) => take_sound(alloc, lines, words, profiles, word, profile),
+        Err(ProfileFault::Fault { .. }) => push_faults_text(lines, alloc, word.as_bytes(), text),
         Err(ProfileFault::Memory) => Err(AllocError),
     }
 }
