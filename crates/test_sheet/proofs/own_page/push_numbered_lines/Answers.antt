@@ -4,5 +4,6 @@ use Rattle.test_sheet.proofs.own_page.push_numbered_lines.Goals as goal
 
 pub loop-number-preserved : goal.loop-number-preserved
 loop-number-preserved g c =
-    further (numbered_line c.args.area c.args.face.now c.args.termination) c.args.numbers.now c.loop-number.number-index _ c.args.text.now.items c.loop-number.text.items c.push_numbered_line.new.text.items
+    further (numbered_line c.args.area c.args.face.now c.args.termination) c.args.numbers.now c.loop-number.number-index _
+    c.args.text.now.items c.loop-number.text.items c.push_numbered_line.new.text.items
     c.loop-number-test.true c.loop-number.invariant c.in_ok-push_numbered_line.ensures
