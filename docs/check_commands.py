@@ -21,7 +21,8 @@ COMMANDS = ROOT / "crates" / "pcl_items" / "src" / "pcl" / "command.rt"
 FRAMES = ROOT / "crates" / "pcl_items" / "src" / "frame.rt"
 ITEMS = ROOT / "crates" / "pcl_items" / "src" / "item.rt"
 MACROS = ROOT / "crates" / "page_env" / "src" / "macros.rt"
-NUMBERS = [ROOT / "crates" / "verdict" / "src" / name for name in ("numbers.rt", "reason.rt")]
+NUMBERS = [ROOT / "crates" / "page_env" / "src" / "finding.rt",
+           *(ROOT / "crates" / "verdict" / "src" / name for name in ("numbers.rt", "reason.rt"))]
 NAMES = ROOT / "crates" / "line_words" / "src" / "words.rt"
 ORDER = ROOT / "crates" / "page_env" / "specs" / "Order.antt"
 CAUSES = ROOT / "docs" / "FINDINGS.md"

@@ -3,7 +3,7 @@ ghost use Rattle.std.specs.Prelude.{◌≡◌};
 ghost use Rattle.verdict.specs.Limits.{is_many_items};
 ghost use Rattle.verdict.specs.Numbers.{reason_number};
 
-use crate::numbers::{cause_number, number_of};
+use crate::numbers::cause_number;
 use page_env::Finding;
 use pcl_items::LexCause;
 
@@ -27,7 +27,7 @@ impl Reason {
     {
         match self {
             Reason::Fault(cause) => cause_number(cause),
-            Reason::Finding(finding) => number_of(finding),
+            Reason::Finding(finding) => finding.number(),
             Reason::Differs => 33,
             Reason::Unpinnable => 35,
         }
