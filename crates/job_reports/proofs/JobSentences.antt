@@ -16,7 +16,7 @@ use Rattle.pcl_items.specs.declared.number.Sign.{Sign}
 use Rattle.pcl_items.specs.declared.number.Sign.TheVariants.{Absent, Plus, Minus}
 use Rattle.pcl_items.specs.declared.item.SimpleItem.{SimpleItem}
 use Rattle.pcl_items.specs.declared.item.SimpleItem.TheVariants as simple
-use Rattle.pcl_items.specs.Spellings.Canon.{amount_text, canon, magnitude_text}
+use Rattle.pcl_items.specs.Spellings.Canon.{amount_text, canon}
 use Rattle.pcl_items.specs.Escapes.Commands.{character_of, introducer_of, letter_of}
 use Rattle.pcl_items.specs.Items.{amount, simple_view}
 use Rattle.pcl_items.specs.Escapes.ValueField.{sign_text}
@@ -36,6 +36,7 @@ use Rattle.line_words.specs.Figures.{escaped_byte, named}
 use Rattle.device_profile.specs.Field.{field_name}
 use Rattle.line_words.specs.Reason.{bare_cause_name, bare_finding_name, bare_name, brackets, name_words, reason_words, short_cause}
 use Rattle.line_words.specs.Reason.{short_finding, short_reason, named_byte}
+use Rattle.shown_bytes.specs.Decimals.{magnitude_text}
 use Rattle.shown_bytes.specs.Shown.{shown, shown_byte}
 use Rattle.preflight.specs.declared.culprit.Culprit.{Culprit}
 use Rattle.preflight.specs.declared.culprit.Culprit.TheVariants.{Text, Simple, WithData, Line}

@@ -13,12 +13,13 @@ use Rattle.pcl_items.specs.declared.pcl.command.Group.{Group}
 use Rattle.pcl_items.specs.declared.pcl.command.Group.TheVariants.{RasterData}
 use Rattle.pcl_items.specs.declared.number.Sign.{Sign}
 use Rattle.pcl_items.specs.declared.number.Sign.TheVariants.{Absent, Plus, Minus}
-use Rattle.pcl_items.specs.Spellings.Canon.{amount_text, before, canon, four_decimals, magnitude_text, with_point, without_zeros}
+use Rattle.pcl_items.specs.Spellings.Canon.{amount_text, canon}
 use Rattle.pcl_items.specs.Escapes.Commands.{introducer_of, character_of, group_of, letter_of}
 use Rattle.pcl_items.specs.Items.{Parameterized, at}
 use Rattle.pcl_items.specs.Escapes.Value.{Amount, most}
 use Rattle.pcl_items.specs.Escapes.ValueField.{sign_text}
 use Rattle.pcl_spelling.proofs.Escapes.WholeNumbers.{no_decimals}
+use Rattle.shown_bytes.specs.Decimals.{before, four_decimals, magnitude_text, with_point, without_zeros}
 use Rattle.line_words.specs.Figures.{escaped_byte}
 use Rattle.line_words.specs.ItemLines.{item_line}
 

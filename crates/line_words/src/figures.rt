@@ -1,12 +1,13 @@
 //! Numbers and bytes as they stand in lines of text.
-ghost use Rattle.std.specs.Prelude.{◌≡◌, ◌++◌, ◌+◌, ◌%◌, ◌<◌, OnOk, decimal, flat_map};
+ghost use Rattle.std.specs.Prelude.{◌≡◌, ◌++◌, OnOk, decimal, flat_map};
 ghost use Rattle.line_words.specs.Figures.{escaped_byte, length_word, named, number_word};
 ghost use Rattle.line_words.specs.Figures.{signed_word, value_word};
+ghost use Rattle.shown_bytes.specs.Decimals.{amount};
 ghost use Rattle.shown_bytes.specs.Shown.{hex_byte};
 
 use itoa::Buffer;
 use pcl_spelling::spell_magnitude;
-use shown_bytes::{hex_byte, push_number};
+use shown_bytes::{hex_byte, push_minus, push_number, push_shown_from};
 use std::alloc::{AllocError, Allocator};
 use tick_length::Length;
 
@@ -49,25 +50,31 @@ pub fn push_length_word<A: Allocator>(
     push_ticks_word(text, length.ticks())
 }
 
+/// Appends a value of so many ten-thousandths.
+#[tactic(auto, unfolding(shown_bytes::specs::Decimals::amount))]
+fn push_value<A: Allocator>(text: &mut Vec<u8, A>, n: u32) -> Result<(), AllocError>
+    ensures { OnOk result (text.new.items ≡ text.old.items ++ amount n) }
+{
+    spell_magnitude(n, text)
+}
+
 /// Appends a space and a value of so many ten-thousandths.
 #[tactic(auto, unfolding(crate::specs::Figures::value_word))]
 pub fn push_value_word<A: Allocator>(text: &mut Vec<u8, A>, n: u32) -> Result<(), AllocError>
     ensures { OnOk result (text.new.items ≡ text.old.items ++ value_word n) }
 {
     text.push(b' ')?;
-    spell_magnitude(n, text)
+    push_value(text, n)
 }
 
 /// Appends a space and a value of so many ten-thousandths, which may be less than 0.
-#[tactic(auto, unfolding(crate::specs::Figures::signed_word, crate::specs::Figures::value_word))]
+#[tactic(auto, unfolding(crate::specs::Figures::signed_word))]
 pub fn push_signed_word<A: Allocator>(text: &mut Vec<u8, A>, n: i32) -> Result<(), AllocError>
     ensures { OnOk result (text.new.items ≡ text.old.items ++ signed_word n) }
 {
     text.push(b' ')?;
-    if n < 0 {
-        text.push(b'-')?;
-    }
-    spell_magnitude(n.unsigned_abs(), text)
+    push_minus(text, n)?;
+    push_value(text, n.unsigned_abs())
 }
 
 /// Appends bytes as two hexadecimal digits each.
@@ -80,25 +87,9 @@ pub fn push_hex<A: Allocator>(text: &mut Vec<u8, A>, bytes: &[u8]) -> Result<(),
     Ok(())
 }
 
-/// Appends a byte as itself; one that shows nothing, or a backslash, as `\x` and two hexadecimal
-/// digits.
-fn push_escaped_byte<A: Allocator>(text: &mut Vec<u8, A>, byte: u8) -> Result<(), AllocError>
-    ensures { OnOk result (text.new.items ≡ text.old.items ++ escaped_byte byte) }
-{
-    if 33 <= byte && byte <= 126 && byte != b'\\' {
-        text.push(byte)?;
-        return Ok(());
-    }
-    text.extend_from_slice(b"\\x")?;
-    text.extend_from_slice(&hex_byte(byte))
-}
-
-/// Appends bytes, and those that show nothing by their digits.
+/// Appends bytes, and those that show nothing, and blanks and backslashes, by their digits.
 pub fn push_escaped<A: Allocator>(text: &mut Vec<u8, A>, bytes: &[u8]) -> Result<(), AllocError>
     ensures { OnOk result (text.new.items ≡ text.old.items ++ flat_map escaped_byte bytes.now) }
 {
-    for byte in bytes {
-        push_escaped_byte(text, *byte)?;
-    }
-    Ok(())
+    push_shown_from(text, b'!', bytes)
 }

@@ -50,7 +50,7 @@ fn push_command<A: Allocator>(
     ensures { OnOk result (text.new.items ≡
         text.old.items ++ item_line (at place (Entry.Parameterized command (amount number)))) }
 {
-    if number.ten_thousandths % 10_000 == 0 {
+    if number.is_whole() {
         return push_whole_command(text, place, command, number);
     }
     push_front(text, place, command.group())?;
@@ -73,7 +73,7 @@ fn push_whole_command<A: Allocator>(
     let mut line = [0; 40];
     line[38] = command.letter();
     line[39] = b'\n';
-    let start = write_digits(u64::from(number.ten_thousandths / 10_000), &mut line, 38);
+    let start = write_digits(u64::from(number.whole_part()), &mut line, 38);
     let start = write_sign(number.sign, &mut line, start);
     let group = command.group();
     let (first, second) = (group.introducer(), group.character());

@@ -1,10 +1,10 @@
 -- The notes that hold by the items of a job alone, wherever these stand: in the job, or in a macro definition.
-use Rattle.std.specs.Prelude.{ℕ, ◌-◌, ◌%◌, ◌==◌, Bool, true, false, not, ◌&&◌, ◌||◌, List, [], ◌∷◌, ◌++◌}
+use Rattle.std.specs.Prelude.{ℕ, ◌-◌, ◌==◌, Bool, true, false, not, ◌&&◌, ◌||◌, List, [], ◌∷◌, ◌++◌}
 use Rattle.std.specs.List.{list_any}
 use Rattle.pcl_items.specs.declared.pcl.command.Command.TheVariants.{HorizontalUnits, VerticalUnits, UnitOfMeasure}
 use Rattle.pcl_items.specs.declared.pcl.command.Command.TheVariants.{RasterResolution}
 use Rattle.pcl_items.specs.Items.{Entry, Placed, Text, Parameterized, PjlLine}
-use Rattle.pcl_items.specs.Escapes.Value.{Amount}
+use Rattle.pcl_items.specs.Escapes.Value.{Amount, is_whole}
 use Rattle.page_env.specs.JobControl.{is_reset}
 use Rattle.page_env.specs.Numbers.{is_minus}
 use Rattle.notes.specs.declared.note.Note.TheVariants.{OpenStart, PjlAsText, FractionOfUnit, LaterLanguage}
@@ -66,7 +66,7 @@ is_job_word before x = ends_word job_word (x ∷ before)
 
 -- decimals other than 0
 abbrev pub has_decimals : Amount → Bool
-has_decimals n = not (n.ten_thousandths % 10_000 == 0)
+has_decimals n = not (is_whole n)
 
 -- 107 FractionOfUnit: a move by PCL units, `*p#X` or `*p#Y`, with decimals
 abbrev pub is_fraction : Entry → Bool

@@ -32,7 +32,7 @@ fn ends_job_word(spelled: Spelled, item: &Item<'_>) -> bool
 fn has_decimals(n: Number) -> bool
     ensures { result ≡ has_decimals (amount n) }
 {
-    n.ten_thousandths % 10_000 != 0
+    !n.is_whole()
 }
 
 /// Whether an item is a move by PCL units with decimals.

@@ -47,7 +47,7 @@ fn sets_same_orientation(page: &Page, panel: &Panel, item: &Item<'_>) -> bool
     match item {
         Item::Simple(SimpleItem::Parameterized(Command::Orientation, n)) => {
             let orientation = page.env.fields.orientation.under(panel.orientation);
-            n.ten_thousandths / 10_000 == orientation
+            n.whole_part() == orientation
         }
         _ => false,
     }

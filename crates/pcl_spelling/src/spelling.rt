@@ -10,15 +10,12 @@ ghost use Rattle.pcl_items.specs.PjlLines.Text.{BeginsPjl};
 ghost use Rattle.pcl_items.specs.PjlLines.View.{pjl_view};
 ghost use Rattle.pcl_items.specs.PjlLines.Canon.{behind_space, canon_pjl};
 ghost use Rattle.pcl_items.specs.Spellings.Canon.{canon, IsNoPjl, data_of, amount_text};
-ghost use Rattle.pcl_items.specs.Spellings.Canon.{magnitude_text, with_point, without_zeros};
-ghost use Rattle.pcl_items.specs.Spellings.Canon.{four_decimals};
 ghost use Rattle.pcl_items.specs.Frames.Mnemonics.{letters_of};
 ghost use Rattle.pcl_items.specs.Escapes.ValueField.{sign_text};
 ghost use Rattle.pcl_spelling.specs.Spellings.Spelled.{StandsAt, NothingStands, IsSpelled};
+ghost use Rattle.shown_bytes.specs.Decimals.{four_decimals, magnitude_text, with_point};
+ghost use Rattle.shown_bytes.specs.Decimals.{without_zeros};
 
-mod decimals;
-
-use crate::spelling::decimals::{point_and_decimals, shown};
 use arrayvec::ArrayVec;
 use itoa::Buffer;
 use pcl_items::{
@@ -29,6 +26,7 @@ use pcl_lexer::{
     Context, First, FirstPjl, MOST_IN_PJL_LINE, at_pjl, begins_pjl, byte_in, first_between,
     next_ahead, parameterized_in, with_its_data,
 };
+use shown_bytes::{point_and_decimals, shown_decimals};
 use std::alloc::{AllocError, Allocator};
 
 /// The most bytes of a spelling but for data: two letters, two coordinates, a comma and a
@@ -66,7 +64,7 @@ fn append_decimals(text: &mut HeadText, n: u32)
     if n % 10_000 == 0 {
         return;
     }
-    append(text, shown(&point_and_decimals(n)));
+    append(text, shown_decimals(&point_and_decimals(n as u64)));
 }
 
 /// Appends a whole number.

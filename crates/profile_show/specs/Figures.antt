@@ -1,7 +1,6 @@
 -- Numbers and lengths as they stand in a text.
-use Rattle.std.specs.Prelude.{ℕ, suc, ℤ, pos, negsuc, unsigned_abs, ◌+◌, ◌*◌, ◌/◌, ◌==◌, if◌then◌else◌, List, [], ◌∷◌}
-use Rattle.std.specs.Prelude.{◌++◌, decimal, codes}
-use Rattle.shown_bytes.specs.Decimals.{amount, with_hundredths, with_tenth}
+use Rattle.std.specs.Prelude.{ℕ, ℤ, unsigned_abs, ◌+◌, ◌*◌, ◌/◌, ◌==◌, if◌then◌else◌, List, [], ◌++◌, decimal, codes}
+use Rattle.shown_bytes.specs.Decimals.{amount, minus, with_hundredths, with_tenth}
 use Rattle.profile_show.specs.declared.figures.LengthUnit.{LengthUnit}
 use Rattle.profile_show.specs.declared.figures.LengthUnit.TheVariants.{Millimetres, Inches, Dots}
 
@@ -9,8 +8,7 @@ use Rattle.profile_show.specs.declared.figures.LengthUnit.TheVariants.{Millimetr
 
 -- a value of so many ten-thousandths, which may be less than 0
 unfoldable pub signed_amount : ℤ → List ℕ
-signed_amount (pos n) = amount n
-signed_amount (negsuc n) = 45 ∷ amount (suc n)
+signed_amount n = minus n ++ amount (unsigned_abs n)
 
 -- how many there are of something, as `1 level` or `2 levels`
 abbrev pub counted : ℕ → List ℕ → List ℕ

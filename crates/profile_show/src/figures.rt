@@ -10,7 +10,7 @@ ghost use Rattle.profile_show.specs.Figures.{
   unit_name,
 };
 
-use shown_bytes::{push_amount, push_number, push_with_hundredths, push_with_tenth};
+use shown_bytes::{push_amount, push_minus, push_number, push_with_hundredths, push_with_tenth};
 use std::alloc::{AllocError, Allocator};
 use tick_length::Length;
 
@@ -45,9 +45,7 @@ pub(crate) fn push_signed_amount<A: Allocator>(
 ) -> Result<(), AllocError>
     ensures { OnOk result (text.new.items ≡ text.old.items ++ signed_amount n) }
 {
-    if n < 0 {
-        text.push(b'-')?;
-    }
+    push_minus(text, n)?;
     push_amount(text, u64::from(n.unsigned_abs()))
 }
 

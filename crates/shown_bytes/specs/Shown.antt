@@ -9,9 +9,13 @@ hex_digit d = if nat_lt d 10 then 48 + d else 87 + d
 abbrev pub hex_byte : ℕ → List ℕ
 hex_byte b = hex_digit (b / 16) ∷ hex_digit (b % 16) ∷ []
 
--- a byte as itself, and one that shows nothing, or a backslash, as \x and two hexadecimal digits
+-- a byte as itself from a first one on; one that shows nothing, or a backslash, as \x and two hexadecimal digits
+abbrev pub shown_from : ℕ → ℕ → List ℕ
+shown_from first b = if nat_le first b && nat_le b 126 && not (b == 92) then b ∷ [] else 92 ∷ 120 ∷ hex_byte b
+
+-- where a blank is itself
 abbrev pub shown_byte : ℕ → List ℕ
-shown_byte b = if nat_le 32 b && nat_le b 126 && not (b == 92) then b ∷ [] else 92 ∷ 120 ∷ hex_byte b
+shown_byte b = shown_from 32 b
 
 abbrev pub shown : List ℕ → List ℕ
 shown bytes = flat_map shown_byte bytes

@@ -4,7 +4,7 @@ ghost use Rattle.test_sheet.specs.Figures.{amount, millimetres, signed_amount, s
 
 use crate::dots::tenths_of_millimetres;
 use device_profile::SymbolSet;
-use shown_bytes::{push_with_four_decimals, push_with_hundredths, push_with_tenth};
+use shown_bytes::{push_minus, push_with_four_decimals, push_with_hundredths, push_with_tenth};
 use std::alloc::{AllocError, Allocator};
 
 /// Appends so many ten-thousandths, with two or four decimals where that is no whole number.
@@ -27,9 +27,7 @@ pub(crate) fn push_signed_amount<A: Allocator>(
 ) -> Result<(), AllocError>
     ensures { OnOk result (text.new.items ≡ text.old.items ++ signed_amount n) }
 {
-    if n < 0 {
-        text.push(b'-')?;
-    }
+    push_minus(text, n)?;
     push_amount(text, n.unsigned_abs())
 }
 

@@ -1,7 +1,7 @@
 -- The one spelling of each item.
-use Rattle.std.specs.Prelude.{ℕ, ℤ, unsigned_abs, Option, None, Some, ◌+◌, ◌/◌, ◌%◌, ◌==◌, ◌≤◌, List, [], ◌∷◌, ◌++◌}
-use Rattle.std.specs.Prelude.{length, if◌then◌else◌, decimal}
+use Rattle.std.specs.Prelude.{ℕ, ℤ, unsigned_abs, Option, None, Some, ◌≤◌, List, [], ◌∷◌, ◌++◌, length, decimal}
 use Rattle.std.specs.Fmt.{signed_decimal}
+use Rattle.shown_bytes.specs.Decimals.{magnitude_text}
 use Rattle.pcl_items.specs.declared.frame.Handover.{Handover}
 use Rattle.pcl_items.specs.declared.frame.Handover.TheVariants.{Previous, Current}
 use Rattle.pcl_items.specs.declared.frame.Mnemonic.{Mnemonic}
@@ -19,28 +19,7 @@ use Rattle.pcl_items.specs.PjlLines.Canon.{canon_pjl, IsSpelledPjl}
 use Rattle.pcl_items.specs.PjlLines.Exit.{exit_text}
 use Rattle.pcl_items.specs.Escapes.Codes.{escape}
 
--- the four decimals of n ten-thousandths
-abbrev pub four_decimals : ℕ → List ℕ
-four_decimals n = (48 + n / 1000 % 10) ∷ (48 + n / 100 % 10) ∷ (48 + n / 10 % 10) ∷ (48 + n % 10) ∷ []
-
--- a digit before others, but no zero at the end
-abbrev pub before : ℕ → List ℕ → List ℕ
-before d [] = if d == 48 then [] else d ∷ []
-before d (e ∷ ds) = d ∷ e ∷ ds
-
-abbrev pub without_zeros : List ℕ → List ℕ
-without_zeros [] = []
-without_zeros (d ∷ ds) = before d (without_zeros ds)
-
--- a point before decimals, where there are some
-abbrev pub with_point : List ℕ → List ℕ
-with_point [] = []
-with_point (d ∷ ds) = 46 ∷ d ∷ ds
-
--- the whole part without zeros in front, and the decimals without zeros at the end
-abbrev pub magnitude_text : ℕ → List ℕ
-magnitude_text n = decimal (n / 10000) ++ with_point (without_zeros (four_decimals n))
-
+-- a number, with its sign as it was written
 abbrev pub amount_text : Amount → List ℕ
 amount_text a = sign_text a.sign ++ magnitude_text a.ten_thousandths
 

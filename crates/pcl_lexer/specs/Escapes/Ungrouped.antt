@@ -1,11 +1,10 @@
 -- What sequences without a group there are: an introducer, a number and a termination character.
-use Rattle.std.specs.Prelude.{ℕ, ◌%◌, ◌/◌, ◌==◌, ◌&&◌, ◌||◌, nat_le, not, Bool, true, false, Option, None, Some}
-use Rattle.std.specs.Prelude.{if◌then◌else◌}
+use Rattle.std.specs.Prelude.{ℕ, ◌==◌, ◌&&◌, ◌||◌, nat_le, not, Bool, true, false, Option, None, Some, if◌then◌else◌}
 use Rattle.pcl_items.specs.declared.number.Sign.{Sign}
 use Rattle.pcl_items.specs.declared.number.Sign.TheVariants.{Absent, Plus, Minus}
 use Rattle.pcl_items.specs.declared.frame.Handover.{Handover}
 use Rattle.pcl_items.specs.declared.frame.Handover.TheVariants.{Previous, Current}
-use Rattle.pcl_items.specs.Escapes.Value.{Amount}
+use Rattle.pcl_items.specs.Escapes.Value.{Amount, is_whole, whole_part}
 use Rattle.pcl_items.specs.Items.{Entry, SymbolSet, DefaultFont, EnterFrame, LeaveFrame}
 use Rattle.pcl_items.specs.Escapes.SetLetters.{is_set_letter}
 
@@ -53,7 +52,7 @@ ungrouped_at introducer amount letter =
 -- how many bytes of data the number counts, unless it is not whole, negative or too large
 abbrev pub count_of : Amount → Option ℕ
 count_of amount =
-    if (amount.ten_thousandths % 10000 == 0)
+    if is_whole amount
     && (nat_le amount.ten_thousandths 327670000 && (not (is_minus amount.sign) || (amount.ten_thousandths == 0)))
-    then Some (amount.ten_thousandths / 10000)
+    then Some (whole_part amount)
     else None

@@ -12,9 +12,9 @@ pub fn count_of(number: Number) -> Option<DataCount>
     ensures { option_map (λ c. c.bytes) result ≡ count_of (amount number) }
 {
     let n = number.ten_thousandths;
-    if n % 10_000 == 0 && n <= 327_670_000 && (!is_minus(number.sign) || n == 0) {
+    if number.is_whole() && n <= 327_670_000 && (!is_minus(number.sign) || n == 0) {
         Some(DataCount {
-            bytes: (n / 10_000) as u16,
+            bytes: number.whole_part() as u16,
         })
     } else {
         None

@@ -1,6 +1,6 @@
 -- A number that has no decimals.
 use Rattle.std.proofs.Common.{◌≡◌, ℕ, ◌/◌, ◌%◌, List, [], ◌∷◌, ap, arith}
-use Rattle.pcl_items.specs.Spellings.Canon.{four_decimals, without_zeros, with_point}
+use Rattle.shown_bytes.specs.Decimals.{four_decimals, without_zeros, with_point}
 
 four_zeros : (n : ℕ) → n % 10000 ≡ 0 → four_decimals n ≡ 48 ∷ 48 ∷ 48 ∷ 48 ∷ []
 four_zeros n h =

@@ -30,7 +30,8 @@ use Rattle.pcl_lexer.specs.Grammar.{previous, current}
 use Rattle.pcl_lexer.specs.Frames.Grammar.{AtLetters, Word, Number, IsBegun, letters, setting, coordinate, behind_pair, comma, EndsCommand}
 use Rattle.pcl_lexer.specs.Frames.Grammar.{IsWhole, without_number, with_number, second_coordinate, IsCommand, without_pairs, pair}
 use Rattle.pcl_lexer.specs.Frames.Grammar.{behind_pairs, LeavesFrame, reset, leave_frame}
-use Rattle.pcl_items.specs.Spellings.Canon.{magnitude_text, canon, IsItem}
+use Rattle.pcl_items.specs.Spellings.Canon.{canon, IsItem}
+use Rattle.shown_bytes.specs.Decimals.{magnitude_text}
 use Rattle.pcl_lexer.proofs.Escapes.Fields.{EndsIn, ends_at_letter}
 use Rattle.pcl_lexer.proofs.Escapes.Shapes.{shape_read, longest}
 use Rattle.pcl_spelling.proofs.Spellings.Canonical.{setting_spelled, zero_spelled, one_spelled}

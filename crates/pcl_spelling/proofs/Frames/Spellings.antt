@@ -15,7 +15,8 @@ use Rattle.pcl_items.specs.declared.item.Mode.{Mode}
 use Rattle.pcl_items.specs.declared.item.Mode.TheVariants as modes
 use Rattle.pcl_items.specs.declared.item.Item.{Item}
 use Rattle.pcl_items.specs.Items.{Entry, Placed, at, view, Reset, LeaveFrame, Initialize, Set, Move, WithData, ExitLanguage}
-use Rattle.pcl_items.specs.Spellings.Canon.{magnitude_text, canon, IsItem, data_of}
+use Rattle.pcl_items.specs.Spellings.Canon.{canon, IsItem, data_of}
+use Rattle.shown_bytes.specs.Decimals.{magnitude_text}
 use Rattle.pcl_lexer.specs.Lexing.Contexts.{Context, Frame}
 use Rattle.pcl_items.specs.Modes.{follows}
 use Rattle.pcl_lexer.specs.Modes.{between, mode_of}

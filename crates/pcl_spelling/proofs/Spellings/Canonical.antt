@@ -21,8 +21,9 @@ use Rattle.pcl_items.specs.Items.{at}
 use Rattle.pcl_lexer.specs.Grammar.{last, with_data, symbol_set, default_font, leave_frame, previous, current, IsUnit, text_byte}
 use Rattle.pcl_lexer.specs.Grammar.{control_code, two_characters, ungrouped, combined}
 use Rattle.pcl_items.specs.Modes.{follows}
-use Rattle.pcl_items.specs.Spellings.Canon.{four_decimals, before, without_zeros, with_point, magnitude_text, amount_text, canon, IsItem}
+use Rattle.pcl_items.specs.Spellings.Canon.{amount_text, canon, IsItem}
 use Rattle.pcl_lexer.proofs.Escapes.Values.{after-append, ten_more}
+use Rattle.shown_bytes.specs.Decimals.{four_decimals, before, without_zeros, with_point, magnitude_text}
 
 -- ---- decimals
 
