@@ -47,7 +47,10 @@ fn check_pieces(
         session.feed(piece)?;
     }
     let before = session.culprit();
-    assert!(rt; before == None || before == whole.culprit, "{job:?} in pieces of {size}");
+    assert!(rt;
+        before == None || before == whole.culprit,
+        "{job:?} in pieces of {size}"
+    );
     let verdict = session.end()?;
     assert!(rt; verdict == whole.verdict, "{job:?} in pieces of {size}");
     Ok(())

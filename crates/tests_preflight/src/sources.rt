@@ -123,5 +123,8 @@ fn slices_are_watched(rt: HostRuntime) {
     let mut outlet = Latched::new(&mut taken[..8]);
     let answer = write_text(&mut outlet, &piece);
     let has_failed = outlet.has_failed();
-    assert_eq!(rt; (answer, has_failed, &taken[..8]), (Ok(()), false, &LINE[..8]));
+    assert_eq!(rt;
+        (answer, has_failed, &taken[..8]),
+        (Ok(()), false, &LINE[..8])
+    );
 }
