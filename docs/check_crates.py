@@ -2,8 +2,8 @@
 """Compares crates.txt with the crates, and with the tables of ARCHITECTURE.md.
 
 A crate stands behind those on which it stands, and a file of it names each of these. Its modules
-stand in no circle. It has one row in the tables of crates, on the floor on which crates.txt has it.
-What differs is printed, and the status is 1.
+stand in no circle, nor does its root with them. It has one row in the tables of crates, on the
+floor on which crates.txt has it. What differs is printed, and the status is 1.
 """
 
 import re
@@ -14,7 +14,13 @@ ROOT = Path(__file__).resolve().parent.parent
 FLOOR = re.compile(r"# ---- (.+?):")
 # In code a crate begins a path; in definitions it stands behind the house's name.
 NAMED = re.compile(r"(?<![\w:.])([a-z]\w*)::|\bRattle\.(\w+)\.")
-USED = re.compile(r"\bcrate((?:::[a-z]\w*)+)")
+USED = re.compile(r"\bcrate::(\{[^}]*\}|\w+(?:::\w+)*)")
+# The root of a crate begins a path with a module, and hands on names of it.
+NAMED_BY_ROOT = re.compile(r"(?<![\w:.])([a-z]\w*(?:::[a-z]\w*)*)::")
+HANDED_ON = re.compile(r"\bpub use ([a-z]\w*(?:::[a-z]\w*)*)::(\{[^}]*\}|\w+)")
+ROOTS = (("lib",), ("main",))
+# What is proved has its own folders, which are no modules of the code.
+OF_PROOFS = ("specs", "proofs")
 
 
 def crates_of_list():
@@ -52,17 +58,39 @@ def names_of(crate):
     return {name for pair in NAMED.findall(code) for name in pair}
 
 
+def words_of(names):
+    """The names of a list in braces, or the one that stands without them."""
+    return [word.split()[0] for word in names.strip("{}").split(",") if word.strip()]
+
+
+def module_of(parts, modules):
+    """The module that a path names, or the nearest above what it names; () where none is."""
+    while parts and parts not in modules:
+        parts = parts[:-1]
+    return parts
+
+
 def uses_of(crate):
-    """The modules of a crate, and which others each one uses."""
+    """The modules of a crate, and which others each one uses.
+
+    A name that the root hands on is of the module that has it; any other is the root's own.
+    """
     folder = ROOT / "crates" / crate / "src"
     paths = {path.relative_to(folder).with_suffix("").parts: path for path in folder.rglob("*.rt")}
+    root = next(module for module in ROOTS if module in paths)
+    code = code_of(paths[root])
+    owners = {word: module_of(tuple(module.split("::")), paths)
+              for module, words in HANDED_ON.findall(code) for word in words_of(words)}
     uses = {module: set() for module in paths}
+    named = NAMED_BY_ROOT.findall(code)
+    uses[root] = {module_of(tuple(path.split("::")), paths) for path in named}
     for module, path in paths.items():
         for found in USED.findall(code_of(path)):
-            parts = tuple(found.split("::")[1:])
-            while parts and parts not in paths:
-                parts = parts[:-1]
-            uses[module] |= {parts} - {(), module}
+            for word in words_of(found):
+                parts = tuple(word.split("::"))
+                if parts[0] not in OF_PROOFS:
+                    uses[module].add(module_of(parts, paths) or owners.get(parts[0], root))
+        uses[module] -= {(), module}
     return uses
 
 

@@ -39,5 +39,5 @@ pub use panel::Panel;
 pub use profile::Profile;
 pub use read::{MOST_BYTES, format_of};
 pub use rows::{has_face, has_orientation, has_row, has_size};
-pub use sample::{Sample, sample_a};
+pub use sample::Sample;
 pub use scan::{amount, next_line, next_word, number};

@@ -1,6 +1,5 @@
 //! Profiles for examples and tests.
 ghost use Rattle.std.specs.Prelude.{◌≡◌, IfOk};
-ghost use Rattle.device_profile.specs.Samples.{printer_a};
 ghost use Rattle.device_profile.specs.SampleTexts.{sample_text, sample_printer};
 
 use crate::fault::ProfileFault;
@@ -47,13 +46,6 @@ impl Sample {
             Err(ProfileFault::Fault { .. }) => unreachable!(),
         }
     }
-}
-
-/// Sample A: a printer of letter and A4 paper, with duplex, two trays and two faces.
-pub fn sample_a<A: Allocator + Copy>(alloc: A) -> Result<Profile<A>, AllocError>
-    ensures { IfOk result (λ profile. profile ≡ printer_a) }
-{
-    Sample::A.profile(alloc)
 }
 
 const TEXT_A: &[u8] = b"\

@@ -1,6 +1,6 @@
 -- Where a run finds a field unset, the plain run comes to a step that reads it, and no item has set it.
-use Rattle.std.proofs.Common.{◌≡◌, inl, inr, ℕ, ℤ, zero, suc, ◌+◌, nat_lt, Bool, true, false, cond, ◌&&◌, ◌||◌, not, is_some, is_none}
-use Rattle.std.proofs.Common.{length, List, [], ◌∷◌, refl, ap, sym, ◌∙◌, subst, Option, Some, None, arith}
+use Rattle.std.proofs.Common.{◌≡◌, inl, inr, ℕ, ℤ, zero, suc, ◌+◌, nat_lt, Bool, true, false, cond, ◌&&◌, is_some}
+use Rattle.std.proofs.Common.{length, List, [], ◌∷◌, refl, ap, sym, ◌∙◌, subst, Option, Some, None}
 use Rattle.std.specs.List.{Contains}
 use Rattle.std.proofs.lemmas.Bool.{false≢true}
 use Rattle.pcl_items.specs.declared.pcl.command.Command.TheVariants.{MacroControl}
@@ -17,16 +17,13 @@ use Rattle.macro_store.specs.Store.{Store, body_of, stored_bytes, appended, no_m
 use Rattle.page_env.specs.declared.finding.Finding.{Finding}
 use Rattle.page_env.specs.declared.finding.Finding.TheVariants.{MacroDepth, MacroMemory, InMacro, DefinitionOpen, Unset}
 use Rattle.page_env.specs.declared.macros.Control.{Control}
-use Rattle.page_env.specs.declared.macros.Control.TheVariants.{Begin, End, Execute, Call, EnableOverlay, DisableOverlay, DeleteAll, Delete}
-use Rattle.page_env.specs.declared.macros.Control.TheVariants.{MakeTemporary}
-use Rattle.page_env.specs.declared.page.FontParts.{FontParts}
+use Rattle.page_env.specs.declared.macros.Control.TheVariants.{Execute, Call}
 use Rattle.page_env.specs.Effect.{Check, check, first_finding, is_unset, first_unset, TableLine, Effect, Goes, GoesThenCloses, GoesThenEnds}
 use Rattle.page_env.specs.Effect.{fails_or, judged, effect_of, Transition, Step, Closes, Ends, Behind, Controls}
 use Rattle.page_env.specs.Effect as effect
 use Rattle.page_env.specs.FontInForce.{are_set}
 use Rattle.page_env.specs.JobControl.{reset}
 use Rattle.page_env.specs.Macros.{control_of, control_checks, controlled, overlay_state, spend_item}
-use Rattle.page_env.specs.Order.{find_unset}
 use Rattle.page_env.specs.Pens.{move_pen}
 use Rattle.page_env.specs.Rasters.{is_of_raster}
 use Rattle.page_env.specs.Settings.{Flags, Settings, State, start_state, user_defaults}
@@ -34,7 +31,7 @@ use Rattle.page_env.specs.Sound.{plain_settings, plain_state, IsSound, IsSoundTr
 use Rattle.page_env.specs.Table.{transition_of}
 use Rattle.page_env.specs.Text.{print_transparent}
 use Rattle.page_env.specs.Untouched.{Untouched, all_untouched, untouched_in_overlay, untouched_behind, is_some_part, is_untouched}
-use Rattle.page_env.specs.Untouched.{is_flagged, unset_parts, SaysUntouched, names_font, IsReadAlike, TransitionLeaves, LeavesItsUntouched}
+use Rattle.page_env.specs.Untouched.{is_flagged, SaysUntouched, names_font, IsReadAlike, TransitionLeaves, LeavesItsUntouched}
 use Rattle.page_env.specs.Untouched.{ByteSetsNothing, MoveSetsNothing}
 use Rattle.page_machine.specs.declared.defining.Defining.{Defining}
 use Rattle.page_machine.specs.declared.defining.Defining.TheVariants.{Refused, Completed, Stored}
@@ -49,7 +46,7 @@ use Rattle.page_machine.specs.Macros.{control_body, control_run, conditions_in, 
 use Rattle.page_machine.specs.Macros.{ended, refused, ending_at, give_up, overlay_run, is_too_deep, page_close, in_job}
 use Rattle.page_machine.specs.Defining.{is_defining, defining_of, defining_run, of_memory, job_item_run, macros_after, job_end_run}
 use Rattle.page_machine.specs.Job.{ItemRun, JobRun, ended_item, with_macros, items_run, end_run, no_end, at_end, reading_run}
-use Rattle.page_machine.specs.Laws.{plain_ending, IsSet, IsNotUnset}
+use Rattle.page_machine.specs.Laws.{IsSet, IsNotUnset}
 use Rattle.page_machine.specs.Reached.{left_at, entries_leave, found_leaves, control_leaves, begun_leaves, item_leaves, nested_run}
 use Rattle.page_machine.specs.Reached.{macro_item_leaves, body_leaves, job_item_leaves, ReadsUntouched, LineReads, BehindReads}
 use Rattle.page_machine.specs.Reached.{TransitionReads, BytesRead, MoveReads, BegunReads, ItemReads, EntriesRead, ControlBodyReads}
@@ -59,68 +56,8 @@ use Rattle.page_machine.proofs.Parts.{AreSoundParts}
 use Rattle.page_machine.proofs.Forget.{plain, first_unset-plain, followed_plainly, own_plainly, byte_plainly, macro_plainly, body_plainly}
 use Rattle.page_machine.proofs.Forget.{page_plainly, inside_plainly, control_plainly, job_item_plainly}
 use Rattle.page_machine.proofs.PinnedRuns.{FindsSet, checks_are_set, line_is_set}
-
--- ---- what is read
-
--- a field that is found unset is among those that are read
-first_among : (settings : Settings) (reads : List Field) (field : Field) → first_unset settings reads ≡ Some field →
-    Contains reads field × (is_unset settings field ≡ true)
-first_among settings [] field e = absurd cc
-first_among settings (f ∷ fs) field e = by (first_among settings fs field) (is_unset settings f) refl
-  where
-    at_head : Some f ≡ Some field → f ≡ field
-    at_head e' = cc
-
-    by : (first_unset settings fs ≡ Some field → Contains fs field × (is_unset settings field ≡ true)) → (b : Bool) →
-        is_unset settings f ≡ b → Contains (f ∷ fs) field × (is_unset settings field ≡ true)
-    by rest true is =
-        let same : f ≡ field = at_head (sym (ap (λ b. cond b (Some f) (first_unset settings fs)) is) ∙ e) in
-        ((zero, omega arith, same), subst (λ g. is_unset settings g ≡ true) same is)
-    by rest false is =
-        let later = rest (sym (ap (λ b. cond b (Some f) (first_unset settings fs)) is) ∙ e) in
-        ((suc later.0.0, omega (arith, later.0.1), later.0.2), later.1)
-
-among_font : (reads : List Field) → Contains reads Font → names_font reads ≡ true
-among_font [] (k, h, is) = absurd (omega (arith, h))
-among_font (Font ∷ fs) c = refl
-among_font (Size ∷ fs) (zero, h, is) = absurd cc
-among_font (Size ∷ fs) (suc k, h, is) = among_font fs (k, omega (arith, h), is)
-among_font (Orientation ∷ fs) (zero, h, is) = absurd cc
-among_font (Orientation ∷ fs) (suc k, h, is) = among_font fs (k, omega (arith, h), is)
-among_font (Vmi ∷ fs) (zero, h, is) = absurd cc
-among_font (Vmi ∷ fs) (suc k, h, is) = among_font fs (k, omega (arith, h), is)
-among_font (Copies ∷ fs) (zero, h, is) = absurd cc
-among_font (Copies ∷ fs) (suc k, h, is) = among_font fs (k, omega (arith, h), is)
-among_font (Sides ∷ fs) (zero, h, is) = absurd cc
-among_font (Sides ∷ fs) (suc k, h, is) = among_font fs (k, omega (arith, h), is)
-among_font (Tray ∷ fs) (zero, h, is) = absurd cc
-among_font (Tray ∷ fs) (suc k, h, is) = among_font fs (k, omega (arith, h), is)
-among_font (LineTerm ∷ fs) (zero, h, is) = absurd cc
-among_font (LineTerm ∷ fs) (suc k, h, is) = among_font fs (k, omega (arith, h), is)
-
--- some part is not set, unless all are
-some_part : (parts : FontParts) → is_some_part (unset_parts parts) ≡ not (are_set parts)
-some_part parts = by parts.symbol_set parts.spacing parts.pitch parts.height parts.style parts.weight parts.typeface
-  where
-    by : {A B C D E F G : Type 0} (a : Option A) (b : Option B) (c : Option C) (d : Option D) (e : Option E) (f : Option F) (g : Option G) →
-        (is_none a || is_none b || is_none c || is_none d || is_none e || is_none f || is_none g)
-        ≡ not (is_some a && is_some b && is_some c && is_some d && is_some e && is_some f && is_some g)
-    by None b c d e f g = refl
-    by (Some a) None c d e f g = refl
-    by (Some a) (Some b) None d e f g = refl
-    by (Some a) (Some b) (Some c) None e f g = refl
-    by (Some a) (Some b) (Some c) (Some d) None f g = refl
-    by (Some a) (Some b) (Some c) (Some d) (Some e) None g = refl
-    by (Some a) (Some b) (Some c) (Some d) (Some e) (Some f) None = refl
-    by (Some a) (Some b) (Some c) (Some d) (Some e) (Some f) (Some g) = refl
-
-both_of : (touched watched : Bool) → cond touched watched false ≡ true → (touched ≡ true) × (watched ≡ true)
-both_of true w e = (refl, e)
-both_of false w e = absurd (false≢true e)
-
-not_set : (b : Bool) → (b ≡ true → ⊥) → not b ≡ true
-not_set true h = absurd (h refl)
-not_set false h = refl
+use Rattle.page_machine.proofs.UnsetFields.{first_among, among_font, some_part, both_of, not_set, judged_plain, control_checks_set}
+use Rattle.page_machine.proofs.UnsetFields.{closing_set, plain_done}
 
 module _ (watched : Flags) where
   abbrev Says : Untouched → State → Type 0
@@ -180,10 +117,6 @@ module _ (watched : Flags) where
       ((t : State) → r.ending ≡ Done t → Says u t → Comes left R (next t).ending) → Comes left R (followed_by r next).ending
   followed_comes u left R r next = onward_comes u left R r.events r.peaks r.ending next
 
-  -- a run that is done, and its plain run
-  plain_done : (r r' : Run) → (IsSet r.ending → r' ≡ plain r) → (t : State) → r.ending ≡ Done t → r'.ending ≡ Done (plain_state t)
-  plain_done r r' p t is = ap (λ (x : Run). x.ending) (p (subst IsSet (sym is) tt)) ∙ ap plain_ending is
-
   -- what checks find
   finding_comes : (left : Untouched) (R : Field → Type 0) (o : Option Finding) (r : Run) → FindsSet o → (o ≡ None → Comes left R r.ending) →
       Comes left R (finding_or o r).ending
@@ -191,15 +124,6 @@ module _ (watched : Flags) where
   finding_comes left R None r set k = k refl
 
   -- ---- items
-
-  -- a line's plain checks find nothing, and nothing is unset: what it comes to
-  judged_plain : (settings : Settings) (line : TableLine) (e : Effect) → first_finding line.before ≡ None →
-      first_finding line.after ≡ None → judged (plain_settings settings) line e ≡ e
-  judged_plain settings line e before behind =
-      ap
-      (λ o. fails_or o (effect.unset_or (first_unset (plain_settings settings) line.reads) (fails_or (first_finding line.after) e))) before
-      ∙ ap (λ o. effect.unset_or o (fails_or (first_finding line.after) e)) (first_unset-plain settings line.reads)
-      ∙ ap (λ o. fails_or o e) behind
 
   module _ (printer : Printer) (defaults : Settings) (fixed : Bool) (close close' : State → Run) (control control' : Amount → State → Run)
       (closing : Field → Untouched → State → Type 0) (controlling : Field → Untouched → Amount → State → Type 0)
@@ -401,18 +325,6 @@ module _ (watched : Flags) where
 
   -- ---- controls
 
-  control_checks_set : (known in_macro : Bool) (control : Option Control) → find_unset (control_checks known in_macro control) ≡ false
-  control_checks_set known in_macro None = refl
-  control_checks_set known in_macro (Some Begin) = refl
-  control_checks_set known in_macro (Some End) = refl
-  control_checks_set known in_macro (Some Execute) = refl
-  control_checks_set known in_macro (Some Call) = refl
-  control_checks_set known in_macro (Some EnableOverlay) = refl
-  control_checks_set known in_macro (Some DisableOverlay) = refl
-  control_checks_set known in_macro (Some DeleteAll) = refl
-  control_checks_set known in_macro (Some Delete) = refl
-  control_checks_set known in_macro (Some MakeTemporary) = refl
-
   module _ (macros : Store) (inner : Nesting → List Entry → State → Run)
       (inner_leaves : Nesting → List Entry → State → Untouched → Untouched)
       (InnerReads : Field → Nesting → Untouched → List Entry → State → Type 0)
@@ -508,24 +420,7 @@ module _ (watched : Flags) where
 
   -- ---- bodies, and the closing of a page
 
-  -- the five values of the page are set where its closing read them
-  closing_set : (settings : Settings) → first_unset settings closing_reads ≡ None →
-      (settings.unset.size ≡ false) × (settings.unset.orientation ≡ false) × (settings.unset.copies ≡ false)
-      × (settings.unset.sides ≡ false) × (settings.unset.tray ≡ false)
-  closing_set settings none =
-      by settings.unset.size settings.unset.orientation settings.unset.copies settings.unset.sides settings.unset.tray none
-    where
-      by : (a b c d e : Bool) →
-          cond a (Some Size) (cond b (Some Orientation) (cond c (Some Copies) (cond d (Some Sides) (cond e (Some Tray) None)))) ≡ None →
-          (a ≡ false) × (b ≡ false) × (c ≡ false) × (d ≡ false) × (e ≡ false)
-      by true b c d e h = absurd cc
-      by false true c d e h = absurd cc
-      by false false true d e h = absurd cc
-      by false false false true e h = absurd cc
-      by false false false false true h = absurd cc
-      by false false false false false h = (refl, refl, refl, refl, refl)
-
-  -- so an overlay begins with these set and with all else untouched
+  -- where a closing finds nothing unset, the overlay begins with what that reads set, and with all else untouched
   overlay_says : (defaults : Settings) (s : State) → SaysUntouched watched all_untouched defaults →
       first_unset s.settings closing_reads ≡ None → Says untouched_in_overlay (overlay_state defaults s)
   overlay_says defaults s chosen none =

@@ -69,12 +69,12 @@ needs_no_prologue (PjlLine line) = true
 needs_no_prologue _ = false
 
 -- what is written before an item: the prologue, where one is due and the item needs it
-abbrev pub before : Panel → FontRequest → Bool → Entry → List Entry
-before panel request due item = cond (due && not (needs_no_prologue item)) (prologue panel request) []
+abbrev pub written_before : Panel → FontRequest → Bool → Entry → List Entry
+written_before panel request due item = cond (due && not (needs_no_prologue item)) (prologue panel request) []
 
 -- what is written behind it: the panel's VMI behind an orientation
-abbrev pub behind : Panel → Entry → List Entry
-behind panel item = cond (is_orientation item) (spacing panel.vmi ∷ []) []
+abbrev pub written_behind : Panel → Entry → List Entry
+written_behind panel item = cond (is_orientation item) (spacing panel.vmi ∷ []) []
 
 -- whether a prologue is due behind an item, where one was due before it or not: a reset returns to user defaults
 abbrev pub is_due_behind : Bool → Entry → Bool
@@ -84,7 +84,7 @@ is_due_behind due item = is_reset item || (due && needs_no_prologue item)
 abbrev pub pinned_items : Panel → FontRequest → Bool → List Entry → List Entry
 pinned_items panel request due [] = []
 pinned_items panel request due (item ∷ items) =
-    before panel request due item ++ item ∷ behind panel item
+    written_before panel request due item ++ item ∷ written_behind panel item
     ++ pinned_items panel request (is_due_behind due item) items
 
 -- ---- the places in it
@@ -104,9 +104,9 @@ placed_from place (item ∷ items) =
 abbrev pub moved_from : Panel → FontRequest → ℕ → Bool → List Entry → List Placed
 moved_from panel request place due [] = []
 moved_from panel request place due (item ∷ items) =
-    let here = place_behind place (before panel request due item) in
+    let here = place_behind place (written_before panel request due item) in
     record { place = here; item = item }
-    ∷ moved_from panel request (place_behind (here + length (canon item)) (behind panel item))
+    ∷ moved_from panel request (place_behind (here + length (canon item)) (written_behind panel item))
     (is_due_behind due item) items
 
 -- ---- jobs

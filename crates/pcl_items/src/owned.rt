@@ -77,7 +77,7 @@ impl<A: Allocator> OwnedItem<A> {
         }
     }
 
-    /// The item, its data lent.
+    /// The item, its data lent: the library's surface for other programs that keep items.
     pub fn as_item(&self) -> Item<'_>
         ensures { view result ≡ owned_view self.now }
     {

@@ -509,7 +509,8 @@ fn first_of_mode(bytes: &[u8], mode: Mode) -> Option<(Item<'_>, usize, Mode)>
 
 /// The item whose spelling stands at a place of the bytes, the place behind it, and the mode there.
 ///
-/// None means that no item that the mode admits has its spelling there.
+/// None means that no item that the mode admits has its spelling there. It is the library's surface
+/// for other programs, whose bytes may be no spellings.
 pub fn item_at(bytes: &[u8], at: usize, mode: Mode) -> Option<(Item<'_>, usize, Mode)>
     requires { at ≤ length bytes.now }
     ensures { MatchOption result (NothingStands mode bytes.now at)

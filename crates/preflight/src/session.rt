@@ -8,11 +8,11 @@ ghost use Rattle.streams.specs.declared.error.Error.{Error};
 ghost use Rattle.verdict.specs.declared.verdict.Verdict.{Verdict};
 ghost use Rattle.preflight.specs.Session.{ChecksOn, HasChecked, HasRoom, IsJudged, IsOutOfMemory};
 ghost use Rattle.preflight.specs.Verdict.{IsExact, KeepsPromise};
-ghost use Rattle.preflight.specs.Culprit.{IsRight, IsTold};
+ghost use Rattle.preflight.specs.Culprit.{IsRight};
 ghost use Rattle.preflight.specs.Carriers.Lockstep.{AreIn, AreRunning, counts_of, machines_of};
 
 use crate::checking::Checking;
-use crate::culprit::{Culprit, Judgement};
+use crate::culprit::Culprit;
 use crate::laws::fails_say;
 use crate::lockstep::Lockstep;
 use crate::standing::Standing;
@@ -99,6 +99,9 @@ impl<'p, A: Allocator + Copy, P: Allocator> Session<'p, A, P> {
 
     /// Takes the next piece of the job, of any length.
     ///
+    /// It is the library's surface for other programs, which feed a job themselves. `check_job`
+    /// reads one.
+    ///
     /// `Turns` means that the pieces would have more than 2^62 bytes together, which is judged
     /// before the piece is looked at, and `Memory` that the allocator refused a request. After an
     /// error the session answers it for good, and once the job fails a piece changes nothing.
@@ -153,7 +156,8 @@ impl<'p, A: Allocator + Copy, P: Allocator> Session<'p, A, P> {
     /// The verdict on the job that was fed, whole.
     ///
     /// It is the verdict that `check_job` gives on the same bytes. The error is the one that
-    /// stopped the session, or `Memory` where the allocator refuses a request now.
+    /// stopped the session, or `Memory` where the allocator refuses a request now. Like `feed` it
+    /// is for other programs.
     pub fn end(mut self) -> Result<Verdict, Error>
         ensures exact { IfOk result (λ verdict. (fleet : List Printer) (bytes : List ℕ) →
             HasChecked fleet bytes self.entry → IsExact fleet bytes verdict) }
@@ -167,29 +171,6 @@ impl<'p, A: Allocator + Copy, P: Allocator> Session<'p, A, P> {
             IfErr result (λ error. error ≡ Error.Memory) }
     {
         self.verdict()
-    }
-
-    /// The verdict on the job that was fed, as `end` gives it, and the item that the job fails at.
-    pub fn end_telling(mut self) -> Result<Judgement, Error>
-        ensures exact { IfOk result (λ answer. (fleet : List Printer) (bytes : List ℕ) →
-            HasChecked fleet bytes self.entry → IsExact fleet bytes answer.verdict) }
-        ensures headline { IfOk result (λ answer. (fleet : List Printer) (bytes : List ℕ) →
-            HasChecked fleet bytes self.entry → KeepsPromise fleet bytes answer.verdict) }
-        ensures told { IfOk result (λ answer. (fleet : List Printer) (bytes : List ℕ) →
-            HasChecked fleet bytes self.entry → IsTold bytes answer.verdict answer.culprit) }
-        ensures after_verdict { (verdict : Verdict) → self.entry.standing ≡
-            standings.Judged verdict → result ≡
-            Ok (record { verdict = verdict; culprit = self.entry.culprit }) }
-        ensures after_error { (error : Error) → self.entry.standing ≡ standings.Stopped error →
-            result ≡ Err error }
-        ensures errors { self.entry.standing ≡ standings.Open →
-            IfErr result (λ error. error ≡ Error.Memory) }
-    {
-        let verdict = self.verdict()?;
-        Ok(Judgement {
-            verdict,
-            culprit: self.checking.culprit,
-        })
     }
 
     /// The verdict on what was fed, where no piece follows.

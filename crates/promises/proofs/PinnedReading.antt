@@ -24,7 +24,8 @@ use Rattle.pcl_spelling.proofs.Spellings.ReadAgain.{AreAdmitted-append, mode_beh
 use Rattle.pcl_lexer.proofs.Reading.Stopping.{read_by_rules}
 use Rattle.page_env.specs.FontInForce.{request_at, no_request}
 use Rattle.page_env.specs.Pinned.{is_unpinnable}
-use Rattle.page_machine.specs.Pinning.{spacing, prologue, needs_no_prologue, before, behind, is_due_behind, pinned_items, placed_from}
+use Rattle.page_machine.specs.Pinning.{spacing, prologue, needs_no_prologue, written_before, written_behind, is_due_behind}
+use Rattle.page_machine.specs.Pinning.{pinned_items, placed_from}
 use Rattle.page_machine.specs.Pinning.{place_behind}
 use Rattle.renderings.specs.Pins.{pinned_item, pinned_text}
 use Rattle.renderings.proofs.PinSettings.{within, Sendable, sendable}
@@ -55,7 +56,7 @@ module _ (panel : Panel) (request : FontRequest) where
       let rest : List Entry = pinned_items panel request (is_due_behind due x.item) (entries items) in
       ap (λ b. cond b [] (pinned_item panel request due x.item ++ pinned_text panel request (is_due_behind due x.item) items)) all.0
       ∙ (ap (λ l. pinned_item panel request due x.item ++ l) (text_is_spelled (is_due_behind due x.item) items all.1)
-      ∙ three_spelled (before panel request due x.item) x.item (behind panel x.item) rest)
+      ∙ three_spelled (written_before panel request due x.item) x.item (written_behind panel x.item) rest)
 
 pub all_entries : (items : List Placed) → AllByRecursion (λ (x : Placed). is_unpinnable x.item ≡ false) items →
     AllByRecursion (λ item. is_unpinnable item ≡ false) (entries items)
@@ -157,7 +158,7 @@ module _ (printer : Printer) (panel : Panel) (set : CanBeSetTo printer panel) wh
 
   -- the spacing behind an orientation
   spaced : (item : Entry) (mode next : Mode) → follows mode item ≡ Some next → (items written : List Entry) → Stands next items written →
-      Stands next items (behind panel item ++ written)
+      Stands next items (written_behind panel item ++ written)
   spaced (Parameterized Orientation n) Pcl next e items written h = behind_turn next e items written h
     where
       behind_turn : (next : Mode) → Some Pcl ≡ Some next → (items written : List Entry) → Stands next items written →
@@ -211,13 +212,13 @@ module _ (printer : Printer) (panel : Panel) (set : CanBeSetTo printer panel) wh
       rest = pinned_items panel request (is_due_behind due item) items
 
       by : (due needs : Bool) → needs_no_prologue item ≡ needs → (due ≡ true → MayEnd mode) →
-          Stands next items (behind panel item ++ rest) →
-          Stands mode (item ∷ items) (cond (due && not needs) (prologue panel request) [] ++ item ∷ behind panel item ++ rest)
+          Stands next items (written_behind panel item ++ rest) →
+          Stands mode (item ∷ items) (cond (due && not needs) (prologue panel request) [] ++ item ∷ written_behind panel item ++ rest)
       by true false needs out h =
-          prologue_stands item mode next (out refl) needs e items (behind panel item ++ rest)
-          (item_stands item Pcl next is (prologue_then mode (out refl) item next needs e) items (behind panel item ++ rest) h)
-      by true true needs out h = item_stands item mode next is e items (behind panel item ++ rest) h
-      by false needs n out h = item_stands item mode next is e items (behind panel item ++ rest) h
+          prologue_stands item mode next (out refl) needs e items (written_behind panel item ++ rest)
+          (item_stands item Pcl next is (prologue_then mode (out refl) item next needs e) items (written_behind panel item ++ rest) h)
+      by true true needs out h = item_stands item mode next is e items (written_behind panel item ++ rest) h
+      by false needs n out h = item_stands item mode next is e items (written_behind panel item ++ rest) h
 
 -- ---- what is read
 

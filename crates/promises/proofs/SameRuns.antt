@@ -18,7 +18,7 @@ use Rattle.page_machine.specs.Run.{Peaks, Run, Ending, Done, Halts}
 use Rattle.page_machine.specs.Defining.{job_item_run, macros_after, job_end_run}
 use Rattle.page_machine.specs.Job.{JobRun, at_end, begun_with, one_item, ended_item, with_macros, items_run, end_run, plain_run}
 use Rattle.page_machine.specs.Laws.{IsNotUnset, IsSet}
-use Rattle.page_machine.specs.Pinning.{before, behind, is_due_behind, place_behind, moved_from}
+use Rattle.page_machine.specs.Pinning.{written_before, written_behind, is_due_behind, place_behind, moved_from}
 use Rattle.page_machine.specs.Reached.{FindsBehind, UnsetIsRead}
 use Rattle.promises.specs.Laws.{unplaced_run, RunAlike}
 use Rattle.preflight.proofs.RunEnds.{of_every_run}
@@ -72,7 +72,7 @@ moved_entries panel request place due [] = refl
 moved_entries panel request place due (item ∷ items) =
     ap (λ rest. item ∷ rest)
     (moved_entries panel request
-    (place_behind (place_behind (place_behind place (before panel request due item)) (item ∷ [])) (behind panel item))
+    (place_behind (place_behind (place_behind place (written_before panel request due item)) (item ∷ [])) (written_behind panel item))
     (is_due_behind due item) items)
 
 -- ---- nothing is unset in a plain run

@@ -8,7 +8,7 @@ use Rattle.pcl_items.specs.Items.{Entry, Placed}
 use Rattle.pcl_lexer.specs.Reading.{Reading, items_of}
 use Rattle.page_env.specs.FontInForce.{request_at}
 use Rattle.page_env.specs.Pinned.{is_unpinnable}
-use Rattle.page_machine.specs.Pinning.{before, behind, is_due_behind}
+use Rattle.page_machine.specs.Pinning.{written_before, written_behind, is_due_behind}
 use Rattle.verdict.specs.declared.reason.Reason.TheVariants.{Unpinnable}
 use Rattle.renderings.specs.declared.outcome.Outcome.{Outcome}
 use Rattle.renderings.specs.declared.outcome.Outcome.TheVariants.{Fail}
@@ -18,7 +18,7 @@ use Rattle.renderings.specs.Texts.{reading_outcome}
 -- an item, with what belongs before and behind it, each in its canonical spelling
 abbrev pub pinned_item : Panel → FontRequest → Bool → Entry → List ℕ
 pinned_item panel request due item =
-    flat_map canon (before panel request due item) ++ canon item ++ flat_map canon (behind panel item)
+    flat_map canon (written_before panel request due item) ++ canon item ++ flat_map canon (written_behind panel item)
 
 -- items up to the first that cannot be pinned, where a prologue is due or not
 abbrev pub pinned_text : Panel → FontRequest → Bool → List Placed → List ℕ

@@ -68,7 +68,8 @@ impl<B: Allocator> Renderer for Listing<B> {
 /// Writes a line for each item of a job, its place and its spelling, and for a fault of its bytes a
 /// last one.
 ///
-/// What an item comes to on a page is not looked at. After an error a front of the text is written:
+/// It is the library's surface for other programs; `pclcheck` has `render` write a `Listing`. What
+/// an item comes to on a page is not looked at. After an error a front of the text is written:
 /// `Memory` where the allocator refused a request, `Read` and `Write` where a read or a write
 /// failed, `Turns` after 2^40 reads without an end.
 pub fn list_job<S: Source, W: Outlet, A: Allocator + Copy>(

@@ -5,7 +5,8 @@ ghost use Rattle.device_profile.specs.Faces.{is_request};
 ghost use Rattle.device_profile.specs.Printer.{HasItsValues, IsAllowed};
 ghost use Rattle.page_env.specs.JobControl.{is_reset};
 ghost use Rattle.page_env.specs.Pinned.{is_orientation, is_unpinnable};
-ghost use Rattle.page_machine.specs.Pinning.{before, behind, is_due_behind, needs_no_prologue};
+ghost use Rattle.page_machine.specs.Pinning.{written_before, written_behind};
+ghost use Rattle.page_machine.specs.Pinning.{is_due_behind, needs_no_prologue};
 ghost use Rattle.page_machine.specs.Pinning.{prologue, unsigned, weight_amount};
 ghost use Rattle.pcl_items.specs.Spellings.Canon.{canon};
 ghost use Rattle.pcl_items.specs.Items.{Parameterized, SymbolSet, simple_view, view};
@@ -186,7 +187,7 @@ impl Pinning {
         item: &Item<'_>,
     ) -> Result<(), AllocError>
         ensures { OnOk result (text.new.items ≡ text.old.items ++ flat_map canon
-            (before self.now.settings.panel self.now.settings.request self.now.is_due
+            (written_before self.now.settings.panel self.now.settings.request self.now.is_due
             (view item.now))) }
     {
         if self.is_due && !needs_no_prologue(item) {
@@ -203,7 +204,7 @@ impl Pinning {
         item: &Item<'_>,
     ) -> Result<(), AllocError>
         ensures { OnOk result (text.new.items ≡ text.old.items ++ flat_map canon
-            (behind self.now.settings.panel (view item.now))) }
+            (written_behind self.now.settings.panel (view item.now))) }
     {
         if is_orientation(item) {
             let spacing = sent(Command::VerticalMotionIndex, self.settings.panel.vmi);

@@ -49,13 +49,6 @@ impl<T> Latched<T> {
             error: None,
         }
     }
-
-    /// The reader or writer itself.
-    pub fn get_ref(&self) -> &T
-        ensures { result.now ≡ self.now.inner }
-    {
-        &self.inner
-    }
 }
 
 impl<T: Drop> Latched<T> {

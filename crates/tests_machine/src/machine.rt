@@ -1,6 +1,6 @@
 //! A machine whose sink refuses an event, and one that has stopped.
 
-use device_profile::{Field, Sample, sample_a};
+use device_profile::{Field, Sample};
 use page_env::Finding::Unset;
 use page_env::{Finding, Mark, PageEnd};
 use page_machine::{Machine, MarkSink, Start, Stop};
@@ -140,7 +140,7 @@ fn check_run(
 
 #[test]
 fn machines_stop_from_any_panel(rt: HostRuntime) -> Result<(), Fail> {
-    let profile = sample_a(rt.alloc())?;
+    let profile = Sample::A.profile(rt.alloc())?;
     for run in FROM_ANY_PANEL {
         let machine = Machine::new(rt.alloc(), &profile, Start::Unknown);
         check_run(&rt, rt.alloc(), machine, *run)?;
@@ -150,7 +150,7 @@ fn machines_stop_from_any_panel(rt: HostRuntime) -> Result<(), Fail> {
 
 #[test]
 fn machines_stop_from_the_first_panel(rt: HostRuntime) -> Result<(), Fail> {
-    let profile = sample_a(rt.alloc())?;
+    let profile = Sample::A.profile(rt.alloc())?;
     for run in FROM_THE_FIRST_PANEL {
         let machine = Machine::new(rt.alloc(), &profile, Start::At(profile.first_panel()));
         check_run(&rt, rt.alloc(), machine, *run)?;

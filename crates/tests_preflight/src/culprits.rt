@@ -9,7 +9,7 @@ use std::process::Abort;
 use std::test::Fail;
 use streams::{Error, Latched};
 use testing_jobs::Printer::{B, D, Moved};
-use testing_jobs::{Printer, fleet_of};
+use testing_jobs::{CutSource, Printer, fleet_of};
 
 /// Printers and a job. What is told of it stands in the row files of runs.
 type Row = (&'static [Printer], &'static [u8]);
@@ -30,15 +30,16 @@ const ROWS: &[Row] = &[
     (&[B], b"\x1bE\x1b*p300x300Y\x1b*c100a50b0P"),
 ];
 
-/// What a session tells that is fed pieces of so many bytes. What it tells before the end is the
-/// same, or nothing.
-fn tell_pieces(
+/// Feeds a session pieces of so many bytes. What it tells before the end is what is told of the
+/// whole job, or nothing.
+fn check_pieces(
     rt: &impl Abort,
     alloc: Global,
     fleet: &[Profile],
     job: &[u8],
     size: usize,
-) -> Result<Judgement, Error>
+    whole: Judgement,
+) -> Result<(), Error>
     requires { 0 < size }
 {
     let mut session = Session::new(alloc, fleet)?;
@@ -46,16 +47,36 @@ fn tell_pieces(
         session.feed(piece)?;
     }
     let before = session.culprit();
-    let answer = session.end_telling()?;
-    assert!(rt; before == None || before == answer.culprit, "{job:?}");
-    Ok(answer)
+    assert!(rt;
+        before == None || before == whole.culprit,
+        "{job:?} in pieces of {size}"
+    );
+    let verdict = session.end()?;
+    assert!(rt; verdict == whole.verdict, "{job:?} in pieces of {size}");
+    Ok(())
+}
+
+/// Reads a job in two pieces that are cut at each place, of which the same is told.
+fn check_cuts(
+    rt: &impl Abort,
+    alloc: Global,
+    fleet: &[Profile],
+    job: &[u8],
+    whole: Judgement,
+) -> Result<(), Error> {
+    for place in 0..job.len() {
+        let (first, second) = job.split_at(place);
+        let cut = check_job_telling(alloc, &mut CutSource::new(first, second), fleet)?;
+        assert!(rt; cut == whole, "{job:?} cut at {place}");
+    }
+    Ok(())
 }
 
 fn check_row(rt: &impl Abort, alloc: Global, fleet: &[Profile], job: &[u8]) -> Result<(), Error> {
     let whole = check_job_telling(alloc, &mut Latched::new(job), fleet)?;
+    check_cuts(rt, alloc, fleet, job, whole)?;
     for size in 1..=job.len() {
-        let fed = tell_pieces(rt, alloc, fleet, job, size)?;
-        assert!(rt; fed == whole, "{job:?} in pieces of {size}");
+        check_pieces(rt, alloc, fleet, job, size, whole)?;
     }
     Ok(())
 }

@@ -14,11 +14,11 @@ type Ended = (Status, (usize, usize));
 /// How a command ends where so many requests for memory are taken, and how many of them are left.
 fn ended_at(alloc: Global, command: Command, requests: u64) -> (Ended, u64) {
     let heap = Refusing::new(alloc, requests);
-    let mut out = Latched::new(Vec::new(alloc));
-    let mut stdout = Latched::new(Vec::new(alloc));
-    let mut stderr = Latched::new(Vec::new(alloc));
+    let mut out = File::new(FailingOutlet::new(alloc, u64::MAX));
+    let mut stdout = FailingOutlet::new(alloc, u64::MAX);
+    let mut stderr = FailingOutlet::new(alloc, u64::MAX);
     let status = status_of(command, &heap, &mut out, &mut stdout, &mut stderr);
-    let written = (out.get_ref().len(), stdout.get_ref().len());
+    let written = (out.get_ref().taken().len(), stdout.taken().len());
     ((status, written), heap.left())
 }
 
@@ -46,9 +46,9 @@ fn a_write_fails(rt: HostRuntime) {
         for writes in [0, 1, 3] {
             let mut out = File::new(FailingOutlet::new(rt.alloc(), writes));
             let mut stdout = FailingOutlet::new(rt.alloc(), writes);
-            let mut stderr = Latched::new(Vec::new(rt.alloc()));
+            let mut stderr = FailingOutlet::new(rt.alloc(), u64::MAX);
             let status = status_of(*command, rt.alloc(), &mut out, &mut stdout, &mut stderr);
-            let told = (status, stderr.get_ref().as_slice());
+            let told = (status, stderr.taken());
             let due = (Status::Stopped(Error::Write), b"ERROR write\n".as_slice());
             assert_eq!(rt; told, due, "{command:?}");
             let taken = stdout.taken().len().max(out.get_ref().taken().len()) as u64;
@@ -61,10 +61,10 @@ fn a_write_fails(rt: HostRuntime) {
 fn standard_error_takes_no_line(rt: HostRuntime) {
     for command in [Command::New("hp-laserjet-iii"), Command::Show("wrong")] {
         let mut out = Latched::new(Vec::new(rt.alloc()));
-        let mut stdout = Latched::new(Vec::new(rt.alloc()));
+        let mut stdout = FailingOutlet::new(rt.alloc(), u64::MAX);
         let mut stderr = FailingOutlet::new(rt.alloc(), 1);
         let status = status_of(command, rt.alloc(), &mut out, &mut stdout, &mut stderr);
-        let told = (status.code(), stdout.get_ref().len(), stderr.taken().len());
+        let told = (status.code(), stdout.taken().len(), stderr.taken().len());
         assert_eq!(rt; told, (2, 0, 7), "{command:?}");
     }
 }

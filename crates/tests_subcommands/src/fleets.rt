@@ -5,9 +5,9 @@ use many_jobs::read_fleet_file;
 use requests::{Status, Trouble, tell};
 use std::alloc::Allocator;
 use std::process::Abort;
-use streams::{Error, Latched, Outlet};
+use streams::{Error, Outlet};
 use testing_checks::{KeptTexts, Named};
-use testing_jobs::Refusing;
+use testing_jobs::{FailingOutlet, Refusing};
 
 /// Words of texts, and the texts.
 const TEXTS: &[Named<'static>] = &[
@@ -42,13 +42,13 @@ fn requests_of(rt: &(impl Abort + AllocGlobal), word: &str, wanted: Result<(), S
         let heap = Refusing::new(rt.alloc(), requests);
         let mut texts = KeptTexts::new(TEXTS);
         let mut words = Vec::new(&heap);
-        let mut stderr = Latched::new(Vec::new(rt.alloc()));
+        let mut stderr = FailingOutlet::new(rt.alloc(), u64::MAX);
         let result = status_of(&heap, &mut texts, word, &mut words, &mut stderr);
         if result == wanted {
             return requests;
         }
         assert_eq!(rt; result, Err(Status::Stopped(Error::Memory)), "{word}");
-        assert_eq!(rt; stderr.get_ref().as_slice(), b"ERROR memory\n".as_slice());
+        assert_eq!(rt; stderr.taken(), b"ERROR memory\n".as_slice());
     }
     assert!(rt; false, "more than 1000 requests");
     0

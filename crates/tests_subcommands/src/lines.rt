@@ -4,6 +4,7 @@ use device_profile::Cause;
 use requests::{Input, Status, tell};
 use std::process::Abort;
 use streams::{Error, Latched, Outlet};
+use testing_jobs::FailingOutlet;
 
 /// Ends of the program, with the numbers that the system is told, and their lines.
 const ENDS: &[(Status, u8, &[u8])] = &[
@@ -27,9 +28,9 @@ const ENDS: &[(Status, u8, &[u8])] = &[
 /// Tells a status on a standard error that takes all, and on one of each smaller size, which takes
 /// the front of the line.
 fn check_line(rt: &(impl Abort + AllocGlobal), status: Status, code: u8, line: &[u8]) {
-    let mut stderr = Latched::new(Vec::new(rt.alloc()));
+    let mut stderr = FailingOutlet::new(rt.alloc(), u64::MAX);
     tell(status, &mut stderr);
-    assert_eq!(rt; (status.code(), stderr.get_ref().as_slice()), (code, line));
+    assert_eq!(rt; (status.code(), stderr.taken()), (code, line));
     let mut taken = [0u8; 64];
     for room in 0..line.len().min(taken.len()) {
         let mut stderr = Latched::new(&mut taken[..room]);

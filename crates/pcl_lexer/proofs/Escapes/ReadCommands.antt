@@ -17,7 +17,7 @@ use Rattle.pcl_lexer.specs.Reader.{is_termination, first_of}
 use Rattle.pcl_items.specs.Escapes.Value.{Amount}
 use Rattle.pcl_lexer.specs.Lexing.FirstView.{context_view}
 use Rattle.pcl_lexer.specs.declared.pcl.command_with_data.ReadWithData.{ReadWithData}
-use Rattle.pcl_lexer.specs.Escapes.ReadCommands.{IsInGroup, IsEndedBy, IsAheadWithData, IsInGroupWithData, first_with_data}
+use Rattle.pcl_lexer.specs.Escapes.ReadCommands.{IsAhead, IsInGroup, IsEndedBy, IsAheadWithData, IsInGroupWithData, first_with_data}
 use Rattle.std.proofs.lemmas.List.{take_all, drop-drop}
 use Rattle.pcl_lexer.proofs.Escapes.FieldEnds.{command_by}
 use Rattle.pcl_lexer.proofs.Escapes.Heads.{group_read}
@@ -92,6 +92,22 @@ behind_escape (b ∷ bytes) one e =
     let count : length (b ∷ bytes) - 1 ≡ length bytes = omega arith in
     let all : take (length (b ∷ bytes) - 1) bytes ≡ bytes = ap (λ n. take n bytes) count ∙ take_all (length bytes) bytes (omega arith) in
     ap (λ n. n ∷ take (length (b ∷ bytes) - 1) bytes) (sym e) ∙ ap (λ l. b ∷ l) all
+
+-- the command of a group, where the three bytes before its field stand too
+pub command_behind : (read : ReadCommand) (g : Group) (bytes : List ℕ) → 3 ≤ length bytes → get_or bytes 0 0 ≡ 27 →
+    group_at (get_or bytes 1 0) (get_or bytes 2 0) ≡ Some g →
+    IsInGroup read g (take (length bytes - 3) (drop 3 bytes)) → IsAhead (record read { len = 3 + read.len }) Pcl bytes
+command_behind read g [] three e found h = absurd (omega (arith, three))
+command_behind read g (b0 ∷ []) three e found h = absurd (omega (arith, three))
+command_behind read g (b0 ∷ b1 ∷ []) three e found h = absurd (omega (arith, three))
+command_behind read g (b0 ∷ b1 ∷ b2 ∷ bytes) three e found h =
+    let size : length (b0 ∷ b1 ∷ b2 ∷ bytes) - 3 ≡ length bytes = omega arith in
+    let all : take (length (b0 ∷ b1 ∷ b2 ∷ bytes) - 3) bytes ≡ bytes =
+    ap (λ n. take n bytes) size ∙ take_all (length bytes) bytes (omega arith) in (
+      λ whole. ap (λ n. first_of whole Pcl (n ∷ b1 ∷ b2 ∷ bytes)) e ∙ behind_group whole b1 b2 g bytes found
+          ∙ ap (λ l. behind 3 (command_in g l)) (sym all) ∙ ap (behind 3) h.0,
+      omega (arith, h.1, ap length all),
+    )
 
 -- the data of a command, where the three bytes before its field stand too
 pub with_data_behind : (read : ReadWithData) (bytes : List ℕ) → 2 ≤ length bytes → read.count.bytes ≤ read.len →

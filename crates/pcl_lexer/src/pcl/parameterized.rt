@@ -3,13 +3,12 @@
 //! A job is mostly these. What `first_in` answers of them is answered here in a shape of its own,
 //! which stays in registers where an answer of several shapes goes through memory.
 
-ghost use Rattle.std.specs.Prelude.{◌≤◌, ◌∷◌, length, IfSome};
-ghost use Rattle.pcl_lexer.specs.Lexing.Contexts.{Pcl};
+ghost use Rattle.std.specs.Prelude.{◌≤◌, length, IfSome};
 ghost use Rattle.pcl_lexer.specs.Lexing.FirstView.{context_view};
-ghost use Rattle.pcl_lexer.specs.Escapes.ReadCommands.{IsAhead, IsInGroup, IsEndedBy};
+ghost use Rattle.pcl_lexer.specs.Escapes.ReadCommands.{IsAhead, IsInGroup};
 
 use crate::lexer::first::Context;
-use crate::pcl::field::{EndedField, FieldEnd, field_end};
+use crate::pcl::field::{FieldEnd, field_end};
 use pcl_items::{Command, Group, Number};
 
 /// A command with its number, how many bytes spell it, and what stands before the bytes after them.
@@ -28,35 +27,23 @@ pub fn parameterized_in(context: Context, bytes: &[u8]) -> Option<ReadCommand>
     ensures { IfSome result (λ read. IsAhead read (context_view context) bytes.now) }
 {
     match context {
-        Context::Sequence(group) => command(group, bytes),
-        Context::Pcl => match bytes {
-            [b'\x1b', rest @ ..] => escaped(rest),
-            _ => None,
-        },
-        _ => None,
+        Context::Sequence(group) => return command(group, bytes),
+        Context::Pcl => {}
+        _ => return None,
     }
-}
-
-/// The command that stands first behind an escape character.
-#[inline(always)]
-fn escaped(bytes: &[u8]) -> Option<ReadCommand>
-    ensures { IfSome result (λ read. IsAhead read Pcl (27 ∷ bytes.now)) }
-{
-    match bytes {
-        [introducer, character, rest @ ..] => {
-            let group = Group::of(*introducer, *character)?;
-            // Most commands of rows have data, which is known only behind the number.
-            if let Group::RasterData = group {
-                return None;
-            }
-            let read = command(group, rest)?;
-            Some(ReadCommand {
-                len: 3 + read.len,
-                ..read
-            })
-        }
-        _ => None,
+    let [b'\x1b', introducer, character, rest @ ..] = bytes else {
+        return None;
+    };
+    let group = Group::of(*introducer, *character)?;
+    // Most commands of rows have data, which is known only behind the number.
+    if let Group::RasterData = group {
+        return None;
     }
+    let read = command(group, rest)?;
+    Some(ReadCommand {
+        len: 3 + read.len,
+        ..read
+    })
 }
 
 /// The command of a group that stands first behind the group's characters, or behind a command of
@@ -65,18 +52,9 @@ fn escaped(bytes: &[u8]) -> Option<ReadCommand>
 fn command(group: Group, bytes: &[u8]) -> Option<ReadCommand>
     ensures { IfSome result (λ read. IsInGroup read group bytes.now) }
 {
-    match field_end(bytes) {
-        FieldEnd::Ended(field) => ended_by(group, field),
-        FieldEnd::Open | FieldEnd::BadNumber => None,
-    }
-}
-
-/// The command that a byte ends behind its field.
-#[inline(always)]
-fn ended_by(group: Group, field: EndedField) -> Option<ReadCommand>
-    requires { field.len ≤ 16 }
-    ensures { IfSome result (λ read. IsEndedBy read group field) }
-{
+    let FieldEnd::Ended(field) = field_end(bytes) else {
+        return None;
+    };
     // The letters of commands are capital ones, so a byte that is no letter names none.
     let (letter, next) = match field.last {
         0..=95 => (field.last, Context::Pcl),

@@ -1,15 +1,15 @@
-use Rattle.std.proofs.Common.{◌≡◌, ℕ, List, subst, sym, ap, get_or, arith}
-use Rattle.std.specs.Prelude.{IfSome}
-use Rattle.pcl_lexer.specs.Lexing.Contexts.{Context, Pcl}
+use Rattle.std.proofs.Common.{◌≡◌, ◌+◌, ◌∙◌, Some, subst, sym, ap, get_or, arith}
+use Rattle.pcl_items.specs.Escapes.Commands.{group_at}
+use Rattle.pcl_lexer.specs.Lexing.Contexts.{Context}
 use Rattle.pcl_lexer.specs.Lexing.FirstView.{context_view}
 use Rattle.pcl_lexer.specs.Escapes.ReadCommands.{IsAhead}
-use Rattle.pcl_lexer.proofs.Escapes.ReadCommands.{behind_escape}
+use Rattle.pcl_lexer.proofs.Escapes.ReadCommands.{command_behind}
 use Rattle.pcl_lexer.proofs.pcl.parameterized.parameterized_in.Goals as goal
 
-pub returns-in-27 : goal.returns-in-27
-returns-in-27 c =
+pub returns : goal.returns
+returns c =
     let bytes = c.args.bytes.now in
-    let is_escape : get_or bytes 0 0 ≡ 27 = omega arith in
-    subst (λ (context : Context). IfSome c.escaped.result (λ read. IsAhead read context bytes)) (sym (ap context_view c.in-Pcl.is))
-    (subst (λ (l : List ℕ). IfSome c.escaped.result (λ read. IsAhead read Pcl l))
-    (behind_escape bytes c.in-27.len_at_least is_escape) c.escaped.ensures)
+    let read = c.in_ok-read.read in
+    let known : group_at (get_or bytes 1 0) (get_or bytes 2 0) ≡ Some c.in_ok-group.group = sym c.of.ensures ∙ c.in_ok-group.was in
+    subst (λ (context : Context). IsAhead (record read { len = 3 + read.len }) context bytes) (sym (ap context_view c.in-Pcl.is))
+    (command_behind read c.in_ok-group.group bytes (omega arith) (omega arith) known c.in_ok-read.ensures)
