@@ -32,7 +32,8 @@ FailsBy printer job failure = IsExact (printer ∷ []) job (failing failure)
 -- the word of a profile on whose printer the sheet fails, and how
 abbrev pub unprinted_sheet : List ℕ → Failure → List ℕ
 unprinted_sheet word failure =
-    codes "error: the sheet for '" ++ (shown word ++ (codes "' would not pass on it: " ++ verdict_line (failing failure)))
+    codes "error: the sheet for '"
+    ++ (shown word ++ (codes "' would not pass on it: " ++ verdict_line (failing failure)))
 
 -- OUT is created and the job written, or a front where a write failed;
 -- or OUT is the profile itself or cannot be created, and nothing is written
