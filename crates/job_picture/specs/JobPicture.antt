@@ -14,9 +14,10 @@ use Rattle.page_machine.specs.Run.{Run, Ending, Done, Halts}
 use Rattle.page_machine.specs.Defining.{job_item_run, job_end_run, macros_after}
 use Rattle.page_machine.specs.Job.{with_macros}
 use Rattle.renderings.specs.declared.outcome.Outcome.{Outcome}
-use Rattle.renderings.specs.declared.outcome.Outcome.TheVariants.{Done as AllDone, Fail}
+use Rattle.renderings.specs.declared.outcome.Outcome.TheVariants.{Done as AllDone}
 use Rattle.renderings.specs.Due.{Rendering}
-use Rattle.verdict.specs.declared.reason.Reason.TheVariants.{Fault as FaultOfBytes, Finding as FindingOfRun}
+use Rattle.renderings.specs.Outcomes.{fails_with}
+use Rattle.verdict.specs.Failing.{fault_at, found_at}
 use Rattle.job_picture.specs.declared.progress.Progress.{Progress}
 use Rattle.requests.specs.declared.selection.Selection.{Selection}
 use Rattle.requests.specs.declared.selection.Selection.TheVariants.{All, One}
@@ -44,7 +45,7 @@ drawn_out = record { text = []; outcome = AllDone }
 -- a job that ends before the page that is wanted is too short.
 abbrev pub late_end : Selection → ℕ → Outcome
 late_end All place = AllDone
-late_end (One number) place = Fail place 0 (FaultOfBytes Truncated)
+late_end (One number) place = fails_with (fault_at place Truncated)
 
 -- the end of a job, at the number of its bytes
 abbrev pub at_the_end : Selection → ℕ → Drawing
@@ -76,7 +77,7 @@ run_drawing selection sentence printer p s place r next =
     then_draws (drawn_events (sheet_of selection sentence printer s) p r.events)
     (if is_behind selection p'.page then drawn_out
     else (behind_ending r.ending (next p') (λ finding.
-    at_failure selection sentence printer s p' (Fail place 1 (FindingOfRun finding)))))
+    at_failure selection sentence printer s p' (fails_with (found_at place 1 finding)))))
 
 -- of items, and then what comes last
 abbrev pub items_drawing : Selection → (sentence : List ℕ) → Printer → Settings → (Progress → Store → State → Drawing) →
@@ -96,7 +97,7 @@ end_drawing selection sentence printer defaults place p macros s =
 -- of a fault of the bytes
 abbrev pub fault_drawing : Selection → (sentence : List ℕ) → Printer → ℕ → LexCause → Progress → Store → State → Drawing
 fault_drawing selection sentence printer place cause p macros s =
-    at_failure selection sentence printer s p (Fail place 0 (FaultOfBytes cause))
+    at_failure selection sentence printer s p (fails_with (fault_at place cause))
 
 -- of the items of a job and its end, or of the items before a fault and of the fault
 abbrev pub reading_drawing : Selection → (sentence : List ℕ) → Printer → Settings → Progress → Reading → Store → State →

@@ -14,14 +14,13 @@ use crate::places::{cursor_x, cursor_y, paper_of};
 use crate::progress::Progress;
 use crate::sheet::{Sheet, Spot, push_drawn_failure, push_end_of_all, push_start_of_all};
 use device_profile::{Panel, Profile};
-use page_env::{Finding, Page};
+use page_env::Page;
 use page_machine::{Machine, Start};
 use pcl_items::{Item, LexCause, LexFault, Place};
 use renderings::{Outcome, Renderer, render_job};
 use requests::Selection;
 use std::alloc::{AllocError, Allocator};
 use streams::{Error, Outlet, Source};
-use verdict::Reason;
 
 /// What is drawn of a job.
 #[derive(Clone, Copy)]
@@ -32,30 +31,6 @@ pub struct Wanted<'a> {
     pub sentence: &'a [u8],
 }
 
-// ---- outcomes
-
-/// The failure of a job by a finding.
-fn fails_at(place: Place, finding: Finding) -> Outcome
-    ensures { result ≡ Outcome.Fail place 1 (Reason.Finding finding) }
-{
-    Outcome::Fail {
-        place,
-        profile: 1,
-        finding: Reason::Finding(finding),
-    }
-}
-
-/// The failure of a job by a fault of its bytes.
-fn fails_by(fault: LexFault) -> Outcome
-    ensures { result ≡ Outcome.Fail fault.place 0 (Reason.Fault fault.cause) }
-{
-    Outcome::Fail {
-        place: fault.place,
-        profile: 0,
-        finding: Reason::Fault(fault.cause),
-    }
-}
-
 /// What the end of a job comes to behind which more would be drawn: a job that ends before the page
 /// that is wanted is too short.
 fn late_end(selection: Selection, place: Place) -> Outcome
@@ -63,7 +38,7 @@ fn late_end(selection: Selection, place: Place) -> Outcome
 {
     match selection {
         Selection::All => Outcome::Done,
-        Selection::One(_) => fails_by(LexFault {
+        Selection::One(_) => Outcome::of_fault(LexFault {
             cause: LexCause::Truncated,
             place,
         }),
@@ -167,7 +142,7 @@ impl<P: Allocator, B: Allocator + Copy> Renderer for JobPicture<'_, '_, P, B> {
             None => Ok(None),
             Some(finding) => {
                 push_failed(kept, &sheet, self.progress, spot, &self.wanted)?;
-                Ok(Some(fails_at(place, finding)))
+                Ok(Some(Outcome::of_finding(place, finding)))
             }
         }
     }
@@ -193,7 +168,7 @@ impl<P: Allocator, B: Allocator + Copy> Renderer for JobPicture<'_, '_, P, B> {
             }
             Some(finding) => {
                 push_failed(kept, &sheet, self.progress, spot, &self.wanted)?;
-                Ok(fails_at(place, finding))
+                Ok(Outcome::of_finding(place, finding))
             }
         }
     }
@@ -208,7 +183,7 @@ impl<P: Allocator, B: Allocator + Copy> Renderer for JobPicture<'_, '_, P, B> {
         let spot = spot_of(&sheet, self.machine.page());
         push_start_if_due(kept, &self.wanted, self.is_started)?;
         push_failed(kept, &sheet, self.progress, spot, &self.wanted)?;
-        Ok(fails_by(fault))
+        Ok(Outcome::of_fault(fault))
     }
 
     ghost adds_at_fault = { λ _ place cause. refl };

@@ -14,7 +14,7 @@ pub use command_words::push_command_words;
 pub use groups::PrinterGroup;
 pub use job_lines::push_job_line;
 pub use job_sentences::{push_job_sentence, push_named_first, sentences_are_short};
-pub use lines::line_of;
+pub use lines::{line_of, line_of_failure};
 pub use pipes::{is_pipe, refuse_pipe, refuse_words};
 pub use refusals::{
     push_refused_profile, push_refused_profile_sentence, push_unread, push_unread_profile,

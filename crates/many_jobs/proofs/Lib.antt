@@ -4,6 +4,5 @@ mod JobNoting
 mod JobObjectExamples
 mod JsonObjectFacts
 mod JsonTextFacts
-mod KeptFacts
 mod Limiting
 mod Stopping

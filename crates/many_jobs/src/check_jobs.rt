@@ -12,7 +12,7 @@ ghost use Rattle.requests.specs.Status.{is_stop_of_read, is_stop_of_write};
 
 use crate::ending::Ending;
 use crate::job_checks::check_jobs;
-use crate::kept_texts::{note_printers, printer_names, read_kept_fleet};
+use crate::kept_texts::{note_printers, printer_names};
 use crate::limited::limited_fleet;
 use crate::telling::{Format, Telling};
 use device_profile::Cause;
@@ -21,7 +21,7 @@ use job_reports::{
     push_unread_profile_sentence,
 };
 use named_inputs::system_words::system_words;
-use named_inputs::{Jobs, ProfileTexts};
+use named_inputs::{Jobs, ProfileTexts, read_kept_fleet};
 use requests::{Status, Trouble};
 use std::alloc::{AllocError, Allocator};
 use streams::{Error, Outlet, write_text};

@@ -1,12 +1,12 @@
 -- Lemmas on fleets.
 use Rattle.std.proofs.Common.{false, ◌≡◌, ◌≢◌, ◌<◌, ◌≤◌, ◌+◌, suc, ℕ, List, [], ◌∷◌, ◌++◌, map, take, drop, length, get_or, Option, Some}
-use Rattle.std.proofs.Common.{append-nil, append_assoc, refl, sym, ◌∙◌, ap, subst, arith}
+use Rattle.std.proofs.Common.{append-nil, append_assoc, refl, sym, ◌∙◌, ap, subst, arith, Ok}
 use Rattle.std.proofs.Math.Seq.{split_at}
 use Rattle.std.proofs.lemmas.List.{map_more, map-append, length-map, length-take, take_all}
 use Rattle.device_profile.specs.declared.fault.ProfileFault.{ProfileFault}
 use Rattle.device_profile.specs.declared.fault.ProfileFault.TheVariants.{Fault, Memory as NoMemory}
 use Rattle.device_profile.specs.Printer.{Printer}
-use Rattle.device_profile.specs.Text.{IsErrorOfText}
+use Rattle.device_profile.specs.Text.{IsErrorOfText, printer_of_text}
 use Rattle.streams.specs.declared.error.Error.TheVariants.{Memory, Read, Write, Turns, NoProfile, Items}
 use Rattle.requests.specs.declared.status.Status.{Status}
 use Rattle.requests.specs.declared.status.Status.TheVariants.{Pass, Fail, Help, Usage, Overwrites, NotAllowed, Told, Profile, Stopped}
@@ -112,6 +112,12 @@ DescribeBy-more start mid after printers others first second = (
   subst (λ texts. DescribeFleet texts (printers ++ others)) (sym (map-append (λ text. Some text) first.0 second.0))
       (DescribeFleet-append (map (λ text. Some text) first.0) (map (λ text. Some text) second.0) printers others first.2 second.2),
 )
+
+-- one more text is kept, which describes this printer
+pub kept_more : {X : Type 0} (bytes : X → List ℕ) (old new : List X) (text : X) (printer : Printer) → new ≡ old ++ text ∷ [] →
+    printer_of_text (bytes text) ≡ Ok printer → DescribeBy (map bytes old) (map bytes new) (printer ∷ [])
+kept_more bytes old new text printer push is =
+    (bytes text ∷ [], ap (map bytes) push ∙ map-append bytes old (text ∷ []), (is, tt))
 
 -- each text describes one printer
 described_count : (texts : List (Option (List ℕ))) (printers : List Printer) → DescribeFleet texts printers → length texts ≡ length printers

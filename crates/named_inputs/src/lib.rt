@@ -16,7 +16,7 @@ pub use choices::{chosen_panel, refuse_choice};
 pub use ended::{Ended, JobEnd};
 pub use file_jobs::{FileJobs, JobSource};
 pub use file_texts::FileTexts;
-pub use fleet::{read_fleet, read_profile, refusal};
+pub use fleet::{read_fleet, read_kept_fleet, read_profile, refusal};
 pub use front::read_front;
 pub use jobs::Jobs;
 pub use kept_text::{KeptText, kept_error};

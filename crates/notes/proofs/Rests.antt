@@ -25,8 +25,10 @@ use Rattle.page_machine.specs.Follows.{TakesUpTo}
 use Rattle.streams.specs.declared.error.Error.{Error}
 use Rattle.renderings.specs.declared.outcome.Outcome.{Outcome}
 use Rattle.renderings.specs.declared.outcome.Outcome.TheVariants.{Done as AllDone, Fail}
-use Rattle.verdict.specs.declared.reason.Reason.TheVariants.{Fault, Finding as FindingOfRun}
+use Rattle.verdict.specs.declared.reason.Reason.TheVariants.{Finding as FindingOfRun}
+use Rattle.verdict.specs.Failing.{fault_at}
 use Rattle.renderings.specs.Due.{Rendering, nothing_at_fault}
+use Rattle.renderings.specs.Outcomes.{fails_with}
 use Rattle.renderings.specs.PageTexts.{run_outcome}
 use Rattle.renderings.specs.Texts.{reading_outcome}
 use Rattle.renderings.specs.Carriers.Rendering.{RestGoesOn, EndsWith, StartsWith, Ended as EndedWith, RendersItem}
@@ -405,11 +407,15 @@ module _ (write : Told → List ℕ) (machine : MachineState) (panel : Panel) (p
 
   -- the bytes have a fault
   pub tells_fault : (place : ℕ) (cause : LexCause) → kept' ≡ kept →
-      EndedWith rendering (λ reading. reading ≡ Stopped [] place cause) a a kept kept' (Ok (Fail place 0 (Fault cause)))
-  tells_fault place cause same = (
+      (outcome : Outcome) → outcome ≡ fails_with (fault_at place cause)
+      → EndedWith rendering (λ reading. reading ≡ Stopped [] place cause) a a kept kept' (Ok outcome)
+  tells_fault place cause same outcome outcome_is = (
     [],
     puts a kept kept' [] (same ∙ sym (append-nil kept)),
-    record { due = λ reading is. ap rendering.text is; outcome_is = λ reading is. ap rendering.outcome is },
+    record {
+      due = λ reading is. ap rendering.text is;
+      outcome_is = λ reading is. ap rendering.outcome is ∙ sym outcome_is;
+    },
   )
 
 -- the mode behind an item that was executed

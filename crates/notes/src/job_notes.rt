@@ -4,6 +4,8 @@ ghost use Rattle.device_profile.specs.Printer.{IsAllowed};
 ghost use Rattle.notes.specs.Carriers.Rest.{WritesNotes, notes_from};
 ghost use Rattle.notes.specs.Notes.{long_run, noted_outcome, notes_at_end, notes_rendering};
 ghost use Rattle.renderings.specs.Due.{Renders};
+ghost use Rattle.renderings.specs.Outcomes.{fails_with};
+ghost use Rattle.verdict.specs.Failing.{found_at};
 
 use crate::closing::Closing;
 use crate::item_notes::tell_item;
@@ -45,21 +47,16 @@ fn end_at<N: NoteText, A: Allocator, B: Allocator>(
 ) -> Result<Outcome, AllocError>
     ensures tells { OnOk result (WritesNotes (N.note_text form.now) told.old.items
         told.new.items text.old.items text.new.items
-        (long_run (Outcome.Fail place 1 (Reason.Finding finding)))) }
+        (long_run (fails_with (found_at place 1 finding)))) }
     ensures outcome { IfOk result
-        (λ outcome. outcome ≡ noted_outcome (Outcome.Fail place 1 (Reason.Finding finding))) }
+        (λ outcome. outcome ≡ noted_outcome (fails_with (found_at place 1 finding))) }
 {
-    let finding = Reason::Finding(finding);
-    let is_long = finding.is_many_items();
+    let is_long = Reason::Finding(finding).is_many_items();
     tell(form, told, text, is_long, place, Note::LongRun)?;
     if is_long {
         return Ok(Outcome::Done);
     }
-    Ok(Outcome::Fail {
-        place,
-        profile: 1,
-        finding,
-    })
+    Ok(Outcome::of_finding(place, finding))
 }
 
 /// Tells the notes of the end of the bytes.
@@ -163,11 +160,7 @@ impl<N: NoteText, P: Allocator, B: Allocator + Copy> Renderer for Notes<'_, N, P
         _kept: &mut Vec<u8, A>,
         fault: LexFault,
     ) -> Result<Outcome, Error> {
-        Ok(Outcome::Fail {
-            place: fault.place,
-            profile: 0,
-            finding: Reason::Fault(fault.cause),
-        })
+        Ok(Outcome::of_fault(fault))
     }
 
     ghost adds_at_fault = { λ _ place cause. refl };

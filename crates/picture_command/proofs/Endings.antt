@@ -11,7 +11,7 @@ use Rattle.page_machine.specs.Machine.{item_of, end_of}
 use Rattle.sinks.specs.declared.counts.Counts.{Counts}
 use Rattle.streams.specs.Outlet.{OutletState}
 use Rattle.verdict.specs.declared.failure.Failure.{Failure}
-use Rattle.verdict.specs.declared.reason.Reason.TheVariants.{Fault as FaultOfBytes}
+use Rattle.verdict.specs.Failing.{fault_at, found_at}
 use Rattle.preflight.specs.declared.culprit.Culprit.{Culprit}
 use Rattle.streams.specs.declared.error.Error.{Error}
 use Rattle.renderings.specs.declared.outcome.Outcome.{Outcome}
@@ -27,7 +27,7 @@ use Rattle.requests.specs.Selection.{is_behind}
 use Rattle.job_reports.specs.Groups.{Groups}
 use Rattle.job_reports.specs.JobSentences.{at_command}
 use Rattle.picture_command.specs.Carriers.{Finishes, HasRun, Keeps, Steps, search_from}
-use Rattle.picture_command.specs.PageSearch.{Searched, at_item, failure_by, found_at_failure, open_page, text_at_end}
+use Rattle.picture_command.specs.PageSearch.{Searched, at_item, found_at_failure, open_page, text_at_end}
 use Rattle.picture_command.proofs.Searches.{item_goes, item_over, item_found, end_over, end_goes, end_found}
 use Rattle.picture_command.proofs.Words.{culprit_at_item}
 
@@ -74,14 +74,14 @@ module _ (selection : Selection) (job : List ℕ) (group : Groups) (machine : Ma
 
     pub item_fails : (found : Option Finding) (finding : Finding) → found ≡ Some finding →
         Steps machine machine' x.item counts counts' (Ok found) → false ≡ is_behind selection (open_page counts')
-        → (failure : Failure) → failure ≡ failure_by x.place finding → (culprit : Culprit) → IsCulprit culprit x.item
+        → (failure : Failure) → failure ≡ found_at x.place 1 finding → (culprit : Culprit) → IsCulprit culprit x.item
         → (r : Result Outcome Error) → Keeps kept kept' (found_at_failure selection job group counts' (at_command (Some culprit)) failure) r
         → Ended rendering (StartsWith x) old old kept kept' r
     item_fails found finding is steps goes failure failure_is culprit named r told =
         let halts : HasRun ((item_of machine x.item).run any_panel) (Halts finding) counts counts' =
         subst (λ f. Steps machine machine' x.item counts counts' (Ok f)) is steps in
         kept_ended rendering (StartsWith x) old kept kept'
-        (found_at_failure selection job group counts' (at_item x.item) (failure_by x.place finding)) r
+        (found_at_failure selection job group counts' (at_item x.item) (found_at x.place 1 finding)) r
         (item_found selection job group machine counts counts' x finding halts (sym goes))
         (subst (λ (f : Failure). Keeps kept kept' (found_at_failure selection job group counts' (at_item x.item) f) r) failure_is
         (subst (λ words. Keeps kept kept' (found_at_failure selection job group counts' words failure) r)
@@ -116,13 +116,13 @@ module _ (selection : Selection) (job : List ℕ) (group : Groups) (machine : Ma
 
     pub end_fails : (found : Option Finding) (finding : Finding) → found ≡ Some finding → Finishes machine counts counts' (Ok found) →
         false ≡ is_behind selection (open_page counts')
-        → (failure : Failure) → failure ≡ failure_by place finding
+        → (failure : Failure) → failure ≡ found_at place 1 finding
         → (r : Result Outcome Error) → Keeps kept kept' (found_at_failure selection job group counts' [] failure) r
         → Ended rendering (λ reading. reading ≡ Whole [] place) old old kept kept' r
     end_fails found finding is finishes goes failure failure_is r told =
         let halts : HasRun ((end_of machine).run any_panel) (Halts finding) counts counts' =
         subst (λ f. Finishes machine counts counts' (Ok f)) is finishes in
-        kept_ended rendering IsEnd old kept kept' (found_at_failure selection job group counts' [] (failure_by place finding)) r
+        kept_ended rendering IsEnd old kept kept' (found_at_failure selection job group counts' [] (found_at place 1 finding)) r
         (end_found selection job group machine counts counts' place finding halts (sym goes))
         (subst (λ (f : Failure). Keeps kept kept' (found_at_failure selection job group counts' [] f) r) failure_is told)
 
@@ -130,13 +130,12 @@ module _ (selection : Selection) (job : List ℕ) (group : Groups) (machine : Ma
 
 pub fault_fails : (selection : Selection) (job : List ℕ) (group : Groups) (machine : MachineState) (counts : Counts) (old : OutletState)
     (kept kept' : List ℕ) (place : ℕ) (cause : LexCause) (failure : Failure) →
-    failure ≡ record { place = place; profile = 0; reason = FaultOfBytes cause }
+    failure ≡ fault_at place cause
     → (r : Result Outcome Error) → Keeps kept kept' (found_at_failure selection job group counts [] failure) r
     → Ended (search_from selection job group machine counts) (λ reading. reading ≡ Stopped [] place cause) old old kept kept' r
 fault_fails selection job group machine counts old kept kept' place cause failure failure_is r told =
     let rendering : Rendering = search_from selection job group machine counts in
-    let fault : Failure = record { place = place; profile = 0; reason = FaultOfBytes cause } in
     kept_ended rendering (λ reading. reading ≡ Stopped [] place cause) old kept kept'
-    (found_at_failure selection job group counts [] fault) r
+    (found_at_failure selection job group counts [] (fault_at place cause)) r
     (record { due = λ reading is. ap rendering.text is; outcome_is = λ reading is. ap rendering.outcome is })
     (subst (λ (f : Failure). Keeps kept kept' (found_at_failure selection job group counts [] f) r) failure_is told)

@@ -16,6 +16,7 @@ use Rattle.page_machine.specs.MachineState.{MachineState}
 use Rattle.page_machine.specs.Machine.{IsNew, item_of, end_of}
 use Rattle.sinks.specs.declared.counts.Counts.{Counts}
 use Rattle.sinks.specs.Counts.{counted, counts_after, no_counts}
+use Rattle.verdict.specs.Failing.{found_at}
 use Rattle.renderings.specs.declared.outcome.Outcome.TheVariants.{Done as AllDone}
 use Rattle.renderings.specs.Due.{Rendering}
 use Rattle.renderings.specs.Carriers.PageRendering.{any_panel}
@@ -24,7 +25,7 @@ use Rattle.requests.specs.declared.selection.Selection.{Selection}
 use Rattle.requests.specs.Selection.{is_behind}
 use Rattle.job_reports.specs.Groups.{Groups}
 use Rattle.picture_command.specs.Carriers.{HasRun, rest_search, search_from}
-use Rattle.picture_command.specs.PageSearch.{Searched, at_item, behind_ending, failure_by, found_at_end, found_at_failure, nothing_told}
+use Rattle.picture_command.specs.PageSearch.{Searched, at_item, behind_ending, found_at_end, found_at_failure, nothing_told}
 use Rattle.picture_command.specs.PageSearch.{open_page, reading_search, run_search, search_rendering}
 
 -- ---- what was counted
@@ -51,7 +52,7 @@ module _ (selection : Selection) (job : List ℕ) (group : Groups) where
 
   module _ (counts : Counts) (words : List ℕ) (place : ℕ) (next : Counts → State → Searched) where
     abbrev failed : Counts → Finding → Searched
-    failed counts' finding = found_at_failure selection job group counts' words (failure_by place finding)
+    failed counts' finding = found_at_failure selection job group counts' words (found_at place 1 finding)
 
     abbrev by_ending : Counts → Ending → Bool → Searched
     by_ending counts' ending is_over = if is_over then nothing_told else (behind_ending ending (next counts') (failed counts'))
@@ -140,7 +141,7 @@ module _ (selection : Selection) (job : List ℕ) (group : Groups) where
       item_over ending has over = item_ended ending true nothing_told has over (λ rest. refl)
 
       abbrev item_failed : Finding → Searched
-      item_failed finding = found_at_failure selection job group counts' (at_item x.item) (failure_by x.place finding)
+      item_failed finding = found_at_failure selection job group counts' (at_item x.item) (found_at x.place 1 finding)
 
       pub item_found : (finding : Finding) → HasRun item_run (Halts finding) counts counts' →
           is_behind selection (open_page counts') ≡ false →
@@ -180,7 +181,7 @@ module _ (selection : Selection) (job : List ℕ) (group : Groups) where
       end_goes s has goes = end_ended (Done s) false at_end has goes refl
 
       abbrev end_failed : Finding → Searched
-      end_failed finding = found_at_failure selection job group counts' [] (failure_by place finding)
+      end_failed finding = found_at_failure selection job group counts' [] (found_at place 1 finding)
 
       pub end_found : (finding : Finding) → HasRun end_run (Halts finding) counts counts' →
           is_behind selection (open_page counts') ≡ false →

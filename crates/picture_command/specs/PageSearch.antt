@@ -17,13 +17,13 @@ use Rattle.page_machine.specs.Job.{with_macros}
 use Rattle.sinks.specs.declared.counts.Counts.{Counts}
 use Rattle.sinks.specs.Counts.{capped, counts_after, no_counts}
 use Rattle.verdict.specs.declared.failure.Failure.{Failure}
-use Rattle.verdict.specs.declared.reason.Reason.TheVariants.{Fault as FaultOfBytes, Finding as FindingOfRun}
 use Rattle.verdict.specs.declared.verdict.Verdict.{Verdict}
 use Rattle.verdict.specs.declared.verdict.Verdict.TheVariants.{Pass, Fail}
-use Rattle.verdict.specs.Failing.{failing}
+use Rattle.verdict.specs.Failing.{failing, fault_at, found_at}
 use Rattle.line_words.specs.Figures.{escaped_byte, named}
 use Rattle.renderings.specs.declared.outcome.Outcome.{Outcome}
-use Rattle.renderings.specs.declared.outcome.Outcome.TheVariants.{Done as AllDone, Fail as FailsOf}
+use Rattle.renderings.specs.declared.outcome.Outcome.TheVariants.{Done as AllDone}
+use Rattle.renderings.specs.Outcomes.{fails_with}
 use Rattle.renderings.specs.Due.{Rendering}
 use Rattle.requests.specs.declared.selection.Selection.{Selection}
 use Rattle.requests.specs.declared.selection.Selection.TheVariants.{All, One}
@@ -97,7 +97,7 @@ found_at_failure selection job group counts at_words failure =
     if is_drawn selection (open_page counts)
     then (record {
       text = sentence job group at_words (failing failure);
-      outcome = FailsOf failure.place failure.profile failure.reason;
+      outcome = fails_with failure;
     })
     else (record {
       text = missing_part selection job counts ++ sentence job group at_words (failing failure);
@@ -118,9 +118,6 @@ abbrev pub behind_ending : Ending → (State → Searched) → (Finding → Sear
 behind_ending (Done t) next failed = next t
 behind_ending (Halts finding) next failed = failed finding
 
-abbrev pub failure_by : ℕ → Finding → Failure
-failure_by place finding = record { place = place; profile = 1; reason = FindingOfRun finding }
-
 -- of an item at a place, or of the end of the bytes, that ran so, and then what follows
 abbrev pub run_search : Selection → (job : List ℕ) → Groups → Counts → (at_words : List ℕ) → ℕ → Run →
     (Counts → State → Searched) → Searched
@@ -128,7 +125,7 @@ run_search selection job group counts at_words place r next =
     let counts' = counts_after r.events counts in
     if is_behind selection (open_page counts') then nothing_told
     else (behind_ending r.ending (next counts') (λ finding.
-    found_at_failure selection job group counts' at_words (failure_by place finding)))
+    found_at_failure selection job group counts' at_words (found_at place 1 finding)))
 
 -- of items, and then what comes last
 abbrev pub items_search : Selection → (job : List ℕ) → Groups → Printer → Settings →
@@ -147,7 +144,7 @@ end_search selection job group printer defaults place counts macros s =
 
 abbrev pub fault_search : Selection → (job : List ℕ) → Groups → ℕ → LexCause → Counts → Store → State → Searched
 fault_search selection job group place cause counts macros s =
-    found_at_failure selection job group counts [] (record { place = place; profile = 0; reason = FaultOfBytes cause })
+    found_at_failure selection job group counts [] (fault_at place cause)
 
 -- of the items of a job and its end, or of the items before a fault and of the fault
 abbrev pub reading_search : Selection → (job : List ℕ) → Groups → Printer → Settings → Counts → Reading → Store →

@@ -211,11 +211,7 @@ impl<'p, 'n, B: Allocator + Copy> PageSearch<'p, 'n, B> {
     {
         if self.selection.is_drawn(self.open_page()) {
             self.push_sentence(text, failure.verdict(), culprit)?;
-            return Ok(Outcome::Fail {
-                place: failure.place,
-                profile: failure.profile,
-                finding: failure.reason,
-            });
+            return Ok(Outcome::of(failure));
         }
         self.push_missing_part(text)?;
         self.push_sentence(text, failure.verdict(), culprit)?;

@@ -21,10 +21,11 @@ use Rattle.sinks.specs.declared.counts.Counts.{Counts}
 use Rattle.verdict.specs.declared.failure.Failure.{Failure}
 use Rattle.verdict.specs.declared.reason.Reason.{Reason}
 use Rattle.verdict.specs.declared.reason.Reason.TheVariants as reasons
+use Rattle.verdict.specs.Failing.{found_at}
 use Rattle.sinks.specs.Counts.{counts_after}
 use Rattle.sinks.specs.Recorder.{Recorded, recorded_all}
 use Rattle.sinks.proofs.Recording.{recorder_takes, TakesAll-recorded}
-use Rattle.preflight.specs.Standing.{StandsAfter, StandsBy, found_at, is_open}
+use Rattle.preflight.specs.Standing.{StandsAfter, StandsBy, is_open}
 use Rattle.preflight.specs.declared.standing.Standing.{Standing}
 use Rattle.preflight.specs.Carriers.Each.{Each}
 use Rattle.preflight.specs.declared.lockstep.Formation.{Formation}

@@ -1,14 +1,12 @@
 -- How far a check has come.
 use Rattle.std.specs.Prelude.{◌≡◌, ℕ, Bool, true, false, Option, None, Some, Result, Ok, Err}
-use Rattle.page_env.specs.declared.finding.Finding.{Finding}
 use Rattle.page_machine.specs.declared.stop.Stop.{Stop}
 use Rattle.page_machine.specs.declared.stop.Stop.TheVariants as stops
 use Rattle.streams.specs.declared.error.Error.TheVariants.{Memory}
 use Rattle.preflight.specs.declared.standing.Standing.{Standing}
 use Rattle.preflight.specs.declared.standing.Standing.TheVariants.{Open, Judged, Stopped}
-use Rattle.verdict.specs.Failing.{failing}
+use Rattle.verdict.specs.Failing.{failing, found_at}
 use Rattle.verdict.specs.declared.failure.Failure.{Failure}
-use Rattle.verdict.specs.declared.reason.Reason.TheVariants as reasons
 use Rattle.verdict.specs.declared.verdict.Verdict.{Verdict}
 
 -- nothing is wrong so far
@@ -29,10 +27,6 @@ abbrev pub Ends : Standing → (Verdict → Type 0) → Type 0
 Ends Open P = ⊥
 Ends (Judged verdict) P = P verdict
 Ends (Stopped error) P = error ≡ Memory
-
--- what the machine of this number found at this place
-abbrev pub found_at : ℕ → ℕ → Finding → Failure
-found_at place number finding = record { place = place; profile = number; reason = reasons.Finding finding }
 
 -- how a check that was open stands, now that the machine of this number has answered for what stands at this place
 abbrev pub StandsAfter : {F : Type 0} → ℕ → ℕ → Result Unit (Stop F) → Standing → Type 0

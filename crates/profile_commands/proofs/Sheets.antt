@@ -12,19 +12,25 @@ use Rattle.test_sheet.specs.Sheet.{sheet}
 use Rattle.device_profile.specs.Printer.{Printer}
 use Rattle.preflight.specs.Verdict.{IsExact, KeepsPromise}
 use Rattle.profile_commands.specs.ProfileSheet.{FailsBy, IsEndOfCheck, LeavesSheet, LeavesSheetOf, Passes}
-use Rattle.verdict.specs.declared.reason.Reason.{Reason}
+use Rattle.verdict.specs.declared.failure.Failure.{Failure}
 use Rattle.verdict.specs.declared.verdict.Verdict.{Verdict}
 use Rattle.verdict.specs.declared.verdict.Verdict.TheVariants.{Pass, Fail}
+use Rattle.verdict.specs.Failing.{IsPass, failing}
 
-pub passes : (printer : Printer) (fleet : List Printer) (job : List ℕ) (verdict : Verdict) (pages marks : ℕ) → fleet ≡ printer ∷ [] →
-    verdict ≡ Pass pages marks
-    → IsExact fleet job verdict → KeepsPromise fleet job verdict → Passes printer job
-passes printer fleet job verdict pages marks one is exact promise = (pages, marks, rw (one, is) at exact, rw (one, is) at promise)
+pub passes : (printer : Printer) (fleet : List Printer) (job : List ℕ) (verdict : Verdict) → fleet ≡ printer ∷ [] → IsPass verdict →
+    IsExact fleet job verdict → KeepsPromise fleet job verdict → Passes printer job
+passes printer fleet job (Pass pages marks) one is exact promise = (
+  pages,
+  marks,
+  subst (λ printers. IsExact printers job (Pass pages marks)) one exact,
+  subst (λ printers. KeepsPromise printers job (Pass pages marks)) one promise,
+)
+passes printer fleet job (Fail place number reason) one is exact promise = absurd is
 
-pub fails_by : (printer : Printer) (fleet : List Printer) (job : List ℕ) (verdict : Verdict) (place number : ℕ) (reason : Reason) →
-    fleet ≡ printer ∷ [] → verdict ≡ Fail place number reason
-    → IsExact fleet job verdict → FailsBy printer job (Fail place number reason)
-fails_by printer fleet job verdict place number reason one is exact = (place, number, reason, refl, rw (one, is) at exact)
+pub fails_by : (printer : Printer) (fleet : List Printer) (job : List ℕ) (verdict : Verdict) (failure : Failure) →
+    fleet ≡ printer ∷ [] → verdict ≡ failing failure → IsExact fleet job verdict → FailsBy printer job failure
+fails_by printer fleet job verdict failure one is exact =
+    subst (λ printers. IsExact printers job (failing failure)) one (subst (λ (v : Verdict). IsExact fleet job v) is exact)
 
 -- where a trouble is told, no OUT is refused
 pub told_refuses_none : (status : Status) (trouble : Trouble) (line : List ℕ) (err err' : OutletState) →

@@ -15,9 +15,9 @@ use Rattle.requests.specs.declared.status.Status.{Status}
 use Rattle.requests.specs.declared.status.Status.TheVariants.{Overwrites, Stopped}
 use Rattle.requests.specs.declared.status.Trouble.TheVariants.{Refused}
 use Rattle.test_sheet.specs.Sheet.{sheet}
-use Rattle.verdict.specs.declared.reason.Reason.{Reason}
-use Rattle.verdict.specs.declared.verdict.Verdict.{Verdict}
-use Rattle.verdict.specs.declared.verdict.Verdict.TheVariants.{Pass, Fail}
+use Rattle.verdict.specs.declared.failure.Failure.{Failure}
+use Rattle.verdict.specs.declared.verdict.Verdict.TheVariants.{Pass}
+use Rattle.verdict.specs.Failing.{failing}
 
 -- the job passes on this printer
 abbrev pub Passes : Printer → List ℕ → Type 0
@@ -25,16 +25,15 @@ Passes printer job =
     (pages : ℕ) × (marks : ℕ) × IsExact (printer ∷ []) job (Pass pages marks)
     × KeepsPromise (printer ∷ []) job (Pass pages marks)
 
--- the job fails on it, by this verdict
-abbrev pub FailsBy : Printer → List ℕ → Verdict → Type 0
-FailsBy printer job verdict =
-    (place : ℕ) × (number : ℕ) × (reason : Reason) × (verdict ≡ Fail place number reason)
-    × IsExact (printer ∷ []) job verdict
+-- the job fails on it so
+abbrev pub FailsBy : Printer → List ℕ → Failure → Type 0
+FailsBy printer job failure = IsExact (printer ∷ []) job (failing failure)
 
 -- the word of a profile on whose printer the sheet fails, and how
-abbrev pub unprinted_sheet : List ℕ → Verdict → List ℕ
-unprinted_sheet word verdict =
-    codes "error: the sheet for '" ++ (shown word ++ (codes "' would not pass on it: " ++ verdict_line verdict))
+abbrev pub unprinted_sheet : List ℕ → Failure → List ℕ
+unprinted_sheet word failure =
+    codes "error: the sheet for '"
+    ++ (shown word ++ (codes "' would not pass on it: " ++ verdict_line (failing failure)))
 
 -- OUT is created and the job written, or a front where a write failed;
 -- or OUT is the profile itself or cannot be created, and nothing is written
@@ -57,8 +56,8 @@ abbrev pub LeavesSheetOf : List ℕ → Printer → List ℕ → Status → Outl
     Type 0
 LeavesSheetOf word printer job status out out' err err' =
     (Passes printer job × WritesOut job status out out' × (err' ≡ err))
-    ⊎ ((verdict : Verdict) × FailsBy printer job verdict
-    × TellsLine status Refused (unprinted_sheet word verdict) err err' × (out' ≡ out))
+    ⊎ ((failure : Failure) × FailsBy printer job failure
+    × TellsLine status Refused (unprinted_sheet word failure) err err' × (out' ≡ out))
     ⊎ (IsEndOfCheck status × (out' ≡ out) × (err' ≡ err))
 
 -- the sheet of the printer whose text was read, or there is none, and standard error is told why

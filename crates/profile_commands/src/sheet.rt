@@ -8,15 +8,15 @@ ghost use Rattle.requests.specs.Status.{is_overwriting};
 use crate::profile_reading::{profile_of, read_text};
 use crate::whole_text::write_whole;
 use device_profile::{Profile, printer_name};
-use job_reports::line_of;
+use job_reports::line_of_failure;
 use named_inputs::ProfileTexts;
-use preflight::Verdict;
 use requests::{Input, Status, Trouble};
 use shown_bytes::push_shown;
 use std::alloc::{AllocError, Allocator};
 use streams::{Create, Error, FileId, Outlet, write_text};
 use subcommands::check::verdict_on;
 use test_sheet::sheet_job;
+use verdict::Failure;
 
 /// The command `profile sheet`: in OUT a job by which the printer is compared with its profile. The
 /// profile is read, the job made, and checked for it, before OUT is created, unless that is the
@@ -82,23 +82,13 @@ fn write_sheet<W: Create, E: Outlet, A: Allocator + Copy>(
     if fleet.push(profile).is_err() {
         return Status::Stopped(Error::Memory);
     }
-    match verdict_on(alloc, job, fleet.as_slice()) {
-        Ok(Verdict::Pass { .. }) => write_out(job, file, out),
-        Ok(
-            Verdict::Fail {
-                place,
-                profile,
-                finding,
-            },
-        ) => {
-            let verdict = Verdict::Fail {
-                place,
-                profile,
-                finding,
-            };
-            refuse(alloc, word, verdict, stderr)
-        }
-        Err(error) => end_of_check(error),
+    let verdict = match verdict_on(alloc, job, fleet.as_slice()) {
+        Ok(verdict) => verdict,
+        Err(error) => return end_of_check(error),
+    };
+    match verdict.failure() {
+        None => write_out(job, file, out),
+        Some(failure) => refuse(alloc, word, failure, stderr),
     }
 }
 
@@ -138,14 +128,14 @@ fn write_out<W: Create>(job: &[u8], file: Option<FileId>, out: &mut W) -> Status
 fn refuse<E: Outlet, A: Allocator + Copy>(
     alloc: A,
     word: &str,
-    verdict: Verdict,
+    failure: Failure,
     stderr: &mut E,
 ) -> Status
     requires { IsFalse (E.state stderr.old).failed }
-    ensures { TellsLine result Trouble.Refused (unprinted_sheet word.now verdict)
+    ensures { TellsLine result Trouble.Refused (unprinted_sheet word.now failure)
         (E.state stderr.old) (E.state stderr.new) }
 {
-    let Ok(line) = refusal_line(alloc, word, verdict) else {
+    let Ok(line) = refusal_line(alloc, word, failure) else {
         return Status::Stopped(Error::Memory);
     };
     // Where standard error takes nothing, the status alone is left to tell.
@@ -156,14 +146,14 @@ fn refuse<E: Outlet, A: Allocator + Copy>(
 fn refusal_line<A: Allocator + Copy>(
     alloc: A,
     word: &str,
-    verdict: Verdict,
+    failure: Failure,
 ) -> Result<Vec<u8, A>, AllocError>
-    ensures { IfOk result (λ line. line.items ≡ unprinted_sheet word.now verdict) }
+    ensures { IfOk result (λ line. line.items ≡ unprinted_sheet word.now failure) }
 {
     let mut line = Vec::new(alloc);
     line.extend_from_slice(b"error: the sheet for '")?;
     push_shown(&mut line, word.as_bytes())?;
     line.extend_from_slice(b"' would not pass on it: ")?;
-    line.extend_from_slice(line_of(alloc, verdict)?.as_slice())?;
+    line.extend_from_slice(line_of_failure(alloc, failure)?.as_slice())?;
     Ok(line)
 }

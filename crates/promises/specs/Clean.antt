@@ -11,8 +11,7 @@ use Rattle.page_machine.specs.Event.{Event}
 use Rattle.page_machine.specs.Run.{Done}
 use Rattle.page_machine.specs.Job.{events_of, plain_run}
 use Rattle.page_machine.specs.Pages.{PrintedPage, pages}
-use Rattle.verdict.specs.declared.verdict.Verdict.{Verdict}
-use Rattle.verdict.specs.declared.verdict.Verdict.TheVariants.{Pass, Fail}
+use Rattle.verdict.specs.Failing.{IsPass}
 use Rattle.preflight.specs.Failing.{events_by_item}
 use Rattle.preflight.specs.Verdict.{verdict_of}
 
@@ -35,10 +34,6 @@ pub record AreClean (fleet : List Printer) (items : List Placed) (place : ℕ) :
   pub events : List (List Event)
   pub alike : (printer : Printer) → Contains fleet printer →
       events_by_item (plain_run printer (first_panel printer) (Whole items place)).items ≡ events
-
-abbrev pub IsPass : Verdict → Type 0
-IsPass (Pass page_total mark_total) = Unit {0}
-IsPass (Fail place profile finding) = ⊥
 
 -- printers that leave nothing to their panels pass a job, all bytes of which are items, exactly where it
 -- runs clean on them

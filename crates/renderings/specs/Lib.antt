@@ -1,3 +1,4 @@
+pub mod Outcomes
 pub mod Texts
 pub mod PageTexts
 pub mod Due

@@ -8,8 +8,8 @@ use Rattle.page_machine.specs.Event.{Event, Marked, Ended}
 use Rattle.page_machine.specs.Job.{ItemRun, events_of, plain_run}
 use Rattle.sinks.specs.Counts.{capped}
 use Rattle.renderings.specs.declared.outcome.Outcome.{Outcome}
-use Rattle.renderings.specs.declared.outcome.Outcome.TheVariants.{Fail}
-use Rattle.verdict.specs.declared.reason.Reason.TheVariants.{Finding as FindingOfRun}
+use Rattle.renderings.specs.Outcomes.{fails_with}
+use Rattle.verdict.specs.Failing.{found_at}
 use Rattle.line_words.specs.MarkLines.{mark_line, page_line}
 use Rattle.renderings.specs.Texts.{reading_outcome}
 
@@ -33,7 +33,7 @@ events_text n (e ∷ es) = event_line n e ++ events_text (page_after n e) es
 -- ---- the job
 
 abbrev pub found_or : ℕ → Option Finding → Outcome → Outcome
-found_or place (Some finding) later = Fail place 1 (FindingOfRun finding)
+found_or place (Some finding) later = fails_with (found_at place 1 finding)
 found_or place None later = later
 
 -- the finding of a run, where it has one, or what comes behind its items

@@ -9,10 +9,10 @@ use Rattle.pcl_lexer.specs.Reading.{Reading, items_of}
 use Rattle.page_env.specs.FontInForce.{request_at}
 use Rattle.page_env.specs.Pinned.{is_unpinnable}
 use Rattle.page_machine.specs.Pinning.{written_before, written_behind, is_due_behind}
-use Rattle.verdict.specs.declared.reason.Reason.TheVariants.{Unpinnable}
+use Rattle.verdict.specs.Failing.{unpinnable_at}
 use Rattle.renderings.specs.declared.outcome.Outcome.{Outcome}
-use Rattle.renderings.specs.declared.outcome.Outcome.TheVariants.{Fail}
 use Rattle.renderings.specs.Due.{Rendering, nothing_at_fault}
+use Rattle.renderings.specs.Outcomes.{fails_with}
 use Rattle.renderings.specs.Texts.{reading_outcome}
 
 -- an item, with what belongs before and behind it, each in its canonical spelling
@@ -29,7 +29,7 @@ pinned_text panel request due (x ∷ xs) =
 
 -- that item ends it
 abbrev pub unpinnable_or : Option Placed → Outcome → Outcome
-unpinnable_or (Some x) outcome = Fail x.place 1 Unpinnable
+unpinnable_or (Some x) outcome = fails_with (unpinnable_at x.place)
 unpinnable_or None outcome = outcome
 
 abbrev pub pinned_outcome : Reading → Outcome

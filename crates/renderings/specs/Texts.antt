@@ -4,14 +4,15 @@ use Rattle.pcl_items.specs.Items.{Placed}
 use Rattle.pcl_items.specs.Spellings.Canon.{canon}
 use Rattle.pcl_lexer.specs.Reading.{Reading, Whole, Stopped, items_of}
 use Rattle.renderings.specs.declared.outcome.Outcome.{Outcome}
-use Rattle.renderings.specs.declared.outcome.Outcome.TheVariants.{Done, Fail}
-use Rattle.verdict.specs.declared.reason.Reason.TheVariants.{Fault}
+use Rattle.renderings.specs.declared.outcome.Outcome.TheVariants.{Done}
+use Rattle.renderings.specs.Outcomes.{fails_with}
+use Rattle.verdict.specs.Failing.{fault_at}
 use Rattle.line_words.specs.ItemLines.{item_line, fault_line}
 
 -- bytes that are items to their end, or up to a fault
 abbrev pub reading_outcome : Reading → Outcome
 reading_outcome (Whole items place) = Done
-reading_outcome (Stopped items place cause) = Fail place 0 (Fault cause)
+reading_outcome (Stopped items place cause) = fails_with (fault_at place cause)
 
 -- each item in its canonical spelling
 abbrev pub plain_text : Reading → List ℕ

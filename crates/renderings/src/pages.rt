@@ -11,12 +11,11 @@ use crate::outcome::Outcome;
 use crate::render::{Renderer, render_job};
 use device_profile::{Panel, Profile};
 use line_words::{push_mark, push_page};
-use page_env::{Finding, Mark, PageEnd};
+use page_env::{Mark, PageEnd};
 use page_machine::{Machine, MarkSink, Start, Stop};
 use pcl_items::{Item, LexFault, Place};
 use std::alloc::Allocator;
 use streams::{Error, Outlet, Source, write_enough};
-use verdict::Reason;
 
 /// Writes a line for each mark and for each end of a page.
 #[derive(Drop)]
@@ -83,17 +82,6 @@ fn refusal<W: Outlet>(outlet: &W) -> Error
     }
 }
 
-/// The failure of a job by a finding.
-fn fails_at(place: Place, finding: Finding) -> Outcome
-    ensures { result ≡ Outcome.Fail place 1 (Reason.Finding finding) }
-{
-    Outcome::Fail {
-        place,
-        profile: 1,
-        finding: Reason::Finding(finding),
-    }
-}
-
 impl<P: Allocator, B: Allocator + Copy> Renderer for Pages<'_, P, B> {
     ghost rendering = { λ pages. pages_from pages.machine pages.page };
 
@@ -117,7 +105,7 @@ impl<P: Allocator, B: Allocator + Copy> Renderer for Pages<'_, P, B> {
                 self.page = text.page;
                 Ok(None)
             }
-            Err(Stop::Found(finding)) => Ok(Some(fails_at(place, finding))),
+            Err(Stop::Found(finding)) => Ok(Some(Outcome::of_finding(place, finding))),
             // Whether the outlet failed or memory was refused, the outlet tells.
             Err(Stop::Refused(_)) => Err(refusal(text.outlet)),
             Err(Stop::Memory(_)) => Err(Error::Memory),
@@ -138,7 +126,7 @@ impl<P: Allocator, B: Allocator + Copy> Renderer for Pages<'_, P, B> {
         };
         match self.machine.finish(&mut text) {
             Ok(()) => Ok(Outcome::Done),
-            Err(Stop::Found(finding)) => Ok(fails_at(place, finding)),
+            Err(Stop::Found(finding)) => Ok(Outcome::of_finding(place, finding)),
             // Whether the outlet failed or memory was refused, the outlet tells.
             Err(Stop::Refused(_)) => Err(refusal(text.outlet)),
             Err(Stop::Memory(_)) => Err(Error::Memory),

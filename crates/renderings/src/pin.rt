@@ -23,7 +23,6 @@ use pcl_items::{Command, Item, LexFault, Number, Place, SetLetter, Sign, SimpleI
 use pcl_spelling::spell;
 use std::alloc::{AllocError, Allocator};
 use streams::{Error, Outlet, Source, write_enough};
-use verdict::Reason;
 
 /// A whole number as values have it, in ten-thousandths.
 const WHOLE: u32 = 10_000;
@@ -241,11 +240,7 @@ impl Renderer for Pinning {
         item: &Item<'_>,
     ) -> Result<Option<Outcome>, Error> {
         if is_unpinnable(item) {
-            return Ok(Some(Outcome::Fail {
-                place,
-                profile: 1,
-                finding: Reason::Unpinnable,
-            }));
+            return Ok(Some(Outcome::of_unpinnable(place)));
         }
         self.push(kept, item)?;
         self.is_due = is_due_behind(self.is_due, item);

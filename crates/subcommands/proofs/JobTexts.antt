@@ -74,7 +74,8 @@ told Done (Told trouble) rendering job job' old new start end stands line = absu
 told Done (Profile number row cause) rendering job job' old new start end stands line = absurd line
 told Done (Stopped error) rendering job job' old new start end stands line = absurd line
 told (FailsOf place profile finding) Pass rendering job job' old new start end stands line = absurd line
-told (FailsOf place profile finding) Fail rendering job job' old new start end stands line = (place, profile, finding, stands, line)
+told (FailsOf place profile finding) Fail rendering job job' old new start end stands line =
+    (record { place = place; profile = profile; reason = finding }, stands, line)
 told (FailsOf place profile finding) Help rendering job job' old new start end stands line = absurd line
 told (FailsOf place profile finding) Usage rendering job job' old new start end stands line = absurd line
 told (FailsOf place profile finding) (Overwrites input) rendering job job' old new start end stands line = absurd line
@@ -82,10 +83,10 @@ told (FailsOf place profile finding) (NotAllowed choice) rendering job job' old 
 told (FailsOf place profile finding) (Told trouble) rendering job job' old new start end stands line = absurd line
 told (FailsOf place profile finding) (Profile number row cause) rendering job job' old new start end stands line = absurd line
 told (FailsOf place profile finding) (Stopped Memory) rendering job job' old new start end stands line =
-    inr (place, profile, finding, stands, line)
+    inr (record { place = place; profile = profile; reason = finding }, stands, line)
 told (FailsOf place profile finding) (Stopped Read) rendering job job' old new start end stands line = absurd line
 told (FailsOf place profile finding) (Stopped Write) rendering job job' old new start end stands line =
-    inr (place, profile, finding, stands, line)
+    inr (record { place = place; profile = profile; reason = finding }, stands, line)
 told (FailsOf place profile finding) (Stopped Turns) rendering job job' old new start end stands line = absurd line
 told (FailsOf place profile finding) (Stopped NoProfile) rendering job job' old new start end stands line = absurd line
 told (FailsOf place profile finding) (Stopped Items) rendering job job' old new start end stands line = absurd line

@@ -6,9 +6,12 @@ use Rattle.streams.specs.declared.error.Error.{Error}
 use Rattle.streams.specs.declared.error.Error.TheVariants.{Memory, Read, Write, Turns, NoProfile, Items}
 use Rattle.renderings.specs.declared.outcome.Outcome.{Outcome}
 use Rattle.renderings.specs.declared.outcome.Outcome.TheVariants.{Done, Fail as FailsOf}
+use Rattle.verdict.specs.Failing.{failing}
+use Rattle.verdict.specs.declared.failure.Failure.{Failure}
 use Rattle.verdict.specs.declared.reason.Reason.{Reason}
 use Rattle.verdict.specs.declared.verdict.Verdict.TheVariants.{Fail as FailOf}
 use Rattle.renderings.specs.Due.{Rendering, WritesDue, WritesFront, pages_rendering}
+use Rattle.renderings.specs.Outcomes.{fails_with}
 use Rattle.renderings.specs.Pins.{pinned_rendering}
 use Rattle.streams.specs.Outlet.{OutletState, Adds, AddsFront, Stays}
 use Rattle.streams.specs.Source.{SourceState}
@@ -35,9 +38,7 @@ pub record EndsBy (status : Status) (Left : SourceState → SourceState → Type
 abbrev pub StandsUpToFailure : Rendering → SourceState → SourceState → OutletState → OutletState → (List ℕ → Type 0) →
     Type 0
 StandsUpToFailure rendering job job' old new P =
-    (place : ℕ) × (profile : ℕ) × (finding : Reason)
-    × WritesDue rendering job job' old new (FailsOf place profile finding)
-    × P (verdict_line (FailOf place profile finding))
+    (failure : Failure) × WritesDue rendering job job' old new (fails_with failure) × P (verdict_line (failing failure))
 
 -- what a subcommand that ends by this status leaves of a text alone
 abbrev pub LeavesText : Status → Rendering → SourceState → SourceState → OutletState → OutletState → Type 0

@@ -5,16 +5,18 @@ ghost use Rattle.subcommands.specs.JobNotes.{EndsNotes, LeavesNotes, outcome_lin
 ghost use Rattle.named_inputs.specs.KeptText.{kept_error};
 ghost use Rattle.subcommands.specs.JobTexts.{EndsBy, JudgesFirst};
 ghost use Rattle.named_inputs.specs.Fleet.{IsNamed};
+ghost use Rattle.job_reports.specs.Lines.{verdict_line};
 ghost use Rattle.requests.specs.Status.{is_stop_of_read, is_stop_of_write};
+ghost use Rattle.verdict.specs.Failing.{failing};
 
-use job_reports::line_of;
+use job_reports::line_of_failure;
 use named_inputs::{KeptText, ProfileTexts, kept_error, read_profile};
 use notes::{MOST_ITEMS, NoteLine, notes_of};
-use preflight::Verdict;
 use renderings::Outcome;
 use requests::Status;
 use std::alloc::{AllocError, Allocator};
 use streams::{Error, Outlet, Source, write_text};
+use verdict::Failure;
 
 /// The command `notes`: what the job leaves to the printer that the word PROFILE names, from its
 /// first panel, on standard output, where macros may carry out `MOST_ITEMS` items. The profile is
@@ -93,22 +95,20 @@ fn push_outcome<A: Allocator, B: Allocator>(
 ) -> Result<(), AllocError>
     ensures { OnOk result (text.new.items ≡ text.old.items ++ outcome_line outcome) }
 {
-    let Outcome::Fail {
-        place,
-        profile,
-        finding,
-    } = outcome
-    else {
-        return Ok(());
-    };
-    let line = line_of(
-        alloc,
-        Verdict::Fail {
-            place,
-            profile,
-            finding,
-        },
-    )?;
+    match outcome.failure() {
+        None => Ok(()),
+        Some(failure) => push_failure(alloc, text, failure),
+    }
+}
+
+fn push_failure<A: Allocator, B: Allocator>(
+    alloc: B,
+    text: &mut Vec<u8, A>,
+    failure: Failure,
+) -> Result<(), AllocError>
+    ensures { OnOk result (text.new.items ≡ text.old.items ++ verdict_line (failing failure)) }
+{
+    let line = line_of_failure(alloc, failure)?;
     text.extend_from_slice(line.as_slice())
 }
 

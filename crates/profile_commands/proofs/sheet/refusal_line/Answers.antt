@@ -8,4 +8,4 @@ returns g c =
     in_order _ _ _ _ _ _ _ _ _ _
     (c.in_ok-extend_from_slice.ensures.items ∙ ap (λ l. l ++ codes "error: the sheet for '") c.new-line.ensures.items)
     c.in_ok-push_shown.ensures c.in_ok-extend_from_slice-2.ensures.items c.in_ok-extend_from_slice-3.ensures.items
-    (ap shown c.as_bytes.ensures.value) (c.as_slice.ensures.value ∙ c.in_ok-line_of.ensures)
+    (ap shown c.as_bytes.ensures.value) (c.as_slice.ensures.value ∙ c.in_ok-line_of_failure.ensures)

@@ -121,4 +121,4 @@ returns-in_ok-push_failed-in-Some-clause-rendered g c =
     c.in_ok-push_start_if_due.ensures c.sheet_of-sheet.result sheet_is c.spot_of-spot.result spot_is c.args.place c.finish_on.new.kept.items
     c.finish_on.new.progress
     c.in_ok-found.found c.in-Some.finding c.in-Some.is c.in_ok-push_failed-in-Some.ensures c.in_ok-found.ensures.finishes
-    c.if-is_behind.ensures c.fails_at.result c.fails_at.ensures
+    c.if-is_behind.ensures c.of_finding.result c.of_finding.ensures

@@ -39,4 +39,4 @@ returns-clause-rendered g c =
     fault_fails selection sentence own.machine own.progress own.is_started outlet outlet c.args.kept.now.items
     c.push_start_if_due.new.text.items c.push_failed.new.text.items c.in_ok-push_start_if_due.ensures c.sheet_of-sheet.result sheet_is
     c.spot_of-spot.result spot_is
-    c.args.fault.place c.args.fault.cause refl c.in_ok-push_failed.ensures c.fails_by.result c.fails_by.ensures
+    c.args.fault.place c.args.fault.cause refl c.in_ok-push_failed.ensures c.of_fault.result c.of_fault.ensures

@@ -103,4 +103,4 @@ returns-in_ok-push_failed-in-Some-clause-rendered g c =
     c.in_ok-push_start_if_due.ensures c.sheet_of-sheet.result sheet_is c.spot_of-spot.result spot_is
     (at c.args.place (view c.args.item.now)) c.step_on.new.machine c.step_on.new.kept.items c.step_on.new.progress
     c.in_ok-found.found c.in-Some.finding c.in-Some.is c.in_ok-push_failed-in-Some.ensures c.in_ok-found.ensures.steps
-    c.if-is_behind.ensures c.fails_at.result c.fails_at.ensures
+    c.if-is_behind.ensures c.of_finding.result c.of_finding.ensures

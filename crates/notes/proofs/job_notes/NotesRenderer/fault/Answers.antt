@@ -7,4 +7,4 @@ returns-clause-rendered g c =
     let notes = c.args.self.now in
     let kept = c.args._kept.now.items in
     tells_fault (g.N.NoteText.note_text notes.form.now) notes.machine notes.panel notes.past notes.closing notes.told.items
-    (g.W.Outlet.state c.args._outlet.now) kept kept c.args.fault.place c.args.fault.cause refl
+    (g.W.Outlet.state c.args._outlet.now) kept kept c.args.fault.place c.args.fault.cause refl c.of_fault.result c.of_fault.ensures

@@ -53,12 +53,12 @@ returns-in-Err-Found-clause-rendered g c =
     let kept_is : sink.kept.now ≡ c.in-Err-Found.kept-in-Found-1-own.given.0 = search rules in
     same_places
     (λ outlet kept. Ended (pages_from c.args.self.now.machine c.args.self.now.page) (λ reading. reading ≡ Whole [] c.args.place)
-    (g.W.Outlet.state c.args.outlet.now) (g.W.Outlet.state outlet) c.args.kept.now.items kept.items (Ok c.fails_at.result))
+    (g.W.Outlet.state c.args.outlet.now) (g.W.Outlet.state outlet) c.args.kept.now.items kept.items (Ok c.of_finding.result))
     sink.outlet.now c.in-Err-Found.outlet-in-Found-1-own.given.0 sink.kept.now c.in-Err-Found.kept-in-Found-1-own.given.0 outlet_is kept_is
     (subst
     (λ outcome. Ended (pages_from c.args.self.now.machine c.args.self.now.page) (λ reading. reading ≡ Whole [] c.args.place)
     (g.W.Outlet.state c.args.outlet.now) (g.W.Outlet.state sink.outlet.now) c.args.kept.now.items sink.kept.now.items (Ok outcome))
-    (sym c.fails_at.ensures)
+    (sym c.of_finding.ensures)
     (tells_end_finding g.W.Outlet.state c.args.self.now.machine _ sink c.requires.working c.args.place c.in-Err-Found.finding took))
 
 pub returns-in-Err-Found-clause-status : goal.returns-in-Err-Found-clause-status

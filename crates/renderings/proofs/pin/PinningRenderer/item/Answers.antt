@@ -1,6 +1,6 @@
 use Rattle.std.proofs.Common.{[], Bool, sym, subst, ◌∙◌}
 use Rattle.pcl_items.specs.Items.{at, view}
-use Rattle.renderings.specs.Carriers.Rendering.{RestGoesOn}
+use Rattle.renderings.specs.Carriers.Rendering.{EndsWith, RestGoesOn, StartsWith}
 use Rattle.renderings.specs.Pins.{pinned_item, pins_from}
 use Rattle.renderings.proofs.PinRenderings.{pins_goes, pins_end}
 use Rattle.renderings.proofs.Renderings.{Puts-none, item_cut, item_none}
@@ -8,11 +8,14 @@ use Rattle.renderings.proofs.pin.PinningRenderer.item.Goals as goal
 
 pub returns-then-is_unpinnable-clause-rendered : goal.returns-then-is_unpinnable-clause-rendered
 returns-then-is_unpinnable-clause-rendered g c =
-    let pinning = c.args.self.now in (
+    let pinning = c.args.self.now in
+    let x = at c.args.place (view c.args.item.now) in (
       [],
       Puts-none (g.W.Outlet.state c.args.outlet.now) c.args.kept.now.items,
-      pins_end pinning.settings.panel pinning.settings.request pinning.is_due (at c.args.place (view c.args.item.now))
-          (sym c.is_unpinnable.ensures ∙ c.if-is_unpinnable.true),
+      subst (EndsWith (pins_from pinning.settings.panel pinning.settings.request pinning.is_due) (StartsWith x) [])
+          (sym c.of_unpinnable.ensures)
+          (pins_end pinning.settings.panel pinning.settings.request pinning.is_due x
+          (sym c.is_unpinnable.ensures ∙ c.if-is_unpinnable.true)),
     )
 
 pub returns-in_err-push-clause-rendered : goal.returns-in_err-push-clause-rendered

@@ -1,7 +1,7 @@
 use Rattle.std.proofs.Common.{map, rules}
-use Rattle.named_inputs.specs.Fleet.{IsEndOfFleet}
-use Rattle.named_inputs.proofs.FleetFacts.{DescribeBy-more, DescribeFleet-all, DescribeFleet-next, fleet_ends}
-use Rattle.many_jobs.proofs.kept_texts.read_kept_fleet.Goals as goal
+use Rattle.named_inputs.specs.Fleet.{IsEndOfFleet, RefusesBy}
+use Rattle.named_inputs.proofs.FleetFacts.{DescribeBy-more, DescribeFleet-all, DescribeFleet-next, fleet_ends, refused_behind}
+use Rattle.named_inputs.proofs.fleet.read_kept_fleet.Goals as goal
 
 pub returns-in_err-profile-clause-fleet : goal.returns-in_err-profile-clause-fleet
 returns-in_err-profile-clause-fleet g c =
@@ -10,6 +10,15 @@ returns-in_err-profile-clause-fleet g c =
     let ended : IsEndOfFleet (map (λ word. start word.now) c.args.words.now) c.in_err-profile.field-0.0 =
     fleet_ends start now (λ word. word.now) c.args.words.now c.loop-i.i _ c.loop-i.fleet.items c.in_err-profile.field-0.0
     (search rules) c.loop-i.invariant.1 c.loop-i.invariant.2 c.in_err-profile.ensures.profile in
+    search rules
+
+pub returns-in_err-profile-clause-given : goal.returns-in_err-profile-clause-given
+returns-in_err-profile-clause-given g c =
+    let start = g.T.ProfileTexts.text_of c.args.texts.now in
+    let refused :
+    RefusesBy (g.T.ProfileTexts.given c.args.texts.now) (g.T.ProfileTexts.given c.read_kept.new.texts) c.in_err-profile.field-0.0 =
+    refused_behind (λ word. start word.now) c.args.words.now c.loop-i.i _ _ _ c.loop-i.fleet.items c.in_err-profile.field-0.0
+    (search rules) c.loop-i.invariant.2 c.loop-i.invariant.3 c.in_err-profile.ensures.given in
     search rules
 
 pub loop-i-preserved : goal.loop-i-preserved
@@ -21,7 +30,8 @@ loop-i-preserved g c =
       rw c.in_ok-push.ensures.items
           (DescribeFleet-next start now (λ word. word.now) c.args.words.now c.loop-i.i _ c.loop-i.fleet.items c.in_ok-profile.profile
           (search rules) c.loop-i.invariant.1 c.loop-i.invariant.2 c.in_ok-profile.ensures.profile),
-      rw c.in_ok-push.ensures.items (DescribeBy-more _ _ _ c.loop-i.fleet.items _ c.loop-i.invariant.3 c.in_ok-profile.ensures.kept),
+      rw c.in_ok-push.ensures.items (DescribeBy-more _ _ _ c.loop-i.fleet.items _ c.loop-i.invariant.3 c.in_ok-profile.ensures.given),
+      rw c.in_ok-push.ensures.items (DescribeBy-more _ _ _ c.loop-i.fleet.items _ c.loop-i.invariant.4 c.in_ok-profile.ensures.kept),
     )
 
 pub returns-clause-fleet : goal.returns-clause-fleet
