@@ -2,6 +2,7 @@
 use Rattle.std.specs.Prelude.{ℕ, ◌==◌, ◌&&◌, ◌||◌, nat_le, Bool, not, IsTrue, IsSome, IsSomeAnd, List, length}
 use Rattle.std.specs.Prelude.{slice_index, Option, find, unwrap_or, Contains, pos, ◌+ℤ◌, int_lt, int_le}
 use Rattle.std.specs.List.{list_all, list_any}
+use Rattle.tick_length.specs.Measures.{ticks_per_inch}
 use Rattle.device_profile.specs.declared.field.Field.{Field}
 use Rattle.device_profile.specs.declared.field.Field.TheVariants.{Size, Orientation, Vmi, Font, Copies, Sides, Tray}
 use Rattle.device_profile.specs.declared.field.Field.TheVariants.{LineTerm}
@@ -177,7 +178,7 @@ fits_logical_page row =
     int_le (pos 0) row.logical_left && int_le (pos 0) row.logical_top && int_le (pos 0) row.logical_width
     && int_le (row.logical_left +ℤ row.logical_width) row.page_width
     && int_le (row.logical_top +ℤ row.logical_height) row.page_height
-    && int_le (pos 36_576_000_000) row.logical_height
+    && int_le (pos ticks_per_inch) row.logical_height
 
 -- the printable area lies in the page and is not empty
 abbrev pub fits_printable_area : Geometry → Bool

@@ -1,6 +1,7 @@
 -- The rows of a profile, and what one of a page holds.
 use Rattle.std.specs.Prelude.{ℕ, ◌*◌, ◌||◌, Bool, false, List, [], ◌∷◌, slice_index, pos, ℤ}
 use Rattle.std.specs.List.{list_any}
+use Rattle.tick_length.specs.Measures.{ticks_per_7200th}
 use Rattle.device_profile.specs.declared.geometry.Geometry.{Geometry}
 
 -- some row is like an earlier one
@@ -10,7 +11,7 @@ has_alike is_like (row ∷ rows) = list_any (is_like row) rows || has_alike is_l
 
 -- a length of so many 7200ths of an inch
 abbrev pub of_7200ths : ℕ → ℤ
-of_7200ths n = pos (n * 5_080_000)
+of_7200ths n = pos (n * ticks_per_7200th)
 
 -- size and orientation; then, in 7200ths of an inch, the page's width and height, the logical page's left, top,
 -- width and height, and the printable area's left, top, right and bottom

@@ -10,11 +10,12 @@ use crate::geometry::Geometry;
 use crate::rows::has_row;
 use crate::scan::{next_word, number};
 use crate::words::number_between;
-use tick_length::Length;
+use tick_length::{Length, TICKS_PER_INCH};
 
 const MOST_ROWS: usize = 64;
 
-const TICKS_PER_INCH: i64 = 36_576_000_000;
+/// The least height of a logical page, in ticks: an inch.
+const LEAST_HEIGHT: i64 = TICKS_PER_INCH as i64;
 
 /// The row that the words behind `geometry` give, beside the rows that were given before.
 #[tactic(auto, unfolding(crate::specs::GeometryLine::geometry_on_line))]
@@ -99,7 +100,7 @@ fn fits_logical_page(row: &Geometry) -> bool
         && Length::ZERO <= row.logical_width
         && ends_within(row.logical_left, row.logical_width, row.page_width)
         && ends_within(row.logical_top, row.logical_height, row.page_height)
-        && TICKS_PER_INCH <= row.logical_height.ticks()
+        && LEAST_HEIGHT <= row.logical_height.ticks()
 }
 
 /// Whether what begins at a place and has a size ends at another place or before it.

@@ -2,7 +2,7 @@
 use Rattle.std.specs.Prelude.{ℕ, nat_lt, Bool, false, if◌then◌else◌, List, [], ◌∷◌, ◌++◌, length}
 use Rattle.device_profile.specs.declared.geometry.Geometry.{Geometry}
 use Rattle.device_profile.specs.Printer.{Printer}
-use Rattle.page_env.specs.Places.{geometry_of}
+use Rattle.page_env.specs.Places.{cursor_x, cursor_y, geometry_of, origin_on}
 use Rattle.page_env.specs.Settings.{State}
 use Rattle.page_machine.specs.Event.{Event, Marked, Ended}
 use Rattle.page_picture.specs.Marks.{mark_picture}
@@ -13,7 +13,6 @@ use Rattle.requests.specs.declared.selection.Selection.{Selection}
 use Rattle.requests.specs.declared.selection.Selection.TheVariants.{All, One}
 use Rattle.job_picture.specs.declared.sheet.Sheet.{Sheet}
 use Rattle.job_picture.specs.declared.sheet.Spot.{Spot}
-use Rattle.job_picture.specs.Places.{cursor_x, cursor_y}
 use Rattle.job_picture.specs.Progress.{progress_behind}
 use Rattle.requests.specs.Selection.{has_patterns, is_drawn}
 
@@ -34,7 +33,7 @@ sheet_of selection sentence printer s = record {
 
 -- where the cursor stands on it
 abbrev pub spot_of : Geometry → State → Spot
-spot_of paper s = record { x = cursor_x paper s; y = cursor_y paper s }
+spot_of paper s = record { x = cursor_x (origin_on paper) s; y = cursor_y (origin_on paper) s }
 
 -- ---- marks, and ends of pages
 

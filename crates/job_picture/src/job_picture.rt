@@ -1,6 +1,7 @@
 //! The pictures of the pages of a job on one printer, from one panel.
 ghost use Rattle.std.specs.Prelude.{◌≡◌, ◌++◌, IsFalse, OnOk, false, refl};
 ghost use Rattle.device_profile.specs.Printer.{IsAllowed};
+ghost use Rattle.page_env.specs.Places.{geometry_of};
 ghost use Rattle.page_env.specs.Settings.{state_at};
 ghost use Rattle.renderings.specs.Carriers.PageRendering.{any_panel};
 ghost use Rattle.renderings.specs.Due.{Renders};
@@ -10,11 +11,10 @@ ghost use Rattle.job_picture.specs.Sheet.{drawn_failure, end_of_all, sheet_of, s
 ghost use Rattle.job_picture.specs.Sheet.{start_if_due};
 
 use crate::drawing::{finish_on, step_on};
-use crate::places::{cursor_x, cursor_y, paper_of};
 use crate::progress::Progress;
 use crate::sheet::{Sheet, Spot, push_drawn_failure, push_end_of_all, push_start_of_all};
-use device_profile::{Panel, Profile};
-use page_env::Page;
+use device_profile::{Geometry, Panel, Profile};
+use page_env::{Page, cursor_on};
 use page_machine::{Machine, Start};
 use pcl_items::{Item, LexCause, LexFault, Place};
 use renderings::{Outcome, Renderer, render_job};
@@ -57,6 +57,14 @@ struct JobPicture<'p, 'w, P: Allocator, B: Allocator + Copy> {
     is_started: bool,
 }
 
+/// The paper of the page that is open. The panel is known, so no setting is left to it.
+fn paper_of<P: Allocator>(profile: &Profile<P>, page: &Page) -> Geometry
+    ensures { result ≡ geometry_of profile.now (state_at any_panel page.now) }
+{
+    let fields = &page.env.fields;
+    profile.page_geometry(fields.size.under(0), fields.orientation.under(0))
+}
+
 /// The sheet of the page that is open.
 fn sheet_of<P: Allocator>(profile: &Profile<P>, page: &Page, wanted: &Wanted<'_>) -> Sheet
     ensures { result ≡ sheet_of wanted.now.selection wanted.now.sentence.now profile.now
@@ -77,9 +85,11 @@ fn sheet_of<P: Allocator>(profile: &Profile<P>, page: &Page, wanted: &Wanted<'_>
 fn spot_of(sheet: &Sheet, page: &Page) -> Spot
     ensures { result ≡ spot_of sheet.now.paper (state_at any_panel page.now) }
 {
+    let vmi = page.env.fields.vmi.under(0);
+    let place = cursor_on(&sheet.paper, page, vmi);
     Spot {
-        x: cursor_x(&sheet.paper, page),
-        y: cursor_y(&sheet.paper, page),
+        x: place.x,
+        y: place.y,
     }
 }
 

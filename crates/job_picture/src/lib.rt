@@ -3,7 +3,6 @@
 
 mod drawing;
 mod job_picture;
-mod places;
 mod progress;
 mod sheet;
 

@@ -26,7 +26,7 @@ use page_env::{JobSettings, Page, StartedRaster, column_under, is_of_raster};
 use page_machine::Machine;
 use pcl_items::{Command, DataCommand, Item, Place, SimpleItem};
 use std::alloc::{AllocError, Allocator};
-use tick_length::{Unit, UnitsPerInch};
+use tick_length::{TICKS_PER_HALF_INCH, Unit, UnitsPerInch};
 
 /// What is kept of the state before an item.
 #[derive(Clone, Copy)]
@@ -54,14 +54,14 @@ fn sets_same_orientation(page: &Page, panel: &Panel, item: &Item<'_>) -> bool
 }
 
 /// How far the default top margin is from the upper edge of the logical page, in ticks.
-const HALF_INCH: i64 = 18_288_000_000;
+const DEFAULT_TOP_MARGIN: i64 = TICKS_PER_HALF_INCH as i64;
 
 /// Whether the HMI is set, or a margin is another than its default.
 fn has_spacing(job: &JobSettings) -> bool
     ensures { result ≡ has_spacing job.now }
 {
     job.hmi.is_some()
-        || job.top_margin.ticks() != HALF_INCH
+        || job.top_margin.ticks() != DEFAULT_TOP_MARGIN
         || job.bottom_margin.is_some()
         || job.left_margin.ticks() != 0
         || job.right_margin.is_some()

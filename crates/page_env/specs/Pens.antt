@@ -2,6 +2,7 @@
 use Rattle.std.specs.Prelude.{ℕ, ℤ, pos, ◌*◌, ◌/◌, ◌==◌, nat_lt, unsigned_abs, true, false, not, ◌&&◌, ◌||◌, Bool, cond}
 use Rattle.std.specs.Prelude.{◌+ℤ◌, ◌*ℤ◌, List, [], ◌∷◌}
 use Rattle.tick_length.specs.declared.unit.Unit.TheVariants.{Millimetre}
+use Rattle.tick_length.specs.Measures.{ticks_per_plotter_unit}
 use Rattle.pcl_items.specs.declared.frame.Motion.{Motion}
 use Rattle.pcl_items.specs.declared.frame.Motion.TheVariants.{Up, Down, Absolute, Relative}
 use Rattle.pcl_items.specs.declared.frame.Setting.{Setting}
@@ -57,13 +58,9 @@ line_between origin frame width start end = record {
   y1 = origin.y +ℤ y_on_page frame end.y;
 }
 
--- how far a plotter unit goes, 0.025 mm, in ticks
-abbrev pub plotter_unit : ℕ
-plotter_unit = 36_000_000
-
 -- how far the pen may be from the origin: 8,388,607 plotter units
 abbrev pub furthest : ℕ
-furthest = 8_388_607 * plotter_unit
+furthest = 8_388_607 * ticks_per_plotter_unit
 
 -- along either axis
 abbrev pub is_too_far : PenPlace → Bool
@@ -123,7 +120,8 @@ place_of target = record { x = target.x; y = target.y }
 
 -- where so many plotter units lead along an axis: from the pen where it is relative, and from the origin otherwise
 abbrev pub reached : (is_relative : Bool) → (here units : ℤ) → ℤ
-reached is_relative here units = cond is_relative (here +ℤ (units *ℤ pos plotter_unit)) (units *ℤ pos plotter_unit)
+reached is_relative here units =
+    cond is_relative (here +ℤ (units *ℤ pos ticks_per_plotter_unit)) (units *ℤ pos ticks_per_plotter_unit)
 
 abbrev pub pen_target : Pen → ℤ × ℤ → PenPlace
 pen_target pen to =

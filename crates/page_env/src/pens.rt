@@ -27,13 +27,13 @@ use crate::target::Target;
 use device_profile::{Geometry, Profile};
 use pcl_items::{Coordinates, Magnitude, Motion, Setting};
 use std::alloc::Allocator;
-use tick_length::{Length, Unit};
+use tick_length::{Length, TICKS_PER_PLOTTER_UNIT, Unit};
 
 /// How far a plotter unit goes, 0.025 mm, in ticks.
-const PLOTTER_UNIT: i64 = 36_000_000;
+const PLOTTER_UNIT: i64 = TICKS_PER_PLOTTER_UNIT as i64;
 
 /// How far the pen may be from the origin along an axis: 8,388,607 plotter units.
-pub(crate) const FURTHEST: u64 = 8_388_607 * PLOTTER_UNIT as u64;
+pub(crate) const FURTHEST: u64 = 8_388_607 * TICKS_PER_PLOTTER_UNIT;
 
 /// The pen as `IN` leaves it.
 pub(crate) fn initial_pen() -> Pen

@@ -1,6 +1,7 @@
 -- What stands round the marks of a page: its sheet, where a job fails, and the sentence on that.
 use Rattle.std.specs.Prelude.{ℕ, ℤ, pos, ◌+◌, ◌*◌, ◌/◌, ◌+ℤ◌, unsigned_abs, min, Bool, if◌then◌else◌, List, [], ◌∷◌}
 use Rattle.std.specs.Prelude.{◌++◌, length, decimal}
+use Rattle.tick_length.specs.Measures.{ticks_per_half_inch}
 use Rattle.device_profile.specs.declared.geometry.Geometry.{Geometry}
 use Rattle.page_env.specs.declared.mark.Bounds.{Bounds}
 use Rattle.page_picture.specs.declared.attributes.Attribute.TheVariants.{X, Y, Width, Height, FontSize}
@@ -13,7 +14,7 @@ use Rattle.page_picture.specs.Texts.{sentence_text}
 
 -- how high the picture of a page is: where a sentence stands below the sheet, half an inch more
 unfoldable pub picture_height : Geometry → (has_sentence : Bool) → ℤ
-picture_height page has_sentence = page.page_height +ℤ (if has_sentence then pos 18_288_000_000 else pos 0)
+picture_height page has_sentence = page.page_height +ℤ (if has_sentence then pos ticks_per_half_inch else pos 0)
 
 -- its sides in inches
 unfoldable pub side_attributes : Geometry → Bool → List ℕ

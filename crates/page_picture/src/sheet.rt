@@ -37,10 +37,10 @@ use device_profile::Geometry;
 use page_env::Bounds;
 use shown_bytes::push_number;
 use std::alloc::{AllocError, Allocator};
-use tick_length::Length;
+use tick_length::{Length, TICKS_PER_HALF_INCH};
 
 /// How much higher a picture is where a sentence stands below the sheet: half an inch, in ticks.
-const STRIP: i64 = 18_288_000_000;
+const STRIP: i64 = TICKS_PER_HALF_INCH as i64;
 
 /// How far below the sheet the sentence stands: a third of an inch, in ticks.
 const DROP: i64 = 12_192_000_000;

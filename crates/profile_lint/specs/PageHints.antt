@@ -3,6 +3,7 @@ use Rattle.std.specs.Prelude.{ℕ, ℤ, ◌/◌, ◌==◌, ◌&&◌, Bool, if◌
 use Rattle.std.specs.Prelude.{unsigned_abs}
 use Rattle.std.specs.Option.{option_map_or}
 use Rattle.std.specs.Ordering.{int_eq}
+use Rattle.tick_length.specs.Measures.{ticks_per_7200th}
 use Rattle.device_profile.specs.declared.geometry.Geometry.{Geometry}
 use Rattle.printer_models.specs.declared.paper.Paper.{Paper}
 use Rattle.printer_models.specs.Page.{page_of}
@@ -14,7 +15,7 @@ use Rattle.profile_lint.specs.declared.hint.Hint.TheVariants.{OtherArea}
 
 -- the whole 7200ths of an inch in a length
 abbrev pub units_in : ℤ → ℕ
-units_in length = unsigned_abs length / 5_080_000
+units_in length = unsigned_abs length / ticks_per_7200th
 
 -- the lengths that an area has, as its line gives them
 abbrev pub area_lengths : Area → Geometry → List ℤ

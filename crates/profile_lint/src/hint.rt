@@ -4,7 +4,7 @@ ghost use Rattle.profile_lint.specs.PageHints.{units_in};
 
 use device_profile::{Field, Geometry};
 use printer_models::{CharacterSet, Cut, Paper};
-use tick_length::Length;
+use tick_length::{Length, TICKS_PER_7200TH};
 
 /// An area of a page.
 #[derive(Clone, Copy)]
@@ -52,8 +52,6 @@ pub enum Hint {
     /// The panel may have one value alone in each field.
     FixedPanel,
 }
-
-const TICKS_PER_7200TH: u64 = 5_080_000;
 
 /// The whole 7200ths of an inch in a length, which is not negative in a profile.
 pub(crate) fn units_in(length: Length) -> u64

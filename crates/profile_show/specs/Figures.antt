@@ -1,6 +1,7 @@
 -- Numbers and lengths as they stand in a text.
 use Rattle.std.specs.Prelude.{ℕ, ℤ, unsigned_abs, ◌+◌, ◌*◌, ◌/◌, ◌==◌, if◌then◌else◌, List, [], ◌++◌, decimal, codes}
 use Rattle.shown_bytes.specs.Decimals.{amount, minus, with_hundredths, with_tenth}
+use Rattle.tick_length.specs.Measures.{ticks_per_7200th, ticks_per_tenth_millimetre}
 use Rattle.profile_show.specs.declared.figures.LengthUnit.{LengthUnit}
 use Rattle.profile_show.specs.declared.figures.LengthUnit.TheVariants.{Millimetres, Inches, Dots}
 
@@ -22,11 +23,11 @@ parts_of ticks length = (unsigned_abs length + ticks / 2) / ticks
 
 -- in 1/7200 inch
 abbrev pub in_7200ths : ℤ → List ℕ
-in_7200ths length = decimal (parts_of 5_080_000 length)
+in_7200ths length = decimal (parts_of ticks_per_7200th length)
 
 -- millimetres with one decimal, inches with three at the most, dots of 1/300 inch with none or two
 unfoldable pub length_in : LengthUnit → ℤ → List ℕ
-length_in Millimetres length = with_tenth (parts_of 144_000_000 length)
+length_in Millimetres length = with_tenth (parts_of ticks_per_tenth_millimetre length)
 length_in Inches length = amount (10 * parts_of 36_576_000 length)
 length_in Dots length = with_hundredths (parts_of 1_219_200 length)
 

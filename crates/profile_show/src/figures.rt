@@ -12,7 +12,7 @@ ghost use Rattle.profile_show.specs.Figures.{
 
 use shown_bytes::{push_amount, push_minus, push_number, push_with_hundredths, push_with_tenth};
 use std::alloc::{AllocError, Allocator};
-use tick_length::Length;
+use tick_length::{Length, TICKS_PER_7200TH, TICKS_PER_TENTH_MILLIMETRE};
 
 /// What a length is told in.
 #[derive(Clone, Copy)]
@@ -25,17 +25,11 @@ pub(crate) enum LengthUnit {
     Dots,
 }
 
-/// How many ticks a tenth of a millimetre has.
-const TICKS_PER_TENTH_MILLIMETRE: u64 = 144_000_000;
-
 /// How many ticks 1/1000 inch has.
 const TICKS_PER_THOUSANDTH_INCH: u64 = 36_576_000;
 
 /// How many ticks a hundredth of a dot has, which is 1/300 inch.
 const TICKS_PER_HUNDREDTH_DOT: u64 = 1_219_200;
-
-/// How many ticks 1/7200 inch has.
-const TICKS_PER_7200TH: u64 = 5_080_000;
 
 /// Appends a value of so many ten-thousandths, which may be less than 0.
 #[tactic(auto, unfolding(crate::specs::Figures::signed_amount))]

@@ -1,6 +1,7 @@
 -- Lengths of a profile in the units of the sheet.
 use Rattle.std.specs.Prelude.{ℕ, ◌+◌, ◌/◌, min}
 use Rattle.std.specs.Int.{div_ceil}
+use Rattle.tick_length.specs.Measures.{ticks_per_tenth_millimetre}
 
 -- a dot, which is 1/300 inch and the sheet's PCL unit, in ticks
 abbrev pub dot : ℕ
@@ -22,4 +23,4 @@ abbrev pub nearest_dots : ℕ → ℕ
 nearest_dots ticks = (ticks + 60_960_000) / dot
 
 abbrev pub tenths_of_millimetres : ℕ → ℕ
-tenths_of_millimetres ticks = (ticks + 72_000_000) / 144_000_000
+tenths_of_millimetres ticks = (ticks + 72_000_000) / ticks_per_tenth_millimetre

@@ -2,6 +2,7 @@
 use Rattle.std.specs.Prelude.{ℕ, unsigned_abs, ◌+◌, ◌-◌, ◌*◌, ◌==◌, ◌&&◌, nat_le, min, Bool, List, [], ◌∷◌, ◌++◌, codes}
 use Rattle.std.specs.Prelude.{decimal, flat_map, map, take, replicate, if◌then◌else◌}
 use Rattle.std.specs.Int.{div_ceil}
+use Rattle.tick_length.specs.Measures.{ticks_per_half_inch}
 use Rattle.device_profile.specs.declared.geometry.Geometry.{Geometry}
 use Rattle.device_profile.specs.declared.panel.Panel.{Panel}
 use Rattle.device_profile.specs.Faces.{Face}
@@ -13,14 +14,10 @@ use Rattle.test_sheet.specs.Marks.{columns_from, shown}
 
 -- ---- its place
 
--- the top margin that a page has by default, and how far its text ends above the foot of the logical page, in ticks
-abbrev pub half_inch : ℕ
-half_inch = 18_288_000_000
-
 -- the first baseline under a VMI:
 -- 3/4 of it below the top margin, of which a ten-thousandth of 1/48 inch has 76,200 ticks
 abbrev pub first_baseline : ℕ → ℕ
-first_baseline vmi = half_inch + vmi * 57_150
+first_baseline vmi = ticks_per_half_inch + vmi * 57_150
 
 -- the one behind its fourteen lines, where the cursor stands as the page ends
 abbrev pub baseline_behind : ℕ → ℕ
@@ -28,7 +25,7 @@ baseline_behind vmi = first_baseline vmi + 14 * (vmi * 76_200)
 
 -- the last one that there may be
 abbrev pub last_baseline : Geometry → ℕ
-last_baseline page = unsigned_abs page.logical_height - half_inch
+last_baseline page = unsigned_abs page.logical_height - ticks_per_half_inch
 
 -- whether its lines go on one page, and lines of the face, from the first baseline to the last, lie in the area
 unfoldable pub has_own_lines : Geometry → Area → Face → ℕ → Bool

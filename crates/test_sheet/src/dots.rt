@@ -2,16 +2,13 @@
 ghost use Rattle.std.specs.Prelude.{◌≡◌, ◌≤◌, ◌^◌, unsigned_abs};
 ghost use Rattle.test_sheet.specs.Dots.{dots_in, dots_over, nearest_dots, tenths_of_millimetres};
 
-use tick_length::Length;
+use tick_length::{Length, TICKS_PER_TENTH_MILLIMETRE};
 
 /// A dot, which is 1/300 inch, in ticks.
 pub(crate) const DOT: u64 = 121_920_000;
 
 /// The most dots that a command can give.
 const MOST_DOTS: u64 = 65_535;
-
-/// A tenth of a millimetre, in ticks.
-const TENTH: u64 = 144_000_000;
 
 /// The ticks of a length, which in a profile is not negative.
 pub(crate) fn ticks_of(length: Length) -> u64
@@ -48,5 +45,5 @@ pub(crate) fn tenths_of_millimetres(ticks: u64) -> u64
     requires { ticks ≤ 2 ^ 62 }
     ensures { result ≡ tenths_of_millimetres ticks }
 {
-    (ticks + TENTH / 2) / TENTH
+    (ticks + TICKS_PER_TENTH_MILLIMETRE / 2) / TICKS_PER_TENTH_MILLIMETRE
 }

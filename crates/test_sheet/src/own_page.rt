@@ -10,10 +10,7 @@ use crate::marks::{advance_of, columns_from, push_first};
 use device_profile::{FontRow, Geometry, Panel};
 use shown_bytes::push_number;
 use std::alloc::{AllocError, Allocator};
-
-/// The top margin that a page has by default, and how far its text ends above the foot of the
-/// logical page, in ticks.
-const HALF_INCH: u64 = 18_288_000_000;
+use tick_length::TICKS_PER_HALF_INCH;
 
 /// 3/4 of a ten-thousandth of 1/48 inch, in ticks.
 const FIRST_LINE_PER_VMI: u64 = 57_150;
@@ -31,7 +28,7 @@ pub(crate) const NUMBERS: [u8; 10] = [1, 2, 3, 4, 5, 6, 7, 8, 9, 10];
 fn first_baseline(vmi: u32) -> u64
     ensures { result ≡ first_baseline vmi }
 {
-    HALF_INCH + u64::from(vmi) * FIRST_LINE_PER_VMI
+    TICKS_PER_HALF_INCH + u64::from(vmi) * FIRST_LINE_PER_VMI
 }
 
 /// The baseline behind the fourteen lines of the page, in ticks.
@@ -46,7 +43,7 @@ fn last_baseline(page: &Geometry) -> u64
     ensures value { result ≡ last_baseline page.now }
     ensures in_range { result ≤ 2 ^ 60 }
 {
-    ticks_of(page.logical_height).saturating_sub(HALF_INCH)
+    ticks_of(page.logical_height).saturating_sub(TICKS_PER_HALF_INCH)
 }
 
 /// Whether the lines of the page go on one page, and lines of the face, from the first baseline to
