@@ -30,7 +30,7 @@ mod words;
 pub use draft::Draft;
 pub use fault::{Cause, LineFault, ProfileFault};
 pub use field::Field;
-pub use font::{CodeRange, FontRequest, FontRow, SymbolSet, are_same_ranges};
+pub use font::{CodeRange, FontRequest, FontRow, SymbolSet, are_same_ranges, is_same_request};
 pub use format::Format;
 pub use geometry::Geometry;
 pub use key::Key;
