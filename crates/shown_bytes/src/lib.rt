@@ -5,12 +5,14 @@ ghost use Rattle.std.specs.Prelude.{◌≡◌, ◌<◌, ◌++◌, OnOk, decimal}
 ghost use Rattle.shown_bytes.specs.Shown.{hex_byte, hex_digit, shown, shown_byte};
 
 mod decimals;
+mod lettered;
 
 pub use decimals::{
     digit, push_amount, push_with_four_decimals, push_with_hundredths, push_with_millionths,
     push_with_tenth,
 };
 use itoa::Buffer;
+pub use lettered::push_lettered;
 use std::alloc::{AllocError, Allocator};
 
 /// Appends a number, in decimal digits.
