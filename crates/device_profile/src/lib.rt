@@ -39,7 +39,7 @@ pub use name::printer_name;
 pub use named_set::NamedSet;
 pub use panel::Panel;
 pub use profile::Profile;
-pub use read::{MOST_BYTES, format_of};
+pub use read::{FORMAT_NAME, MOST_BYTES, format_of};
 pub use rows::{has_face, has_orientation, has_row, has_size};
 pub use sample::{Sample, sample_a};
 pub use scan::{amount, next_line, next_word, number};
