@@ -211,11 +211,10 @@ fn push_faces<A: Allocator + Copy>(
 
 /// Appends the comment that names the designs.
 fn push_designs<A: Allocator>(text: &mut Vec<u8, A>) -> Result<(), AllocError> {
-    use Typeface::{BaseCourier, BaseLetterGothic, Courier, LetterGothic, LinePrinter};
-
-    push_design(text, "# ", BaseCourier, Some(Courier))?;
-    push_design(text, ", ", LinePrinter, None)?;
-    push_design(text, " and ", LetterGothic, Some(BaseLetterGothic))?;
+    let letter_gothic = Some(Typeface::BaseLetterGothic);
+    push_design(text, "# ", Typeface::BaseCourier, Some(Typeface::Courier))?;
+    push_design(text, ", ", Typeface::LinePrinter, None)?;
+    push_design(text, " and ", Typeface::LetterGothic, letter_gothic)?;
     push(text, "\n")
 }
 
