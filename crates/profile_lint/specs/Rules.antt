@@ -28,7 +28,7 @@ meaning_of Page = codes "the pages"
 meaning_of Face = codes "the resident faces"
 
 -- what values the words behind a key are
-abbrev pub kinds_of_values : Key → List ℕ
+unfoldable pub kinds_of_values : Key → List ℕ
 kinds_of_values Name = codes "a name is one word of 1 to 32 bytes, each from ! to ~"
 kinds_of_values (Choice Size) = codes "sizes are 1 to 16 whole numbers from 1 to 999"
 kinds_of_values (Choice Orientation) = codes "orientations are whole numbers from 0 to 3"
@@ -62,7 +62,7 @@ command_of Tray = codes "ESC &l#H"
 command_of LineTerm = codes "ESC &k#G"
 
 -- the field whose command has the values of a key as they stand in its line
-abbrev pub field_like : Key → Option Field
+unfoldable pub field_like : Key → Option Field
 field_like (Choice Size) = Some Size
 field_like (Choice Orientation) = Some Orientation
 field_like (Choice Sides) = Some Sides
@@ -71,7 +71,7 @@ field_like (Choice LineTerm) = Some LineTerm
 field_like Trays = Some Tray
 field_like _ = None
 
-abbrev pub command_words : Option Field → List ℕ
+unfoldable pub command_words : Option Field → List ℕ
 command_words None = []
 command_words (Some field) = codes ", as " ++ command_of field ++ codes " has them"
 

@@ -85,6 +85,7 @@ fn push_value_rule<A: Allocator>(out: &mut Vec<u8, A>, key: Key) -> Result<(), A
 }
 
 /// Appends that the command of a field has the same values, where there is such a field.
+#[tactic(auto, unfolding(crate::specs::Rules::command_words))]
 fn push_command_words<A: Allocator>(
     out: &mut Vec<u8, A>,
     field: Option<Field>,
@@ -102,6 +103,7 @@ fn push_command_words<A: Allocator>(
 }
 
 /// The field whose command has the values of a key as they stand in its line.
+#[tactic(auto, unfolding(crate::specs::Rules::field_like))]
 fn field_like(key: Key) -> Option<Field>
     ensures { result ≡ field_like key }
 {
@@ -113,6 +115,7 @@ fn field_like(key: Key) -> Option<Field>
 }
 
 /// The field itself, where its command has its values as they stand in its line.
+#[tactic(auto, unfolding(crate::specs::Rules::field_like))]
 fn own_field(field: Field) -> Option<Field>
     ensures { result ≡ field_like (Key.Choice field) }
 {
@@ -123,6 +126,7 @@ fn own_field(field: Field) -> Option<Field>
 }
 
 /// What values the words behind a key are.
+#[tactic(auto, unfolding(crate::specs::Rules::kinds_of_values))]
 fn kinds_of_values(key: Key) -> &'static [u8]
     ensures { result.now ≡ kinds_of_values key }
 {
@@ -147,6 +151,7 @@ fn kinds_of_values(key: Key) -> &'static [u8]
 }
 
 /// What values a field has.
+#[tactic(auto, unfolding(crate::specs::Rules::kinds_of_values))]
 fn kinds_of_field(field: Field) -> &'static [u8]
     ensures { result.now ≡ kinds_of_values (Key.Choice field) }
 {

@@ -66,7 +66,7 @@ termination_name termination =
 -- ---- what selects a font, of which each number counts ten-thousandths
 
 -- a name behind a space, where there is one
-abbrev pub behind_space : List ℕ → List ℕ
+unfoldable pub behind_space : List ℕ → List ℕ
 behind_space name = if length name == 0 then [] else 32 ∷ name
 
 -- the name of a symbol set behind a space, where it has one

@@ -133,6 +133,7 @@ pub(crate) fn termination_name(termination: u32) -> &'static [u8]
 }
 
 /// Appends a name behind a space, where there is one.
+#[tactic(auto, unfolding(crate::specs::Words::behind_space))]
 fn push_behind_space<A: Allocator>(text: &mut Vec<u8, A>, name: &[u8]) -> Result<(), AllocError>
     ensures { OnOk result (text.new.items ≡ text.old.items ++ behind_space name.now) }
 {
