@@ -59,7 +59,7 @@ fn field_of(name: &str) -> Option<Field> {
 
 /// The value of a field, as a profile's text has it.
 fn value_of(field: Field, word: &str) -> Option<u32> {
-    if field == Field::Vmi {
+    if field.has_decimals() {
         ten_thousandths_of(word)
     } else {
         digits_of(word)

@@ -23,3 +23,4 @@ pub mod Valid
 pub mod ValueFacts
 mod SamePages
 mod SameRanges
+pub mod SameRequests

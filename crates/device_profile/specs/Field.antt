@@ -1,5 +1,5 @@
 -- The fields of a printer's control panel.
-use Rattle.std.specs.Prelude.{ℕ, List, [], ◌∷◌, codes}
+use Rattle.std.specs.Prelude.{ℕ, List, [], ◌∷◌, codes, Bool, true, false}
 use Rattle.device_profile.specs.declared.field.Field.{Field}
 use Rattle.device_profile.specs.declared.field.Field.TheVariants.{Size, Orientation, Vmi, Font, Copies, Sides, Tray}
 use Rattle.device_profile.specs.declared.field.Field.TheVariants.{LineTerm}
@@ -18,6 +18,11 @@ field_key Copies = codes "copies"
 field_key Sides = codes "sides"
 field_key Tray = codes "tray"
 field_key LineTerm = codes "lineterm"
+
+-- whether a value of a field may have decimals, and counts ten-thousandths; others are whole
+abbrev pub has_decimals : Field → Bool
+has_decimals Vmi = true
+has_decimals _ = false
 
 -- the name of a field in a verdict
 abbrev pub field_name : Field → List ℕ

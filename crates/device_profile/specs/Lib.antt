@@ -14,6 +14,7 @@ pub mod GeometryLine
 pub mod Laws
 pub mod Likeness
 pub mod Name
+pub mod NamedSet
 pub mod FaceFields
 pub mod FaceLine
 pub mod Draft

@@ -8,6 +8,7 @@ use Rattle.device_profile.specs.declared.field.Field.TheVariants.{Size, Orientat
 use Rattle.device_profile.specs.declared.field.Field.TheVariants.{LineTerm}
 use Rattle.device_profile.specs.declared.geometry.Geometry.{Geometry}
 use Rattle.device_profile.specs.declared.panel.Panel.{Panel}
+use Rattle.device_profile.specs.Field.{every_field}
 use Rattle.device_profile.specs.Faces.{Face, face_at, has_face, has_metrics, is_request, are_faces}
 use Rattle.device_profile.specs.Rows.{has_alike}
 use Rattle.device_profile.specs.Values.{is_value, are_choices}
@@ -41,6 +42,14 @@ values_of printer Copies = printer.copies
 values_of printer Sides = printer.sides
 values_of printer Tray = printer.trays
 values_of printer LineTerm = printer.line_terminations
+
+-- the panel may have one value in this field
+abbrev pub has_one_value : Printer → Field → Bool
+has_one_value printer field = length (values_of printer field) == 1
+
+-- the panel can be in one way alone
+abbrev pub has_one_panel : Printer → Bool
+has_one_panel printer = list_all (has_one_value printer) every_field
 
 -- a panel that the printer may have
 pub record IsAllowed (printer : Printer) (panel : Panel) : Type 0 where

@@ -23,11 +23,15 @@ use Rattle.device_profile.specs.Draft.{Draft, no_draft, choice_of, draft_after}
 abbrev pub version_of : List ℕ → Option Format
 version_of word = if bytes_eq word (codes "1") then Some One else (if bytes_eq word (codes "2") then Some Two else None)
 
+-- the word that begins the first line, before the version
+abbrev pub format_name : List ℕ
+format_name = codes "pclprofile"
+
 -- the first line names the format and its version
 abbrev pub format_of : List (List ℕ) → Option Format
 format_of [] = None
 format_of (name ∷ []) = None
-format_of (name ∷ version ∷ []) = if bytes_eq name (codes "pclprofile") then version_of version else None
+format_of (name ∷ version ∷ []) = if bytes_eq name format_name then version_of version else None
 format_of (name ∷ version ∷ more ∷ words) = None
 
 -- the words of a line; a comment, whose first byte is `#`, has none

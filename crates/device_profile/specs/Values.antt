@@ -8,18 +8,12 @@ use Rattle.device_profile.specs.declared.field.Field.TheVariants.{Size, Orientat
 use Rattle.device_profile.specs.declared.field.Field.TheVariants.{LineTerm}
 use Rattle.device_profile.specs.declared.fault.Cause.{Cause}
 use Rattle.device_profile.specs.declared.fault.Cause.TheVariants.{Repeated, Range}
+use Rattle.device_profile.specs.Field.{has_decimals}
 use Rattle.device_profile.specs.Words.{number_of, amount_of}
 
--- the number that a word is in a field: the VMI has decimals and counts ten-thousandths, the others are whole
+-- the number that a word is in a field
 abbrev pub value_of : Field → List ℕ → Option ℕ
-value_of Size word = number_of word
-value_of Orientation word = number_of word
-value_of Vmi word = amount_of word
-value_of Font word = number_of word
-value_of Copies word = number_of word
-value_of Sides word = number_of word
-value_of Tray word = number_of word
-value_of LineTerm word = number_of word
+value_of field word = if has_decimals field then amount_of word else number_of word
 
 -- whether a number is from the first to the second
 abbrev pub is_between : ℕ → ℕ → ℕ → Bool

@@ -25,7 +25,7 @@ pub enum Field {
 }
 
 impl Field {
-    ghost use Rattle.device_profile.specs.Field.{field_key, field_name};
+    ghost use Rattle.device_profile.specs.Field.{field_key, field_name, has_decimals};
 
     /// All fields, in this order, in which the text of a profile has their keys, too.
     pub const ALL: [Field; 8] = [
@@ -53,6 +53,13 @@ impl Field {
             Field::Tray => b"tray",
             Field::LineTerm => b"lineterm",
         }
+    }
+
+    /// Whether a value may have decimals, and counts ten-thousandths; others are whole.
+    pub fn has_decimals(self) -> bool
+        ensures { result ≡ has_decimals self }
+    {
+        matches!(self, Field::Vmi)
     }
 
     /// The name in a verdict.

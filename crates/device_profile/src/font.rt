@@ -177,7 +177,7 @@ pub(crate) fn text_in(ranges: &[CodeRange]) -> [bool; 256]
 }
 
 /// Whether the two ask for the same in all seven parts.
-pub(crate) fn is_same_request(a: &FontRequest, b: &FontRequest) -> bool
+pub fn is_same_request(a: &FontRequest, b: &FontRequest) -> bool
     ensures { result ≡ is_same_request a.now b.now }
 {
     a.symbol_set.number == b.symbol_set.number

@@ -1,7 +1,7 @@
 //! A printer's profile, and what is looked up in it.
 ghost use Rattle.std.specs.Prelude.{◌≡◌};
 ghost use Rattle.std.specs.Option.{option_copied};
-ghost use Rattle.device_profile.specs.Printer.{row_at};
+ghost use Rattle.device_profile.specs.Printer.{has_one_value, row_at};
 
 use crate::choices::Choices;
 use crate::field::Field;
@@ -48,6 +48,7 @@ impl<A: Allocator> Profile<A> {
     ghost use Rattle.device_profile.specs.Printer.{has_orientation, first_panel, has_tray};
     ghost use Rattle.device_profile.specs.Printer.{IsAllowed, HasPages, HasFaces, HasTrays};
     ghost use Rattle.device_profile.specs.Printer.{CanBeSet, has_every_pair, fits_page};
+    ghost use Rattle.device_profile.specs.Printer.{has_one_panel};
     ghost use Rattle.std.specs.Option.{option_copied};
     ghost use Rattle.device_profile.specs.Faces.{face_at, face_for, has_metrics};
 
@@ -120,6 +121,13 @@ impl<A: Allocator> Profile<A> {
         ensures { result.now ≡ values_of self.now field }
     {
         self.choices.of(field)
+    }
+
+    /// Whether the panel may have one value in each field, and so can be in one way alone.
+    pub fn has_one_panel(&self) -> bool
+        ensures { result ≡ has_one_panel self.now }
+    {
+        Field::ALL.iter().all(|field| has_one_value(self, *field))
     }
 
     /// The panel with the first value in each field.
@@ -207,6 +215,13 @@ impl<A: Allocator> Profile<A> {
     {
         self.device_trays.contains(&tray)
     }
+}
+
+/// Whether the panel may have one value in this field.
+fn has_one_value<A: Allocator>(profile: &Profile<A>, field: Field) -> bool
+    ensures { result ≡ has_one_value profile.now field }
+{
+    profile.allowed(field).len() == 1
 }
 
 #[tactic(auto, unfolding(crate::specs::Printer::row_at))]

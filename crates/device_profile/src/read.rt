@@ -14,6 +14,9 @@ use crate::profile::Profile;
 use crate::scan::{next_line, next_word};
 use std::alloc::Allocator;
 
+/// The word that begins the first line of a text, before its version.
+pub const FORMAT_NAME: &[u8] = b"pclprofile";
+
 /// A text has at most so many bytes.
 pub const MOST_BYTES: usize = 65_536;
 
@@ -122,7 +125,7 @@ pub fn format_of(line: &[u8]) -> Option<Format>
     if next_word(rest).is_some() {
         return None;
     }
-    if name == b"pclprofile".as_slice() {
+    if name == FORMAT_NAME {
         version_of(version)
     } else {
         None

@@ -17,9 +17,10 @@ use std::alloc::{AllocError, Allocator};
 fn value(field: Field, word: &[u8]) -> Option<u128>
     ensures { result ≡ value_of field word.now }
 {
-    match field {
-        Field::Vmi => amount(word),
-        _ => number(word).map(u128::from),
+    if field.has_decimals() {
+        amount(word)
+    } else {
+        number(word).map(u128::from)
     }
 }
 

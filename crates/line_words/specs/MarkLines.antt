@@ -7,6 +7,7 @@ use Rattle.page_env.specs.declared.mark.Fill.TheVariants.{Solid, Erase, Shade, H
 use Rattle.page_env.specs.declared.mark.PageEnd.{PageEnd}
 use Rattle.page_env.specs.Mark.{Shape, Rectangle, Character, Row, Line, pixels_per_inch}
 use Rattle.line_words.specs.Figures.{number_word, length_word, value_word, signed_word, named}
+use Rattle.shown_bytes.specs.Lettered.{lettered}
 use Rattle.shown_bytes.specs.Shown.{hex_byte}
 
 -- ---- words, each with a space before it
@@ -18,7 +19,7 @@ bounds_words box = length_word box.left ++ length_word box.top ++ length_word bo
 -- what selects a font: symbol set, pitch, height, style, weight and typeface
 unfoldable pub font_words : FontRequest → List ℕ
 font_words font =
-    value_word font.symbol_set.number ++ font.symbol_set.letter ∷ value_word font.pitch ++ value_word font.height
+    32 ∷ lettered font.symbol_set.number font.symbol_set.letter ++ value_word font.pitch ++ value_word font.height
     ++ value_word font.style ++ signed_word font.weight ++ value_word font.typeface
 
 -- black, white, a shade or a pattern, and which of these

@@ -12,6 +12,7 @@ use crate::figures::{
 };
 use device_profile::FontRequest;
 use page_env::{Area, Bounds, Fill, Glyph, Mark, PageEnd, PenLine, RasterRow, Resolution};
+use shown_bytes::push_lettered;
 use std::alloc::{AllocError, Allocator};
 
 /// Appends the line of a mark.
@@ -79,8 +80,8 @@ fn push_line<A: Allocator>(text: &mut Vec<u8, A>, line: &PenLine) -> Result<(), 
 fn push_font<A: Allocator>(text: &mut Vec<u8, A>, font: &FontRequest) -> Result<(), AllocError>
     ensures { OnOk result (text.new.items ≡ text.old.items ++ font_words font.now) }
 {
-    push_value_word(text, font.symbol_set.number)?;
-    text.push(font.symbol_set.letter)?;
+    text.push(b' ')?;
+    push_lettered(text, font.symbol_set.number, font.symbol_set.letter)?;
     push_value_word(text, font.pitch)?;
     push_value_word(text, font.height)?;
     push_value_word(text, font.style)?;

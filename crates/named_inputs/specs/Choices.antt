@@ -6,7 +6,7 @@ use Rattle.device_profile.specs.declared.field.Field.{Field}
 use Rattle.device_profile.specs.declared.field.Field.TheVariants.{Size, Orientation, Vmi, Font, Copies, Sides, Tray}
 use Rattle.device_profile.specs.declared.field.Field.TheVariants.{LineTerm}
 use Rattle.device_profile.specs.declared.panel.Panel.{Panel}
-use Rattle.device_profile.specs.Field.{field_key}
+use Rattle.device_profile.specs.Field.{field_key, has_decimals}
 use Rattle.device_profile.specs.Printer.{Printer, values_of, first_panel}
 use Rattle.line_words.specs.Figures.{number_word, value_word}
 use Rattle.streams.specs.declared.error.Error.TheVariants.{Memory}
@@ -48,8 +48,7 @@ chosen_panel printer choices = chosen_from printer (first_panel printer) choices
 
 -- a value behind a space, as a profile's text has it
 abbrev pub choice_word : Field → ℕ → List ℕ
-choice_word Vmi value = value_word value
-choice_word _ value = number_word value
+choice_word field value = if has_decimals field then value_word value else number_word value
 
 abbrev pub choice_line : Printer → Choice → List ℕ
 choice_line printer choice =

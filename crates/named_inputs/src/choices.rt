@@ -58,7 +58,7 @@ fn push_choice_word<A: Allocator>(
 ) -> Result<(), AllocError>
     ensures { OnOk result (line.new.items ≡ line.old.items ++ choice_word field value) }
 {
-    if field == Field::Vmi {
+    if field.has_decimals() {
         push_value_word(line, value)
     } else {
         push_number_word(line, u64::from(value))

@@ -1,4 +1,4 @@
--- What `==` of two looks of text tests, of two bounds, and of two places.
+-- What `==` of two looks of text tests, and of two bounds.
 use Rattle.std.proofs.Common.{◌≡◌, ◌==◌, ◌&&◌, Bool, ap}
 use Rattle.std.specs.Bool.{Decides, beq}
 use Rattle.std.specs.Cmp.{booleans_Decides}

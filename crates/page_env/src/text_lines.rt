@@ -249,13 +249,6 @@ fn are_same_bounds(a: &TextBounds, b: &TextBounds) -> bool
     *a == *b
 }
 
-/// Whether places are the same.
-fn is_same_place(a: TextPlace, b: TextPlace) -> bool
-    ensures { IsTrue result ↔ (a ≡ b) }
-{
-    a == b
-}
-
 // ---- columns
 
 /// How many columns lie between two places.

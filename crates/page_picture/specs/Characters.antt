@@ -1,20 +1,28 @@
 -- Which characters the codes of a symbol set stand for, by their numbers in Unicode.
 use Rattle.std.specs.Prelude.{ℕ, ◌-◌, ◌==◌, ◌&&◌, nat_le, nat_lt, if◌then◌else◌, List, get_or, Option, None, Some}
+use Rattle.std.specs.Option.{option_and_then}
 use Rattle.device_profile.specs.declared.font.SymbolSet.{SymbolSet}
+use Rattle.device_profile.specs.declared.named_set.NamedSet.{NamedSet}
+use Rattle.device_profile.specs.declared.named_set.NamedSet.TheVariants as named
+use Rattle.device_profile.specs.NamedSet.{named_by}
 use Rattle.page_picture.specs.declared.characters.Repertoire.{Repertoire}
 use Rattle.page_picture.specs.declared.characters.Repertoire.TheVariants.{Ascii, Pc8, Pc850, Roman8, Latin1, Windows}
 use Rattle.page_picture.specs.declared.characters.TheConstants.{PC_BELOW_32, PC8_FROM_127, PC850_FROM_127}
 use Rattle.page_picture.specs.declared.characters.TheConstants.{ROMAN8_FROM_160, WINDOWS_FROM_128}
 
--- 0U, 10U, 12U, 8U, 0N and 19U
+-- the characters of a symbol set that has a name, where they are known
+abbrev pub repertoire_named : NamedSet → Option Repertoire
+repertoire_named named.Ascii = Some Ascii
+repertoire_named named.Pc8 = Some Pc8
+repertoire_named named.Pc850 = Some Pc850
+repertoire_named named.Roman8 = Some Roman8
+repertoire_named named.Latin1 = Some Latin1
+repertoire_named named.Windows1 = Some Windows
+repertoire_named _ = None
+
+-- the characters of a symbol set, where they are known
 unfoldable pub repertoire_of : SymbolSet → Option Repertoire
-repertoire_of set =
-    if (set.letter == 85) && (set.number == 0) then Some Ascii
-    else (if (set.letter == 85) && (set.number == 100_000) then Some Pc8
-    else (if (set.letter == 85) && (set.number == 120_000) then Some Pc850
-    else (if (set.letter == 85) && (set.number == 80_000) then Some Roman8
-    else (if (set.letter == 78) && (set.number == 0) then Some Latin1
-    else (if (set.letter == 85) && (set.number == 190_000) then Some Windows else None)))))
+repertoire_of set = option_and_then repertoire_named (named_by set)
 
 -- what a table has at a place, where that is not 0
 abbrev pub entry : List ℕ → ℕ → Option ℕ

@@ -7,27 +7,24 @@ ghost use Rattle.page_picture.specs.Characters.{
   latin1_character,
   other_character,
   pc_character,
+  repertoire_named,
   repertoire_of,
   roman8_character,
   windows_character,
 };
 
-use device_profile::SymbolSet;
+use device_profile::{NamedSet, SymbolSet};
 
 /// The characters of a symbol set.
 #[derive(Clone, Copy)]
 pub(crate) enum Repertoire {
-    /// 0U: ASCII.
     Ascii,
-    /// 10U: PC-8.
     Pc8,
-    /// 12U: PC-850.
     Pc850,
-    /// 8U: Roman-8.
     Roman8,
-    /// 0N: ECMA-94 Latin 1.
+    /// ECMA-94 Latin 1.
     Latin1,
-    /// 19U: Windows Latin 1.
+    /// Windows Latin 1.
     Windows,
 }
 
@@ -77,26 +74,27 @@ pub(crate) const WINDOWS_FROM_128: [u16; 32] = [
     8217, 8220, 8221, 8226, 8211, 8212, 732, 8482, 353, 8250, 339, 0, 382, 376,
 ];
 
-/// The characters of a symbol set, where it is one of these.
+/// The characters of a symbol set that has a name, where they are known.
+fn repertoire_named(named: NamedSet) -> Option<Repertoire>
+    ensures { result ≡ repertoire_named named }
+{
+    match named {
+        NamedSet::Ascii => Some(Repertoire::Ascii),
+        NamedSet::Pc8 => Some(Repertoire::Pc8),
+        NamedSet::Pc850 => Some(Repertoire::Pc850),
+        NamedSet::Roman8 => Some(Repertoire::Roman8),
+        NamedSet::Latin1 => Some(Repertoire::Latin1),
+        NamedSet::Windows1 => Some(Repertoire::Windows),
+        _ => None,
+    }
+}
+
+/// The characters of a symbol set, where they are known.
 #[tactic(auto, unfolding(crate::specs::Characters::repertoire_of))]
 fn repertoire_of(set: SymbolSet) -> Option<Repertoire>
     ensures { result ≡ repertoire_of set }
 {
-    if set.letter == b'U' && set.number == 0 {
-        Some(Repertoire::Ascii)
-    } else if set.letter == b'U' && set.number == 100_000 {
-        Some(Repertoire::Pc8)
-    } else if set.letter == b'U' && set.number == 120_000 {
-        Some(Repertoire::Pc850)
-    } else if set.letter == b'U' && set.number == 80_000 {
-        Some(Repertoire::Roman8)
-    } else if set.letter == b'N' && set.number == 0 {
-        Some(Repertoire::Latin1)
-    } else if set.letter == b'U' && set.number == 190_000 {
-        Some(Repertoire::Windows)
-    } else {
-        None
-    }
+    repertoire_named(NamedSet::of(set)?)
 }
 
 /// What a table has at a place, where that is not 0.

@@ -1,6 +1,5 @@
 pub mod Variable
 pub mod Answer
-pub mod SetName
 pub mod Values
 pub mod FormLines
 pub mod Told

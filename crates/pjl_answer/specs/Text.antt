@@ -6,13 +6,12 @@ use Rattle.std.specs.Option.{option_and_then, option_map_or}
 use Rattle.std.specs.Str.{bytes_eq}
 use Rattle.std.specs.Str.Lines.{lines}
 use Rattle.device_profile.specs.declared.field.Field.{Field}
-use Rattle.device_profile.specs.declared.field.Field.TheVariants.{Size, Orientation, Vmi, Font, Copies, Sides, Tray}
 use Rattle.device_profile.specs.declared.field.Field.TheVariants.{LineTerm}
 use Rattle.device_profile.specs.declared.format.Format.{Format}
 use Rattle.device_profile.specs.declared.format.Format.TheVariants.{One, Two}
-use Rattle.device_profile.specs.Field.{every_field, field_key}
+use Rattle.device_profile.specs.Field.{every_field, field_key, has_decimals}
 use Rattle.device_profile.specs.Printer.{Printer}
-use Rattle.device_profile.specs.Text.{format_of, words_of_line}
+use Rattle.device_profile.specs.Text.{format_name, format_of, words_of_line}
 use Rattle.device_profile.specs.Words.{words_of}
 use Rattle.shown_bytes.specs.Decimals.{with_four_decimals}
 use Rattle.pjl_answer.specs.declared.warning.Warning.{Warning}
@@ -23,16 +22,9 @@ use Rattle.pjl_answer.specs.Warning.{warning_lines, warnings}
 unfoldable pub field_of : List ℕ → Option Field
 field_of word = find (λ field. bytes_eq (field_key field) word) every_field
 
--- a value of a field; the VMI counts ten-thousandths
+-- a value of a field
 abbrev pub value_word : Field → ℕ → List ℕ
-value_word Vmi n = with_four_decimals n
-value_word Size n = decimal n
-value_word Orientation n = decimal n
-value_word Font n = decimal n
-value_word Copies n = decimal n
-value_word Sides n = decimal n
-value_word Tray n = decimal n
-value_word LineTerm n = decimal n
+value_word field n = if has_decimals field then with_four_decimals n else decimal n
 
 -- the line of a field with these values
 abbrev pub field_line : Field → List ℕ → List ℕ
@@ -59,7 +51,7 @@ version One (Some line_termination) = codes "2"
 version Two line_termination = codes "2"
 
 abbrev pub first_line : Format → Option (List ℕ) → List ℕ
-first_line format line_termination = codes "pclprofile " ++ version format line_termination ++ codes "\n"
+first_line format line_termination = format_name ++ codes " " ++ version format line_termination ++ codes "\n"
 
 -- a line for line termination, which a text of the first version has not
 abbrev pub added_line : Format → Option (List ℕ) → List ℕ

@@ -9,17 +9,19 @@ use Rattle.device_profile.specs.declared.field.Field.TheVariants.{Size, Orientat
 use Rattle.device_profile.specs.declared.field.Field.TheVariants.{LineTerm}
 use Rattle.device_profile.specs.declared.font.SymbolSet.{SymbolSet}
 use Rattle.device_profile.specs.Faces.{Face}
+use Rattle.device_profile.specs.NamedSet.{set_named, symbols_of}
 use Rattle.device_profile.specs.Printer.{Printer, are_sides, has_orientation, has_size, has_tray, values_of}
 use Rattle.device_profile.specs.Values.{is_value}
 use Rattle.device_profile.specs.Words.{amount_of}
+use Rattle.printer_models.specs.declared.face.Typeface.TheVariants.{BaseCourier, Courier}
 use Rattle.printer_models.specs.declared.paper.Paper.{Paper}
+use Rattle.printer_models.specs.Face.{typeface_value}
 use Rattle.printer_models.specs.Paper.{code_of}
 use Rattle.pjl_answer.specs.declared.variable.Variable.TheVariants as variables
 use Rattle.pjl_answer.specs.declared.values.ToldValues.{ToldValues}
 use Rattle.pjl_answer.specs.declared.values.ToldValues.TheVariants.{One, Two}
 use Rattle.pjl_answer.specs.Answer.{value_of}
 use Rattle.pjl_answer.specs.FormLines.{text_height, is_whole_share, vmi_by}
-use Rattle.pjl_answer.specs.SetName.{set_named, symbol_set_of}
 use Rattle.pjl_answer.specs.Values.{binding_of, copies_of, form_lines_of, is_first, is_internal, is_on, kept}
 use Rattle.pjl_answer.specs.Values.{line_termination_of, mp_trays_of, orientation_of, paper_of}
 
@@ -83,13 +85,17 @@ is_vmi_rounded answer = is_rounded (text_height_told answer) (form_lines_told an
 
 -- ---- what the profile has of it
 
+-- one of the two numbers of Courier, in ten-thousandths
+abbrev pub is_courier_number : ℕ → Bool
+is_courier_number typeface = (typeface == typeface_value BaseCourier) || (typeface == typeface_value Courier)
+
 -- Courier in this symbol set, at this pitch and 120 points through it, upright and of medium weight
 abbrev pub is_courier : SymbolSet → ℕ → Face → Bool
 is_courier set pitch face =
     (face.request.symbol_set.number == set.number) && (face.request.symbol_set.letter == set.letter)
     && (face.request.pitch == pitch) && (face.request.height * face.request.pitch == 12_000_000_000)
     && (face.request.style == 0) && int_eq face.request.weight (pos 0)
-    && (face.request.typeface == 30_000 || face.request.typeface == 40_990_000)
+    && is_courier_number face.request.typeface
 
 -- the id of the first such face
 abbrev pub courier_among : List Face → SymbolSet → ℕ → Option ℕ
@@ -106,7 +112,7 @@ abbrev pub is_own_font : List ℕ → Bool
 is_own_font answer = is_own_source answer && is_first_number answer
 
 abbrev pub set_told : List ℕ → Option SymbolSet
-set_told answer = option_map symbol_set_of (option_and_then set_named (value_of answer variables.SymbolSet))
+set_told answer = option_map symbols_of (option_and_then set_named (value_of answer variables.SymbolSet))
 
 abbrev pub pitch_told : List ℕ → Option ℕ
 pitch_told answer = option_and_then amount_of (value_of answer variables.Pitch)

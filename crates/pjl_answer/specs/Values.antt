@@ -4,6 +4,7 @@ use Rattle.std.specs.Prelude.{if◌then◌else◌}
 use Rattle.std.specs.Option.{option_and_then, option_map_or}
 use Rattle.std.specs.Str.{bytes_eq}
 use Rattle.device_profile.specs.declared.field.Field.TheVariants.{Copies as CopiesField, LineTerm}
+use Rattle.device_profile.specs.NamedSet.{set_named}
 use Rattle.device_profile.specs.Values.{is_between, is_value}
 use Rattle.device_profile.specs.Words.{amount_of, number_of}
 use Rattle.printer_models.specs.declared.paper.Paper.{Paper}
@@ -11,7 +12,6 @@ use Rattle.printer_models.specs.declared.paper.Paper.TheVariants as papers
 use Rattle.printer_models.specs.Paper.{every_paper}
 use Rattle.pjl_answer.specs.declared.variable.Variable.{Variable}
 use Rattle.pjl_answer.specs.declared.variable.Variable.TheVariants as variables
-use Rattle.pjl_answer.specs.SetName.{set_named}
 
 -- a number, where it passes a test
 abbrev pub kept : (ℕ → Bool) → Option ℕ → Option ℕ

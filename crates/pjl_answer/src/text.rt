@@ -15,7 +15,7 @@ use crate::told_values::told;
 use crate::values::ToldValues;
 use crate::warning::Warning;
 use crate::warning_text::push_warning_lines;
-use device_profile::{Field, Format, Profile, format_of, next_line, next_word};
+use device_profile::{FORMAT_NAME, Field, Format, Profile, format_of, next_line, next_word};
 use shown_bytes::{push_number, push_with_four_decimals};
 use std::alloc::{AllocError, Allocator};
 
@@ -45,7 +45,7 @@ fn field_on(line: &[u8]) -> Option<Field>
     field_of(word)
 }
 
-/// Appends a value of a field; the VMI counts ten-thousandths.
+/// Appends a value of a field.
 fn push_value<A: Allocator>(
     text: &mut Vec<u8, A>,
     field: Field,
@@ -53,10 +53,11 @@ fn push_value<A: Allocator>(
 ) -> Result<(), AllocError>
     ensures { OnOk result (text.new.items ≡ text.old.items ++ value_word field value) }
 {
-    if field != Field::Vmi {
-        return push_number(text, u64::from(value));
+    if field.has_decimals() {
+        push_with_four_decimals(text, u64::from(value))
+    } else {
+        push_number(text, u64::from(value))
     }
-    push_with_four_decimals(text, u64::from(value))
 }
 
 /// Appends the line of a field, without its end.
@@ -158,7 +159,8 @@ fn push_first_line<A: Allocator>(
     ensures { OnOk result (text.new.items
         ≡ text.old.items ++ first_line format (option_map values_in line_termination)) }
 {
-    text.extend_from_slice(b"pclprofile ")?;
+    text.extend_from_slice(FORMAT_NAME)?;
+    text.extend_from_slice(b" ")?;
     text.extend_from_slice(version(format, line_termination).as_bytes())?;
     text.extend_from_slice(b"\n")
 }

@@ -5,8 +5,9 @@ ghost use Rattle.device_profile.specs.declared.field.Field.TheVariants as fields
 ghost use Rattle.device_profile.specs.Printer.{has_orientation, has_size, has_tray, are_sides};
 ghost use Rattle.device_profile.specs.Values.{is_value};
 ghost use Rattle.pjl_answer.specs.Told.{copies_told, courier_among, font_told, form_lines_told};
-ghost use Rattle.pjl_answer.specs.Told.{held_trays, is_courier, is_own_font, is_vmi_rounded};
-ghost use Rattle.pjl_answer.specs.Told.{line_termination_told, one, orientation_told, paper_told};
+ghost use Rattle.pjl_answer.specs.Told.{held_trays, is_courier, is_courier_number, is_own_font};
+ghost use Rattle.pjl_answer.specs.Told.{is_vmi_rounded, line_termination_told, one};
+ghost use Rattle.pjl_answer.specs.Told.{orientation_told, paper_told};
 ghost use Rattle.pjl_answer.specs.Told.{pitch_told, set_told, is_first_number, is_own_source};
 ghost use Rattle.pjl_answer.specs.Told.{duplex_told, sides_by, sides_told, text_height_told, told};
 ghost use Rattle.pjl_answer.specs.Told.{trays_by, trays_of, trays_told, values_in, vmi_told};
@@ -15,14 +16,13 @@ ghost use Rattle.printer_models.specs.Paper.{code_of};
 
 use crate::entry::value_of;
 use crate::form_lines::{is_whole_share, text_height, vmi_by};
-use crate::set_name::SetName;
 use crate::values::{
     ToldValues, binding_of, copies_of, form_lines_of, is_first, is_internal, is_on,
     line_termination_of, mp_trays_of, orientation_of, paper_of,
 };
 use crate::variable::Variable;
-use device_profile::{Field, FontRow, Profile, SymbolSet, amount};
-use printer_models::Paper;
+use device_profile::{Field, FontRow, NamedSet, Profile, SymbolSet, amount};
+use printer_models::{Paper, Typeface};
 use std::alloc::Allocator;
 
 /// The greatest VMI that a panel can have, in ten-thousandths of 1/48 inch.
@@ -31,11 +31,6 @@ const MOST_VMI: u64 = 3_350_000;
 /// The height of Courier by its pitch: 120 points at one character an inch, both in
 /// ten-thousandths.
 const HEIGHT_BY_PITCH: u64 = 12_000_000_000;
-
-/// The two numbers of Courier, in ten-thousandths.
-const BASE_COURIER: u32 = 30_000;
-
-const COURIER: u32 = 40_990_000;
 
 /// The paper of the panel.
 pub(crate) fn paper_told(answer: &[u8]) -> Option<Paper>
@@ -175,6 +170,13 @@ pub(crate) fn is_vmi_rounded(answer: &[u8]) -> bool
     }
 }
 
+/// Whether a number is one of the two of Courier, in ten-thousandths.
+fn is_courier_number(typeface: u32) -> bool
+    ensures { result ≡ is_courier_number typeface }
+{
+    typeface == Typeface::BaseCourier.value() || typeface == Typeface::Courier.value()
+}
+
 /// Whether a face is Courier in this symbol set, at this pitch and 120 points through it, upright
 /// and of medium weight.
 fn is_courier<A: Allocator>(set: SymbolSet, pitch: u128, face: &FontRow<A>) -> bool
@@ -187,7 +189,7 @@ fn is_courier<A: Allocator>(set: SymbolSet, pitch: u128, face: &FontRow<A>) -> b
         && u64::from(request.height) * u64::from(request.pitch) == HEIGHT_BY_PITCH
         && request.style == 0
         && request.weight == 0
-        && (request.typeface == BASE_COURIER || request.typeface == COURIER)
+        && is_courier_number(request.typeface)
 }
 
 /// The id of the first such face.
@@ -229,8 +231,8 @@ fn is_first_number(answer: &[u8]) -> bool
 fn set_told(answer: &[u8]) -> Option<SymbolSet>
     ensures { result ≡ set_told answer.now }
 {
-    let name = SetName::named(value_of(answer, Variable::SymbolSet)?)?;
-    Some(name.symbol_set())
+    let set = NamedSet::named(value_of(answer, Variable::SymbolSet)?)?;
+    Some(set.symbol_set())
 }
 
 /// The pitch of the panel's font, in ten-thousandths.

@@ -9,9 +9,8 @@ ghost use Rattle.pjl_answer.specs.Values.{is_internal, is_on, is_understood, kep
 ghost use Rattle.pjl_answer.specs.Values.{line_termination_of, mp_trays_of, orientation_of};
 ghost use Rattle.pjl_answer.specs.Values.{paper_of, paper_word};
 
-use crate::set_name::SetName;
 use crate::variable::Variable;
-use device_profile::{amount, number};
+use device_profile::{NamedSet, amount, number};
 use printer_models::{PAPERS, Paper};
 
 /// The values that are told for a field.
@@ -170,7 +169,7 @@ pub(crate) fn is_understood(variable: Variable, value: &[u8]) -> bool
         Variable::FormLines => form_lines_of(value).is_some(),
         Variable::FontSource => is_internal(value),
         Variable::FontNumber => is_first(value),
-        Variable::SymbolSet => SetName::named(value).is_some(),
+        Variable::SymbolSet => NamedSet::named(value).is_some(),
         Variable::Pitch => amount(value).is_some(),
         Variable::Copies => copies_of(value).is_some(),
         Variable::Duplex | Variable::ManualFeed => is_on(value).is_some(),

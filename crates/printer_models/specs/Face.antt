@@ -1,10 +1,13 @@
 -- The resident faces of a generation of printers.
 use Rattle.std.specs.Prelude.{ℕ, pos, ◌*◌, ◌-◌, ◌==◌, List, [], ◌∷◌, ◌++◌, map, Option, None, option_map, slice_get}
-use Rattle.std.specs.Prelude.{if◌then◌else◌}
+use Rattle.std.specs.Prelude.{if◌then◌else◌, codes}
 use Rattle.device_profile.specs.declared.font.CodeRange.{CodeRange}
 use Rattle.device_profile.specs.declared.font.FontRequest.{FontRequest}
 use Rattle.device_profile.specs.declared.font.SymbolSet.{SymbolSet}
+use Rattle.device_profile.specs.declared.named_set.NamedSet.{NamedSet}
+use Rattle.device_profile.specs.declared.named_set.NamedSet.TheVariants as named
 use Rattle.device_profile.specs.Faces.{Face}
+use Rattle.device_profile.specs.NamedSet.{symbols_of}
 use Rattle.device_profile.specs.Rows.{of_7200ths}
 use Rattle.printer_models.specs.declared.face.CharacterSet.{CharacterSet}
 use Rattle.printer_models.specs.declared.face.CharacterSet.TheVariants.{Roman8, Pc8, Pc850, Latin1, Windows, Ascii}
@@ -20,18 +23,18 @@ use Rattle.printer_models.specs.declared.face.Metrics.{Metrics}
 use Rattle.printer_models.specs.declared.face.Generation.{Generation}
 use Rattle.printer_models.specs.declared.face.Generation.TheVariants.{LaserJet4, LaserJet5}
 
--- a symbol set by its number and letter
-abbrev pub set_of : ℕ → ℕ → SymbolSet
-set_of number letter = record { number = number * 10_000; letter = letter }
+-- the set in the table of sets that have a name
+abbrev pub named_as : CharacterSet → NamedSet
+named_as Roman8 = named.Roman8
+named_as Pc8 = named.Pc8
+named_as Pc850 = named.Pc850
+named_as Latin1 = named.Latin1
+named_as Windows = named.Windows1
+named_as Ascii = named.Ascii
 
--- 8U, 10U, 12U, 0N, 19U and 0U
+-- the set as `ESC (` names it
 abbrev pub symbol_set_of : CharacterSet → SymbolSet
-symbol_set_of Roman8 = set_of 8 85
-symbol_set_of Pc8 = set_of 10 85
-symbol_set_of Pc850 = set_of 12 85
-symbol_set_of Latin1 = set_of 0 78
-symbol_set_of Windows = set_of 19 85
-symbol_set_of Ascii = set_of 0 85
+symbol_set_of set = symbols_of (named_as set)
 
 abbrev pub from_to : ℕ → ℕ → CodeRange
 from_to first last = record { first = first; last = last }
@@ -79,6 +82,22 @@ typeface_number LinePrinter = 0
 typeface_number LetterGothic = 4_102
 typeface_number BaseLetterGothic = 6
 
+-- the same in ten-thousandths, as a request has it
+abbrev pub typeface_value : Typeface → ℕ
+typeface_value typeface = typeface_number typeface * 10_000
+
+-- the name of the design
+abbrev pub typeface_name : Typeface → List ℕ
+typeface_name Courier = codes "Courier"
+typeface_name BaseCourier = codes "Courier"
+typeface_name LinePrinter = codes "Line Printer"
+typeface_name LetterGothic = codes "Letter Gothic"
+typeface_name BaseLetterGothic = codes "Letter Gothic"
+
+-- all designs
+abbrev pub every_typeface : List Typeface
+every_typeface = LinePrinter ∷ BaseCourier ∷ BaseLetterGothic ∷ Courier ∷ LetterGothic ∷ []
+
 -- what selects a face
 abbrev pub request_of : FaceRow → FontRequest
 request_of row = record {
@@ -88,7 +107,7 @@ request_of row = record {
   height = (metrics_of row.cut).height;
   style = style_of row.look * 10_000;
   weight = pos (weight_of row.look * 10_000);
-  typeface = typeface_number row.typeface * 10_000;
+  typeface = typeface_value row.typeface;
 }
 
 -- the face of an id

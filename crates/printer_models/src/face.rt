@@ -1,28 +1,25 @@
 //! The resident faces of a generation of printers.
 ghost use Rattle.std.specs.Prelude.{◌≡◌, ◌++◌, IfOk, OnOk};
 ghost use Rattle.printer_models.specs.Face.{codes_in, courier, courier_faces, faces_of, in_sets};
-ghost use Rattle.printer_models.specs.Face.{metrics, metrics_of, oldest_sets, other_faces};
-ghost use Rattle.printer_models.specs.Face.{panel_sets, request_of, set_of, style_of};
-ghost use Rattle.printer_models.specs.Face.{symbol_set_of, text_sets, typeface_number};
+ghost use Rattle.printer_models.specs.Face.{metrics, metrics_of, named_as, oldest_sets};
+ghost use Rattle.printer_models.specs.Face.{other_faces, panel_sets, request_of, style_of};
+ghost use Rattle.printer_models.specs.Face.{symbol_set_of, text_sets, typeface_name};
+ghost use Rattle.printer_models.specs.Face.{typeface_number, typeface_value};
 ghost use Rattle.printer_models.specs.Face.{usual_courier_faces, usual_sets, weight_of};
 
-use device_profile::{CodeRange, FontRequest, SymbolSet};
+use device_profile::{CodeRange, FontRequest, NamedSet, SymbolSet};
 use std::alloc::{AllocError, Allocator};
 
-/// A symbol set.
+/// A symbol set that some face is in.
 #[derive(Clone, Copy)]
 pub enum CharacterSet {
-    /// 8U.
     Roman8,
-    /// 10U.
     Pc8,
-    /// 12U.
     Pc850,
-    /// 0N, ISO 8859-1.
+    /// ISO 8859-1.
     Latin1,
-    /// 19U, Windows 3.1 Latin 1.
+    /// Windows 3.1 Latin 1.
     Windows,
-    /// 0U.
     Ascii,
 }
 
@@ -61,6 +58,15 @@ pub enum Typeface {
     LetterGothic,
     BaseLetterGothic,
 }
+
+/// All designs, by their numbers.
+pub const TYPEFACES: [Typeface; 5] = [
+    Typeface::LinePrinter,
+    Typeface::BaseCourier,
+    Typeface::BaseLetterGothic,
+    Typeface::Courier,
+    Typeface::LetterGothic,
+];
 
 /// What a pitch and a height are, and how their characters lie.
 #[derive(Clone, Copy)]
@@ -137,18 +143,25 @@ const LINE_PRINTER_SETS: &[CharacterSet] = &[
 ];
 
 impl CharacterSet {
+    /// The set in the table of sets that have a name.
+    fn named(self) -> NamedSet
+        ensures { result ≡ named_as self }
+    {
+        match self {
+            CharacterSet::Roman8 => NamedSet::Roman8,
+            CharacterSet::Pc8 => NamedSet::Pc8,
+            CharacterSet::Pc850 => NamedSet::Pc850,
+            CharacterSet::Latin1 => NamedSet::Latin1,
+            CharacterSet::Windows => NamedSet::Windows1,
+            CharacterSet::Ascii => NamedSet::Ascii,
+        }
+    }
+
     /// The set as `ESC (` names it.
     pub fn symbol_set(self) -> SymbolSet
         ensures { result ≡ symbol_set_of self }
     {
-        match self {
-            CharacterSet::Roman8 => symbol_set(8, b'U'),
-            CharacterSet::Pc8 => symbol_set(10, b'U'),
-            CharacterSet::Pc850 => symbol_set(12, b'U'),
-            CharacterSet::Latin1 => symbol_set(0, b'N'),
-            CharacterSet::Windows => symbol_set(19, b'U'),
-            CharacterSet::Ascii => symbol_set(0, b'U'),
-        }
+        self.named().symbol_set()
     }
 
     /// The codes that print.
@@ -162,16 +175,6 @@ impl CharacterSet {
             CharacterSet::Windows => WINDOWS_CODES,
             CharacterSet::Ascii => ASCII_CODES,
         }
-    }
-}
-
-/// The set of a number and a letter.
-fn symbol_set(number: u8, letter: u8) -> SymbolSet
-    ensures { result ≡ set_of number letter }
-{
-    SymbolSet {
-        number: u32::from(number) * 10_000,
-        letter,
     }
 }
 
@@ -290,6 +293,24 @@ impl Typeface {
             Typeface::BaseLetterGothic => 6,
         }
     }
+
+    /// The same in ten-thousandths, as a request has it.
+    pub fn value(self) -> u32
+        ensures { result ≡ typeface_value self }
+    {
+        u32::from(self.number()) * 10_000
+    }
+
+    /// The name of the design.
+    pub fn name(self) -> &'static str
+        ensures { result.now ≡ typeface_name self }
+    {
+        match self {
+            Typeface::Courier | Typeface::BaseCourier => "Courier",
+            Typeface::LinePrinter => "Line Printer",
+            Typeface::LetterGothic | Typeface::BaseLetterGothic => "Letter Gothic",
+        }
+    }
 }
 
 impl FaceRow {
@@ -305,7 +326,7 @@ impl FaceRow {
             height: metrics.height,
             style: u32::from(self.look.style()) * 10_000,
             weight: i32::from(self.look.weight()) * 10_000,
-            typeface: u32::from(self.typeface.number()) * 10_000,
+            typeface: self.typeface.value(),
         }
     }
 }

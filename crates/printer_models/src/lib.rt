@@ -14,7 +14,9 @@ mod paper;
 mod text;
 
 pub use asked::{PaperFault, WordFault};
-pub use face::{CharacterSet, Cut, FaceLook, FaceRow, Generation, Metrics, Typeface, faces_of};
+pub use face::{
+    CharacterSet, Cut, FaceLook, FaceRow, Generation, Metrics, TYPEFACES, Typeface, faces_of,
+};
 pub use listing::models_text;
 pub use model::{MODELS, Model, ModelRow};
 pub use new_profile::{NewError, new_text};

@@ -1,13 +1,13 @@
 //! Making the text of a model's profile.
 
 use crate::comparison::DEPTH;
-use crate::face::{CharacterSet, FaceRow, Generation, faces_of};
+use crate::face::{CharacterSet, FaceRow, Generation, Typeface, faces_of};
 use crate::model::{Model, ModelRow};
 use crate::page::{ORIENTATIONS, page_numbers};
 use crate::panel_lists::{PanelLists, panel_values};
 use crate::paper::Paper;
-use device_profile::Field;
-use shown_bytes::{push_amount, push_number};
+use device_profile::{FORMAT_NAME, Field, Key};
+use shown_bytes::{push_amount, push_lettered, push_number};
 use std::alloc::{AllocError, Allocator};
 
 /// The text of the profile of a model, with these papers and a panel of these lists.
@@ -27,7 +27,7 @@ pub(crate) fn profile_text<A: Allocator + Copy>(
     }
     push_faces(&mut text, alloc, row.generation)?;
     // Last, so that no front of the text is one of a profile.
-    push_list(&mut text, "depth", &[DEPTH])?;
+    push_list(&mut text, Key::Depth, &[DEPTH])?;
     Ok(text)
 }
 
@@ -83,10 +83,11 @@ fn push_comments<A: Allocator>(
     row: &ModelRow,
     lists: PanelLists,
 ) -> Result<(), AllocError> {
+    text.extend_from_slice(FORMAT_NAME)?;
     push_all(
         text,
         &[
-            "pclprofile 1\n# ",
+            " 1\n# ",
             row.title,
             ", by 'pclcheck profile new ",
             row.word,
@@ -118,7 +119,8 @@ fn push_panel<A: Allocator + Copy>(
     papers: &[Paper],
     lists: PanelLists,
 ) -> Result<(), AllocError> {
-    push_all(text, &["name ", model.row().word, "\n"])?;
+    text.extend_from_slice(Key::Name.word())?;
+    push_all(text, &[" ", model.row().word, "\n"])?;
     for field in Field::ALL {
         push_field(text, alloc, model, papers, lists, field)?;
     }
@@ -141,7 +143,7 @@ fn push_field<A: Allocator + Copy>(
     push_values(text, field, &values)
 }
 
-/// Appends the line of a field: its key and its values, of which a VMI counts ten-thousandths.
+/// Appends the line of a field: its key and its values.
 fn push_values<A: Allocator>(
     text: &mut Vec<u8, A>,
     field: Field,
@@ -149,9 +151,10 @@ fn push_values<A: Allocator>(
 ) -> Result<(), AllocError> {
     text.extend_from_slice(field.key())?;
     for value in values {
-        match field {
-            Field::Vmi => push_amount_word(text, *value)?,
-            _ => push_number_word(text, *value)?,
+        if field.has_decimals() {
+            push_amount_word(text, *value)?;
+        } else {
+            push_number_word(text, *value)?;
         }
     }
     push(text, "\n")
@@ -160,10 +163,10 @@ fn push_values<A: Allocator>(
 /// Appends a line of a key and whole numbers.
 fn push_list<A: Allocator>(
     text: &mut Vec<u8, A>,
-    key: &str,
+    key: Key,
     values: &[u32],
 ) -> Result<(), AllocError> {
-    push(text, key)?;
+    text.extend_from_slice(key.word())?;
     push_numbers(text, values)?;
     push(text, "\n")
 }
@@ -178,16 +181,16 @@ fn push_numbers<A: Allocator>(text: &mut Vec<u8, A>, numbers: &[u32]) -> Result<
 
 /// Appends the lines on the device.
 fn push_device<A: Allocator>(text: &mut Vec<u8, A>, row: &ModelRow) -> Result<(), AllocError> {
-    push_list(text, "trays", row.trays)?;
-    push_list(text, "duplex", &[u32::from(row.has_duplex)])?;
-    push_list(text, "memory", &[row.memory])
+    push_list(text, Key::Trays, row.trays)?;
+    push_list(text, Key::Duplex, &[u32::from(row.has_duplex)])?;
+    push_list(text, Key::Memory, &[row.memory])
 }
 
 /// Appends the pages of a paper.
 fn push_pages<A: Allocator>(text: &mut Vec<u8, A>, paper: Paper) -> Result<(), AllocError> {
     push_all(text, &["# ", paper.word(), "\n"])?;
     for orientation in 0..ORIENTATIONS {
-        push_list(text, "geometry", &page_numbers(paper, orientation))?;
+        push_list(text, Key::Page, &page_numbers(paper, orientation))?;
     }
     Ok(())
 }
@@ -198,15 +201,37 @@ fn push_faces<A: Allocator + Copy>(
     alloc: A,
     generation: Generation,
 ) -> Result<(), AllocError> {
-    push(
-        text,
-        "# Courier (3, 4099), Line Printer (0) and Letter Gothic (4102, 6)\n",
-    )?;
+    push_designs(text)?;
     let faces = faces_of(alloc, generation)?;
     for (index, face) in faces.iter().enumerate() {
         push_face(text, index + 1, *face)?;
     }
     Ok(())
+}
+
+/// Appends the comment that names the designs.
+fn push_designs<A: Allocator>(text: &mut Vec<u8, A>) -> Result<(), AllocError> {
+    let letter_gothic = Some(Typeface::BaseLetterGothic);
+    push_design(text, "# ", Typeface::BaseCourier, Some(Typeface::Courier))?;
+    push_design(text, ", ", Typeface::LinePrinter, None)?;
+    push_design(text, " and ", Typeface::LetterGothic, letter_gothic)?;
+    push(text, "\n")
+}
+
+/// Appends a design with its number, and the other number that it may have.
+fn push_design<A: Allocator>(
+    text: &mut Vec<u8, A>,
+    before: &str,
+    typeface: Typeface,
+    other: Option<Typeface>,
+) -> Result<(), AllocError> {
+    push_all(text, &[before, typeface.name(), " ("])?;
+    push_number(text, u64::from(typeface.number()))?;
+    if let Some(other) = other {
+        push(text, ", ")?;
+        push_number(text, u64::from(other.number()))?;
+    }
+    push(text, ")")
 }
 
 /// Appends the line of a face.
@@ -216,7 +241,8 @@ fn push_face<A: Allocator>(
     face: FaceRow,
 ) -> Result<(), AllocError> {
     let metrics = face.cut.metrics();
-    push(text, "face ")?;
+    text.extend_from_slice(Key::Face.word())?;
+    text.push(b' ')?;
     push_number(text, id as u64)?;
     push_set(text, face.set)?;
     push_amount_word(text, metrics.pitch)?;
@@ -239,9 +265,8 @@ fn push_face<A: Allocator>(
 /// Appends a symbol set behind a space.
 fn push_set<A: Allocator>(text: &mut Vec<u8, A>, set: CharacterSet) -> Result<(), AllocError> {
     let symbol_set = set.symbol_set();
-    push_number_word(text, symbol_set.number / 10_000)?;
-    text.push(symbol_set.letter)?;
-    Ok(())
+    text.push(b' ')?;
+    push_lettered(text, symbol_set.number, symbol_set.letter)
 }
 
 /// Appends the codes that print in a set, behind a space.

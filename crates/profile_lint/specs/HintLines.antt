@@ -1,8 +1,6 @@
 -- The line that is written for a hint.
 use Rattle.std.specs.Prelude.{ℕ, ℤ, List, [], ◌∷◌, ◌++◌, codes, decimal, flat_map}
 use Rattle.device_profile.specs.declared.field.Field.{Field}
-use Rattle.device_profile.specs.declared.field.Field.TheVariants.{Size, Orientation, Vmi, Font, Copies, Sides, Tray}
-use Rattle.device_profile.specs.declared.field.Field.TheVariants.{LineTerm}
 use Rattle.device_profile.specs.declared.font.CodeRange.{CodeRange}
 use Rattle.device_profile.specs.declared.geometry.Geometry.{Geometry}
 use Rattle.device_profile.specs.Field.{field_key}
@@ -20,6 +18,7 @@ use Rattle.profile_lint.specs.declared.hint.Hint.TheVariants.{SeveralValues, Fix
 use Rattle.profile_lint.specs.declared.hint_line.Numbers.{Numbers}
 use Rattle.profile_lint.specs.FaceHints.{advance_by}
 use Rattle.profile_lint.specs.PageHints.{area_lengths, units_in}
+use Rattle.profile_lint.specs.Rules.{command_of}
 use Rattle.shown_bytes.specs.Shown.{shown}
 
 -- a length in whole 7200ths of an inch, behind a space
@@ -103,17 +102,6 @@ ranges_words (range ∷ more) = range_words range ++ flat_map more_range_words m
 unfoldable pub code_hint_words : ℕ → CharacterSet → List ℕ
 code_hint_words face set =
     (codes "face " ++ decimal face ++ codes ": its codes are not the ") ++ ranges_words (codes_in set) ++ lack_words
-
--- the command by which a job sets a field
-abbrev pub command_of : Field → List ℕ
-command_of Size = codes "ESC &l#A"
-command_of Orientation = codes "ESC &l#O"
-command_of Vmi = codes "ESC &l#C"
-command_of Font = codes "ESC (#X"
-command_of Copies = codes "ESC &l#X"
-command_of Sides = codes "ESC &l#S"
-command_of Tray = codes "ESC &l#H"
-command_of LineTerm = codes "ESC &k#G"
 
 unfoldable pub several_words : Field → List ℕ
 several_words field =

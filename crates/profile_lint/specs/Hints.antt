@@ -1,10 +1,8 @@
 -- Hints on a profile that was read.
-use Rattle.std.specs.Prelude.{◌==◌, nat_lt, Bool, if◌then◌else◌, List, [], ◌∷◌, ◌++◌, flat_map, length}
-use Rattle.std.specs.List.{list_all}
+use Rattle.std.specs.Prelude.{nat_lt, if◌then◌else◌, List, [], ◌∷◌, ◌++◌, flat_map, length}
 use Rattle.device_profile.specs.declared.field.Field.{Field}
 use Rattle.device_profile.specs.declared.field.Field.TheVariants.{Copies, Sides, Tray}
-use Rattle.device_profile.specs.Field.{every_field}
-use Rattle.device_profile.specs.Printer.{Printer, values_of}
+use Rattle.device_profile.specs.Printer.{Printer, has_one_panel, values_of}
 use Rattle.printer_models.specs.declared.face.Generation.TheVariants.{LaserJet5}
 use Rattle.printer_models.specs.Face.{faces_of}
 use Rattle.profile_lint.specs.declared.hint.Hint.{Hint}
@@ -16,12 +14,8 @@ use Rattle.profile_lint.specs.PageHints.{page_hints}
 abbrev pub several_hints : Printer → Field → List Hint
 several_hints printer field = if nat_lt 1 (length (values_of printer field)) then SeveralValues field ∷ [] else []
 
--- the panel has one value in each field
-abbrev pub is_fixed : Printer → Bool
-is_fixed printer = list_all (λ field. length (values_of printer field) == 1) every_field
-
 abbrev pub fixed_hints : Printer → List Hint
-fixed_hints printer = if is_fixed printer then FixedPanel ∷ [] else []
+fixed_hints printer = if has_one_panel printer then FixedPanel ∷ [] else []
 
 abbrev pub panel_hints : Printer → List Hint
 panel_hints printer =

@@ -2,7 +2,7 @@
 ghost use Rattle.std.specs.Prelude.{◌≡◌};
 ghost use Rattle.profile_lint.specs.Faults.{has_faulty_line, is_on_line_of, is_same_key};
 
-use device_profile::{Cause, Key, ProfileFault};
+use device_profile::{Cause, Key};
 
 /// Something that is wrong with a profile's text.
 #[derive(Clone, Copy)]
@@ -39,7 +39,7 @@ pub enum TextFault {
 
 impl TextFault {
     ghost use Rattle.std.specs.Prelude.{◌≡◌};
-    ghost use Rattle.profile_lint.specs.Faults.{cause_of, fault_of, line_of};
+    ghost use Rattle.profile_lint.specs.Faults.{cause_of, line_of};
 
     /// The number of the line, which counts from 1, or 0 where the whole is wrong.
     pub fn line(self) -> u64
@@ -67,16 +67,6 @@ impl TextFault {
             | TextFault::NoFace(_)
             | TextFault::NoTray(_)
             | TextFault::NoSides(_) => Cause::Range,
-        }
-    }
-
-    /// The fault as `Profile::read` tells it.
-    pub fn profile_fault(self) -> ProfileFault
-        ensures { result ≡ fault_of self }
-    {
-        ProfileFault::Fault {
-            line: self.line(),
-            cause: self.cause(),
         }
     }
 }

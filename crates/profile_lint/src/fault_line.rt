@@ -6,7 +6,7 @@ ghost use Rattle.profile_lint.specs.Shown.{quoted};
 ghost use Rattle.shown_bytes.specs.Shown.{shown};
 
 use crate::fault::TextFault;
-use crate::key_rules::{broken_rule, meaning_of};
+use crate::key_rules::{meaning_of, push_broken_rule};
 use crate::shown::{line_at, push_number_in, push_numbers_in, push_quoted, push_word_in};
 use device_profile::{Cause, Key};
 use shown_bytes::{push_number, push_shown};
@@ -133,7 +133,7 @@ fn push_line_fault<A: Allocator>(
 {
     push_quoted(out, line)?;
     out.extend_from_slice(b": ")?;
-    out.extend_from_slice(broken_rule(key, cause))
+    push_broken_rule(out, key, cause)
 }
 
 /// The name of a cause.

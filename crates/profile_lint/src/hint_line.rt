@@ -3,8 +3,8 @@ ghost use Rattle.std.specs.Prelude.{◌≡◌, ◌++◌, OnOk, codes, decimal, f
 ghost use Rattle.printer_models.specs.Face.{metrics_of};
 ghost use Rattle.shown_bytes.specs.Shown.{shown};
 ghost use Rattle.profile_lint.specs.HintLines.{advance_hint_words, area_hint_words, area_name};
-ghost use Rattle.profile_lint.specs.HintLines.{area_words, code_hint_words, command_of};
-ghost use Rattle.profile_lint.specs.HintLines.{differ_words, hint_line, hint_words, lack_words};
+ghost use Rattle.profile_lint.specs.HintLines.{area_words, code_hint_words, differ_words};
+ghost use Rattle.profile_lint.specs.HintLines.{hint_line, hint_words, lack_words};
 ghost use Rattle.profile_lint.specs.HintLines.{length_names, length_word, more_range_words};
 ghost use Rattle.profile_lint.specs.HintLines.{number_hint_words, numbers_of, numbers_words};
 ghost use Rattle.profile_lint.specs.HintLines.{own_words, page_place, paper_words, range_words};
@@ -12,6 +12,7 @@ ghost use Rattle.profile_lint.specs.HintLines.{ranges_words, several_words, tabl
 
 use crate::face_hints::advance_by;
 use crate::hint::{Area, Hint, units_in};
+use crate::key_rules::command_of;
 use crate::shown::{push_number_in, push_numbers_in, push_word_in};
 use device_profile::{CodeRange, Field, Geometry};
 use printer_models::{CharacterSet, Cut, Paper, page_of};
@@ -400,20 +401,4 @@ fn push_several_values<A: Allocator>(out: &mut Vec<u8, A>, field: Field) -> Resu
 {
     let behind = b"' has several values: each job has to send ";
     push_word_in(out, b"'", field.key(), behind, command_of(field))
-}
-
-/// The command by which a job sets a field.
-fn command_of(field: Field) -> &'static [u8]
-    ensures { result.now ≡ command_of field }
-{
-    match field {
-        Field::Size => b"ESC &l#A",
-        Field::Orientation => b"ESC &l#O",
-        Field::Vmi => b"ESC &l#C",
-        Field::Font => b"ESC (#X",
-        Field::Copies => b"ESC &l#X",
-        Field::Sides => b"ESC &l#S",
-        Field::Tray => b"ESC &l#H",
-        Field::LineTerm => b"ESC &k#G",
-    }
 }

@@ -1,9 +1,6 @@
 //! Hints on a profile that was read.
-ghost use Rattle.std.specs.Prelude.{◌≡◌, ◌++◌, ◌==◌, IfOk, OnOk, length};
-ghost use Rattle.std.specs.List.{list_all};
-ghost use Rattle.device_profile.specs.Printer.{values_of};
-ghost use Rattle.profile_lint.specs.Hints.{fixed_hints, hints_of, is_fixed, panel_hints};
-ghost use Rattle.profile_lint.specs.Hints.{several_hints};
+ghost use Rattle.std.specs.Prelude.{◌≡◌, ◌++◌, IfOk, OnOk};
+ghost use Rattle.profile_lint.specs.Hints.{fixed_hints, hints_of, panel_hints, several_hints};
 
 use crate::face_hints::push_hints_of_faces;
 use crate::hint::Hint;
@@ -64,24 +61,8 @@ fn push_fixed_hints<A: Allocator>(
 ) -> Result<(), AllocError>
     ensures { OnOk result (hints.new.items ≡ hints.old.items ++ fixed_hints profile.now) }
 {
-    if is_fixed(profile) {
+    if profile.has_one_panel() {
         hints.push(Hint::FixedPanel)?;
     }
     Ok(())
-}
-
-/// Whether the panel has one value in each field.
-fn is_fixed<A: Allocator>(profile: &Profile<A>) -> bool
-    ensures { result ≡ is_fixed profile.now }
-{
-    has_one_value(profile, &Field::ALL)
-}
-
-/// Whether the panel has one value in each of these fields.
-fn has_one_value<A: Allocator>(profile: &Profile<A>, fields: &[Field]) -> bool
-    ensures { result ≡ list_all (λ field. length (values_of profile.now field) == 1) fields.now }
-{
-    fields
-        .iter()
-        .all(|field| profile.allowed(*field).len() == 1)
 }

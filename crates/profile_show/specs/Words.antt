@@ -1,13 +1,17 @@
 -- The words for the numbers of a profile.
 use Rattle.std.specs.Prelude.{ℕ, ℤ, pos, ◌/◌, ◌%◌, ◌==◌, ◌&&◌, nat_lt, if◌then◌else◌, List, [], ◌∷◌, ◌++◌, Option, find}
-use Rattle.std.specs.Prelude.{decimal, codes}
+use Rattle.std.specs.Prelude.{decimal, codes, length}
 use Rattle.std.specs.Ordering.{int_eq}
 use Rattle.std.specs.Option.{option_map_or}
 use Rattle.device_profile.specs.declared.font.FontRequest.{FontRequest}
 use Rattle.device_profile.specs.declared.font.SymbolSet.{SymbolSet}
+use Rattle.device_profile.specs.NamedSet.{name_of, named_by}
+use Rattle.printer_models.specs.declared.face.Typeface.{Typeface}
 use Rattle.printer_models.specs.declared.paper.Paper.{Paper}
+use Rattle.printer_models.specs.Face.{every_typeface, typeface_name, typeface_number, typeface_value}
 use Rattle.printer_models.specs.Paper.{word_of, code_of, every_paper}
 use Rattle.shown_bytes.specs.Decimals.{amount}
+use Rattle.shown_bytes.specs.Lettered.{lettered}
 use Rattle.profile_show.specs.Figures.{signed_amount, counted}
 
 -- a name, and its number in brackets
@@ -61,45 +65,27 @@ termination_name termination =
 
 -- ---- what selects a font, of which each number counts ten-thousandths
 
--- the names of well-known symbol sets of the letter U, each behind a space
-abbrev pub u_set_name : ℕ → List ℕ
-u_set_name number =
-    if number == 0 then codes " ASCII"
-    else (if number == 80_000 then codes " Roman-8"
-    else (if number == 90_000 then codes " Windows 3.0 Latin 1"
-    else (if number == 100_000 then codes " PC-8"
-    else (if number == 110_000 then codes " PC-8 D/N"
-    else (if number == 120_000 then codes " PC-850"
-    else (if number == 170_000 then codes " PC-852"
-    else (if number == 190_000 then codes " Windows Latin 1"
-    else [])))))))
+-- a name behind a space, where there is one
+unfoldable pub behind_space : List ℕ → List ℕ
+behind_space name = if length name == 0 then [] else 32 ∷ name
 
--- and of the letter N
-abbrev pub n_set_name : ℕ → List ℕ
-n_set_name number =
-    if number == 0 then codes " ISO 8859-1 Latin 1"
-    else (if number == 20_000 then codes " ISO 8859-2 Latin 2"
-    else (if number == 50_000 then codes " ISO 8859-9 Latin 5"
-    else (if number == 60_000 then codes " ISO 8859-10 Latin 6"
-    else (if number == 90_000 then codes " ISO 8859-15 Latin 9"
-    else []))))
-
-abbrev pub set_name : SymbolSet → List ℕ
-set_name set =
-    if set.letter == 85 then u_set_name set.number else (if set.letter == 78 then n_set_name set.number else [])
+-- the name of a symbol set behind a space, where it has one
+unfoldable pub set_name : SymbolSet → List ℕ
+set_name set = option_map_or (λ known. behind_space (name_of known)) (named_by set) []
 
 -- a symbol set by its number and letter, and its name
 unfoldable pub set_words : SymbolSet → List ℕ
-set_words set = amount set.number ++ set.letter ∷ set_name set
+set_words set = lettered set.number set.letter ++ set_name set
 
+-- the design of a number, in ten-thousandths
+unfoldable pub typeface_of : ℕ → Option Typeface
+typeface_of number = find (λ typeface. typeface_value typeface == number) every_typeface
+
+-- a typeface by the name of its design, where it has one
 unfoldable pub typeface_words : ℕ → List ℕ
-typeface_words typeface =
-    if typeface == 0 then codes "Line Printer (0)"
-    else (if typeface == 30_000 then codes "Courier (3)"
-    else (if typeface == 40_990_000 then codes "Courier (4099)"
-    else (if typeface == 60_000 then codes "Letter Gothic (6)"
-    else (if typeface == 41_020_000 then codes "Letter Gothic (4102)"
-    else codes "typeface " ++ amount typeface))))
+typeface_words number =
+    option_map_or (λ typeface. numbered (typeface_name typeface) (typeface_number typeface)) (typeface_of number)
+    (codes "typeface " ++ amount number)
 
 unfoldable pub style_words : ℕ → List ℕ
 style_words style =

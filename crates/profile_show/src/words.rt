@@ -1,11 +1,11 @@
 //! The words for the numbers of a profile.
 ghost use Rattle.std.specs.Prelude.{◌≡◌, ◌++◌, OnOk};
 ghost use Rattle.profile_show.specs.Words.{
+  behind_space,
   cut_words,
   design_words,
   letter_size,
   lines_an_inch,
-  n_set_name,
   numbered,
   orientation_name,
   orientation_words,
@@ -16,16 +16,16 @@ ghost use Rattle.profile_show.specs.Words.{
   size_words,
   style_words,
   termination_name,
+  typeface_of,
   typeface_words,
-  u_set_name,
   vmi_words,
   weight_words,
 };
 
 use crate::figures::{push_counted, push_signed_amount};
-use device_profile::{FontRequest, SymbolSet};
-use printer_models::{PAPERS, Paper};
-use shown_bytes::{push_amount, push_number};
+use device_profile::{FontRequest, NamedSet, SymbolSet};
+use printer_models::{PAPERS, Paper, TYPEFACES, Typeface};
+use shown_bytes::{push_amount, push_lettered, push_number};
 use std::alloc::{AllocError, Allocator};
 
 /// Appends a name, and its number in brackets.
@@ -132,44 +132,26 @@ pub(crate) fn termination_name(termination: u32) -> &'static [u8]
     }
 }
 
-/// The name of a well-known symbol set of the letter U, behind a space.
-fn u_set_name(number: u32) -> &'static [u8]
-    ensures { result.now ≡ u_set_name number }
+/// Appends a name behind a space, where there is one.
+#[tactic(auto, unfolding(crate::specs::Words::behind_space))]
+fn push_behind_space<A: Allocator>(text: &mut Vec<u8, A>, name: &[u8]) -> Result<(), AllocError>
+    ensures { OnOk result (text.new.items ≡ text.old.items ++ behind_space name.now) }
 {
-    match number {
-        0 => b" ASCII",
-        80_000 => b" Roman-8",
-        90_000 => b" Windows 3.0 Latin 1",
-        100_000 => b" PC-8",
-        110_000 => b" PC-8 D/N",
-        120_000 => b" PC-850",
-        170_000 => b" PC-852",
-        190_000 => b" Windows Latin 1",
-        _ => b"",
+    if name.is_empty() {
+        return Ok(());
     }
+    text.push(b' ')?;
+    text.extend_from_slice(name)
 }
 
-/// The name of a well-known symbol set of the letter N, behind a space.
-fn n_set_name(number: u32) -> &'static [u8]
-    ensures { result.now ≡ n_set_name number }
+/// Appends the name of a symbol set behind a space, where it has one.
+#[tactic(auto, unfolding(crate::specs::Words::set_name))]
+fn push_set_name<A: Allocator>(text: &mut Vec<u8, A>, set: SymbolSet) -> Result<(), AllocError>
+    ensures { OnOk result (text.new.items ≡ text.old.items ++ set_name set) }
 {
-    match number {
-        0 => b" ISO 8859-1 Latin 1",
-        20_000 => b" ISO 8859-2 Latin 2",
-        50_000 => b" ISO 8859-9 Latin 5",
-        60_000 => b" ISO 8859-10 Latin 6",
-        90_000 => b" ISO 8859-15 Latin 9",
-        _ => b"",
-    }
-}
-
-fn set_name(set: SymbolSet) -> &'static [u8]
-    ensures { result.now ≡ set_name set }
-{
-    match set.letter {
-        b'U' => u_set_name(set.number),
-        b'N' => n_set_name(set.number),
-        _ => b"",
+    match NamedSet::of(set) {
+        Some(named) => push_behind_space(text, named.name()),
+        None => Ok(()),
     }
 }
 
@@ -181,24 +163,31 @@ pub(crate) fn push_set<A: Allocator>(
 ) -> Result<(), AllocError>
     ensures { OnOk result (text.new.items ≡ text.old.items ++ set_words set) }
 {
-    push_amount(text, u64::from(set.number))?;
-    text.push(set.letter)?;
-    text.extend_from_slice(set_name(set))
+    push_lettered(text, set.number, set.letter)?;
+    push_set_name(text, set)
 }
 
-#[tactic(auto, unfolding(crate::specs::Words::typeface_words))]
-fn push_typeface<A: Allocator>(text: &mut Vec<u8, A>, typeface: u32) -> Result<(), AllocError>
-    ensures { OnOk result (text.new.items ≡ text.old.items ++ typeface_words typeface) }
+/// The design of a number, in ten-thousandths.
+#[tactic(auto, unfolding(crate::specs::Words::typeface_of))]
+fn typeface_of(number: u32) -> Option<Typeface>
+    ensures { result ≡ typeface_of number }
 {
-    match typeface {
-        0 => text.extend_from_slice(b"Line Printer (0)"),
-        30_000 => text.extend_from_slice(b"Courier (3)"),
-        40_990_000 => text.extend_from_slice(b"Courier (4099)"),
-        60_000 => text.extend_from_slice(b"Letter Gothic (6)"),
-        41_020_000 => text.extend_from_slice(b"Letter Gothic (4102)"),
-        _ => {
+    TYPEFACES
+        .iter()
+        .copied()
+        .find(|typeface| typeface.value() == number)
+}
+
+/// Appends a typeface by the name of its design, where it has one.
+#[tactic(auto, unfolding(crate::specs::Words::typeface_words))]
+fn push_typeface<A: Allocator>(text: &mut Vec<u8, A>, number: u32) -> Result<(), AllocError>
+    ensures { OnOk result (text.new.items ≡ text.old.items ++ typeface_words number) }
+{
+    match typeface_of(number) {
+        Some(known) => push_numbered(text, known.name().as_bytes(), u32::from(known.number())),
+        None => {
             text.extend_from_slice(b"typeface ")?;
-            push_amount(text, u64::from(typeface))
+            push_amount(text, u64::from(number))
         }
     }
 }

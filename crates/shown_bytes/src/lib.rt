@@ -2,6 +2,7 @@
 #![tactic(auto)]
 
 mod decimals;
+mod lettered;
 mod numbers;
 mod shown;
 
@@ -9,5 +10,6 @@ pub use decimals::{
     digit, point_and_decimals, push_amount, push_minus, push_with_four_decimals,
     push_with_hundredths, push_with_millionths, push_with_tenth, shown_decimals,
 };
+pub use lettered::push_lettered;
 pub use numbers::push_number;
 pub use shown::{hex_byte, push_shown, push_shown_from};

@@ -1,7 +1,8 @@
 -- The commands that the sheet is made of.
 use Rattle.std.specs.Prelude.{ℕ, List, [], ◌∷◌, ◌++◌, codes, decimal}
 use Rattle.device_profile.specs.declared.font.FontRequest.{FontRequest}
-use Rattle.test_sheet.specs.Figures.{amount, signed_amount, symbol_set}
+use Rattle.shown_bytes.specs.Lettered.{lettered}
+use Rattle.test_sheet.specs.Figures.{amount, signed_amount}
 
 -- reset
 abbrev pub reset : List ℕ
@@ -31,7 +32,9 @@ font_look request =
 
 -- the seven parts that select a font
 unfoldable pub font_request : FontRequest → List ℕ
-font_request request = 27 ∷ codes "(" ++ symbol_set request.symbol_set ++ font_size request ++ font_look request
+font_request request =
+    27 ∷ codes "(" ++ lettered request.symbol_set.number request.symbol_set.letter ++ font_size request
+    ++ font_look request
 
 -- to a place, in dots from the logical page's corner
 unfoldable pub move_to : ℕ → ℕ → List ℕ

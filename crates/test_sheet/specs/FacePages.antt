@@ -6,10 +6,11 @@ use Rattle.device_profile.specs.declared.font.CodeRange.{CodeRange}
 use Rattle.device_profile.specs.declared.font.FontRequest.{FontRequest}
 use Rattle.device_profile.specs.declared.geometry.Geometry.{Geometry}
 use Rattle.device_profile.specs.Faces.{Face}
+use Rattle.shown_bytes.specs.Lettered.{lettered}
 use Rattle.test_sheet.specs.declared.area.Area.{Area}
 use Rattle.test_sheet.specs.Area.{area_of, left_half, right_half}
 use Rattle.test_sheet.specs.Commands.{page_request, font_request, form_feed}
-use Rattle.test_sheet.specs.Figures.{amount, signed_amount, symbol_set}
+use Rattle.test_sheet.specs.Figures.{amount, signed_amount}
 use Rattle.test_sheet.specs.Lines.{baseline, indent, line_height, words_on}
 use Rattle.test_sheet.specs.Marks.{words_at}
 
@@ -27,7 +28,9 @@ amount_word n = 32 ∷ amount n
 
 -- the symbol set of a font, its pitch and its height, and what else selects it; each part behind a space
 unfoldable pub cut_words : FontRequest → List ℕ
-cut_words request = 32 ∷ symbol_set request.symbol_set ++ amount_word request.pitch ++ amount_word request.height
+cut_words request =
+    32 ∷ lettered request.symbol_set.number request.symbol_set.letter ++ amount_word request.pitch
+    ++ amount_word request.height
 
 unfoldable pub look_words : FontRequest → List ℕ
 look_words request = amount_word request.style ++ 32 ∷ signed_amount request.weight ++ amount_word request.typeface

@@ -1,6 +1,5 @@
 -- Numbers as they stand in the sheet, in its commands and in print.
-use Rattle.std.specs.Prelude.{ℕ, ℤ, unsigned_abs, ◌/◌, ◌%◌, ◌==◌, List, [], ◌∷◌, ◌++◌, if◌then◌else◌}
-use Rattle.device_profile.specs.declared.font.SymbolSet.{SymbolSet}
+use Rattle.std.specs.Prelude.{ℕ, ℤ, unsigned_abs, ◌/◌, ◌%◌, ◌==◌, List, ◌++◌, if◌then◌else◌}
 use Rattle.shown_bytes.specs.Decimals.{minus, with_four_decimals, with_hundredths, with_tenth}
 use Rattle.test_sheet.specs.Dots.{tenths_of_millimetres}
 
@@ -11,10 +10,6 @@ amount n = if n % 100 == 0 then with_hundredths (n / 100) else with_four_decimal
 -- the same with its sign
 unfoldable pub signed_amount : ℤ → List ℕ
 signed_amount n = minus n ++ amount (unsigned_abs n)
-
--- a symbol set, as 10U
-unfoldable pub symbol_set : SymbolSet → List ℕ
-symbol_set set = amount set.number ++ set.letter ∷ []
 
 -- so many ticks in millimetres with one decimal
 unfoldable pub millimetres : ℕ → List ℕ

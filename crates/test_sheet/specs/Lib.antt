@@ -3,7 +3,6 @@ pub mod Figures
 pub mod Area
 pub mod Commands
 pub mod Marks
-pub mod Panel
 pub mod OwnPage
 pub mod Lines
 pub mod MeasuredPage

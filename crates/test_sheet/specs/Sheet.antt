@@ -4,12 +4,11 @@ use Rattle.std.specs.Option.{option_map_or}
 use Rattle.device_profile.specs.declared.geometry.Geometry.{Geometry}
 use Rattle.device_profile.specs.declared.panel.Panel.{Panel}
 use Rattle.device_profile.specs.Faces.{Face, face_at}
-use Rattle.device_profile.specs.Printer.{Printer, first_panel, geometry_at}
+use Rattle.device_profile.specs.Printer.{Printer, first_panel, geometry_at, has_one_panel}
 use Rattle.test_sheet.specs.Commands.{reset, unit_of_measure, sheet_settings}
 use Rattle.test_sheet.specs.FacePages.{face_pages}
 use Rattle.test_sheet.specs.MeasuredPage.{measured_pages}
 use Rattle.test_sheet.specs.OwnPage.{own_page}
-use Rattle.test_sheet.specs.Panel.{has_one_panel}
 
 -- the page of a panel
 abbrev pub page_of : Printer → Panel → Geometry

@@ -3,9 +3,9 @@ ghost use Rattle.std.specs.Prelude.{◌≡◌, ◌++◌, OnOk};
 ghost use Rattle.test_sheet.specs.Commands.{font_look, font_request, font_size, move_across};
 ghost use Rattle.test_sheet.specs.Commands.{move_to, page_request, rectangle, sheet_settings};
 
-use crate::figures::{push_amount, push_signed_amount, push_symbol_set};
+use crate::figures::{push_amount, push_signed_amount};
 use device_profile::FontRequest;
-use shown_bytes::push_number;
+use shown_bytes::{push_lettered, push_number};
 use std::alloc::{AllocError, Allocator};
 
 /// Appends one copy, on one side, from this tray, and that CR, LF and FF stand for themselves.
@@ -77,7 +77,7 @@ pub(crate) fn push_font_request<A: Allocator>(
     ensures { OnOk result (text.new.items ≡ text.old.items ++ font_request request.now) }
 {
     text.extend_from_slice(b"\x1b(")?;
-    push_symbol_set(text, request.symbol_set)?;
+    push_lettered(text, request.symbol_set.number, request.symbol_set.letter)?;
     push_font_size(text, request)?;
     push_font_look(text, request)
 }

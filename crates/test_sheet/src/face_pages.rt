@@ -9,11 +9,11 @@ ghost use Rattle.test_sheet.specs.FacePages.{sample_words};
 
 use crate::area::{Area, area_of};
 use crate::commands::{push_font_request, push_page_request};
-use crate::figures::{push_amount, push_signed_amount, push_symbol_set};
+use crate::figures::{push_amount, push_signed_amount};
 use crate::lines::{baseline, indent, line_height, push_words_on};
 use crate::marks::push_words_at;
 use device_profile::{CodeRange, FontRequest, FontRow, Geometry};
-use shown_bytes::push_number;
+use shown_bytes::{push_lettered, push_number};
 use std::alloc::{AllocError, Allocator};
 
 /// How many faces go on a page, below its heading and above the last line.
@@ -61,7 +61,7 @@ fn push_cut_words<A: Allocator>(
     ensures { OnOk result (words.new.items ≡ words.old.items ++ cut_words request.now) }
 {
     words.push(b' ')?;
-    push_symbol_set(words, request.symbol_set)?;
+    push_lettered(words, request.symbol_set.number, request.symbol_set.letter)?;
     push_amount_word(words, request.pitch)?;
     push_amount_word(words, request.height)
 }

@@ -1,9 +1,8 @@
 //! Numbers as they stand in the sheet, in its commands and in print.
 ghost use Rattle.std.specs.Prelude.{◌≡◌, ◌++◌, ◌≤◌, ◌^◌, OnOk};
-ghost use Rattle.test_sheet.specs.Figures.{amount, millimetres, signed_amount, symbol_set};
+ghost use Rattle.test_sheet.specs.Figures.{amount, millimetres, signed_amount};
 
 use crate::dots::tenths_of_millimetres;
-use device_profile::SymbolSet;
 use shown_bytes::{push_minus, push_with_four_decimals, push_with_hundredths, push_with_tenth};
 use std::alloc::{AllocError, Allocator};
 
@@ -29,19 +28,6 @@ pub(crate) fn push_signed_amount<A: Allocator>(
 {
     push_minus(text, n)?;
     push_amount(text, n.unsigned_abs())
-}
-
-/// Appends a symbol set, as 10U.
-#[tactic(auto, unfolding(crate::specs::Figures::symbol_set))]
-pub(crate) fn push_symbol_set<A: Allocator>(
-    text: &mut Vec<u8, A>,
-    set: SymbolSet,
-) -> Result<(), AllocError>
-    ensures { OnOk result (text.new.items ≡ text.old.items ++ symbol_set set) }
-{
-    push_amount(text, set.number)?;
-    text.push(set.letter)?;
-    Ok(())
 }
 
 /// Appends so many ticks in millimetres, with one decimal.

@@ -9,7 +9,6 @@ mod figures;
 mod lines;
 mod marks;
 mod measured_page;
-mod one_panel;
 mod own_page;
 mod sheet;
 

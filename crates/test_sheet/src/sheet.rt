@@ -5,7 +5,6 @@ ghost use Rattle.test_sheet.specs.Sheet.{own_part, set_part, sheet, sheet_in};
 use crate::commands::push_sheet_settings;
 use crate::face_pages::push_face_pages;
 use crate::measured_page::push_measured_pages;
-use crate::one_panel::has_one_panel;
 use crate::own_page::push_own_page;
 use device_profile::{Field, FontRow, Panel, Profile};
 use std::alloc::{AllocError, Allocator};
@@ -66,7 +65,7 @@ fn push_own_part<A: Allocator + Copy, P: Allocator>(
     ensures { OnOk result (text.new.items ≡
         text.old.items ++ own_part name.now profile.now panel.now face.now) }
 {
-    if has_one_panel(profile) {
+    if profile.has_one_panel() {
         let page = profile.page_geometry(panel.size, panel.orientation);
         push_own_page(text, alloc, name, &page, face, panel)?;
     }

@@ -1,6 +1,7 @@
 use Rattle.std.proofs.Common.{codes}
 use Rattle.device_profile.specs.Field.{field_key}
-use Rattle.profile_lint.specs.HintLines.{command_of, several_words}
+use Rattle.profile_lint.specs.HintLines.{several_words}
+use Rattle.profile_lint.specs.Rules.{command_of}
 use Rattle.profile_lint.proofs.Pushed.{word_is_pushed}
 use Rattle.profile_lint.proofs.hint_line.push_several_values.Goals as goal
 
