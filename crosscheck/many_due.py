@@ -26,6 +26,7 @@ class Told:
     field: bytes = b""                        # and what stands behind that in brackets
     cause: bytes = b""                        # what the system says of a read that failed
     notes: Tuple[Note, ...] = ()              # what stands below a PASS
+    is_each: bool = False                     # each printer is told of by itself
 
     def status(self) -> int:
         return {"PASS": 0, "FAIL": 1, "ERROR": 3}[self.verdict]
@@ -58,4 +59,4 @@ def told_of(job: bytes, output: bytes, printers: List[bytes], is_each: bool) -> 
         return Told(job, "PASS", each, pages=int(pages), marks=int(marks))
     named = printers[int(profile) - 1] if int(profile) else each
     return Told(job, "FAIL", named, at=int(at), profile=int(profile), code=int(code),
-                finding=finding, field=field or b"")
+                finding=finding, field=field or b"", is_each=is_each)

@@ -4,14 +4,17 @@ import json
 import re
 from typing import Dict, List, Optional, Tuple
 
+from kinds import UNCHECKED, WRONG, kind_of
 from many_due import Told
 from many_names import cut, escaped, undone, unescaped
 from many_notes import note_text
 
 MOST_OF_NAME, MOST_OF_CAUSE, MOST = 500, 200, 1000
 PLAIN = re.compile(rb"[ -~]*")
-# A sentence behind the name: the item that a job fails at, and what is wrong in words.
-REFUSED = re.compile(rb" refuses this job at byte (\d+)(?:, ([ -~]+))?: ([^:]+) \(([^:]+)\)")
+# A sentence behind who says no: the item that a job fails at, and what is wrong in words.
+REFUSED = re.compile(rb" at byte (\d+)(?:, ([ -~]+))?: ([^:]+) \(([^:]+)\)")
+# Who says no, where it is no printer.
+CLAIMS = {UNCHECKED: b"pclcheck cannot judge this job", WRONG: b"this job is wrong"}
 # What is missing of a sentence or an object that is not as it should be.
 NO_COMMAND = "?"
 
@@ -24,14 +27,22 @@ def line_differs(told: Told, line: bytes) -> bool:
     return unescaped(line[len(head):len(line) - len(tail)]) != told.job
 
 
-def phrase(told: Told) -> Tuple[bytes, bytes]:
+def claim(told: Told, command: Optional[str]) -> bytes:
+    """Who says no to a job that fails at this item."""
+    kind = kind_of(told.code, command)
+    if kind in CLAIMS:
+        return CLAIMS[kind] + (b" for " + told.printer if told.is_each else b"")
+    return (told.printer or b"each printer") + b" refuses this job"
+
+
+def phrase(told: Told, command: Optional[str]) -> Tuple[bytes, bytes]:
     """What stands behind the name in the sentence of a job, up to the item that it fails at, and
     behind what is wrong in words."""
     subject = told.printer or b"each printer"
     if told.verdict == "PASS":
         return subject + b" prints this job (pages=%d marks=%d)" % (told.pages, told.marks), b""
     if told.verdict == "FAIL":
-        return subject + b" refuses this job at byte %d" % told.at, b" (%s)" % told.reason()
+        return claim(told, command) + b" at byte %d" % told.at, b" (%s)" % told.reason()
     printer = b" for " + told.printer if told.printer else b""
     cause = escaped(told.cause)
     cause = cause if len(cause) <= MOST_OF_CAUSE else cause[:MOST_OF_CAUSE] + b"..."
@@ -40,7 +51,7 @@ def phrase(told: Told) -> Tuple[bytes, bytes]:
 
 def sentence_differs(told: Told, line: bytes) -> bool:
     """Whether a line is not the sentence of a job."""
-    head, tail = phrase(told)
+    head, tail = phrase(told, command_of(told, line))
     front = cut(escaped(told.job), MOST_OF_NAME) + b": " + head
     if not (line.startswith(front) and line.endswith(tail) and PLAIN.fullmatch(line)):
         return True
@@ -64,7 +75,7 @@ def members(line: bytes) -> Dict[str, object]:
     return found if written.encode() == line else {}
 
 
-def due_members(told: Told, explanation: bytes) -> Dict[str, object]:
+def due_members(told: Told, command: Optional[str], explanation: bytes) -> Dict[str, object]:
     """The members of the object of a job, but its name and the item that it fails at."""
     due = {"verdict": told.verdict}
     if told.printer:
@@ -73,7 +84,7 @@ def due_members(told: Told, explanation: bytes) -> Dict[str, object]:
         due.update(pages=told.pages, marks=told.marks)
     elif told.verdict == "FAIL":
         due.update(at=told.at, profile=told.profile, code=told.code,
-                   finding=told.finding.decode())
+                   finding=told.finding.decode(), kind=kind_of(told.code, command))
         due.update({"field": told.field.decode()} if told.field else {})
         due.update({"explanation": explanation.decode()} if explanation else {})
     else:
@@ -87,10 +98,10 @@ def object_differs(told: Told, line: bytes, explanation: bytes) -> bool:
         found = members(line)
     except ValueError:
         return True
-    found.pop("command", None)
+    command = found.pop("command", None)
     name = found.pop("job", None)
     return not isinstance(name, str) or undone(name) != told.job \
-        or found != due_members(told, explanation)
+        or found != due_members(told, command, explanation)
 
 
 def command_in(line: bytes) -> Optional[str]:

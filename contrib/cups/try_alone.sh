@@ -113,6 +113,31 @@ say 'backend: logged: the job is sent' sends "$job"
 say 'backend: logged: which is told' tells "$work/gone cannot be written"
 PCLCHECK_LOG=$alone/log
 
+# Proportional spacing, which pclcheck does not check, and a cursor that is popped too often.
+printf '\033(s1P' >"$alone/spaced.pcl"
+printf '\033&f1S' >"$alone/wrong.pcl"
+say 'backend: a job that is wrong is held' gate 3 /front/stand-in:x 1 "$alone/wrong.pcl"
+say 'backend: and why is told' \
+    tells 'ERROR: preflight: this job is wrong at byte 0, ESC &f1S: no cursor is pushed'
+say 'backend: a job that pclcheck cannot judge is held' \
+    gate 3 /front/stand-in:x 1 "$alone/spaced.pcl"
+say 'backend: and why is told' tells 'ERROR: preflight: pclcheck cannot judge this job at byte 0, '
+say 'backend: logged: it is printed' gate 0 /front/log/stand-in:x 1 "$alone/spaced.pcl"
+say 'backend: logged: and copied' cmp "$alone/log/front/7.pcl" "$alone/spaced.pcl"
+rm "$alone/log/front/7.pcl"
+PCLCHECK_UNCHECKED=print
+export PCLCHECK_UNCHECKED
+say 'backend: or printed, where that is set' gate 0 /front/stand-in:x 1 "$alone/spaced.pcl"
+say 'backend: as it is' sends "$alone/spaced.pcl"
+say 'backend: which is told' tells \
+    'NOTICE: preflight: printed all the same: pclcheck cannot judge this job at byte 0, ESC (s1P: '
+say 'backend: a job that is wrong is held then, too' gate 3 /front/stand-in:x 1 "$alone/wrong.pcl"
+say 'backend: and one that a printer refuses' gate 3 /all/stand-in:x 1 "$job"
+say 'backend: logged: it is printed' gate 0 /front/log/stand-in:x 1 "$alone/spaced.pcl"
+say 'backend: logged: has its line' is_logged front '"at":0,.*"kind":"unchecked",.*"FAIL"'
+say 'backend: logged: is not copied' no_copy front
+unset PCLCHECK_UNCHECKED
+
 # 35 KB whose macros would carry out 25 million items.
 say 'backend: macros with too many items' gate 3 /front/stand-in:x 1 "$work/items.pcl"
 say 'backend: are told' tells '(ERROR items)'

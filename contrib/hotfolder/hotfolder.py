@@ -2,9 +2,11 @@
 """Watches a folder: each job that is put there is checked and moved, with what pclcheck says of it.
 
     hotfolder.py FOLDER FLEET [--once] [--quiet SECONDS] [--every SECONDS] [--most-items N]
+                 [--unchecked refuse|pass]
 
 A job NAME goes to FOLDER/passed or FOLDER/refused, and NAME.txt beside it. A job whose macros would
-carry out more than N items is refused. A job without a verdict stays. A file is taken when it is
+carry out more than N items is refused. So is one that pclcheck cannot judge, but with --unchecked
+pass. A job without a verdict stays. A file is taken when it is
 whole: not empty, not changed for the quiet seconds, and open for writing by no process of this
 machine. Names that begin with a dot or end with .part, .tmp or .filepart are left alone, and so is
 all that is no plain file.
@@ -36,6 +38,7 @@ REFUSED, NO_VERDICT = 1, 3
 RETRY_SECONDS = 30.0                        # until a job without a verdict is tried again
 # An overlay of 2,000 items on each of 10,000 pages; it takes some seconds for each printer.
 MOST_ITEMS = 20_000_000
+UNCHECKED = {"refuse": "fail", "pass": "pass"}      # what pclcheck is told of such jobs
 TOO_MANY_ITEMS = b"(ERROR items)"           # ends the sentence of a job that would not end for long
 State = Tuple[int, int, int]
 
@@ -90,6 +93,7 @@ class HotFolder:
     program: str
     quiet: float
     most_items: int
+    unchecked: str
     since: Dict[str, Tuple[State, float]] = field(default_factory=dict)     # unchanged since when
     retry: Dict[str, Tuple[State, float]] = field(default_factory=dict)     # not before when
     status: int = 0
@@ -118,8 +122,9 @@ class HotFolder:
 
         It gets the job by standard input: of a path it asks that it is UTF-8 text.
         """
-        words = [self.program, "check", "--format", "words", "--explain", "--most-items",
-                 str(self.most_items), "-f", str(self.fleet), "-"]
+        words = [self.program, "check", "--format", "words", "--explain",
+                 "--most-items", str(self.most_items), "--unchecked", UNCHECKED[self.unchecked],
+                 "-f", str(self.fleet), "-"]
         try:
             with open_job(self.folder / name) as job:
                 run = subprocess.run(words, stdin=job, stdout=subprocess.PIPE,
@@ -243,6 +248,8 @@ def words() -> argparse.Namespace:
                         help="how long to wait between two looks (1)")
     parser.add_argument("--most-items", type=int, default=MOST_ITEMS, metavar="N",
                         help=f"how many items the macros of a job may carry out ({MOST_ITEMS})")
+    parser.add_argument("--unchecked", choices=UNCHECKED, default="refuse",
+                        help="what becomes of a job that pclcheck cannot judge (refuse)")
     given = parser.parse_args()
     for path in (given.folder, given.fleet):
         if not path.exists():
@@ -253,7 +260,8 @@ def words() -> argparse.Namespace:
 def main() -> int:
     given = words()
     folder = HotFolder(given.folder.resolve(), given.fleet.resolve(),
-                       os.environ.get("PCLCHECK", "pclcheck"), given.quiet, given.most_items)
+                       os.environ.get("PCLCHECK", "pclcheck"), given.quiet, given.most_items,
+                       given.unchecked)
     for name in FOLDERS.values():
         (folder.folder / name).mkdir(exist_ok=True)
     signal.signal(signal.SIGIO, signal.SIG_IGN)     # a writer that meets the lease

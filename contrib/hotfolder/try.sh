@@ -6,10 +6,12 @@ export PCLCHECK="$work/bin/pclcheck"
 line_end='
 '
 watch() { exec python3 "$here/hotfolder/hotfolder.py" --quiet 1 --every 0.2 "$@"; }
-once() {                        # once STATUS: a run with --once ends so
+once() {                        # once STATUS [OPTION..]: a run with --once ends so
+    due=$1
+    shift
     status=0
-    (watch --once "$hot" "$examples/shop.fleet") || status=$?
-    is_equal "$status" "$1"
+    (watch --once "$hot" "$examples/shop.fleet" "$@") || status=$?
+    is_equal "$status" "$due"
 }
 is_moved() {                    # is_moved FOLDER NAME SENTENCE: the job and its text are there
     [ -f "$hot/$1/$2" ] && [ ! -e "$hot/$2" ] && grep -qF -- "$3" "$hot/$1/$2.txt"
@@ -56,6 +58,14 @@ say 'hot folder: the earlier job stays' has earlier "$hot/passed/kept.pcl"
 cp "$work/items.pcl" "$hot/items.pcl"
 say 'hot folder: macros with too many items end a round with 1' once 1
 say 'hot folder: they are in refused' is_moved refused items.pcl '(ERROR items)'
+printf '\033(s1P' >"$hot/spaced.pcl"
+cp "$hot/spaced.pcl" "$work/spaced.pcl"
+say 'hot folder: a job that pclcheck cannot judge ends a round with 1' once 1
+say 'hot folder: it is in refused' \
+    is_moved refused spaced.pcl 'pclcheck cannot judge this job at byte 0, ESC (s1P: '
+cp "$work/spaced.pcl" "$hot/spaced.pcl"
+say 'hot folder: with --unchecked pass it does not' once 0 --unchecked pass
+say 'hot folder: and is in passed' is_moved passed spaced.pcl 'pclcheck cannot judge this job'
 long=$(printf '%0253d' 0)
 cp "$examples/invoice.pcl" "$hot/$long"
 say 'hot folder: a name that is too long for a text beside it' once 3

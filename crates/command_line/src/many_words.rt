@@ -10,6 +10,9 @@ use std::alloc::{AllocError, Global};
 /// The words of the forms.
 const FORMS: &[&str] = &["line", "words", "json"];
 
+/// How a job may count that pclcheck cannot judge.
+const COUNTS: &[&str] = &["fail", "pass"];
+
 /// Adds the options of a check of many jobs to those of a command.
 pub(crate) fn with_many_options<'a>(
     alloc: Global,
@@ -24,7 +27,8 @@ pub(crate) fn with_many_options<'a>(
         .arg(notes(alloc))?
         .arg(format(alloc))?
         .arg(explain(alloc))?
-        .arg(exit_zero(alloc))
+        .arg(exit_zero(alloc))?
+        .arg(unchecked(alloc))
 }
 
 fn printer<'a>(alloc: Global) -> Arg<'a> {
@@ -99,11 +103,20 @@ fn exit_zero<'a>(alloc: Global) -> Arg<'a> {
         .help("Ends with 0 where a job fails, too")
 }
 
+fn unchecked<'a>(alloc: Global) -> Arg<'a> {
+    Arg::new(alloc, "COUNT")
+        .long("unchecked")
+        .action(ArgAction::Set)
+        .value_parser(ValueParser::Names(COUNTS))
+        .help("How a job counts that pclcheck cannot judge")
+}
+
 /// Whether the words ask for more than one job for all of its printers together.
 pub(crate) fn asks_for_many(found: &ArgMatches<'_>) -> bool {
     names_printers(found)
         || found.contains_id("FORM")
         || found.contains_id("MOST")
+        || found.contains_id("COUNT")
         || ["EACH", "NOTES", "EXPLAIN", "ZERO"]
             .iter()
             .any(|option| found.get_flag(option))
@@ -147,9 +160,15 @@ pub(crate) fn read_many<'a>(
         is_each: found.get_flag("EACH"),
         tells_notes: found.get_flag("NOTES"),
         exit_zero: found.get_flag("ZERO"),
+        passes_unchecked: counts_as_pass(found.get_str("COUNT")),
         form: form_of(found.get_str("FORM")),
         explains: found.get_flag("EXPLAIN"),
     }))
+}
+
+/// Whether a job that pclcheck cannot judge counts as one that passes.
+fn counts_as_pass(word: Option<&str>) -> bool {
+    matches!(word, Some("pass"))
 }
 
 /// The form of a word; without one it is a line.

@@ -2,20 +2,24 @@
 use Rattle.std.proofs.Common.{◌≡◌, ℕ, Bool, true, false, List, [], ◌∷◌, Option, Some, None, Result, Ok, Err, refl, lit≤}
 use Rattle.std.specs.Prelude.{codes}
 use Rattle.std.specs.Fmt.{digits}
-use Rattle.pcl_items.specs.declared.pcl.command.Command.TheVariants.{PageSize}
+use Rattle.pcl_items.specs.declared.pcl.command.Command.TheVariants.{FontSpacing, PageSize}
 use Rattle.pcl_items.specs.declared.fault.LexCause.TheVariants.{Syntax}
 use Rattle.pcl_items.specs.declared.item.SimpleItem.TheVariants.{Parameterized}
-use Rattle.pcl_items.specs.declared.number.Sign.TheVariants.{Absent}
+use Rattle.pcl_items.specs.declared.number.Sign.{Sign}
+use Rattle.pcl_items.specs.declared.number.Sign.TheVariants.{Absent, Minus}
 use Rattle.device_profile.specs.declared.fault.Cause.TheVariants.{Range, Repeated}
-use Rattle.page_env.specs.declared.finding.Finding.TheVariants.{NotOnDevice}
+use Rattle.page_env.specs.declared.finding.Finding.TheVariants.{BadValue, NotOnDevice}
 use Rattle.verdict.specs.declared.reason.Reason.TheVariants.{Fault, Finding}
 use Rattle.verdict.specs.declared.verdict.Verdict.TheVariants.{Fail, Pass}
+use Rattle.preflight.specs.declared.culprit.Culprit.{Culprit}
 use Rattle.preflight.specs.declared.culprit.Culprit.TheVariants.{Simple}
 use Rattle.preflight.specs.declared.culprit.Judgement.{Judgement}
 use Rattle.streams.specs.declared.error.Error.{Error}
 use Rattle.streams.specs.declared.error.Error.TheVariants.{Read}
+use Rattle.job_reports.specs.declared.kind.Kind.TheVariants as kinds
 use Rattle.job_reports.specs.JobLines.{job_line}
 use Rattle.job_reports.specs.JobSentences.{job_sentence}
+use Rattle.job_reports.specs.Kinds.{kind_of}
 use Rattle.job_reports.specs.Refusals.{refused_profile_sentence, unread_profile_sentence}
 use Rattle.job_reports.specs.Reports.{Reported}
 
@@ -73,9 +77,31 @@ unfolding digits
 sentence_of_finding = refl
 
 sentence_of_fault : job_sentence (report_of false faulty None)
-    ≡ codes "in/note 4712.pcl: each printer refuses this job at byte 9: the bytes here are no command (1 Syntax)\n"
+    ≡ codes "in/note 4712.pcl: this job is wrong at byte 9: the bytes here are no command (1 Syntax)\n"
 unfolding digits
 sentence_of_fault = refl
+
+-- pclcheck does not check proportional spacing, which the manual has; a minus before the value is wrong anyway
+abbrev spaced : Sign → Option Culprit
+spaced sign = Some (Simple (Parameterized FontSpacing (record { sign = sign; ten_thousandths = 10000; within = lit≤ tt })))
+
+abbrev failing_at : Option Culprit → Result Judgement Error
+failing_at culprit = Ok (record { verdict = Fail 7 1 (Finding BadValue); culprit = culprit })
+
+sentence_of_unchecked : job_sentence (report_of true (failing_at (spaced Absent)) None)
+    ≡ codes
+    "in/note 4712.pcl: pclcheck cannot judge this job for counter at byte 7, ESC (s1P: pclcheck does not check proportional spacing (10 BadValue)\n"
+unfolding digits
+sentence_of_unchecked = refl
+
+sentence_of_wrong : job_sentence (report_of false (failing_at (spaced Minus)) None)
+    ≡ codes "in/note 4712.pcl: this job is wrong at byte 7, ESC (s-1P: the command does not take this value (10 BadValue)\n"
+unfolding digits
+sentence_of_wrong = refl
+
+-- at the end of a job it is an overlay that has such a value
+kind_at_end : kind_of (Finding BadValue) None ≡ kinds.Unchecked
+kind_at_end = refl
 
 sentence_of_unread : job_sentence (report_of true (Err Read) gone)
     ≡ codes "in/note 4712.pcl: this job cannot be read for counter: No such file or directory (ERROR read)\n"

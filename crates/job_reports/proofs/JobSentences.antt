@@ -1,6 +1,6 @@
 -- A sentence is short, and has no control code before its end.
 use Rattle.std.proofs.Common.{ℕ, ◌-◌, ◌^◌, ◌==◌, ◌<◌, ◌≤◌, List, [], ◌∷◌, ◌++◌, length, codes, refl, arith, get_or, Option, None, Some}
-use Rattle.std.proofs.Common.{Result, Ok, Err}
+use Rattle.std.proofs.Common.{Bool, Result, Ok, Err}
 use Rattle.std.specs.Prelude.{IfOk, decimal, flat_map}
 use Rattle.std.specs.Fmt.{signed_decimal}
 use Rattle.std.specs.List.{AllByRecursion}
@@ -45,8 +45,15 @@ use Rattle.streams.specs.declared.error.Error.{Error}
 use Rattle.streams.specs.declared.error.Error.TheVariants.{Memory, Read, Write, Turns, NoProfile, Items}
 use Rattle.job_reports.specs.CommandWords.{code_words, command_words}
 use Rattle.job_reports.specs.JobSentences.{AreNumbers, IsCulpritOfNumbers, IsOfParts, IsSentence, IsVerdictOfNumbers, IsWithin}
-use Rattle.job_reports.specs.JobSentences.{answer_phrase, at_command, cause_phrase, error_phrase, first_of, for_printer, job_sentence}
-use Rattle.job_reports.specs.JobSentences.{last_of, named_first, reason_phrase, subject, verdict_phrase}
+use Rattle.job_reports.specs.JobSentences.{answer_phrase, at_command, cause_phrase, claim, claim_by, error_phrase, fails_at, few_words}
+use Rattle.job_reports.specs.JobSentences.{first_of, for_each, for_printer, is_bad_value, job_sentence, last_of, named_first}
+use Rattle.job_reports.specs.JobSentences.{reason_phrase, refusal, subject, verdict_phrase}
+use Rattle.job_reports.specs.Kinds.{kind_by}
+use Rattle.job_reports.specs.LeftOut.{left_out_of, value_words}
+use Rattle.job_reports.specs.declared.kind.Kind.{Kind}
+use Rattle.job_reports.specs.declared.kind.Kind.TheVariants as kinds
+use Rattle.job_reports.specs.declared.left_out.LeftOut.{LeftOut}
+use Rattle.job_reports.specs.declared.left_out.LeftOut.TheVariants as left_outs
 use Rattle.job_reports.specs.Reports.{Reported, culprit_of, number_told, verdict_of}
 use Rattle.requests.specs.Status.{error_words}
 use Rattle.job_reports.proofs.Within.{code_part, decimal_part, escaped_part, first_part, flat_part, joined, last_part, literal, name_at}
@@ -206,38 +213,77 @@ reason_part reason =
     (joined (decimal (reason_number reason)) (codes " ") (decimal_part _ (number_small reason)) (literal 1 _ refl refl))
     (joined (bare_name reason) (brackets reason) (bare_part reason) (brackets_part reason))
 
-reason_phrase_part : (reason : Reason) → IsWithin 139 (reason_phrase reason)
-reason_phrase_part reason =
-    let front : List ℕ = codes ": " ++ short_reason reason in
+value_part : (left_out : Option LeftOut) → IsWithin 80 (value_words left_out)
+value_part None = literal 80 _ refl refl
+value_part (Some left_outs.Decimals) = literal 80 _ refl refl
+value_part (Some left_outs.Proportional) = literal 80 _ refl refl
+value_part (Some left_outs.Compression) = literal 80 _ refl refl
+value_part (Some left_outs.Resolution) = literal 80 _ refl refl
+value_part (Some left_outs.Scaling) = literal 80 _ refl refl
+value_part (Some left_outs.Pattern) = literal 80 _ refl refl
+value_part (Some left_outs.Permanent) = literal 80 _ refl refl
+value_part (Some left_outs.Pen) = literal 80 _ refl refl
+value_part (Some left_outs.ThinLine) = literal 80 _ refl refl
+value_part (Some left_outs.InMacro) = literal 80 _ refl refl
+
+few_words_part : (left_out : Option LeftOut) (reason : Reason) → IsWithin 80 (few_words left_out reason)
+few_words_part left_out reason =
+    one_of 80 (is_bad_value reason) (value_words left_out) (short_reason reason) (λ e. value_part left_out) (short_part reason)
+
+reason_phrase_part : (left_out : Option LeftOut) (reason : Reason) → IsWithin 139 (reason_phrase left_out reason)
+reason_phrase_part left_out reason =
+    let front : List ℕ = codes ": " ++ few_words left_out reason in
     joined ((front ++ codes " (") ++ reason_words reason) (codes ")")
     (joined (front ++ codes " (") (reason_words reason)
     (joined front (codes " (")
-    (joined (codes ": ") (short_reason reason) (literal 2 _ refl refl) (short_part reason)) (literal 2 _ refl refl))
+    (joined (codes ": ") (few_words left_out reason) (literal 2 _ refl refl) (few_words_part left_out reason)) (literal 2 _ refl refl))
     (reason_part reason))
     (literal 1 _ refl refl)
 
 -- ---- the answer
 
 verdict_part : (culprit : Option Culprit) (verdict : Verdict) → IsCulpritOfNumbers culprit → IsVerdictOfNumbers verdict →
-    IsWithin 331 (verdict_phrase culprit verdict)
+    IsWithin 314 (verdict_phrase (fails_at culprit) verdict)
 verdict_part culprit (Pass pages marks) h k =
-    let front : List ℕ = named (codes " prints this job (pages=") pages in
+    let front : List ℕ = named (codes " (pages=") pages in
     let back : List ℕ = named (codes " marks=") marks in
-    wider 331 _ (omega arith)
+    wider 314 _ (omega arith)
     (joined (front ++ back) (codes ")")
-    (joined front back (named_part 24 (codes " prints this job (pages=") pages refl refl k.0)
+    (joined front back (named_part 8 (codes " (pages=") pages refl refl k.0)
     (named_part 7 (codes " marks=") marks refl refl k.1))
     (literal 1 _ refl refl))
 verdict_part culprit (Fail place profile reason) h k =
-    let front : List ℕ = named (codes " refuses this job at byte ") place in
-    joined (front ++ at_command culprit) (reason_phrase reason)
-    (joined front (at_command culprit) (named_part 26 (codes " refuses this job at byte ") place refl refl k) (at_part culprit h))
-    (reason_phrase_part reason)
+    let front : List ℕ = named (codes " at byte ") place in
+    joined (front ++ at_command culprit) (reason_phrase (left_out_of culprit) reason)
+    (joined front (at_command culprit) (named_part 9 (codes " at byte ") place refl refl k) (at_part culprit h))
+    (reason_phrase_part (left_out_of culprit) reason)
 
 subject_part : (names : List (List ℕ)) (number : ℕ) → AllByRecursion (IsWithin 32) names → IsWithin 32 (subject names number)
 subject_part names number h =
     one_of 32 (number == 0) (codes "each printer") (get_or names (number - 1) []) (λ e. literal 32 _ refl refl)
     (name_at names (number - 1) h)
+
+for_each_part : (is_each : Bool) (names : List (List ℕ)) → AllByRecursion (IsWithin 32) names → IsWithin 37 (for_each is_each names)
+for_each_part is_each names h =
+    one_of 37 is_each (codes " for " ++ get_or names 0 []) []
+    (λ e. joined (codes " for ") (get_or names 0 []) (literal 5 _ refl refl) (name_at names 0 h)) (nothing 37)
+
+module _ (who each : List ℕ) (h : IsWithin 32 who) (k : IsWithin 37 each) where
+  refused : IsWithin 67 (who ++ codes " refuses this job")
+  refused = wider 67 _ (omega arith) (joined who (codes " refuses this job") h (literal 17 _ refl refl))
+
+  refusal_part : (kind : Kind) → IsWithin 67 (refusal kind who each)
+  refusal_part kinds.Unchecked = joined (codes "pclcheck cannot judge this job") each (literal 30 _ refl refl) k
+  refusal_part kinds.Wrong = wider 67 _ (omega arith) (joined (codes "this job is wrong") each (literal 17 _ refl refl) k)
+  refusal_part kinds.Printer = refused
+  refusal_part kinds.Panel = refused
+  refusal_part kinds.Differs = refused
+
+  claim_part : (left_out : Option LeftOut) (answer : Result Verdict Error) → IsWithin 67 (claim_by who each left_out answer)
+  claim_part left_out (Ok (Pass pages marks)) =
+      wider 67 _ (omega arith) (joined who (codes " prints this job") h (literal 16 _ refl refl))
+  claim_part left_out (Ok (Fail place profile reason)) = refusal_part (kind_by left_out reason)
+  claim_part left_out (Err error) = nothing 67
 
 error_part : (error : Error) → IsWithin 40 (error_phrase error)
 error_part Memory = literal 40 _ refl refl
@@ -267,13 +313,16 @@ cause_part (Some words) =
     (first_part 200 (shown words) (flat_part shown_byte shown_byte_part words).shown)
 
 answer_part : (report : Reported) (answer : Result Verdict Error) → AllByRecursion (IsWithin 32) report.names →
-    IsCulpritOfNumbers (culprit_of report.answer) → IfOk answer IsVerdictOfNumbers → IsWithin 363 (answer_phrase report answer)
+    IsCulpritOfNumbers (culprit_of report.answer) → IfOk answer IsVerdictOfNumbers → IsWithin 381 (answer_phrase report answer)
 answer_part report (Ok verdict) h k l =
-    joined (subject report.names (number_told report.is_each (Ok verdict))) (verdict_phrase (culprit_of report.answer) verdict)
-    (subject_part report.names _ h) (verdict_part (culprit_of report.answer) verdict k l)
+    joined (claim report) (verdict_phrase (fails_at (culprit_of report.answer)) verdict)
+    (claim_part (subject report.names (number_told report.is_each (verdict_of report.answer))) (for_each report.is_each report.names)
+    (subject_part report.names _ h) (for_each_part report.is_each report.names h) (left_out_of (culprit_of report.answer))
+    (verdict_of report.answer))
+    (verdict_part (culprit_of report.answer) verdict k l)
 answer_part report (Err error) h k l =
     let front : List ℕ = error_phrase error ++ for_printer report.names (number_told report.is_each (Err error)) in
-    wider 363 _ (omega arith)
+    wider 381 _ (omega arith)
     (joined (((front ++ cause_phrase report.cause) ++ codes " (") ++ error_words error) (codes ")")
     (joined ((front ++ cause_phrase report.cause) ++ codes " (") (error_words error)
     (joined (front ++ cause_phrase report.cause) (codes " (")

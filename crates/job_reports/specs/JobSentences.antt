@@ -1,9 +1,10 @@
 -- The sentence of a job, in a check of many jobs.
 use Rattle.std.specs.Prelude.{◌≡◌, ℕ, ◌==◌, ◌-◌, ◌^◌, ◌<◌, ◌≤◌, nat_le, List, [], ◌∷◌, ◌++◌, codes, drop, take, length}
-use Rattle.std.specs.Prelude.{get_or, if◌then◌else◌, Option, None, Some, Result, Ok, Err, IfOk, ⊤}
+use Rattle.std.specs.Prelude.{get_or, Bool, true, false, if◌then◌else◌, Option, None, Some, Result, Ok, Err, IfOk, ⊤}
 use Rattle.std.specs.List.{AllByRecursion}
 use Rattle.line_words.specs.Figures.{named}
 use Rattle.line_words.specs.Reason.{reason_words, short_reason}
+use Rattle.page_env.specs.declared.finding.Finding.TheVariants.{BadValue}
 use Rattle.preflight.specs.declared.culprit.Culprit.{Culprit}
 use Rattle.preflight.specs.declared.culprit.Culprit.TheVariants.{Text, Simple, WithData, Line}
 use Rattle.preflight.specs.declared.culprit.Judgement.{Judgement}
@@ -11,9 +12,15 @@ use Rattle.shown_bytes.specs.Shown.{shown}
 use Rattle.streams.specs.declared.error.Error.{Error}
 use Rattle.streams.specs.declared.error.Error.TheVariants.{Memory, Read, Write, Turns, NoProfile, Items}
 use Rattle.verdict.specs.declared.reason.Reason.{Reason}
+use Rattle.verdict.specs.declared.reason.Reason.TheVariants.{Finding}
 use Rattle.verdict.specs.declared.verdict.Verdict.{Verdict}
 use Rattle.verdict.specs.declared.verdict.Verdict.TheVariants.{Pass, Fail}
 use Rattle.job_reports.specs.CommandWords.{command_words}
+use Rattle.job_reports.specs.Kinds.{kind_by}
+use Rattle.job_reports.specs.LeftOut.{left_out_of, value_words}
+use Rattle.job_reports.specs.declared.kind.Kind.{Kind}
+use Rattle.job_reports.specs.declared.kind.Kind.TheVariants as kinds
+use Rattle.job_reports.specs.declared.left_out.LeftOut.{LeftOut}
 use Rattle.job_reports.specs.Reports.{Reported, culprit_of, number_told, verdict_of}
 use Rattle.requests.specs.Status.{error_words}
 
@@ -33,20 +40,60 @@ first_of most text = if nat_le (length text) most then text else take most text 
 abbrev pub subject : List (List ℕ) → ℕ → List ℕ
 subject names number = if number == 0 then codes "each printer" else get_or names (number - 1) []
 
+-- the printer that this is about, where each has a sentence of its own
+abbrev pub for_each : Bool → List (List ℕ) → List ℕ
+for_each is_each names = if is_each then codes " for " ++ get_or names 0 [] else []
+
+-- who says no
+abbrev pub refusal : Kind → (who each : List ℕ) → List ℕ
+refusal kinds.Unchecked who each = codes "pclcheck cannot judge this job" ++ each
+refusal kinds.Wrong who each = codes "this job is wrong" ++ each
+refusal kinds.Printer who each = who ++ codes " refuses this job"
+refusal kinds.Panel who each = who ++ codes " refuses this job"
+refusal kinds.Differs who each = who ++ codes " refuses this job"
+
+-- who says what of a job, where this is left out of the value at which it fails
+abbrev pub claim_by : (who each : List ℕ) → Option LeftOut → Result Verdict Error → List ℕ
+claim_by who each left_out (Ok (Pass pages marks)) = who ++ codes " prints this job"
+claim_by who each left_out (Ok (Fail place profile reason)) = refusal (kind_by left_out reason) who each
+claim_by who each left_out (Err error) = []
+
+abbrev pub claim : Reported → List ℕ
+claim report =
+    let answer = verdict_of report.answer in
+    claim_by (subject report.names (number_told report.is_each answer)) (for_each report.is_each report.names)
+    (left_out_of (culprit_of report.answer)) answer
+
 abbrev pub at_command : Option Culprit → List ℕ
 at_command None = []
 at_command (Some culprit) = codes ", " ++ command_words culprit
 
--- what is wrong, in words and as a line has it
-abbrev pub reason_phrase : Reason → List ℕ
-reason_phrase reason = codes ": " ++ short_reason reason ++ codes " (" ++ reason_words reason ++ codes ")"
+-- where a job fails, behind its place, and what is left out of the value there
+pub record FailsAt : Type 0 where
+  pub words : List ℕ
+  pub left_out : Option LeftOut
 
--- what stands behind the subject
-abbrev pub verdict_phrase : Option Culprit → Verdict → List ℕ
-verdict_phrase culprit (Pass pages marks) =
-    named (codes " prints this job (pages=") pages ++ named (codes " marks=") marks ++ codes ")"
-verdict_phrase culprit (Fail place profile reason) =
-    named (codes " refuses this job at byte ") place ++ at_command culprit ++ reason_phrase reason
+abbrev pub fails_at : Option Culprit → FailsAt
+fails_at culprit = record { words = at_command culprit; left_out = left_out_of culprit }
+
+abbrev pub is_bad_value : Reason → Bool
+is_bad_value (Finding BadValue) = true
+is_bad_value _ = false
+
+-- why, in a few words
+abbrev pub few_words : Option LeftOut → Reason → List ℕ
+few_words left_out reason = if is_bad_value reason then value_words left_out else short_reason reason
+
+-- what is wrong, in words and as a line has it
+abbrev pub reason_phrase : Option LeftOut → Reason → List ℕ
+reason_phrase left_out reason =
+    codes ": " ++ few_words left_out reason ++ codes " (" ++ reason_words reason ++ codes ")"
+
+-- what stands behind the claim
+abbrev pub verdict_phrase : FailsAt → Verdict → List ℕ
+verdict_phrase at (Pass pages marks) = named (codes " (pages=") pages ++ named (codes " marks=") marks ++ codes ")"
+verdict_phrase at (Fail place profile reason) =
+    named (codes " at byte ") place ++ at.words ++ reason_phrase at.left_out reason
 
 -- ---- why there is none
 
@@ -69,8 +116,7 @@ cause_phrase (Some words) = codes ": " ++ first_of 200 (shown words)
 -- ---- the sentence
 
 abbrev pub answer_phrase : Reported → Result Verdict Error → List ℕ
-answer_phrase report (Ok verdict) =
-    subject report.names (number_told report.is_each (Ok verdict)) ++ verdict_phrase (culprit_of report.answer) verdict
+answer_phrase report (Ok verdict) = claim report ++ verdict_phrase (fails_at (culprit_of report.answer)) verdict
 answer_phrase report (Err error) =
     error_phrase error ++ for_printer report.names (number_told report.is_each (Err error)) ++ cause_phrase report.cause
     ++ codes " (" ++ error_words error ++ codes ")"

@@ -2,6 +2,8 @@ pub mod CommandWords
 pub mod Groups
 pub mod JobLines
 pub mod JobSentences
+pub mod Kinds
+pub mod LeftOut
 pub mod Lines
 pub mod Pipes
 pub mod Refusals

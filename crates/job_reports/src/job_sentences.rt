@@ -1,14 +1,35 @@
 //! The sentence of a job, in a check of many.
 ghost use Rattle.std.specs.Prelude.{◌≡◌, ◌++◌, OnOk, option_map};
-ghost use Rattle.job_reports.specs.JobSentences.{IsOfParts, IsSentence, answer_phrase, at_command};
-ghost use Rattle.job_reports.specs.JobSentences.{cause_phrase, error_phrase, first_of, for_printer};
-ghost use Rattle.job_reports.specs.JobSentences.{job_sentence, last_of, named_first, reason_phrase};
-ghost use Rattle.job_reports.specs.JobSentences.{subject, verdict_phrase};
+ghost use Rattle.job_reports.specs.JobSentences.{
+  IsOfParts,
+  IsSentence,
+  answer_phrase,
+  at_command,
+  cause_phrase,
+  claim,
+  error_phrase,
+  fails_at,
+  few_words,
+  first_of,
+  for_each,
+  for_printer,
+  is_bad_value,
+  job_sentence,
+  last_of,
+  named_first,
+  reason_phrase,
+  refusal,
+  subject,
+  verdict_phrase,
+};
 ghost use Rattle.job_reports.specs.Reports.{Reported, number_told, verdict_of};
 
 use crate::command_words::push_command_words;
+use crate::kind::{Kind, kind_of};
+use crate::left_out::{LeftOut, left_out_of, value_words};
 use crate::reports::Report;
 use line_words::{push_named, push_reason, short_reason};
+use page_env::Finding;
 use preflight::{Culprit, Verdict};
 use requests::error_words;
 use shown_bytes::push_shown;
@@ -54,7 +75,7 @@ fn push_answer<A: Allocator + Copy>(
 {
     match report.verdict() {
         Ok(verdict) => {
-            push_subject(line, report)?;
+            push_claim(line, report)?;
             push_verdict(alloc, line, report.culprit(), verdict)
         }
         Err(error) => push_error(alloc, line, error, report),
@@ -62,6 +83,67 @@ fn push_answer<A: Allocator + Copy>(
 }
 
 // ---- a verdict
+
+/// Appends who says what of a job.
+fn push_claim<A: Allocator>(
+    line: &mut Vec<u8, A>,
+    report: &Report<'_, '_, A>,
+) -> Result<(), AllocError>
+    ensures { OnOk result (line.new.items ≡ line.old.items ++ claim report.now) }
+{
+    match report.verdict() {
+        Ok(Verdict::Pass { .. }) => {
+            push_subject(line, report)?;
+            line.extend_from_slice(b" prints this job")
+        }
+        Ok(Verdict::Fail { finding, .. }) => {
+            push_refusal(line, report, kind_of(finding, report.culprit()))
+        }
+        Err(_) => Ok(()),
+    }
+}
+
+/// Appends who says no.
+fn push_refusal<A: Allocator>(
+    line: &mut Vec<u8, A>,
+    report: &Report<'_, '_, A>,
+    kind: Kind,
+) -> Result<(), AllocError>
+    ensures { OnOk result (line.new.items ≡ line.old.items ++ refusal kind
+        (subject report.now.names
+        (number_told report.now.is_each (verdict_of report.now.answer)))
+        (for_each report.now.is_each report.now.names)) }
+{
+    match kind {
+        Kind::Unchecked => {
+            line.extend_from_slice(b"pclcheck cannot judge this job")?;
+            push_for_each(line, report)
+        }
+        Kind::Wrong => {
+            line.extend_from_slice(b"this job is wrong")?;
+            push_for_each(line, report)
+        }
+        Kind::Printer | Kind::Panel | Kind::Differs => {
+            push_subject(line, report)?;
+            line.extend_from_slice(b" refuses this job")
+        }
+    }
+}
+
+/// Appends the printer that this is about, where each has a sentence of its own.
+fn push_for_each<A: Allocator>(
+    line: &mut Vec<u8, A>,
+    report: &Report<'_, '_, A>,
+) -> Result<(), AllocError>
+    ensures { OnOk result (line.new.items ≡ line.old.items ++
+        for_each report.now.is_each report.now.names) }
+{
+    if !report.printers.is_each() {
+        return Ok(());
+    }
+    line.extend_from_slice(b" for ")?;
+    line.extend_from_slice(report.printers.first_name())
+}
 
 /// Appends whose verdict this is: the printer's that it is about, or each one's.
 fn push_subject<A: Allocator>(
@@ -77,25 +159,26 @@ fn push_subject<A: Allocator>(
     line.extend_from_slice(report.printer_name())
 }
 
-/// Appends a verdict behind its subject.
+/// Appends what stands behind the claim.
 fn push_verdict<A: Allocator + Copy>(
     alloc: A,
     line: &mut Vec<u8, A>,
     culprit: Option<Culprit>,
     verdict: Verdict,
 ) -> Result<(), AllocError>
-    ensures { OnOk result (line.new.items ≡ line.old.items ++ verdict_phrase culprit verdict) }
+    ensures { OnOk result (line.new.items ≡ line.old.items ++
+        verdict_phrase (fails_at culprit) verdict) }
 {
     match verdict {
         Verdict::Pass { pages, marks } => {
-            push_named(line, b" prints this job (pages=", pages)?;
+            push_named(line, b" (pages=", pages)?;
             push_named(line, b" marks=", marks)?;
             line.extend_from_slice(b")")
         }
         Verdict::Fail { place, finding, .. } => {
-            push_named(line, b" refuses this job at byte ", place)?;
+            push_named(line, b" at byte ", place)?;
             push_at_command(alloc, line, culprit)?;
-            push_reason_phrase(line, finding)
+            push_reason_phrase(line, left_out_of(culprit), finding)
         }
     }
 }
@@ -118,14 +201,36 @@ fn push_at_command<A: Allocator + Copy>(
 }
 
 /// Appends what is wrong, in words and as a line has it.
-fn push_reason_phrase<A: Allocator>(line: &mut Vec<u8, A>, reason: Reason) -> Result<(), AllocError>
-    ensures { OnOk result (line.new.items ≡ line.old.items ++ reason_phrase reason) }
+fn push_reason_phrase<A: Allocator>(
+    line: &mut Vec<u8, A>,
+    left_out: Option<LeftOut>,
+    reason: Reason,
+) -> Result<(), AllocError>
+    ensures { OnOk result (line.new.items ≡ line.old.items ++ reason_phrase left_out reason) }
 {
     line.extend_from_slice(b": ")?;
-    line.extend_from_slice(short_reason(reason))?;
+    line.extend_from_slice(few_words(left_out, reason))?;
     line.extend_from_slice(b" (")?;
     push_reason(line, reason)?;
     line.extend_from_slice(b")")
+}
+
+/// Why a job fails, in a few words.
+fn few_words(left_out: Option<LeftOut>, reason: Reason) -> &'static [u8]
+    ensures { result.now ≡ few_words left_out reason }
+{
+    if is_bad_value(reason) {
+        value_words(left_out)
+    } else {
+        short_reason(reason)
+    }
+}
+
+/// Whether an item has a value that it does not take.
+fn is_bad_value(reason: Reason) -> bool
+    ensures { result ≡ is_bad_value reason }
+{
+    matches!(reason, Reason::Finding(Finding::BadValue))
 }
 
 // ---- no verdict

@@ -5,6 +5,8 @@ mod command_words;
 mod groups;
 mod job_lines;
 mod job_sentences;
+mod kind;
+mod left_out;
 mod lines;
 mod pipes;
 mod refusals;
@@ -14,6 +16,7 @@ pub use command_words::push_command_words;
 pub use groups::PrinterGroup;
 pub use job_lines::push_job_line;
 pub use job_sentences::{push_job_sentence, push_named_first, sentences_are_short};
+pub use kind::{Kind, kind_of};
 pub use lines::{line_of, line_of_failure};
 pub use pipes::{is_pipe, refuse_pipe, refuse_words};
 pub use refusals::{

@@ -55,19 +55,19 @@ worse-passes Passes = refl
 worse-passes Fails = refl
 worse-passes HasNoVerdict = refl
 
-module _ (exit_zero : Bool) where
+module _ (telling : HowTold) where
   abbrev one_more : Ending → CheckLine → Ending
-  one_more ending line = worse ending (ending_of_line exit_zero line)
+  one_more ending line = worse ending (ending_of_line telling line)
 
-  fold_worse : (start : Ending) (lines : List CheckLine) → fold one_more start lines ≡ worse start (worst exit_zero lines)
+  fold_worse : (start : Ending) (lines : List CheckLine) → fold one_more start lines ≡ worse start (worst telling lines)
   fold_worse start [] = sym (worse-passes start)
   fold_worse start (line ∷ lines) =
       fold_worse (one_more start line) lines
-      ∙ worse-assoc start (ending_of_line exit_zero line) (worst exit_zero lines)
-      ∙ ap (worse start) (sym (fold_worse (ending_of_line exit_zero line) lines))
+      ∙ worse-assoc start (ending_of_line telling line) (worst telling lines)
+      ∙ ap (worse start) (sym (fold_worse (ending_of_line telling line) lines))
 
-  pub worst-append : (xs ys : List CheckLine) → worst exit_zero (xs ++ ys) ≡ worse (worst exit_zero xs) (worst exit_zero ys)
-  worst-append xs ys = fold-append one_more Passes xs ys ∙ fold_worse (worst exit_zero xs) ys
+  pub worst-append : (xs ys : List CheckLine) → worst telling (xs ++ ys) ≡ worse (worst telling xs) (worst telling ys)
+  worst-append xs ys = fold-append one_more Passes xs ys ∙ fold_worse (worst telling xs) ys
 
 -- ---- lines behind lines
 
@@ -106,8 +106,8 @@ module _ (groups : Groups) (telling : HowTold) (start : List ℕ → SourceState
     tells_more ending ending' first second = (
       first.0 ++ second.0,
       tells_both first.0 second.0 first.1 second.1,
-      ap (λ e. worse e ending') first.2 ∙ ap (worse (worst telling.exit_zero first.0)) second.2
-          ∙ sym (worst-append telling.exit_zero first.0 second.0),
+      ap (λ e. worse e ending') first.2 ∙ ap (worse (worst telling first.0)) second.2
+          ∙ sym (worst-append telling first.0 second.0),
     )
 
     -- behind lines that stand there some front was written
@@ -163,7 +163,7 @@ module _ (groups : Groups) (telling : HowTold) (start : List ℕ → SourceState
     module _ (old new : Work) (ended : new.ended ≡ old.ended ++ after ∷ []) where
       -- no notes are told
       pub tells_alone : (ending : Ending) → printer_of_notes ≡ None → AddsTold told old.out new.out →
-          ending ≡ ending_of telling.exit_zero (verdict_of answer) → TellsAll groups telling ((job, number) ∷ []) start ending old new
+          ending ≡ ending_of telling answer → TellsAll groups telling ((job, number) ∷ []) start ending old new
       tells_alone ending none adds is =
           let text = told adds.0 in (
             line_with adds.0 None ∷ [],
@@ -173,7 +173,7 @@ module _ (groups : Groups) (telling : HowTold) (start : List ℕ → SourceState
               written = subst (Adds old.out new.out) (sym (append-nil (text ++ []) ∙ append-nil text)) adds.1;
               ended = ended;
             },
-            is ∙ sym (worse-passes (ending_of telling.exit_zero (verdict_of answer))),
+            is ∙ sym (worse-passes (ending_of telling answer)),
           )
 
       -- the line is not there whole
@@ -208,7 +208,7 @@ module _ (groups : Groups) (telling : HowTold) (start : List ℕ → SourceState
       -- notes are told
       pub tells_noted : (noted : Noted) (ending ending' : Ending) →
           TellsNotes group telling printer (start job) job mid new (Adds mid.out new.out) noted →
-          ending ≡ ending_of telling.exit_zero (verdict_of answer) → ending' ≡ ending_of_notes noted.notes
+          ending ≡ ending_of telling answer → ending' ≡ ending_of_notes noted.notes
           → TellsAll groups telling ((job, number) ∷ []) start (worse ending ending') old new
       tells_noted noted ending ending' tells is is' =
           let text = told adds.0 in
@@ -222,7 +222,7 @@ module _ (groups : Groups) (telling : HowTold) (start : List ℕ → SourceState
                   (Adds-trans old.out mid.out new.out text notes adds.1 tells.written);
               ended = tells.ended ∙ ap (λ es. es ++ noted.after ∷ []) ended ∙ append_assoc old.ended (after ∷ []) (noted.after ∷ []);
             },
-            ap (λ e. worse e ending') is ∙ ap (worse (ending_of telling.exit_zero (verdict_of answer))) is',
+            ap (λ e. worse e ending') is ∙ ap (worse (ending_of telling answer)) is',
           )
 
       -- what is told of them is not there whole

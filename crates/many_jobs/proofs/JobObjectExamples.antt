@@ -46,14 +46,14 @@ object_of_pass = refl
 
 object_of_fail : job_object [] (report_of false (codes "a.pcl") unset None)
     ≡ codes
-    "{\"at\":134,\"code\":12,\"command\":\"ESC &l2A\",\"field\":\"Size\",\"finding\":\"Unset\",\"job\":\"a.pcl\",\"printer\":\"export-desk\",\"profile\":2,\"verdict\":\"FAIL\"}\n"
+    "{\"at\":134,\"code\":12,\"command\":\"ESC &l2A\",\"field\":\"Size\",\"finding\":\"Unset\",\"job\":\"a.pcl\",\"kind\":\"panel\",\"printer\":\"export-desk\",\"profile\":2,\"verdict\":\"FAIL\"}\n"
 unfolding serde_json_on_literals is_utf8 chars encode_utf8 digits
 object_of_fail = refl
 
 explained : job_object (codes "12 Unset\nset it\n")
     (report_of true (codes "a.pcl") (Ok (record { verdict = Fail 134 1 (Finding (Unset Size)); culprit = None })) None)
     ≡ codes
-    "{\"at\":134,\"code\":12,\"explanation\":\"12 Unset\\nset it\\n\",\"field\":\"Size\",\"finding\":\"Unset\",\"job\":\"a.pcl\",\"printer\":\"counter\",\"profile\":1,\"verdict\":\"FAIL\"}\n"
+    "{\"at\":134,\"code\":12,\"explanation\":\"12 Unset\\nset it\\n\",\"field\":\"Size\",\"finding\":\"Unset\",\"job\":\"a.pcl\",\"kind\":\"panel\",\"printer\":\"counter\",\"profile\":1,\"verdict\":\"FAIL\"}\n"
 unfolding serde_json_on_literals is_utf8 chars encode_utf8 digits
 explained = refl
 

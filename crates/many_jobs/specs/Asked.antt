@@ -10,6 +10,7 @@ told_by telling = record {
   format = telling.format;
   explanations = map (λ text. text.now) telling.explanations.now;
   exit_zero = telling.exit_zero;
+  passes_unchecked = telling.passes_unchecked;
 }
 
 abbrev pub asked_for : ManyJobs → Asked

@@ -1,10 +1,11 @@
 -- What a check of many jobs leaves.
-use Rattle.std.specs.Prelude.{◌≡◌, ◌⊎◌, ℕ, Bool, false, List, [], ◌∷◌, ◌++◌, flat_map, map, fold, IsErrOf, Option, None}
+use Rattle.std.specs.Prelude.{◌≡◌, ◌⊎◌, ℕ, ◌&&◌, false, List, [], ◌∷◌, ◌++◌, flat_map, map, fold, IsErrOf, Option, None}
 use Rattle.std.specs.Prelude.{Some, Result, Ok, Err, IfOk, IfErr, ⊤, if◌then◌else◌}
 use Rattle.std.specs.List.{AllByRecursion, range_with_len}
 use Rattle.device_profile.specs.Printer.{Printer}
 use Rattle.streams.specs.declared.error.Error.{Error}
 use Rattle.streams.specs.declared.error.Error.TheVariants.{Memory, Read, Write, Turns, NoProfile, Items}
+use Rattle.preflight.specs.declared.culprit.Culprit.{Culprit}
 use Rattle.preflight.specs.declared.culprit.Judgement.{Judgement}
 use Rattle.preflight.specs.Culprit.{IsTold}
 use Rattle.streams.specs.Errors.{is_err_of_read}
@@ -20,6 +21,8 @@ use Rattle.job_reports.specs.Groups.{Groups, group_at, group_count, reported}
 use Rattle.many_jobs.specs.JobNoting.{AreRightNotes, IsRightlyNoted, Noted, ending_of_noted, note_printer, noted_after}
 use Rattle.many_jobs.specs.JobNoting.{noted_text, notes_text}
 use Rattle.many_jobs.specs.NoteReports.{subject_of, told_note}
+use Rattle.job_reports.specs.declared.kind.Kind.{Kind}
+use Rattle.job_reports.specs.Kinds.{is_unchecked, kind_of}
 use Rattle.job_reports.specs.Reports.{verdict_of}
 use Rattle.many_jobs.specs.Telling.{HowTold, report_text}
 use Rattle.many_jobs.specs.declared.ending.Ending.{Ending}
@@ -48,11 +51,21 @@ pub record IsRightAnswer (fleet : List Printer) (start after : SourceState)
   pub items : IsErrOf answer Items → PassesItems fleet start after
   pub read : after.failed ≡ is_err_of_read answer
 
--- how an answer counts for the exit status
-abbrev pub ending_of : Bool → Result Verdict Error → Ending
-ending_of exit_zero (Ok (PassOf pages marks)) = Passes
-ending_of exit_zero (Ok (FailOf place profile reason)) = if exit_zero then Passes else Fails
-ending_of exit_zero (Err error) = HasNoVerdict
+-- how a failure of this kind counts for the exit status
+abbrev pub ending_of_kind : HowTold → Kind → Ending
+ending_of_kind telling kind =
+    if telling.exit_zero then Passes
+    else (if telling.passes_unchecked && is_unchecked kind then Passes else Fails)
+
+-- how a verdict does, with the item at the place of a FAIL
+abbrev pub ending_of_verdict : HowTold → Option Culprit → Verdict → Ending
+ending_of_verdict telling culprit (PassOf pages marks) = Passes
+ending_of_verdict telling culprit (FailOf place profile reason) = ending_of_kind telling (kind_of reason culprit)
+
+-- how an answer does
+abbrev pub ending_of : HowTold → Result Judgement Error → Ending
+ending_of telling (Ok judgement) = ending_of_verdict telling judgement.culprit judgement.verdict
+ending_of telling (Err error) = HasNoVerdict
 
 -- the greater one
 abbrev pub worse : Ending → Ending → Ending
@@ -131,17 +144,17 @@ pub record TellsLines (groups : Groups) (telling : HowTold) (start : List ℕ �
   pub ended : new.ended ≡ old.ended ++ afters lines
 
 -- how a line counts, with its notes
-abbrev pub ending_of_line : Bool → CheckLine → Ending
-ending_of_line exit_zero line = worse (ending_of exit_zero (verdict_of line.answer)) (ending_of_noted line.noted)
+abbrev pub ending_of_line : HowTold → CheckLine → Ending
+ending_of_line telling line = worse (ending_of telling line.answer) (ending_of_noted line.noted)
 
-abbrev pub worst : Bool → List CheckLine → Ending
-worst exit_zero lines = fold (λ ending line. worse ending (ending_of_line exit_zero line)) Passes lines
+abbrev pub worst : HowTold → List CheckLine → Ending
+worst telling lines = fold (λ ending line. worse ending (ending_of_line telling line)) Passes lines
 
 -- all lines that are due stand there, and the ending is the worst of theirs
 abbrev pub TellsAll : Groups → HowTold → List (List ℕ × ℕ) → (List ℕ → SourceState) → Ending → Work → Work → Type 0
 TellsAll groups telling due start ending old new =
     (lines : List CheckLine) × TellsLines groups telling start due lines old new
-    × (ending ≡ worst telling.exit_zero lines)
+    × (ending ≡ worst telling lines)
 
 -- each line is right, but the last one may lack its notes
 abbrev pub AreRightToCut : Groups → HowTold → (List ℕ → SourceState) → List CheckLine → Type 0

@@ -11,7 +11,9 @@ use Rattle.verdict.specs.Numbers.{reason_number}
 use Rattle.verdict.specs.declared.reason.Reason.{Reason}
 use Rattle.verdict.specs.declared.verdict.Verdict.{Verdict}
 use Rattle.verdict.specs.declared.verdict.Verdict.TheVariants.{Pass, Fail}
+use Rattle.job_reports.specs.declared.kind.Kind.{Kind}
 use Rattle.job_reports.specs.CommandWords.{command_words}
+use Rattle.job_reports.specs.Kinds.{kind_name, kind_of}
 use Rattle.many_jobs.specs.JsonObject.{with_number, with_text}
 use Rattle.many_jobs.specs.JsonTexts.{name_text, words_text}
 use Rattle.job_reports.specs.Reports.{Reported, culprit_of, number_told, verdict_of}
@@ -39,6 +41,10 @@ with_fail place profile reason members =
     with_finding reason
     (with_number (codes "profile") profile
     (with_number (codes "at") place (with_text (codes "verdict") (codes "FAIL") members)))
+
+-- who says no
+abbrev pub with_kind : Kind → Members → Members
+with_kind kind members = with_text (codes "kind") (kind_name kind) members
 
 abbrev pub with_command : Option Culprit → Members → Members
 with_command None members = members
@@ -70,7 +76,9 @@ with_error error cause members =
 abbrev pub with_answer : List ℕ → Reported → Result Verdict Error → Members → Members
 with_answer explanation report (Ok (Pass pages marks)) members = with_pass pages marks members
 with_answer explanation report (Ok (Fail place profile reason)) members =
-    with_explanation explanation (with_command (culprit_of report.answer) (with_fail place profile reason members))
+    with_explanation explanation
+    (with_command (culprit_of report.answer)
+    (with_kind (kind_of reason (culprit_of report.answer)) (with_fail place profile reason members)))
 with_answer explanation report (Err error) members = with_error error report.cause members
 
 -- ---- the whole object

@@ -12,11 +12,13 @@ use Rattle.job_reports.specs.Reports.{Reported, verdict_of}
 use Rattle.many_jobs.specs.declared.telling.Format.{Format}
 use Rattle.many_jobs.specs.declared.telling.Format.TheVariants.{Line, Words, Json}
 
--- the form, the explanations of which a FAIL and a note get their own, and whether a FAIL counts as a PASS
+-- the form, the explanations of which a FAIL and a note get their own, whether a FAIL counts as a PASS, and whether
+-- one does by which pclcheck alone says no
 pub record HowTold : Type 0 where
   pub format : Format
   pub explanations : List (List ℕ)
   pub exit_zero : Bool
+  pub passes_unchecked : Bool
 
 -- what these explanations say of what is wrong
 abbrev pub explained : List (List ℕ) → Result Verdict Error → List ℕ

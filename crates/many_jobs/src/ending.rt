@@ -1,15 +1,17 @@
 //! How jobs count for the exit status of a check of many jobs.
 ghost use Rattle.std.specs.Prelude.{◌≡◌};
-ghost use Rattle.many_jobs.specs.JobChecks.{ending_of, worse};
-ghost use Rattle.job_reports.specs.Reports.{verdict_of};
+ghost use Rattle.many_jobs.specs.Asked.{told_by};
+ghost use Rattle.many_jobs.specs.JobChecks.{ending_of, ending_of_kind, worse};
 
+use crate::telling::Telling;
+use job_reports::{Kind, kind_of};
 use preflight::{Judgement, Verdict};
 use streams::Error;
 
 /// How jobs count for the exit status.
 #[derive(Clone, Copy, Debug, PartialEq, Eq)]
 pub enum Ending {
-    /// All pass, or a FAIL counts as a PASS.
+    /// All pass, or what fails counts as a PASS.
     Passes,
     /// One fails.
     Fails,
@@ -18,23 +20,35 @@ pub enum Ending {
 }
 
 impl Ending {
-    /// How a job of this result counts; where `exit_zero` is set a FAIL counts as a PASS.
-    pub(crate) fn of(exit_zero: bool, answer: Result<Judgement, Error>) -> Ending
-        ensures { result ≡ ending_of exit_zero (verdict_of answer) }
+    /// How a job of this result counts, where it is told so.
+    pub(crate) fn of(telling: &Telling<'_>, answer: Result<Judgement, Error>) -> Ending
+        ensures { result ≡ ending_of (told_by telling.now) answer }
     {
         match answer {
-            Ok(judgement) => Ending::of_verdict(exit_zero, judgement.verdict),
+            Ok(judgement) => match judgement.verdict {
+                Verdict::Pass { .. } => Ending::Passes,
+                Verdict::Fail { finding, .. } => {
+                    Ending::of_kind(telling, kind_of(finding, judgement.culprit))
+                }
+            },
             Err(_) => Ending::HasNoVerdict,
         }
     }
 
-    /// How a verdict counts.
-    fn of_verdict(exit_zero: bool, verdict: Verdict) -> Ending
-        ensures { result ≡ ending_of exit_zero (Ok verdict) }
+    /// How a job counts that fails by this kind.
+    fn of_kind(telling: &Telling<'_>, kind: Kind) -> Ending
+        ensures { result ≡ ending_of_kind (told_by telling.now) kind }
     {
-        match verdict {
-            Verdict::Fail { .. } if !exit_zero => Ending::Fails,
-            Verdict::Fail { .. } | Verdict::Pass { .. } => Ending::Passes,
+        if telling.exit_zero {
+            return Ending::Passes;
+        }
+        if !telling.passes_unchecked {
+            return Ending::Fails;
+        }
+        if kind.is_unchecked() {
+            Ending::Passes
+        } else {
+            Ending::Fails
         }
     }
 

@@ -111,7 +111,7 @@ fn tell_group<'n, J: Jobs<'n>, O: Outlet, A: Allocator + Copy>(
     let error = job.error();
     jobs.end(job);
     tell_line(alloc, &group, name, answer, error, telling, stdout)?;
-    let ending = Ending::of(telling.exit_zero, answer);
+    let ending = Ending::of(telling, answer);
     match note_printer(answer, group.note_printers()) {
         None => Ok(ending),
         Some(printer) => {

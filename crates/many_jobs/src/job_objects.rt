@@ -10,6 +10,7 @@ ghost use Rattle.many_jobs.specs.JobObjects.{
   with_explanation,
   with_fail,
   with_field,
+  with_kind,
   with_pass,
   with_printer,
 };
@@ -17,7 +18,7 @@ ghost use Rattle.many_jobs.specs.JsonObject.{members_of};
 ghost use Rattle.job_reports.specs.Reports.{number_told, verdict_of};
 
 use crate::json_object::Object;
-use job_reports::{Report, push_command_words};
+use job_reports::{Kind, Report, kind_of, push_command_words};
 use line_words::{bare_name, push_field_words};
 use preflight::{Culprit, Verdict};
 use std::alloc::{AllocError, Allocator, Global};
@@ -94,6 +95,7 @@ fn put_answer<A: Allocator + Copy>(
             },
         ) => {
             put_fail(alloc, object, place, profile, finding)?;
+            put_kind(object, kind_of(finding, report.culprit()))?;
             put_command(alloc, object, report.culprit())?;
             put_explanation(object, explanation)
         }
@@ -138,6 +140,13 @@ fn put_field<A: Allocator>(alloc: A, object: &mut Object, finding: Reason) -> Re
         return Ok(());
     }
     object.put_words("field", words.as_slice())
+}
+
+/// Puts who says no.
+fn put_kind(object: &mut Object, kind: Kind) -> Result<(), AllocError>
+    ensures { OnOk result (members_of object.new ≡ with_kind kind (members_of object.old)) }
+{
+    object.put_text("kind", kind.name())
 }
 
 /// Puts the item that a job fails at, where there is one.

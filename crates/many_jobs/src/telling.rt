@@ -29,6 +29,8 @@ pub struct Telling<'t> {
     pub explanations: &'t [&'t str],
     /// A FAIL counts as a PASS.
     pub exit_zero: bool,
+    /// So does one by which pclcheck alone says no.
+    pub passes_unchecked: bool,
 }
 
 /// Appends what is told of a job, and below a line or a sentence the explanation of what is wrong.

@@ -27,7 +27,8 @@ use Rattle.many_requests.specs.Names.{AreNamesAt, names_in}
 
 -- by the words: the jobs, the file of their names, the printers, the fleets, how many items macros may carry out,
 -- whether each printer is told of by itself, whether the notes of a job that passes are told, the form, the
--- explanations of which a FAIL and a note get their own, and whether a FAIL counts as a PASS
+-- explanations of which a FAIL and a note get their own, whether a FAIL counts as a PASS, and whether one does by which
+-- pclcheck alone says no
 pub record Asking : Type 0 where
   pub jobs : List (List ℕ)
   pub names_from : Option (List ℕ)
@@ -39,6 +40,7 @@ pub record Asking : Type 0 where
   pub form : Form
   pub explanations : List (List ℕ)
   pub exit_zero : Bool
+  pub passes_unchecked : Bool
 
 -- these words ask for that, where these are the explanations
 abbrev pub asking : List (List ℕ) → ManyWords → Asking
@@ -53,6 +55,7 @@ asking texts words = record {
   form = words.form;
   explanations = if words.explains then texts else [];
   exit_zero = words.exit_zero;
+  passes_unchecked = words.passes_unchecked;
 }
 
 -- a form, in whatever memory an object is put together
@@ -66,6 +69,7 @@ pub record IsTelling (asking : Asking) (telling : HowTold) : Type 0 where
   pub form : IsForm asking.form telling.format
   pub explanations : telling.explanations ≡ asking.explanations
   pub exit_zero : telling.exit_zero ≡ asking.exit_zero
+  pub passes_unchecked : telling.passes_unchecked ≡ asking.passes_unchecked
 
 -- What is checked: the jobs of the words and then those that the bytes of the file of names have, for the printers of
 -- the words and then those that the texts of the fleets name.

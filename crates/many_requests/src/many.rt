@@ -155,5 +155,6 @@ fn telling_of(alloc: Global, words: &ManyWords<'_>) -> Telling<'static>
         format,
         explanations,
         exit_zero: words.exit_zero,
+        passes_unchecked: words.passes_unchecked,
     }
 }

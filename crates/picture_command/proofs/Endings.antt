@@ -25,7 +25,7 @@ use Rattle.renderings.proofs.Renderings.{Puts-kept, Puts-none, end_none}
 use Rattle.requests.specs.declared.selection.Selection.{Selection}
 use Rattle.requests.specs.Selection.{is_behind}
 use Rattle.job_reports.specs.Groups.{Groups}
-use Rattle.job_reports.specs.JobSentences.{at_command}
+use Rattle.job_reports.specs.JobSentences.{fails_at}
 use Rattle.picture_command.specs.Carriers.{Finishes, HasRun, Keeps, Steps, search_from}
 use Rattle.picture_command.specs.PageSearch.{Searched, at_item, found_at_failure, open_page, text_at_end}
 use Rattle.picture_command.proofs.Searches.{item_goes, item_over, item_found, end_over, end_goes, end_found}
@@ -75,7 +75,7 @@ module _ (selection : Selection) (job : List ℕ) (group : Groups) (machine : Ma
     pub item_fails : (found : Option Finding) (finding : Finding) → found ≡ Some finding →
         Steps machine machine' x.item counts counts' (Ok found) → false ≡ is_behind selection (open_page counts')
         → (failure : Failure) → failure ≡ found_at x.place 1 finding → (culprit : Culprit) → IsCulprit culprit x.item
-        → (r : Result Outcome Error) → Keeps kept kept' (found_at_failure selection job group counts' (at_command (Some culprit)) failure) r
+        → (r : Result Outcome Error) → Keeps kept kept' (found_at_failure selection job group counts' (fails_at (Some culprit)) failure) r
         → Ended rendering (StartsWith x) old old kept kept' r
     item_fails found finding is steps goes failure failure_is culprit named r told =
         let halts : HasRun ((item_of machine x.item).run any_panel) (Halts finding) counts counts' =
@@ -84,7 +84,7 @@ module _ (selection : Selection) (job : List ℕ) (group : Groups) (machine : Ma
         (found_at_failure selection job group counts' (at_item x.item) (found_at x.place 1 finding)) r
         (item_found selection job group machine counts counts' x finding halts (sym goes))
         (subst (λ (f : Failure). Keeps kept kept' (found_at_failure selection job group counts' (at_item x.item) f) r) failure_is
-        (subst (λ words. Keeps kept kept' (found_at_failure selection job group counts' words failure) r)
+        (subst (λ at. Keeps kept kept' (found_at_failure selection job group counts' at failure) r)
         (culprit_at_item culprit x.item named) told))
 
   -- ---- the end of the bytes
@@ -117,25 +117,25 @@ module _ (selection : Selection) (job : List ℕ) (group : Groups) (machine : Ma
     pub end_fails : (found : Option Finding) (finding : Finding) → found ≡ Some finding → Finishes machine counts counts' (Ok found) →
         false ≡ is_behind selection (open_page counts')
         → (failure : Failure) → failure ≡ found_at place 1 finding
-        → (r : Result Outcome Error) → Keeps kept kept' (found_at_failure selection job group counts' [] failure) r
+        → (r : Result Outcome Error) → Keeps kept kept' (found_at_failure selection job group counts' (fails_at None) failure) r
         → Ended rendering (λ reading. reading ≡ Whole [] place) old old kept kept' r
     end_fails found finding is finishes goes failure failure_is r told =
         let halts : HasRun ((end_of machine).run any_panel) (Halts finding) counts counts' =
         subst (λ f. Finishes machine counts counts' (Ok f)) is finishes in
-        kept_ended rendering IsEnd old kept kept' (found_at_failure selection job group counts' [] (found_at place 1 finding)) r
+        kept_ended rendering IsEnd old kept kept' (found_at_failure selection job group counts' (fails_at None) (found_at place 1 finding)) r
         (end_found selection job group machine counts counts' place finding halts (sym goes))
-        (subst (λ (f : Failure). Keeps kept kept' (found_at_failure selection job group counts' [] f) r) failure_is told)
+        (subst (λ (f : Failure). Keeps kept kept' (found_at_failure selection job group counts' (fails_at None) f) r) failure_is told)
 
 -- ---- a fault of the bytes
 
 pub fault_fails : (selection : Selection) (job : List ℕ) (group : Groups) (machine : MachineState) (counts : Counts) (old : OutletState)
     (kept kept' : List ℕ) (place : ℕ) (cause : LexCause) (failure : Failure) →
     failure ≡ fault_at place cause
-    → (r : Result Outcome Error) → Keeps kept kept' (found_at_failure selection job group counts [] failure) r
+    → (r : Result Outcome Error) → Keeps kept kept' (found_at_failure selection job group counts (fails_at None) failure) r
     → Ended (search_from selection job group machine counts) (λ reading. reading ≡ Stopped [] place cause) old old kept kept' r
 fault_fails selection job group machine counts old kept kept' place cause failure failure_is r told =
     let rendering : Rendering = search_from selection job group machine counts in
     kept_ended rendering (λ reading. reading ≡ Stopped [] place cause) old kept kept'
-    (found_at_failure selection job group counts [] (fault_at place cause)) r
+    (found_at_failure selection job group counts (fails_at None) (fault_at place cause)) r
     (record { due = λ reading is. ap rendering.text is; outcome_is = λ reading is. ap rendering.outcome is })
-    (subst (λ (f : Failure). Keeps kept kept' (found_at_failure selection job group counts [] f) r) failure_is told)
+    (subst (λ (f : Failure). Keeps kept kept' (found_at_failure selection job group counts (fails_at None) f) r) failure_is told)

@@ -1,5 +1,5 @@
 -- What is told of an item on a machine that knows its panel, and of the rest of the job.
-use Rattle.std.proofs.Common.{◌≡◌, ℕ, Bool, true, false, if◌then◌else◌, List, [], ◌∷◌, ◌++◌, refl, ap, sym, ◌∙◌, append-nil}
+use Rattle.std.proofs.Common.{◌≡◌, ℕ, Bool, true, false, if◌then◌else◌, List, [], ◌∷◌, ◌++◌, None, refl, ap, sym, ◌∙◌, append-nil}
 use Rattle.pcl_items.specs.declared.fault.LexCause.{LexCause}
 use Rattle.pcl_items.specs.Items.{Placed}
 use Rattle.pcl_lexer.specs.Reading.{Reading, Whole, Stopped, with_item}
@@ -24,6 +24,7 @@ use Rattle.renderings.specs.Carriers.Rendering.{RestGoesOn, EndsWith, StartsWith
 use Rattle.requests.specs.declared.selection.Selection.{Selection}
 use Rattle.requests.specs.Selection.{is_behind}
 use Rattle.job_reports.specs.Groups.{Groups}
+use Rattle.job_reports.specs.JobSentences.{FailsAt, fails_at}
 use Rattle.picture_command.specs.Carriers.{HasRun, rest_search, search_from}
 use Rattle.picture_command.specs.PageSearch.{Searched, at_item, behind_ending, found_at_end, found_at_failure, nothing_told}
 use Rattle.picture_command.specs.PageSearch.{open_page, reading_search, run_search, search_rendering}
@@ -50,9 +51,9 @@ has_run old new run ending took = record {
 module _ (selection : Selection) (job : List ℕ) (group : Groups) where
   -- ---- a run, and what follows
 
-  module _ (counts : Counts) (words : List ℕ) (place : ℕ) (next : Counts → State → Searched) where
+  module _ (counts : Counts) (at : FailsAt) (place : ℕ) (next : Counts → State → Searched) where
     abbrev failed : Counts → Finding → Searched
-    failed counts' finding = found_at_failure selection job group counts' words (found_at place 1 finding)
+    failed counts' finding = found_at_failure selection job group counts' at (found_at place 1 finding)
 
     abbrev by_ending : Counts → Ending → Bool → Searched
     by_ending counts' ending is_over = if is_over then nothing_told else (behind_ending ending (next counts') (failed counts'))
@@ -60,7 +61,7 @@ module _ (selection : Selection) (job : List ℕ) (group : Groups) where
     -- by what was counted and how it ended alone, where it is known whether more is searched for
     run_known : (r : Run) (ending : Ending) (counts' : Counts) (is_over : Bool) → HasRun r ending counts counts' →
         is_behind selection (open_page counts') ≡ is_over →
-        run_search selection job group counts words place r next ≡ by_ending counts' ending is_over
+        run_search selection job group counts at place r next ≡ by_ending counts' ending is_over
     run_known r ending counts' is_over has over =
         ap (λ (c : Counts). by_ending c r.ending (is_behind selection (open_page c))) (sym has.counts_are)
         ∙ (ap (λ e. by_ending counts' e (is_behind selection (open_page counts'))) has.ending_is
@@ -159,11 +160,11 @@ module _ (selection : Selection) (job : List ℕ) (group : Groups) where
 
       end_ended : (ending : Ending) (is_over : Bool) (found : Searched) → HasRun end_run ending counts counts' →
           is_behind selection (open_page counts') ≡ is_over
-          → by_ending counts [] place last counts' ending is_over ≡ found
+          → by_ending counts (fails_at None) place last counts' ending is_over ≡ found
           → EndsWith rendering (λ reading. reading ≡ Whole [] place) found.text found.outcome
       end_ended ending is_over found has over comes =
           let known : rest_search selection job group machine counts (Whole [] place) ≡ found =
-          run_known counts [] place last end_run ending counts' is_over has over ∙ comes in
+          run_known counts (fails_at None) place last end_run ending counts' is_over has over ∙ comes in
           record {
             due = λ reading is. ap rendering.text is ∙ ap (λ (s : Searched). s.text) known;
             outcome_is = λ reading is. ap rendering.outcome is ∙ ap (λ (s : Searched). s.outcome) known;
@@ -181,7 +182,7 @@ module _ (selection : Selection) (job : List ℕ) (group : Groups) where
       end_goes s has goes = end_ended (Done s) false at_end has goes refl
 
       abbrev end_failed : Finding → Searched
-      end_failed finding = found_at_failure selection job group counts' [] (found_at place 1 finding)
+      end_failed finding = found_at_failure selection job group counts' (fails_at None) (found_at place 1 finding)
 
       pub end_found : (finding : Finding) → HasRun end_run (Halts finding) counts counts' →
           is_behind selection (open_page counts') ≡ false →

@@ -1,6 +1,6 @@
 -- What is told of the pages of a job before they are drawn: whether the job fails on them, and whether it has them.
-use Rattle.std.specs.Prelude.{ℕ, ◌+◌, false, List, [], ◌∷◌, ◌++◌, codes, decimal, flat_map, length, get_or, Option}
-use Rattle.std.specs.Prelude.{None, Some, Ok, if◌then◌else◌}
+use Rattle.std.specs.Prelude.{ℕ, ◌+◌, false, List, [], ◌∷◌, ◌++◌, codes, decimal, flat_map, length, get_or, None}
+use Rattle.std.specs.Prelude.{Ok, if◌then◌else◌}
 use Rattle.pcl_items.specs.declared.fault.LexCause.{LexCause}
 use Rattle.pcl_items.specs.Spellings.Canon.{canon}
 use Rattle.pcl_items.specs.Escapes.Commands.{introducer_of, character_of, data_group_of, data_letter_of}
@@ -18,7 +18,6 @@ use Rattle.sinks.specs.declared.counts.Counts.{Counts}
 use Rattle.sinks.specs.Counts.{capped, counts_after, no_counts}
 use Rattle.verdict.specs.declared.failure.Failure.{Failure}
 use Rattle.verdict.specs.declared.verdict.Verdict.{Verdict}
-use Rattle.verdict.specs.declared.verdict.Verdict.TheVariants.{Pass, Fail}
 use Rattle.verdict.specs.Failing.{failing, fault_at, found_at}
 use Rattle.line_words.specs.Figures.{escaped_byte, named}
 use Rattle.renderings.specs.declared.outcome.Outcome.{Outcome}
@@ -30,7 +29,8 @@ use Rattle.requests.specs.declared.selection.Selection.TheVariants.{All, One}
 use Rattle.requests.specs.Selection.{is_behind, is_drawn}
 use Rattle.job_reports.specs.CommandWords.{code_words}
 use Rattle.job_reports.specs.Groups.{Groups}
-use Rattle.job_reports.specs.JobSentences.{named_first, reason_phrase, subject, verdict_phrase}
+use Rattle.job_reports.specs.JobSentences.{FailsAt, claim_by, fails_at, for_each, named_first, subject, verdict_phrase}
+use Rattle.job_reports.specs.LeftOut.{left_out_in}
 use Rattle.job_reports.specs.Reports.{number_told}
 
 -- ---- sentences
@@ -45,19 +45,15 @@ item_words (PjlLine line) = codes "@PJL"
 item_words item = flat_map code_words (canon item)
 
 -- where a failure at an item stands, behind its place
-abbrev pub at_item : Entry → List ℕ
-at_item item = codes ", " ++ item_words item
+abbrev pub at_item : Entry → FailsAt
+at_item item = record { words = codes ", " ++ item_words item; left_out = left_out_in item }
 
--- what stands behind the subject, where the failure stands so
-abbrev pub verdict_words : (at_words : List ℕ) → Verdict → List ℕ
-verdict_words at_words (Pass pages marks) = verdict_phrase None (Pass pages marks)
-verdict_words at_words (Fail place profile reason) =
-    named (codes " refuses this job at byte ") place ++ at_words ++ reason_phrase reason
-
--- the sentence on a verdict on the job of this name for these printers
-abbrev pub sentence : (job : List ℕ) → Groups → (at_words : List ℕ) → Verdict → List ℕ
-sentence job group at_words verdict =
-    named_first job ++ (subject group.names (number_told group.is_each (Ok verdict)) ++ verdict_words at_words verdict)
+-- the sentence on a verdict on the job of this name for these printers, where the failure stands so
+abbrev pub sentence : (job : List ℕ) → Groups → (at : FailsAt) → Verdict → List ℕ
+sentence job group at verdict =
+    named_first job
+    ++ (claim_by (subject group.names (number_told group.is_each (Ok verdict))) (for_each group.is_each group.names)
+    at.left_out (Ok verdict) ++ verdict_phrase at verdict)
     ++ 10 ∷ []
 
 -- the job does not have the page of this number, but so many
@@ -92,15 +88,15 @@ abbrev pub open_page : Counts → ℕ
 open_page counts = capped (counts.pages + 1)
 
 -- a failure, where so much was counted: on a page that is searched for, or before it, where the job does not have it
-abbrev pub found_at_failure : Selection → (job : List ℕ) → Groups → Counts → (at_words : List ℕ) → Failure → Searched
-found_at_failure selection job group counts at_words failure =
+abbrev pub found_at_failure : Selection → (job : List ℕ) → Groups → Counts → (at : FailsAt) → Failure → Searched
+found_at_failure selection job group counts at failure =
     if is_drawn selection (open_page counts)
     then (record {
-      text = sentence job group at_words (failing failure);
+      text = sentence job group at (failing failure);
       outcome = fails_with failure;
     })
     else (record {
-      text = missing_part selection job counts ++ sentence job group at_words (failing failure);
+      text = missing_part selection job counts ++ sentence job group at (failing failure);
       outcome = AllDone;
     })
 
@@ -119,13 +115,13 @@ behind_ending (Done t) next failed = next t
 behind_ending (Halts finding) next failed = failed finding
 
 -- of an item at a place, or of the end of the bytes, that ran so, and then what follows
-abbrev pub run_search : Selection → (job : List ℕ) → Groups → Counts → (at_words : List ℕ) → ℕ → Run →
+abbrev pub run_search : Selection → (job : List ℕ) → Groups → Counts → (at : FailsAt) → ℕ → Run →
     (Counts → State → Searched) → Searched
-run_search selection job group counts at_words place r next =
+run_search selection job group counts at place r next =
     let counts' = counts_after r.events counts in
     if is_behind selection (open_page counts') then nothing_told
     else (behind_ending r.ending (next counts') (λ finding.
-    found_at_failure selection job group counts' at_words (found_at place 1 finding)))
+    found_at_failure selection job group counts' at (found_at place 1 finding)))
 
 -- of items, and then what comes last
 abbrev pub items_search : Selection → (job : List ℕ) → Groups → Printer → Settings →
@@ -139,12 +135,12 @@ items_search selection job group printer defaults finally counts (x ∷ items) m
 
 abbrev pub end_search : Selection → (job : List ℕ) → Groups → Printer → Settings → ℕ → Counts → Store → State → Searched
 end_search selection job group printer defaults place counts macros s =
-    run_search selection job group counts [] place (job_end_run (with_macros printer defaults macros) s)
+    run_search selection job group counts (fails_at None) place (job_end_run (with_macros printer defaults macros) s)
     (λ counts' t. found_at_end selection job group counts')
 
 abbrev pub fault_search : Selection → (job : List ℕ) → Groups → ℕ → LexCause → Counts → Store → State → Searched
 fault_search selection job group place cause counts macros s =
-    found_at_failure selection job group counts [] (fault_at place cause)
+    found_at_failure selection job group counts (fails_at None) (fault_at place cause)
 
 -- of the items of a job and its end, or of the items before a fault and of the fault
 abbrev pub reading_search : Selection → (job : List ℕ) → Groups → Printer → Settings → Counts → Reading → Store →

@@ -5,7 +5,7 @@ ghost use Rattle.pcl_items.specs.declared.item.Mode.TheVariants.{Pcl};
 ghost use Rattle.pcl_items.specs.Modes.{follows};
 ghost use Rattle.pcl_items.specs.Items.{view};
 ghost use Rattle.device_profile.specs.Printer.{IsAllowed};
-ghost use Rattle.job_reports.specs.JobSentences.{at_command};
+ghost use Rattle.job_reports.specs.JobSentences.{fails_at};
 ghost use Rattle.requests.specs.Selection.{is_behind};
 ghost use Rattle.picture_command.specs.Carriers.{Finishes, Keeps, Steps, search_from};
 ghost use Rattle.picture_command.specs.PageSearch.{drawn_line, found_at_failure, missing_line};
@@ -140,7 +140,7 @@ impl<'p, 'n, B: Allocator + Copy> PageSearch<'p, 'n, B> {
     ) -> Result<(), AllocError>
         ensures { OnOk result (text.new.items ≡ text.old.items
             ++ sentence self.now.names.now.job.now self.now.names.now.printers.now
-            (at_command culprit) verdict) }
+            (fails_at culprit) verdict) }
     {
         let mut line = Vec::new(self.alloc);
         let report = Report {
@@ -206,7 +206,7 @@ impl<'p, 'n, B: Allocator + Copy> PageSearch<'p, 'n, B> {
     ) -> Result<Outcome, Error>
         ensures told { Keeps text.old.items text.new.items
             (found_at_failure self.now.selection self.now.names.now.job.now
-            self.now.names.now.printers.now self.now.counts (at_command culprit) failure) result }
+            self.now.names.now.printers.now self.now.counts (fails_at culprit) failure) result }
         ensures err { IfErr result (λ error. error ≡ Error.Memory) }
     {
         if self.selection.is_drawn(self.open_page()) {

@@ -27,6 +27,8 @@ pub struct ManyWords<'a> {
     pub tells_notes: bool,
     /// A FAIL counts as a PASS.
     pub exit_zero: bool,
+    /// So does one by which pclcheck alone says no.
+    pub passes_unchecked: bool,
     pub form: Form,
     /// A FAIL and a note get their explanations.
     pub explains: bool,

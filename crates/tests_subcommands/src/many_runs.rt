@@ -144,6 +144,7 @@ impl Manner {
             format,
             explanations: if self.explains { &EXPLANATIONS } else { &[] },
             exit_zero: false,
+            passes_unchecked: false,
         }
     }
 }
