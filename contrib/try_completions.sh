@@ -46,6 +46,7 @@ pclcheck check --exi|--exit-zero
 pclcheck list --h|--help
 pclcheck check --format w|words
 pclcheck check --format=js|--format=json
+pclcheck check --unchecked pa|pass
 pclcheck check -p @|@A
 pclcheck check -p fro|front_desk.profile
 pclcheck check --fleet sho|shop.fleet

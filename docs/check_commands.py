@@ -4,7 +4,8 @@
 The table of commands has exactly the commands that the lexer knows, those of frames among them,
 each once; the table of macro controls has exactly the values and names of the code's; the table of
 faults and findings has exactly the numbers and names that the program writes, and the sentences of
-what the command `explain` writes of each; so has the table of notes; each finding that the tables
+what the command `explain` writes of each, with the kind that the code has; so has the table of
+notes; each finding that the tables
 of commands and of controls name is one of these; the findings of a step are in the order of the
 definition; and FINDINGS.md has a heading for each. What differs is printed, and the status is 1.
 """
@@ -27,6 +28,7 @@ NAMES = ROOT / "crates" / "line_words" / "src" / "words.rt"
 ORDER = ROOT / "crates" / "page_env" / "specs" / "Order.antt"
 CAUSES = ROOT / "docs" / "FINDINGS.md"
 NOTES = ROOT / "crates" / "notes" / "src" / "note.rt"
+KINDS = ROOT / "crates" / "job_reports" / "src" / "kind.rt"
 EXPLANATIONS = ROOT / "crates" / "meanings" / "src" / "explanations.rt"
 
 # The kinds of items that stand in no table of bytes, as the table of commands writes them.
@@ -145,6 +147,28 @@ def findings_of_code():
     return [f"{number} {name_of[variant]}" for variant, number in numbers]
 
 
+def kinds_of_code():
+    """The kind of each fault and finding, by its name; of one whose kind goes by more than it, the
+    call that tells it."""
+    variant = r"(?:LexCause|Finding|Reason)::(\w+)(?:\(_\))?"
+    found = re.findall(rf"^ +{variant} => (?:Kind::)?(\w+)(?:\(\w+\))?,$",
+                       KINDS.read_text(encoding="utf-8"), re.MULTILINE)
+    return {name: kind.lower() for name, kind in found}
+
+
+def kind_differences(rows, column):
+    """The findings whose column does not begin with the kind that the code has."""
+    kinds = kinds_of_code()
+    lines = []
+    for row in rows:
+        name = row[0].split()[-1]
+        if name not in kinds:
+            lines.append(f"{KINDS.relative_to(ROOT)} has no kind of {name}")
+        elif re.match(r"\w+", row[column])[0] != kinds[name] != "value_kind":
+            lines.append(f"the kind of {row[0]} is {kinds[name]} in the code")
+    return lines
+
+
 def notes_of_code():
     """The numbers and names of notes that the program writes, as `101 OpenStart`."""
     text = NOTES.read_text(encoding="utf-8")
@@ -156,24 +180,24 @@ def notes_of_code():
 
 
 def explanations_of_code():
-    """What `explain` writes of each fault and finding, its number and name, and three texts; and of
-    each note, with four."""
+    """What `explain` writes of each fault and finding, its number and name, and four texts; and of
+    each note, where the second is of what a printer may do, and not of who says no."""
     code = EXPLANATIONS.read_text(encoding="utf-8")
     table = re.search(r"EXPLANATIONS: \[&str; (\d+)\] = \[\n(.*)\];", code, re.DOTALL)
     found = re.findall(
         r'^    "\\\n(\d+ \w+)\n'
-        r'  When: +(.*?)\n(?:  Printer: +(.*?)\n)?  Change: +(.*?)\n  Manual: +(.*?)\n",$',
+        r'  When: +(.*?)\n  (Kind|Printer): +(.*?)\n  Change: +(.*?)\n  Manual: +(.*?)\n",$',
         table.group(2) if table else "",
         re.MULTILINE | re.DOTALL,
     )
     if not found or len(found) != int(table.group(1)):
         where = EXPLANATIONS.relative_to(ROOT)
         raise Unreadable(f"{where} has no explanations in the form that is read")
-    plain = [
-        (title, *(" ".join(text.replace(r'\"', '"').split()) for text in texts if text))
-        for title, *texts in found
-    ]
-    return [one for one in plain if len(one) == 4], [one for one in plain if len(one) == 5]
+    plain = {"Kind": [], "Printer": []}
+    for title, when, second, *texts in found:
+        texts = (" ".join(text.replace(r'\"', '"').split()) for text in (when, *texts))
+        plain[second].append((title, *texts))
+    return plain["Kind"], plain["Printer"]
 
 
 def text_differences(explanations, rows, columns):
@@ -267,7 +291,9 @@ def main():
         lines += heading_differences(known)
         lines += order_differences()
         lines += differences("the explanation of", [title for title, *_ in explanations], titles)
-        lines += text_differences(explanations, findings, ("When", "What to change", "The manual"))
+        columns = ("When", "Kind", "What to change", "The manual")
+        lines += text_differences(explanations, findings, columns)
+        lines += kind_differences(findings, 2)
         lines += differences("the note", notes_of_code(), note_titles)
         noted = [title for title, *_ in note_explanations]
         lines += differences("the explanation of", noted, note_titles)

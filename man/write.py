@@ -30,9 +30,9 @@ def filled(text):
     return "\n".join(rf"\&{line}" if line.startswith(".") else line for line in lines)
 
 
-def entry(title, texts):
-    """The entry of a finding, or of a note, which also tells what a printer may do."""
-    heads = ("", "Printer: ", "Change: ") if len(texts) == 4 else ("", "Change: ")
+def entry(title, second, texts):
+    """The entry of a finding, or of a note, whose second part is of one or the other."""
+    heads = ("", second, "Change: ")
     parts = [filled(head + text) for head, text in zip(heads, texts)]
     return f".TP\n.B {title}\n" + "\n.IP\n".join(parts) + "\n"
 
@@ -40,8 +40,8 @@ def entry(title, texts):
 def written(page):
     """The page with these entries."""
     text = page
-    for explanations in explanations_of_code():
-        entries = "".join(entry(title, texts) for title, *texts in explanations)
+    for second, explanations in zip(("Kind: ", "Printer: "), explanations_of_code()):
+        entries = "".join(entry(title, second, texts) for title, *texts in explanations)
         first = explanations[0][0]
         begin = text.index(f".TP\n.B {first}\n")
         end = re.compile(r"^\.(?:PP|SH|SS)", re.MULTILINE).search(text, begin).start()

@@ -132,6 +132,8 @@ complete -c pclcheck -n '__pclcheck_at check' -l format -x -a 'line words json' 
 complete -c pclcheck -n '__pclcheck_at check' -l explain \
     -d "Tells of each FAIL and note what 'pclcheck explain' tells of its number"
 complete -c pclcheck -n '__pclcheck_at check' -l exit-zero -d 'Ends with 0 where a job fails, too'
+complete -c pclcheck -n '__pclcheck_at check' -l unchecked -x -a 'fail pass' \
+    -d 'How a job counts that pclcheck cannot judge'
 complete -c pclcheck -n __pclcheck_at_profile -a '(__pclcheck_samples)' -d sample
 
 complete -c pclcheck -n '__pclcheck_at pages' -a '(__pclcheck_samples)' -d sample

@@ -20,7 +20,7 @@ pub const EXPLANATION: &str = "Examples:
       a line for each job and printer, with the verdict for that printer alone
   pclcheck check -f shop.fleet --format words a.pcl b.pcl
       a.pcl: each printer prints this job (pages=1 marks=16)
-      b.pcl: desk refuses this job at byte 0, ESC *b1Y: no raster is started (25 RasterNotStarted)
+      b.pcl: this job is wrong at byte 9: a macro definition is still open (24 DefinitionOpen)
   pclcheck check -f shop.fleet --format json a.pcl
       {\"job\":\"a.pcl\",\"marks\":16,\"pages\":1,\"verdict\":\"PASS\"}
   pclcheck check -f shop.fleet --explain c.pcl
@@ -28,6 +28,7 @@ pub const EXPLANATION: &str = "Examples:
       24 DefinitionOpen
         When:    ESC E, the universal exit, the macro control 0 or the end of the
                  bytes comes while a macro definition is open.
+        Kind:    wrong: no printer does this as it stands
         Change:  End the definition before it by ESC &f1X.
         Manual:  \"Macros\", Macro Control
   pclcheck check -f shop.fleet --notes d.pcl
@@ -36,6 +37,8 @@ pub const EXPLANATION: &str = "Examples:
       what a job that passes leaves to the printer; each job is read twice, so none can be a pipe
   pclcheck check -f shop.fleet --exit-zero a.pcl b.pcl
       for a script that reads the lines: a status other than 0 says that a verdict is missing
+  pclcheck check -f shop.fleet --unchecked pass a.pcl b.pcl
+      a job that pclcheck cannot judge counts as 0: printers may take what it does not check
   pclcheck check -f shop.fleet --most-items 1000000 a.pcl b.pcl
       a job is given up whose macros would carry out more items, so that none holds a queue
   find . -name '*.pcl' -print0 | pclcheck check -f shop.fleet --files0-from -
@@ -52,8 +55,8 @@ Output of check, one line:
   profile=  the printer's number among the words, from 1;
             0: the bytes themselves are wrong, whatever the printer
 
-With -p, -f, --most-items, --each, --notes, --format, --explain or --exit-zero, a line for each job,
-in the order of the words:
+With -p, -f, --most-items, --each, --notes, --format, --explain, --exit-zero or --unchecked, a line
+for each job, in the order of the words:
   PASS pages=N marks=N JOB
   FAIL at=N printer=NAME FINDING JOB  NAME by its profile; no printer= where the bytes are wrong
   ERROR read JOB: WHY                 the job could not be read; those behind it are checked
@@ -66,11 +69,19 @@ in the order of the words:
   With --each, printer=NAME stands in each line, and notes are for that printer. In JOB a byte that
   shows nothing and the backslash are \\x and two digits.
 
-  --format words: a sentence for the line, of at most 1,000 bytes; of a long JOB it has the end.
+  --format words: a sentence for the line, of at most 1,000 bytes; of a long JOB it has the end. It
+  tells who says no: a printer refuses the job, or the job is wrong, or pclcheck cannot judge it.
   --format json: an object with job and verdict; of a PASS pages and marks; of a FAIL at, profile,
-  printer, code, finding, field, command and explanation; of an ERROR error and cause. Below a PASS
-  an object for each note with job, printer, at, code, note and explanation. In job each backslash
-  is doubled; a JOB that is no UTF-8 text stands there as in a line.
+  printer, code, finding, field, kind, command and explanation; of an ERROR error and cause. Below
+  a PASS an object for each note with job, printer, at, code, note and explanation. In job each
+  backslash is doubled; a JOB that is no UTF-8 text stands there as in a line.
+
+  kind tells who says no:
+  unchecked  pclcheck, which does not check this; printers may take it
+  wrong      no printer does this as it stands
+  printer    this printer, by its profile; another one may take it
+  panel      nobody, but what prints depends on how the panel stands
+  differs    nobody, but two printers of the fleet print it otherwise
 
 On standard error, where there is no verdict:
   ERROR profile N LINE CAUSE  the text of printer N is refused at this line, or as a whole: 0;
@@ -93,7 +104,7 @@ Samples, small made-up printers for trying out:
 
 Exit status, of many jobs the greatest of theirs:
   0  the job passes, or an explanation, help or the version was asked for
-  1  the job fails (0 with --exit-zero)
+  1  the job fails (0 with --exit-zero, and with --unchecked pass where pclcheck cannot judge it)
   2  usage error, or a profile or a fleet that is refused, or a fleet that cannot be read
   3  a read or a write failed, memory ran out, no end after 2^40 reads, or too many items";
 

@@ -3,8 +3,9 @@ ghost use Rattle.std.specs.Prelude.{map};
 ghost use Rattle.meanings.specs.Explanations.{ExplainReasons};
 
 /// The faults of a job's bytes, the findings of a printer and the notes of a job, in the order of
-/// their numbers: for each its number and name, when it comes, of a note what a printer may do,
-/// what to change, and where HP's PCL 5 Printer Language Technical Reference Manual treats of it.
+/// their numbers: for each its number and name, when it comes, who says no, or of a note what a
+/// printer may do, what to change, and where HP's PCL 5 Printer Language Technical Reference Manual
+/// treats of it.
 ///
 /// `docs/DEFINITIONS.md` has the same sentences, and `docs/check_commands.py` compares the two.
 pub const EXPLANATIONS: [&str; 45] = [
@@ -15,6 +16,7 @@ pub const EXPLANATIONS: [&str; 45] = [
            byte comes with which no command begins or goes on, a letter that no
            letter follows, a comma that does not stand between two numbers, or
            a number without a digit.
+  Kind:    wrong: no printer does this as it stands
   Change:  Correct the sequence at this place. If it is none, look before it: a
            count of data that is too small or too large lets data be read as
            commands.
@@ -27,6 +29,7 @@ pub const EXPLANATIONS: [&str; 45] = [
   When:    The bytes of the job end within an escape sequence or its data,
            behind a small letter of a combined sequence, within a command of a
            frame, or within a PJL line.
+  Kind:    wrong: no printer does this as it stands
   Change:  Send the job to its end. If it is whole, correct the last count of
            data, end the last sequence by a capital letter, or end the PJL line
            by LF.
@@ -40,6 +43,7 @@ pub const EXPLANATIONS: [&str; 45] = [
            name stands in brackets: what is behind ESC without the value, or
            the two letters of a command of a frame; a byte that shows nothing
            is x and two digits to base 16.
+  Kind:    unchecked: pclcheck does not check it, and printers may take it
   Change:  Take it out, or write the job with the commands of the README. The
            others work differently on different printers, or depend on what is
            left by earlier jobs.
@@ -53,6 +57,7 @@ pub const EXPLANATIONS: [&str; 45] = [
            not whole, is negative, or is past 32767. In a frame also: a number
            is too many, a coordinate lacks its second one, is not whole, or is
            past 8388607, or a number of SP or PW is negative.
+  Kind:    unchecked: pclcheck does not check it, and printers may take it
   Change:  Write the number within these limits. Split longer data over several
            commands, and give coordinates in pairs.
   Manual:  \"Introduction to HP Printer Languages\", escape sequence syntax; \"An
@@ -64,6 +69,7 @@ pub const EXPLANATIONS: [&str; 45] = [
            none of these: @PJL in capitals alone, or with COMMENT and a text,
            JOB with NAME or DISPLAY, EOJ with at most one NAME, or ENTER
            LANGUAGE=PCL. Or such a line has more than 1024 bytes with its LF.
+  Kind:    unchecked: pclcheck does not check it, and printers may take it
   Change:  Correct the line or take it out. What @PJL SET would set, which is
            the control panel's, the job sets by commands of its own.
   Manual:  \"PCL Job Control Commands\", Universal Exit Language; the lines are
@@ -73,6 +79,7 @@ pub const EXPLANATIONS: [&str; 45] = [
 6 EndInFrame
   When:    The bytes end between the commands of a frame: the job does not
            leave HP-GL/2 mode.
+  Kind:    wrong: no printer does this as it stands
   Change:  Leave the frame behind its last command, by ESC %0A or ESC %1A, or
            end the job by ESC E.
   Manual:  \"The Picture Frame\", Enter PCL Mode
@@ -83,6 +90,9 @@ pub const EXPLANATIONS: [&str; 45] = [
            decimals where it has to be whole, or a minus stands before it where
            the command is neither a move nor ESC (s#B. ESC *c2P and ESC *c3P
            need a fill id from 1 to 100 and from 1 to 6.
+  Kind:    unchecked where HP's manual has the value and pclcheck does not
+           check it, as ESC (s1P, ESC *b2M and decimals, or where a macro has
+           it; else wrong: no printer takes it
   Change:  Give the command a value that it takes. Send rasters without
            compression, which is ESC *b0M, and choose fonts of fixed pitch,
            ESC (s0P.
@@ -92,6 +102,7 @@ pub const EXPLANATIONS: [&str; 45] = [
 11 NotOnDevice
   When:    The command takes this value, and the printer does not have it: no
            page of this size or this orientation, no such tray, or no duplex.
+  Kind:    printer: its profile says no, and another printer may take it
   Change:  Choose a size, an orientation, a tray or sides that each printer
            has, or print elsewhere. If the printer does have it, add it to its
            profile: geometry, trays or duplex.
@@ -104,6 +115,7 @@ pub const EXPLANATIONS: [&str; 45] = [
            brackets, which the job has not set since the last return to user
            defaults and for which the profile allows two or more values. What
            prints would depend on the panel.
+  Kind:    panel: what prints depends on it
   Change:  Set it in the job, behind ESC E and before this place: Size by
            ESC &l#A, Orientation by ESC &l#O, Vmi by ESC &l#C or ESC &l#D and
            behind the orientation, which unsets it, Font by the symbol set and
@@ -119,6 +131,7 @@ pub const EXPLANATIONS: [&str; 45] = [
            parts of the request: symbol set, spacing, pitch, height, style,
            stroke weight and typeface. Parts that the job did not set are those
            of the panel's font.
+  Kind:    printer: its profile says no, and another printer may take it
   Change:  Ask for a face that each printer has, in all seven parts. If the
            printer does have it, add it to its profile as a face.
   Manual:  \"PCL Font Selection\", Symbol Set, Spacing, Pitch, Height, Style,
@@ -128,6 +141,7 @@ pub const EXPLANATIONS: [&str; 45] = [
 14 NoGlyph
   When:    A byte other than the space is printed as text, and the face in
            force has no character of this code.
+  Kind:    printer: its profile says no, and another printer may take it
   Change:  Leave the byte out, or choose a face or a symbol set that has it. If
            the printer's face does have it, add its code to the face of the
            profile.
@@ -141,6 +155,7 @@ pub const EXPLANATIONS: [&str; 45] = [
            the place behind a character or a space that begins at or right of
            the right margin, the place below a row or a skip of a raster, or
            the pen's where the frame is left with ESC %1A.
+  Kind:    printer: its profile says no, and another printer may take it
   Change:  Keep within the logical page of the size and the orientation in
            force. See that a move has a sign only where it is to go from the
            cursor, and that a vertical one without a sign counts from the top
@@ -153,6 +168,7 @@ pub const EXPLANATIONS: [&str; 45] = [
   When:    A character or a space begins left of the right margin and leads
            past it. Where the job sets no right margin, it is the right edge of
            the logical page.
+  Kind:    printer: its profile says no, and another printer may take it
   Change:  Begin a new line before it, move the right margin by ESC &a#M or
            ESC 9, or print narrower columns by ESC &k#H.
   Manual:  \"Page Control Commands\", Right Margin, Clear Horizontal Margins
@@ -162,6 +178,7 @@ pub const EXPLANATIONS: [&str; 45] = [
   When:    A mark does not lie inside the printable area of its page, edges
            allowed: a character, a rectangle, a row of a raster, or a line of a
            frame with the width of its pen.
+  Kind:    printer: its profile says no, and another printer may take it
   Change:  Move it or make it smaller, so that the printable area of each
            printer holds it. The profile's geometry has that area, for each
            size and orientation.
@@ -170,6 +187,7 @@ pub const EXPLANATIONS: [&str; 45] = [
     "\
 18 StackFull
   When:    ESC &f0S would push a cursor where 20 are pushed.
+  Kind:    wrong: no printer does this as it stands
   Change:  Pop by ESC &f1S what was pushed, before more is.
   Manual:  \"Cursor Positioning\", Push/Pop Cursor Position
 ",
@@ -177,6 +195,7 @@ pub const EXPLANATIONS: [&str; 45] = [
 19 StackEmpty
   When:    ESC &f1S would pop a cursor where none is pushed. ESC E empties the
            stack, and an overlay begins with an empty one of its own.
+  Kind:    wrong: no printer does this as it stands
   Change:  Push by ESC &f0S before each pop, behind the last reset and in the
            same overlay.
   Manual:  \"Cursor Positioning\", Push/Pop Cursor Position
@@ -186,6 +205,7 @@ pub const EXPLANATIONS: [&str; 45] = [
   When:    A macro control 2, 3, 4 or 8 (execute, call, enable as overlay,
            delete) comes where the id in force has no macro, or control 1, the
            end of a definition, where none is open.
+  Kind:    wrong: no printer does this as it stands
   Change:  Define the macro in this job before it is used, and set its id by
            ESC &f#Y before the control. ESC E deletes all macros, and those of
            earlier jobs do not count.
@@ -197,6 +217,7 @@ pub const EXPLANATIONS: [&str; 45] = [
            one that the job begins is at level 1, one that a macro begins is a
            level deeper. Or a page is closed with an overlay enabled, and that
            depth is 0.
+  Kind:    printer: its profile says no, and another printer may take it
   Change:  Write the inner macro out in the outer one. If the printer does nest
            deeper, correct depth in its profile.
   Manual:  \"Macros\", Macro Control
@@ -207,6 +228,7 @@ pub const EXPLANATIONS: [&str; 45] = [
            memory of the printer's profile. Items count as many bytes as their
            one spelling has, which 'pclcheck list' shows: a command of a
            combined sequence counts with its ESC and its group.
+  Kind:    printer: its profile says no, and another printer may take it
   Change:  Make the macros shorter, or delete by ESC &f8X those that are not
            needed any more. If the printer does have more, correct memory in
            its profile.
@@ -218,6 +240,7 @@ pub const EXPLANATIONS: [&str; 45] = [
            (4 to 8). Or in a call or an overlay, or deeper in one, the paper is
            chosen (ESC &l#A, ESC &l#O, ESC &l#S, ESC &l#H). Or a page is closed
            in an overlay.
+  Kind:    wrong: no printer does this as it stands
   Change:  Do this in the job, before or behind the macro. A macro that chooses
            the paper can be executed by ESC &f2X in place of a call.
   Manual:  \"Macros\", Macro Control
@@ -226,6 +249,7 @@ pub const EXPLANATIONS: [&str; 45] = [
 24 DefinitionOpen
   When:    ESC E, the universal exit, the macro control 0 or the end of the
            bytes comes while a macro definition is open.
+  Kind:    wrong: no printer does this as it stands
   Change:  End the definition before it by ESC &f1X.
   Manual:  \"Macros\", Macro Control
 ",
@@ -234,6 +258,7 @@ pub const EXPLANATIONS: [&str; 45] = [
   When:    A row ESC *b#W or a skip ESC *b#Y comes where no raster is started.
            All items but those of ESC *t, ESC *r and ESC *b end a raster: text,
            control codes and cursor moves, too.
+  Kind:    unchecked: pclcheck does not check it, and printers may take it
   Change:  Start a raster by ESC *r0A or ESC *r1A before the row, and send
            nothing else between its rows.
   Manual:  \"Raster Graphics\", Start Raster Graphics, Transfer Raster Data by
@@ -244,6 +269,7 @@ pub const EXPLANATIONS: [&str; 45] = [
   When:    A start of a raster, or its resolution, width, height or
            presentation (ESC *r#A, ESC *t#R, ESC *r#S, ESC *r#T, ESC *r#F),
            comes while a raster is started.
+  Kind:    wrong: no printer does this as it stands
   Change:  Set these before the start, and end the raster before by ESC *rB or
            ESC *rC.
   Manual:  \"Raster Graphics\", Start Raster Graphics, End Raster Graphics
@@ -252,6 +278,7 @@ pub const EXPLANATIONS: [&str; 45] = [
 27 RasterTooBig
   When:    A black pixel lies at or past the width that the job set for
            rasters, or a row or a skip goes past the height.
+  Kind:    wrong: no printer does this as it stands
   Change:  Set the width by ESC *r#S and the height by ESC *r#T as large as the
            raster is, or send no more than that.
   Manual:  \"Raster Graphics\", Raster Width, Raster Height
@@ -260,6 +287,7 @@ pub const EXPLANATIONS: [&str; 45] = [
 28 NoPen
   When:    A line is drawn where pen 0 is selected, as it is until SP1 and
            behind IN. A pen that is lowered draws a line of no length, too.
+  Kind:    wrong: no printer does this as it stands
   Change:  Select the pen by SP1 before it is lowered, or raise it by PU for
            moves.
   Manual:  \"The Line and Fill Attributes Group\", Select Pen
@@ -269,6 +297,7 @@ pub const EXPLANATIONS: [&str; 45] = [
   When:    A line has an end that is not in the picture frame, edges allowed;
            or the pen goes further than 8388607 plotter units from the origin
            along an axis.
+  Kind:    wrong: no printer does this as it stands
   Change:  Keep the drawing in the frame, or make the frame larger by ESC *c#X
            and ESC *c#Y, with its upper left corner set by ESC *c0T. It is as
            wide as the logical page and reaches from half an inch below its
@@ -280,6 +309,7 @@ pub const EXPLANATIONS: [&str; 45] = [
 30 EmptyRectangle
   When:    ESC *c#P comes where the width or the height of rectangles is 0, as
            both are until the job sets them.
+  Kind:    wrong: no printer does this as it stands
   Change:  Set both before it: the width by ESC *c#A or ESC *c#H, the height by
            ESC *c#B or ESC *c#V.
   Manual:  \"PCL Rectangular Area Fill Graphics\", Horizontal Rectangle Size,
@@ -290,6 +320,7 @@ pub const EXPLANATIONS: [&str; 45] = [
   When:    A move by columns or rows (ESC &a#C, ESC &a#R) goes a distance that
            is no whole number of ticks, of which an inch has 36576000000: its
            value and the HMI or the VMI have too many decimals together.
+  Kind:    unchecked: pclcheck does not check it, and printers may take it
   Change:  Give the value, the HMI or the VMI fewer decimals, or move by
            decipoints or PCL units.
   Manual:  \"Cursor Positioning\", Horizontal Cursor Positioning (Columns),
@@ -301,6 +332,7 @@ pub const EXPLANATIONS: [&str; 45] = [
            text length where the VMI is 0, or one that ends below the foot of
            the logical page; or a left or right margin past the right edge of
            the logical page, or with the left one not left of the right one.
+  Kind:    wrong: no printer does this as it stands
   Change:  Set the VMI before, and margins that lie on the logical page. Move
            the right margin first where both go right, the left one first where
            both go left.
@@ -313,6 +345,7 @@ pub const EXPLANATIONS: [&str; 45] = [
            printer that is named this item prints other marks than on the first
            one, or at another place, or ends the page with another size,
            orientation, sides, tray or number of copies.
+  Kind:    differs: two printers of the fleet print it otherwise
   Change:  Set in the job what the two panels choose differently. If the faces
            or the pages of the printers differ themselves, use those that are
            the same on both, or print on one of them.
@@ -323,6 +356,7 @@ pub const EXPLANATIONS: [&str; 45] = [
   When:    A raster is started with the presentation 3, along the width of the
            physical page, in an orientation other than 0. The presentation is 3
            until the job sets it.
+  Kind:    unchecked: pclcheck does not check it, and printers may take it
   Change:  Send ESC *r0F before the start, so that the raster lies as the
            logical page does, or print in portrait.
   Manual:  \"Raster Graphics\", Raster Graphics Presentation
@@ -332,6 +366,7 @@ pub const EXPLANATIONS: [&str; 45] = [
   When:    A job is pinned that has ESC (3@, which returns to the font of the
            panel, or ESC &f4X, which enables an overlay: it begins with what
            the panel has.
+  Kind:    wrong: there is no pinned job; no check finds it
   Change:  Leave the item out: ask for the font by its seven parts, or execute
            or call the macro on each page.
   Manual:  \"PCL Font Selection\", Default Font; \"Macros\", Enable Macro for
@@ -343,6 +378,7 @@ pub const EXPLANATIONS: [&str; 45] = [
            of the job as are allowed. Each item of a macro counts each time, in
            an overlay, too. Only where their number is limited, as by check
            --most-items.
+  Kind:    printer; but in a check it is an error, and no FAIL
   Change:  Send what macros repeat as items of the job, or fewer macros that
            call others; or allow more items.
   Manual:  \"Macros\", Macro Control

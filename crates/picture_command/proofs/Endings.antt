@@ -122,7 +122,8 @@ module _ (selection : Selection) (job : List ℕ) (group : Groups) (machine : Ma
     end_fails found finding is finishes goes failure failure_is r told =
         let halts : HasRun ((end_of machine).run any_panel) (Halts finding) counts counts' =
         subst (λ f. Finishes machine counts counts' (Ok f)) is finishes in
-        kept_ended rendering IsEnd old kept kept' (found_at_failure selection job group counts' (fails_at None) (found_at place 1 finding)) r
+        kept_ended rendering IsEnd old kept kept'
+        (found_at_failure selection job group counts' (fails_at None) (found_at place 1 finding)) r
         (end_found selection job group machine counts counts' place finding halts (sym goes))
         (subst (λ (f : Failure). Keeps kept kept' (found_at_failure selection job group counts' (fails_at None) f) r) failure_is told)
 
