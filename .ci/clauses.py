@@ -98,11 +98,12 @@ def trait_of(text: str, clause: Clause) -> str | None:
 
 
 def went(goal: str, clause: Clause) -> bool:
-    """Whether a goal of the function, or of a cycle with it, went with its clauses."""
+    """Whether a goal of the function, or of a cycle with it, went with its clauses: one of these
+    at a return, or all clauses there at once."""
     own = goal.removeprefix(f"{clause.function}-")
-    is_lone = clause.names == ("ensures",)
+    is_whole = clause.names == ("ensures",) or "-clause-" not in own
     return own.startswith("returns") and (
-        is_lone or own.endswith(tuple(f"-clause-{name}" for name in clause.names)))
+        is_whole or own.endswith(tuple(f"-clause-{name}" for name in clause.names)))
 
 
 def answer_files(folder: Path, text: str, clause: Clause) -> list[Path]:

@@ -6,3 +6,4 @@ mod ReadAgain
 mod SameRuns
 mod PinnedReading
 mod PinnedVerdicts
+mod ClosingsFacts

@@ -11,8 +11,14 @@ ghost use Rattle.pcl_spelling.specs.Laws.{HasCanon, IsOneUnit};
 ghost use Rattle.device_profile.specs.declared.panel.Panel.{Panel};
 ghost use Rattle.device_profile.specs.Printer.{CanBeSetTo, Printer};
 ghost use Rattle.page_env.specs.Pinned.{is_unpinnable};
+ghost use Rattle.page_env.specs.Settings.{State};
+ghost use Rattle.page_env.specs.Table.{transition_of};
+ghost use Rattle.page_machine.specs.declared.nesting.Nesting.{Nesting};
 ghost use Rattle.page_machine.specs.Job.{plain_run};
 ghost use Rattle.page_machine.specs.Laws.{IsSet};
+ghost use Rattle.page_machine.specs.Macros.{MacroContext};
+ghost use Rattle.page_machine.specs.Run.{Conditions};
+ghost use Rattle.promises.specs.Closings.{ClosesInOrder, FixesInOrder};
 ghost use Rattle.promises.specs.Laws.{HasOneRun, HaveOnePlainText, IsPinned, IsReadAgain};
 ghost use Rattle.promises.specs.Laws.{PartPasses, RunAlike};
 ghost use Rattle.renderings.specs.Pins.{pinned_rendering};
@@ -106,3 +112,13 @@ pub fn pinned_job_prints_alike()
 {
     pinned_jobs_print_alike();
 }
+
+/// What is found where a page is closed stands in the one order of findings: 21, 23 and 12 of the
+/// closing, which is a step of its own; and before it, behind the checks of an item that sets the
+/// paper, 23 where the paper is fixed.
+pub fn closings_are_in_order()
+    ensures closings { (context : MacroContext) (nesting : Nesting) (s : State) →
+        ClosesInOrder context nesting s }
+    ensures papers { (printer : Printer) (conditions : Conditions) (s : State) (item : Entry) →
+        FixesInOrder conditions s (transition_of printer conditions.defaults s item) }
+{}
