@@ -7,3 +7,4 @@ mod SameRuns
 mod PinnedReading
 mod PinnedVerdicts
 mod ClosingsFacts
+mod StartedRastersFacts

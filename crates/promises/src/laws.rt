@@ -1,4 +1,4 @@
-//! Laws of spellings, of verdicts and of texts.
+//! Laws of spellings, of steps, of verdicts and of texts.
 
 ghost use Rattle.std.specs.Prelude.{◌≡◌, ◌↔◌, ℕ, List, Option, Some, false};
 ghost use Rattle.std.specs.List.{AllByRecursion};
@@ -11,7 +11,7 @@ ghost use Rattle.pcl_spelling.specs.Laws.{HasCanon, IsOneUnit};
 ghost use Rattle.device_profile.specs.declared.panel.Panel.{Panel};
 ghost use Rattle.device_profile.specs.Printer.{CanBeSetTo, Printer};
 ghost use Rattle.page_env.specs.Pinned.{is_unpinnable};
-ghost use Rattle.page_env.specs.Settings.{State};
+ghost use Rattle.page_env.specs.Settings.{Settings, State};
 ghost use Rattle.page_env.specs.Table.{transition_of};
 ghost use Rattle.page_machine.specs.declared.nesting.Nesting.{Nesting};
 ghost use Rattle.page_machine.specs.Job.{plain_run};
@@ -21,6 +21,7 @@ ghost use Rattle.page_machine.specs.Run.{Conditions};
 ghost use Rattle.promises.specs.Closings.{ClosesInOrder, FixesInOrder};
 ghost use Rattle.promises.specs.Laws.{HasOneRun, HaveOnePlainText, IsPinned, IsReadAgain};
 ghost use Rattle.promises.specs.Laws.{PartPasses, RunAlike};
+ghost use Rattle.promises.specs.StartedRasters.{RastersHavePlaces};
 ghost use Rattle.renderings.specs.Pins.{pinned_rendering};
 ghost use Rattle.streams.specs.Pieces.{ByReads, HasEnd};
 ghost use Rattle.streams.specs.Source.{SourceState};
@@ -121,4 +122,10 @@ pub fn closings_are_in_order()
         ClosesInOrder context nesting s }
     ensures papers { (printer : Printer) (conditions : Conditions) (s : State) (item : Entry) →
         FixesInOrder conditions s (transition_of printer conditions.defaults s item) }
+{}
+
+/// A raster that is started has a vertical place: each item but those of rasters ends it, and
+/// starts none, and each of rasters leaves it one. So its rows and skips read no VMI.
+pub fn started_rasters_have_places()
+    ensures { (printer : Printer) (defaults : Settings) → RastersHavePlaces printer defaults }
 {}
