@@ -1,5 +1,6 @@
 -- A raster that is started has a vertical place.
-use Rattle.std.proofs.Common.{◌≡◌, ◌==◌, ℕ, ℤ, Bool, true, false, cond, List, [], ◌∷◌, Option, Some, None, refl}
+use Rattle.std.proofs.Common.{◌≡◌, ◌==◌, ℕ, ℤ, Bool, true, false, cond, List, [], ◌∷◌, Option, Some, None, refl, sym}
+use Rattle.std.proofs.lemmas.Bool.{false≢true}
 use Rattle.std.specs.Prelude.{option_map}
 use Rattle.pcl_items.specs.declared.pcl.command.Command.{Command}
 use Rattle.pcl_items.specs.declared.pcl.command.Command.TheVariants.{Sides, Source, PageSize, Orientation, CursorStack}
@@ -103,15 +104,15 @@ module _ (printer : Printer) (defaults : Settings) where
   command_none PageSize n r s e = (e, λ t k. k)
   command_none Orientation n r s e = (e, λ t k. k)
   command_none CursorStack n r s e = stack_none n s e
-  command_none RasterResolution n r s e = absurd cc
-  command_none StartRaster n r s e = absurd cc
-  command_none RasterWidth n r s e = absurd cc
-  command_none RasterHeight n r s e = absurd cc
-  command_none RasterPresentation n r s e = absurd cc
-  command_none EndRaster n r s e = absurd cc
-  command_none EndRasterAndMethod n r s e = absurd cc
-  command_none CompressionMethod n r s e = absurd cc
-  command_none RasterOffset n r s e = absurd cc
+  command_none RasterResolution n r s e = absurd (false≢true (sym r))
+  command_none StartRaster n r s e = absurd (false≢true (sym r))
+  command_none RasterWidth n r s e = absurd (false≢true (sym r))
+  command_none RasterHeight n r s e = absurd (false≢true (sym r))
+  command_none RasterPresentation n r s e = absurd (false≢true (sym r))
+  command_none EndRaster n r s e = absurd (false≢true (sym r))
+  command_none EndRasterAndMethod n r s e = absurd (false≢true (sym r))
+  command_none CompressionMethod n r s e = absurd (false≢true (sym r))
+  command_none RasterOffset n r s e = absurd (false≢true (sym r))
   -- all others leave the raster alone
   command_none _ n r s e = e
 
@@ -135,7 +136,7 @@ module _ (printer : Printer) (defaults : Settings) where
   item_none (Set setting n) r s e = setting_none printer setting n s e
   item_none (Move motion to) r s e = motion_none printer motion s e
   item_none (WithData TransparentText bytes) r s e = e
-  item_none (WithData RasterRow bytes) r s e = absurd cc
+  item_none (WithData RasterRow bytes) r s e = absurd (false≢true (sym r))
   item_none (PjlLine line) r s e = e
 
 -- ---- items of rasters
@@ -161,13 +162,13 @@ module _ (printer : Printer) (defaults : Settings) where
   command_placed EndRasterAndMethod n r s h = tt
   command_placed StartRaster n r s h = tt
   command_placed RasterOffset n r s h = rows_placed s (whole_of n)
-  command_placed _ n r s h = absurd cc
+  command_placed _ n r s h = absurd (false≢true r)
 
   item_placed : (item : Entry) → is_of_raster item ≡ true → (s : State) → HasPlace s → LeavesPlace (transition_of printer defaults s item)
   item_placed (Parameterized command n) r s h = command_placed command n r s h
   item_placed (WithData RasterRow bytes) r s h = rows_placed s 1
-  item_placed (WithData TransparentText bytes) r s h = absurd cc
-  item_placed _ r s h = absurd cc
+  item_placed (WithData TransparentText bytes) r s h = absurd (false≢true r)
+  item_placed _ r s h = absurd (false≢true r)
 
 -- what is read where a started raster has a place
 page_alone : (o : Option StartedRaster) (y : Option ℤ) (raster : StartedRaster) → o ≡ Some raster → IsPlaced o y →
