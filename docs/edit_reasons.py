@@ -106,7 +106,7 @@ def refused_goals(said: prover.Said, edit: wrong_bodies.Edit) -> list[str]:
 def outcome(said: prover.Said, edit: wrong_bodies.Edit) -> str:
     if not said.is_proved and not said.is_refused:
         told = next((it for it in said.lines if prover.UNREAD.search(it)), said.lines[-1])
-        return f"not tried: {told[:120]}"
+        return f"not tried: {told[:120].replace('|', '/')}"
     goals = refused_goals(said, edit)
     return f"refused by {', '.join(goals)}" if goals else "proves"
 
