@@ -37,6 +37,9 @@ Known = dict[tuple[str, str], list[Clause]]
 Came = dict[tuple[str, str], str]
 
 NOT_PROVED = re.compile(r"note: (?:\./)?(\S+):(\d+):\d+: it is not proved .*\(`([^`]+)`\)")
+# What is told of a function itself, and not only since it calls one that is not proved.
+UNPROVED = re.compile(
+    r"fn (\S+): ((?:not proved|no proof)(?!.*(?:it calls|it passes|a call of)).*)")
 WRONG_ANSWER = re.compile(
     r"(?:note: )?(?:\./)?proofs/(\S+)/\w+\.antt:\d+:\d+: error: (?:`([^`]+)`)?")
 
@@ -89,7 +92,8 @@ def is_proof_of(folder: str, goal: str, function: wrong_bodies.Changed) -> bool:
 
 
 def refused_goals(said: prover.Said, edit: wrong_bodies.Edit) -> list[str]:
-    """The goals of the edited functions that a check refuses, each once."""
+    """The goals of the edited functions that a check refuses, each once, or what it tells of these
+    functions without a goal."""
     found = []
     for line in said.lines:
         if at := NOT_PROVED.match(line):
@@ -100,7 +104,10 @@ def refused_goals(said: prover.Said, edit: wrong_bodies.Edit) -> list[str]:
             goal = at[2] or ""
             is_own = any(is_proof_of(at[1], goal, it) for it in edit.functions)
             found += [f"`{goal}`" if goal else "an answer that names what is gone"] * is_own
-    return list(dict.fromkeys(found))
+    names = {it.name for it in edit.functions}
+    told = [at[2][:120].replace("|", "/") for at in map(UNPROVED.match, said.lines)
+            if at and at[1].rpartition("::")[2] in names]
+    return list(dict.fromkeys(found or told))
 
 
 def outcome(said: prover.Said, edit: wrong_bodies.Edit) -> str:
