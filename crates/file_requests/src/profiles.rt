@@ -11,7 +11,7 @@ use profile_commands::show::profile_show;
 use requests::Status;
 use std::io::Input;
 use std::rt::Files;
-use streams::{FileOutlet, Outlet};
+use streams::{FilesUsed, Outlet, OutletAt};
 
 /// Tells what is found in profiles.
 pub fn lint<R: Files + AllocGlobal, O: Outlet, E: Outlet>(
@@ -50,14 +50,18 @@ pub fn sheet<R: Files + AllocGlobal, E: Outlet>(
     rt: &R,
     word: &str,
     out: &str,
+    used: &mut FilesUsed,
     stderr: &mut E,
 ) -> Status
     requires { IsFalse (E.state stderr.old).failed }
-    ensures { LeavesSheetFor word.now result (E.state stderr.old) (E.state stderr.new) }
+    ensures { LeavesSheetFor word.now out.now result
+        used.old used.new (E.state stderr.old) (E.state stderr.new) }
 {
     let mut texts = FileTexts::new(rt);
-    let mut out = FileOutlet::new(rt, out);
-    profile_sheet(rt.alloc(), &mut texts, word, &mut out, stderr)
+    let mut outlet = OutletAt::new(rt, out);
+    let status = profile_sheet(rt.alloc(), &mut texts, word, &mut outlet.file, stderr);
+    used.written(outlet);
+    status
 }
 
 /// Writes a profile with what a printer's answer tells, which is read at a path, or with `-` from
