@@ -1,6 +1,5 @@
 -- What commands leave on files that are new.
-use Rattle.std.proofs.Common.{◌≡◌, ◌⊎◌, ◌||◌, ◌∙◌, ◌++◌, ◌∷◌, ℕ, Bool, IsTrue, List, [], Option, ap, append_assoc, false, refl, subst, sym}
-use Rattle.std.proofs.Common.{true}
+use Rattle.std.proofs.Common.{◌≡◌, ◌⊎◌, ◌||◌, ◌++◌, ◌∷◌, ℕ, Bool, IsTrue, List, [], Option, false, refl, subst, sym, true}
 use Rattle.profile_commands.specs.ProfileFromPjl.{LeavesAnswered}
 use Rattle.profile_commands.specs.ProfileLint.{LeavesLint}
 use Rattle.profile_commands.specs.ProfileSheet.{LeavesSheet}
@@ -8,11 +7,14 @@ use Rattle.profile_commands.specs.ProfileShow.{LeavesShown}
 use Rattle.picture_command.specs.Picture.{Around, HasNoEnd, IsNamedBy, LeavesPicture}
 use Rattle.renderings.specs.Due.{Rendering, plain_rendering}
 use Rattle.streams.specs.declared.error.Error.TheVariants.{Turns}
+use Rattle.streams.proofs.Uses.{one_more, one_read, one_written}
 use Rattle.streams.specs.Files.{no_outlet, no_source}
 use Rattle.streams.specs.Outlet.{OutletState}
 use Rattle.streams.specs.Source.{SourceState}
 use Rattle.streams.specs.Used.{FileUse, read_at, written_at}
 use Rattle.named_inputs.specs.Choices.{TellsOfPin}
+use Rattle.named_inputs.proofs.InputUses.{file_read, input_read}
+use Rattle.named_inputs.specs.FileJobs.{is_input, reads_named}
 use Rattle.named_inputs.specs.Fleet.{IsNamed, RefusesBy, RefusesOne, RefusesRead}
 use Rattle.named_inputs.specs.Texts.{text_named}
 use Rattle.requests.specs.Status.{is_stop_of_read, is_stop_of_write}
@@ -26,24 +28,6 @@ use Rattle.subcommands.specs.JobTexts.{EndsBy, LeavesOut, LeavesPages, LeavesPin
 use Rattle.file_requests.specs.JobRequests.{LeavesCheck, LeavesNotesFor, LeavesPagesFor, LeavesPictureOfFile, LeavesPin}
 use Rattle.file_requests.specs.JobRequests.{LeavesPlain, LeavesRendered}
 use Rattle.file_requests.specs.ProfileRequests.{LeavesAnsweredFor, LeavesLintFor, LeavesSheetFor, LeavesShownFor}
-
--- ---- the files that were used
-
--- one file is read, at the path that a word is
-pub one_read : (used used' : List FileUse) (path at : List ℕ) (job : SourceState)
-    → at ≡ path → used' ≡ used ++ read_at at job ∷ [] → used' ≡ used ++ read_at path job ∷ []
-one_read used used' path at job is more = more ∙ ap (λ (p : List ℕ). used ++ read_at p job ∷ []) is
-
--- one file is written
-pub one_written : (used used' : List FileUse) (into to : List ℕ) (file : OutletState)
-    → to ≡ into → used' ≡ used ++ written_at to file ∷ [] → used' ≡ used ++ written_at into file ∷ []
-one_written used used' into to file is more = more ∙ ap (λ (p : List ℕ). used ++ written_at p file ∷ []) is
-
--- and then another one
-pub one_more : (used between used' : List FileUse) (one other : FileUse)
-    → between ≡ used ++ one ∷ [] → used' ≡ between ++ other ∷ [] → used' ≡ used ++ one ∷ other ∷ []
-one_more used between used' one other first more =
-    more ∙ ap (λ (u : List FileUse). u ++ other ∷ []) first ∙ append_assoc used (one ∷ []) (other ∷ [])
 
 -- ---- profiles
 
@@ -78,18 +62,38 @@ sheet_left word into to given texts failed status out file err err' used used' n
       (subst (λ g. LeavesSheet (text_named word) word g texts failed status out file err err') none left);
 }
 
-pub answered_left : (answer : List ℕ) (base : Option (List ℕ)) (given texts : List (List ℕ)) (failed : Bool) (status : Status)
-    (source source' : SourceState) (out out' err err' : OutletState)
+answered_left : (answer : List ℕ) (base : Option (List ℕ)) (given texts : List (List ℕ)) (failed : Bool) (status : Status)
+    (source source' : SourceState) (out out' err err' : OutletState) (used used' : List FileUse)
     → given ≡ [] → source ≡ no_source → LeavesAnswered source source' text_named answer base given texts failed status out out' err err'
-    → LeavesAnsweredFor answer base status out out' err err'
-answered_left answer base given texts failed status source source' out out' err err' none new left = record {
+    → used' ≡ used ++ reads_named answer source' → LeavesAnsweredFor answer base status used used' out out' err err'
+answered_left answer base given texts failed status source source' out out' err err' used used' none new left uses = record {
   source = source';
   texts = texts;
   failed = failed;
   left =
       subst (λ s. LeavesAnswered s source' text_named answer base [] texts failed status out out' err err') new
       (subst (λ g. LeavesAnswered source source' text_named answer base g texts failed status out out' err err') none left);
+  used_are = uses;
 }
+
+-- so where the answer is standard input
+pub answered_by_input : (answer : List ℕ) (base : Option (List ℕ)) (given texts : List (List ℕ)) (failed : Bool) (status : Status)
+    (source source' : SourceState) (out out' err err' : OutletState) (used : List FileUse)
+    → given ≡ [] → source ≡ no_source → LeavesAnswered source source' text_named answer base given texts failed status out out' err err'
+    → is_input answer ≡ true → LeavesAnsweredFor answer base status used used out out' err err'
+answered_by_input answer base given texts failed status source source' out out' err err' used none new left is =
+    answered_left answer base given texts failed status source source' out out' err err' used used none new left
+    (input_read used answer source' is)
+
+-- and where it is a file
+pub answered_by_file : (answer at : List ℕ) (base : Option (List ℕ)) (given texts : List (List ℕ)) (failed : Bool) (status : Status)
+    (source source' : SourceState) (out out' err err' : OutletState) (used used' : List FileUse)
+    → given ≡ [] → source ≡ no_source → LeavesAnswered source source' text_named answer base given texts failed status out out' err err'
+    → is_input answer ≡ false → at ≡ answer → used' ≡ used ++ read_at at source' ∷ []
+    → LeavesAnsweredFor answer base status used used' out out' err err'
+answered_by_file answer at base given texts failed status source source' out out' err err' used used' none new left is place read =
+    answered_left answer base given texts failed status source source' out out' err err' used used' none new left
+    (file_read used used' answer at source' is place read)
 
 -- ---- jobs
 
@@ -209,28 +213,28 @@ pub pin_left : (path into at to word : List ℕ) (choices : List Choice) (given 
     → LeavesPin path into word choices status used used' out out' err err'
 pin_left path into at to word choices given texts failed job job' status out out' file file' err err' used between used' none new unwritten
     ends choice is is_out read written = record {
-  job = job';
-  texts = texts;
-  file = file';
-  used_are = one_more used between used' (read_at path job') (written_at into file')
-      (one_read used between path at job' is read) (one_written between used' into to file' is_out written);
-  ends =
-      at_reads status (λ s s'. LeavesPinned status (IsNamed (text_named word) [] texts) choices s s' no_outlet file' out out') no_source
-      job' (job'.failed || failed) (file'.failed || out'.failed)
-      (subst
-      (λ f. EndsBy status (λ s s'. LeavesPinned status (IsNamed (text_named word) [] texts) choices s s' f file' out out') no_source
-      job' (job'.failed || failed) (file'.failed || out'.failed))
-      unwritten
-      (subst
-      (λ g. EndsBy status (λ s s'. LeavesPinned status (IsNamed (text_named word) g texts) choices s s' file file' out out') no_source
-      job' (job'.failed || failed) (file'.failed || out'.failed))
-      none
-      (subst
-      (λ s. EndsBy status (λ s s'. LeavesPinned status (IsNamed (text_named word) given texts) choices s s' file file' out out') s job'
-      (job'.failed || failed) (file'.failed || out'.failed))
-      new ends)));
-  choice = subst (λ g. TellsOfPin status (IsNamed (text_named word) g texts) choices err err') none choice;
-}
+      job = job';
+      texts = texts;
+      file = file';
+      used_are = one_more used between used' (read_at path job') (written_at into file')
+          (one_read used between path at job' is read) (one_written between used' into to file' is_out written);
+      ends =
+          at_reads status (λ s s'. LeavesPinned status (IsNamed (text_named word) [] texts) choices s s' no_outlet file' out out') no_source
+          job' (job'.failed || failed) (file'.failed || out'.failed)
+          (subst
+          (λ f. EndsBy status (λ s s'. LeavesPinned status (IsNamed (text_named word) [] texts) choices s s' f file' out out') no_source
+          job' (job'.failed || failed) (file'.failed || out'.failed))
+          unwritten
+          (subst
+          (λ g. EndsBy status (λ s s'. LeavesPinned status (IsNamed (text_named word) g texts) choices s s' file file' out out') no_source
+          job' (job'.failed || failed) (file'.failed || out'.failed))
+          none
+          (subst
+          (λ s. EndsBy status (λ s s'. LeavesPinned status (IsNamed (text_named word) given texts) choices s s' file file' out out') s job'
+          (job'.failed || failed) (file'.failed || out'.failed))
+          new ends)));
+      choice = subst (λ g. TellsOfPin status (IsNamed (text_named word) g texts) choices err err') none choice;
+    }
 
 -- one of two readings failed, or that of a text
 pub reads_stop : (first second text stops : Bool) → (first || second || text) ≡ stops → IsTrue (first || second) → IsTrue stops
@@ -264,30 +268,30 @@ pub picture_left : (word : List ℕ) (choices : List Choice) (selection : Select
     → LeavesPictureOfFile word choices selection job status used used' out out' err err'
 picture_left word choices selection job at again given texts failed first first' second second' status out out' err err' used between used'
     none new new' left read write turns refusal refused choice is is' reads reads' = record {
-  first = first';
-  second = second';
-  texts = texts;
-  used_are = one_more used between used' (read_at job first') (read_at job second')
-      (one_read used between job at first' is reads) (one_read between used' job again second' is' reads');
-  left =
-      subst
-      (λ g. LeavesPicture status (IsNamedBy g texts (IsNamed (text_named word) g texts)) choices selection job
-      (around no_source first' no_source second' out out' err err'))
-      none
-      (subst
-      (λ s. LeavesPicture status (IsNamedBy given texts (IsNamed (text_named word) given texts)) choices selection job
-      (around s first' no_source second' out out' err err'))
-      new
-      (subst
-      (λ s. LeavesPicture status (IsNamedBy given texts (IsNamed (text_named word) given texts)) choices selection job
-      (around first first' s second' out out' err err'))
-      new' left));
-  read = reads_stop first'.failed second'.failed failed (is_stop_of_read status) read;
-  write = write;
-  turns =
-      subst (λ s. status ≡ Stopped Turns → HasNoEnd s first' ⊎ HasNoEnd no_source second') new
-      (subst (λ s. status ≡ Stopped Turns → HasNoEnd first first' ⊎ HasNoEnd s second') new' turns);
-  refusal = refusal;
-  refused = subst (λ g. RefusesRead g texts 1 status) none refused;
-  choice = subst (λ g. TellsOfPin status (IsNamed (text_named word) g texts) choices err err') none choice;
-}
+      first = first';
+      second = second';
+      texts = texts;
+      used_are = one_more used between used' (read_at job first') (read_at job second')
+          (one_read used between job at first' is reads) (one_read between used' job again second' is' reads');
+      left =
+          subst
+          (λ g. LeavesPicture status (IsNamedBy g texts (IsNamed (text_named word) g texts)) choices selection job
+          (around no_source first' no_source second' out out' err err'))
+          none
+          (subst
+          (λ s. LeavesPicture status (IsNamedBy given texts (IsNamed (text_named word) given texts)) choices selection job
+          (around s first' no_source second' out out' err err'))
+          new
+          (subst
+          (λ s. LeavesPicture status (IsNamedBy given texts (IsNamed (text_named word) given texts)) choices selection job
+          (around first first' s second' out out' err err'))
+          new' left));
+      read = reads_stop first'.failed second'.failed failed (is_stop_of_read status) read;
+      write = write;
+      turns =
+          subst (λ s. status ≡ Stopped Turns → HasNoEnd s first' ⊎ HasNoEnd no_source second') new
+          (subst (λ s. status ≡ Stopped Turns → HasNoEnd first first' ⊎ HasNoEnd s second') new' turns);
+      refusal = refusal;
+      refused = subst (λ g. RefusesRead g texts 1 status) none refused;
+      choice = subst (λ g. TellsOfPin status (IsNamed (text_named word) g texts) choices err err') none choice;
+    }

@@ -159,8 +159,7 @@ pub fn plain<R: Files + AllocGlobal, O: Outlet>(
 {
     let mut source = SourceAt::new(rt, job);
     let mut outlet = OutletAt::new(rt, out);
-    let status =
-        subcommands::plain::plain(rt.alloc(), &mut source.file, &mut outlet.file, stdout);
+    let status = subcommands::plain::plain(rt.alloc(), &mut source.file, &mut outlet.file, stdout);
     used.read(source);
     used.written(outlet);
     status

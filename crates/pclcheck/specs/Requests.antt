@@ -1,5 +1,5 @@
 -- What the program leaves of what it is asked for. Nothing is known of its files beforehand; the history of files tells
--- which were read and which were written, of jobs and of each OUT, and of all others it is said for some reads of them.
+-- which were read and which were written; of the texts of profiles and the jobs of many it is said for some reads.
 use Rattle.renderings.specs.Due.{list_rendering}
 use Rattle.std.specs.Prelude.{◌≡◌, List, ℕ, Option, map, option_map, IsFalse, IsTrue}
 use Rattle.requests.specs.declared.request.Request.{Request}
@@ -33,7 +33,7 @@ abbrev pub Fulfils : List (List ℕ) → Request → Status → List FileUse →
 Fulfils texts (requests.Check job profiles) status used used' out out' err err' =
     LeavesCheck job.now (map (λ word. text_named word.now) profiles.items) status used used' out out' × (err' ≡ err)
 Fulfils texts (requests.CheckMany words) status used used' out out' err err' =
-    LeavesChecks (asking texts words) status out out' err err' × (used' ≡ used)
+    LeavesChecks (asking texts words) status used used' out out' err err'
 Fulfils texts (requests.List job) status used used' out out' err err' =
     LeavesRendered job.now list_rendering status used used' out out' × (err' ≡ err)
 Fulfils texts (requests.Pages job profile) status used used' out out' err err' =
@@ -60,4 +60,4 @@ Fulfils texts (requests.ProfileShow profile) status used used' out out' err err'
 Fulfils texts (requests.ProfileSheet profile file) status used used' out out' err err' =
     LeavesSheetFor profile.now file.now status used used' err err' × (out' ≡ out)
 Fulfils texts (requests.ProfileFromPjl answer base) status used used' out out' err err' =
-    LeavesAnsweredFor answer.now (option_map (λ word. word.now) base) status out out' err err' × (used' ≡ used)
+    LeavesAnsweredFor answer.now (option_map (λ word. word.now) base) status used used' out out' err err'

@@ -17,7 +17,7 @@ use std::rt::Files;
 use streams::{FilesUsed, Outlet};
 
 /// Does what is asked for. Its files are opened by the subcommands, as late as these say; a history
-/// is kept of the jobs that were read, and of each OUT.
+/// is kept of them, but for the texts of profiles and the jobs of many.
 pub fn fulfil<R: Files + Input + AllocGlobal, O: Outlet, E: Outlet>(
     rt: &R,
     request: &Request<'_>,
@@ -35,7 +35,7 @@ pub fn fulfil<R: Files + Input + AllocGlobal, O: Outlet, E: Outlet>(
     let alloc = rt.alloc();
     match request {
         Request::Check { job, profiles } => check(rt, job, profiles.as_slice(), used, stdout),
-        Request::CheckMany(words) => check_asked(rt, words, stdout, stderr),
+        Request::CheckMany(words) => check_asked(rt, words, used, stdout, stderr),
         Request::List { job } => list(rt, job, used, stdout),
         Request::Pages { job, profile } => pages(rt, job, profile, used, stdout),
         Request::Picture {
@@ -74,6 +74,8 @@ pub fn fulfil<R: Files + Input + AllocGlobal, O: Outlet, E: Outlet>(
         Request::ProfileLint { profiles } => lint(rt, profiles.as_slice(), stdout, stderr),
         Request::ProfileShow { profile } => show(rt, profile, stdout, stderr),
         Request::ProfileSheet { profile, out } => sheet(rt, profile, out, used, stderr),
-        Request::ProfileFromPjl { answer, base } => from_pjl(rt, answer, *base, stdout, stderr),
+        Request::ProfileFromPjl { answer, base } => from_pjl(
+            rt, answer, *base, used, stdout, stderr,
+        ),
     }
 }

@@ -13,9 +13,8 @@ pub returns : goal.returns
 returns g c =
     let asked = c.args.asked.now in
     let left = c.picture-status.ensures in
-    inl (
-      picture_left asked.setting.profile.now asked.setting.choices.now asked.selection asked.job.now _ _ _ _ _ _ _ _ _ _ _ _ _ _ _ _ _
-          c.new-texts.ensures.given c.new-first.ensures.file c.new-second.ensures.file
-          left.left left.read left.write left.turns left.refusal left.refused left.choice
-          c.new-first.ensures.path c.new-second.ensures.path c.read.ensures c.read-2.ensures,
-    )
+    inl
+    (picture_left asked.setting.profile.now asked.setting.choices.now asked.selection asked.job.now _ _ _ _ _ _ _ _ _ _ _ _ _ _ _ _ _
+    c.new-texts.ensures.given c.new-first.ensures.file c.new-second.ensures.file
+    left.left left.read left.write left.turns left.refusal left.refused left.choice
+    c.new-first.ensures.path c.new-second.ensures.path c.read.ensures c.read-2.ensures)

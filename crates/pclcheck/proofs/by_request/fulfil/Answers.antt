@@ -16,7 +16,7 @@ returns-in-Check g c =
     )
 
 pub returns-in-CheckMany : goal.returns-in-CheckMany
-returns-in-CheckMany g c = asked _ _ _ _ _ _ _ _ _ _ c.in-CheckMany.is (c.check_asked.ensures, refl)
+returns-in-CheckMany g c = asked _ _ _ _ _ _ _ _ _ _ c.in-CheckMany.is c.check_asked.ensures
 
 pub returns-in-List : goal.returns-in-List
 returns-in-List g c = asked _ _ _ _ _ _ _ _ _ _ c.in-List.is (c.list.ensures, refl)
@@ -49,11 +49,13 @@ returns-in-ProfileList g c = asked _ _ _ _ _ _ _ _ _ _ c.in-ProfileList.is (c.pr
 pub returns-in-ProfileNew : goal.returns-in-ProfileNew
 returns-in-ProfileNew g c =
     let words = c.in-ProfileNew.words in
-    asked _ _ _ _ _ _ _ _ _ _ c.in-ProfileNew.is
-    (subst (λ names. LeavesProfile words.model.now (map (λ name. name.now) names) words.lists c.profile_new.result
-    (g.O.Outlet.state c.args.stdout.now) (g.O.Outlet.state c.profile_new.new.stdout) (g.E.Outlet.state c.args.stderr.now)
-    (g.E.Outlet.state c.profile_new.new.stderr))
-    c.as_slice-papers.ensures.value c.profile_new.ensures, refl)
+    asked _ _ _ _ _ _ _ _ _ _ c.in-ProfileNew.is (
+      subst (λ names. LeavesProfile words.model.now (map (λ name. name.now) names) words.lists c.profile_new.result
+          (g.O.Outlet.state c.args.stdout.now) (g.O.Outlet.state c.profile_new.new.stdout) (g.E.Outlet.state c.args.stderr.now)
+          (g.E.Outlet.state c.profile_new.new.stderr))
+          c.as_slice-papers.ensures.value c.profile_new.ensures,
+      refl,
+    )
 
 pub returns-in-ProfileShow : goal.returns-in-ProfileShow
 returns-in-ProfileShow g c = asked _ _ _ _ _ _ _ _ _ _ c.in-ProfileShow.is (c.show.ensures, refl)
@@ -62,4 +64,4 @@ pub returns-in-ProfileSheet : goal.returns-in-ProfileSheet
 returns-in-ProfileSheet g c = asked _ _ _ _ _ _ _ _ _ _ c.in-ProfileSheet.is (c.sheet.ensures, refl)
 
 pub returns-in-ProfileFromPjl : goal.returns-in-ProfileFromPjl
-returns-in-ProfileFromPjl g c = asked _ _ _ _ _ _ _ _ _ _ c.in-ProfileFromPjl.is (c.from_pjl.ensures, refl)
+returns-in-ProfileFromPjl g c = asked _ _ _ _ _ _ _ _ _ _ c.in-ProfileFromPjl.is c.from_pjl.ensures
