@@ -1,5 +1,5 @@
 -- The reads of a job: its start, one more piece, and its end.
-use Rattle.std.specs.Prelude.{IsErrOf}
+use Rattle.std.specs.Prelude.{IsErrOf, ⊤}
 use Rattle.streams.specs.Errors.{is_err_of_write, is_write}
 use Rattle.std.proofs.Common.{Bool, false, ◌≡◌, ◌≢◌, ◌+◌, ◌≤◌, ◌<◌, ℕ, List, [], ◌∷◌, ◌++◌, length, take, refl, ap, sym, ◌∙◌, subst}
 use Rattle.std.proofs.Common.{append-nil, Option, None, Some, Result, Ok, Err, IfOk, IfErr, arith, length-append}
@@ -48,6 +48,7 @@ module _ {C : Type 0} (goes_on : C → List ℕ → C → Type 0) (stops : C →
       given_is = way.given_is;
       joined = way.joined;
       consumed = way.consumed;
+      spelled = way.spelled;
       came = way.left_open;
     }
 
@@ -65,6 +66,7 @@ module _ {C : Type 0} (goes_on : C → List ℕ → C → Type 0) (stops : C →
         given_is = none ∙ (append-nil mid.given ∙ way.given_is);
         joined = way.joined;
         consumed = Consumes-kept source.remaining mid.remaining after.remaining way.bytes way.consumed keeps;
+        spelled = way.spelled;
         came = way.left_open;
       }
 
@@ -88,6 +90,7 @@ module _ {C : Type 0} (goes_on : C → List ℕ → C → Type 0) (stops : C →
           given_is = all_given;
           joined = all_joined;
           consumed = all_consumed;
+          spelled = own_error (Spell (way.pieces ++ piece ∷ []) (way.bytes ++ piece)) (λ e. ⊤) error tt own;
           came = own_error (goes_on first (way.bytes ++ piece) next) (λ e. stops first e (way.bytes ++ piece) next) error h own;
         }
 
@@ -208,6 +211,15 @@ own_read Open Stops Write h = (h, λ is. absurd cc)
 own_read Open Stops Turns h = h
 own_read Open Stops NoProfile h = h
 own_read Open Stops Items h = h
+
+-- two facts of the reads go together
+pub stops_both : (P Q : Type 0) (Stops : Error → Type 0) (e : Error) → StopsBy P Stops e → StopsBy Q (λ e. ⊤) e → StopsBy (P × Q) Stops e
+stops_both P Q Stops Memory p q = p
+stops_both P Q Stops Read p q = (p, q)
+stops_both P Q Stops Write p q = p
+stops_both P Q Stops Turns p q = (p, q)
+stops_both P Q Stops NoProfile p q = p
+stops_both P Q Stops Items p q = p
 
 -- what follows from an error of a read
 pub of_read : {A : Type 0} (r : Result A Error) (Q : Error → Type 0) → IfErr r (λ e. Q e) → IsErrOf r Read → Q Read

@@ -1,6 +1,6 @@
 -- How what takes a job in pieces comes through it.
 use Rattle.std.specs.Prelude.{◌≡◌, ◌*◌, ◌≤◌, ℕ, List, [], ◌∷◌, ◌++◌, length, Option, None, Some, IfSome, Result, Ok}
-use Rattle.std.specs.Prelude.{Err}
+use Rattle.std.specs.Prelude.{Err, ⊤}
 use Rattle.std.specs.List.{concat}
 use Rattle.std.specs.Io.KnownBytes.{Consumes}
 use Rattle.streams.specs.declared.error.Error.{Error}
@@ -71,7 +71,7 @@ StopsBy Open Stops Turns = Open
 StopsBy Open Stops NoProfile = ⊥
 StopsBy Open Stops Items = ⊥
 
--- The reads gave these bytes, and then it stopped.
+-- The reads gave these bytes, and then it stopped; where a read failed, or they came to no end, none had given the end.
 pub record IsStopped {C : Type 0} (goes_on : C → List ℕ → C → Type 0) (stops : C → Error → List ℕ → C → Type 0)
     (first now : C) (error : Error) (source source' : SourceState) : Type 0 where
   pub pieces : List (List ℕ)
@@ -79,4 +79,5 @@ pub record IsStopped {C : Type 0} (goes_on : C → List ℕ → C → Type 0) (s
   pub given_is : source'.given ≡ source.given ++ pieces
   pub joined : concat pieces ≡ bytes
   pub consumed : Consumes source.remaining source'.remaining bytes
+  pub spelled : StopsBy (Spell pieces bytes) (λ e. ⊤) error
   pub came : StopsBy (goes_on first bytes now) (λ e. stops first e bytes now) error
