@@ -80,7 +80,10 @@ fn run<R: Files + Input + AllocGlobal, O: Outlet, E: Outlet>(
     requires stderr { IsFalse (E.state stderr.old).failed }
 {
     match read_words(rt.alloc(), words, stdout, stderr) {
-        Ok(request) => fulfil(rt, &request, &mut FilesUsed::new(), stdout, stderr),
+        Ok(request) => {
+            let mut used = FilesUsed::new();
+            fulfil(rt, &request, &mut used, stdout, stderr)
+        }
         Err(status) => status,
     }
 }
