@@ -1,5 +1,5 @@
 -- What the reads of a job came to for a session to which nothing was fed.
-use Rattle.std.proofs.Common.{◌≡◌, ◌≢◌, ℕ, List, [], ◌∷◌, ◌++◌, refl, subst, Result, Ok, Err, IfOk, IfErr, IfSome}
+use Rattle.std.proofs.Common.{◌≡◌, ◌≢◌, ℕ, List, [], ◌∷◌, ◌++◌, ◌∙◌, ap, refl, subst, Result, Ok, Err, IfOk, IfErr, IfSome}
 use Rattle.std.specs.Prelude.{IsErrOf, ⊤}
 use Rattle.std.proofs.lemmas.Result.{IfOk-weaker}
 use Rattle.device_profile.specs.Printer.{Printer}
@@ -8,11 +8,11 @@ use Rattle.streams.specs.declared.error.Error.TheVariants.{Memory, Read, Write, 
 use Rattle.streams.specs.Pieces.{ByReads, Spell}
 use Rattle.streams.specs.Source.{SourceState}
 use Rattle.preflight.specs.Session.{SessionState, ChecksOn, HasChecked, IsJudged, IsOutOfMemory}
-use Rattle.preflight.specs.Verdict.{IsExact, KeepsPromise, NeedsEachRead, StaysOpen}
+use Rattle.preflight.specs.Verdict.{IsExact, KeepsPromise, NeedsEachRead, StaysOpen, WasOpen}
 use Rattle.preflight.specs.Culprit.{IsTold}
 use Rattle.streams.specs.Driving.{IsAnswered, IsStopped, StopsBy}
 use Rattle.streams.proofs.Pieces.{known_by}
-use Rattle.streams.proofs.Driving.{never_items as none_of_limits, of_read, stop_gives}
+use Rattle.streams.proofs.Driving.{never_items as none_of_limits, of_error, of_read, stop_gives}
 use Rattle.preflight.proofs.Sessions.{opened}
 use Rattle.preflight.proofs.StillOpen.{leaves_open}
 use Rattle.verdict.specs.declared.verdict.Verdict.{Verdict}
@@ -109,6 +109,24 @@ module _ (fleet : List Printer) (session now : Beside) (fresh : HasChecked fleet
   pub still_open : (r : Result Verdict Error) → IfErr r (λ error. IsStopped Goes Stops session now error old new) → IsErrOf r Read →
       StaysOpen fleet old new
   still_open r h failed = of_read r (λ error. error ≡ Read → StaysOpen fleet old new) (stop_gives r h still_open_by) failed refl
+
+  -- and the verdict was open before the last read, or behind it
+  was_open_by : (error : Error) → IsStopped Goes Stops session now error old new → WasOpen fleet old new
+  was_open_by error h =
+      let was = h.was_open in
+      let goes : ChecksOn session.0 was.bytes was.between.0 = was.left_open in
+      let executed = opened was.between.0 fleet was.bytes goes.is_open (goes.checked fleet [] fresh) in (
+        was.before,
+        was.last,
+        h.given_is ∙ ap (λ (pieces : List (List ℕ)). old.given ++ pieces) was.split,
+        was.at_most_one,
+        leaves_open fleet was.bytes was.between.0.lexer was.between.0.machines was.between.0.counts executed.0 goes.open_input was.before
+            was.spelled goes.wants_more,
+      )
+
+  pub was_open : (r : Result Verdict Error) (e : Error) → IfErr r (λ error. IsStopped Goes Stops session now error old new) → IsErrOf r e →
+      WasOpen fleet old new
+  was_open r e h failed = of_error r e (λ error. WasOpen fleet old new) (stop_gives r h was_open_by) failed
 
 module _ (session now : Beside) (old new : SourceState) where
   abbrev Stop : Error → Type 0

@@ -10,7 +10,7 @@ use Rattle.streams.specs.declared.error.Error.{Error}
 use Rattle.streams.specs.declared.error.Error.TheVariants.{Memory, Read, Write, Turns, NoProfile, Items}
 use Rattle.streams.specs.Pieces.{ByReads, MayBeBy, Spell}
 use Rattle.streams.specs.Source.{SourceState}
-use Rattle.streams.specs.Driving.{ComesByEnd, ComesByPiece, IsAnswered, IsErrorOfPiece, IsStopped, IsUnderWay, StopsBy}
+use Rattle.streams.specs.Driving.{ComesByEnd, ComesByPiece, IsAnswered, IsErrorOfPiece, IsStopped, IsUnderWay, StopsBy, OpenBefore}
 use Rattle.streams.proofs.OutletFacts.{concat_more}
 use Rattle.streams.proofs.Pieces.{all_read, at_front, at_job, by_length, given_more, spell_none, spell_more}
 
@@ -40,6 +40,19 @@ module _ {C : Type 0} (goes_on : C → List ℕ → C → Type 0) (stops : C →
   }
 
   module _ (now : C) (mid : SourceState) (reads : ℕ) (way : IsUnderWay goes_on first now source mid reads) where
+    -- all that was read left it open
+    open_now : OpenBefore goes_on first way.pieces
+    open_now = record {
+      before = way.pieces;
+      last = [];
+      split = sym (append-nil way.pieces);
+      at_most_one = omega arith;
+      bytes = way.bytes;
+      spelled = way.spelled;
+      between = now;
+      left_open = way.left_open;
+    }
+
     -- no more is read
     pub stopped_turning : IsStopped goes_on stops first now Turns source mid
     stopped_turning = record {
@@ -49,6 +62,7 @@ module _ {C : Type 0} (goes_on : C → List ℕ → C → Type 0) (stops : C →
       joined = way.joined;
       consumed = way.consumed;
       spelled = way.spelled;
+      was_open = open_now;
       came = way.left_open;
     }
 
@@ -67,6 +81,7 @@ module _ {C : Type 0} (goes_on : C → List ℕ → C → Type 0) (stops : C →
         joined = way.joined;
         consumed = Consumes-kept source.remaining mid.remaining after.remaining way.bytes way.consumed keeps;
         spelled = way.spelled;
+        was_open = open_now;
         came = way.left_open;
       }
 
@@ -91,6 +106,16 @@ module _ {C : Type 0} (goes_on : C → List ℕ → C → Type 0) (stops : C →
           joined = all_joined;
           consumed = all_consumed;
           spelled = own_error (Spell (way.pieces ++ piece ∷ []) (way.bytes ++ piece)) (λ e. ⊤) error tt own;
+          was_open = record {
+            before = way.pieces;
+            last = piece ∷ [];
+            split = refl;
+            at_most_one = omega arith;
+            bytes = way.bytes;
+            spelled = way.spelled;
+            between = now;
+            left_open = way.left_open;
+          };
           came = own_error (goes_on first (way.bytes ++ piece) next) (λ e. stops first e (way.bytes ++ piece) next) error h own;
         }
 
@@ -220,6 +245,10 @@ stops_both P Q Stops Write p q = p
 stops_both P Q Stops Turns p q = (p, q)
 stops_both P Q Stops NoProfile p q = p
 stops_both P Q Stops Items p q = p
+
+-- what follows from an error
+pub of_error : {A : Type 0} (r : Result A Error) (e : Error) (Q : Error → Type 0) → IfErr r (λ e. Q e) → IsErrOf r e → Q e
+of_error r e Q h is = subst (λ r. IfErr r Q) is h
 
 -- what follows from an error of a read
 pub of_read : {A : Type 0} (r : Result A Error) (Q : Error → Type 0) → IfErr r (λ e. Q e) → IsErrOf r Read → Q Read

@@ -71,6 +71,17 @@ StopsBy Open Stops Turns = Open
 StopsBy Open Stops NoProfile = ⊥
 StopsBy Open Stops Items = ⊥
 
+-- What the reads before the last one gave, or all, left the answer open.
+pub record OpenBefore {C : Type 0} (goes_on : C → List ℕ → C → Type 0) (first : C) (pieces : List (List ℕ)) : Type 0 where
+  pub before : List (List ℕ)
+  pub last : List (List ℕ)
+  pub split : pieces ≡ before ++ last
+  pub at_most_one : length last ≤ 1
+  pub bytes : List ℕ
+  pub spelled : Spell before bytes
+  pub between : C
+  pub left_open : goes_on first bytes between
+
 -- The reads gave these bytes, and then it stopped; where a read failed, or they came to no end, none had given the end.
 pub record IsStopped {C : Type 0} (goes_on : C → List ℕ → C → Type 0) (stops : C → Error → List ℕ → C → Type 0)
     (first now : C) (error : Error) (source source' : SourceState) : Type 0 where
@@ -80,4 +91,5 @@ pub record IsStopped {C : Type 0} (goes_on : C → List ℕ → C → Type 0) (s
   pub joined : concat pieces ≡ bytes
   pub consumed : Consumes source.remaining source'.remaining bytes
   pub spelled : StopsBy (Spell pieces bytes) (λ e. ⊤) error
+  pub was_open : OpenBefore goes_on first pieces
   pub came : StopsBy (goes_on first bytes now) (λ e. stops first e bytes now) error

@@ -82,11 +82,12 @@ impl FilesUsed {
         let SourceAt { path, file } = source;
         let has_failed = file.has_failed();
         let given = file.into_given();
+        let taken = Given::new();
         self.so_far = self.so_far.and(&FileEnd {
             path,
             is_written: false,
             given,
-            taken: Given::new(),
+            taken,
             has_failed,
         });
     }
@@ -98,11 +99,12 @@ impl FilesUsed {
     {
         let OutletAt { path, file } = outlet;
         let has_failed = file.has_failed();
+        let given = Given::new();
         let taken = file.into_taken();
         self.so_far = self.so_far.and(&FileEnd {
             path,
             is_written: true,
-            given: Given::new(),
+            given,
             taken,
             has_failed,
         });
