@@ -82,7 +82,8 @@ pub record OpenBefore {C : Type 0} (goes_on : C → List ℕ → C → Type 0) (
   pub between : C
   pub left_open : goes_on first bytes between
 
--- The reads gave these bytes, and then it stopped; where a read failed, or they came to no end, none had given the end.
+-- The reads gave these bytes, and then it stopped. Where a read failed, or they came to no end, none gave the end;
+-- and the answer was open before the last one, or behind it.
 pub record IsStopped {C : Type 0} (goes_on : C → List ℕ → C → Type 0) (stops : C → Error → List ℕ → C → Type 0)
     (first now : C) (error : Error) (source source' : SourceState) : Type 0 where
   pub pieces : List (List ℕ)
