@@ -71,8 +71,9 @@ StopsBy Open Stops Turns = Open
 StopsBy Open Stops NoProfile = ⊥
 StopsBy Open Stops Items = ⊥
 
--- What the reads before the last one gave, or all, left the answer open.
-pub record OpenBefore {C : Type 0} (goes_on : C → List ℕ → C → Type 0) (first : C) (pieces : List (List ℕ)) : Type 0 where
+-- what the reads before the last one gave, or what all gave, left the answer open
+pub record OpenBefore {C : Type 0} (goes_on : C → List ℕ → C → Type 0) (first : C)
+    (pieces : List (List ℕ)) : Type 0 where
   pub before : List (List ℕ)
   pub last : List (List ℕ)
   pub split : pieces ≡ before ++ last
