@@ -54,7 +54,7 @@ use Rattle.job_reports.specs.declared.kind.Kind.{Kind}
 use Rattle.job_reports.specs.declared.kind.Kind.TheVariants as kinds
 use Rattle.job_reports.specs.declared.left_out.LeftOut.{LeftOut}
 use Rattle.job_reports.specs.declared.left_out.LeftOut.TheVariants as left_outs
-use Rattle.job_reports.specs.Reports.{Reported, culprit_of, number_told, verdict_of}
+use Rattle.job_reports.specs.Reports.{Reported, culprit_of, number_told, verdict_told}
 use Rattle.requests.specs.Status.{error_words}
 use Rattle.job_reports.proofs.Within.{code_part, decimal_part, escaped_part, first_part, flat_part, joined, last_part, literal, name_at}
 use Rattle.job_reports.proofs.Within.{named_part, nothing, one_of, shown_byte_part, shown_part, wider}
@@ -316,9 +316,9 @@ answer_part : (report : Reported) (answer : Result Verdict Error) → AllByRecur
     IsCulpritOfNumbers (culprit_of report.answer) → IfOk answer IsVerdictOfNumbers → IsWithin 381 (answer_phrase report answer)
 answer_part report (Ok verdict) h k l =
     joined (claim report) (verdict_phrase (fails_at (culprit_of report.answer)) verdict)
-    (claim_part (subject report.names (number_told report.is_each (verdict_of report.answer))) (for_each report.is_each report.names)
+    (claim_part (subject report.names (number_told report.is_each (verdict_told report.answer))) (for_each report.is_each report.names)
     (subject_part report.names _ h) (for_each_part report.is_each report.names h) (left_out_of (culprit_of report.answer))
-    (verdict_of report.answer))
+    (verdict_told report.answer))
     (verdict_part (culprit_of report.answer) verdict k l)
 answer_part report (Err error) h k l =
     let front : List ℕ = error_phrase error ++ for_printer report.names (number_told report.is_each (Err error)) in
@@ -336,7 +336,7 @@ culprit_numbers : (answer : Result Judgement Error) → IfOk answer AreNumbers �
 culprit_numbers (Ok judgement) h = h.1
 culprit_numbers (Err error) h = tt
 
-verdict_numbers : (answer : Result Judgement Error) → IfOk answer AreNumbers → IfOk (verdict_of answer) IsVerdictOfNumbers
+verdict_numbers : (answer : Result Judgement Error) → IfOk answer AreNumbers → IfOk (verdict_told answer) IsVerdictOfNumbers
 verdict_numbers (Ok judgement) h = h.0
 verdict_numbers (Err error) h = tt
 
@@ -347,11 +347,11 @@ named_first_part name =
 
 pub sentence_is_short : (report : Reported) → IsOfParts report → IsSentence (job_sentence report)
 sentence_is_short report h =
-    let answer : List ℕ = answer_phrase report (verdict_of report.answer) in (
+    let answer : List ℕ = answer_phrase report (verdict_told report.answer) in (
       named_first report.job ++ answer,
       refl,
       wider 999 _ (omega arith)
           (joined (named_first report.job) answer (named_first_part report.job)
-          (answer_part report (verdict_of report.answer) h.names (culprit_numbers report.answer h.numbers)
+          (answer_part report (verdict_told report.answer) h.names (culprit_numbers report.answer h.numbers)
           (verdict_numbers report.answer h.numbers))),
     )

@@ -21,7 +21,7 @@ use Rattle.job_reports.specs.LeftOut.{left_out_of, value_words}
 use Rattle.job_reports.specs.declared.kind.Kind.{Kind}
 use Rattle.job_reports.specs.declared.kind.Kind.TheVariants as kinds
 use Rattle.job_reports.specs.declared.left_out.LeftOut.{LeftOut}
-use Rattle.job_reports.specs.Reports.{Reported, culprit_of, number_told, verdict_of}
+use Rattle.job_reports.specs.Reports.{Reported, culprit_of, number_told, verdict_told}
 use Rattle.requests.specs.Status.{error_words}
 
 -- ---- what is long, in part
@@ -60,7 +60,7 @@ claim_by who each left_out (Err error) = []
 
 abbrev pub claim : Reported → List ℕ
 claim report =
-    let answer = verdict_of report.answer in
+    let answer = verdict_told report.answer in
     claim_by (subject report.names (number_told report.is_each answer)) (for_each report.is_each report.names)
     (left_out_of (culprit_of report.answer)) answer
 
@@ -127,7 +127,7 @@ named_first name = last_of 500 (shown name) ++ codes ": "
 
 -- a sentence begins with the job's name, and ends with the words by which a line begins or ends
 abbrev pub job_sentence : Reported → List ℕ
-job_sentence report = named_first report.job ++ answer_phrase report (verdict_of report.answer) ++ 10 ∷ []
+job_sentence report = named_first report.job ++ answer_phrase report (verdict_told report.answer) ++ 10 ∷ []
 
 -- ---- how long it is
 

@@ -22,7 +22,7 @@ ghost use Rattle.job_reports.specs.JobSentences.{
   subject,
   verdict_phrase,
 };
-ghost use Rattle.job_reports.specs.Reports.{Reported, number_told, verdict_of};
+ghost use Rattle.job_reports.specs.Reports.{Reported, number_told, verdict_told};
 
 use crate::command_words::push_command_words;
 use crate::kind::{Kind, kind_of};
@@ -71,7 +71,7 @@ fn push_answer<A: Allocator + Copy>(
     report: &Report<'_, '_, A>,
 ) -> Result<(), AllocError>
     ensures { OnOk result (line.new.items ≡ line.old.items ++
-        answer_phrase report.now (verdict_of report.now.answer)) }
+        answer_phrase report.now (verdict_told report.now.answer)) }
 {
     match report.verdict() {
         Ok(verdict) => {
@@ -111,7 +111,7 @@ fn push_refusal<A: Allocator>(
 ) -> Result<(), AllocError>
     ensures { OnOk result (line.new.items ≡ line.old.items ++ refusal kind
         (subject report.now.names
-        (number_told report.now.is_each (verdict_of report.now.answer)))
+        (number_told report.now.is_each (verdict_told report.now.answer)))
         (for_each report.now.is_each report.now.names)) }
 {
     match kind {
@@ -151,7 +151,7 @@ fn push_subject<A: Allocator>(
     report: &Report<'_, '_, A>,
 ) -> Result<(), AllocError>
     ensures { OnOk result (line.new.items ≡ line.old.items ++ subject report.now.names
-        (number_told report.now.is_each (verdict_of report.now.answer))) }
+        (number_told report.now.is_each (verdict_told report.now.answer))) }
 {
     if report.number_told() == 0 {
         return line.extend_from_slice(b"each printer");
@@ -242,7 +242,7 @@ fn push_error<A: Allocator + Copy>(
     error: Error,
     report: &Report<'_, '_, A>,
 ) -> Result<(), AllocError>
-    requires { verdict_of report.now.answer ≡ Err error }
+    requires { verdict_told report.now.answer ≡ Err error }
     ensures { OnOk result (line.new.items ≡ line.old.items ++
         answer_phrase report.now (Err error)) }
 {
@@ -273,7 +273,7 @@ fn push_for_printer<A: Allocator>(
     report: &Report<'_, '_, A>,
 ) -> Result<(), AllocError>
     ensures { OnOk result (line.new.items ≡ line.old.items ++ for_printer report.now.names
-        (number_told report.now.is_each (verdict_of report.now.answer))) }
+        (number_told report.now.is_each (verdict_told report.now.answer))) }
 {
     if report.number_told() == 0 {
         return Ok(());
