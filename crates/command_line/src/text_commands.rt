@@ -56,7 +56,8 @@ Exit status:
   3  a read or a write failed, memory ran out, or no end after 2^40 reads";
 
 const PLAIN_EXPLANATION: &str =
-    "OUT is created once JOB is open; what it held before is lost. An OUT that is JOB, under whichever
+    "Once JOB is open its text is written beside OUT, and takes the place of OUT when it is whole: after
+an error OUT is as it was. A device or a pipe is written itself. An OUT that is JOB, under whichever
 path, is refused. Jobs that differ in spelling alone give the same bytes.
 
 Output, where the bytes are wrong; OUT then has the items before that place:
@@ -77,7 +78,8 @@ memory: check what was written.
 The fields are size, orientation, vmi, font, copies, sides, tray and lineterm, each with a value that
 the profile lists, as in --panel size=26,vmi=6,lineterm=2.
 
-OUT is created once JOB is open; what it held before is lost. An OUT that is JOB or PROFILE, under
+Once JOB is open the text is written beside OUT, and takes the place of OUT when it is whole: after an
+error OUT is as it was. A device or a pipe is written itself. An OUT that is JOB or PROFILE, under
 whichever path, is refused.
 
 Output, where the bytes are wrong or an item cannot be pinned; OUT then has what is due before that
@@ -120,7 +122,8 @@ pub fn profile<'a>(alloc: Global) -> Arg<'a> {
 
 /// The word OUT of the commands that write a job.
 pub fn out<'a>(alloc: Global) -> Arg<'a> {
-    required(alloc, "OUT", "The path of the file to write")
+    let help = "The path of the file to write, or - for standard output";
+    required(alloc, "OUT", help)
 }
 
 /// The option `--panel`.
