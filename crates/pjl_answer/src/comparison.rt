@@ -108,7 +108,7 @@ fn are_same(a: &[u32], b: &[u32]) -> bool
 fn is_same_device<A: Allocator, B: Allocator>(a: &Profile<A>, b: &Profile<B>) -> bool
     ensures { IsTrue result → IsSameDevice a.now b.now }
 {
-    are_same(a.trays(), b.trays())
+    are_same(a.device_trays(), b.device_trays())
         && a.has_duplex() == b.has_duplex()
         && a.depth() == b.depth()
         && a.memory() == b.memory()

@@ -8,7 +8,7 @@ use Rattle.streams.specs.declared.error.Error.TheVariants.{Memory, Read, Write, 
 use Rattle.streams.specs.Pieces.{ByReads, Spell}
 use Rattle.streams.specs.Source.{SourceState}
 use Rattle.preflight.specs.Session.{SessionState, ChecksOn, HasChecked, IsJudged, IsOutOfMemory}
-use Rattle.preflight.specs.Verdict.{IsExact, KeepsPromise, NeedsEachRead, StaysOpen, WasOpen}
+use Rattle.preflight.specs.Verdict.{IsExact, VerdictHolds, NeedsEachRead, StaysOpen, WasOpen}
 use Rattle.preflight.specs.Culprit.{IsTold}
 use Rattle.streams.specs.Driving.{IsAnswered, IsStopped, StopsBy}
 use Rattle.streams.proofs.Pieces.{known_by}
@@ -52,10 +52,10 @@ module _ (fleet : List Printer) (session now : Beside) (fresh : HasChecked fleet
         known = is.known;
       }
 
-  pub headline : IfOk r (λ verdict. ByReads old new (λ job. KeepsPromise fleet job verdict))
-  headline = IfOk-weaker r Answer (λ verdict. ByReads old new (λ job. KeepsPromise fleet job verdict)) by h
+  pub headline : IfOk r (λ verdict. ByReads old new (λ job. VerdictHolds fleet job verdict))
+  headline = IfOk-weaker r Answer (λ verdict. ByReads old new (λ job. VerdictHolds fleet job verdict)) by h
     where
-      by : (verdict : Verdict) → Answer verdict → ByReads old new (λ job. KeepsPromise fleet job verdict)
+      by : (verdict : Verdict) → Answer verdict → ByReads old new (λ job. VerdictHolds fleet job verdict)
       by verdict is = record {
         pieces = is.before ++ is.last ∷ [];
         given = is.given_is;

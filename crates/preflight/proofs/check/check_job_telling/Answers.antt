@@ -5,7 +5,7 @@ use Rattle.preflight.specs.declared.culprit.Judgement.{Judgement}
 use Rattle.streams.specs.declared.error.Error.{Error}
 use Rattle.streams.specs.declared.error.Error.TheVariants.{Memory, Read, Turns}
 use Rattle.preflight.specs.Culprit.{IsTold}
-use Rattle.preflight.specs.Verdict.{IsExact, KeepsPromise}
+use Rattle.preflight.specs.Verdict.{IsExact, VerdictHolds}
 use Rattle.preflight.proofs.Judging.{exact, headline, known_ok, needed, never_items, never_write, still_open, told, was_open}
 use Rattle.preflight.proofs.check.check_job_telling.Goals as goal
 
@@ -42,7 +42,7 @@ returns-clause-known_exact g c =
 
 pub returns-clause-known_headline : goal.returns-clause-known_headline
 returns-clause-known_headline g c =
-    known_ok _ _ (λ job verdict. KeepsPromise c.args.fleet.now job verdict) (Ok c.in_ok-verdict.verdict) (returns-clause-headline g c)
+    known_ok _ _ (λ job verdict. VerdictHolds c.args.fleet.now job verdict) (Ok c.in_ok-verdict.verdict) (returns-clause-headline g c)
 
 pub returns-clause-told : goal.returns-clause-told
 returns-clause-told g c =
