@@ -17,6 +17,9 @@ from samples import SAMPLES
 SECONDS = 60
 READ, WRITE, MEMORY = b"ERROR read\n", b"ERROR write\n", b"ERROR memory\n"
 STOPPED = 3
+# A file that is written beside OUT, and the first of these in a folder.
+BESIDE = re.compile(r"\.pclcheck-\d+\.out")
+FIRST_BESIDE = ".pclcheck-0.out"
 # The commands that are tried; those that write their text on standard output, those that take a
 # PROFILE, and those that write to OUT.
 TELLING = ("list", "pages")
@@ -168,6 +171,13 @@ class Tries:
         if os.path.lexists(self.path(name)):
             os.remove(self.path(name))
 
+    def sweep(self) -> List[str]:
+        """Removes what stands beside OUT, and gives its names."""
+        left = [name for name in os.listdir(self.folder) if BESIDE.fullmatch(name)]
+        for name in left:
+            self.remove(name)
+        return left
+
     def skip(self, what: str, why: str) -> None:
         self.lines.append(f"skipped: {self.kind}: {what}: {why}")
 
@@ -205,6 +215,9 @@ class Tries:
             process.kill()
             output, errors = process.communicate()
             return Run(-1000, output, errors, None)
+        left = self.sweep()
+        if left and process.returncode >= 0:
+            self.require(False, f"{process.args[1:]}", f"{left} stand beside OUT")
         return Run(process.returncode, output or b"", errors or b"",
                    read_bytes(self.path(out)))
 

@@ -59,7 +59,7 @@ def told_before(command: str, job: bytes, count: int, word: str = "@B") -> oracl
     answer = whole(command, decided(job, count) + FAULT, (word,))
     lines = answer.output.splitlines(keepends=True)
     output = b"" if command in ("check", "plain", "pin") else b"".join(lines[:-1])
-    return oracle.Answer(3, output, ["ERROR read"], answer.written)
+    return oracle.Answer(3, output, ["ERROR read"])
 
 
 def cuts(job: bytes) -> List[int]:

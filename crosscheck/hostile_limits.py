@@ -7,7 +7,7 @@ from dataclasses import replace
 from typing import Callable, Dict, List, Sequence, Tuple
 
 import oracle
-from hostile_base import (COMMANDS, MEMORY, NO_FILE, READ, STOPPED, TELLING, WITH_OUT, WRITE, Due,
+from hostile_base import (COMMANDS, MEMORY, READ, STOPPED, TELLING, WITH_OUT, WRITE, Due,
                           Run, Shim, Text, Tries, asked, due_of, exactly, front_of, one_of,
                           read_bytes, stopped_by, whole)
 from hostile_jobs import GOOD, long_job, put_files
@@ -17,19 +17,9 @@ from samples import SAMPLE_B, with_lines
 PAGE = 4096
 
 
-def text_parts(command: str, answer: oracle.Answer) -> Tuple[Text, Text]:
-    """Fronts of what is due on standard output and in OUT."""
-    output = front_of(answer.output if command in TELLING else b"")
-    if answer.written is None:
-        return output, NO_FILE
-    return output, Text("no OUT, or a front of what is due", lambda found: found is None
-                        or answer.written.startswith(found))
-
-
 def want_of_memory(command: str, answer: oracle.Answer) -> Due:
     """What is due where memory is refused, whenever that comes."""
-    output, written = text_parts(command, answer)
-    return stopped_by(MEMORY, output, written)
+    return stopped_by(MEMORY, front_of(answer.output if command in TELLING else b""))
 
 
 def requests_refused(tries: Tries, shim: Shim) -> None:
@@ -183,8 +173,7 @@ def short_files(tries: Tries) -> None:
             front = Text(f"the first {size} bytes of what is due",
                          lambda found, cut=text[:size]: found == cut)
             words = asked(command, "long")
-            due = (stopped_by(WRITE, written=front) if command in WITH_OUT
-                   else stopped_by(WRITE, front))
+            due = stopped_by(WRITE) if command in WITH_OUT else stopped_by(WRITE, front)
             name = f"{command}, {size} bytes"
             limits = limiting((signal.SIGXFSZ,), fsize=size)
             tries.compare(name, into_file(tries, words, limits), due)

@@ -4,14 +4,17 @@ import os
 import pwd
 import re
 import shutil
+import signal
 import subprocess
+import time
 from dataclasses import replace
-from typing import List, Optional, Tuple
+from typing import Callable, List, Optional, Tuple
 
-from hostile_base import (COMMANDS, NO_FILE, NOTHING, READ, SOME, UNSEEN, WITH_OUT, WITH_PROFILE,
-                          WRITE, Due, Shim, Tries, asked, due_of, exactly, matching, read_bytes,
-                          stopped_by, whole)
+from hostile_base import (COMMANDS, FIRST_BESIDE, NO_FILE, NOTHING, READ, SECONDS, SOME, UNSEEN,
+                          WITH_OUT, WITH_PROFILE, WRITE, Due, Shim, Tries, asked, due_of, exactly,
+                          matching, read_bytes, stopped_by, whole)
 from hostile_jobs import BAD, GOOD, long_job, put_files
+from hostile_reads import open_for, write_all
 from hostile_writes import closing
 from samples import SAMPLE_B
 
@@ -181,6 +184,116 @@ def outs_that_cannot_be_created(tries: Tries) -> None:
     tries.remove("dangling")
 
 
+def outs_that_are_links(tries: Tries) -> None:
+    """A link stays, and the file that it leads to is replaced, or is as it was."""
+    tries.kind = "OUT is a link"
+    os.mkdir(tries.path("folder"))
+    os.symlink("folder/far", tries.path("near"))
+    os.symlink(tries.path("near"), tries.path("nearer"))
+    for command in WITH_OUT:
+        for name, job in (("good", GOOD), ("bad", BAD)):
+            for old in (None, b"old"):
+                tries.remove("folder/far")
+                if old is not None:
+                    tries.put("folder/far", old)
+                due = due_of(whole(command, job))
+                run = tries.run(asked(command, name, out="nearer"), out="folder/far")
+                tries.compare(f"{command} {name}, {old}", run, due)
+                for link in ("near", "nearer"):
+                    tries.require(os.path.islink(tries.path(link)), f"{command} {link}",
+                                  "it is no link any more")
+        tries.put("folder/far", b"old")
+        run = tries.run(asked(command, "directory", out="nearer"), out="folder/far")
+        tries.compare(f"{command} of a directory", run,
+                      replace(stopped_by(READ), written=exactly(b"old")))
+    tries.require(os.listdir(tries.path("folder")) == ["far"], "folder", "more stands in it")
+    for name in ("near", "nearer", "folder/far"):
+        tries.remove(name)
+    os.rmdir(tries.path("folder"))
+
+
+def outs_with_modes(tries: Tries) -> None:
+    """OUT keeps its mode, and a new one has that of the system; another name of it keeps the text
+    that it had."""
+    tries.kind = "mode of OUT"
+    mask = os.umask(0o027)
+    for command in WITH_OUT:
+        for mode in (0o600, 0o640, 0o666, 0o755):
+            tries.put("out", b"old")
+            os.chmod(tries.path("out"), mode)
+            os.link(tries.path("out"), tries.path("second"))
+            run = tries.run(asked(command, "good"))
+            tries.compare(f"{command}, {mode:o}", run, due_of(whole(command, GOOD)),
+                          other_mode(tries, mode))
+            tries.require(read_bytes(tries.path("second")) == b"old", f"{command}, {mode:o}",
+                          "its other name has changed")
+            tries.remove("second")
+        run = tries.fresh(asked(command, "good"))
+        tries.compare(f"{command}, a new file", run, due_of(whole(command, GOOD)),
+                      other_mode(tries, 0o640))
+    os.umask(mask)
+
+
+def other_mode(tries: Tries, mode: int) -> str:
+    """The mode of OUT in words, where it is another one."""
+    found = os.stat(tries.path("out")).st_mode & 0o7777
+    return "" if found == mode else f"its mode is {found:o}"
+
+
+def outs_with_names_beside(tries: Tries) -> None:
+    """The names of files beside OUT may be taken, by links that lead nowhere too."""
+    tries.kind = "names beside OUT"
+    for command in WITH_OUT:
+        tries.put(".pclcheck-0.out", b"kept")
+        os.symlink("nowhere", tries.path(".pclcheck-1.out"))
+        tries.put("out", b"old")
+        process = tries.start(asked(command, "fifo"))
+        file = open_for(process, tries.path("fifo"))
+        wait_for(lambda: os.path.lexists(tries.path(".pclcheck-2.out")))
+        tries.require(read_bytes(tries.path("out")) == b"old", command, "OUT has changed too early")
+        write_all(file, GOOD)
+        os.close(file)
+        process.wait(SECONDS)
+        left = sorted(tries.sweep())
+        tries.compare(command, tries.finish(process), due_of(whole(command, GOOD)))
+        tries.require(left == [".pclcheck-0.out", ".pclcheck-1.out"], command,
+                      f"{left} stand beside OUT")
+        tries.require(not os.path.lexists(tries.path("nowhere")), command, "a link was followed")
+
+
+def wait_for(holds: Callable[[], bool]) -> None:
+    """Waits until something holds, but not for ever."""
+    end = time.monotonic() + SECONDS
+    while not holds() and time.monotonic() < end:
+        time.sleep(0.002)
+
+
+def has_text_beside(tries: Tries) -> bool:
+    """Whether something is written beside OUT."""
+    return bool(read_bytes(tries.path(FIRST_BESIDE)))
+
+
+def outs_of_killed_runs(tries: Tries) -> None:
+    """Where the program is killed OUT is as it was; what stands beside it is a front."""
+    tries.kind = "killed"
+    for command in WITH_OUT:
+        for number in (signal.SIGINT, signal.SIGTERM, signal.SIGKILL):
+            for old in (None, b"old"):
+                tries.remove("out")
+                if old is not None:
+                    tries.put("out", old)
+                process = tries.start(asked(command, "fifo"), setup=lambda: signal.signal(
+                    signal.SIGINT, signal.SIG_DFL))
+                file = open_for(process, tries.path("fifo"))
+                write_all(file, long_job(20_000))
+                wait_for(lambda: has_text_beside(tries))
+                process.send_signal(number)
+                run = tries.finish(process)
+                os.close(file)
+                tries.compare(f"{command}, signal {number}, {old}", run,
+                              Due((-number,), NOTHING, NOTHING, exactly(old)))
+
+
 def other_user() -> Optional[int]:
     """A user without rights, where this process may become one."""
     if os.geteuid() != 0:
@@ -219,7 +332,7 @@ def can_run(tries: Tries, how: dict) -> bool:
 def without_permission(tries: Tries, how: dict) -> None:
     """The same, as a user that `how` names to the system."""
     os.mkdir(tries.path("locked"))
-    for name, mode in (("unreadable", 0o222), ("read_only", 0o444)):
+    for name, mode in (("unreadable", 0o222), ("read_only", 0o444), ("writable", 0o666)):
         tries.put(name, GOOD)
         os.chmod(tries.path(name), mode)
     tries.put("locked/job", GOOD)
@@ -232,11 +345,11 @@ def without_permission(tries: Tries, how: dict) -> None:
             tries.try_(f"{command}, PROFILE {profile}", asked(command, "good", profile),
                        stopped_by(READ), **how)
     for command in WITH_OUT:
-        for out in ("read_only", "locked/out", "locked/job"):
+        for out in ("read_only", "writable", "locked/out", "locked/job"):
             tries.try_(f"{command}, OUT {out}", asked(command, "good", out=out),
                        stopped_by(WRITE), **how)
     os.chmod(tries.path("locked"), 0o700)
-    for name in ("read_only", "locked/job"):
+    for name in ("read_only", "writable", "locked/job"):
         tries.require(read_bytes(tries.path(name)) == GOOD, f"OUT {name}", "it has changed")
 
 
@@ -248,4 +361,8 @@ def try_all(tries: Tries, shim: Shim) -> None:
     both_are_read(tries)
     outs_that_are_long(tries)
     outs_that_cannot_be_created(tries)
+    outs_that_are_links(tries)
+    outs_with_modes(tries)
+    outs_with_names_beside(tries)
+    outs_of_killed_runs(tries)
     files_without_permission(tries)

@@ -5,8 +5,8 @@ import os
 import re
 from typing import List, Tuple
 
-from hostile_base import (MEMORY, NOTHING, NO_FILE, SOME, STOPPED, UNSEEN, WRITE, Due, Run, Shim,
-                          Text, Tries, exactly, front_of, matching, read_bytes, stopped_by)
+from hostile_base import (FIRST_BESIDE, MEMORY, NOTHING, SOME, STOPPED, UNSEEN, WRITE, Due, Run,
+                          Shim, Text, Tries, exactly, front_of, matching, read_bytes, stopped_by)
 from hostile_jobs import GOOD, put_files
 from hostile_outs import REFUSED_PROFILE, paths_of, put_links
 from hostile_writes import closing
@@ -113,7 +113,8 @@ def wholes(tries: Tries) -> List[Tuple[List[str], Run]]:
 
 
 def writes_that_fail(tries: Tries, shim: Shim) -> None:
-    """What could be written stands there, and is no whole profile and no whole sheet."""
+    """What could be written stands on standard output, and is no whole profile; OUT is as it
+    was."""
     tries.kind = "commands on profiles, writes that fail"
     with open("/dev/full", "wb") as full:
         for words, run in wholes(tries):
@@ -127,9 +128,8 @@ def writes_that_fail(tries: Tries, shim: Shim) -> None:
         whole = run.output or run.written
         for count in (0, 1, 100, len(whole) // 2, len(whole) - 1):
             errors = exactly(WRITE) if words[1] != "from-pjl" else SOME
-            due = Due((STOPPED,), front_of(run.output), errors,
-                      NO_FILE if run.written is None else front_of(run.written))
-            path = 1 if run.output else "out"
+            due = Due((STOPPED,), front_of(run.output), errors)
+            path = 1 if run.output else FIRST_BESIDE
             shim.try_(f"{words}, {count} bytes go", words, due, write=path, at=count,
                       errno=errno.ENOSPC)
 

@@ -10,9 +10,9 @@ import time
 from dataclasses import replace
 from typing import Callable, Iterable, List
 
-from hostile_base import (COMMANDS, NOTHING, NO_FILE, READ, SECONDS, TELLING, WITH_OUT,
+from hostile_base import (COMMANDS, FIRST_BESIDE, NOTHING, READ, SECONDS, TELLING, WITH_OUT,
                           WITH_PROFILE, Due, Run, Shim, Tries, asked, due_of, exactly, front_of,
-                          one_of, stopped_by, text_of, whole)
+                          stopped_by, text_of, whole)
 from hostile_jobs import (BAD, FAULT, GOOD, UNPINNABLE, cuts, decided, long_job, put_files,
                           told_before)
 from samples import SAMPLE_B
@@ -37,8 +37,7 @@ def job_reads_that_fail(tries: Tries, shim: Shim) -> None:
     frame = job.index(b"PW0.5") + 3
     for command in COMMANDS:
         answer = whole(command, job)
-        due = stopped_by(READ, front_of(answer.output if command in TELLING else b""),
-                         front_of(answer.written) if command in WITH_OUT else NO_FILE)
+        due = stopped_by(READ, front_of(answer.output if command in TELLING else b""))
         shim.try_(f"{command}, EIO in a frame", asked(command, "job"), due,
                   read="job", at=frame, errno=errno.EIO)
 
@@ -60,18 +59,16 @@ def reads_behind_a_verdict(tries: Tries, shim: Shim) -> None:
 
 
 def jobs_that_cannot_be_read(tries: Tries) -> None:
-    """A directory, memory that is not mapped, nothing at all, a socket; what OUT held may be lost
-    only where JOB could be opened."""
+    """A directory, memory that is not mapped, nothing at all, a socket; OUT is as it was."""
     tries.kind = "unreadable JOB"
     tries.remove("out")
     with socket.socket(socket.AF_UNIX) as listening:
         listening.bind(tries.path("socket"))
-        for job, opens in (("directory", True), ("/proc/self/mem", True), ("none", False),
-                           ("file/job", False), ("socket", False), ("loop", False), ("", False)):
+        for job in ("directory", "/proc/self/mem", "none", "file/job", "socket", "loop", ""):
             for command in COMMANDS:
                 due = stopped_by(READ)
                 if command in WITH_OUT:
-                    due = replace(due, written=one_of(b"", b"old") if opens else exactly(b"old"))
+                    due = replace(due, written=exactly(b"old"))
                     tries.put("out", b"old")
                 run = tries.run(asked(command, job))
                 tries.compare(f"{command} {job!r}", run, due)
@@ -318,7 +315,7 @@ def short_calls(tries: Tries, shim: Shim) -> None:
             shim.try_(f"{command}, reads of {size}", asked(command, "job"), due,
                       read="job", piece=size)
             if command != "check" or size < 10:
-                target = "out" if command in WITH_OUT else "1"
+                target = FIRST_BESIDE if command in WITH_OUT else "1"
                 shim.try_(f"{command}, writes of {size}", asked(command, "job"), due,
                           write=target, piece=size)
 

@@ -5,14 +5,16 @@ import re
 from dataclasses import replace
 from typing import Sequence, Tuple
 
-from hostile_base import (COMMANDS, READ, SOME, WITH_OUT, WITH_PROFILE, WRITE, Due, Shim, Tries,
-                          asked, due_of, exactly, matching, stopped_by, text_of, whole)
+from hostile_base import (COMMANDS, FIRST_BESIDE, READ, SOME, WITH_OUT, WITH_PROFILE, WRITE, Due,
+                          Shim, Tries, asked, due_of, exactly, matching, stopped_by, text_of, whole)
 from hostile_jobs import GOOD, put_files, sized
 from hostile_reads import pieces_of, through_fifo
 from samples import SAMPLE_B, SAMPLE_D
 
 SIZES = (0, 2, 4095, 4096, 4097, 8191, 8192, 8193, 65535, 65536, 65537)
 MOST_OF_TEXT = 65_536
+# The longest path of an OUT that is called `out`.
+LONGEST_OUT = 4095 + len("out") - len(FIRST_BESIDE)
 
 
 def jobs_of_sizes(tries: Tries) -> None:
@@ -91,14 +93,15 @@ def dotted(name: str, length: int) -> str:
 
 
 def long_paths(tries: Tries) -> None:
-    """A path of 4095 bytes is one; a longer one, or a name of 256, leads nowhere."""
+    """A path of 4095 bytes is one; a longer one, or a name of 256, leads nowhere. That of OUT has
+    room for the name beside it."""
     tries.kind = "long paths"
     tries.put("job", GOOD)
     tries.put("printer", SAMPLE_B.encode())
     for command in COMMANDS:
         due = due_of(whole(command, GOOD))
         tries.try_(f"{command}, 4095 bytes", asked(command, dotted("job", 4095),
-                   dotted("printer", 4095), dotted("out", 4095)), due)
+                   dotted("printer", 4095), dotted("out", LONGEST_OUT)), due)
         for long in (dotted("job", 4096), dotted("job", 100_000), "x" * 256, "x" * 5000):
             tries.try_(f"{command}, JOB of {len(long)}", asked(command, long), stopped_by(READ))
             if command in WITH_PROFILE:

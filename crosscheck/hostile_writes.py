@@ -5,9 +5,9 @@ import os
 from dataclasses import dataclass, replace
 from typing import Callable, List, Tuple
 
-from hostile_base import (COMMANDS, NOTHING, NO_FILE, READ, SOME, STOPPED, TELLING, WITH_OUT, WRITE,
-                          Due, Shim, Tries, asked, due_of, exactly, front_of_length, read_bytes,
-                          stopped_by, whole)
+from hostile_base import (COMMANDS, FIRST_BESIDE, NOTHING, NO_FILE, READ, SOME, STOPPED, TELLING,
+                          UNSEEN, WITH_OUT, WRITE, Due, Shim, Tries, asked, due_of, exactly,
+                          front_of_length, matching, read_bytes, stopped_by, whole)
 from hostile_jobs import BAD, GOOD, LONGER, UNPINNABLE, long_job, put_files
 from hostile_reads import pieces_of, through_fifo
 from samples import SAMPLE_B
@@ -39,9 +39,8 @@ def situations() -> List[Situation]:
     found = [of_job(command, name, job) for command in COMMANDS for name, job in
              (("good", GOOD), ("bad", BAD), ("unpinnable", UNPINNABLE), ("empty", b""))]
     for command in COMMANDS:
-        written = NOTHING if command in WITH_OUT else NO_FILE
         found.append(Situation(f"{command}, a directory", tuple(asked(command, "directory")),
-                               stopped_by(READ, written=written), False))
+                               stopped_by(READ), False))
     refused = Due((2,), errors=exactly(b"ERROR profile 1 1 Version\n"))
     for command in ("check", "pages", "pin"):
         words = tuple(asked(command, "good", "version"))
@@ -62,13 +61,14 @@ def situations() -> List[Situation]:
 def on_streams(situation: Situation, takes_output: bool, takes_errors: bool) -> Due:
     """What is due where standard output or standard error take nothing.
 
-    What cannot be written on standard output is a failed write, with its line and its status. A
-    line for standard error that cannot be written changes no status; but a usage error may also
-    end as a failed write, since it is both.
+    What cannot be written on standard output is a failed write, with its line and its status, and
+    OUT is as it was. A line for standard error that cannot be written changes no status; but a
+    usage error may also end as a failed write, since it is both.
     """
     due = situation.due
     if situation.has_output and not takes_output:
-        due = replace(due, status=(STOPPED,), output=NOTHING, errors=exactly(WRITE))
+        due = replace(due, status=(STOPPED,), output=NOTHING, errors=exactly(WRITE),
+                      written=NO_FILE)
     elif situation.is_usage and not takes_errors:
         due = replace(due, status=due.status + (STOPPED,))
     return due if takes_errors else replace(due, errors=NOTHING)
@@ -178,6 +178,32 @@ def outs_on_devices(tries: Tries) -> None:
         tries.remove("output")
 
 
+def outs_on_standard_output(tries: Tries) -> None:
+    """With `-` the text goes to standard output, and behind it the line of a failure."""
+    tries.kind = "OUT is standard output"
+    for command in WITH_OUT:
+        for name, job in (("good", GOOD), ("bad", BAD), ("empty", b"")):
+            answer = whole(command, job)
+            words, text = asked(command, name, out="-"), answer.written + answer.output
+            due = Due((answer.status,), exactly(text))
+            tries.try_(f"{command} {name}, -", words, due)
+            for mode in ("wb", "ab"):
+                with open(tries.path("output"), mode) as file:
+                    run = tries.fresh(words, stdout=file)
+                run = replace(run, output=read_bytes(tries.path("output")))
+                tries.compare(f"{command} {name}, - into a file, {mode}", run, due)
+                tries.remove("output")
+            due = stopped_by(WRITE) if text else Due((answer.status,))
+            tries.try_(f"{command} {name}, - closed", words, due, setup=closing((1,)))
+        tries.require(not os.path.lexists(tries.path("-")), command, "there is a file '-'")
+        tries.put("job", GOOD)
+        with open(tries.path("job"), "ab") as file:
+            run = tries.run(asked(command, "job", out="-"), stdout=file)
+        wrong = "" if read_bytes(tries.path("job")) == GOOD else "JOB has changed"
+        due = Due((2,), NOTHING, matching(rb"error: [^\n]*OUT[^\n]*JOB[^\n]*\n"), UNSEEN)
+        tries.compare(f"{command}, - is JOB", run, due, wrong)
+
+
 def outs_that_are_fifos(tries: Tries) -> None:
     """OUT may be a FIFO; so may JOB and OUT."""
     tries.kind = "OUT is a FIFO"
@@ -212,13 +238,12 @@ def writes_that_fail_late(tries: Tries, shim: Shim) -> None:
                 continue
             target, due = "1", stopped_by(WRITE, front_of_length(text, count, count))
             if command in WITH_OUT:
-                target = "out"
-                due = stopped_by(WRITE, written=front_of_length(text, count, count))
+                target, due = FIRST_BESIDE, stopped_by(WRITE)
             shim.try_(f"{command}, {count} bytes go", asked(command, "long"), due,
                       write=target, at=count, errno=errno.ENOSPC)
     for command in WITH_OUT:
         answer = whole(command, BAD)
-        due = stopped_by(WRITE, front_of_length(answer.output, 9, 9), exactly(answer.written))
+        due = stopped_by(WRITE, front_of_length(answer.output, 9, 9))
         shim.try_(f"{command}, the line of a fault", asked(command, "bad"), due,
                   write="1", at=9, errno=errno.ENOSPC)
 
@@ -230,5 +255,6 @@ def try_all(tries: Tries, shim: Shim) -> None:
     streams_without_reader(tries)
     a_stream_that_does_not_wait(tries)
     outs_on_devices(tries)
+    outs_on_standard_output(tries)
     outs_that_are_fifos(tries)
     writes_that_fail_late(tries, shim)

@@ -37,9 +37,10 @@ const SHEET_EXPLANATION: &str =
 what to measure and what it has to be by the profile. Where all lists of the panel have one value, the
 first page sets nothing: it shows how the panel stands.
 
-OUT is created once the job was made and has passed a check for PROFILE; what it held before is lost.
-An OUT that is PROFILE, under whichever path, is refused. The last line on paper is END OF SHEET: a
-sheet without it is not whole.
+Once the job was made and has passed a check for PROFILE it is written beside OUT, and takes the place
+of OUT when it is whole: after an error OUT is as it was. A device or a pipe is written itself. An OUT
+that is PROFILE, under whichever path, is refused. The last line on paper is END OF SHEET: a sheet
+without it is not whole.
 
 Exit status:
   0  the job was written, or help was asked for

@@ -58,7 +58,8 @@ Exit status:
   3  a read or a write failed, memory ran out, or no end after 2^40 reads";
 
 const PLAIN_EXPLANATION: &str =
-    "OUT is created once JOB is open; what it held before is lost. An OUT that is JOB, under whichever
+    "Once JOB is open its text is written beside OUT, and takes the place of OUT when it is whole: after
+an error OUT is as it was. A device or a pipe is written itself. An OUT that is JOB, under whichever
 path, is refused. Jobs that differ in spelling alone give the same bytes.
 
 Output, where the bytes are wrong; OUT then has the items before that place:
@@ -79,7 +80,8 @@ memory: check what was written.
 The fields are size, orientation, vmi, font, copies, sides, tray and lineterm, each with a value that
 the profile lists, as in --panel size=26,vmi=6,lineterm=2.
 
-OUT is created once JOB is open; what it held before is lost. An OUT that is JOB or PROFILE, under
+Once JOB is open the text is written beside OUT, and takes the place of OUT when it is whole: after an
+error OUT is as it was. A device or a pipe is written itself. An OUT that is JOB or PROFILE, under
 whichever path, is refused.
 
 Output, where the bytes are wrong or an item cannot be pinned; OUT then has what is due before that
@@ -114,7 +116,7 @@ pub(crate) const OUT: WordRow = WordRow {
     id: "OUT",
     need: Need::Always,
     count: Count::One,
-    help: "The path of the file to write",
+    help: "The path of the file to write, or - for standard output",
 };
 
 /// The words of the command `list`.

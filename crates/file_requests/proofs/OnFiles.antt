@@ -1,5 +1,6 @@
 -- What commands leave on files that are new.
-use Rattle.std.proofs.Common.{◌≡◌, ◌⊎◌, ◌||◌, ◌++◌, ◌∷◌, ℕ, Bool, IsTrue, List, [], Option, false, refl, subst, sym, true}
+use Rattle.std.proofs.Common.{◌≡◌, ◌∙◌, ◌⊎◌, ◌||◌, ◌++◌, ◌∷◌, ℕ, Bool, IsTrue, List, [], Option, ap, false, inl, inr, refl, subst, sym}
+use Rattle.std.proofs.Common.{true}
 use Rattle.profile_commands.specs.ProfileFromPjl.{LeavesAnswered}
 use Rattle.profile_commands.specs.ProfileLint.{LeavesLint}
 use Rattle.profile_commands.specs.ProfileSheet.{LeavesSheet}
@@ -8,7 +9,7 @@ use Rattle.picture_command.specs.Picture.{Around, HasNoEnd, IsNamedBy, LeavesPic
 use Rattle.renderings.specs.Due.{Rendering, plain_rendering}
 use Rattle.streams.specs.declared.error.Error.TheVariants.{Turns}
 use Rattle.streams.proofs.Uses.{one_more, one_read, one_written}
-use Rattle.streams.specs.Files.{no_outlet, no_source}
+use Rattle.streams.specs.Files.{FileOutletState, no_outlet, no_source}
 use Rattle.streams.specs.Outlet.{OutletState}
 use Rattle.streams.specs.Source.{SourceState}
 use Rattle.streams.specs.Used.{FileUse, read_at, written_at}
@@ -25,6 +26,7 @@ use Rattle.requests.specs.declared.status.Status.TheVariants.{Stopped}
 use Rattle.subcommands.specs.Check.{IsRightFor, Leaves, texts_by}
 use Rattle.subcommands.specs.JobNotes.{LeavesNotes}
 use Rattle.subcommands.specs.JobTexts.{EndsBy, LeavesOut, LeavesPages, LeavesPinned, LeavesText}
+use Rattle.file_requests.specs.Outs.{EndsOut, PutsOut}
 use Rattle.file_requests.specs.JobRequests.{LeavesCheck, LeavesNotesFor, LeavesPagesFor, LeavesPictureOfFile, LeavesPin}
 use Rattle.file_requests.specs.JobRequests.{LeavesPlain, LeavesRendered}
 use Rattle.file_requests.specs.ProfileRequests.{LeavesAnsweredFor, LeavesLintFor, LeavesSheetFor, LeavesShownFor}
@@ -48,18 +50,35 @@ shown_left word given texts failed status out out' err err' none left = record {
   left = subst (λ g. LeavesShown (text_named word) word g texts failed status out out' err err') none left;
 }
 
-pub sheet_left : (word into to : List ℕ) (given texts : List (List ℕ)) (failed : Bool) (status : Status)
-    (out file err err' : OutletState) (used used' : List FileUse)
-    → given ≡ [] → out ≡ no_outlet → LeavesSheet (text_named word) word given texts failed status out file err err'
-    → to ≡ into → used' ≡ used ++ written_at to file ∷ [] → LeavesSheetFor word into status used used' err err'
-sheet_left word into to given texts failed status out file err err' used used' none new left is written = record {
+-- what was put in OUT's place is so in the history
+puts_out : (into : List ℕ) (answer status : Status) (file : OutletState) (file' : FileOutletState) → EndsOut answer status file file' →
+    PutsOut into answer status file (written_at into file'.outlet file'.is_put)
+puts_out into answer status file file' (inl same) =
+    inl (same.0, ap (λ (o : OutletState). written_at into o file'.is_put) same.1 ∙ ap (λ (b : Bool). written_at into file b) same.2)
+puts_out into answer status file file' (inr stop) =
+    let unput : OutletState = record file { failed = true } in
+    inr (
+      stop.0,
+      stop.1,
+      ap (λ (o : OutletState). written_at into o file'.is_put) stop.2 ∙ ap (λ (b : Bool). written_at into unput b) stop.3,
+    )
+
+pub sheet_left : (word into to : List ℕ) (given texts : List (List ℕ)) (failed : Bool) (answer status : Status)
+    (out file err err' : OutletState) (file' : FileOutletState) (used used' : List FileUse)
+    → given ≡ [] → out ≡ no_outlet → LeavesSheet (text_named word) word given texts failed answer out file err err'
+    → EndsOut answer status file file'
+    → to ≡ into → used' ≡ used ++ written_at to file'.outlet file'.is_put ∷ [] → LeavesSheetFor word into status used used' err err'
+sheet_left word into to given texts failed answer status out file err err' file' used used' none new left end is written = record {
   texts = texts;
   failed = failed;
   file = file;
-  used_are = one_written used used' into to file is written;
+  answer = answer;
+  one = written_at into file'.outlet file'.is_put;
+  used_are = one_written used used' into to file'.outlet file'.is_put is written;
   left =
-      subst (λ o. LeavesSheet (text_named word) word [] texts failed status o file err err') new
-      (subst (λ g. LeavesSheet (text_named word) word g texts failed status out file err err') none left);
+      subst (λ o. LeavesSheet (text_named word) word [] texts failed answer o file err err') new
+      (subst (λ g. LeavesSheet (text_named word) word g texts failed answer out file err err') none left);
+  put = puts_out into answer status file file' end;
 }
 
 answered_left : (answer : List ℕ) (base : Option (List ℕ)) (given texts : List (List ℕ)) (failed : Bool) (status : Status)
@@ -124,27 +143,33 @@ rendered_left path at rendering job job' status out out' used used' new ends is 
   ends = subst (λ s. EndsBy status (λ s s'. LeavesText status rendering s s' out out') s job' job'.failed out'.failed) new ends;
 }
 
-pub plain_left : (path into at to : List ℕ) (job job' : SourceState) (status : Status) (out out' file file' : OutletState)
-    (used between used' : List FileUse)
+pub plain_left : (path into at to : List ℕ) (job job' : SourceState) (answer status : Status) (out out' file file' : OutletState)
+    (ended : FileOutletState) (used between used' : List FileUse)
     → job ≡ no_source → file ≡ no_outlet
-    → EndsBy status (λ s s'. LeavesOut status plain_rendering s s' file file' out out') job job' job'.failed (file'.failed || out'.failed)
-    → at ≡ path → to ≡ into → between ≡ used ++ read_at at job' ∷ [] → used' ≡ between ++ written_at to file' ∷ []
+    → EndsBy answer (λ s s'. LeavesOut answer plain_rendering s s' file file' out out') job job' job'.failed (file'.failed || out'.failed)
+    → EndsOut answer status file' ended
+    → at ≡ path → to ≡ into → between ≡ used ++ read_at at job' ∷ [] → used' ≡ between ++ written_at to ended.outlet ended.is_put ∷ []
     → LeavesPlain path into status used used' out out'
-plain_left path into at to job job' status out out' file file' used between used' new unwritten ends is is_out read written = record {
-  job = job';
-  file = file';
-  used_are = one_more used between used' (read_at path job') (written_at into file')
-      (one_read used between path at job' is read) (one_written between used' into to file' is_out written);
-  ends =
-      subst
-      (λ f. EndsBy status (λ s s'. LeavesOut status plain_rendering s s' f file' out out') no_source job' job'.failed
-      (file'.failed || out'.failed))
-      unwritten
-      (subst
-      (λ s. EndsBy status (λ s s'. LeavesOut status plain_rendering s s' file file' out out') s job' job'.failed
-      (file'.failed || out'.failed))
-      new ends);
-}
+plain_left path into at to job job' answer status out out' file file' ended used between used' new unwritten ends end is is_out read
+    written = record {
+      job = job';
+      file = file';
+      answer = answer;
+      one = written_at into ended.outlet ended.is_put;
+      used_are = one_more used between used' (read_at path job') (written_at into ended.outlet ended.is_put)
+          (one_read used between path at job' is read)
+          (one_written between used' into to ended.outlet ended.is_put is_out written);
+      ends =
+          subst
+          (λ f. EndsBy answer (λ s s'. LeavesOut answer plain_rendering s s' f file' out out') no_source job' job'.failed
+          (file'.failed || out'.failed))
+          unwritten
+          (subst
+          (λ s. EndsBy answer (λ s s'. LeavesOut answer plain_rendering s s' file file' out out') s job' job'.failed
+          (file'.failed || out'.failed))
+          new ends);
+      put = puts_out into answer status file' ended end;
+    }
 
 -- the work stopped at a read just where one failed, whichever it was
 pub at_reads : (status : Status) (Left : SourceState → SourceState → Type 0) (job job' : SourceState) (read_failed write_failed : Bool)
@@ -204,36 +229,42 @@ notes_left path at word given texts failed job job' status out out' used used' n
 }
 
 pub pin_left : (path into at to word : List ℕ) (choices : List Choice) (given texts : List (List ℕ)) (failed : Bool)
-    (job job' : SourceState) (status : Status) (out out' file file' err err' : OutletState) (used between used' : List FileUse)
+    (job job' : SourceState) (answer status : Status) (out out' file file' err err' : OutletState) (ended : FileOutletState)
+    (used between used' : List FileUse)
     → given ≡ [] → job ≡ no_source → file ≡ no_outlet
-    → EndsBy status (λ s s'. LeavesPinned status (IsNamed (text_named word) given texts) choices s s' file file' out out') job job'
+    → EndsBy answer (λ s s'. LeavesPinned answer (IsNamed (text_named word) given texts) choices s s' file file' out out') job job'
     (job'.failed || failed) (file'.failed || out'.failed)
-    → TellsOfPin status (IsNamed (text_named word) given texts) choices err err'
-    → at ≡ path → to ≡ into → between ≡ used ++ read_at at job' ∷ [] → used' ≡ between ++ written_at to file' ∷ []
+    → TellsOfPin answer (IsNamed (text_named word) given texts) choices err err'
+    → EndsOut answer status file' ended
+    → at ≡ path → to ≡ into → between ≡ used ++ read_at at job' ∷ [] → used' ≡ between ++ written_at to ended.outlet ended.is_put ∷ []
     → LeavesPin path into word choices status used used' out out' err err'
-pin_left path into at to word choices given texts failed job job' status out out' file file' err err' used between used' none new unwritten
-    ends choice is is_out read written = record {
+pin_left path into at to word choices given texts failed job job' answer status out out' file file' err err' ended used between used' none
+    new unwritten ends choice end is is_out read written = record {
       job = job';
       texts = texts;
       file = file';
-      used_are = one_more used between used' (read_at path job') (written_at into file')
-          (one_read used between path at job' is read) (one_written between used' into to file' is_out written);
+      answer = answer;
+      one = written_at into ended.outlet ended.is_put;
+      used_are = one_more used between used' (read_at path job') (written_at into ended.outlet ended.is_put)
+          (one_read used between path at job' is read)
+          (one_written between used' into to ended.outlet ended.is_put is_out written);
       ends =
-          at_reads status (λ s s'. LeavesPinned status (IsNamed (text_named word) [] texts) choices s s' no_outlet file' out out') no_source
+          at_reads answer (λ s s'. LeavesPinned answer (IsNamed (text_named word) [] texts) choices s s' no_outlet file' out out') no_source
           job' (job'.failed || failed) (file'.failed || out'.failed)
           (subst
-          (λ f. EndsBy status (λ s s'. LeavesPinned status (IsNamed (text_named word) [] texts) choices s s' f file' out out') no_source
+          (λ f. EndsBy answer (λ s s'. LeavesPinned answer (IsNamed (text_named word) [] texts) choices s s' f file' out out') no_source
           job' (job'.failed || failed) (file'.failed || out'.failed))
           unwritten
           (subst
-          (λ g. EndsBy status (λ s s'. LeavesPinned status (IsNamed (text_named word) g texts) choices s s' file file' out out') no_source
+          (λ g. EndsBy answer (λ s s'. LeavesPinned answer (IsNamed (text_named word) g texts) choices s s' file file' out out') no_source
           job' (job'.failed || failed) (file'.failed || out'.failed))
           none
           (subst
-          (λ s. EndsBy status (λ s s'. LeavesPinned status (IsNamed (text_named word) given texts) choices s s' file file' out out') s job'
+          (λ s. EndsBy answer (λ s s'. LeavesPinned answer (IsNamed (text_named word) given texts) choices s s' file file' out out') s job'
           (job'.failed || failed) (file'.failed || out'.failed))
           new ends)));
-      choice = subst (λ g. TellsOfPin status (IsNamed (text_named word) g texts) choices err err') none choice;
+      choice = subst (λ g. TellsOfPin answer (IsNamed (text_named word) g texts) choices err err') none choice;
+      put = puts_out into answer status file' ended end;
     }
 
 -- one of two readings failed, or that of a text

@@ -7,7 +7,7 @@ use Rattle.renderings.specs.Due.{Rendering, plain_rendering}
 use Rattle.streams.specs.Files.{no_outlet, no_source}
 use Rattle.streams.specs.Outlet.{OutletState}
 use Rattle.streams.specs.Source.{SourceState}
-use Rattle.streams.specs.Used.{FileUse, read_at, written_at}
+use Rattle.streams.specs.Used.{FileUse, read_at}
 use Rattle.requests.specs.declared.selection.Selection.{Selection}
 use Rattle.named_inputs.specs.Fleet.{IsNamed, RefusesBy, RefusesOne, RefusesRead}
 use Rattle.subcommands.specs.Check.{IsRightFor, Leaves, texts_by}
@@ -15,6 +15,7 @@ use Rattle.subcommands.specs.JobNotes.{LeavesNotes}
 use Rattle.subcommands.specs.JobTexts.{EndsBy, LeavesOut, LeavesPages, LeavesPinned, LeavesText}
 use Rattle.named_inputs.specs.Choices.{TellsOfPin}
 use Rattle.picture_command.specs.Picture.{HasNoEnd, IsNamedBy, LeavesPicture}
+use Rattle.file_requests.specs.Outs.{PutsOut}
 use Rattle.requests.specs.Status.{is_stop_of_read, is_stop_of_write}
 use Rattle.named_inputs.specs.Texts.{text_named}
 use Rattle.requests.specs.declared.choices.Choice.{Choice}
@@ -96,23 +97,30 @@ LeavesPictureFor word choices selection job status used used' out out' err err' 
     LeavesPictureOfFile word choices selection job status used used' out out' err err'
     ⊎ (RefusesPipe (job ∷ []) read_to_draw status err err' × (out' ≡ out) × (used' ≡ used))
 
--- the job at a path in its canonical spelling, in the file at another
+-- the job at a path in its canonical spelling, put in the place of the file at another
 pub record LeavesPlain (path into : List ℕ) (status : Status) (used used' : List FileUse)
     (out out' : OutletState) : Type 0 where
   pub job : SourceState
   pub file : OutletState
-  pub used_are : used' ≡ used ++ read_at path job ∷ written_at into file ∷ []
-  pub ends : EndsBy status (λ old new. LeavesOut status plain_rendering old new no_outlet file out out') no_source job
+  pub answer : Status
+  pub one : FileUse
+  pub used_are : used' ≡ used ++ read_at path job ∷ one ∷ []
+  pub ends : EndsBy answer (λ old new. LeavesOut answer plain_rendering old new no_outlet file out out') no_source job
       job.failed (file.failed || out'.failed)
+  pub put : PutsOut into answer status file one
 
--- the job at a path, pinned to the panel that is chosen of the printer that this word names, in the file at another
+-- the job at a path, pinned to the panel that is chosen of the printer that this word names, put in the place of the
+-- file at another
 pub record LeavesPin (path into word : List ℕ) (choices : List Choice) (status : Status) (used used' : List FileUse)
     (out out' err err' : OutletState) : Type 0 where
   pub job : SourceState
   pub texts : List (List ℕ)
   pub file : OutletState
-  pub used_are : used' ≡ used ++ read_at path job ∷ written_at into file ∷ []
-  pub ends : EndsBy status
-      (λ old new. LeavesPinned status (IsNamed (text_named word) [] texts) choices old new no_outlet file out out')
-      no_source job (is_stop_of_read status) (file.failed || out'.failed)
-  pub choice : TellsOfPin status (IsNamed (text_named word) [] texts) choices err err'
+  pub answer : Status
+  pub one : FileUse
+  pub used_are : used' ≡ used ++ read_at path job ∷ one ∷ []
+  pub ends : EndsBy answer
+      (λ old new. LeavesPinned answer (IsNamed (text_named word) [] texts) choices old new no_outlet file out out')
+      no_source job (is_stop_of_read answer) (file.failed || out'.failed)
+  pub choice : TellsOfPin answer (IsNamed (text_named word) [] texts) choices err err'
+  pub put : PutsOut into answer status file one

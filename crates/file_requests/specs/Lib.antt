@@ -1,2 +1,3 @@
 pub mod JobRequests
+pub mod Outs
 pub mod ProfileRequests

@@ -9,7 +9,8 @@ use Rattle.profile_commands.specs.ProfileShow.{LeavesShown}
 use Rattle.streams.specs.Files.{no_outlet, no_source}
 use Rattle.streams.specs.Outlet.{OutletState}
 use Rattle.streams.specs.Source.{SourceState}
-use Rattle.streams.specs.Used.{FileUse, written_at}
+use Rattle.streams.specs.Used.{FileUse}
+use Rattle.file_requests.specs.Outs.{PutsOut}
 use Rattle.named_inputs.specs.FileJobs.{reads_named}
 use Rattle.named_inputs.specs.Texts.{text_named}
 use Rattle.requests.specs.declared.status.Status.{Status}
@@ -26,14 +27,17 @@ pub record LeavesShownFor (word : List ℕ) (status : Status) (out out' err err'
   pub failed : Bool
   pub left : LeavesShown (text_named word) word [] texts failed status out out' err err'
 
--- the sheet of the profile that this word names, in the file at a path
+-- the sheet of the profile that this word names, put in the place of the file at a path
 pub record LeavesSheetFor (word into : List ℕ) (status : Status) (used used' : List FileUse)
     (err err' : OutletState) : Type 0 where
   pub texts : List (List ℕ)
   pub failed : Bool
   pub file : OutletState
-  pub used_are : used' ≡ used ++ written_at into file ∷ []
-  pub left : LeavesSheet (text_named word) word [] texts failed status no_outlet file err err'
+  pub answer : Status
+  pub one : FileUse
+  pub used_are : used' ≡ used ++ one ∷ []
+  pub left : LeavesSheet (text_named word) word [] texts failed answer no_outlet file err err'
+  pub put : PutsOut into answer status file one
 
 -- a profile with what the answer tells that a word names
 pub record LeavesAnsweredFor (answer : List ℕ) (base : Option (List ℕ)) (status : Status) (used used' : List FileUse)

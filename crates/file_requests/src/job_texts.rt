@@ -7,10 +7,12 @@ ghost use Rattle.file_requests.specs.JobRequests.{LeavesPictureFor, LeavesPin, L
 ghost use Rattle.file_requests.specs.JobRequests.{LeavesRendered};
 ghost use Rattle.named_inputs.specs.Texts.{text_named};
 
+use crate::outs::end_out;
 use job_reports::{is_pipe, refuse_pipe};
 use named_inputs::FileTexts;
 use picture_command::PictureAsked;
 use requests::{PanelSetting, Status};
+use std::io::Print;
 use std::rt::Files;
 use streams::{FilesUsed, Outlet, OutletAt, SourceAt};
 
@@ -145,8 +147,8 @@ pub fn notes<R: Files + AllocGlobal, O: Outlet>(
     status
 }
 
-/// Writes the job at a path again, at another.
-pub fn plain<R: Files + AllocGlobal, O: Outlet>(
+/// Writes the job at a path again, in the place of the file at another.
+pub fn plain<R: Files + Print + AllocGlobal, O: Outlet>(
     rt: &R,
     job: &str,
     out: &str,
@@ -159,14 +161,16 @@ pub fn plain<R: Files + AllocGlobal, O: Outlet>(
 {
     let mut source = SourceAt::new(rt, job);
     let mut outlet = OutletAt::new(rt, out);
-    let status = subcommands::plain::plain(rt.alloc(), &mut source.file, &mut outlet.file, stdout);
+    let answer = subcommands::plain::plain(rt.alloc(), &mut source.file, &mut outlet.file, stdout);
+    let status = end_out(answer, &mut outlet.file);
     used.read(source);
     used.written(outlet);
     status
 }
 
-/// Writes the job at a path again, at another, pinned to a panel setting of a printer.
-pub fn pin<R: Files + AllocGlobal, O: Outlet, E: Outlet>(
+/// Writes the job at a path again, in the place of the file at another, pinned to a panel setting
+/// of a printer.
+pub fn pin<R: Files + Print + AllocGlobal, O: Outlet, E: Outlet>(
     rt: &R,
     job: &str,
     setting: &PanelSetting<'_>,
@@ -184,7 +188,7 @@ pub fn pin<R: Files + AllocGlobal, O: Outlet, E: Outlet>(
     let mut source = SourceAt::new(rt, job);
     let mut texts = FileTexts::new(rt);
     let mut outlet = OutletAt::new(rt, out);
-    let status = subcommands::pin::pin(
+    let answer = subcommands::pin::pin(
         rt.alloc(),
         &mut source.file,
         &mut texts,
@@ -193,6 +197,7 @@ pub fn pin<R: Files + AllocGlobal, O: Outlet, E: Outlet>(
         stdout,
         stderr,
     );
+    let status = end_out(answer, &mut outlet.file);
     used.read(source);
     used.written(outlet);
     status

@@ -2,4 +2,5 @@
 #![tactic(auto)]
 
 pub mod job_texts;
+mod outs;
 pub mod profiles;

@@ -3,13 +3,14 @@ ghost use Rattle.std.specs.Prelude.{IsFalse, map, option_map};
 ghost use Rattle.file_requests.specs.ProfileRequests.{LeavesAnsweredFor, LeavesLintFor};
 ghost use Rattle.file_requests.specs.ProfileRequests.{LeavesSheetFor, LeavesShownFor};
 
+use crate::outs::end_out;
 use named_inputs::{FileJobs, FileTexts, Jobs, is_input};
 use profile_commands::from_pjl::profile_from_pjl;
 use profile_commands::lint::profile_lint;
 use profile_commands::sheet::profile_sheet;
 use profile_commands::show::profile_show;
 use requests::Status;
-use std::io::Input;
+use std::io::{Input, Print};
 use std::rt::Files;
 use streams::{FilesUsed, Outlet, OutletAt, SourceAt};
 
@@ -45,8 +46,8 @@ pub fn show<R: Files + AllocGlobal, O: Outlet, E: Outlet>(
     profile_show(rt.alloc(), &mut texts, word, stdout, stderr)
 }
 
-/// Writes the sheet of a profile at a path.
-pub fn sheet<R: Files + AllocGlobal, E: Outlet>(
+/// Writes the sheet of a profile in the place of the file at a path.
+pub fn sheet<R: Files + Print + AllocGlobal, E: Outlet>(
     rt: &R,
     word: &str,
     out: &str,
@@ -59,7 +60,8 @@ pub fn sheet<R: Files + AllocGlobal, E: Outlet>(
 {
     let mut texts = FileTexts::new(rt);
     let mut outlet = OutletAt::new(rt, out);
-    let status = profile_sheet(rt.alloc(), &mut texts, word, &mut outlet.file, stderr);
+    let answer = profile_sheet(rt.alloc(), &mut texts, word, &mut outlet.file, stderr);
+    let status = end_out(answer, &mut outlet.file);
     used.written(outlet);
     status
 }

@@ -12,13 +12,13 @@ use picture_command::PictureAsked;
 use profile_commands::list::profile_list;
 use profile_commands::new::profile_new;
 use requests::{PanelSetting, Request, Status};
-use std::io::Input;
+use std::io::{Input, Print};
 use std::rt::Files;
 use streams::{FilesUsed, Outlet};
 
 /// Does what is asked for. Its files are opened by the subcommands, as late as these say; a history
 /// is kept of them, but for the texts of profiles and the jobs of many.
-pub fn fulfil<R: Files + Input + AllocGlobal, O: Outlet, E: Outlet>(
+pub fn fulfil<R: Files + Input + Print + AllocGlobal, O: Outlet, E: Outlet>(
     rt: &R,
     request: &Request<'_>,
     used: &mut FilesUsed,

@@ -8,7 +8,7 @@ ghost use Rattle.std.specs.Prelude.{IsFalse};
 use crate::by_request::fulfil;
 use command_line::read_words;
 use requests::{Status, tell};
-use std::io::Input;
+use std::io::{Input, Print};
 use std::os::fd::{AsRawFd, IntoRawFd, RawFd};
 use std::process::ExitCode;
 use std::rt::{Env, Files};
@@ -70,7 +70,7 @@ fn refuse_usage<E: Outlet>(kind: io::ErrorKind, stderr: &mut E) -> Status
 }
 
 /// Does what the words ask for.
-fn run<R: Files + Input + AllocGlobal, O: Outlet, E: Outlet>(
+fn run<R: Files + Input + Print + AllocGlobal, O: Outlet, E: Outlet>(
     rt: &R,
     words: &[String],
     stdout: &mut O,

@@ -1,5 +1,5 @@
 -- What the command `profile sheet` leaves.
-use Rattle.std.specs.Prelude.{◌≡◌, ◌⊎◌, ◌∷◌, [], ℕ, List, Bool, Option, true, codes, ◌++◌, ⊤}
+use Rattle.std.specs.Prelude.{◌≡◌, ◌⊎◌, ◌∷◌, [], ℕ, List, Bool, Option, true, false, codes, ◌++◌, ⊤}
 use Rattle.device_profile.specs.Name.{printer_name}
 use Rattle.device_profile.specs.Printer.{Printer}
 use Rattle.streams.specs.declared.error.Error.TheVariants.{Memory, Read, Write, Turns}
@@ -35,13 +35,19 @@ unprinted_sheet word failure =
     codes "error: the sheet for '"
     ++ (shown word ++ (codes "' would not pass on it: " ++ verdict_line (failing failure)))
 
+-- OUT could not be created, for want of memory or since the system refused it, and nothing is written
+abbrev pub HasNoOut : Status → OutletState → OutletState → Type 0
+HasNoOut (Stopped Memory) out out' = out' ≡ record out { failed = false }
+HasNoOut (Stopped Write) out out' = out' ≡ record out { failed = true }
+HasNoOut _ out out' = ⊥
+
 -- OUT is created and the job written, or a front where a write failed;
 -- or OUT is the profile itself or cannot be created, and nothing is written
 abbrev pub WritesOut : List ℕ → Status → OutletState → OutletState → Type 0
 WritesOut job status out out' =
     WritesWhole job status out out'
     ⊎ ((status ≡ Overwrites TheProfile) × (out' ≡ out))
-    ⊎ ((status ≡ Stopped Write) × (out' ≡ record out { failed = true }))
+    ⊎ HasNoOut status out out'
 
 -- memory ran out, or a read of the check failed or came to no end
 abbrev pub IsEndOfCheck : Status → Type 0

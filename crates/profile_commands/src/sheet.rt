@@ -13,7 +13,7 @@ use named_inputs::ProfileTexts;
 use requests::{Input, Status, Trouble};
 use shown_bytes::push_shown;
 use std::alloc::{AllocError, Allocator};
-use streams::{Create, Error, FileId, Outlet, write_text};
+use streams::{Create, CreateError, Error, FileId, Outlet, write_text};
 use subcommands::check::verdict_on;
 use test_sheet::sheet_job;
 use verdict::Failure;
@@ -118,10 +118,11 @@ fn write_out<W: Create>(job: &[u8], file: Option<FileId>, out: &mut W) -> Status
             return Status::Overwrites(Input::Profile);
         }
     }
-    if out.create().is_err() {
-        return Status::Stopped(Error::Write);
+    match out.create() {
+        Ok(()) => write_whole(out, job),
+        Err(CreateError::NoMemory) => Status::Stopped(Error::Memory),
+        Err(CreateError::Refused) => Status::Stopped(Error::Write),
     }
-    write_whole(out, job)
 }
 
 /// Tells that the sheet would fail on its printer, and how.

@@ -77,6 +77,13 @@ is_answer Pass = true
 is_answer Fail = true
 is_answer _ = false
 
+-- the command came to its end: what it writes is whole, up to the failure of a job that fails
+abbrev pub is_complete : Status → Bool
+is_complete Pass = true
+is_complete Fail = true
+is_complete Help = true
+is_complete _ = false
+
 -- a profile is refused, or a choice that it does not allow
 abbrev pub is_refusal : Status → Bool
 is_refusal (Profile number line cause) = true
@@ -120,9 +127,11 @@ IsEndOfText Fail = ⊤
 IsEndOfText (Stopped error) = ⊤
 IsEndOfText _ = ⊥
 
--- why there is no open job beside an OUT that was created: OUT is a file that is read, a read failed, or a write
+-- why there is no open job beside an OUT that was created: OUT is a file that is read, a read failed, or a write,
+-- or memory ran out
 abbrev pub IsEndOfOpening : Status → Type 0
 IsEndOfOpening (Overwrites input) = ⊤
+IsEndOfOpening (Stopped Memory) = ⊤
 IsEndOfOpening (Stopped Read) = ⊤
 IsEndOfOpening (Stopped Write) = ⊤
 IsEndOfOpening _ = ⊥

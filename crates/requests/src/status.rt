@@ -3,7 +3,7 @@ ghost use Rattle.std.specs.Prelude.{◌≡◌, IsFalse, IsTrue, map};
 ghost use Rattle.std.specs.List.{concat};
 ghost use Rattle.streams.specs.Writing.{Writes};
 ghost use Rattle.streams.specs.declared.error.Error.TheVariants.{Memory};
-ghost use Rattle.requests.specs.Status.{code_of, cause_name, error_line, error_words};
+ghost use Rattle.requests.specs.Status.{code_of, cause_name, error_line, error_words, is_complete};
 ghost use Rattle.requests.specs.Status.{overwriting_line, refusal_line, status_line};
 ghost use Rattle.requests.specs.declared.status.Status.TheVariants.{Stopped};
 
@@ -75,6 +75,22 @@ impl Status {
             | Status::Profile { .. }
             | Status::Told(Trouble::Refused) => 2,
             Status::Stopped(_) | Status::Told(Trouble::NoVerdict | Trouble::Mismatch) => 3,
+        }
+    }
+
+    /// Whether the command came to its end, so that what it writes is whole, up to the failure of a
+    /// job that fails.
+    pub fn is_complete(self) -> bool
+        ensures { result ≡ is_complete self }
+    {
+        match self {
+            Status::Pass | Status::Fail | Status::Help => true,
+            Status::Usage
+            | Status::Overwrites(_)
+            | Status::NotAllowed(_)
+            | Status::Profile { .. }
+            | Status::Stopped(_)
+            | Status::Told(_) => false,
         }
     }
 }

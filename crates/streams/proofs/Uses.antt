@@ -1,5 +1,5 @@
 -- How the history of files grows.
-use Rattle.std.proofs.Common.{◌≡◌, ◌∙◌, ◌++◌, ◌∷◌, ℕ, List, [], ap, append_assoc}
+use Rattle.std.proofs.Common.{◌≡◌, ◌∙◌, ◌++◌, ◌∷◌, ℕ, Bool, List, [], ap, append_assoc}
 use Rattle.streams.specs.Outlet.{OutletState}
 use Rattle.streams.specs.Source.{SourceState}
 use Rattle.streams.specs.Used.{FileUse, read_at, written_at}
@@ -10,9 +10,9 @@ pub one_read : (used used' : List FileUse) (path at : List ℕ) (job : SourceSta
 one_read used used' path at job is more = more ∙ ap (λ (p : List ℕ). used ++ read_at p job ∷ []) is
 
 -- one file is written
-pub one_written : (used used' : List FileUse) (into to : List ℕ) (file : OutletState)
-    → to ≡ into → used' ≡ used ++ written_at to file ∷ [] → used' ≡ used ++ written_at into file ∷ []
-one_written used used' into to file is more = more ∙ ap (λ (p : List ℕ). used ++ written_at p file ∷ []) is
+pub one_written : (used used' : List FileUse) (into to : List ℕ) (file : OutletState) (put : Bool)
+    → to ≡ into → used' ≡ used ++ written_at to file put ∷ [] → used' ≡ used ++ written_at into file put ∷ []
+one_written used used' into to file put is more = more ∙ ap (λ (p : List ℕ). used ++ written_at p file put ∷ []) is
 
 -- and then another one
 pub one_more : (used between used' : List FileUse) (one other : FileUse)

@@ -1,5 +1,7 @@
 -- What an error says of the reads and the writes.
 use Rattle.std.specs.Prelude.{Bool, true, false, Result, Ok, Err}
+use Rattle.streams.specs.declared.error.CreateError.{CreateError}
+use Rattle.streams.specs.declared.error.CreateError.TheVariants.{NoMemory, Refused}
 use Rattle.streams.specs.declared.error.Error.{Error}
 use Rattle.streams.specs.declared.error.Error.TheVariants.{Memory, Read, Write, Turns, NoProfile, Items}
 
@@ -30,3 +32,9 @@ is_write Items = false
 abbrev pub is_err_of_write : {T : Type 0} → Result T Error → Bool
 is_err_of_write (Ok x) = false
 is_err_of_write (Err e) = is_write e
+
+-- the result is that the system refused to create an outlet; want of memory is no failure of the outlet
+abbrev pub is_refused : {T : Type 0} → Result T CreateError → Bool
+is_refused (Ok x) = false
+is_refused (Err NoMemory) = false
+is_refused (Err Refused) = true

@@ -12,10 +12,11 @@ pub record FileSourceState : Type 0 where
   pub is_open : Bool
   pub file : Option FileId
 
--- as an outlet, and whether it was created
+-- as an outlet, whether it was created, and whether what was written was put in its place
 pub record FileOutletState : Type 0 where
   pub outlet : OutletState
   pub is_created : Bool
+  pub is_put : Bool
 
 abbrev pub is_open : {F : Type 0} → Opened F → Bool
 is_open NotYet = false

@@ -6,20 +6,21 @@ use Rattle.streams.specs.Outlet.{OutletState}
 use Rattle.streams.specs.Source.{SourceState}
 
 -- what was done with the file at a path: what its reads gave, piece by piece, or what its writes took;
--- and whether a read, or a write, has failed, as where it could not be opened, or created
+-- whether a read, or a write, has failed, as where it could not be opened, or created;
+-- and whether what the writes took was put in its place
 pub data FileUse : Type 0 where
   ReadAt : (path : List ℕ) (given : List (List ℕ)) (failed : Bool) → FileUse
-  WrittenAt : (path taken : List ℕ) (failed : Bool) → FileUse
+  WrittenAt : (path taken : List ℕ) (failed put : Bool) → FileUse
 
 -- it was read, and came to this
 abbrev pub read_at : List ℕ → SourceState → FileUse
 read_at path source = ReadAt path source.given source.failed
 
--- it was written, and came to this
-abbrev pub written_at : List ℕ → OutletState → FileUse
-written_at path outlet = WrittenAt path outlet.taken outlet.failed
+-- it was written, and came to this, which was put in its place or was not
+abbrev pub written_at : List ℕ → OutletState → Bool → FileUse
+written_at path outlet put = WrittenAt path outlet.taken outlet.failed put
 
 abbrev pub use_of : FileEnd → FileUse
 use_of end =
-    if end.is_written then WrittenAt end.path.now (concat end.taken.pieces) end.has_failed
+    if end.is_written then WrittenAt end.path.now (concat end.taken.pieces) end.has_failed end.is_put
     else ReadAt end.path.now end.given.pieces end.has_failed

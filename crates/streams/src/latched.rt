@@ -1,5 +1,5 @@
 //! A reader or a writer of std that latches its first failure.
-ghost use Rattle.std.specs.Prelude.{◌≡◌, [], false};
+ghost use Rattle.std.specs.Prelude.{◌≡◌, [], false, true};
 ghost use Rattle.std.specs.List.{concat};
 
 use crate::given::Given;
@@ -49,6 +49,14 @@ impl<T> Latched<T> {
             has_failed: false,
             error: None,
         }
+    }
+
+    /// What was written cannot be used: that counts as a write that failed.
+    pub(crate) fn fail(&mut self)
+        ensures taken { self.new.taken ≡ self.old.taken }
+        ensures failed { self.new.has_failed ≡ true }
+    {
+        self.has_failed = true;
     }
 }
 

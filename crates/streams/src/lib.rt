@@ -2,6 +2,7 @@
 //! writers and files as these, and the loop that reads a source in pieces.
 #![tactic(auto)]
 
+mod beside;
 mod driver;
 mod error;
 mod file_at;
@@ -13,13 +14,15 @@ mod kept;
 mod latched;
 mod opened;
 mod opening;
+mod out_writer;
 mod outlet;
+mod place;
 mod source;
 mod used;
 mod writing;
 
 pub use driver::{Consumer, PIECE, read_job};
-pub use error::Error;
+pub use error::{CreateError, Error};
 pub use file_at::{OutletAt, SourceAt};
 pub use file_id::FileId;
 pub use file_outlet::FileOutlet;

@@ -1,7 +1,9 @@
 //! Sources that are opened, and outlets that are created, apart from what is read and written.
 ghost use Rattle.std.specs.Prelude.{◌≡◌, IsFalse, None, OnOk, Option, is_err};
+ghost use Rattle.streams.specs.Errors.{is_refused};
 ghost use Rattle.streams.specs.declared.file_id.FileId.{FileId};
 
+use crate::error::CreateError;
 use crate::file_id::FileId;
 use crate::latched::Latched;
 use crate::outlet::Outlet;
@@ -34,12 +36,12 @@ pub trait Create: Outlet {
     // How it was before it was created, and how it is behind that.
     ghost creates: { Self → Self → Type 0 };
 
-    /// Creates the outlet, to which nothing is written yet.
-    fn create(&mut self) -> io::Result<()>
+    /// Creates the outlet, to which nothing is written yet. Want of memory is no failure of it.
+    fn create(&mut self) -> Result<(), CreateError>
         requires { IsFalse (Self.state self.old).failed }
         ensures created { OnOk result (creates self.old self.new) }
         ensures state { Self.state self.new ≡ record
-            (Self.state self.old) { failed = is_err result } };
+            (Self.state self.old) { failed = is_refused result } };
 
     /// Whether this file is what would be written, once the outlet is created. No clause can say
     /// what stands at a path.
@@ -65,7 +67,7 @@ impl<T: Write> Create for Latched<T> {
     ghost creates = { λ old new. new ≡ old };
 
     /// A writer is there from the start.
-    fn create(&mut self) -> io::Result<()> {
+    fn create(&mut self) -> Result<(), CreateError> {
         Ok(())
     }
 

@@ -8,6 +8,7 @@ use crate::file_at::{OutletAt, SourceAt};
 use crate::given::Given;
 use crate::outlet::Outlet;
 use crate::source::Source;
+use std::io::Print;
 use std::marker::Model;
 use std::rt::Files;
 
@@ -21,6 +22,8 @@ pub struct FileEnd<'a> {
     /// What its writes took.
     pub taken: Given,
     pub has_failed: bool,
+    /// What its writes took was put in its place.
+    pub is_put: bool,
 }
 
 /// The uses of files that have ended so far. A clause reads them as `uses`.
@@ -89,16 +92,19 @@ impl FilesUsed {
             given,
             taken,
             has_failed,
+            is_put: false,
         });
     }
 
     /// And then this one, to which no more is written.
-    pub fn written<R: Files>(&mut self, outlet: OutletAt<'_, R>)
+    pub fn written<R: Files + Print>(&mut self, outlet: OutletAt<'_, R>)
         ensures { self.new ≡ self.old
-            ++ written_at outlet.entry.path.now outlet.entry.file.outlet ∷ [] }
+            ++ written_at outlet.entry.path.now outlet.entry.file.outlet
+            outlet.entry.file.is_put ∷ [] }
     {
         let OutletAt { path, file } = outlet;
         let has_failed = file.has_failed();
+        let is_put = file.is_put();
         let given = Given::new();
         let taken = file.into_taken();
         self.so_far = self.so_far.and(&FileEnd {
@@ -107,6 +113,7 @@ impl FilesUsed {
             given,
             taken,
             has_failed,
+            is_put,
         });
     }
 }

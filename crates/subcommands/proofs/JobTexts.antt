@@ -131,17 +131,18 @@ pub sound_beside : (work : Result Outcome Error) (failed : Bool) → IsFalse fai
 sound_beside (Ok outcome) failed sound = sound
 sound_beside (Err error) failed sound = tt
 
--- the job could not be opened or OUT not be created, or OUT is a file that is read
+-- the job could not be opened or OUT not be created, for want of memory too, or OUT is a file that is read
 at_opening : (status : Status) (rendering : Rendering) (job : SourceState) (read_failed : Bool) (old : OutletState) (write_failed : Bool)
     (start : OutletState) → IsEndOfOpening status →
     LeavesOut status rendering job (record job { failed = read_failed }) old (record old { failed = write_failed }) start start
 at_opening (Overwrites input) rendering job read_failed old write_failed start end =
     ((refl, record { taken = refl; contents = Keeps-refl old.contents }), Stays-none start)
+at_opening (Stopped Memory) rendering job read_failed old write_failed start end =
+    inl (nothing_written rendering job old read_failed write_failed, Stays-none start)
 at_opening (Stopped Read) rendering job read_failed old write_failed start end =
     (nothing_written rendering job old read_failed write_failed, Stays-none start)
 at_opening (Stopped Write) rendering job read_failed old write_failed start end =
     inl (nothing_written rendering job old read_failed write_failed, Stays-none start)
-at_opening (Stopped Memory) rendering job read_failed old write_failed start end = absurd end
 at_opening (Stopped Turns) rendering job read_failed old write_failed start end = absurd end
 at_opening (Stopped NoProfile) rendering job read_failed old write_failed start end = absurd end
 at_opening (Stopped Items) rendering job read_failed old write_failed start end = absurd end

@@ -4,7 +4,7 @@ ghost use Rattle.requests.specs.Status.{is_err_at_read, is_err_at_write, is_over
 ghost use Rattle.requests.specs.Status.{IsEndOfOpening};
 
 use requests::{Input, Status};
-use streams::{Create, Error, FileId, Open};
+use streams::{Create, CreateError, Error, FileId, Open};
 
 /// Opens JOB and creates OUT, unless OUT is JOB or the file that the profile came from, if from
 /// one.
@@ -36,10 +36,11 @@ pub(crate) fn open_and_create<S: Open, W: Create>(
     if overwrites(out, profile) {
         return Err(Status::Overwrites(Input::Profile));
     }
-    if out.create().is_err() {
-        return Err(Status::Stopped(Error::Write));
+    match out.create() {
+        Ok(()) => Ok(()),
+        Err(CreateError::NoMemory) => Err(Status::Stopped(Error::Memory)),
+        Err(CreateError::Refused) => Err(Status::Stopped(Error::Write)),
     }
-    Ok(())
 }
 
 /// Whether a file, if there is one, would be written once the outlet is created.

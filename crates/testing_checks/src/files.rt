@@ -2,7 +2,7 @@
 ghost use Rattle.std.specs.Prelude.{◌≡◌, None, ⊤};
 
 use std::io;
-use streams::{Create, FileId, Open, Outlet, Source};
+use streams::{Create, CreateError, FileId, Open, Outlet, Source};
 
 /// A reader or a writer in place of a file, which can be opened and created.
 #[derive(Drop)]
@@ -64,7 +64,7 @@ impl<O: Outlet> Outlet for File<O> {
 impl<O: Outlet> Create for File<O> {
     ghost creates = { λ _ _. ⊤ };
 
-    fn create(&mut self) -> io::Result<()> {
+    fn create(&mut self) -> Result<(), CreateError> {
         Ok(())
     }
 
