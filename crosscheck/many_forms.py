@@ -5,11 +5,12 @@ import re
 from typing import Dict, List, Optional, Tuple
 
 from many_due import Told
-from many_names import cut, escaped, undone, unescaped
+from many_names import cut, escaped, sentenced, undone, unescaped
 from many_notes import note_text
 
 MOST_OF_NAME, MOST_OF_CAUSE, MOST = 500, 200, 1000
 PLAIN = re.compile(rb"[ -~]*")
+SHOWN = re.compile("[ -~\u00a0-\U0010ffff]*")
 # A sentence behind the name: the item that a job fails at, and what is wrong in words.
 REFUSED = re.compile(rb" refuses this job at byte (\d+)(?:, ([ -~]+))?: ([^:]+) \(([^:]+)\)")
 # What is missing of a sentence or an object that is not as it should be.
@@ -41,8 +42,8 @@ def phrase(told: Told) -> Tuple[bytes, bytes]:
 def sentence_differs(told: Told, line: bytes) -> bool:
     """Whether a line is not the sentence of a job."""
     head, tail = phrase(told)
-    front = cut(escaped(told.job), MOST_OF_NAME) + b": " + head
-    if not (line.startswith(front) and line.endswith(tail) and PLAIN.fullmatch(line)):
+    front = cut(sentenced(told.job), MOST_OF_NAME) + b": " + head
+    if not (line.startswith(front) and line.endswith(tail) and SHOWN.fullmatch(line.decode())):
         return True
     between = line[len(front):len(line) - len(tail)]
     is_bare = told.verdict != "FAIL"
@@ -51,7 +52,7 @@ def sentence_differs(told: Told, line: bytes) -> bool:
 
 def command_of(told: Told, line: bytes) -> Optional[str]:
     """The item that a job fails at, by its sentence."""
-    found = REFUSED.search(line, len(cut(escaped(told.job), MOST_OF_NAME)))
+    found = REFUSED.search(line, len(cut(sentenced(told.job), MOST_OF_NAME)))
     if found is None:
         return NO_COMMAND if told.verdict == "FAIL" else None
     return found[2].decode() if found[2] is not None else None
