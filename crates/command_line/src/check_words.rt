@@ -6,8 +6,9 @@ use crate::many_words::{MANY_OPTIONS, asks_for_many, read_many};
 use crate::panel_words::ChoiceFault;
 use crate::rows::{CommandRow, Count, Need, WordRow};
 use crate::texts::texts_of;
+use crate::word::Word;
 use clap::ArgMatches;
-use requests::Request;
+use requests::{Form, Request};
 use std::alloc::Global;
 
 pub const EXPLANATION: &str = "Examples:
@@ -125,12 +126,14 @@ pub(crate) const CHECK: &CommandRow = &CommandRow {
 /// The request of the words behind `check`.
 pub fn check_request<'a>(
     alloc: Global,
+    given: &'a [Word],
+    usual: Form,
     found: &ArgMatches<'a>,
 ) -> Result<Option<Request<'a>>, ChoiceFault<'a>>
     ensures { IfOk result (λ request. IfSome request NamesSome) }
 {
-    if asks_for_many(found) {
-        return Ok(read_many(alloc, found)?.map(Request::CheckMany));
+    if asks_for_many(usual, found) {
+        return Ok(read_many(alloc, given, usual, found)?.map(Request::CheckMany));
     }
     let Some(job) = found.get_str("JOB") else {
         return Ok(None);

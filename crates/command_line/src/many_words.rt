@@ -2,13 +2,12 @@
 ghost use Rattle.std.specs.Prelude.{IfOk, IfSome};
 ghost use Rattle.requests.specs.ManyWords.{NamesPrinter};
 
+use crate::form_words::{FORMS, form_asked};
 use crate::rows::{OptionRow, Value};
+use crate::word::{Word, bytes_of};
 use clap::ArgMatches;
 use requests::{Form, ManyWords};
 use std::alloc::{AllocError, Global};
-
-/// The words of the forms.
-const FORMS: &[&str] = &["line", "words", "json"];
 
 /// The options of a check of many jobs.
 pub(crate) const MANY_OPTIONS: &[OptionRow] = &[
@@ -35,6 +34,14 @@ pub(crate) const MANY_OPTIONS: &[OptionRow] = &[
         value: Value::Text("FILE"),
         excludes: Some("JOB"),
         help: "The paths of the jobs, each ended by a zero byte; - is standard input",
+    },
+    OptionRow {
+        id: "EMPTY",
+        short: None,
+        long: "allow-empty",
+        value: Value::Nothing,
+        excludes: None,
+        help: "A list of paths that has none is no error",
     },
     OptionRow {
         id: "MOST",
@@ -89,12 +96,14 @@ pub(crate) const MANY_OPTIONS: &[OptionRow] = &[
     },
 ];
 
-/// Whether the words ask for more than one job for all of its printers together.
-pub(crate) fn asks_for_many(found: &ArgMatches<'_>) -> bool {
+/// Whether the words ask for more than one job for all of its printers together; so does a usual
+/// form that is not a line.
+pub(crate) fn asks_for_many(usual: Form, found: &ArgMatches<'_>) -> bool {
     names_printers(found)
+        || usual != Form::Line
         || found.contains_id("FORM")
         || found.contains_id("MOST")
-        || ["EACH", "NOTES", "EXPLAIN", "ZERO"]
+        || ["EACH", "EMPTY", "NOTES", "EXPLAIN", "ZERO"]
             .iter()
             .any(|option| found.get_flag(option))
 }
@@ -107,6 +116,8 @@ fn names_printers(found: &ArgMatches<'_>) -> bool {
 /// What words ask for that ask for many, or nothing where they name no printer.
 pub(crate) fn read_many<'a>(
     alloc: Global,
+    given: &'a [Word],
+    usual: Form,
     found: &ArgMatches<'a>,
 ) -> Result<Option<ManyWords<'a>>, AllocError>
     ensures { IfOk result (λ many. IfSome many NamesPrinter) }
@@ -114,11 +125,11 @@ pub(crate) fn read_many<'a>(
     let mut jobs = Vec::new(alloc);
     let mut printers = Vec::new(alloc);
     if let Some(job) = found.get_str("JOB") {
-        jobs.push(job)?;
+        jobs.push(bytes_of(given, job))?;
     }
     let words = found.get_strs("PROFILE").unwrap_or(&[]);
     if names_printers(found) {
-        jobs.extend_from_slice(words)?;
+        push_jobs(&mut jobs, given, words)?;
         printers.extend_from_slice(found.get_strs("PRINTER").unwrap_or(&[]))?;
     } else {
         printers.extend_from_slice(words)?;
@@ -131,22 +142,26 @@ pub(crate) fn read_many<'a>(
     Ok(Some(ManyWords {
         jobs,
         names_from: found.get_str("NAMES"),
+        allows_empty: found.get_flag("EMPTY"),
         printers,
         fleets,
         most_items: found.get_one::<u64>("MOST"),
         is_each: found.get_flag("EACH"),
         tells_notes: found.get_flag("NOTES"),
         exit_zero: found.get_flag("ZERO"),
-        form: form_of(found.get_str("FORM")),
+        form: form_asked(found).unwrap_or(usual),
         explains: found.get_flag("EXPLAIN"),
     }))
 }
 
-/// The form of a word; without one it is a line.
-fn form_of(word: Option<&str>) -> Form {
-    match word {
-        Some("words") => Form::Words,
-        Some("json") => Form::Json,
-        _ => Form::Line,
+/// Appends the jobs that texts name.
+fn push_jobs<'a>(
+    jobs: &mut Vec<&'a [u8]>,
+    given: &'a [Word],
+    texts: &[&'a str],
+) -> Result<(), AllocError> {
+    for text in texts {
+        jobs.push(bytes_of(given, text))?;
     }
+    Ok(())
 }
