@@ -55,8 +55,8 @@ Output of check, one line:
   profile=  the printer's number among the words, from 1;
             0: the bytes themselves are wrong, whatever the printer
 
-With -p, -f, --most-items, --each, --notes, --format, --explain or --exit-zero, a line for each job,
-in the order of the words:
+With -p, -f, --allow-empty, --most-items, --each, --notes, --format, --explain or --exit-zero, a line
+for each job, in the order of the words:
   PASS pages=N marks=N JOB
   FAIL at=N printer=NAME FINDING JOB  NAME by its profile; no printer= where the bytes are wrong
   ERROR read JOB: WHY                 the job could not be read; those behind it are checked
@@ -69,7 +69,8 @@ in the order of the words:
   With --each, printer=NAME stands in each line, and notes are for that printer. In JOB a byte that
   shows nothing and the backslash are \\x and two digits.
 
-  --format words: a sentence for the line, of at most 1,000 bytes; of a long JOB it has the end.
+  --format words: a sentence for the line, of at most 1,000 bytes; of a long JOB it has the end, and
+  letters of UTF-8 stand in it as they are.
   --format json: an object with job and verdict; of a PASS pages and marks; of a FAIL at, profile,
   printer, code, finding, field, command and explanation; of an ERROR error and cause. Below a PASS
   an object for each note with job, printer, at, code, note and explanation. In job each backslash
@@ -84,6 +85,9 @@ On standard error, where there is no verdict:
   For many jobs: ERROR profile N PROFILE:LINE CAUSE, ERROR read profile PROFILE: WHY,
   ERROR read fleet FILE: WHY, ERROR fleet FILE: WHY and ERROR read names FILE: WHY. With --format
   words a profile has a sentence, which ends with (ERROR profile N CAUSE) or (ERROR read).
+
+  'pclcheck --format words list gone.pcl' tells of each command what stands in its way by a sentence.
+  The variable PCLCHECK_FORMAT is line, words or json: the form where no --format comes.
 
 A profile is a text whose first line is 'pclprofile 1', or 'pclprofile 2' where it also lists what
 the panel may have for line termination (lineterm).

@@ -52,6 +52,7 @@ fn sentence<R: Files + AllocGlobal>(
 ) -> Option<Vec<u8>> {
     match status {
         Status::Stopped(Error::Read) => unread_sentence(rt, request),
+        Status::Stopped(Error::Write) => unwritten_sentence(rt.alloc(), request),
         Status::Stopped(error) => stop_sentence(rt.alloc(), error),
         Status::Profile {
             number,
@@ -84,6 +85,16 @@ fn profile_of<'a>(request: &Request<'a>) -> Option<&'a str> {
         Request::Notes { profile, .. } => Some(*profile),
         Request::Picture { profile, .. } => Some(*profile),
         Request::Pin { profile, .. } => Some(*profile),
+        _ => None,
+    }
+}
+
+/// The path of the file that it writes.
+fn out_of<'a>(request: &Request<'a>) -> Option<&'a str> {
+    match request {
+        Request::Plain { out, .. } => Some(*out),
+        Request::Pin { out, .. } => Some(*out),
+        Request::ProfileSheet { out, .. } => Some(*out),
         _ => None,
     }
 }
@@ -139,6 +150,18 @@ fn unread_job(alloc: Global, job: &str, error: io::Error) -> Option<Vec<u8>> {
     text.extend_from_slice(b"this job cannot be read").ok()?;
     push_cause_phrase(alloc, &mut text, cause).ok()?;
     text.extend_from_slice(b" (ERROR read)\n").ok()?;
+    Some(text)
+}
+
+/// Where no more can be written.
+fn unwritten_sentence(alloc: Global, request: &Request<'_>) -> Option<Vec<u8>> {
+    let Some(out) = out_of(request) else {
+        return stop_sentence(alloc, Error::Write);
+    };
+    let mut text = Vec::new(alloc);
+    push_named_first(alloc, &mut text, out.as_bytes()).ok()?;
+    text.extend_from_slice(b"this file or standard output cannot be written (ERROR write)\n")
+        .ok()?;
     Some(text)
 }
 
