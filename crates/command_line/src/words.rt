@@ -64,12 +64,10 @@ pub fn read_words<'a, O: Outlet, E: Outlet>(
     if let Some(word) = misplaced(words, &request) {
         return Err(refuse_word(alloc, word, stderr));
     }
+    let form = form_of_answer(form, &request);
     match overwritten(&request) {
         Some(input) => Err(Status::Overwrites(input)),
-        None => {
-            let form = form_of_answer(form, &request);
-            Ok(Asked { request, form })
-        }
+        None => Ok(Asked { request, form }),
     }
 }
 

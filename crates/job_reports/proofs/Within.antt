@@ -136,11 +136,10 @@ pub last_part : (most : ℕ) (text : List ℕ) → IsShown text → IsWithin (3 
 last_part most text h =
     one_of (3 + most) (nat_le (length text) most) text _
     (λ e. record { short = let l : length text ≤ most = leb-true (length text) most e in omega arith; shown = h })
-    (let end : List ℕ = drop (length text - most) text in
-    joined (codes "...") (from_character end) (literal 3 _ refl refl)
+    (joined (codes "...") _ (literal 3 _ refl refl)
     (record {
-      short = omega (arith, shorter-from_character end, length-drop (length text - most) text);
-      shown = shown-from_character end (shown-drop (length text - most) text h);
+      short = omega (arith, shorter-from_character (drop (length text - most) text), length-drop (length text - most) text);
+      shown = shown-from_character (drop (length text - most) text) (shown-drop (length text - most) text h);
     }))
 
 pub first_part : (most : ℕ) (text : List ℕ) → IsShown text → IsWithin (most + 3) (first_of most text)
@@ -177,6 +176,7 @@ letters_shown (c ∷ cs) =
     shown-append (shown_letter c) (flat_map shown_letter cs) (shown_letter_shown (is_letter c) c refl) (letters_shown cs)
 
 pub name_shown : (name : List ℕ) → IsShown (shown_text name)
+unfolding shown_text
 name_shown name =
     shown_of (is_utf8 name) (flat_map shown_letter (chars name)) (shown name) (letters_shown (chars name))
     (flat_part shown_byte shown_byte_part name).shown

@@ -9,7 +9,7 @@ use job_reports::{
 };
 use named_inputs::system_words::system_words;
 use named_inputs::{is_input, read_front};
-use requests::{Request, Status, error_words, tell};
+use requests::{Request, Status, tell};
 use std::alloc::Global;
 use std::io;
 use std::rt::Files;
@@ -35,8 +35,11 @@ pub fn tell_in_words<R: Files + AllocGlobal, E: Outlet>(
     }
 }
 
-/// Writes a text, unless an earlier write failed.
+/// Writes a text, unless it is empty or an earlier write failed.
 fn write<E: Outlet>(text: &[u8], stderr: &mut E) {
+    if text.is_empty() {
+        return;
+    }
     if stderr.has_failed() {
         return;
     }
@@ -53,7 +56,6 @@ fn sentence<R: Files + AllocGlobal>(
     match status {
         Status::Stopped(Error::Read) => unread_sentence(rt, request),
         Status::Stopped(Error::Write) => unwritten_sentence(rt.alloc(), request),
-        Status::Stopped(error) => stop_sentence(rt.alloc(), error),
         Status::Profile {
             number,
             line,
@@ -113,12 +115,8 @@ fn unread_sentence<R: Files + AllocGlobal>(rt: &R, request: &Request<'_>) -> Opt
             return unread_profile(rt.alloc(), profile, error);
         }
     }
-    if let Some(job) = job_of(request) {
-        if let Some(error) = error_at(rt, job) {
-            return unread_job(rt.alloc(), job, error);
-        }
-    }
-    stop_sentence(rt.alloc(), Error::Read)
+    let job = job_of(request)?;
+    unread_job(rt.alloc(), job, error_at(rt, job))
 }
 
 /// Why a file cannot be opened, or not read at its beginning. What can be read only once is left as
@@ -142,8 +140,8 @@ fn unread_profile(alloc: Global, word: &str, error: io::Error) -> Option<Vec<u8>
     Some(text)
 }
 
-fn unread_job(alloc: Global, job: &str, error: io::Error) -> Option<Vec<u8>> {
-    let told = system_words(alloc, Some(error));
+fn unread_job(alloc: Global, job: &str, error: Option<io::Error>) -> Option<Vec<u8>> {
+    let told = system_words(alloc, error);
     let cause = told.as_ref().map(|told| told.as_bytes());
     let mut text = Vec::new(alloc);
     push_named_first(alloc, &mut text, job.as_bytes()).ok()?;
@@ -155,9 +153,7 @@ fn unread_job(alloc: Global, job: &str, error: io::Error) -> Option<Vec<u8>> {
 
 /// Where no more can be written.
 fn unwritten_sentence(alloc: Global, request: &Request<'_>) -> Option<Vec<u8>> {
-    let Some(out) = out_of(request) else {
-        return stop_sentence(alloc, Error::Write);
-    };
+    let out = out_of(request)?;
     let mut text = Vec::new(alloc);
     push_named_first(alloc, &mut text, out.as_bytes()).ok()?;
     text.extend_from_slice(b"this file or standard output cannot be written (ERROR write)\n")
@@ -183,27 +179,6 @@ fn refused_sentence(
         b"this is no profile, and JOB stands before PROFILE (ERROR profile 1 Version)\n",
     ).ok()?;
     Some(text)
-}
-
-/// Why the work stopped, where nothing tells at which file.
-fn stop_sentence(alloc: Global, error: Error) -> Option<Vec<u8>> {
-    let mut text = Vec::new(alloc);
-    text.extend_from_slice(stop_phrase(error)).ok()?;
-    text.extend_from_slice(b" (").ok()?;
-    text.extend_from_slice(error_words(error)).ok()?;
-    text.extend_from_slice(b")\n").ok()?;
-    Some(text)
-}
-
-fn stop_phrase(error: Error) -> &'static [u8] {
-    match error {
-        Error::Memory => b"there is no memory for this",
-        Error::Read => b"a file cannot be read to its end",
-        Error::Write => b"no more can be written",
-        Error::Turns => b"the job does not end",
-        Error::NoProfile => b"there is no printer",
-        Error::Items => b"macros pass the limit of --most-items",
-    }
 }
 
 // ---- what was probably meant

@@ -41,5 +41,6 @@ abbrev pub shown_letter : ℕ → List ℕ
 shown_letter c = if is_letter c then encode_utf8 c else shown (encode_utf8 c)
 
 -- A name by its characters; the bytes of one that is no UTF-8 text stand as in a line.
-abbrev pub shown_text : List ℕ → List ℕ
+-- It is shut: a proof that does not open it meets neither case.
+unfoldable pub shown_text : List ℕ → List ℕ
 shown_text name = if is_utf8 name then flat_map shown_letter (chars name) else shown name

@@ -2,11 +2,12 @@ use Rattle.std.proofs.Common.{◌≡◌, ◌∙◌, ◌++◌, ℕ, List, ap, sub
 use Rattle.std.specs.List.{flat_map}
 use Rattle.std.specs.Prelude.{OnOk}
 use Rattle.std.specs.Str.{chars}
-use Rattle.shown_bytes.specs.Shown.{shown_letter}
+use Rattle.shown_bytes.specs.Shown.{shown_letter, shown_text}
 use Rattle.shown_bytes.proofs.Texts.{text_of_utf8, text_of_others}
 use Rattle.shown_bytes.proofs.letters.push_shown_text.Goals as goal
 
 pub returns-in-Ok : goal.returns-in-Ok
+unfolding shown_text
 returns-in-Ok g c =
     let name = c.args.name.now in
     subst (λ (text : List ℕ). OnOk c.push_letters.result (c.push_letters.new.out.items ≡ c.args.out.now.items ++ text))
@@ -15,6 +16,7 @@ returns-in-Ok g c =
     c.push_letters.ensures
 
 pub returns-in-Err : goal.returns-in-Err
+unfolding shown_text
 returns-in-Err g c =
     let name = c.args.name.now in
     subst (λ (text : List ℕ). OnOk c.push_shown.result (c.push_shown.new.out.items ≡ c.args.out.now.items ++ text))
