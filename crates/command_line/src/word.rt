@@ -8,8 +8,8 @@ use std::convert::AsStr;
 #[derive(Drop)]
 pub struct Word {
     /// The word, or where it is no UTF-8 text a text that stands for it.
-    text: String,
-    /// The bytes that `text` stands for.
+    reading: String,
+    /// The bytes that `reading` stands for.
     bytes: Option<Vec<u8>>,
 }
 
@@ -19,16 +19,19 @@ impl Word {
     /// An error means that the allocator refused a request.
     pub fn new(alloc: Global, bytes: Vec<u8>) -> Result<Word, AllocError> {
         match String::from_utf8(bytes) {
-            Ok(text) => Ok(Word { text, bytes: None }),
+            Ok(reading) => Ok(Word {
+                reading,
+                bytes: None,
+            }),
             Err(error) => Word::without_text(alloc, error.into_bytes()),
         }
     }
 
     /// The word of bytes that are no text.
     fn without_text(alloc: Global, bytes: Vec<u8>) -> Result<Word, AllocError> {
-        let text = stand_in(alloc, bytes.as_slice())?;
+        let reading = stand_in(alloc, bytes.as_slice())?;
         Ok(Word {
-            text,
+            reading,
             bytes: Some(bytes),
         })
     }
@@ -38,7 +41,7 @@ impl Word {
         let Some(bytes) = &self.bytes else {
             return None;
         };
-        if self.text.as_str() != text {
+        if self.reading.as_str() != text {
             return None;
         }
         Some(bytes.as_slice())
@@ -48,10 +51,10 @@ impl Word {
 impl AsStr for Word {
     ghost use Rattle.std.specs.Prelude.{string_bytes};
 
-    ghost text = { λ word. string_bytes word.text };
+    ghost text = { λ word. string_bytes word.reading };
 
     fn as_str(&self) -> &str {
-        self.text.as_str()
+        self.reading.as_str()
     }
 }
 
@@ -87,7 +90,7 @@ pub(crate) fn first_stand_in<'a>(texts: &[&'a str]) -> Option<&'a str> {
 pub(crate) fn first_without_text(words: &[Word]) -> Option<&str> {
     for (place, word) in words.iter().enumerate() {
         if place > 0 && word.bytes.is_some() {
-            return Some(word.text.as_str());
+            return Some(word.reading.as_str());
         }
     }
     None
