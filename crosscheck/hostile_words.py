@@ -9,6 +9,7 @@ from hostile_base import (COMMANDS, FIRST_BESIDE, READ, SOME, WITH_OUT, WITH_PRO
                           Shim, Tries, asked, due_of, exactly, matching, stopped_by, text_of, whole)
 from hostile_jobs import GOOD, put_files, sized
 from hostile_reads import pieces_of, through_fifo
+from many_names import escaped
 from samples import SAMPLE_B, SAMPLE_D
 
 SIZES = (0, 2, 4095, 4096, 4097, 8191, 8192, 8193, 65535, 65536, 65537)
@@ -151,11 +152,17 @@ def odd_names(tries: Tries) -> None:
     tries.remove("@E")
 
 
+def showing(word: bytes) -> Due:
+    """What a usage error owes that shows a word."""
+    return Due((2,), errors=matching(rb"error: [^\n]*'" + re.escape(escaped(word)) + rb"'.*\n"))
+
+
 def words_that_are_no_text(tries: Tries) -> None:
-    """A word that is not UTF-8 ends the program with a line of its own, before anything is done."""
+    """A word that is not UTF-8 is a usage error that shows it, before anything is done; behind -p
+    it is a job that cannot be read, and the others are checked."""
     tries.kind = "no UTF-8"
     odd = b"a\xff\xc3b"
-    due = Due((2,), errors=matching(rb"error: [^\n]*UTF-8[^\n]*\n"))
+    due = showing(odd)
     for is_there in (False, True):
         if is_there:
             with open(os.path.join(os.fsencode(tries.folder), odd), "wb") as file:
@@ -165,9 +172,11 @@ def words_that_are_no_text(tries: Tries) -> None:
             for place in range(len(words) + 1):
                 changed = [*words[:place], odd, *words[place + 1:]]
                 tries.try_(f"{changed}, {'a' if is_there else 'no'} file", changed, due)
+        lines = rb"[^\n]* good\nERROR read a\\xff\\xc3b: the name is not UTF-8 text\n"
+        tries.try_("a job of many", ["check", "-p", "@B", "good", odd], Due((3,), matching(lines)))
     for odd in (b"\xc3", b"\xed\xa0\x80", b"\xc0\xaf", b"\xf4\x90\x80\x80"):
-        tries.try_(f"list {odd!r}", ["list", odd], due)
-        tries.try_(f"{odd!r}", [odd], due)
+        tries.try_(f"list {odd!r}", ["list", odd], showing(odd))
+        tries.try_(f"{odd!r}", [odd], showing(odd))
 
 
 WRONG_WORDS: Sequence[Tuple[Sequence[str], bytes]] = (

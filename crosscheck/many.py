@@ -25,7 +25,7 @@ import jobs                                                        # noqa: E402
 from many_due import Told, told_of                                 # noqa: E402
 from many_forms import command_in, command_of, cut_lines           # noqa: E402
 from many_forms import line_differs, object_differs, sentence_differs       # noqa: E402
-from many_names import cut, escaped                                # noqa: E402
+from many_names import cut, escaped, sentenced                     # noqa: E402
 from many_notes import notes_in                                    # noqa: E402
 from many_runs import Answer, Job, Printer, Try                    # noqa: E402
 
@@ -101,18 +101,18 @@ def refusal(run: Try) -> Optional[Tuple[Answer, re.Pattern]]:
     found = REFUSAL.fullmatch(answer.errors)
     if found:
         number, line, cause = found.groups()
-        word = escaped(run.printer_words[int(number) - 1].encode())
+        word = run.printer_words[int(number) - 1].encode()
         place = b"line %s: " % line if int(line) else b""
-        told = b"ERROR profile %s %s:%s %s\n" % (number, word, line, cause)
+        told = b"ERROR profile %s %s:%s %s\n" % (number, escaped(word), line, cause)
         return Answer(2, b"", told), re.compile(
-            re.escape(cut(word, 500) + b": " + place) + rb"[^:\n]+"
+            re.escape(cut(sentenced(word), 500) + b": " + place) + rb"[^:\n]+"
             + re.escape(b" (ERROR profile %s %s)\n" % (number, cause)))
     if answer.errors == b"ERROR read\n":
         word = run.printer_words[run.lost_printer()].encode()
         why = run.failure(word)
         told = b"ERROR read profile %s: %s\n" % (escaped(word), why)
         return Answer(3, b"", told), re.compile(re.escape(
-            cut(escaped(word), 500) + b": this profile cannot be read: " + why
+            cut(sentenced(word), 500) + b": this profile cannot be read: " + why
             + b" (ERROR read)\n"))
     return None
 

@@ -6,11 +6,12 @@ from typing import Dict, List, Optional, Tuple
 
 from kinds import UNCHECKED, WRONG, kind_of
 from many_due import Told
-from many_names import cut, escaped, undone, unescaped
+from many_names import cut, escaped, sentenced, undone, unescaped
 from many_notes import note_text
 
 MOST_OF_NAME, MOST_OF_CAUSE, MOST = 500, 200, 1000
 PLAIN = re.compile(rb"[ -~]*")
+SHOWN = re.compile("[ -~\u00a0-\U0010ffff]*")
 # A sentence behind who says no: the item that a job fails at, and what is wrong in words.
 REFUSED = re.compile(rb" at byte (\d+)(?:, ([ -~]+))?: ([^:]+) \(([^:]+)\)")
 # Who says no, where it is no printer.
@@ -52,8 +53,8 @@ def phrase(told: Told, command: Optional[str]) -> Tuple[bytes, bytes]:
 def sentence_differs(told: Told, line: bytes) -> bool:
     """Whether a line is not the sentence of a job."""
     head, tail = phrase(told, command_of(told, line))
-    front = cut(escaped(told.job), MOST_OF_NAME) + b": " + head
-    if not (line.startswith(front) and line.endswith(tail) and PLAIN.fullmatch(line)):
+    front = cut(sentenced(told.job), MOST_OF_NAME) + b": " + head
+    if not (line.startswith(front) and line.endswith(tail) and SHOWN.fullmatch(line.decode())):
         return True
     between = line[len(front):len(line) - len(tail)]
     is_bare = told.verdict != "FAIL"
@@ -62,7 +63,7 @@ def sentence_differs(told: Told, line: bytes) -> bool:
 
 def command_of(told: Told, line: bytes) -> Optional[str]:
     """The item that a job fails at, by its sentence."""
-    found = REFUSED.search(line, len(cut(escaped(told.job), MOST_OF_NAME)))
+    found = REFUSED.search(line, len(cut(sentenced(told.job), MOST_OF_NAME)))
     if found is None:
         return NO_COMMAND if told.verdict == "FAIL" else None
     return found[2].decode() if found[2] is not None else None

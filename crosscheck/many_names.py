@@ -13,6 +13,8 @@ PARTS = (b"job", b"4711", b".pcl", b" ", b"  ", b"'", b'"', b"\n", b"\r", b"\t",
 TEXT_PARTS = PARTS[:-2]
 # What makes the name of a job too long for a sentence, where it is shown.
 LONG = "漢字".encode() * 30
+# Characters that end a line or turn the direction of a text.
+STEERING = "\u200e\u200f\u2028\u2029\u202a\u202b\u202c\u202d\u202e\u2066\u2067\u2068\u2069"
 PROFILE_NAMES = ("p%d.profile", "front desk %d", "Büro %d.profile", "it's\\%d", "%d\u00a0x", "%d")
 
 
@@ -31,9 +33,24 @@ def escaped(name: bytes) -> bytes:
                     for byte in name)
 
 
+def sentenced(name: bytes) -> bytes:
+    """A name as a sentence shows it: the letters of a text as they are."""
+    try:
+        text = name.decode()
+    except UnicodeDecodeError:
+        return escaped(name)
+    return b"".join(letter.encode() if ord(letter) >= 160 and letter not in STEERING
+                    else escaped(letter.encode()) for letter in text)
+
+
 def cut(text: bytes, most: int) -> bytes:
-    """The last so many bytes of a text, behind points."""
-    return text if len(text) <= most else b"..." + text[-most:]
+    """The last so many bytes of a text, but no part of a letter, behind points."""
+    if len(text) <= most:
+        return text
+    end = text[-most:]
+    while end and 128 <= end[0] < 192:
+        end = end[1:]
+    return b"..." + end
 
 
 def unescaped(shown: bytes) -> bytes:

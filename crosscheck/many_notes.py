@@ -6,7 +6,7 @@ import re
 from dataclasses import dataclass
 from typing import Tuple
 
-from many_names import cut, escaped
+from many_names import cut, escaped, sentenced
 
 NOTE = re.compile(rb"(\d+) (\d+) (\w+)\n")
 MOST_OF_NAME = 500
@@ -48,7 +48,7 @@ def note_text(form: str, job: bytes, note: Note, explanation: bytes) -> bytes:
     words = b"%d %s" % (note.code, note.name)
     if form == "words":
         return b"%s: %s has a note at byte %d: %s (%s)\n" % (
-            cut(escaped(job), MOST_OF_NAME), note.printer, note.at, SHORT[note.code],
+            cut(sentenced(job), MOST_OF_NAME), note.printer, note.at, SHORT[note.code],
             words) + explanation
     if form != "json":
         return b"NOTE at=%d printer=%s %s %s\n" % (note.at, note.printer, words,

@@ -140,7 +140,7 @@ class Try:
             self.words = [*flags, "--", *self.job_words(True), *self.printer_words]
             return
         options = [[flag] for flag in flags] + list(self.printer_options())
-        if not all(is_text(job.name) for job in self.jobs) or self.chance(0.3):
+        if self.chance(0.3):
             options.append(self.names_option())
             self.words = list(itertools.chain(*options))
         elif self.chance(0.5):
@@ -172,7 +172,8 @@ class Try:
 
     def names_option(self) -> List[str]:
         names = b"\0".join(job.name for job in self.jobs)
-        if self.chance(0.8) or names.endswith(b"\0") or not names:
+        is_of_lines = b"\n" in names and b"\0" not in names
+        if self.chance(0.8) or names.endswith(b"\0") or not names or is_of_lines:
             names += b"\0"
         if self.chance(0.4):
             self.input = names

@@ -76,8 +76,8 @@ STORED = (
      '"verdict":"ERROR"}\n'
      '{"job":"ruled_form.pcl","marks":36,"pages":2,"printer":"B","verdict":"PASS"}\n', ""),
     ("check --format words -p invoice.pcl ruled_form.pcl", 2, "",
-     "invoice.pcl: line 1: this is neither 'pclprofile 1' nor 'pclprofile 2' "
-     "(ERROR profile 1 Version)\n"),
+     "invoice.pcl: line 1: this is neither 'pclprofile 1' nor 'pclprofile 2', so no profile; "
+     "jobs come behind -p or -f (ERROR profile 1 Version)\n"),
     ("check --format xml ruled_form.pcl @B", 2, "",
      "error: invalid value 'xml' for '--format <FORM>'\n"
      "  [possible values: line, words, json]\n\nFor more information, try '--help'.\n"),

@@ -5,12 +5,19 @@ function __pclcheck_command
     set -l words (commandline -opc)
     set -e words[1]
     set -l found
+    set -l is_value
     for word in $words
+        if test -n "$is_value"
+            set is_value
+            continue
+        end
         switch "$found $word"
             case ' check' ' list' ' pages' ' picture' ' notes' ' plain' ' pin' ' explain' ' profile' \
                 ' help' 'profile list' 'profile new' 'profile lint' 'profile show' 'profile sheet' \
                 'profile from-pjl' 'profile help' 'help profile'
                 set found (string trim -- "$found $word")
+            case ' --format'
+                set is_value yes
             case ' -*'
             case '*'
                 break
@@ -70,6 +77,8 @@ function __pclcheck_findings
 end
 
 complete -c pclcheck -n '__pclcheck_at ""' -f
+complete -c pclcheck -n '__pclcheck_at ""' -l format -x -a 'line words json' \
+    -d 'As --format of check, and for what stands in the way of each command'
 complete -c pclcheck -n '__pclcheck_at ""' -s V -l version -d 'Print version'
 complete -c pclcheck -n 'not string match -q "*help*" (__pclcheck_command)' -s h -l help \
     -d 'Print help'
@@ -121,6 +130,8 @@ complete -c pclcheck -n '__pclcheck_at check' -s f -l fleet -r \
     -d 'A text with a profile a line; as -p, and behind those of -p'
 complete -c pclcheck -n '__pclcheck_at check' -l files0-from -r \
     -d 'The paths of the jobs, each ended by a zero byte; - is standard input'
+complete -c pclcheck -n '__pclcheck_at check' -l allow-empty \
+    -d 'A list of paths that has none is no error'
 complete -c pclcheck -n '__pclcheck_at check' -l most-items -x \
     -d 'Gives a job up whose macros carry out more than so many items'
 complete -c pclcheck -n '__pclcheck_at check' -l each \

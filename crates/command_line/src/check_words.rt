@@ -6,8 +6,9 @@ use crate::many_words::{MANY_OPTIONS, asks_for_many, read_many};
 use crate::panel_words::ChoiceFault;
 use crate::rows::{CommandRow, Count, Need, WordRow};
 use crate::texts::texts_of;
+use crate::word::Word;
 use clap::ArgMatches;
-use requests::Request;
+use requests::{Form, Request};
 use std::alloc::Global;
 
 pub const EXPLANATION: &str = "Examples:
@@ -57,8 +58,8 @@ Output of check, one line:
   profile=  the printer's number among the words, from 1;
             0: the bytes themselves are wrong, whatever the printer
 
-With -p, -f, --most-items, --each, --notes, --format, --explain, --exit-zero or --unchecked, a line
-for each job, in the order of the words:
+With -p, -f, --allow-empty, --most-items, --each, --notes, --format, --explain, --exit-zero or
+--unchecked, a line for each job, in the order of the words:
   PASS pages=N marks=N JOB
   FAIL at=N printer=NAME FINDING JOB  NAME by its profile; no printer= where the bytes are wrong
   ERROR read JOB: WHY                 the job could not be read; those behind it are checked
@@ -71,8 +72,9 @@ for each job, in the order of the words:
   With --each, printer=NAME stands in each line, and notes are for that printer. In JOB a byte that
   shows nothing and the backslash are \\x and two digits.
 
-  --format words: a sentence for the line, of at most 1,000 bytes; of a long JOB it has the end. It
-  tells who says no: a printer refuses the job, or the job is wrong, or pclcheck cannot judge it.
+  --format words: a sentence for the line, of at most 1,000 bytes; of a long JOB it has the end, and
+  letters of UTF-8 stand in it as they are. It tells who says no: a printer refuses the job, or the
+  job is wrong, or pclcheck cannot judge it.
   --format json: an object with job and verdict; of a PASS pages and marks; of a FAIL at, profile,
   printer, code, finding, field, kind, command and explanation; of an ERROR error and cause. Below
   a PASS an object for each note with job, printer, at, code, note and explanation. In job each
@@ -94,6 +96,9 @@ On standard error, where there is no verdict:
   For many jobs: ERROR profile N PROFILE:LINE CAUSE, ERROR read profile PROFILE: WHY,
   ERROR read fleet FILE: WHY, ERROR fleet FILE: WHY and ERROR read names FILE: WHY. With --format
   words a profile has a sentence, which ends with (ERROR profile N CAUSE) or (ERROR read).
+
+  'pclcheck --format words list gone.pcl' tells of each command what stands in its way by a sentence.
+  The variable PCLCHECK_FORMAT is line, words or json: the form where no --format comes.
 
 A profile is a text whose first line is 'pclprofile 1', or 'pclprofile 2' where it also lists what
 the panel may have for line termination (lineterm).
@@ -136,12 +141,14 @@ pub(crate) const CHECK: &CommandRow = &CommandRow {
 /// The request of the words behind `check`.
 pub fn check_request<'a>(
     alloc: Global,
+    given: &'a [Word],
+    usual: Form,
     found: &ArgMatches<'a>,
 ) -> Result<Option<Request<'a>>, ChoiceFault<'a>>
     ensures { IfOk result (λ request. IfSome request NamesSome) }
 {
-    if asks_for_many(found) {
-        return Ok(read_many(alloc, found)?.map(Request::CheckMany));
+    if asks_for_many(usual, found) {
+        return Ok(read_many(alloc, given, usual, found)?.map(Request::CheckMany));
     }
     let Some(job) = found.get_str("JOB") else {
         return Ok(None);

@@ -1,6 +1,7 @@
 //! The commands by their rows, and the command line that they make up.
 
 use crate::check_words::{CHECK, EXPLANATION};
+use crate::form_words::FORMAT;
 use crate::picture_words::PICTURE;
 use crate::profile_tool_words::{PROFILE_FROM_PJL, PROFILE_LINT, PROFILE_SHEET, PROFILE_SHOW};
 use crate::profile_words::{PROFILE_COMMANDS, PROFILE_LIST, PROFILE_NEW};
@@ -25,7 +26,7 @@ const PROGRAM: &CommandRow = &CommandRow {
     about: "A preflight checker for PCL 5 print jobs",
     explanation: EXPLANATION,
     words: &[],
-    options: &[],
+    options: &[FORMAT],
 };
 
 /// The words of the command `explain`.

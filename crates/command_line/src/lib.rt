@@ -3,6 +3,7 @@
 
 mod check_words;
 mod commands;
+mod form_words;
 mod many_words;
 mod panel_words;
 mod picture_words;
@@ -11,6 +12,9 @@ mod profile_words;
 mod rows;
 mod text_commands;
 mod texts;
+mod word;
 mod words;
 
-pub use words::read_words;
+pub use form_words::form_of;
+pub use word::Word;
+pub use words::{Asked, read_words};

@@ -2,13 +2,12 @@
 ghost use Rattle.std.specs.Prelude.{IfOk, IfSome};
 ghost use Rattle.requests.specs.ManyWords.{NamesPrinter};
 
+use crate::form_words::{FORMS, form_asked};
 use crate::rows::{OptionRow, Value};
+use crate::word::{Word, bytes_of};
 use clap::ArgMatches;
 use requests::{Form, ManyWords};
 use std::alloc::{AllocError, Global};
-
-/// The words of the forms.
-const FORMS: &[&str] = &["line", "words", "json"];
 
 /// How a job may count that pclcheck cannot judge.
 const COUNTS: &[&str] = &["fail", "pass"];
@@ -38,6 +37,14 @@ pub(crate) const MANY_OPTIONS: &[OptionRow] = &[
         value: Value::Text("FILE"),
         excludes: Some("JOB"),
         help: "The paths of the jobs, each ended by a zero byte; - is standard input",
+    },
+    OptionRow {
+        id: "EMPTY",
+        short: None,
+        long: "allow-empty",
+        value: Value::Nothing,
+        excludes: None,
+        help: "A list of paths that has none is no error",
     },
     OptionRow {
         id: "MOST",
@@ -103,13 +110,15 @@ pub(crate) const MANY_OPTIONS: &[OptionRow] = &[
     },
 ];
 
-/// Whether the words ask for more than one job for all of its printers together.
-pub(crate) fn asks_for_many(found: &ArgMatches<'_>) -> bool {
+/// Whether the words ask for more than one job for all of its printers together; so does a usual
+/// form that is not a line.
+pub(crate) fn asks_for_many(usual: Form, found: &ArgMatches<'_>) -> bool {
     names_printers(found)
+        || usual != Form::Line
         || found.contains_id("FORM")
         || found.contains_id("MOST")
         || found.contains_id("COUNT")
-        || ["EACH", "NOTES", "EXPLAIN", "ZERO"]
+        || ["EACH", "EMPTY", "NOTES", "EXPLAIN", "ZERO"]
             .iter()
             .any(|option| found.get_flag(option))
 }
@@ -122,6 +131,8 @@ fn names_printers(found: &ArgMatches<'_>) -> bool {
 /// What words ask for that ask for many, or nothing where they name no printer.
 pub(crate) fn read_many<'a>(
     alloc: Global,
+    given: &'a [Word],
+    usual: Form,
     found: &ArgMatches<'a>,
 ) -> Result<Option<ManyWords<'a>>, AllocError>
     ensures { IfOk result (λ many. IfSome many NamesPrinter) }
@@ -129,11 +140,11 @@ pub(crate) fn read_many<'a>(
     let mut jobs = Vec::new(alloc);
     let mut printers = Vec::new(alloc);
     if let Some(job) = found.get_str("JOB") {
-        jobs.push(job)?;
+        jobs.push(bytes_of(given, job))?;
     }
     let words = found.get_strs("PROFILE").unwrap_or(&[]);
     if names_printers(found) {
-        jobs.extend_from_slice(words)?;
+        push_jobs(&mut jobs, given, words)?;
         printers.extend_from_slice(found.get_strs("PRINTER").unwrap_or(&[]))?;
     } else {
         printers.extend_from_slice(words)?;
@@ -146,6 +157,7 @@ pub(crate) fn read_many<'a>(
     Ok(Some(ManyWords {
         jobs,
         names_from: found.get_str("NAMES"),
+        allows_empty: found.get_flag("EMPTY"),
         printers,
         fleets,
         most_items: found.get_one::<u64>("MOST"),
@@ -153,7 +165,7 @@ pub(crate) fn read_many<'a>(
         tells_notes: found.get_flag("NOTES"),
         exit_zero: found.get_flag("ZERO"),
         passes_unchecked: counts_as_pass(found.get_str("COUNT")),
-        form: form_of(found.get_str("FORM")),
+        form: form_asked(found).unwrap_or(usual),
         explains: found.get_flag("EXPLAIN"),
     }))
 }
@@ -163,11 +175,14 @@ fn counts_as_pass(word: Option<&str>) -> bool {
     matches!(word, Some("pass"))
 }
 
-/// The form of a word; without one it is a line.
-fn form_of(word: Option<&str>) -> Form {
-    match word {
-        Some("words") => Form::Words,
-        Some("json") => Form::Json,
-        _ => Form::Line,
+/// Appends the jobs that texts name.
+fn push_jobs<'a>(
+    jobs: &mut Vec<&'a [u8]>,
+    given: &'a [Word],
+    texts: &[&'a str],
+) -> Result<(), AllocError> {
+    for text in texts {
+        jobs.push(bytes_of(given, text))?;
     }
+    Ok(())
 }

@@ -5,30 +5,42 @@ ghost use Rattle.requests.specs.Words.{KeepsWhatItReads, NamesSome};
 
 use crate::check_words::check_request;
 use crate::commands::command;
+use crate::form_words::form_asked;
 use crate::panel_words::ChoiceFault;
 use crate::picture_words::picture_request;
 use crate::profile_words::profile_request;
 use crate::text_commands::{pin_request, text_request};
+use crate::word::{Word, first_stand_in, first_without_text, is_stand_in, without_zeros};
 use clap::ArgMatches;
 use clap::error::ErrorKind;
-use requests::{Input, Request, Status};
+use requests::{Form, Input, ManyWords, Request, Status};
 use std::alloc::Global;
 use streams::{Error, Outlet, write_text};
 
-/// What the words ask for; the first is the program's own name. Where they ask for help or for the
-/// version, that is written on standard output, and where they are wrong, the reason on standard
-/// error. What stopped it is not told.
+/// What the words ask for.
+#[derive(Drop)]
+pub struct Asked<'a> {
+    pub request: Request<'a>,
+    /// The form of what is told of what stands in its way.
+    pub form: Form,
+}
+
+/// What the words ask for; the first is the program's own name. The form is the usual one where
+/// they ask for none. A job of many need not be text; each other word has to be. Where they ask for
+/// help or for the version, that is written on standard output, and where they are wrong, the
+/// reason on standard error. What stopped it is not told.
 pub fn read_words<'a, O: Outlet, E: Outlet>(
     alloc: Global,
-    words: &'a [String],
+    words: &'a [Word],
+    usual: Form,
     stdout: &mut O,
     stderr: &mut E,
-) -> Result<Request<'a>, Status>
+) -> Result<Asked<'a>, Status>
     requires stdout { IsFalse (O.state stdout.old).failed }
     requires stderr { IsFalse (E.state stderr.old).failed }
     ensures ok { OnOk result ((stdout.new ≡ stdout.old) × (stderr.new ≡ stderr.old)) }
-    ensures some { IfOk result NamesSome }
-    ensures apart { IfOk result KeepsWhatItReads }
+    ensures some { IfOk result (λ asked. NamesSome asked.request) }
+    ensures apart { IfOk result (λ asked. KeepsWhatItReads asked.request) }
     ensures err { IfErr result IsEndOfWords }
     ensures help { result ≡ Err Status.Help → stderr.new ≡ stderr.old }
     // Of another end than bad words nothing is told.
@@ -43,14 +55,82 @@ pub fn read_words<'a, O: Outlet, E: Outlet>(
         Ok(matches) => matches,
         Err(error) => return Err(refuse(alloc, &error, stdout, stderr)),
     };
-    let request = match request_of(alloc, &matches) {
+    let form = form_asked(&matches).unwrap_or(usual);
+    let request = match request_of(alloc, words, form, &matches) {
         Ok(Some(request)) => request,
         Ok(None) => return Err(Status::Usage),
         Err(fault) => return Err(refuse_choices(alloc, &fault, stderr)),
     };
+    if let Some(word) = misplaced(words, &request) {
+        return Err(refuse_word(alloc, word, stderr));
+    }
+    let form = form_of_answer(form, &request);
     match overwritten(&request) {
         Some(input) => Err(Status::Overwrites(input)),
-        None => Ok(request),
+        None => Ok(Asked { request, form }),
+    }
+}
+
+/// The form of what is told: that of a check of many jobs, or the usual one.
+fn form_of_answer(usual: Form, request: &Request<'_>) -> Form {
+    match request {
+        Request::CheckMany(many) => many.form,
+        _ => usual,
+    }
+}
+
+/// What stands for a word that is no text, where it has to be text.
+fn misplaced<'a>(words: &'a [Word], request: &Request<'a>) -> Option<&'a str> {
+    match request {
+        Request::CheckMany(many) => beside_jobs(many),
+        _ => first_without_text(words),
+    }
+}
+
+/// What stands for a word that is no text, beside the names of jobs.
+fn beside_jobs<'a>(many: &ManyWords<'a>) -> Option<&'a str> {
+    if let Some(word) = first_stand_in(many.printers.as_slice()) {
+        return Some(word);
+    }
+    if let Some(word) = first_stand_in(many.fleets.as_slice()) {
+        return Some(word);
+    }
+    match many.names_from {
+        Some(path) if is_stand_in(path) => Some(path),
+        _ => None,
+    }
+}
+
+/// Writes that a word has to be text, by what stands for it.
+fn refuse_word<E: Outlet>(alloc: Global, word: &str, stderr: &mut E) -> Status
+    requires { IsFalse (E.state stderr.old).failed }
+    ensures end { IsEndOfWords result }
+    ensures no_help { result ≢ Status.Help }
+    ensures quiet { IsFalse (E.state stderr.new).failed → result ≢ Status.Usage →
+        stderr.new ≡ stderr.old }
+{
+    let Ok(text) = format!(in alloc;
+        "error: '{word}' is not UTF-8 text; behind -p or -f a job may be named so\n"
+    ) else {
+        return Status::Stopped(Error::Memory);
+    };
+    tell_words(alloc, text.as_str(), stderr)
+}
+
+/// Writes why words are refused, without the zero bytes of what stands for words.
+fn tell_words<E: Outlet>(alloc: Global, text: &str, stderr: &mut E) -> Status
+    requires { IsFalse (E.state stderr.old).failed }
+    ensures end { IsEndOfWords result }
+    ensures no_help { result ≢ Status.Help }
+    ensures quiet { IsFalse (E.state stderr.new).failed → result ≢ Status.Usage →
+        stderr.new ≡ stderr.old }
+{
+    let Ok(told) = without_zeros(alloc, text) else {
+        return Status::Stopped(Error::Memory);
+    };
+    match write_text(stderr, told.as_slice()) {
+        Ok(()) => Status::Usage,
+        Err(_) => Status::Stopped(Error::Write),
     }
 }
 
@@ -94,21 +174,20 @@ fn refuse_choices<E: Outlet>(alloc: Global, fault: &ChoiceFault<'_>, stderr: &mu
     let Ok(text) = format!(in alloc; "error: {fault}\n") else {
         return Status::Stopped(Error::Memory);
     };
-    match write_text(stderr, text.as_bytes()) {
-        Ok(()) => Status::Usage,
-        Err(_) => Status::Stopped(Error::Write),
-    }
+    tell_words(alloc, text.as_str(), stderr)
 }
 
 /// The request of words that are right.
 fn request_of<'a>(
     alloc: Global,
+    words: &'a [Word],
+    usual: Form,
     matches: &ArgMatches<'a>,
 ) -> Result<Option<Request<'a>>, ChoiceFault<'a>>
     ensures { IfOk result (λ request. IfSome request NamesSome) }
 {
     if let Some(found) = matches.subcommand_matches("check") {
-        return check_request(alloc, found);
+        return check_request(alloc, words, usual, found);
     }
     if let Some(found) = matches.subcommand_matches("pin") {
         return pin_request(alloc, found);
@@ -148,10 +227,7 @@ fn refuse<O: Outlet, E: Outlet>(
         return Status::Stopped(Error::Memory);
     };
     if error.use_stderr() {
-        return match write_text(stderr, text.as_bytes()) {
-            Ok(()) => Status::Usage,
-            Err(_) => Status::Stopped(Error::Write),
-        };
+        return tell_words(alloc, text.as_str(), stderr);
     }
     match write_text(stdout, text.as_bytes()) {
         Ok(()) => Status::Help,

@@ -1,7 +1,9 @@
 -- Lines and sentences, computed from the definitions alone.
-use Rattle.std.proofs.Common.{◌≡◌, ℕ, Bool, true, false, List, [], ◌∷◌, Option, Some, None, Result, Ok, Err, refl, lit≤}
+use Rattle.std.proofs.Common.{◌≡◌, ℕ, Bool, true, false, List, [], ◌∷◌, ◌++◌, Option, Some, None, Result, Ok, Err, refl, lit≤}
 use Rattle.std.specs.Prelude.{codes}
+use Rattle.std.specs.Char.{encode_utf8}
 use Rattle.std.specs.Fmt.{digits}
+use Rattle.std.specs.Str.{is_utf8, chars}
 use Rattle.pcl_items.specs.declared.pcl.command.Command.TheVariants.{FontSpacing, PageSize}
 use Rattle.pcl_items.specs.declared.fault.LexCause.TheVariants.{Syntax}
 use Rattle.pcl_items.specs.declared.item.SimpleItem.TheVariants.{Parameterized}
@@ -14,11 +16,12 @@ use Rattle.verdict.specs.declared.verdict.Verdict.TheVariants.{Fail, Pass}
 use Rattle.preflight.specs.declared.culprit.Culprit.{Culprit}
 use Rattle.preflight.specs.declared.culprit.Culprit.TheVariants.{Simple}
 use Rattle.preflight.specs.declared.culprit.Judgement.{Judgement}
+use Rattle.shown_bytes.specs.Shown.{shown_text}
 use Rattle.streams.specs.declared.error.Error.{Error}
 use Rattle.streams.specs.declared.error.Error.TheVariants.{Read}
 use Rattle.job_reports.specs.declared.kind.Kind.TheVariants as kinds
 use Rattle.job_reports.specs.JobLines.{job_line}
-use Rattle.job_reports.specs.JobSentences.{job_sentence}
+use Rattle.job_reports.specs.JobSentences.{job_sentence, named_first}
 use Rattle.job_reports.specs.Kinds.{kind_of}
 use Rattle.job_reports.specs.Refusals.{refused_profile_sentence, unread_profile_sentence}
 use Rattle.job_reports.specs.Reports.{Reported}
@@ -67,18 +70,18 @@ line_of_unread :
 line_of_unread = refl
 
 sentence_of_pass : job_sentence (report_of false passed None) ≡ codes "in/note 4712.pcl: each printer prints this job (pages=1 marks=22)\n"
-unfolding digits
+unfolding shown_text is_utf8 chars encode_utf8 digits
 sentence_of_pass = refl
 
 sentence_of_finding : job_sentence (report_of false refused None)
     ≡ codes
     "in/note 4712.pcl: export-desk refuses this job at byte 134, ESC &l2A: the printer does not have this size, orientation, tray or sides (11 NotOnDevice)\n"
-unfolding digits
+unfolding shown_text is_utf8 chars encode_utf8 digits
 sentence_of_finding = refl
 
 sentence_of_fault : job_sentence (report_of false faulty None)
     ≡ codes "in/note 4712.pcl: this job is wrong at byte 9: the bytes here are no command (1 Syntax)\n"
-unfolding digits
+unfolding shown_text is_utf8 chars encode_utf8 digits
 sentence_of_fault = refl
 
 -- pclcheck does not check proportional spacing, which the manual has; a minus before the value is wrong anyway
@@ -91,12 +94,12 @@ failing_at culprit = Ok (record { verdict = Fail 7 1 (Finding BadValue); culprit
 sentence_of_unchecked : job_sentence (report_of true (failing_at (spaced Absent)) None)
     ≡ codes
     "in/note 4712.pcl: pclcheck cannot judge this job for counter at byte 7, ESC (s1P: pclcheck does not check proportional spacing (10 BadValue)\n"
-unfolding digits
+unfolding shown_text is_utf8 chars encode_utf8 digits
 sentence_of_unchecked = refl
 
 sentence_of_wrong : job_sentence (report_of false (failing_at (spaced Minus)) None)
     ≡ codes "in/note 4712.pcl: this job is wrong at byte 7, ESC (s-1P: the command does not take this value (10 BadValue)\n"
-unfolding digits
+unfolding shown_text is_utf8 chars encode_utf8 digits
 sentence_of_wrong = refl
 
 -- at the end of a job it is an overlay that has such a value
@@ -105,18 +108,37 @@ kind_at_end = refl
 
 sentence_of_unread : job_sentence (report_of true (Err Read) gone)
     ≡ codes "in/note 4712.pcl: this job cannot be read for counter: No such file or directory (ERROR read)\n"
+unfolding shown_text is_utf8 chars encode_utf8
 sentence_of_unread = refl
 
 refused_at_line : refused_profile_sentence 1 (codes "bad.profile") 3 Repeated
     ≡ codes "bad.profile: line 3: this gives again what an earlier line gave, or a number twice (ERROR profile 1 Repeated)\n"
-unfolding digits
+unfolding shown_text is_utf8 chars encode_utf8 digits
 refused_at_line = refl
 
 refused_as_whole : refused_profile_sentence 2 (codes "bad.profile") 0 Range
     ≡ codes "bad.profile: the text has more than 65,536 bytes, or the panel offers what the printer lacks (ERROR profile 2 Range)\n"
-unfolding digits
+unfolding shown_text is_utf8 chars encode_utf8 digits
 refused_as_whole = refl
 
 unread : unread_profile_sentence (codes "gone.profile") gone
     ≡ codes "gone.profile: this profile cannot be read: No such file or directory (ERROR read)\n"
+unfolding shown_text is_utf8 chars encode_utf8
 unread = refl
+
+-- ---- names
+
+-- the letter é in UTF-8, and a backslash
+letter_and_backslash : named_first (codes "caf" ++ 195 ∷ 169 ∷ codes "\\.pcl") ≡ codes "caf" ++ 195 ∷ 169 ∷ codes "\\x5c.pcl: "
+unfolding shown_text is_utf8 chars encode_utf8
+letter_and_backslash = refl
+
+-- a control character behind ASCII
+control : named_first (codes "a" ++ 194 ∷ 155 ∷ codes "m") ≡ codes "a\\xc2\\x9bm: "
+unfolding shown_text is_utf8 chars encode_utf8
+control = refl
+
+-- a letter beside a byte that is no UTF-8
+no_text : named_first (195 ∷ 169 ∷ 233 ∷ codes ".pcl") ≡ codes "\\xc3\\xa9\\xe9.pcl: "
+unfolding shown_text is_utf8 chars encode_utf8
+no_text = refl

@@ -37,7 +37,7 @@ use Rattle.device_profile.specs.Field.{field_name}
 use Rattle.line_words.specs.Reason.{bare_cause_name, bare_finding_name, bare_name, brackets, name_words, reason_words, short_cause}
 use Rattle.line_words.specs.Reason.{short_finding, short_reason, named_byte}
 use Rattle.shown_bytes.specs.Decimals.{magnitude_text}
-use Rattle.shown_bytes.specs.Shown.{shown, shown_byte}
+use Rattle.shown_bytes.specs.Shown.{shown, shown_byte, shown_text}
 use Rattle.preflight.specs.declared.culprit.Culprit.{Culprit}
 use Rattle.preflight.specs.declared.culprit.Culprit.TheVariants.{Text, Simple, WithData, Line}
 use Rattle.preflight.specs.declared.culprit.Judgement.{Judgement}
@@ -57,7 +57,7 @@ use Rattle.job_reports.specs.declared.left_out.LeftOut.TheVariants as left_outs
 use Rattle.job_reports.specs.Reports.{Reported, culprit_of, number_told, verdict_told}
 use Rattle.requests.specs.Status.{error_words}
 use Rattle.job_reports.proofs.Within.{code_part, decimal_part, escaped_part, first_part, flat_part, joined, last_part, literal, name_at}
-use Rattle.job_reports.proofs.Within.{named_part, nothing, one_of, shown_byte_part, shown_part, wider}
+use Rattle.job_reports.proofs.Within.{name_shown, named_part, nothing, one_of, shown_byte_part, shown_part, wider}
 
 -- ---- the item that a job fails at
 
@@ -342,8 +342,7 @@ verdict_numbers (Err error) h = tt
 
 named_first_part : (name : List ℕ) → IsWithin 505 (named_first name)
 named_first_part name =
-    joined (last_of 500 (shown name)) (codes ": ")
-    (last_part 500 (shown name) (flat_part shown_byte shown_byte_part name).shown) (literal 2 _ refl refl)
+    joined (last_of 500 (shown_text name)) (codes ": ") (last_part 500 (shown_text name) (name_shown name)) (literal 2 _ refl refl)
 
 pub sentence_is_short : (report : Reported) → IsOfParts report → IsSentence (job_sentence report)
 sentence_is_short report h =

@@ -1,4 +1,5 @@
 pub mod Appending
+mod Cutting
 mod Examples
 mod GroupFacts
 mod JobSentences

@@ -1,16 +1,19 @@
 -- Texts of at most so many bytes, of which none is a control code.
 use Rattle.std.proofs.Common.{◌≡◌, ℕ, zero, suc, ◌+◌, ◌-◌, ◌*◌, ◌/◌, ◌%◌, ◌^◌, ◌==◌, ◌<◌, ◌≤◌, Bool, true, false, List, [], ◌∷◌, ◌++◌}
-use Rattle.std.proofs.Common.{length, take, drop, codes, refl, arith, get_or}
+use Rattle.std.proofs.Common.{length, take, drop, codes, refl, sym, arith, get_or, append-nil}
 use Rattle.std.specs.Prelude.{decimal, flat_map, nat_le, nat_lt, not, ◌&&◌, if◌then◌else◌}
 use Rattle.std.specs.List.{AllByRecursion}
-use Rattle.std.proofs.lemmas.Bool.{leb-true, and_parts}
+use Rattle.std.specs.Char.{encode_utf8}
+use Rattle.std.specs.Str.{chars, is_utf8}
+use Rattle.std.proofs.lemmas.Bool.{leb-true, leb-false, and_parts}
 use Rattle.std.proofs.lemmas.Fmt.{decimal_by_steps, length-decimal-le}
 use Rattle.std.proofs.lemmas.List.{length-append, length-drop, length-take}
+use Rattle.std.proofs.lemmas.Str.{inside_one}
 use Rattle.line_words.specs.Figures.{escaped_byte, named}
-use Rattle.shown_bytes.specs.Shown.{hex_byte, hex_digit, shown_byte}
+use Rattle.shown_bytes.specs.Shown.{hex_byte, hex_digit, is_letter, shown, shown_byte, shown_letter, shown_text, steers}
 use Rattle.line_words.specs.Reason.{named_byte}
 use Rattle.job_reports.specs.CommandWords.{code_words}
-use Rattle.job_reports.specs.JobSentences.{IsWithin, first_of, last_of}
+use Rattle.job_reports.specs.JobSentences.{IsWithin, begins_character, first_of, from_character, last_of}
 
 -- no control code
 abbrev IsShown : List ℕ → Type 0
@@ -31,6 +34,26 @@ shown-drop : (n : ℕ) (text : List ℕ) → IsShown text → IsShown (drop n te
 shown-drop zero text h = h
 shown-drop (suc n) [] h = tt
 shown-drop (suc n) (x ∷ text) h = shown-drop n text h.1
+
+-- either a text from a byte on, or what is left behind that byte
+shorter_of : (test : Bool) (byte : ℕ) (text rest : List ℕ) → length rest ≤ length text →
+    length (if test then byte ∷ text else rest) ≤ length (byte ∷ text)
+shorter_of true byte text rest h = omega arith
+shorter_of false byte text rest h = omega (arith, h)
+
+shorter-from_character : (text : List ℕ) → length (from_character text) ≤ length text
+shorter-from_character [] = omega arith
+shorter-from_character (byte ∷ text) =
+    shorter_of (begins_character byte) byte text (from_character text) (shorter-from_character text)
+
+shown_of : (test : Bool) (a b : List ℕ) → IsShown a → IsShown b → IsShown (if test then a else b)
+shown_of true a b h k = h
+shown_of false a b h k = k
+
+shown-from_character : (text : List ℕ) → IsShown text → IsShown (from_character text)
+shown-from_character [] h = tt
+shown-from_character (byte ∷ text) h =
+    shown_of (begins_character byte) (byte ∷ text) (from_character text) h (shown-from_character text h.1)
 
 pub joined : {m n : ℕ} (a b : List ℕ) → IsWithin m a → IsWithin n b → IsWithin (m + n) (a ++ b)
 joined a b h k = record {
@@ -114,7 +137,10 @@ last_part most text h =
     one_of (3 + most) (nat_le (length text) most) text _
     (λ e. record { short = let l : length text ≤ most = leb-true (length text) most e in omega arith; shown = h })
     (joined (codes "...") _ (literal 3 _ refl refl)
-    (record { short = omega (arith, length-drop (length text - most) text); shown = shown-drop _ text h }))
+    (record {
+      short = omega (arith, shorter-from_character (drop (length text - most) text), length-drop (length text - most) text);
+      shown = shown-from_character (drop (length text - most) text) (shown-drop (length text - most) text h);
+    }))
 
 pub first_part : (most : ℕ) (text : List ℕ) → IsShown text → IsWithin (most + 3) (first_of most text)
 first_part most text h =
@@ -122,6 +148,40 @@ first_part most text h =
     (λ e. record { short = let l : length text ≤ most = leb-true (length text) most e in omega arith; shown = h })
     (joined (take most text) (codes "...")
     (record { short = omega (arith, length-take most text); shown = shown-take most text h }) (literal 3 _ refl refl))
+
+-- ---- names
+
+by_places : (text : List ℕ) → ((k : ℕ) → k < length text → 32 ≤ get_or text k 0) → IsShown text
+by_places [] h = tt
+by_places (byte ∷ text) h = (h 0 (omega arith), by_places text (λ k w. h (suc k) (omega arith)))
+
+at_least : (test : Bool) (b : ℕ) → nat_le 32 b ≡ test → (b < 32 → 160 ≤ b) → 32 ≤ b
+at_least true b e h = leb-true 32 b e
+at_least false b e h = let low : b < 32 = leb-false 32 b e in let high : 160 ≤ b = h low in omega arith
+
+-- each byte of a character behind ASCII lies behind ASCII
+spelled_shown : (c : ℕ) → 160 ≤ c → IsShown (encode_utf8 c)
+spelled_shown c h =
+    let bytes : List ℕ = encode_utf8 c in
+    by_places bytes (λ k w. at_least (nat_le 32 (get_or bytes k 0)) (get_or bytes k 0) refl (λ low.
+    let same : c ≡ get_or bytes k 0 = inside_one c [] bytes k (sym (append-nil bytes)) w (omega arith) in omega (arith, h, same)))
+
+shown_letter_shown : (test : Bool) (c : ℕ) → is_letter c ≡ test → IsShown (if test then encode_utf8 c else shown (encode_utf8 c))
+shown_letter_shown true c e = spelled_shown c (leb-true 160 c (and_parts (nat_le 160 c) (not (steers c)) e).0)
+shown_letter_shown false c e = (flat_part shown_byte shown_byte_part (encode_utf8 c)).shown
+
+letters_shown : (cs : List ℕ) → IsShown (flat_map shown_letter cs)
+letters_shown [] = tt
+letters_shown (c ∷ cs) =
+    shown-append (shown_letter c) (flat_map shown_letter cs) (shown_letter_shown (is_letter c) c refl) (letters_shown cs)
+
+pub name_shown : (name : List ℕ) → IsShown (shown_text name)
+unfolding shown_text
+name_shown name =
+    shown_of (is_utf8 name) (flat_map shown_letter (chars name)) (shown name) (letters_shown (chars name))
+    (flat_part shown_byte shown_byte_part name).shown
+
+-- ---- numbers
 
 pub decimal_part : (n : ℕ) → n < 2 ^ 64 → IsWithin 20 (decimal n)
 decimal_part n h = record {

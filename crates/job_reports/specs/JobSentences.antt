@@ -1,6 +1,7 @@
 -- The sentence of a job, in a check of many jobs.
-use Rattle.std.specs.Prelude.{◌≡◌, ℕ, ◌==◌, ◌-◌, ◌^◌, ◌<◌, ◌≤◌, nat_le, List, [], ◌∷◌, ◌++◌, codes, drop, take, length}
-use Rattle.std.specs.Prelude.{get_or, Bool, true, false, if◌then◌else◌, Option, None, Some, Result, Ok, Err, IfOk, ⊤}
+use Rattle.std.specs.Prelude.{◌≡◌, ℕ, ◌==◌, ◌-◌, ◌^◌, ◌<◌, ◌≤◌, nat_le, nat_lt, ◌||◌, List, [], ◌∷◌, ◌++◌, codes, drop}
+use Rattle.std.specs.Prelude.{take, length, get_or, if◌then◌else◌, Bool, true, false, Option, None, Some, Result}
+use Rattle.std.specs.Prelude.{Ok, Err, IfOk, ⊤}
 use Rattle.std.specs.List.{AllByRecursion}
 use Rattle.line_words.specs.Figures.{named}
 use Rattle.line_words.specs.Reason.{reason_words, short_reason}
@@ -8,7 +9,7 @@ use Rattle.page_env.specs.declared.finding.Finding.TheVariants.{BadValue}
 use Rattle.preflight.specs.declared.culprit.Culprit.{Culprit}
 use Rattle.preflight.specs.declared.culprit.Culprit.TheVariants.{Text, Simple, WithData, Line}
 use Rattle.preflight.specs.declared.culprit.Judgement.{Judgement}
-use Rattle.shown_bytes.specs.Shown.{shown}
+use Rattle.shown_bytes.specs.Shown.{shown, shown_text}
 use Rattle.streams.specs.declared.error.Error.{Error}
 use Rattle.streams.specs.declared.error.Error.TheVariants.{Memory, Read, Write, Turns, NoProfile, Items}
 use Rattle.verdict.specs.declared.reason.Reason.{Reason}
@@ -26,9 +27,19 @@ use Rattle.requests.specs.Status.{error_words}
 
 -- ---- what is long, in part
 
--- the last so many bytes, behind points that stand for those before them
+-- the first byte of a character of UTF-8
+abbrev pub begins_character : ℕ → Bool
+begins_character byte = nat_lt byte 128 || nat_le 192 byte
+
+-- from the first byte on that begins a character
+abbrev pub from_character : List ℕ → List ℕ
+from_character [] = []
+from_character (byte ∷ text) = if begins_character byte then byte ∷ text else from_character text
+
+-- the last so many bytes, but no part of a character, behind points that stand for those before them
 abbrev pub last_of : ℕ → List ℕ → List ℕ
-last_of most text = if nat_le (length text) most then text else codes "..." ++ drop (length text - most) text
+last_of most text =
+    if nat_le (length text) most then text else codes "..." ++ from_character (drop (length text - most) text)
 
 -- the first so many bytes, and points for those behind them
 abbrev pub first_of : ℕ → List ℕ → List ℕ
@@ -123,7 +134,7 @@ answer_phrase report (Err error) =
 
 -- a name that begins a sentence; of a long one the end tells more
 abbrev pub named_first : List ℕ → List ℕ
-named_first name = last_of 500 (shown name) ++ codes ": "
+named_first name = last_of 500 (shown_text name) ++ codes ": "
 
 -- a sentence begins with the job's name, and ends with the words by which a line begins or ends
 abbrev pub job_sentence : Reported → List ℕ

@@ -40,7 +40,8 @@ line_phrase line = if line == 0 then [] else named (codes "line ") line ++ codes
 
 -- what is wrong in a line, or with line 0 in the text as a whole
 abbrev pub fault_phrase : ℕ → Cause → List ℕ
-fault_phrase line Version = codes "this is neither 'pclprofile 1' nor 'pclprofile 2'"
+fault_phrase line Version =
+    codes "this is neither 'pclprofile 1' nor 'pclprofile 2', so no profile; jobs come behind -p or -f"
 fault_phrase line Unknown = codes "the first word is no key of this version"
 fault_phrase line Repeated = codes "this gives again what an earlier line gave, or a number twice"
 fault_phrase line Range =

@@ -5,6 +5,7 @@ ghost use Rattle.job_reports.specs.JobSentences.{
   IsSentence,
   answer_phrase,
   at_command,
+  begins_character,
   cause_phrase,
   claim,
   error_phrase,
@@ -13,6 +14,7 @@ ghost use Rattle.job_reports.specs.JobSentences.{
   first_of,
   for_each,
   for_printer,
+  from_character,
   is_bad_value,
   job_sentence,
   last_of,
@@ -32,7 +34,7 @@ use line_words::{push_named, push_reason, short_reason};
 use page_env::Finding;
 use preflight::{Culprit, Verdict};
 use requests::error_words;
-use shown_bytes::push_shown;
+use shown_bytes::{push_shown, push_shown_text};
 use std::alloc::{AllocError, Allocator};
 use streams::Error;
 use verdict::Reason;
@@ -59,7 +61,7 @@ pub fn push_named_first<A: Allocator, B: Allocator>(
     ensures { OnOk result (line.new.items ≡ line.old.items ++ named_first name.now) }
 {
     let mut shown = Vec::new(alloc);
-    push_shown(&mut shown, name)?;
+    push_shown_text(&mut shown, name)?;
     push_last_of(line, 500, shown.as_slice())?;
     line.extend_from_slice(b": ")
 }
@@ -305,7 +307,7 @@ pub fn push_cause_phrase<A: Allocator + Copy>(
 
 // ---- what is long, in part
 
-/// Appends a text; of one that is longer than this the end.
+/// Appends a text; of one that is longer than this the end, from a character on that is whole.
 fn push_last_of<A: Allocator>(
     line: &mut Vec<u8, A>,
     most: usize,
@@ -317,7 +319,26 @@ fn push_last_of<A: Allocator>(
         return line.extend_from_slice(text);
     }
     line.extend_from_slice(b"...")?;
-    line.extend_from_slice(&text[text.len() - most..])
+    line.extend_from_slice(from_character(&text[text.len() - most..]))
+}
+
+/// A text from the first byte on that begins a character.
+fn from_character(text: &[u8]) -> &[u8]
+    ensures { result.now ≡ from_character text.now }
+{
+    for (start, byte) in text.iter().enumerate() {
+        if begins_character(*byte) {
+            return &text[start..];
+        }
+    }
+    &[]
+}
+
+/// Whether a byte is the first of a character of UTF-8.
+fn begins_character(byte: u8) -> bool
+    ensures { result ≡ begins_character byte }
+{
+    byte < 128 || 192 <= byte
 }
 
 /// Appends a text; of one that is longer than this the beginning.

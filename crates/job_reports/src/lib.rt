@@ -15,7 +15,9 @@ mod reports;
 pub use command_words::push_command_words;
 pub use groups::PrinterGroup;
 pub use job_lines::push_job_line;
-pub use job_sentences::{push_job_sentence, push_named_first, sentences_are_short};
+pub use job_sentences::{
+    push_cause_phrase, push_job_sentence, push_named_first, sentences_are_short,
+};
 pub use kind::{Kind, kind_of};
 pub use lines::{line_of, line_of_failure};
 pub use pipes::{is_pipe, refuse_pipe, refuse_words};

@@ -111,7 +111,9 @@ fn fault_phrase(line: u64, cause: Cause) -> &'static [u8]
     ensures { result.now ≡ fault_phrase line cause }
 {
     match cause {
-        Cause::Version => b"this is neither 'pclprofile 1' nor 'pclprofile 2'",
+        Cause::Version => {
+            b"this is neither 'pclprofile 1' nor 'pclprofile 2', so no profile; jobs come behind -p or -f"
+        }
         Cause::Unknown => b"the first word is no key of this version",
         Cause::Repeated => b"this gives again what an earlier line gave, or a number twice",
         Cause::Range if line == 0 => {

@@ -2,8 +2,8 @@
 use Rattle.std.proofs.Common.{◌≡◌, ◌≢◌, ℕ, suc, ◌<◌, ◌/◌, ◌%◌, if◌then◌else◌, Bool, true, false, List, [], ◌∷◌, ◌++◌, length, get_or}
 use Rattle.std.proofs.Common.{flat_map, refl, sym, ap, ◌∙◌, arith, append-nil, append_assoc}
 use Rattle.std.specs.Char.{encode_utf8}
-use Rattle.std.specs.Str.{IsAscii, IsUtf8, encode_utf8_all, is_utf8}
-use Rattle.std.proofs.lemmas.Str.{IsAscii-append, IsUtf8-from_is_utf8, is_utf8-from_IsUtf8, inside_one, encode_ascii, encodes-append}
+use Rattle.std.specs.Str.{IsAscii, encode_utf8_all}
+use Rattle.std.proofs.lemmas.Str.{IsAscii-append, inside_one, encode_ascii, encodes-append}
 use Rattle.std.proofs.lemmas.Str.Ascii.{IsAscii-nil, IsAscii-cons}
 use Rattle.std.proofs.lemmas.Bool.Decides.{nat_tests}
 use Rattle.std.proofs.lemmas.Grind.{flat_map-append}
@@ -66,16 +66,3 @@ more_doubled c y old middle new same is first second =
     let twice : flat_map backslash_doubled (encode_utf8 c) ≡ encode_utf8 92 ++ encode_utf8 c =
     rw (same, encode_ascii 92 (omega arith)) refl in
     second ∙ rw (first, more, twice, append_assoc) (ap (λ front. front ++ (encode_utf8 92 ++ encode_utf8 c)) is)
-
--- ---- bytes that are text, and other bytes
-
-pub text_of_utf8 : (bytes text : List ℕ) → IsUtf8 bytes → text ≡ (if is_utf8 bytes then text else shown bytes)
-text_of_utf8 bytes text valid = rw (is_utf8-from_IsUtf8 bytes valid)
-
-shown_at : (bytes text : List ℕ) (valid : Bool) → is_utf8 bytes ≡ valid → ¬ (IsUtf8 bytes) →
-    shown bytes ≡ (if valid then text else shown bytes)
-shown_at bytes text true e invalid = absurd (invalid (IsUtf8-from_is_utf8 bytes e))
-shown_at bytes text false e invalid = refl
-
-pub text_of_others : (bytes text : List ℕ) → ¬ (IsUtf8 bytes) → shown bytes ≡ (if is_utf8 bytes then text else shown bytes)
-text_of_others bytes text invalid = shown_at bytes text _ refl invalid

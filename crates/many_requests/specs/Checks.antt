@@ -1,6 +1,6 @@
 -- What is left of a check of many jobs. Nothing is known of files beforehand, so this is said for some texts of them.
-use Rattle.std.specs.Prelude.{◌≡◌, ◌⊎◌, ◌++◌, ℕ, Bool, List, [], flat_map, map, option_map, Contains, IsFalse, Option}
-use Rattle.std.specs.Prelude.{Some, if◌then◌else◌}
+use Rattle.std.specs.Prelude.{◌≡◌, ◌⊎◌, ◌++◌, ℕ, Bool, List, [], flat_map, map, option_map, Contains, IsFalse, IsTrue}
+use Rattle.std.specs.Prelude.{Option, Some, if◌then◌else◌}
 use Rattle.std.specs.declared.alloc.Global.{Global}
 use Rattle.requests.specs.declared.many_words.Form.{Form}
 use Rattle.requests.specs.declared.many_words.Form.TheVariants.{Line as LineForm, Words as WordsForm, Json as JsonForm}
@@ -22,17 +22,19 @@ use Rattle.requests.specs.Status.{is_stop_of_write}
 use Rattle.many_jobs.specs.declared.telling.Format.{Format}
 use Rattle.many_jobs.specs.declared.telling.Format.TheVariants.{Line, Words, Json}
 use Rattle.many_requests.specs.Inputs.{RefusesInput, reads_input_again}
+use Rattle.many_requests.specs.Lists.{RefusesList, is_refused_list, list_fault, path_of}
 use Rattle.many_requests.specs.Names.{AreNamesAt, names_in}
 
 -- ---- what is asked for
 
--- by the words: the jobs, the file of their names, the printers, the fleets, how many items macros may carry out,
--- whether each printer is told of by itself, whether the notes of a job that passes are told, the form, the
--- explanations of which a FAIL and a note get their own, whether a FAIL counts as a PASS, and whether one does by which
--- pclcheck alone says no
+-- by the words: the jobs, the file of their names, whether that may have none, the printers, the fleets, how many
+-- items macros may carry out, whether each printer is told of by itself, whether the notes of a job that passes are
+-- told, the form, the explanations of which a FAIL and a note get their own, whether a FAIL counts as a PASS, and
+-- whether one does by which pclcheck alone says no
 pub record Asking : Type 0 where
   pub jobs : List (List ℕ)
   pub names_from : Option (List ℕ)
+  pub allows_empty : Bool
   pub printers : List (List ℕ)
   pub fleets : List (List ℕ)
   pub most_items : Option ℕ
@@ -48,6 +50,7 @@ abbrev pub asking : List (List ℕ) → ManyWords → Asking
 asking texts words = record {
   jobs = map (λ word. word.now) words.jobs.items;
   names_from = option_map (λ word. word.now) words.names_from;
+  allows_empty = words.allows_empty;
   printers = map (λ word. word.now) words.printers.items;
   fleets = map (λ word. word.now) words.fleets.items;
   most_items = words.most_items;
@@ -106,6 +109,14 @@ LeavesAsked names_from asked status out out' err err' =
     × (out'.failed ≡ is_stop_of_write status))
     ⊎ (RefusesInput names_from asked status err err' × (out' ≡ out))
 
+-- the jobs to which a list of these bytes leads are checked, or the list is refused, and no line is written
+abbrev pub LeavesFound : Bool → Option (List ℕ) → List ℕ → Asked → Status → OutletState → OutletState → OutletState →
+    OutletState → Type 0
+LeavesFound allows_empty names_from names asked status out out' err err' =
+    (IsFalse (is_refused_list allows_empty names asked.jobs) × LeavesAsked names_from asked status out out' err err')
+    ⊎ (IsTrue (is_refused_list allows_empty names asked.jobs)
+    × RefusesList (path_of names_from) (list_fault names) status err err' × (out' ≡ out))
+
 -- why there is nothing to check: one of these fleets is refused, or this file of names cannot be read, of which
 -- standard error is told; or there is no memory
 abbrev pub LacksSome : List (List ℕ) → Option (List ℕ) → Status → OutletState → OutletState → Type 0
@@ -118,5 +129,6 @@ LacksSome fleets names_from status err err' =
 abbrev pub LeavesChecks : Asking → Status → List FileUse → List FileUse → OutletState → OutletState → OutletState →
     OutletState → Type 0
 LeavesChecks asking status used used' out out' err err' =
-    ((asked : Asked) × Completes asking asked used used' × LeavesAsked asking.names_from asked status out out' err err')
+    ((asked : Asked) × (had : Completes asking asked used used')
+    × LeavesFound asking.allows_empty asking.names_from had.names asked status out out' err err')
     ⊎ (LacksSome asking.fleets asking.names_from status err err' × (out' ≡ out))

@@ -1,3 +1,4 @@
 pub mod Checks
 pub mod Inputs
+pub mod Lists
 pub mod Names

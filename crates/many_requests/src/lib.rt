@@ -2,6 +2,7 @@
 #![tactic(auto)]
 
 mod inputs;
+mod lists;
 mod many;
 mod names;
 

@@ -2,13 +2,14 @@
 ghost use Rattle.std.specs.Prelude.{◌≡◌, ◌≢◌, ◌++◌, [], List, ℕ, Contains, IfErr, IfOk, IsFalse};
 ghost use Rattle.std.specs.Prelude.{OnOk, map, option_map, string_bytes};
 ghost use Rattle.requests.specs.ManyWords.{NamesPrinter};
-ghost use Rattle.many_requests.specs.Checks.{IsTelling, LeavesAsked, LeavesChecks, ReadsFleets};
-ghost use Rattle.many_requests.specs.Checks.{asking};
+ghost use Rattle.many_requests.specs.Checks.{IsTelling, LeavesAsked, LeavesChecks, LeavesFound};
+ghost use Rattle.many_requests.specs.Checks.{ReadsFleets, asking};
 ghost use Rattle.many_requests.specs.Names.{names_in};
 ghost use Rattle.many_jobs.specs.Asked.{asked_for, told_by};
 ghost use Rattle.many_jobs.specs.FleetFile.{TellsOfFleet};
 
 use crate::inputs::refuse_inputs;
+use crate::lists::{is_refused_list, list_fault, path_of, refuse_list};
 use crate::names::{push_names, read_names};
 use many_jobs::{Format, ManyJobs, Telling, check_many, read_fleet_file};
 use meanings::EXPLANATIONS;
@@ -58,7 +59,32 @@ pub fn check_asked<R: Files + Input + AllocGlobal, O: Outlet, E: Outlet>(
         tells_notes: words.tells_notes,
         telling: telling_of(alloc, words),
     };
-    check_all(rt, words.names_from, &many, stdout, stderr)
+    check_found(rt, words, names.as_slice(), &many, stdout, stderr)
+}
+
+/// Checks all jobs that are asked for, unless the list of their names is refused, which has these
+/// bytes.
+fn check_found<'r, R: Files + Input + AllocGlobal, O: Outlet, E: Outlet>(
+    rt: &'r R,
+    words: &ManyWords<'_>,
+    names: &[u8],
+    many: &ManyJobs<'_, 'r>,
+    stdout: &mut O,
+    stderr: &mut E,
+) -> Status
+    requires stdout { IsFalse (O.state stdout.old).failed }
+    requires stderr { IsFalse (E.state stderr.old).failed }
+    requires some { many.now.printers.now ≢ [] }
+    ensures { LeavesFound words.now.allows_empty
+        (option_map (λ path. path.now) words.now.names_from) names.now (asked_for many.now)
+        result (O.state stdout.old) (O.state stdout.new)
+        (E.state stderr.old) (E.state stderr.new) }
+{
+    if is_refused_list(words.allows_empty, names, many.jobs) {
+        let path = path_of(words.names_from);
+        return refuse_list(rt.alloc(), path, list_fault(names), stderr);
+    }
+    check_all(rt, words.names_from, many, stdout, stderr)
 }
 
 /// Checks all jobs that are asked for, unless one would be read again that can be read only once.
@@ -129,16 +155,14 @@ fn all_printers<'w>(
 /// The jobs that words name, and behind them those that a file of names has.
 fn all_jobs<'n>(
     alloc: Global,
-    jobs: &[&'n str],
+    jobs: &[&'n [u8]],
     names: &'n [u8],
 ) -> Result<Vec<&'n [u8]>, AllocError>
     ensures { IfOk result (λ all. map (λ name. name.now) all.items ≡
         map (λ word. word.now) jobs.now ++ names_in names.now) }
 {
     let mut all = Vec::new(alloc);
-    for job in jobs {
-        all.push(job.as_bytes())?;
-    }
+    all.extend_from_slice(jobs)?;
     push_names(&mut all, names)?;
     Ok(all)
 }

@@ -32,10 +32,15 @@ fn push_reference<A: Allocator>(text: &mut Vec<u8, A>, character: u16) -> Result
     text.extend_from_slice(b";")
 }
 
-/// Appends a byte of a sentence; for one that shows nothing the replacement character.
+/// Appends a byte of a sentence, which is UTF-8 text; for one that shows nothing the replacement
+/// character.
 fn push_byte<A: Allocator>(text: &mut Vec<u8, A>, byte: u8) -> Result<(), AllocError>
     ensures { OnOk result (text.new.items ≡ text.old.items ++ byte_text byte) }
 {
+    if 128 <= byte {
+        text.push(byte)?;
+        return Ok(());
+    }
     if 32 <= byte && byte <= 126 {
         push_character(text, u16::from(byte))
     } else {

@@ -2,31 +2,34 @@
 #![tactic(auto)]
 
 mod by_request;
+mod in_words;
 
 ghost use Rattle.std.specs.Prelude.{IsFalse};
 
 use crate::by_request::fulfil;
-use command_line::read_words;
-use requests::{Status, tell};
+use crate::in_words::tell_in_words;
+use command_line::{Word, form_of, read_words};
+use requests::{Form, Status, tell};
+use std::alloc::AllocError;
+use std::env::{FillError, VarError};
 use std::io::{Input, Print};
 use std::os::fd::{AsRawFd, IntoRawFd, RawFd};
 use std::process::ExitCode;
 use std::rt::{Env, Files};
-use std::{env, fs, io};
+use std::{env, fs};
 use streams::{Error, FilesUsed, Latched, Outlet, write_text};
 
 /// The descriptors of the standard streams are those below this one.
 const STANDARD_STREAMS: RawFd = 3;
 
+/// A word has room for so many bytes at first.
+const ROOM_OF_WORD: usize = 256;
+
 fn main(rt: HostRuntime) -> ExitCode {
     fill_closed_streams(&rt);
     let mut stdout = Latched::new(rt.stdout());
     let mut stderr = Latched::new(rt.stderr());
-    let status = match gather_words(&rt) {
-        Ok(words) => run(&rt, words.as_slice(), &mut stdout, &mut stderr),
-        Err(kind) => refuse_usage(kind, &mut stderr),
-    };
-    tell(status, &mut stderr);
+    let status = run(&rt, &mut stdout, &mut stderr);
     ExitCode::from(status.code())
 }
 
@@ -47,43 +50,115 @@ fn fill_closed_streams(rt: &HostRuntime) {
     }
 }
 
-/// The words that the program was started with.
-fn gather_words<R: Env + AllocGlobal>(rt: &R) -> Result<Vec<String>, io::ErrorKind> {
-    let words = env::args(rt).map_err(|error| error.kind())?;
-    words
-        .collect(rt.alloc())
-        .map_err(|_| io::ErrorKind::OutOfMemory)
-}
-
-/// How the program ends where no words were had: want of memory, or a word that is no text, of
-/// which standard error tells.
-fn refuse_usage<E: Outlet>(kind: io::ErrorKind, stderr: &mut E) -> Status
-    requires { IsFalse (E.state stderr.old).failed }
-{
-    if kind == io::ErrorKind::OutOfMemory {
-        return Status::Stopped(Error::Memory);
-    }
-    match write_text(stderr, b"error: a word is not UTF-8 text\n") {
-        Ok(()) => Status::Usage,
-        Err(error) => Status::Stopped(error),
-    }
-}
-
-/// Does what the words ask for.
-fn run<R: Files + Input + Print + AllocGlobal, O: Outlet, E: Outlet>(
+/// Does what the program's words ask for, and tells what stands in the way.
+fn run<R: Env + Files + Input + Print + AllocGlobal, O: Outlet, E: Outlet>(
     rt: &R,
-    words: &[String],
     stdout: &mut O,
     stderr: &mut E,
 ) -> Status
     requires stdout { IsFalse (O.state stdout.old).failed }
     requires stderr { IsFalse (E.state stderr.old).failed }
 {
-    match read_words(rt.alloc(), words, stdout, stderr) {
-        Ok(request) => {
-            let mut used = FilesUsed::new();
-            fulfil(rt, &request, &mut used, stdout, stderr)
-        }
-        Err(status) => status,
+    let Ok(words) = gather_words(rt) else {
+        return told(Status::Stopped(Error::Memory), stderr);
+    };
+    let Ok(usual) = usual_form(rt) else {
+        return told(Status::Stopped(Error::Memory), stderr);
+    };
+    match usual {
+        Some(usual) => fulfil_words(rt, words.as_slice(), usual, stdout, stderr),
+        None => refuse_form(stderr),
     }
+}
+
+/// The words that the program was started with.
+///
+/// An error means that the allocator refused a request; so of each below.
+fn gather_words<R: Env + AllocGlobal>(rt: &R) -> Result<Vec<Word>, AllocError> {
+    let mut words = Vec::new(rt.alloc());
+    for place in 0..usize::MAX {
+        let Some(bytes) = word_at(rt, place)? else {
+            break;
+        };
+        words.push(Word::new(rt.alloc(), bytes)?)?;
+    }
+    Ok(words)
+}
+
+/// The bytes of the word at a place, counted from 0, where there is one.
+fn word_at<R: Env + AllocGlobal>(rt: &R, place: usize) -> Result<Option<Vec<u8>>, AllocError> {
+    let mut room = ROOM_OF_WORD;
+    for _ in 0..usize::BITS {
+        let mut bytes = Vec::new(rt.alloc());
+        bytes.resize(room, 0u8)?;
+        match rt.arg(place, bytes.as_mut_slice()) {
+            Ok(length) => {
+                bytes.truncate(length);
+                return Ok(Some(bytes));
+            }
+            Err(FillError::NotPresent) => return Ok(None),
+            Err(FillError::TooLong) => room = room.saturating_add(room),
+        }
+    }
+    Err(AllocError)
+}
+
+/// The form that the environment asks for, a line where it asks for none, or nothing where what it
+/// asks for is no form.
+fn usual_form<R: Env + AllocGlobal>(rt: &R) -> Result<Option<Form>, AllocError> {
+    match env::var(rt, "PCLCHECK_FORMAT") {
+        Ok(word) => Ok(form_or_line(word.as_str())),
+        Err(VarError::NotPresent) => Ok(Some(Form::Line)),
+        Err(VarError::NotUnicode) => Ok(None),
+        Err(VarError::OutOfMemory) => Err(AllocError),
+    }
+}
+
+/// The form of a word; of an empty one a line.
+fn form_or_line(word: &str) -> Option<Form> {
+    if word.is_empty() {
+        return Some(Form::Line);
+    }
+    form_of(word)
+}
+
+/// Tells that the environment asks for no form that there is.
+fn refuse_form<E: Outlet>(stderr: &mut E) -> Status
+    requires { IsFalse (E.state stderr.old).failed }
+{
+    let text = b"error: PCLCHECK_FORMAT is none of line, words and json\n";
+    match write_text(stderr, text) {
+        Ok(()) => Status::Usage,
+        Err(error) => Status::Stopped(error),
+    }
+}
+
+/// Does what the words ask for, in the usual form where they ask for none.
+fn fulfil_words<R: Files + Input + Print + AllocGlobal, O: Outlet, E: Outlet>(
+    rt: &R,
+    words: &[Word],
+    usual: Form,
+    stdout: &mut O,
+    stderr: &mut E,
+) -> Status
+    requires stdout { IsFalse (O.state stdout.old).failed }
+    requires stderr { IsFalse (E.state stderr.old).failed }
+{
+    let asked = match read_words(rt.alloc(), words, usual, stdout, stderr) {
+        Ok(asked) => asked,
+        Err(status) => return told(status, stderr),
+    };
+    let mut used = FilesUsed::new();
+    let status = fulfil(rt, &asked.request, &mut used, stdout, stderr);
+    match asked.form {
+        Form::Words => tell_in_words(rt, &asked.request, status, stderr),
+        Form::Line | Form::Json => tell(status, stderr),
+    }
+    status
+}
+
+/// A status, of which its line is told.
+fn told<E: Outlet>(status: Status, stderr: &mut E) -> Status {
+    tell(status, stderr);
+    status
 }

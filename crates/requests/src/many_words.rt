@@ -15,9 +15,12 @@ pub enum Form {
 /// files of fleets name, or where `is_each` is set for each of them by itself.
 #[derive(Drop)]
 pub struct ManyWords<'a> {
-    pub jobs: Vec<&'a str>,
+    /// The names of jobs by their bytes, which need not be text.
+    pub jobs: Vec<&'a [u8]>,
     /// The file of names, each ended by a zero byte.
     pub names_from: Option<&'a str>,
+    /// That file may have no name.
+    pub allows_empty: bool,
     pub printers: Vec<&'a str>,
     pub fleets: Vec<&'a str>,
     /// How many items macros may carry out in a job, where that is limited.

@@ -3,6 +3,7 @@
 
 mod decimals;
 mod lettered;
+mod letters;
 mod numbers;
 mod shown;
 
@@ -11,5 +12,6 @@ pub use decimals::{
     push_with_hundredths, push_with_millionths, push_with_tenth, shown_decimals,
 };
 pub use lettered::push_lettered;
+pub use letters::push_shown_text;
 pub use numbers::push_number;
 pub use shown::{hex_byte, push_shown, push_shown_from};

@@ -1,6 +1,6 @@
 use Rattle.std.proofs.Common.{flat_map, ap, ◌∙◌}
 use Rattle.std.proofs.lemmas.Result.{IfOk-weaker}
-use Rattle.many_jobs.proofs.JsonTextFacts.{text_of_utf8, text_of_others}
+use Rattle.shown_bytes.proofs.Texts.{text_of_utf8, text_of_others}
 use Rattle.many_jobs.specs.JsonTexts.{backslash_doubled}
 use Rattle.many_jobs.proofs.json_texts.name_text.Goals as goal
 

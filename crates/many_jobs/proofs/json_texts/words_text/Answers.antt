@@ -1,6 +1,6 @@
 use Rattle.std.proofs.Common.{◌∙◌}
 use Rattle.std.proofs.lemmas.Result.{IfOk-weaker}
-use Rattle.many_jobs.proofs.JsonTextFacts.{text_of_utf8, text_of_others}
+use Rattle.shown_bytes.proofs.Texts.{text_of_utf8, text_of_others}
 use Rattle.many_jobs.proofs.json_texts.words_text.Goals as goal
 
 pub returns-in-Ok : goal.returns-in-Ok

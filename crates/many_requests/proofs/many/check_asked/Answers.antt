@@ -4,7 +4,7 @@ use Rattle.many_jobs.specs.CheckMany.{Asked}
 use Rattle.named_inputs.specs.Texts.{text_named}
 use Rattle.many_requests.proofs.Asking.{names_lack, some_printer}
 use Rattle.many_requests.proofs.Fleets.{fleets_count}
-use Rattle.many_requests.specs.Checks.{LeavesAsked, ReadsFleets}
+use Rattle.many_requests.specs.Checks.{LeavesFound, ReadsFleets}
 use Rattle.many_requests.specs.Names.{names_in}
 use Rattle.many_requests.proofs.many.check_asked.Goals as goal
 
@@ -17,8 +17,8 @@ returns-in-Err-read_names g c =
       refl,
     )
 
-pub check_all-requires-clause-some : goal.check_all-requires-clause-some
-check_all-requires-clause-some g c =
+pub check_found-requires-clause-some : goal.check_found-requires-clause-some
+check_found-requires-clause-some g c =
     let words = c.args.words.now in
     let each =
     subst (λ fleets. length (map (λ word. word.now) fleets) ≤ length (map string_bytes c.in-Ok.fleets.items)) c.as_slice.ensures.value
@@ -66,7 +66,13 @@ returns g c =
         telling = c.telling_of.ensures;
       },
       subst
-          (λ err. LeavesAsked (option_map (λ word. word.now) words.names_from) asked c.check_all.result (g.O.Outlet.state c.args.stdout.now)
-          (g.O.Outlet.state c.check_all.new.stdout) (g.E.Outlet.state err) (g.E.Outlet.state c.check_all.new.stderr))
-          (c.in-Ok-read_names.ensures.quiet ∙ c.in-Ok.ensures.quiet) c.check_all.ensures,
+          (λ err. LeavesFound words.allows_empty (option_map (λ word. word.now) words.names_from) c.in-Ok-read_names.names.items asked
+          c.check_found.result (g.O.Outlet.state c.args.stdout.now) (g.O.Outlet.state c.check_found.new.stdout) (g.E.Outlet.state err)
+          (g.E.Outlet.state c.check_found.new.stderr))
+          (c.in-Ok-read_names.ensures.quiet ∙ c.in-Ok.ensures.quiet)
+          (subst
+          (λ names. LeavesFound words.allows_empty (option_map (λ word. word.now) words.names_from) names asked c.check_found.result
+          (g.O.Outlet.state c.args.stdout.now) (g.O.Outlet.state c.check_found.new.stdout) (g.E.Outlet.state c.read_names.new.stderr)
+          (g.E.Outlet.state c.check_found.new.stderr))
+          c.as_slice-8.ensures.value c.check_found.ensures),
     )

@@ -1,0 +1,234 @@
+//! What stands in the way of a request, in words: its name, its cause, and what was probably meant.
+//!
+//! No text means that there is nothing to tell, or no memory for it.
+
+use device_profile::Cause;
+use job_reports::{
+    is_pipe, push_cause_phrase, push_named_first, push_refused_profile_sentence,
+    push_unread_profile_sentence,
+};
+use named_inputs::system_words::system_words;
+use named_inputs::{is_input, read_front};
+use requests::{Request, Status, tell};
+use std::alloc::Global;
+use std::io;
+use std::rt::Files;
+use streams::{Error, FileSource, Outlet, Source, write_text};
+
+/// The text of a profile begins so, before the number of its version.
+const FRONT_OF_PROFILE: &[u8] = b"pclprofile ";
+
+/// Tells how a request ended, as far as it can be written. A file that could not be read is looked
+/// for among those of the request, by opening them again.
+pub fn tell_in_words<R: Files + AllocGlobal, E: Outlet>(
+    rt: &R,
+    request: &Request<'_>,
+    status: Status,
+    stderr: &mut E,
+) {
+    match sentence(rt, request, status) {
+        Some(text) => write(text.as_slice(), stderr),
+        None => tell(status, stderr),
+    }
+    if let Some(text) = hint(rt, request) {
+        write(text.as_slice(), stderr);
+    }
+}
+
+/// Writes a text, unless it is empty or an earlier write failed.
+fn write<E: Outlet>(text: &[u8], stderr: &mut E) {
+    if text.is_empty() {
+        return;
+    }
+    if stderr.has_failed() {
+        return;
+    }
+    // Where standard error takes nothing, the status alone is left to tell.
+    let _ = write_text(stderr, text);
+}
+
+/// The sentence of a status that a request came to.
+fn sentence<R: Files + AllocGlobal>(
+    rt: &R,
+    request: &Request<'_>,
+    status: Status,
+) -> Option<Vec<u8>> {
+    match status {
+        Status::Stopped(Error::Read) => unread_sentence(rt, request),
+        Status::Stopped(Error::Write) => unwritten_sentence(rt.alloc(), request),
+        Status::Profile {
+            number,
+            line,
+            cause,
+        } => refused_sentence(rt.alloc(), number, profile_of(request)?, line, cause),
+        _ => None,
+    }
+}
+
+// ---- what a request names
+
+/// The path of its one job.
+fn job_of<'a>(request: &Request<'a>) -> Option<&'a str> {
+    match request {
+        Request::List { job } => Some(*job),
+        Request::Pages { job, .. } => Some(*job),
+        Request::Notes { job, .. } => Some(*job),
+        Request::Picture { job, .. } => Some(*job),
+        Request::Plain { job, .. } => Some(*job),
+        Request::Pin { job, .. } => Some(*job),
+        _ => None,
+    }
+}
+
+/// The word of the one printer of a job.
+fn profile_of<'a>(request: &Request<'a>) -> Option<&'a str> {
+    match request {
+        Request::Pages { profile, .. } => Some(*profile),
+        Request::Notes { profile, .. } => Some(*profile),
+        Request::Picture { profile, .. } => Some(*profile),
+        Request::Pin { profile, .. } => Some(*profile),
+        _ => None,
+    }
+}
+
+/// The path of the file that it writes.
+fn out_of<'a>(request: &Request<'a>) -> Option<&'a str> {
+    match request {
+        Request::Plain { out, .. } => Some(*out),
+        Request::Pin { out, .. } => Some(*out),
+        Request::ProfileSheet { out, .. } => Some(*out),
+        _ => None,
+    }
+}
+
+/// Whether a word names a built-in sample, and no file.
+fn is_sample(word: &str) -> bool {
+    word == "@A" || word == "@B" || word == "@C" || word == "@D"
+}
+
+// ---- sentences
+
+/// Which file of a request cannot be read.
+fn unread_sentence<R: Files + AllocGlobal>(rt: &R, request: &Request<'_>) -> Option<Vec<u8>> {
+    if let Some(profile) = profile_of(request) {
+        if let Some(error) = error_at(rt, profile) {
+            return unread_profile(rt.alloc(), profile, error);
+        }
+    }
+    let job = job_of(request)?;
+    unread_job(rt.alloc(), job, error_at(rt, job))
+}
+
+/// Why a file cannot be opened, or not read at its beginning. What can be read only once is left as
+/// it is.
+fn error_at<R: Files>(rt: &R, word: &str) -> Option<io::Error> {
+    if is_sample(word) || is_pipe(rt, word.as_bytes()) {
+        return None;
+    }
+    let mut file = FileSource::new(rt, word);
+    let mut byte = [0u8; 1];
+    // The file itself tells what came of it.
+    let _ = file.read(&mut byte);
+    file.error()
+}
+
+fn unread_profile(alloc: Global, word: &str, error: io::Error) -> Option<Vec<u8>> {
+    let told = system_words(alloc, Some(error));
+    let cause = told.as_ref().map(|told| told.as_bytes());
+    let mut text = Vec::new(alloc);
+    push_unread_profile_sentence(alloc, &mut text, word, cause).ok()?;
+    Some(text)
+}
+
+fn unread_job(alloc: Global, job: &str, error: Option<io::Error>) -> Option<Vec<u8>> {
+    let told = system_words(alloc, error);
+    let cause = told.as_ref().map(|told| told.as_bytes());
+    let mut text = Vec::new(alloc);
+    push_named_first(alloc, &mut text, job.as_bytes()).ok()?;
+    text.extend_from_slice(b"this job cannot be read").ok()?;
+    push_cause_phrase(alloc, &mut text, cause).ok()?;
+    text.extend_from_slice(b" (ERROR read)\n").ok()?;
+    Some(text)
+}
+
+/// Where no more can be written.
+fn unwritten_sentence(alloc: Global, request: &Request<'_>) -> Option<Vec<u8>> {
+    let out = out_of(request)?;
+    let mut text = Vec::new(alloc);
+    push_named_first(alloc, &mut text, out.as_bytes()).ok()?;
+    text.extend_from_slice(b"this file or standard output cannot be written (ERROR write)\n")
+        .ok()?;
+    Some(text)
+}
+
+/// Why the profile of this word is refused.
+fn refused_sentence(
+    alloc: Global,
+    number: u64,
+    word: &str,
+    line: u64,
+    cause: Cause,
+) -> Option<Vec<u8>> {
+    let mut text = Vec::new(alloc);
+    if cause != Cause::Version {
+        push_refused_profile_sentence(alloc, &mut text, number, word, line, cause).ok()?;
+        return Some(text);
+    }
+    push_named_first(alloc, &mut text, word.as_bytes()).ok()?;
+    text.extend_from_slice(
+        b"this is no profile, and JOB stands before PROFILE (ERROR profile 1 Version)\n",
+    ).ok()?;
+    Some(text)
+}
+
+// ---- what was probably meant
+
+/// The jobs of a request that are profiles, by their names and their first bytes.
+fn hint<R: Files + AllocGlobal>(rt: &R, request: &Request<'_>) -> Option<Vec<u8>> {
+    let mut text = Vec::new(rt.alloc());
+    match request {
+        Request::CheckMany(many) => push_profiles(rt, &mut text, many.jobs.as_slice())?,
+        _ => {
+            let why = b"this is a profile, and JOB stands before PROFILE\n";
+            push_profile(rt, &mut text, job_of(request)?.as_bytes(), why)?;
+        }
+    }
+    Some(text)
+}
+
+/// Appends which of these jobs are profiles.
+fn push_profiles<R: Files + AllocGlobal>(rt: &R, text: &mut Vec<u8>, jobs: &[&[u8]]) -> Option<()> {
+    for job in jobs {
+        push_profile(rt, text, job, b"this is a profile, and -p takes it\n")?;
+    }
+    Some(())
+}
+
+/// Appends that a job is a profile, where it is one.
+fn push_profile<R: Files + AllocGlobal>(
+    rt: &R,
+    text: &mut Vec<u8>,
+    job: &[u8],
+    why: &[u8],
+) -> Option<()> {
+    if !is_profile(rt, job) {
+        return Some(());
+    }
+    push_named_first(rt.alloc(), text, job).ok()?;
+    text.extend_from_slice(why).ok()
+}
+
+/// Whether a job is named as profiles are, and begins as one.
+fn is_profile<R: Files + AllocGlobal>(rt: &R, job: &[u8]) -> bool {
+    let Ok(path) = str::from_utf8(job) else {
+        return false;
+    };
+    if !path.ends_with(".profile") || is_input(job) || is_pipe(rt, job) {
+        return false;
+    }
+    let mut file = FileSource::new(rt, path);
+    match read_front(rt.alloc(), &mut file, FRONT_OF_PROFILE.len()) {
+        Ok(front) => front.as_slice() == FRONT_OF_PROFILE,
+        Err(_) => false,
+    }
+}
