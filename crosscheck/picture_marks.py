@@ -2,8 +2,8 @@
 
     python3 crosscheck/picture_marks.py PICTURE LINES
 
-PICTURE is the SVG of one page with `--boxes`, LINES what `pages` writes for it. Each mark has to stand at its
-place within 1/7200 inch, in the order of the lines, and there may be no other.
+PICTURE is the SVG of one page with `--boxes`, LINES what `pages` writes for it. Each mark has to
+stand at its place within 1/7200 inch, in the order of the lines, and there may be no other.
 """
 
 import re

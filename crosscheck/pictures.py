@@ -7,8 +7,8 @@ the byte what `drawing.py` draws, with the boxes of characters and without; it h
 page and no other, and is well formed; the page on which the job fails has one thing that fails and
 the sentence of `check --format words`, where that finds the same; and of a page that the job does
 not have standard error alone tells. A document of all pages has the same pictures, but for the
-sentence, each behind the number of its page. Prints each difference and at last `N compared, M differ`, where N counts pictures.
-The exit status is 0 where M is 0, else 1.
+sentence, each behind the number of its page. Prints each difference and at last `N compared, M
+differ`, where N counts pictures. The exit status is 0 where M is 0, else 1.
 """
 
 import os

@@ -193,7 +193,11 @@ fn check_character(
     if wanted.is_empty() {
         check_mark(rt, &mark, &[UNKNOWN, digits, TITLE_END, b"</rect>\n"])
     } else {
-        check_mark(rt, &mark, &[BOX, TEXT, digits, TITLE_END, wanted, b"</text>\n"])
+        check_mark(
+            rt,
+            &mark,
+            &[BOX, TEXT, digits, TITLE_END, wanted, b"</text>\n"],
+        )
     }
 }
 
