@@ -119,7 +119,7 @@ unmade_mark NotPrintable mark = mark
 unmade_mark _ mark = None
 
 -- that mark, or else a cross where the cursor stood
-abbrev pub mark_or_cross : Geometry → Spot → Option Outline → List ℕ
+unfoldable pub mark_or_cross : Geometry → Spot → Option Outline → List ℕ
 mark_or_cross paper spot None = failure_picture spot.x spot.y
 mark_or_cross paper spot (Some mark) = unmade_picture paper mark
 

@@ -287,6 +287,7 @@ fn unmade_mark(finding: Finding, mark: Option<Outline>) -> Option<Outline>
 }
 
 /// Appends that mark, or else a cross where the cursor stood.
+#[tactic(auto, unfolding(crate::specs::Failing::mark_or_cross))]
 fn push_mark_or_cross<A: Allocator>(
     text: &mut Vec<u8, A>,
     paper: &Geometry,

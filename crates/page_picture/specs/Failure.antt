@@ -25,12 +25,15 @@ outline_attributes box =
     length_attribute X box.left ++ length_attribute Y box.top
     ++ attribute Width (span box.left box.right) ++ attribute Height (span box.top box.bottom)
 
--- from where to where a box goes, in millimetres from the left and the upper edge of the sheet
+-- from where to where it goes along an axis
+unfoldable pub stretch : (first last : ℤ) → List ℕ
+stretch first last = millimetres first ++ failure_part parts.MeasureTo ++ millimetres last
+
+-- the same of both axes, in millimetres from the left and the upper edge of the sheet
 unfoldable pub measures : Outline → List ℕ
 measures box =
-    failure_part parts.MeasureX ++ millimetres box.left ++ failure_part parts.MeasureTo ++ millimetres box.right
-    ++ failure_part parts.MeasureY ++ millimetres box.top ++ failure_part parts.MeasureTo ++ millimetres box.bottom
-    ++ failure_part parts.MeasureEnd
+    failure_part parts.MeasureX ++ stretch box.left box.right ++ failure_part parts.MeasureY
+    ++ stretch box.top box.bottom ++ failure_part parts.MeasureEnd
 
 -- where measures stand: in the middle of the sheet, where they can be read wherever the box is
 unfoldable pub measure_place : (start : FailurePart) → Geometry → List ℕ

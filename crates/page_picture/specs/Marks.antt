@@ -85,7 +85,7 @@ text_picture glyph place character =
     ++ character_title glyph place ++ character_text character ++ mark_part parts.TextEnd
 
 -- a character that has this text, if it is known: without one its box stands there, asked for or not
-abbrev pub character_picture : Glyph → (has_boxes : Bool) → (place : ℕ) → Option ℕ → List ℕ
+unfoldable pub character_picture : Glyph → (has_boxes : Bool) → (place : ℕ) → Option ℕ → List ℕ
 character_picture glyph has_boxes place None = unknown_picture glyph place
 character_picture glyph has_boxes place (Some character) =
     due_box glyph has_boxes ++ text_picture glyph place character

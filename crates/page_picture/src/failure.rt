@@ -6,6 +6,7 @@ ghost use Rattle.page_picture.specs.Failure.{
   measure_place,
   measures,
   outline_attributes,
+  stretch,
   unmade_picture,
   veil_picture,
 };
@@ -65,19 +66,29 @@ fn push_outline<A: Allocator>(text: &mut Vec<u8, A>, outline: &Outline) -> Resul
     )
 }
 
+/// Appends from where to where a box goes along an axis.
+#[tactic(auto, unfolding(crate::specs::Failure::stretch))]
+fn push_stretch<A: Allocator>(
+    text: &mut Vec<u8, A>,
+    first: i64,
+    last: i64,
+) -> Result<(), AllocError>
+    ensures { OnOk result (text.new.items ≡ text.old.items ++ stretch first last) }
+{
+    push_millimetres(text, first)?;
+    text.extend_from_slice(FailurePart::MeasureTo.bytes())?;
+    push_millimetres(text, last)
+}
+
 /// Appends from where to where a box goes.
 #[tactic(auto, unfolding(crate::specs::Failure::measures))]
 fn push_measures<A: Allocator>(text: &mut Vec<u8, A>, outline: &Outline) -> Result<(), AllocError>
     ensures { OnOk result (text.new.items ≡ text.old.items ++ measures outline.now) }
 {
     text.extend_from_slice(FailurePart::MeasureX.bytes())?;
-    push_millimetres(text, outline.left)?;
-    text.extend_from_slice(FailurePart::MeasureTo.bytes())?;
-    push_millimetres(text, outline.right)?;
+    push_stretch(text, outline.left, outline.right)?;
     text.extend_from_slice(FailurePart::MeasureY.bytes())?;
-    push_millimetres(text, outline.top)?;
-    text.extend_from_slice(FailurePart::MeasureTo.bytes())?;
-    push_millimetres(text, outline.bottom)?;
+    push_stretch(text, outline.top, outline.bottom)?;
     text.extend_from_slice(FailurePart::MeasureEnd.bytes())
 }
 

@@ -128,6 +128,7 @@ fn push_glyph<A: Allocator>(
 }
 
 /// Appends a character that has this text, if it is known.
+#[tactic(auto, unfolding(crate::specs::Marks::character_picture))]
 fn push_character_of<A: Allocator>(
     text: &mut Vec<u8, A>,
     glyph: &Glyph,
