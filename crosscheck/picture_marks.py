@@ -2,8 +2,8 @@
 
     python3 crosscheck/picture_marks.py PICTURE LINES
 
-PICTURE is the SVG of one page, LINES what `pages` writes for it. Each mark has to stand at its
-place within 1/7200 inch, in the order of the lines, and there may be no other.
+PICTURE is the SVG of one page with `--boxes`, LINES what `pages` writes for it. Each mark has to
+stand at its place within 1/7200 inch, in the order of the lines, and there may be no other.
 """
 
 import re
@@ -14,7 +14,8 @@ from typing import List, Tuple
 
 UNIT = 5_080_000                              # ticks in 1/7200 inch
 SVG = "{http://www.w3.org/2000/svg}"
-NO_MARKS = ("sheet", "logical", "printable", "failure", "sentence")
+NO_MARKS = ("sheet", "rulers", "logical", "printable", "veil", "limit", "measure", "failure",
+            "sentence")
 RUN = re.compile(r"M(\d+) 0h(\d+)v1h-(\d+)z")
 PLACE = re.compile(r"translate\((\S+) (\S+)\) scale\((\d+)\)")
 DENSITIES = ((2, ".02"), (10, ".1"), (20, ".15"), (35, ".3"), (55, ".45"), (80, ".7"), (99, ".9"))
@@ -33,9 +34,9 @@ def box_of(element: xml.Element) -> Tuple[Fraction, ...]:
 
 
 def row_of(element: xml.Element) -> Mark:
-    """A row: its runs are drawn smoothed, and once more sharp."""
+    """A row: behind its title its runs are drawn smoothed, and once more sharp."""
     place = PLACE.fullmatch(element.get("transform"))
-    smooth, sharp = element
+    _, smooth, sharp = element
     assert (smooth.tag, sharp.tag) == (SVG + "path", SVG + "path")
     assert (smooth.attrib.keys(), sharp.attrib.keys()) == ({"d"}, {"d", "shape-rendering"})
     data = smooth.get("d")
@@ -72,8 +73,9 @@ def marks_of_picture(text: str) -> List[Mark]:
             last, _, (left, _, right, _) = marks[-1]
             x, y, width = numbers(element, "x y textLength")
             assert last == "glyph" and (x, width) == (left, right - left)
-            assert len(element.text) == 1, element.text
-            marks[-1] = (last, (element.text, y), marks[-1][2])
+            character = element[0].tail
+            assert len(character) == 1, character
+            marks[-1] = (last, (character, y), marks[-1][2])
             continue
         marks.append(mark_of(element))
     return marks

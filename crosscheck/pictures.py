@@ -1,13 +1,14 @@
-"""Compares the pictures of random jobs with the lines that `pages` writes of them.
+"""Compares the pictures of random jobs with a second drawing, and with the lines of `pages`.
 
     python3 crosscheck/pictures.py PROGRAM COUNT SEED
 
-For each job and the first profile of its fleet, `picture` draws each page, and one more. Each has
-the marks of its page and no other, and is well formed; the page on which the job fails has a cross
-and the sentence of `check --format words`, where that finds the same; and of a page that the job
-does not have standard error alone tells. A document of all pages has the same pictures, but for
-the sentence. Prints each difference and at last `N compared, M differ`, where N counts pictures.
-The exit status is 0 where M is 0, else 1.
+For each job and the first profile of its fleet, `picture` draws each page, and one more. Each is to
+the byte what `drawing.py` draws, with the boxes of characters and without; it has the marks of its
+page and no other, and is well formed; the page on which the job fails has one thing that fails and
+the sentence of `check --format words`, where that finds the same; and of a page that the job does
+not have standard error alone tells. A document of all pages has the same pictures, but for the
+sentence, each behind the number of its page. Prints each difference and at last `N compared, M
+differ`, where N counts pictures. The exit status is 0 where M is 0, else 1.
 """
 
 import os
@@ -23,11 +24,14 @@ from typing import Callable, List, Optional, Tuple
 sys.dont_write_bytecode = True
 
 import jobs                                                        # noqa: E402
+from drawing import draw                                           # noqa: E402
 from picture_marks import first_difference                         # noqa: E402
+from printer_profile import read_profile                           # noqa: E402
 
 SECONDS = 60
 MOST_PAGES = 12                                # of a job are drawn one by one
-PICTURE = re.compile(r"<svg .*?</svg>\n", re.DOTALL)
+PICTURE = re.compile(r"<h2>Page (\d+)</h2>\n(<svg .*?</svg>\n)", re.DOTALL)
+SENTENCE = re.compile(r'<text class="sentence"[^>]*>(.*?)</text>|<body>\n<p>(.*?)</p>')
 
 
 @dataclass
@@ -47,6 +51,9 @@ class Due:
 
 
 Run = Callable[..., Answer]
+
+# Draws a page by its number, or without one all: with boxes, and with this sentence.
+Draw = Callable[[Optional[int], bool, bytes], str]
 
 
 def due_of(pages: Answer) -> Due:
@@ -78,13 +85,29 @@ def place_of(line: str) -> str:
 
 
 def failure_differs(picture: str, failure: str) -> str:
-    """What is wrong with the cross and the sentence of a page on which a job fails, or nothing."""
+    """What is wrong with what fails and the sentence of a page on which a job fails, or nothing."""
     sentences = texts_of(picture, "sentence")
     if len(texts_of(picture, "failure")) != 1 or len(sentences) != 1:
-        return "no cross, or no sentence"
+        return "nothing that fails, or no sentence"
     wanted = (f" at byte {place_of(failure)}", f" ({reason_of(failure)})")
     if wanted[0] not in sentences[0] or not sentences[0].endswith(wanted[1]):
         return f"the sentence {sentences[0]!r} for {failure!r}"
+    return ""
+
+
+def text_differs(run: Run, draw_page: Draw, page: Optional[int]) -> str:
+    """What is not as in the second drawing, which has the sentence of the first, or nothing."""
+    words = ("--all",) if page is None else ("--page", str(page))
+    for boxes in ((), ("--boxes",)):
+        drawn = run("picture", *words, *boxes).output
+        told = SENTENCE.search(drawn)
+        sentence = unescape(told[1] or told[2]).encode("latin-1", "replace") if told else b""
+        wanted = draw_page(page, bool(boxes), sentence)
+        for have, due in zip(drawn.split("\n"), wanted.split("\n")):
+            if have != due:
+                return f"{have!r} is drawn for {due!r}"
+        if drawn != wanted:
+            return f"{len(drawn)} bytes are drawn for {len(wanted)}"
     return ""
 
 
@@ -99,7 +122,7 @@ def page_differs(answer: Answer, marks: List[str], failure: Optional[str]) -> st
     if different:
         return different
     if failure is None:
-        return "a cross" if texts_of(answer.output, "failure") else ""
+        return "a failure" if texts_of(answer.output, "failure") else ""
     return failure_differs(answer.output, failure)
 
 
@@ -117,19 +140,19 @@ def document_differs(answer: Answer, due: Due) -> str:
     wanted = due.pages + ([due.open_page] if due.failure else [])
     if answer.status != (1 if due.failure else 0) or len(pictures) != len(wanted):
         return f"status {answer.status}, {len(pictures)} pictures for {len(wanted)}"
-    for number, (picture, marks) in enumerate(zip(pictures, wanted), start=1):
+    for number, ((label, picture), marks) in enumerate(zip(pictures, wanted), start=1):
         different = first_difference(picture, marks)
-        if different:
-            return f"picture {number}: {different}"
+        if different or label != str(number):
+            return f"picture {number}, labelled {label}: {different}"
     crosses = answer.output.count('class="failure"')
     verdict = unescape(re.search(r"<p>(.*?)</p>", answer.output)[1])
     told = f"({reason_of(due.failure)})" if due.failure else f"(pages={len(due.pages)} "
     if crosses != (1 if due.failure else 0) or told not in verdict:
-        return f"{crosses} crosses, {verdict!r}"
-    return "" if PICTURE.sub("", answer.output).endswith("</p>\n</body>\n</html>\n") else "its end"
+        return f"{crosses} failures, {verdict!r}"
+    return "" if PICTURE.sub("", answer.output).endswith("</ul>\n</body>\n</html>\n") else "its end"
 
 
-def differences(run: Run) -> Tuple[int, List[str]]:
+def differences(run: Run, draw_page: Draw) -> Tuple[int, List[str]]:
     """How many pictures of a job were compared, and what is wrong with them."""
     pages = run("pages")
     if pages.status not in (0, 1):
@@ -137,15 +160,19 @@ def differences(run: Run) -> Tuple[int, List[str]]:
     due = due_of(pages)
     found = []
     for number, marks in enumerate(due.pages[:MOST_PAGES], start=1):
-        found.append((number, page_differs(run("picture", "--page", str(number)), marks, None)))
+        answer = run("picture", "--page", str(number), "--boxes")
+        found.append((number, page_differs(answer, marks, None)
+                      or text_differs(run, draw_page, number)))
     last = len(due.pages) + 1
     if due.failure:
-        answer = run("picture", "--page", str(last))
-        found.append((last, page_differs(answer, due.open_page, due.failure)))
+        answer = run("picture", "--page", str(last), "--boxes")
+        found.append((last, page_differs(answer, due.open_page, due.failure)
+                      or text_differs(run, draw_page, last)))
         last += 1
     answer = run("picture", "--page", str(last))
     found.append((last, missing_differs(answer, last, len(due.pages))))
-    found.append((0, document_differs(run("picture", "--all"), due)))
+    found.append((0, document_differs(run("picture", "--all", "--boxes"), due)
+                  or text_differs(run, draw_page, None)))
     return len(found), [f"page {number}: {why}" for number, why in found if why]
 
 
@@ -153,6 +180,11 @@ def run_program(program: str, job: str, profile: str, command: str, *options: st
     done = subprocess.run([program, command, job, profile, *options], capture_output=True,
                           timeout=SECONDS, stdin=subprocess.DEVNULL)
     return Answer(done.returncode, done.stdout.decode("latin-1"), done.stderr.decode("latin-1"))
+
+
+def second_drawing(text: bytes, job: bytes, *wanted) -> str:
+    printer = read_profile(text)
+    return draw(printer, printer.first_panel(), job, *wanted)
 
 
 def main() -> int:
@@ -167,7 +199,8 @@ def main() -> int:
                 with open(path, "wb") as file:
                     file.write(data)
             pictures, found = differences(
-                lambda *words: run_program(program, job, word or profile, *words))
+                lambda *words: run_program(program, job, word or profile, *words),
+                lambda *wanted: second_drawing(text, case.job, *wanted))
             compared, differ = compared + pictures, differ + len(found)
             for line in found:
                 print(f"job {number} of {seed}: {line}")

@@ -152,6 +152,7 @@ complete -c pclcheck -n '__pclcheck_at pages' -a '(__pclcheck_samples)' -d sampl
 complete -c pclcheck -n '__pclcheck_at picture' -l page -x \
     -d 'The page to draw, from 1; without it the first'
 complete -c pclcheck -n '__pclcheck_at picture' -l all -d 'Draws each page, in one document'
+complete -c pclcheck -n '__pclcheck_at picture' -l boxes -d 'Draws the box of each character, too'
 complete -c pclcheck -n '__pclcheck_at picture' -l panel -x -a '(__pclcheck_fields)' \
     -d 'Draws from these values of the panel; each field that is not named has its first value'
 complete -c pclcheck -n '__pclcheck_at picture' -a '(__pclcheck_samples)' -d sample

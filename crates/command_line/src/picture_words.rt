@@ -7,16 +7,21 @@ use crate::rows::{CommandRow, OptionRow, Value};
 use crate::text_commands::{JOB, PROFILE};
 use crate::texts::both_texts;
 use clap::ArgMatches;
-use requests::{Request, Selection};
+use requests::{DrawnPages, Request, Selection};
 use std::alloc::Global;
 
 const PICTURE_EXPLANATION: &str =
     "Output: a page as SVG, or with --all a document of HTML with each page below one another and the
-verdict on top; it needs nothing from elsewhere. A page shows its sheet, the logical page
-(dashed), the printable area (thin), and each mark in its place; a unit is 1/7200 inch.
+verdict on top; it needs nothing from elsewhere, and prints a sheet a page. A page shows its sheet
+with rulers in millimetres and inches, the logical page (dashed), the printable area (thin), and
+each mark in its place; a unit is 1/7200 inch. The title of a mark, which a browser shows at the
+pointer, says what it is, the byte of its item, and its place in millimetres.
 
-Where the job fails a page stands as far as it came, with a red cross where the cursor was before
-the item that failed, and below the sheet the sentence of 'check --format words'.
+Where the job fails a page stands as far as it came, in gray, and upon it in red the character or
+the rectangle that fails, and the printable area, the logical page, the right margin or the picture
+frame that is left, with their measures; for other marks, and where there is none, a cross is where
+the cursor was before the item that failed. Below the sheet stands the sentence of
+'check --format words'.
 
 The panel is at the first value that the profile lists of each field, or at the value that --panel
 names, as in --panel size=26,vmi=6,lineterm=2.
@@ -53,6 +58,14 @@ pub(crate) const PICTURE: &CommandRow = &CommandRow {
             help: "Draws each page, in one document",
         },
         OptionRow {
+            id: "BOXES",
+            short: None,
+            long: "boxes",
+            value: Value::Nothing,
+            excludes: None,
+            help: "Draws the box of each character, too",
+        },
+        OptionRow {
             id: "PANEL",
             short: None,
             long: "panel",
@@ -65,11 +78,19 @@ pub(crate) const PICTURE: &CommandRow = &CommandRow {
 };
 
 /// Which pages are drawn.
-fn selection(found: &ArgMatches<'_>) -> Selection {
+fn drawn_pages(found: &ArgMatches<'_>) -> DrawnPages {
     if found.get_flag("ALL") {
-        return Selection::All;
+        return DrawnPages::All;
     }
-    Selection::One(found.get_one::<u64>("PAGE").unwrap_or(1))
+    DrawnPages::One(found.get_one::<u64>("PAGE").unwrap_or(1))
+}
+
+/// What is drawn.
+fn selection(found: &ArgMatches<'_>) -> Selection {
+    Selection {
+        pages: drawn_pages(found),
+        has_boxes: found.get_flag("BOXES"),
+    }
 }
 
 /// The request of the words behind `picture`.

@@ -1,5 +1,6 @@
 -- What an item draws on a machine that knows its panel, and what is due of the rest of the job.
 use Rattle.std.proofs.Common.{◌≡◌, ℕ, Bool, true, false, if◌then◌else◌, List, [], ◌∷◌, ◌++◌, refl, ap, sym, ◌∙◌, append_assoc, append-nil}
+use Rattle.std.proofs.Common.{Option, None, Some}
 use Rattle.pcl_items.specs.declared.fault.LexCause.{LexCause}
 use Rattle.pcl_items.specs.Items.{Placed}
 use Rattle.pcl_lexer.specs.Reading.{Reading, Whole, Stopped, with_item}
@@ -22,7 +23,9 @@ use Rattle.job_picture.specs.declared.progress.Progress.{Progress}
 use Rattle.requests.specs.declared.selection.Selection.{Selection}
 use Rattle.job_picture.specs.declared.sheet.Sheet.{Sheet}
 use Rattle.job_picture.specs.Carriers.Rest.{drawn_from, rest_drawing}
+use Rattle.page_picture.specs.declared.failure.Outline.{Outline}
 use Rattle.job_picture.specs.JobPicture.{Drawing, then_draws, drawn_out, late_end, at_the_end, at_failure, behind_ending, run_drawing}
+use Rattle.job_picture.specs.JobPicture.{mark_on_page}
 use Rattle.job_picture.specs.JobPicture.{reading_drawing, fault_behind, added_at_ending, started_behind, picture_rendering}
 use Rattle.job_picture.specs.Progress.{first_page, progress_behind_all}
 use Rattle.requests.specs.Selection.{is_behind}
@@ -37,15 +40,15 @@ started-more (x ∷ items) = refl
 module _ (selection : Selection) (sentence : List ℕ) where
   -- ---- a run, and what follows
 
-  module _ (printer : Printer) (p : Progress) (s : State) (place : ℕ) (next : Progress → State → Drawing) where
+  module _ (printer : Printer) (p : Progress) (s : State) (place : ℕ) (mark : Option Outline) (next : Progress → State → Drawing) where
     abbrev sheet : Sheet
-    sheet = sheet_of selection sentence printer s
+    sheet = sheet_of place selection sentence printer s
 
     abbrev failed : Progress → Finding → Drawing
-    failed p' finding = at_failure selection sentence printer s p' (Fail place 1 (FindingOfRun finding))
+    failed p' finding = at_failure selection sentence printer place mark s p' (Some finding) (Fail place 1 (FindingOfRun finding))
 
     abbrev by_run : Run → Drawing
-    by_run r = run_drawing selection sentence printer p s place r next
+    by_run r = run_drawing selection sentence printer p s place mark r next
 
     -- the same by the events and the ending alone, where it is known whether more is drawn
     abbrev by_events : List Event → Ending → Bool → Drawing
@@ -83,8 +86,8 @@ module _ (selection : Selection) (sentence : List ℕ) where
     abbrev here : State
     here = state_at any_panel machine.page
 
-    abbrev here_sheet : Sheet
-    here_sheet = sheet_of selection sentence machine.printer here
+    abbrev here_sheet : ℕ → Sheet
+    here_sheet place = sheet_of place selection sentence machine.printer here
 
     abbrev start : List ℕ
     start = start_if_due selection sentence is_started
@@ -101,17 +104,22 @@ module _ (selection : Selection) (sentence : List ℕ) where
       abbrev item_run : Run
       item_run = (item_of machine x.item).run any_panel
 
+      abbrev item_mark : Option Outline
+      item_mark = mark_on_page machine.printer here x.item
+
       item_first : (rest : Reading) →
-          rest_drawing selection sentence machine p (with_item x rest) ≡ by_run machine.printer p here x.place (behind_item rest) item_run
+          rest_drawing selection sentence machine p (with_item x rest)
+          ≡ by_run machine.printer p here x.place item_mark (behind_item rest) item_run
       item_first (Whole items place) = refl
       item_first (Stopped items place cause) = refl
 
       abbrev item_known : (rest : Reading) (events : List Event) (peaks : Peaks) (ending : Ending) (is_over : Bool) →
           item_run ≡ after events peaks (just [] ending) → is_behind selection (progress_behind_all p events).page ≡ is_over
           → rest_drawing selection sentence machine p (with_item x rest)
-          ≡ by_events machine.printer p here x.place (behind_item rest) events ending is_over
+          ≡ by_events machine.printer p here x.place item_mark (behind_item rest) events ending is_over
       item_known rest events peaks ending is_over is over =
-          item_first rest ∙ run_known machine.printer p here x.place (behind_item rest) item_run events peaks ending is_over is over
+          item_first rest
+          ∙ run_known machine.printer p here x.place item_mark (behind_item rest) item_run events peaks ending is_over is over
 
       -- the item was carried out to its end
       pub item_goes : (machine' : MachineState) (events : List Event) (peaks : Peaks)
@@ -125,11 +133,11 @@ module _ (selection : Selection) (sentence : List ℕ) where
           → item_run ≡ after events peaks (just [] (Done (state_at any_panel machine'.page)))
           → is_behind selection (progress_behind_all p events).page ≡ false
           → RestGoesOn rendering (drawn_from selection sentence machine' (progress_behind_all p events) true) x
-          (start ++ drawn_events here_sheet p events)
+          (start ++ drawn_events (here_sheet x.place) p events)
       item_goes machine' events peaks is run goes =
           let p' : Progress = progress_behind_all p events in
           let t : State = state_at any_panel machine'.page in
-          let drawn : List ℕ = drawn_events here_sheet p events in
+          let drawn : List ℕ = drawn_events (here_sheet x.place) p events in
           let macros : Store = (item_of machine x.item).macros in
           let rest_is : (rest : Reading) → behind_item rest p' t ≡ rest_drawing selection sentence machine' p' rest =
           λ rest. sym (ap
@@ -170,9 +178,9 @@ module _ (selection : Selection) (sentence : List ℕ) where
       -- all that is wanted is drawn behind it, however it ended
       pub item_over : (events : List Event) (peaks : Peaks) (ending : Ending) → item_run ≡ after events peaks (just [] ending) →
           is_behind selection (progress_behind_all p events).page ≡ true
-          → EndsWith rendering (StartsWith x) (start ++ drawn_events here_sheet p events) AllDone
+          → EndsWith rendering (StartsWith x) (start ++ drawn_events (here_sheet x.place) p events) AllDone
       item_over events peaks ending run over =
-          let drawn : List ℕ = drawn_events here_sheet p events in
+          let drawn : List ℕ = drawn_events (here_sheet x.place) p events in
           let known = λ (rest : Reading). item_known rest events peaks ending true run over in
           record {
             due = λ reading starts.
@@ -186,12 +194,13 @@ module _ (selection : Selection) (sentence : List ℕ) where
       pub item_found : (finding : Finding) (events : List Event) (peaks : Peaks) → item_run ≡ after events peaks (just [] (Halts finding)) →
           is_behind selection (progress_behind_all p events).page ≡ false
           → EndsWith rendering (StartsWith x)
-          (start ++ drawn_events here_sheet p events
-          ++ (failed machine.printer p here x.place (λ q t. drawn_out) (progress_behind_all p events) finding).text)
+          (start ++ drawn_events (here_sheet x.place) p events
+          ++ (failed machine.printer p here x.place item_mark (λ q t. drawn_out) (progress_behind_all p events) finding).text)
           (Fail x.place 1 (FindingOfRun finding))
       item_found finding events peaks run goes =
-          let drawn : List ℕ = drawn_events here_sheet p events in
-          let tail : List ℕ = (failed machine.printer p here x.place (λ q t. drawn_out) (progress_behind_all p events) finding).text in
+          let drawn : List ℕ = drawn_events (here_sheet x.place) p events in
+          let tail : List ℕ =
+          (failed machine.printer p here x.place item_mark (λ q t. drawn_out) (progress_behind_all p events) finding).text in
           let known = λ (rest : Reading). item_known rest events peaks (Halts finding) false run goes in
           record {
             due = λ reading starts.
@@ -203,14 +212,14 @@ module _ (selection : Selection) (sentence : List ℕ) where
 
       -- or some of its events were drawn
       pub item_begun : (events others : List Event) → item_run.events ≡ events ++ others →
-          BeginsWith rendering (StartsWith x) (start ++ drawn_events here_sheet p events)
+          BeginsWith rendering (StartsWith x) (start ++ drawn_events (here_sheet x.place) p events)
       item_begun events others run = λ reading starts.
-          let begun = run_begun machine.printer p here x.place (behind_item starts.0) item_run events others run in (
+          let begun = run_begun machine.printer p here x.place item_mark (behind_item starts.0) item_run events others run in (
             begun.0,
             ap rendering.text starts.1
                 ∙ (ap (λ (d : Drawing). start ++ d.text) (item_first starts.0)
                 ∙ (ap (λ t. start ++ t) begun.1
-                ∙ sym (append_assoc start (drawn_events here_sheet p events) begun.0))),
+                ∙ sym (append_assoc start (drawn_events (here_sheet x.place) p events) begun.0))),
           )
 
     -- ---- the end of the bytes
@@ -227,41 +236,42 @@ module _ (selection : Selection) (sentence : List ℕ) where
 
       abbrev end_known : (events : List Event) (peaks : Peaks) (ending : Ending) (is_over : Bool) →
           end_run ≡ after events peaks (just [] ending) → is_behind selection (progress_behind_all p events).page ≡ is_over
-          → rest_drawing selection sentence machine p (Whole [] place) ≡ by_events machine.printer p here place last events ending is_over
+          → rest_drawing selection sentence machine p (Whole [] place)
+          ≡ by_events machine.printer p here place None last events ending is_over
       end_known events peaks ending is_over is over =
-          run_known machine.printer p here place last end_run events peaks ending is_over is over
+          run_known machine.printer p here place None last end_run events peaks ending is_over is over
 
       pub end_over : (events : List Event) (peaks : Peaks) (ending : Ending) → end_run ≡ after events peaks (just [] ending) →
           is_behind selection (progress_behind_all p events).page ≡ true
-          → EndsWith rendering IsEnd (start ++ drawn_events here_sheet p events) AllDone
+          → EndsWith rendering IsEnd (start ++ drawn_events (here_sheet place) p events) AllDone
       end_over events peaks ending run over =
           let known = end_known events peaks ending true run over in
           record {
             due = λ reading is.
                 ap rendering.text is
                 ∙ (ap (λ (d : Drawing). start ++ d.text) known
-                ∙ ap (λ t. start ++ t) (append-nil (drawn_events here_sheet p events)));
+                ∙ ap (λ t. start ++ t) (append-nil (drawn_events (here_sheet place) p events)));
             outcome_is = λ reading is. ap rendering.outcome is ∙ ap (λ (d : Drawing). d.outcome) known;
           }
 
       pub end_goes : (s : State) (events : List Event) (peaks : Peaks) → end_run ≡ after events peaks (just [] (Done s)) →
           is_behind selection (progress_behind_all p events).page ≡ false
-          → EndsWith rendering IsEnd (start ++ drawn_events here_sheet p events ++ end_of_all selection) (late_end selection place)
+          → EndsWith rendering IsEnd (start ++ drawn_events (here_sheet place) p events ++ end_of_all selection) (late_end selection place)
       end_goes s events peaks run goes =
           let known = end_known events peaks (Done s) false run goes in
           record {
             due = λ reading is.
                 ap rendering.text is
                 ∙ (ap (λ (d : Drawing). start ++ d.text) known
-                ∙ sym (append_assoc start (drawn_events here_sheet p events) (end_of_all selection)));
+                ∙ sym (append_assoc start (drawn_events (here_sheet place) p events) (end_of_all selection)));
             outcome_is = λ reading is. ap rendering.outcome is ∙ ap (λ (d : Drawing). d.outcome) known;
           }
 
       pub end_found : (finding : Finding) (events : List Event) (peaks : Peaks) → end_run ≡ after events peaks (just [] (Halts finding)) →
           is_behind selection (progress_behind_all p events).page ≡ false
           → EndsWith rendering IsEnd
-          (start ++ drawn_events here_sheet p events
-          ++ (failed machine.printer p here place last (progress_behind_all p events) finding).text)
+          (start ++ drawn_events (here_sheet place) p events
+          ++ (failed machine.printer p here place None last (progress_behind_all p events) finding).text)
           (Fail place 1 (FindingOfRun finding))
       end_found finding events peaks run goes =
           let known = end_known events peaks (Halts finding) false run goes in
@@ -269,19 +279,19 @@ module _ (selection : Selection) (sentence : List ℕ) where
             due = λ reading is.
                 ap rendering.text is
                 ∙ (ap (λ (d : Drawing). start ++ d.text) known
-                ∙ sym (append_assoc start (drawn_events here_sheet p events)
-                (failed machine.printer p here place last (progress_behind_all p events) finding).text));
+                ∙ sym (append_assoc start (drawn_events (here_sheet place) p events)
+                (failed machine.printer p here place None last (progress_behind_all p events) finding).text));
             outcome_is = λ reading is. ap rendering.outcome is ∙ ap (λ (d : Drawing). d.outcome) known;
           }
 
       pub end_begun : (events others : List Event) → end_run.events ≡ events ++ others →
-          BeginsWith rendering IsEnd (start ++ drawn_events here_sheet p events)
+          BeginsWith rendering IsEnd (start ++ drawn_events (here_sheet place) p events)
       end_begun events others run = λ reading is.
-          let begun = run_begun machine.printer p here place last end_run events others run in (
+          let begun = run_begun machine.printer p here place None last end_run events others run in (
             begun.0,
             ap rendering.text is
                 ∙ (ap (λ t. start ++ t) begun.1
-                ∙ sym (append_assoc start (drawn_events here_sheet p events) begun.0)),
+                ∙ sym (append_assoc start (drawn_events (here_sheet place) p events) begun.0)),
           )
 
 -- ---- the start

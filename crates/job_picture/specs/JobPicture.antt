@@ -1,8 +1,8 @@
 -- The pictures of pages of a job: what is written of its plain run from a panel, and what comes of it.
-use Rattle.std.specs.Prelude.{ℕ, Bool, true, false, if◌then◌else◌, List, [], ◌∷◌, ◌++◌}
+use Rattle.std.specs.Prelude.{ℕ, Bool, true, false, if◌then◌else◌, Option, None, Some, List, [], ◌∷◌, ◌++◌}
 use Rattle.pcl_items.specs.declared.fault.LexCause.{LexCause}
 use Rattle.pcl_items.specs.declared.fault.LexCause.TheVariants.{Truncated}
-use Rattle.pcl_items.specs.Items.{Placed}
+use Rattle.pcl_items.specs.Items.{Entry, Placed}
 use Rattle.pcl_lexer.specs.Reading.{Reading, Whole, Stopped}
 use Rattle.device_profile.specs.declared.panel.Panel.{Panel}
 use Rattle.device_profile.specs.Printer.{Printer}
@@ -10,6 +10,7 @@ use Rattle.macro_store.specs.Store.{Store, no_macros}
 use Rattle.page_env.specs.declared.finding.Finding.{Finding}
 use Rattle.page_env.specs.Places.{geometry_of}
 use Rattle.page_env.specs.Settings.{Settings, State, start_state, user_defaults, unwatched}
+use Rattle.page_picture.specs.declared.failure.Outline.{Outline}
 use Rattle.page_machine.specs.Run.{Run, Ending, Done, Halts}
 use Rattle.page_machine.specs.Defining.{job_item_run, job_end_run, macros_after}
 use Rattle.page_machine.specs.Job.{with_macros}
@@ -20,10 +21,12 @@ use Rattle.renderings.specs.Outcomes.{fails_with}
 use Rattle.verdict.specs.Failing.{fault_at, found_at}
 use Rattle.job_picture.specs.declared.progress.Progress.{Progress}
 use Rattle.requests.specs.declared.selection.Selection.{Selection}
-use Rattle.requests.specs.declared.selection.Selection.TheVariants.{All, One}
+use Rattle.requests.specs.declared.selection.DrawnPages.{DrawnPages}
+use Rattle.requests.specs.declared.selection.DrawnPages.TheVariants.{All, One}
+use Rattle.job_picture.specs.Failing.{mark_of, spot_of}
 use Rattle.job_picture.specs.Progress.{first_page, progress_behind_all}
 use Rattle.requests.specs.Selection.{is_behind}
-use Rattle.job_picture.specs.Sheet.{drawn_events, drawn_failure, end_of_all, sheet_of, spot_of, start_if_due}
+use Rattle.job_picture.specs.Sheet.{drawn_events, drawn_failure, end_of_all, sheet_of, start_if_due}
 use Rattle.job_picture.specs.Sheet.{start_of_all}
 
 -- what is written from somewhere on, and what comes of it
@@ -43,19 +46,25 @@ drawn_out = record { text = []; outcome = AllDone }
 
 -- What the end of a job comes to behind which more would be drawn:
 -- a job that ends before the page that is wanted is too short.
+abbrev pub late_outcome : DrawnPages → ℕ → Outcome
+late_outcome All place = AllDone
+late_outcome (One number) place = fails_with (fault_at place Truncated)
+
 abbrev pub late_end : Selection → ℕ → Outcome
-late_end All place = AllDone
-late_end (One number) place = fails_with (fault_at place Truncated)
+late_end selection place = late_outcome selection.pages place
 
 -- the end of a job, at the number of its bytes
 abbrev pub at_the_end : Selection → ℕ → Drawing
 at_the_end selection place = record { text = end_of_all selection; outcome = late_end selection place }
 
--- a failure, which ends the page that is open, where the cursor stood so
-abbrev pub at_failure : Selection → (sentence : List ℕ) → Printer → State → Progress → Outcome → Drawing
-at_failure selection sentence printer s p outcome = record {
+-- a failure, which ends the page that is open, where the cursor stood so: at a place of the job, of an item that would
+-- make this mark there, by a finding or by a fault of the bytes
+abbrev pub at_failure : Selection → (sentence : List ℕ) → Printer → (place : ℕ) → (mark : Option Outline) → State →
+    Progress → (why : Option Finding) → Outcome → Drawing
+at_failure selection sentence printer place mark s p why outcome = record {
   text =
-      drawn_failure (sheet_of selection sentence printer s) p (spot_of (geometry_of printer s) s) sentence
+      drawn_failure (sheet_of place selection sentence printer s) p
+      (spot_of (geometry_of printer s) s mark) why sentence
       ++ end_of_all selection;
   outcome = outcome;
 }
@@ -67,37 +76,42 @@ abbrev pub behind_ending : Ending → (State → Drawing) → (Finding → Drawi
 behind_ending (Done t) next failed = next t
 behind_ending (Halts finding) next failed = failed finding
 
--- Of an item, or of the end of the bytes, at a place, that ran so from this state; and then what follows. It draws on
--- the sheet that the page has before it: an item that changes the sheet ends its page first, and marks nothing behind
--- that. Behind the last page that is drawn nothing matters.
-abbrev pub run_drawing : Selection → (sentence : List ℕ) → Printer → Progress → State → ℕ → Run →
-    (Progress → State → Drawing) → Drawing
-run_drawing selection sentence printer p s place r next =
+-- Of an item, or of the end of the bytes, at a place, that ran so from this state, where this mark may be the one that
+-- fails; and then what follows. It draws on the sheet that the page has before it: an item that changes the sheet ends
+-- its page first, and marks nothing behind that. Behind the last page that is drawn nothing matters.
+abbrev pub run_drawing : Selection → (sentence : List ℕ) → Printer → Progress → State → (place : ℕ) →
+    (mark : Option Outline) → Run → (Progress → State → Drawing) → Drawing
+run_drawing selection sentence printer p s place mark r next =
     let p' = progress_behind_all p r.events in
-    then_draws (drawn_events (sheet_of selection sentence printer s) p r.events)
+    then_draws (drawn_events (sheet_of place selection sentence printer s) p r.events)
     (if is_behind selection p'.page then drawn_out
     else (behind_ending r.ending (next p') (λ finding.
-    at_failure selection sentence printer s p' (fails_with (found_at place 1 finding)))))
+    at_failure selection sentence printer place mark s p' (Some finding) (fails_with (found_at place 1 finding)))))
+
+-- the mark that may be the one that fails
+abbrev pub mark_on_page : Printer → State → Entry → Option Outline
+mark_on_page printer s item = mark_of printer (geometry_of printer s) s item
 
 -- of items, and then what comes last
 abbrev pub items_drawing : Selection → (sentence : List ℕ) → Printer → Settings → (Progress → Store → State → Drawing) →
     Progress → List Placed → Store → State → Drawing
 items_drawing selection sentence printer defaults finally p [] macros s = finally p macros s
 items_drawing selection sentence printer defaults finally p (x ∷ items) macros s =
-    run_drawing selection sentence printer p s x.place (job_item_run (with_macros printer defaults macros) x.item s)
+    run_drawing selection sentence printer p s x.place (mark_on_page printer s x.item)
+    (job_item_run (with_macros printer defaults macros) x.item s)
     (λ p' t. items_drawing selection sentence printer defaults finally p' items
     (macros_after s.settings.job.macro_id x.item macros) t)
 
 -- of the end of the bytes
 abbrev pub end_drawing : Selection → (sentence : List ℕ) → Printer → Settings → ℕ → Progress → Store → State → Drawing
 end_drawing selection sentence printer defaults place p macros s =
-    run_drawing selection sentence printer p s place (job_end_run (with_macros printer defaults macros) s)
+    run_drawing selection sentence printer p s place None (job_end_run (with_macros printer defaults macros) s)
     (λ p' t. at_the_end selection place)
 
 -- of a fault of the bytes
 abbrev pub fault_drawing : Selection → (sentence : List ℕ) → Printer → ℕ → LexCause → Progress → Store → State → Drawing
 fault_drawing selection sentence printer place cause p macros s =
-    at_failure selection sentence printer s p (fails_with (fault_at place cause))
+    at_failure selection sentence printer place None s p None (fails_with (fault_at place cause))
 
 -- of the items of a job and its end, or of the items before a fault and of the fault
 abbrev pub reading_drawing : Selection → (sentence : List ℕ) → Printer → Settings → Progress → Reading → Store → State →

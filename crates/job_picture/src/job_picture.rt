@@ -7,18 +7,18 @@ ghost use Rattle.renderings.specs.Carriers.PageRendering.{any_panel};
 ghost use Rattle.renderings.specs.Due.{Renders};
 ghost use Rattle.job_picture.specs.Carriers.Rest.{drawn_from};
 ghost use Rattle.job_picture.specs.JobPicture.{late_end, picture_rendering};
-ghost use Rattle.job_picture.specs.Sheet.{drawn_failure, end_of_all, sheet_of, spot_of};
-ghost use Rattle.job_picture.specs.Sheet.{start_if_due};
+ghost use Rattle.job_picture.specs.Sheet.{drawn_failure, end_of_all, sheet_of, start_if_due};
 
 use crate::drawing::{finish_on, step_on};
+use crate::failing::{Spot, mark_of, spot_of};
 use crate::progress::Progress;
-use crate::sheet::{Sheet, Spot, push_drawn_failure, push_end_of_all, push_start_of_all};
+use crate::sheet::{Sheet, push_drawn_failure, push_end_of_all, push_start_of_all};
 use device_profile::{Geometry, Panel, Profile};
-use page_env::{Page, cursor_on};
+use page_env::{Finding, Page};
 use page_machine::{Machine, Start};
 use pcl_items::{Item, LexCause, LexFault, Place};
 use renderings::{Outcome, Renderer, render_job};
-use requests::Selection;
+use requests::{DrawnPages, Selection};
 use std::alloc::{AllocError, Allocator};
 use streams::{Error, Outlet, Source};
 
@@ -36,9 +36,9 @@ pub struct Wanted<'a> {
 fn late_end(selection: Selection, place: Place) -> Outcome
     ensures { result ≡ late_end selection place }
 {
-    match selection {
-        Selection::All => Outcome::Done,
-        Selection::One(_) => Outcome::of_fault(LexFault {
+    match selection.pages {
+        DrawnPages::All => Outcome::Done,
+        DrawnPages::One(_) => Outcome::of_fault(LexFault {
             cause: LexCause::Truncated,
             place,
         }),
@@ -65,31 +65,25 @@ fn paper_of<P: Allocator>(profile: &Profile<P>, page: &Page) -> Geometry
     profile.page_geometry(fields.size.under(0), fields.orientation.under(0))
 }
 
-/// The sheet of the page that is open.
-fn sheet_of<P: Allocator>(profile: &Profile<P>, page: &Page, wanted: &Wanted<'_>) -> Sheet
-    ensures { result ≡ sheet_of wanted.now.selection wanted.now.sentence.now profile.now
+/// The sheet of the page that is open, for the marks of an item at a place.
+fn sheet_of<P: Allocator>(
+    place: Place,
+    profile: &Profile<P>,
+    page: &Page,
+    wanted: &Wanted<'_>,
+) -> Sheet
+    ensures { result ≡ sheet_of place wanted.now.selection wanted.now.sentence.now profile.now
         (state_at any_panel page.now) }
 {
-    let has_sentence = match wanted.selection {
-        Selection::All => false,
-        Selection::One(_) => !wanted.sentence.is_empty(),
+    let has_sentence = match wanted.selection.pages {
+        DrawnPages::All => false,
+        DrawnPages::One(_) => !wanted.sentence.is_empty(),
     };
     Sheet {
+        place,
         selection: wanted.selection,
         paper: paper_of(profile, page),
         has_sentence,
-    }
-}
-
-/// Where the cursor stands on this sheet.
-fn spot_of(sheet: &Sheet, page: &Page) -> Spot
-    ensures { result ≡ spot_of sheet.now.paper (state_at any_panel page.now) }
-{
-    let vmi = page.env.fields.vmi.under(0);
-    let place = cursor_on(&sheet.paper, page, vmi);
-    Spot {
-        x: place.x,
-        y: place.y,
     }
 }
 
@@ -114,13 +108,14 @@ fn push_failed<A: Allocator>(
     sheet: &Sheet,
     progress: Progress,
     spot: Spot,
+    why: Option<Finding>,
     wanted: &Wanted<'_>,
 ) -> Result<(), AllocError>
     ensures { OnOk result (text.new.items ≡ text.old.items
-        ++ (drawn_failure sheet.now progress spot wanted.now.sentence.now
+        ++ (drawn_failure sheet.now progress spot why wanted.now.sentence.now
         ++ end_of_all wanted.now.selection)) }
 {
-    push_drawn_failure(text, sheet, progress, spot, wanted.sentence)?;
+    push_drawn_failure(text, sheet, progress, spot, why, wanted.sentence)?;
     push_end_of_all(text, wanted.selection)
 }
 
@@ -139,8 +134,19 @@ impl<P: Allocator, B: Allocator + Copy> Renderer for JobPicture<'_, '_, P, B> {
         place: Place,
         item: &Item<'_>,
     ) -> Result<Option<Outcome>, Error> {
-        let sheet = sheet_of(self.machine.profile(), self.machine.page(), &self.wanted);
-        let spot = spot_of(&sheet, self.machine.page());
+        let sheet = sheet_of(
+            place,
+            self.machine.profile(),
+            self.machine.page(),
+            &self.wanted,
+        );
+        let mark = mark_of(
+            self.machine.profile(),
+            &sheet.paper,
+            self.machine.page(),
+            item,
+        );
+        let spot = spot_of(&sheet.paper, self.machine.page(), mark);
         push_start_if_due(kept, &self.wanted, self.is_started)?;
         self.is_started = true;
         let (machine, progress) = (&mut self.machine, &mut self.progress);
@@ -151,7 +157,14 @@ impl<P: Allocator, B: Allocator + Copy> Renderer for JobPicture<'_, '_, P, B> {
         match found {
             None => Ok(None),
             Some(finding) => {
-                push_failed(kept, &sheet, self.progress, spot, &self.wanted)?;
+                push_failed(
+                    kept,
+                    &sheet,
+                    self.progress,
+                    spot,
+                    Some(finding),
+                    &self.wanted,
+                )?;
                 Ok(Some(Outcome::of_finding(place, finding)))
             }
         }
@@ -163,8 +176,13 @@ impl<P: Allocator, B: Allocator + Copy> Renderer for JobPicture<'_, '_, P, B> {
         kept: &mut Vec<u8, A>,
         place: Place,
     ) -> Result<Outcome, Error> {
-        let sheet = sheet_of(self.machine.profile(), self.machine.page(), &self.wanted);
-        let spot = spot_of(&sheet, self.machine.page());
+        let sheet = sheet_of(
+            place,
+            self.machine.profile(),
+            self.machine.page(),
+            &self.wanted,
+        );
+        let spot = spot_of(&sheet.paper, self.machine.page(), None);
         push_start_if_due(kept, &self.wanted, self.is_started)?;
         let (machine, progress) = (&mut self.machine, &mut self.progress);
         let found = finish_on(machine, &sheet, progress, outlet, kept)?;
@@ -177,7 +195,14 @@ impl<P: Allocator, B: Allocator + Copy> Renderer for JobPicture<'_, '_, P, B> {
                 Ok(late_end(self.wanted.selection, place))
             }
             Some(finding) => {
-                push_failed(kept, &sheet, self.progress, spot, &self.wanted)?;
+                push_failed(
+                    kept,
+                    &sheet,
+                    self.progress,
+                    spot,
+                    Some(finding),
+                    &self.wanted,
+                )?;
                 Ok(Outcome::of_finding(place, finding))
             }
         }
@@ -189,10 +214,15 @@ impl<P: Allocator, B: Allocator + Copy> Renderer for JobPicture<'_, '_, P, B> {
         kept: &mut Vec<u8, A>,
         fault: LexFault,
     ) -> Result<Outcome, Error> {
-        let sheet = sheet_of(self.machine.profile(), self.machine.page(), &self.wanted);
-        let spot = spot_of(&sheet, self.machine.page());
+        let sheet = sheet_of(
+            fault.place,
+            self.machine.profile(),
+            self.machine.page(),
+            &self.wanted,
+        );
+        let spot = spot_of(&sheet.paper, self.machine.page(), None);
         push_start_if_due(kept, &self.wanted, self.is_started)?;
-        push_failed(kept, &sheet, self.progress, spot, &self.wanted)?;
+        push_failed(kept, &sheet, self.progress, spot, None, &self.wanted)?;
         Ok(Outcome::of_fault(fault))
     }
 
@@ -202,11 +232,12 @@ impl<P: Allocator, B: Allocator + Copy> Renderer for JobPicture<'_, '_, P, B> {
 /// Writes the pictures of pages of a job on a printer, from a panel that its profile allows: of one
 /// page as SVG, of all as a document of HTML.
 ///
-/// A page stands there as far as it came before the first finding, or before a fault of the bytes;
-/// where the cursor then was stands a cross. Of a page that the job does not have nothing is
-/// written, and the job counts as one whose bytes end too early. After an error a front of the text
-/// is written: `Memory` where the allocator refused a request, `Read` and `Write` where a read or a
-/// write failed, `Turns` after 2^40 reads without an end.
+/// A page stands there as far as it came before the first finding, or before a fault of the bytes,
+/// in gray; upon that the mark that fails and what it leaves, or a cross where the cursor was. Of a
+/// page that the job does not have nothing is written, and the job counts as one whose bytes end
+/// too early. After an error a front of the text is written: `Memory` where the allocator refused a
+/// request, `Read` and `Write` where a read or a write failed, `Turns` after 2^40 reads without an
+/// end.
 pub fn picture_of<S: Source, W: Outlet, A: Allocator + Copy, P: Allocator>(
     alloc: A,
     reader: &mut S,

@@ -2,6 +2,7 @@
 #![tactic(auto)]
 
 mod drawing;
+mod failing;
 mod job_picture;
 mod progress;
 mod sheet;

@@ -84,7 +84,7 @@ pub(crate) fn font_request<A: Allocator>(
 }
 
 /// The request in force where the panel is this one.
-pub(crate) fn request_under<A: Allocator>(
+pub fn request_under<A: Allocator>(
     profile: &Profile<A>,
     page: &Page,
     panel: &Panel,

@@ -59,7 +59,7 @@ pub(crate) fn default_frame() -> PictureFrame
 
 /// Where a picture frame lies on a page.
 #[inline(always)]
-pub(crate) fn frame_on(geometry: &Geometry, frame: &PictureFrame) -> Frame
+pub fn frame_on(geometry: &Geometry, frame: &PictureFrame) -> Frame
     ensures { result ≡ frame_on geometry.now frame.now }
 {
     let width = frame.width.unwrap_or(geometry.logical_width);

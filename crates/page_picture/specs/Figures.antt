@@ -22,6 +22,17 @@ length_units length = units (hundredths length)
 unfoldable pub pair_units : ℤ → ℤ → List ℕ
 pair_units x y = length_units x ++ codes " " ++ length_units y
 
+-- ---- millimetres
+
+-- how many hundredths of a millimetre so many ticks are, rounded down
+abbrev pub millimetre_hundredths : ℤ → ℤ
+millimetre_hundredths (pos ticks) = pos (ticks / 14_400_000)
+millimetre_hundredths (negsuc ticks) = negsuc (ticks / 14_400_000)
+
+-- so many ticks in millimetres
+abbrev pub millimetres : ℤ → List ℕ
+millimetres ticks = units (millimetre_hundredths ticks)
+
 -- ---- inches
 
 -- how many millionths of an inch a length has, rounded; no side of a page is less than 0

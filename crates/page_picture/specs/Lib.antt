@@ -4,6 +4,11 @@ pub mod SheetParts
 pub mod Attributes
 pub mod Characters
 pub mod Texts
+pub mod Titles
 pub mod Rows
 pub mod Marks
+pub mod RulerParts
+pub mod Rulers
 pub mod Sheet
+pub mod FailureParts
+pub mod Failure

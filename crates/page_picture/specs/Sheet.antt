@@ -9,6 +9,7 @@ use Rattle.page_picture.specs.declared.sheet_parts.SheetPart.{SheetPart}
 use Rattle.page_picture.specs.declared.sheet_parts.SheetPart.TheVariants as parts
 use Rattle.page_picture.specs.Attributes.{attribute, box_attributes, length_attribute}
 use Rattle.page_picture.specs.Figures.{hundredths, inches, pair_units}
+use Rattle.page_picture.specs.Rulers.{rulers_picture}
 use Rattle.page_picture.specs.SheetParts.{sheet_part}
 use Rattle.page_picture.specs.Texts.{sentence_text}
 
@@ -87,8 +88,8 @@ printable_picture page =
 -- what stands before the marks of a page
 abbrev pub head_picture : Geometry → (has_sentence has_patterns : Bool) → List ℕ
 head_picture page has_sentence has_patterns =
-    picture_start page has_sentence ++ due_patterns has_patterns ++ sheet_picture page ++ logical_picture page
-    ++ printable_picture page
+    picture_start page has_sentence ++ due_patterns has_patterns ++ sheet_picture page ++ rulers_picture page
+    ++ logical_picture page ++ printable_picture page
 
 -- ---- where a job fails
 
@@ -126,9 +127,13 @@ foot_picture = sheet_part parts.PictureEnd
 
 -- ---- several pictures in one document
 
--- a document begins with a verdict
+-- a document begins with a verdict, and with what stands for what
 unfoldable pub document_start : List ℕ → List ℕ
-document_start verdict = sheet_part parts.DocumentStart ++ sentence_text verdict ++ sheet_part parts.DocumentPages
+document_start verdict = sheet_part parts.DocumentStart ++ sentence_text verdict ++ sheet_part parts.DocumentLegend
+
+-- each picture has the number of its page above it
+unfoldable pub page_number : ℕ → List ℕ
+page_number n = sheet_part parts.PageNumber ++ decimal n ++ sheet_part parts.PageNumberEnd
 
 -- what stands behind the pictures
 abbrev pub document_end : List ℕ

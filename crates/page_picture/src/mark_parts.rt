@@ -5,9 +5,9 @@
 pub(crate) enum MarkPart {
     /// Before a rectangle.
     AreaStart,
-    /// The end of a black one.
+    /// How a black one is filled.
     Black,
-    /// The end of a white one.
+    /// How a white one is filled.
     White,
     /// Before the density of a shade.
     Shade,
@@ -17,10 +17,14 @@ pub(crate) enum MarkPart {
     Pattern,
     /// Behind it.
     PatternEnd,
+    /// The end of a rectangle.
+    RectangleEnd,
     /// Before the box of a character.
     BoxStart,
     /// Behind it.
     BoxEnd,
+    /// Behind the box of one of which no text is known.
+    UnknownBox,
     /// Before the text of a character.
     GlyphStart,
     /// Of one in a bold face.
@@ -35,6 +39,8 @@ pub(crate) enum MarkPart {
     RowStart,
     /// Between its place and how large its pixels are.
     RowScale,
+    /// Behind these.
+    RowPlaceEnd,
     /// Before its runs.
     RowRuns,
     /// Before its runs once more, which are drawn without smoothing.
@@ -43,8 +49,26 @@ pub(crate) enum MarkPart {
     RowEnd,
     /// Before a line of a pen.
     LineStart,
-    /// Behind it.
+    /// How it looks.
+    LineLook,
+    /// The end of a line.
     LineEnd,
+    /// The title of a rectangle, up to where it stands.
+    RectangleTitle,
+    /// That of a character, up to its code.
+    CharacterTitle,
+    /// That of a row of a raster, up to where it stands.
+    RowTitle,
+    /// That of a line of a pen.
+    LineTitle,
+    /// Before the number of bytes before its item.
+    TitlePlace,
+    /// Between that and how far it stands from the left edge of the sheet.
+    TitleX,
+    /// Between that and how far it stands from the upper edge.
+    TitleY,
+    /// Behind that.
+    TitleEnd,
 }
 
 impl MarkPart {
@@ -58,14 +82,18 @@ impl MarkPart {
     {
         match self {
             MarkPart::AreaStart => b"<rect class=\"area\"",
-            MarkPart::Black => b" fill=\"black\"/>\n",
-            MarkPart::White => b" fill=\"white\"/>\n",
+            MarkPart::Black => b" fill=\"black\">",
+            MarkPart::White => b" fill=\"white\">",
             MarkPart::Shade => b" fill=\"black\" fill-opacity=\"",
-            MarkPart::ShadeEnd => b"\"/>\n",
+            MarkPart::ShadeEnd => b"\">",
             MarkPart::Pattern => b" fill=\"url(#pattern",
-            MarkPart::PatternEnd => b")\"/>\n",
+            MarkPart::PatternEnd => b")\">",
+            MarkPart::RectangleEnd => b"</rect>\n",
             MarkPart::BoxStart => b"<rect class=\"box\"",
             MarkPart::BoxEnd => b" fill=\"none\" stroke=\"silver\" stroke-width=\"24\"/>\n",
+            MarkPart::UnknownBox => {
+                b" fill=\"none\" pointer-events=\"all\" stroke=\"silver\" stroke-width=\"24\">"
+            }
             MarkPart::GlyphStart => b"<text class=\"glyph\"",
             MarkPart::Bold => b" font-weight=\"bold\"",
             MarkPart::Italic => b" font-style=\"italic\"",
@@ -73,11 +101,21 @@ impl MarkPart {
             MarkPart::TextEnd => b"</text>\n",
             MarkPart::RowStart => b"<g class=\"row\" transform=\"translate(",
             MarkPart::RowScale => b") scale(",
-            MarkPart::RowRuns => b")\"><path d=\"",
+            MarkPart::RowPlaceEnd => b")\">",
+            MarkPart::RowRuns => b"<path d=\"",
             MarkPart::RowAgain => b"\"/><path shape-rendering=\"crispEdges\" d=\"",
             MarkPart::RowEnd => b"\"/></g>\n",
             MarkPart::LineStart => b"<line class=\"line\"",
-            MarkPart::LineEnd => b" stroke=\"black\" stroke-linecap=\"round\"/>\n",
+            MarkPart::LineLook => b" stroke=\"black\" stroke-linecap=\"round\">",
+            MarkPart::LineEnd => b"</line>\n",
+            MarkPart::RectangleTitle => b"<title>rectangle",
+            MarkPart::CharacterTitle => b"<title>character ",
+            MarkPart::RowTitle => b"<title>raster row",
+            MarkPart::LineTitle => b"<title>line",
+            MarkPart::TitlePlace => b", byte ",
+            MarkPart::TitleX => b", x ",
+            MarkPart::TitleY => b" mm, y ",
+            MarkPart::TitleEnd => b" mm</title>",
         }
     }
 }

@@ -13,6 +13,7 @@ ghost use Rattle.page_picture.specs.Sheet.{
   letter_size,
   logical_picture,
   middle,
+  page_number,
   pattern,
   patterns,
   picture_height,
@@ -31,6 +32,7 @@ use crate::attributes::{
     Attribute, push_attribute, push_box, push_length_attribute, push_ticks_attribute,
 };
 use crate::figures::{hundredths, push_inches, push_pair};
+use crate::rulers::push_rulers;
 use crate::sheet_parts::SheetPart;
 use crate::texts::push_sentence_text;
 use device_profile::Geometry;
@@ -48,7 +50,8 @@ const DROP: i64 = 12_192_000_000;
 /// The largest letters of a sentence: of 10 points, in hundredths of a unit.
 const LARGEST_LETTERS: u64 = 100_000;
 
-/// Appends what stands before the marks of a page: its size, the patterns, and the page. Where a
+/// Appends what stands before the marks of a page: its size, the patterns, and the page with rulers
+/// at two edges. Where a
 /// sentence is to follow, the picture has room for it below the sheet. A document has the patterns
 /// once, since their names stand for one thing there.
 pub fn push_head<A: Allocator>(
@@ -63,6 +66,7 @@ pub fn push_head<A: Allocator>(
     push_start(text, page, has_sentence)?;
     push_due_patterns(text, has_patterns)?;
     push_sheet(text, page)?;
+    push_rulers(text, page)?;
     push_logical(text, page)?;
     push_printable(text, page)
 }
@@ -257,8 +261,8 @@ fn letter_size(width: Length, count: usize) -> i64
     LARGEST_LETTERS.min(widest as u64) as i64
 }
 
-/// The middle of a width, in hundredths of a unit.
-fn middle(width: Length) -> i64
+/// The middle of a width or a height, in hundredths of a unit.
+pub(crate) fn middle(width: Length) -> i64
     ensures { result ≡ middle width }
 {
     (hundredths(width.ticks()).unsigned_abs() / 2) as i64
@@ -316,7 +320,8 @@ pub fn push_foot<A: Allocator>(text: &mut Vec<u8, A>) -> Result<(), AllocError>
 
 // ---- several pictures in one document
 
-/// Appends what stands before several pictures in an HTML document: its head, and a verdict.
+/// Appends what stands before several pictures in an HTML document: its head, a verdict, and what
+/// stands for what.
 #[tactic(auto, unfolding(crate::specs::Sheet::document_start))]
 pub fn push_document_start<A: Allocator>(
     text: &mut Vec<u8, A>,
@@ -326,7 +331,17 @@ pub fn push_document_start<A: Allocator>(
 {
     text.extend_from_slice(SheetPart::DocumentStart.bytes())?;
     push_sentence_text(text, verdict)?;
-    text.extend_from_slice(SheetPart::DocumentPages.bytes())
+    text.extend_from_slice(SheetPart::DocumentLegend.bytes())
+}
+
+/// Appends the number of a page, above its picture.
+#[tactic(auto, unfolding(crate::specs::Sheet::page_number))]
+pub fn push_page_number<A: Allocator>(text: &mut Vec<u8, A>, number: u64) -> Result<(), AllocError>
+    ensures { OnOk result (text.new.items ≡ text.old.items ++ page_number number) }
+{
+    text.extend_from_slice(SheetPart::PageNumber.bytes())?;
+    push_number(text, number)?;
+    text.extend_from_slice(SheetPart::PageNumberEnd.bytes())
 }
 
 /// Appends what stands behind them.

@@ -59,8 +59,12 @@ pub(crate) enum SheetPart {
     PictureEnd,
     /// Before the verdict that stands above several pictures.
     DocumentStart,
+    /// Behind it: what stands for what.
+    DocumentLegend,
+    /// Before the number of a page in such a document.
+    PageNumber,
     /// Behind it.
-    DocumentPages,
+    PageNumberEnd,
     /// Behind several pictures.
     DocumentEnd,
 }
@@ -78,7 +82,7 @@ impl SheetPart {
             SheetPart::PictureStart => b"<svg xmlns=\"http://www.w3.org/2000/svg\" width=\"",
             SheetPart::PictureHeight => b"in\" height=\"",
             SheetPart::PictureView => b"in\" viewBox=\"0 0 ",
-            SheetPart::PictureFont => b"\" font-family=\"monospace\">\n",
+            SheetPart::PictureFont => b"\" font-family=\"Courier New, Courier, monospace\">\n",
             SheetPart::PatternsStart => b"<defs stroke=\"black\" stroke-width=\"48\">\n",
             SheetPart::PatternStart => b"<pattern id=\"pattern",
             SheetPart::PatternSides => {
@@ -110,12 +114,37 @@ impl SheetPart {
             SheetPart::SentenceEnd => b"</text>\n",
             SheetPart::PictureEnd => b"</svg>\n",
             SheetPart::DocumentStart => {
-                b"<!DOCTYPE html>\n<html lang=\"en\">\n<head>\n<meta charset=\"utf-8\"/>\n\
+                b"<!DOCTYPE html>\n\
+                <html lang=\"en\">\n\
+                <head>\n\
+                <meta charset=\"utf-8\"/>\n\
                 <title>Pages</title>\n\
-                <style>svg { display: block; margin: 1em 0; overflow: visible; }</style>\n\
-                </head>\n<body>\n<p>"
+                <style>\n\
+                @page { margin: 8mm; }\n\
+                h2 { font-size: 1em; break-after: avoid; }\n\
+                svg { display: block; max-width: 100%; max-height: 94vh; height: auto; margin: 0 \
+                auto 1em; overflow: visible; }\n\
+                @media print { ul { display: none; } svg { max-height: 85vh; break-after: page; \
+                } }\n\
+                </style>\n\
+                </head>\n\
+                <body>\n\
+                <p>"
             }
-            SheetPart::DocumentPages => b"</p>\n",
+            SheetPart::DocumentLegend => {
+                b"</p>\n\
+                <ul>\n\
+                <li>Dashed: the logical page. Thin: the printable area. At the edges: \
+                millimetres (gray) and inches (navy).</li>\n\
+                <li>Silver: the box of a character, with --boxes, or where its code has no known \
+                character.</li>\n\
+                <li>Red: where the job fails. The marks before that are gray there.</li>\n\
+                <li>Point at a mark to read what it is, the byte of its item, and its place from \
+                the left and the upper edge.</li>\n\
+                </ul>\n"
+            }
+            SheetPart::PageNumber => b"<h2>Page ",
+            SheetPart::PageNumberEnd => b"</h2>\n",
             SheetPart::DocumentEnd => b"</body>\n</html>\n",
         }
     }

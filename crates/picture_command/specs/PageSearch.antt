@@ -24,8 +24,9 @@ use Rattle.renderings.specs.declared.outcome.Outcome.{Outcome}
 use Rattle.renderings.specs.declared.outcome.Outcome.TheVariants.{Done as AllDone}
 use Rattle.renderings.specs.Outcomes.{fails_with}
 use Rattle.renderings.specs.Due.{Rendering}
+use Rattle.requests.specs.declared.selection.DrawnPages.{DrawnPages}
+use Rattle.requests.specs.declared.selection.DrawnPages.TheVariants.{All, One}
 use Rattle.requests.specs.declared.selection.Selection.{Selection}
-use Rattle.requests.specs.declared.selection.Selection.TheVariants.{All, One}
 use Rattle.requests.specs.Selection.{is_behind, is_drawn}
 use Rattle.job_reports.specs.CommandWords.{code_words}
 use Rattle.job_reports.specs.Groups.{Groups}
@@ -79,9 +80,12 @@ abbrev pub nothing_told : Searched
 nothing_told = record { text = []; outcome = AllDone }
 
 -- a page that is searched for alone is missing
+abbrev pub missing_part_of : DrawnPages → (job : List ℕ) → Counts → List ℕ
+missing_part_of All job counts = []
+missing_part_of (One number) job counts = missing_line job number counts.pages
+
 abbrev pub missing_part : Selection → (job : List ℕ) → Counts → List ℕ
-missing_part All job counts = []
-missing_part (One number) job counts = missing_line job number counts.pages
+missing_part selection job counts = missing_part_of selection.pages job counts
 
 -- the number of the page that is open
 abbrev pub open_page : Counts → ℕ
@@ -101,9 +105,12 @@ found_at_failure selection job group counts at failure =
     })
 
 -- the end of a job behind which more is searched for
+abbrev pub text_of_end : DrawnPages → (job : List ℕ) → Groups → Counts → List ℕ
+text_of_end All job group counts = drawn_line job group counts
+text_of_end (One number) job group counts = missing_line job number counts.pages
+
 abbrev pub text_at_end : Selection → (job : List ℕ) → Groups → Counts → List ℕ
-text_at_end All job group counts = drawn_line job group counts
-text_at_end (One number) job group counts = missing_line job number counts.pages
+text_at_end selection job group counts = text_of_end selection.pages job group counts
 
 abbrev pub found_at_end : Selection → (job : List ℕ) → Groups → Counts → Searched
 found_at_end selection job group counts = record { text = text_at_end selection job group counts; outcome = AllDone }

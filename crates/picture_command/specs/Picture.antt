@@ -13,8 +13,9 @@ use Rattle.streams.specs.Writing.{Writes}
 use Rattle.streams.specs.Outlet.{OutletState, Stays}
 use Rattle.streams.specs.Pieces.{ByReads}
 use Rattle.streams.specs.Source.{SourceState}
+use Rattle.requests.specs.declared.selection.DrawnPages.{DrawnPages}
+use Rattle.requests.specs.declared.selection.DrawnPages.TheVariants.{All, One}
 use Rattle.requests.specs.declared.selection.Selection.{Selection}
-use Rattle.requests.specs.declared.selection.Selection.TheVariants.{All, One}
 use Rattle.job_picture.specs.JobPicture.{picture_rendering}
 use Rattle.requests.specs.declared.choices.Choice.{Choice}
 use Rattle.requests.specs.declared.status.Status.{Status}
@@ -31,10 +32,13 @@ abbrev pub TellsOutcome : Rendering → SourceState → SourceState → (text : 
 TellsOutcome rendering job job' text outcome = ByReads job job' (λ bytes. IsDue rendering bytes text outcome)
 
 -- the job does not have the page that is wanted alone: nothing fails on it, and yet something is told
+abbrev pub is_missing_of : DrawnPages → (text : List ℕ) → Outcome → Bool
+is_missing_of (One number) text AllDone = nat_lt 0 (length text)
+is_missing_of (One number) text (FailsOf place profile finding) = false
+is_missing_of All text outcome = false
+
 abbrev pub is_missing : Selection → (text : List ℕ) → Outcome → Bool
-is_missing (One number) text AllDone = nat_lt 0 (length text)
-is_missing (One number) text (FailsOf place profile finding) = false
-is_missing All text outcome = false
+is_missing selection text outcome = is_missing_of selection.pages text outcome
 
 -- why nothing is told
 abbrev pub IsErrorOfSearch : Error → Type 0

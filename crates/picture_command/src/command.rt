@@ -21,7 +21,7 @@ use job_picture::{Wanted, picture_of};
 use job_reports::{PrinterGroup, push_named_first};
 use named_inputs::{KeptText, ProfileTexts, chosen_panel, kept_error, refuse_choice};
 use renderings::{Outcome, render_job};
-use requests::{PanelSetting, Selection, Status};
+use requests::{DrawnPages, PanelSetting, Selection, Status};
 use std::alloc::{AllocError, Allocator};
 use streams::{Error, Outlet, Source, write_text};
 
@@ -250,8 +250,8 @@ fn draw_found<S: Source, O: Outlet, E: Outlet, A: Allocator + Copy>(
 fn is_missing<A: Allocator>(selection: Selection, found: &Found<A>) -> bool
     ensures { result ≡ is_missing selection found.now.text.items found.now.outcome }
 {
-    match (selection, found.outcome) {
-        (Selection::One(_), Outcome::Done) => !found.text.is_empty(),
+    match (selection.pages, found.outcome) {
+        (DrawnPages::One(_), Outcome::Done) => !found.text.is_empty(),
         _ => false,
     }
 }

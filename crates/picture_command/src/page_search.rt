@@ -20,7 +20,7 @@ use page_machine::{Machine, Start, Stop};
 use pcl_items::{Item, LexFault, Place};
 use preflight::{Culprit, Judgement, Verdict};
 use renderings::{Outcome, Renderer};
-use requests::Selection;
+use requests::{DrawnPages, Selection};
 use sinks::Counts;
 use std::alloc::{AllocError, Allocator};
 use streams::{Error, Outlet};
@@ -173,9 +173,9 @@ impl<'p, 'n, B: Allocator + Copy> PageSearch<'p, 'n, B> {
         ensures { OnOk result (text.new.items ≡ text.old.items
             ++ missing_part self.now.selection self.now.names.now.job.now self.now.counts) }
     {
-        match self.selection {
-            Selection::All => Ok(()),
-            Selection::One(number) => self.push_missing_line(text, number),
+        match self.selection.pages {
+            DrawnPages::All => Ok(()),
+            DrawnPages::One(number) => self.push_missing_line(text, number),
         }
     }
 
@@ -224,9 +224,9 @@ impl<'p, 'n, B: Allocator + Copy> PageSearch<'p, 'n, B> {
             ++ text_at_end self.now.selection self.now.names.now.job.now
             self.now.names.now.printers.now self.now.counts) }
     {
-        match self.selection {
-            Selection::One(number) => self.push_missing_line(text, number),
-            Selection::All => self.push_drawn_line(text),
+        match self.selection.pages {
+            DrawnPages::One(number) => self.push_missing_line(text, number),
+            DrawnPages::All => self.push_drawn_line(text),
         }
     }
 }

@@ -12,5 +12,5 @@ pub use choices::{Choice, PanelSetting};
 pub use many_words::{Form, ManyWords};
 pub use new_profile::NewProfile;
 pub use request::Request;
-pub use selection::Selection;
+pub use selection::{DrawnPages, Selection};
 pub use status::{Input, Status, Trouble, cause_name, error_words, tell, write_pieces};

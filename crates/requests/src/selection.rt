@@ -1,13 +1,20 @@
-//! Which pages of a job are drawn.
+//! What is drawn of a job.
 ghost use Rattle.std.specs.Prelude.{◌≡◌};
 
 /// Which pages of a job are drawn.
 #[derive(Clone, Copy, Debug, PartialEq, Eq)]
-pub enum Selection {
+pub enum DrawnPages {
     /// All of them, in one document.
     All,
     /// The page of this number, from 1, as a picture by itself.
     One(u64),
+}
+
+/// Which pages of a job are drawn, and whether each character with its box.
+#[derive(Clone, Copy, Debug, PartialEq, Eq)]
+pub struct Selection {
+    pub pages: DrawnPages,
+    pub has_boxes: bool,
 }
 
 impl Selection {
@@ -17,9 +24,9 @@ impl Selection {
     pub fn is_drawn(self, page: u64) -> bool
         ensures { result ≡ is_drawn self page }
     {
-        match self {
-            Selection::All => true,
-            Selection::One(number) => number == page,
+        match self.pages {
+            DrawnPages::All => true,
+            DrawnPages::One(number) => number == page,
         }
     }
 
@@ -28,9 +35,9 @@ impl Selection {
     pub fn has_patterns(self, page: u64) -> bool
         ensures { result ≡ has_patterns self page }
     {
-        match self {
-            Selection::All => page == 1,
-            Selection::One(_) => true,
+        match self.pages {
+            DrawnPages::All => page == 1,
+            DrawnPages::One(_) => true,
         }
     }
 
@@ -38,9 +45,9 @@ impl Selection {
     pub fn is_behind(self, page: u64) -> bool
         ensures { result ≡ is_behind self page }
     {
-        match self {
-            Selection::All => false,
-            Selection::One(number) => number < page,
+        match self.pages {
+            DrawnPages::All => false,
+            DrawnPages::One(number) => number < page,
         }
     }
 }

@@ -3,8 +3,8 @@
 
 use device_profile::Sample;
 use picture_command::{PictureAsked, picture};
-use requests::Selection::{All, One};
-use requests::{PanelSetting, Selection, tell};
+use requests::DrawnPages::{All, One};
+use requests::{DrawnPages, PanelSetting, Selection, tell};
 use std::alloc::{Allocator, Global};
 use std::process::Abort;
 use std::test::Fail;
@@ -28,7 +28,7 @@ const SOUND: u64 = u64::MAX;
 struct Run {
     first: Reading,
     second: Reading,
-    selection: Selection,
+    pages: DrawnPages,
 }
 
 /// An exit status; parts of what is written on standard output, one behind another; and what is
@@ -39,7 +39,7 @@ type Answer = (u8, &'static [&'static str], &'static [u8]);
 const BOX: Run = Run {
     first: (BOX_BYTES, SOUND),
     second: (BOX_BYTES, SOUND),
-    selection: One(1),
+    pages: One(1),
 };
 
 const BOX_BYTES: &[u8] = b"\x1bE\x1b*c72a72b0P\x1bE";
@@ -121,7 +121,10 @@ fn run_of<H: Allocator + Copy>(alloc: Global, heap: H, run: &Run, writes: u64) -
             profile: "b",
             choices: &[],
         },
-        selection: run.selection,
+        selection: Selection {
+            pages: run.pages,
+            has_boxes: false,
+        },
     };
     let mut stdout = FailingOutlet::new(alloc, writes);
     let mut stderr = FailingOutlet::new(alloc, u64::MAX);
@@ -179,15 +182,15 @@ fn the_job_is_the_same_at_its_second_reading(rt: HostRuntime) {
 const STOPPED: &[Run] = &[
     BOX,
     Run {
-        selection: One(2),
+        pages: One(2),
         ..BEYOND
     },
     Run {
-        selection: All,
+        pages: All,
         ..BEYOND
     },
     Run {
-        selection: One(3),
+        pages: One(3),
         ..BEYOND
     },
 ];
@@ -222,7 +225,7 @@ fn each_request_for_memory_is_refused_in_turn(rt: HostRuntime) -> Result<(), Fai
 /// due stood there then.
 fn writes_of(rt: &(impl Abort + AllocGlobal), run: &Run) -> Result<u64, Fail> {
     let whole = run_of(rt.alloc(), rt.alloc(), run, u64::MAX);
-    for writes in 0..2000 {
+    for writes in 0..4000 {
         let stopped = run_of(rt.alloc(), rt.alloc(), run, writes);
         let (code, output, error) = stopped.told();
         assert!(rt; whole.told().1.starts_with(output), "{writes} writes");
@@ -231,7 +234,7 @@ fn writes_of(rt: &(impl Abort + AllocGlobal), run: &Run) -> Result<u64, Fail> {
         }
         assert!(rt; code == 3 && error == WRITE, "{writes} writes");
     }
-    Err(Fail::new("more than 2000 writes"))
+    Err(Fail::new("more than 4000 writes"))
 }
 
 #[test]

@@ -68,14 +68,14 @@ fn shown(text: &[u8]) -> &str {
     str::from_utf8(text).unwrap_or("")
 }
 
-/// Checks the elements of a mark.
+/// Checks the elements of a mark with its box, whose item has 7 bytes before it.
 fn check_mark(
     rt: &(impl Abort + AllocGlobal),
     mark: &Mark<'_>,
     parts: &[&[u8]],
 ) -> Result<(), Fail> {
     let mut text = Vec::new(rt.alloc());
-    push_mark(&mut text, mark)?;
+    push_mark(&mut text, mark, true, 7)?;
     assert!(rt;
         is_of_parts(text.as_slice(), parts),
         "{}",
@@ -97,17 +97,17 @@ const AREAS: &[([i64; 4], &[u8])] = &[
     ),
 ];
 
+/// What stands behind the box of each: they begin less than 1/100 mm left of the page and above it.
+const AREA_END: &[u8] = b" fill=\"black\"><title>rectangle, byte 7, x -0.01 mm, y -0.01 mm\
+    </title></rect>\n";
+
 /// Checks an area with these edges, in ticks, by what its element says of its box.
 fn check_area(rt: &(impl Abort + AllocGlobal), edges: [i64; 4], wanted: &[u8]) -> Result<(), Fail> {
     let mark = Mark::Rect(Area {
         fill: Fill::Solid,
         bounds: bounds(edges),
     });
-    check_mark(
-        rt,
-        &mark,
-        &[b"<rect class=\"area\" ", wanted, b" fill=\"black\"/>\n"],
-    )
+    check_mark(rt, &mark, &[b"<rect class=\"area\" ", wanted, AREA_END])
 }
 
 #[test]
@@ -148,27 +148,37 @@ fn a_sentence_has_characters_alone(rt: HostRuntime) -> Result<(), Fail> {
 const BOX: &[u8] = b"<rect class=\"box\" x=\"1800\" y=\"2700\" width=\"720\" height=\"1200\" \
     fill=\"none\" stroke=\"silver\" stroke-width=\"24\"/>\n";
 
-/// What stands before the text of a character.
+/// The box of one without a text, up to the code in its title.
+const UNKNOWN: &[u8] = b"<rect class=\"box\" x=\"1800\" y=\"2700\" width=\"720\" height=\"1200\" \
+    fill=\"none\" pointer-events=\"all\" stroke=\"silver\" stroke-width=\"24\"><title>character ";
+
+/// What stands before the text of a character, up to the code in its title.
 const TEXT: &[u8] = b"<text class=\"glyph\" x=\"1800\" y=\"3600\" font-size=\"1200\" \
-    textLength=\"720\" lengthAdjust=\"spacingAndGlyphs\">";
+    textLength=\"720\" lengthAdjust=\"spacingAndGlyphs\"><title>character ";
+
+/// What stands behind the code in its title.
+const TITLE_END: &[u8] = b", byte 7, x 6.35 mm, y 9.52 mm</title>";
 
 /// PC-8.
 const PC8: Set = (100_000, b'U');
 
+/// A code, and its digits.
+type Code = (u8, &'static [u8]);
+
 /// Symbol sets, stroke weights and codes, and their texts; without a text the box stands alone. The
 /// sets are ASCII, PC-8, PC-850, Roman-8, Latin 1 and Windows, and one that is no whole number.
-const CHARACTERS: &[(Set, i32, u8, &[u8])] = &[
-    (PC8, 0, 0, b""),
-    ((0, b'U'), 0, 1, b""),
-    (PC8, 0, 1, b"&#9786;"),
-    ((120_000, b'U'), 0, 1, b"&#9786;"),
-    ((80_000, b'U'), 0, 1, b""),
-    ((0, b'N'), 0, 31, b""),
-    ((190_000, b'U'), 0, 31, b""),
-    (PC8, 0, 31, b"&#9660;"),
-    ((190_001, b'U'), 0, b'A', b""),
+const CHARACTERS: &[(Set, i32, Code, &[u8])] = &[
+    (PC8, 0, (0, b"0"), b""),
+    ((0, b'U'), 0, (1, b"1"), b""),
+    (PC8, 0, (1, b"1"), b"&#9786;"),
+    ((120_000, b'U'), 0, (1, b"1"), b"&#9786;"),
+    ((80_000, b'U'), 0, (1, b"1"), b""),
+    ((0, b'N'), 0, (31, b"31"), b""),
+    ((190_000, b'U'), 0, (31, b"31"), b""),
+    (PC8, 0, (31, b"31"), b"&#9660;"),
+    ((190_001, b'U'), 0, (b'A', b"65"), b""),
     // Not bold.
-    (PC8, 9_999, b'A', b"A"),
+    (PC8, 9_999, (b'A', b"65"), b"A"),
 ];
 
 /// Checks a character by its text.
@@ -176,14 +186,18 @@ fn check_character(
     rt: &(impl Abort + AllocGlobal),
     set: Set,
     weight: i32,
-    code: u8,
+    (code, digits): Code,
     wanted: &[u8],
 ) -> Result<(), Fail> {
     let mark = character(set, weight, code);
     if wanted.is_empty() {
-        check_mark(rt, &mark, &[BOX])
+        check_mark(rt, &mark, &[UNKNOWN, digits, TITLE_END, b"</rect>\n"])
     } else {
-        check_mark(rt, &mark, &[BOX, TEXT, wanted, b"</text>\n"])
+        check_mark(
+            rt,
+            &mark,
+            &[BOX, TEXT, digits, TITLE_END, wanted, b"</text>\n"],
+        )
     }
 }
 

@@ -4,7 +4,7 @@ ghost use Rattle.std.specs.Prelude.{IsFalse};
 use device_profile::{Profile, Sample};
 use job_picture::{Wanted, picture_of};
 use renderings::Outcome;
-use requests::Selection::All;
+use requests::{DrawnPages, Selection};
 use std::alloc::Global;
 use std::process::Abort;
 use std::test::Fail;
@@ -32,7 +32,10 @@ fn draw<S: Source>(alloc: Global, profile: &Profile, source: &mut S) -> Drawn
 {
     let panel = profile.first_panel();
     let wanted = Wanted {
-        selection: All,
+        selection: Selection {
+            pages: DrawnPages::All,
+            has_boxes: false,
+        },
         sentence: b"why",
     };
     let mut outlet = FailingOutlet::new(alloc, u64::MAX);

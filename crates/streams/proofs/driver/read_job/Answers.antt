@@ -1,7 +1,13 @@
 use Rattle.std.proofs.Common.{take, rules, arith}
 use Rattle.std.proofs.lemmas.Result.{err_from_is_err_and}
 use Rattle.streams.proofs.Driving.{answered_by_end, answered_by_piece, as_long, still_open, stopped_by_end, stopped_by_piece}
+use Rattle.streams.proofs.Driving.{stopped_turning, stopped_unread}
 use Rattle.streams.proofs.driver.read_job.Goals as goal
+
+pub returns-in_default-clause-stopped : goal.returns-in_default-clause-stopped
+returns-in_default-clause-stopped g c =
+    stopped_unread g.C.Consumer.goes_on g.C.Consumer.stops (c.args.consumer.now, c.args.outlet.now) _ _ _ _ c.loop.invariant.way _
+    c.in_default.ensures.read.given c.in_default.ensures.read.bytes
 
 pub returns-then-count-eq0-clause-answered : goal.returns-then-count-eq0-clause-answered
 returns-then-count-eq0-clause-answered g c =
@@ -52,3 +58,7 @@ pub returns-clause-long : goal.returns-clause-long
 returns-clause-long g c = λ is.
     as_long g.C.Consumer.goes_on g.C.Consumer.stops (c.args.consumer.now, c.args.outlet.now) _ _ _ _ c.loop.invariant.way
     (omega (arith, c.loop-test.false))
+
+pub returns-clause-stopped : goal.returns-clause-stopped
+returns-clause-stopped g c =
+    stopped_turning g.C.Consumer.goes_on g.C.Consumer.stops (c.args.consumer.now, c.args.outlet.now) _ _ _ _ c.loop.invariant.way
