@@ -3,14 +3,18 @@
 The words with which the prover is called come from the library of `rt`.
 """
 
+import contextlib
 import os
 import re
 import shutil
 import subprocess
 import sys
 import tempfile
+from collections.abc import Iterator
 from dataclasses import dataclass
 from pathlib import Path
+
+import tree
 
 sys.path.insert(0, str(Path(shutil.which("rt") or sys.exit("edits: rt is not on the PATH"))
                        .resolve().parent))
@@ -77,6 +81,19 @@ class Crate:
             return self.check(texts, over, only)
         finally:
             shutil.rmtree(over.parent)
+
+
+@contextlib.contextmanager
+def proved(names: list[str]) -> Iterator[tuple[Path, Path]]:
+    """A copy of the tree in which these crates and all below them are proved, and a folder for
+    checks. Both are removed in the end."""
+    below = set().union(*map(tree.with_all_below, names))
+    with tree.copy(only=below) as place, tempfile.TemporaryDirectory(prefix="edits-") as room:
+        how = {"cwd": place, "env": tree.lanes(), "stdin": subprocess.DEVNULL, "text": True}
+        ran = subprocess.run(["rt", "ci"], stdout=subprocess.PIPE, stderr=subprocess.STDOUT, **how)
+        if ran.returncode:
+            sys.exit(f"{ran.stdout[-3000:]}\nedits: the crates are not proved, so none was tried")
+        yield place, Path(room)
 
 
 def linked(one: str, other: str) -> str:

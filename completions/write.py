@@ -3,11 +3,12 @@
 
     python3 completions/write.py [--check]
 
-The commands, with what each does, are those of the rows in crates/command_line/src, and the fields
-of the panel those of device_profile. Each shell's file gets its lists of them; that of zsh also a
-line for each command that has none and takes single words alone, and that of fish one for each that
-takes a PROFILE. Options are written by hand, and crosscheck/manual.py compares all with the
-program. With --check nothing is written, and the status is 1 where a file would change.
+The commands, with what each does, are those of the rows in crates/command_line/src, in the order of
+the lists of commands.rt there, and the fields of the panel those of device_profile. Each shell's
+file gets its lists of them; that of zsh also a line for each command that has none and takes single
+words alone, and that of fish one for each that takes a PROFILE. Options are written by hand, and
+crosscheck/manual.py compares all with the program. With --check nothing is written, and the status
+is 1 where a file would change.
 """
 
 import re
@@ -30,28 +31,26 @@ def text_of(literal):
     return re.sub(r"\\\n\s*", "", literal).replace('\\"', '"')
 
 
-def rows_of(path):
-    """The rows of a file by their names: the command, what it does, and the words that it takes,
-    None where these are no words that several commands take."""
+def rows_of_code():
+    """The rows of the commands by their names: the command, what it does, and the words that it
+    takes, None where these are no words that several commands take."""
     rows = {}
-    for name, body in re.findall(r"const (\w+): CommandRow = CommandRow \{(.*?)\n\};",
-                                 path.read_text(encoding="utf-8"), re.DOTALL):
-        words = re.search(r"words: &\[([A-Z, ]*)\]", body)
-        has_options = "options: &[]" not in body
-        rows[name] = (re.search(r'name: "([\w-]+)"', body)[1],
-                      text_of(re.search(r'about: "(.*?)",\n', body, re.DOTALL)[1]),
-                      None if has_options or not words else re.findall(r"[A-Z]+", words[1]))
+    for path in ROWS.glob("*.rt"):
+        for name, body in re.findall(r"const (\w+): &CommandRow = &CommandRow \{(.*?)\n\};",
+                                     path.read_text(encoding="utf-8"), re.DOTALL):
+            words = re.search(r"words: &\[([A-Z, ]*)\]", body)
+            has_options = "options: &[]" not in body
+            rows[name] = (re.search(r'name: "([\w-]+)"', body)[1],
+                          text_of(re.search(r'about: "(.*?)",\n', body, re.DOTALL)[1]),
+                          None if has_options or not words else re.findall(r"[A-Z]+", words[1]))
     return rows
 
 
-def commands_of(name, *files):
-    """The commands of a list of rows, in its order; a row of the list's own file comes first."""
-    rows = {}
-    for file in reversed((name, *files)):
-        rows.update(rows_of(ROWS / file))
-    text = (ROWS / name).read_text(encoding="utf-8")
-    listed = re.search(r"const COMMANDS: &\[CommandRow\] =\s*&\[(.*?)\];", text, re.DOTALL)[1]
-    return [rows[row] for row in re.findall(r"\w+", listed)]
+def commands_of(text, listed, rows):
+    """The commands of a list of commands.rt, in its order."""
+    listed = re.search(rf"const {listed}: &\[CommandName\] = &\[(.*?)\];", text, re.DOTALL)[1]
+    by_name = dict(re.findall(r"CommandName::(\w+) => (\w+)", text))
+    return [rows[by_name[name]] for name in re.findall(r"CommandName::(\w+)", listed)]
 
 
 def keys_of_fields():
@@ -136,11 +135,11 @@ def in_fish(text, top, profile):
 
 
 def main():
-    top = commands_of("words.rt", "text_commands.rt", "check_words.rt", "picture_words.rt")
-    profile = commands_of("profile_words.rt", "profile_tool_words.rt") + [HELP]
-    words = (ROWS / "profile_words.rt").read_text(encoding="utf-8")
-    about = re.search(r'"profile"\)\s*\.about\("(.*?)"\)', words)[1]
-    top += [("profile", about, None), HELP]
+    rows = rows_of_code()
+    lists = (ROWS / "commands.rt").read_text(encoding="utf-8")
+    name, about, _ = rows["PROFILE_COMMANDS"]
+    top = commands_of(lists, "BELOW_PROGRAM", rows) + [(name, about, None), HELP]
+    profile = commands_of(lists, "BELOW_PROFILE", rows) + [HELP]
     changed = []
     for path, write in ((BASH, in_bash), (ZSH, in_zsh), (FISH, in_fish)):
         text = path.read_text(encoding="utf-8")

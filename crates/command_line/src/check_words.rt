@@ -2,11 +2,13 @@
 ghost use Rattle.std.specs.Prelude.{IfOk, IfSome};
 ghost use Rattle.requests.specs.Words.{NamesSome};
 
-use crate::many_words::{asks_for_many, read_many, with_many_options};
+use crate::many_words::{MANY_OPTIONS, asks_for_many, read_many};
 use crate::panel_words::ChoiceFault;
-use clap::{Arg, ArgAction, ArgMatches, Command};
+use crate::rows::{CommandRow, Count, Need, WordRow};
+use crate::texts::texts_of;
+use clap::ArgMatches;
 use requests::Request;
-use std::alloc::{AllocError, Global};
+use std::alloc::Global;
 
 pub const EXPLANATION: &str = "Examples:
   pclcheck check job.pcl front.profile back.profile
@@ -98,25 +100,27 @@ Exit status, of many jobs the greatest of theirs:
   3  a read or a write failed, memory ran out, no end after 2^40 reads, or too many items";
 
 /// The words of the command `check`.
-pub fn check_args<'a>(alloc: Global) -> Result<Command<'a>, AllocError> {
-    let job = Arg::new(alloc, "JOB")
-        .required_unless_present("NAMES")?
-        .action(ArgAction::Set)
-        .help("The path of the print job; in a check of many jobs - is standard input");
-    let profiles = Arg::new(alloc, "PROFILE")
-        .required_unless_present("PRINTER")?
-        .required_unless_present("FLEET")?
-        .value_name("PROFILE|JOB")
-        .num_args(1..)
-        .action(ArgAction::Append)
-        .help("The printers: paths of profiles, or samples @A to @D; with -p or -f further jobs");
-    let command = Command::new(alloc, "check")
-        .about("Checks jobs for a fleet of printers, and writes a line for each: PASS or FAIL")
-        .after_help(EXPLANATION)
-        .arg(job)?
-        .arg(profiles)?;
-    with_many_options(alloc, command)
-}
+pub(crate) const CHECK: &CommandRow = &CommandRow {
+    name: "check",
+    about: "Checks jobs for a fleet of printers, and writes a line for each: PASS or FAIL",
+    explanation: EXPLANATION,
+    words: &[
+        WordRow {
+            id: "JOB",
+            need: Need::Unless(&["NAMES"]),
+            count: Count::One,
+            help: "The path of the print job; in a check of many jobs - is standard input",
+        },
+        WordRow {
+            id: "PROFILE",
+            need: Need::Unless(&["PRINTER", "FLEET"]),
+            count: Count::Several("PROFILE|JOB"),
+            help: "The printers: paths of profiles, or samples @A to @D; with -p or -f further \
+                jobs",
+        },
+    ],
+    options: MANY_OPTIONS,
+};
 
 /// The request of the words behind `check`.
 pub fn check_request<'a>(
@@ -128,13 +132,12 @@ pub fn check_request<'a>(
     if asks_for_many(found) {
         return Ok(read_many(alloc, found)?.map(Request::CheckMany));
     }
-    let (Some(job), Some(words)) = (found.get_str("JOB"), found.get_strs("PROFILE")) else {
+    let Some(job) = found.get_str("JOB") else {
         return Ok(None);
     };
-    if words.is_empty() {
+    let profiles = texts_of(alloc, found, "PROFILE")?;
+    if profiles.is_empty() {
         return Ok(None);
     }
-    let mut profiles = Vec::new(alloc);
-    profiles.extend_from_slice(words)?;
     Ok(Some(Request::Check { job, profiles }))
 }

@@ -2,12 +2,15 @@
 #![tactic(auto)]
 
 mod check_words;
+mod commands;
 mod many_words;
 mod panel_words;
 mod picture_words;
 mod profile_tool_words;
 mod profile_words;
+mod rows;
 mod text_commands;
+mod texts;
 mod words;
 
 pub use words::read_words;

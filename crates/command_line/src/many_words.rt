@@ -2,102 +2,92 @@
 ghost use Rattle.std.specs.Prelude.{IfOk, IfSome};
 ghost use Rattle.requests.specs.ManyWords.{NamesPrinter};
 
-use clap::builder::ValueParser;
-use clap::{Arg, ArgAction, ArgMatches, Command};
+use crate::rows::{OptionRow, Value};
+use clap::ArgMatches;
 use requests::{Form, ManyWords};
 use std::alloc::{AllocError, Global};
 
 /// The words of the forms.
 const FORMS: &[&str] = &["line", "words", "json"];
 
-/// Adds the options of a check of many jobs to those of a command.
-pub(crate) fn with_many_options<'a>(
-    alloc: Global,
-    command: Command<'a>,
-) -> Result<Command<'a>, AllocError> {
-    command
-        .arg(printer(alloc))?
-        .arg(fleet(alloc))?
-        .arg(names(alloc)?)?
-        .arg(most_items(alloc))?
-        .arg(each(alloc))?
-        .arg(notes(alloc))?
-        .arg(format(alloc))?
-        .arg(explain(alloc))?
-        .arg(exit_zero(alloc))
-}
-
-fn printer<'a>(alloc: Global) -> Arg<'a> {
-    Arg::new(alloc, "PRINTER")
-        .short('p')
-        .long("printer")
-        .value_name("PROFILE")
-        .action(ArgAction::Append)
-        .help("A printer; with it every word is a job. May come often")
-}
-
-fn fleet<'a>(alloc: Global) -> Arg<'a> {
-    Arg::new(alloc, "FLEET")
-        .short('f')
-        .long("fleet")
-        .value_name("FILE")
-        .action(ArgAction::Append)
-        .help("A text with a profile a line; as -p, and behind those of -p")
-}
-
-fn names<'a>(alloc: Global) -> Result<Arg<'a>, AllocError> {
-    Arg::new(alloc, "NAMES")
-        .long("files0-from")
-        .value_name("FILE")
-        .action(ArgAction::Set)
-        .help("The paths of the jobs, each ended by a zero byte; - is standard input")
-        .conflicts_with("JOB")
-}
-
-fn most_items<'a>(alloc: Global) -> Arg<'a> {
-    Arg::new(alloc, "MOST")
-        .long("most-items")
-        .value_name("N")
-        .action(ArgAction::Set)
-        .value_parser(ValueParser::Unsigned(0, u64::MAX))
-        .help("Gives a job up whose macros carry out more than so many items")
-}
-
-fn each<'a>(alloc: Global) -> Arg<'a> {
-    Arg::new(alloc, "EACH")
-        .long("each")
-        .action(ArgAction::SetTrue)
-        .help("A line for each printer, with its own verdict")
-}
-
-fn notes<'a>(alloc: Global) -> Arg<'a> {
-    Arg::new(alloc, "NOTES")
-        .long("notes")
-        .action(ArgAction::SetTrue)
-        .help("Tells below each PASS what the job leaves to the printer; reads it twice")
-}
-
-fn format<'a>(alloc: Global) -> Arg<'a> {
-    Arg::new(alloc, "FORM")
-        .long("format")
-        .action(ArgAction::Set)
-        .value_parser(ValueParser::Names(FORMS))
-        .help("What is told of a job: a line, a sentence or an object of JSON")
-}
-
-fn explain<'a>(alloc: Global) -> Arg<'a> {
-    Arg::new(alloc, "EXPLAIN")
-        .long("explain")
-        .action(ArgAction::SetTrue)
-        .help("Tells of each FAIL and note what 'pclcheck explain' tells of its number")
-}
-
-fn exit_zero<'a>(alloc: Global) -> Arg<'a> {
-    Arg::new(alloc, "ZERO")
-        .long("exit-zero")
-        .action(ArgAction::SetTrue)
-        .help("Ends with 0 where a job fails, too")
-}
+/// The options of a check of many jobs.
+pub(crate) const MANY_OPTIONS: &[OptionRow] = &[
+    OptionRow {
+        id: "PRINTER",
+        short: Some('p'),
+        long: "printer",
+        value: Value::EachText("PROFILE"),
+        excludes: None,
+        help: "A printer; with it every word is a job. May come often",
+    },
+    OptionRow {
+        id: "FLEET",
+        short: Some('f'),
+        long: "fleet",
+        value: Value::EachText("FILE"),
+        excludes: None,
+        help: "A text with a profile a line; as -p, and behind those of -p",
+    },
+    OptionRow {
+        id: "NAMES",
+        short: None,
+        long: "files0-from",
+        value: Value::Text("FILE"),
+        excludes: Some("JOB"),
+        help: "The paths of the jobs, each ended by a zero byte; - is standard input",
+    },
+    OptionRow {
+        id: "MOST",
+        short: None,
+        long: "most-items",
+        value: Value::Number("N", 0),
+        excludes: None,
+        help: "Gives a job up whose macros carry out more than so many items",
+    },
+    OptionRow {
+        id: "EACH",
+        short: None,
+        long: "each",
+        value: Value::Nothing,
+        excludes: None,
+        help: "A line for each printer, with its own verdict",
+    },
+    OptionRow {
+        id: "NOTES",
+        short: None,
+        long: "notes",
+        value: Value::Nothing,
+        excludes: None,
+        help: "Tells below each PASS what the job leaves to the printer; reads it twice",
+    },
+    OptionRow {
+        id: "FORM",
+        short: None,
+        long: "format",
+        value: Value::OneOf {
+            words: FORMS,
+            usual: None,
+        },
+        excludes: None,
+        help: "What is told of a job: a line, a sentence or an object of JSON",
+    },
+    OptionRow {
+        id: "EXPLAIN",
+        short: None,
+        long: "explain",
+        value: Value::Nothing,
+        excludes: None,
+        help: "Tells of each FAIL and note what 'pclcheck explain' tells of its number",
+    },
+    OptionRow {
+        id: "ZERO",
+        short: None,
+        long: "exit-zero",
+        value: Value::Nothing,
+        excludes: None,
+        help: "Ends with 0 where a job fails, too",
+    },
+];
 
 /// Whether the words ask for more than one job for all of its printers together.
 pub(crate) fn asks_for_many(found: &ArgMatches<'_>) -> bool {

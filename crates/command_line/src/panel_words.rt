@@ -1,5 +1,6 @@
 //! What the words of `--panel` choose.
 
+use clap::ArgMatches;
 use device_profile::Field;
 use requests::Choice;
 use std::alloc::{AllocError, Global};
@@ -20,11 +21,19 @@ pub enum ChoiceFault<'a> {
     Memory(#[from(alloc)] AllocError),
 }
 
-/// The choices that words name, as `size=26,vmi=7.5` does.
-pub(crate) fn read_choices<'a>(
+/// The choices that the option `--panel` names.
+pub(crate) fn choices_of<'a>(
     alloc: Global,
-    words: &'a str,
+    found: &ArgMatches<'a>,
 ) -> Result<Vec<Choice>, ChoiceFault<'a>> {
+    match found.get_str("PANEL") {
+        Some(words) => read_choices(alloc, words),
+        None => Ok(Vec::new(alloc)),
+    }
+}
+
+/// The choices that words name, as `size=26,vmi=7.5` does.
+fn read_choices<'a>(alloc: Global, words: &'a str) -> Result<Vec<Choice>, ChoiceFault<'a>> {
     let mut choices: Vec<Choice> = Vec::new(alloc);
     for word in words.split(',') {
         let choice = choice_of(word)?;

@@ -2,12 +2,13 @@
 ghost use Rattle.std.specs.Prelude.{IfOk, IfSome};
 ghost use Rattle.requests.specs.Words.{NamesSome};
 
-use crate::panel_words::{ChoiceFault, read_choices};
-use crate::text_commands::{job, profile};
-use clap::builder::ValueParser;
-use clap::{Arg, ArgAction, ArgMatches, Command};
+use crate::panel_words::{ChoiceFault, choices_of};
+use crate::rows::{CommandRow, OptionRow, Value};
+use crate::text_commands::{JOB, PROFILE};
+use crate::texts::both_texts;
+use clap::ArgMatches;
 use requests::{Request, Selection};
-use std::alloc::{AllocError, Global};
+use std::alloc::Global;
 
 const PICTURE_EXPLANATION: &str =
     "Output: a page as SVG, or with --all a document of HTML with each page below one another and the
@@ -28,47 +29,40 @@ Exit status:
   2  usage error, a value that the profile does not list, or the profile is refused
   3  a read or a write failed, memory ran out, or no end after 2^40 reads";
 
-/// The option `--page`.
-fn page<'a>(alloc: Global) -> Arg<'a> {
-    Arg::new(alloc, "PAGE")
-        .long("page")
-        .value_name("N")
-        .action(ArgAction::Set)
-        .value_parser(ValueParser::Unsigned(1, u64::MAX))
-        .help("The page to draw, from 1; without it the first")
-}
-
-/// The option `--all`.
-fn all<'a>(alloc: Global) -> Result<Arg<'a>, AllocError> {
-    Arg::new(alloc, "ALL")
-        .long("all")
-        .action(ArgAction::SetTrue)
-        .help("Draws each page, in one document")
-        .conflicts_with("PAGE")
-}
-
-/// The option `--panel`.
-fn panel<'a>(alloc: Global) -> Arg<'a> {
-    Arg::new(alloc, "PANEL")
-        .long("panel")
-        .value_name("FIELD=VALUE,..")
-        .action(ArgAction::Set)
-        .help(
-            "Draws from these values of the panel; each field that is not named has its first value",
-        )
-}
-
 /// The words of the command `picture`.
-pub fn picture_command<'a>(alloc: Global) -> Result<Command<'a>, AllocError> {
-    Command::new(alloc, "picture")
-        .about("Draws a page of a job, from one panel setting of a printer")
-        .after_help(PICTURE_EXPLANATION)
-        .arg(job(alloc))?
-        .arg(profile(alloc))?
-        .arg(page(alloc))?
-        .arg(all(alloc)?)?
-        .arg(panel(alloc))
-}
+pub(crate) const PICTURE: &CommandRow = &CommandRow {
+    name: "picture",
+    about: "Draws a page of a job, from one panel setting of a printer",
+    explanation: PICTURE_EXPLANATION,
+    words: &[JOB, PROFILE],
+    options: &[
+        OptionRow {
+            id: "PAGE",
+            short: None,
+            long: "page",
+            value: Value::Number("N", 1),
+            excludes: None,
+            help: "The page to draw, from 1; without it the first",
+        },
+        OptionRow {
+            id: "ALL",
+            short: None,
+            long: "all",
+            value: Value::Nothing,
+            excludes: Some("PAGE"),
+            help: "Draws each page, in one document",
+        },
+        OptionRow {
+            id: "PANEL",
+            short: None,
+            long: "panel",
+            value: Value::Text("FIELD=VALUE,.."),
+            excludes: None,
+            help: "Draws from these values of the panel; each field that is not named has its \
+                first value",
+        },
+    ],
+};
 
 /// Which pages are drawn.
 fn selection(found: &ArgMatches<'_>) -> Selection {
@@ -85,13 +79,10 @@ pub fn picture_request<'a>(
 ) -> Result<Option<Request<'a>>, ChoiceFault<'a>>
     ensures { IfOk result (λ request. IfSome request NamesSome) }
 {
-    let (Some(job), Some(profile)) = (found.get_str("JOB"), found.get_str("PROFILE")) else {
+    let Some((job, profile)) = both_texts(found, "JOB", "PROFILE") else {
         return Ok(None);
     };
-    let choices = match found.get_str("PANEL") {
-        Some(words) => read_choices(alloc, words)?,
-        None => Vec::new(alloc),
-    };
+    let choices = choices_of(alloc, found)?;
     Ok(Some(Request::Picture {
         job,
         profile,

@@ -2,8 +2,10 @@
 ghost use Rattle.std.specs.Prelude.{IfOk, IfSome};
 ghost use Rattle.requests.specs.Words.{NamesSome};
 
-use crate::text_commands::{out, profile, required};
-use clap::{Arg, ArgAction, ArgMatches, Command};
+use crate::rows::{CommandRow, Count, Need, WordRow};
+use crate::text_commands::{OUT, PROFILE};
+use crate::texts::{both_texts, texts_of};
+use clap::ArgMatches;
 use requests::Request;
 use std::alloc::{AllocError, Global};
 
@@ -60,47 +62,58 @@ Exit status:
   3  a text could not be read, a write failed, or memory ran out";
 
 /// The words of the command `profile lint`.
-pub fn lint_command<'a>(alloc: Global) -> Result<Command<'a>, AllocError> {
-    let help = "A profile: the path of its text, or @A, @B, @C or @D for a built-in sample";
-    Command::new(alloc, "lint")
-        .about("Tells all that is wrong with profiles, and gives hints")
-        .after_help(LINT_EXPLANATION)
-        .arg(
-            required(alloc, "PROFILE", help)
-                .num_args(1..)
-                .action(ArgAction::Append),
-        )
-}
+pub(crate) const PROFILE_LINT: &CommandRow = &CommandRow {
+    name: "lint",
+    about: "Tells all that is wrong with profiles, and gives hints",
+    explanation: LINT_EXPLANATION,
+    words: &[WordRow {
+        id: "PROFILE",
+        need: Need::Always,
+        count: Count::Several("PROFILE"),
+        help: "A profile: the path of its text, or @A, @B, @C or @D for a built-in sample",
+    }],
+    options: &[],
+};
 
 /// The words of the command `profile show`.
-pub fn show_command<'a>(alloc: Global) -> Result<Command<'a>, AllocError> {
-    Command::new(alloc, "show")
-        .about("Shows a profile to people")
-        .after_help(SHOW_EXPLANATION)
-        .arg(profile(alloc))
-}
+pub(crate) const PROFILE_SHOW: &CommandRow = &CommandRow {
+    name: "show",
+    about: "Shows a profile to people",
+    explanation: SHOW_EXPLANATION,
+    words: &[PROFILE],
+    options: &[],
+};
 
 /// The words of the command `profile sheet`.
-pub fn sheet_command<'a>(alloc: Global) -> Result<Command<'a>, AllocError> {
-    Command::new(alloc, "sheet")
-        .about("Writes a job to print, by which a printer is compared with its profile")
-        .after_help(SHEET_EXPLANATION)
-        .arg(profile(alloc))?
-        .arg(out(alloc))
-}
+pub(crate) const PROFILE_SHEET: &CommandRow = &CommandRow {
+    name: "sheet",
+    about: "Writes a job to print, by which a printer is compared with its profile",
+    explanation: SHEET_EXPLANATION,
+    words: &[PROFILE, OUT],
+    options: &[],
+};
 
 /// The words of the command `profile from-pjl`.
-pub fn from_pjl_command<'a>(alloc: Global) -> Result<Command<'a>, AllocError> {
-    let base = Arg::new(alloc, "BASE").action(ArgAction::Set).help(
-        "The profile that the answer is put into: its path, or @A, @B, @C or @D",
-    );
-    let help = "The path of the printer's answer, or - for standard input";
-    Command::new(alloc, "from-pjl")
-        .about("Writes the text of a profile after a printer's own answer")
-        .after_help(FROM_PJL_EXPLANATION)
-        .arg(required(alloc, "ANSWER", help))?
-        .arg(base)
-}
+pub(crate) const PROFILE_FROM_PJL: &CommandRow = &CommandRow {
+    name: "from-pjl",
+    about: "Writes the text of a profile after a printer's own answer",
+    explanation: FROM_PJL_EXPLANATION,
+    words: &[
+        WordRow {
+            id: "ANSWER",
+            need: Need::Always,
+            count: Count::One,
+            help: "The path of the printer's answer, or - for standard input",
+        },
+        WordRow {
+            id: "BASE",
+            need: Need::Never,
+            count: Count::One,
+            help: "The profile that the answer is put into: its path, or @A, @B, @C or @D",
+        },
+    ],
+    options: &[],
+};
 
 /// The request of the words behind `profile`, where they name one of these commands.
 pub fn tool_request<'a>(
@@ -110,8 +123,7 @@ pub fn tool_request<'a>(
     ensures { IfOk result (λ request. IfSome request NamesSome) }
 {
     if let Some(found) = found.subcommand_matches("lint") {
-        let mut profiles = Vec::new(alloc);
-        profiles.extend_from_slice(found.get_strs("PROFILE").unwrap_or(&[]))?;
+        let profiles = texts_of(alloc, found, "PROFILE")?;
         return Ok(Some(Request::ProfileLint { profiles }));
     }
     Ok(text_tool_request(found))
@@ -122,15 +134,12 @@ fn text_tool_request<'a>(found: &ArgMatches<'a>) -> Option<Request<'a>>
     ensures { IfSome result NamesSome }
 {
     if let Some(found) = found.subcommand_matches("show") {
-        return Some(Request::ProfileShow {
-            profile: found.get_str("PROFILE")?,
-        });
+        let profile = found.get_str("PROFILE")?;
+        return Some(Request::ProfileShow { profile });
     }
     if let Some(found) = found.subcommand_matches("sheet") {
-        return Some(Request::ProfileSheet {
-            profile: found.get_str("PROFILE")?,
-            out: found.get_str("OUT")?,
-        });
+        let (profile, out) = both_texts(found, "PROFILE", "OUT")?;
+        return Some(Request::ProfileSheet { profile, out });
     }
     let found = found.subcommand_matches("from-pjl")?;
     Some(Request::ProfileFromPjl {

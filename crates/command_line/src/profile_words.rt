@@ -1,13 +1,11 @@
-//! The words of the commands `profile list` and `profile new`.
+//! The words of the commands `profile list` and `profile new`, and the command above them.
 ghost use Rattle.std.specs.Prelude.{IfOk, IfSome};
 ghost use Rattle.requests.specs.Words.{NamesSome};
 
-use crate::profile_tool_words::{
-    from_pjl_command, lint_command, sheet_command, show_command, tool_request,
-};
-use crate::text_commands::{required, with_command};
-use clap::builder::ValueParser;
-use clap::{Arg, ArgAction, ArgMatches, Command};
+use crate::profile_tool_words::tool_request;
+use crate::rows::{CommandRow, Count, Need, OptionRow, Value, WordRow};
+use crate::texts::texts_of;
+use clap::ArgMatches;
 use printer_models::PanelLists;
 use requests::{NewProfile, Request};
 use std::alloc::{AllocError, Global};
@@ -71,57 +69,57 @@ Exit status:
 /// The words of the panels.
 const PANELS: &[&str] = &["fixed", "free"];
 
-fn model<'a>(alloc: Global) -> Arg<'a> {
-    let help = "The model of the printer, by its name in 'pclcheck profile list'";
-    required(alloc, "MODEL", help)
-}
+/// The command `profile`, which others stand below.
+pub(crate) const PROFILE_COMMANDS: &CommandRow = &CommandRow {
+    name: "profile",
+    about: "Makes, checks and shows profiles of printers",
+    explanation: PROFILE_EXPLANATION,
+    words: &[],
+    options: &[],
+};
 
-fn size<'a>(alloc: Global) -> Arg<'a> {
-    Arg::new(alloc, "SIZE")
-        .long("size")
-        .value_name("PAPER,..")
-        .value_delimiter(',')
-        .action(ArgAction::Set)
-        .help("The papers that are in the printer; without it letter and a4")
-}
+/// The words of the command `profile list`.
+pub(crate) const PROFILE_LIST: &CommandRow = &CommandRow {
+    name: "list",
+    about: "Lists the models of which there are profiles, and their papers",
+    explanation: LIST_EXPLANATION,
+    words: &[],
+    options: &[],
+};
 
-fn panel<'a>(alloc: Global) -> Arg<'a> {
-    Arg::new(alloc, "PANEL")
-        .long("panel")
-        .action(ArgAction::Set)
-        .value_parser(ValueParser::Names(PANELS))
-        .default_value("fixed")
-        .help("Whether people change what the panel has")
-}
-
-fn list_command<'a>(alloc: Global) -> Command<'a> {
-    Command::new(alloc, "list")
-        .about("Lists the models of which there are profiles, and their papers")
-        .after_help(LIST_EXPLANATION)
-}
-
-fn new_command<'a>(alloc: Global) -> Result<Command<'a>, AllocError> {
-    Command::new(alloc, "new")
-        .about("Writes the text of a profile of a model")
-        .after_help(NEW_EXPLANATION)
-        .arg(model(alloc))?
-        .arg(size(alloc))?
-        .arg(panel(alloc))
-}
-
-/// The words of the command `profile`.
-pub fn profile_command<'a>(alloc: Global) -> Result<Command<'a>, AllocError> {
-    let command = Command::new(alloc, "profile")
-        .about("Makes, checks and shows profiles of printers")
-        .after_help(PROFILE_EXPLANATION)
-        .subcommand_required(true)
-        .subcommand(list_command(alloc))?;
-    let command = with_command(command, new_command(alloc))?;
-    let command = with_command(command, lint_command(alloc))?;
-    let command = with_command(command, show_command(alloc))?;
-    let command = with_command(command, sheet_command(alloc))?;
-    with_command(command, from_pjl_command(alloc))
-}
+/// The words of the command `profile new`.
+pub(crate) const PROFILE_NEW: &CommandRow = &CommandRow {
+    name: "new",
+    about: "Writes the text of a profile of a model",
+    explanation: NEW_EXPLANATION,
+    words: &[WordRow {
+        id: "MODEL",
+        need: Need::Always,
+        count: Count::One,
+        help: "The model of the printer, by its name in 'pclcheck profile list'",
+    }],
+    options: &[
+        OptionRow {
+            id: "SIZE",
+            short: None,
+            long: "size",
+            value: Value::List("PAPER,.."),
+            excludes: None,
+            help: "The papers that are in the printer; without it letter and a4",
+        },
+        OptionRow {
+            id: "PANEL",
+            short: None,
+            long: "panel",
+            value: Value::OneOf {
+                words: PANELS,
+                usual: Some("fixed"),
+            },
+            excludes: None,
+            help: "Whether people change what the panel has",
+        },
+    ],
+};
 
 /// The request of the words behind `profile`.
 pub fn profile_request<'a>(
@@ -133,14 +131,20 @@ pub fn profile_request<'a>(
     if found.subcommand_matches("list").is_some() {
         return Ok(Some(Request::ProfileList));
     }
-    let Some(found) = found.subcommand_matches("new") else {
-        return tool_request(alloc, found);
-    };
+    match found.subcommand_matches("new") {
+        Some(found) => new_request(alloc, found),
+        None => tool_request(alloc, found),
+    }
+}
+
+/// The request of the words behind `profile new`.
+fn new_request<'a>(alloc: Global, found: &ArgMatches<'a>) -> Result<Option<Request<'a>>, AllocError>
+    ensures { IfOk result (λ request. IfSome request NamesSome) }
+{
     let Some(model) = found.get_str("MODEL") else {
         return Ok(None);
     };
-    let mut papers = Vec::new(alloc);
-    papers.extend_from_slice(found.get_strs("SIZE").unwrap_or(&[]))?;
+    let papers = texts_of(alloc, found, "SIZE")?;
     Ok(Some(Request::ProfileNew(NewProfile {
         model,
         papers,

@@ -2,10 +2,12 @@
 ghost use Rattle.std.specs.Prelude.{IfOk, IfSome};
 ghost use Rattle.requests.specs.Words.{NamesSome};
 
-use crate::panel_words::{ChoiceFault, read_choices};
-use clap::{Arg, ArgAction, ArgMatches, Command};
+use crate::panel_words::{ChoiceFault, choices_of};
+use crate::rows::{CommandRow, Count, Need, OptionRow, Value, WordRow};
+use crate::texts::both_texts;
+use clap::ArgMatches;
 use requests::Request;
-use std::alloc::{AllocError, Global};
+use std::alloc::Global;
 
 const LIST_EXPLANATION: &str = "Output, a line for each item:
   PLACE SPELLING           the number of bytes before the item, and its canonical spelling, in which
@@ -91,92 +93,81 @@ Exit status:
   2  usage error, a value that the profile does not list, or the profile is refused
   3  a read or a write failed, memory ran out, or no end after 2^40 reads";
 
-/// A command with one more below it.
-pub(crate) fn with_command<'a>(
-    command: Command<'a>,
-    below: Result<Command<'a>, AllocError>,
-) -> Result<Command<'a>, AllocError> {
-    command.subcommand(below?)
-}
-
-/// A word that has to come.
-pub(crate) fn required<'a>(alloc: Global, name: &'a str, help: &'a str) -> Arg<'a> {
-    Arg::new(alloc, name)
-        .required(true)
-        .action(ArgAction::Set)
-        .help(help)
-}
-
 /// The word JOB, which each command but `explain` takes.
-pub fn job<'a>(alloc: Global) -> Arg<'a> {
-    required(alloc, "JOB", "The path of the print job")
-}
+pub(crate) const JOB: WordRow = WordRow {
+    id: "JOB",
+    need: Need::Always,
+    count: Count::One,
+    help: "The path of the print job",
+};
 
 /// The word PROFILE of the commands for one printer.
-pub fn profile<'a>(alloc: Global) -> Arg<'a> {
-    let help = "The printer: the path of its profile, or @A, @B, @C or @D for a built-in sample";
-    required(alloc, "PROFILE", help)
-}
+pub(crate) const PROFILE: WordRow = WordRow {
+    id: "PROFILE",
+    need: Need::Always,
+    count: Count::One,
+    help: "The printer: the path of its profile, or @A, @B, @C or @D for a built-in sample",
+};
 
 /// The word OUT of the commands that write a job.
-pub fn out<'a>(alloc: Global) -> Arg<'a> {
-    required(alloc, "OUT", "The path of the file to write")
-}
-
-/// The option `--panel`.
-fn panel<'a>(alloc: Global) -> Arg<'a> {
-    Arg::new(alloc, "PANEL")
-        .long("panel")
-        .value_name("FIELD=VALUE,..")
-        .action(ArgAction::Set)
-        .help("Pins to these values of the panel; each field that is not named has its first value")
-}
+pub(crate) const OUT: WordRow = WordRow {
+    id: "OUT",
+    need: Need::Always,
+    count: Count::One,
+    help: "The path of the file to write",
+};
 
 /// The words of the command `list`.
-pub fn list_command<'a>(alloc: Global) -> Result<Command<'a>, AllocError> {
-    Command::new(alloc, "list")
-        .about("Lists the items of a job: each command, control code and byte of text")
-        .after_help(LIST_EXPLANATION)
-        .arg(job(alloc))
-}
+pub(crate) const LIST: &CommandRow = &CommandRow {
+    name: "list",
+    about: "Lists the items of a job: each command, control code and byte of text",
+    explanation: LIST_EXPLANATION,
+    words: &[JOB],
+    options: &[],
+};
 
 /// The words of the command `pages`.
-pub fn pages_command<'a>(alloc: Global) -> Result<Command<'a>, AllocError> {
-    Command::new(alloc, "pages")
-        .about("Writes what a job marks on its pages, from the first panel setting of a printer")
-        .after_help(PAGES_EXPLANATION)
-        .arg(job(alloc))?
-        .arg(profile(alloc))
-}
+pub(crate) const PAGES: &CommandRow = &CommandRow {
+    name: "pages",
+    about: "Writes what a job marks on its pages, from the first panel setting of a printer",
+    explanation: PAGES_EXPLANATION,
+    words: &[JOB, PROFILE],
+    options: &[],
+};
 
 /// The words of the command `notes`.
-pub fn notes_command<'a>(alloc: Global) -> Result<Command<'a>, AllocError> {
-    Command::new(alloc, "notes")
-        .about("Tells what a job leaves to a printer, though it passes")
-        .after_help(NOTES_EXPLANATION)
-        .arg(job(alloc))?
-        .arg(profile(alloc))
-}
+pub(crate) const NOTES: &CommandRow = &CommandRow {
+    name: "notes",
+    about: "Tells what a job leaves to a printer, though it passes",
+    explanation: NOTES_EXPLANATION,
+    words: &[JOB, PROFILE],
+    options: &[],
+};
 
 /// The words of the command `plain`.
-pub fn plain_command<'a>(alloc: Global) -> Result<Command<'a>, AllocError> {
-    Command::new(alloc, "plain")
-        .about("Writes a job again, with each item in its canonical spelling")
-        .after_help(PLAIN_EXPLANATION)
-        .arg(job(alloc))?
-        .arg(out(alloc))
-}
+pub(crate) const PLAIN: &CommandRow = &CommandRow {
+    name: "plain",
+    about: "Writes a job again, with each item in its canonical spelling",
+    explanation: PLAIN_EXPLANATION,
+    words: &[JOB, OUT],
+    options: &[],
+};
 
 /// The words of the command `pin`.
-pub fn pin_command<'a>(alloc: Global) -> Result<Command<'a>, AllocError> {
-    Command::new(alloc, "pin")
-        .about("Writes a job again, pinned to one panel setting of a printer")
-        .after_help(PIN_EXPLANATION)
-        .arg(job(alloc))?
-        .arg(profile(alloc))?
-        .arg(out(alloc))?
-        .arg(panel(alloc))
-}
+pub(crate) const PIN: &CommandRow = &CommandRow {
+    name: "pin",
+    about: "Writes a job again, pinned to one panel setting of a printer",
+    explanation: PIN_EXPLANATION,
+    words: &[JOB, PROFILE, OUT],
+    options: &[OptionRow {
+        id: "PANEL",
+        short: None,
+        long: "panel",
+        value: Value::Text("FIELD=VALUE,.."),
+        excludes: None,
+        help: "Pins to these values of the panel; each field that is not named has its first value",
+    }],
+};
 
 /// The request of the words behind `pin`.
 pub fn pin_request<'a>(
@@ -185,17 +176,13 @@ pub fn pin_request<'a>(
 ) -> Result<Option<Request<'a>>, ChoiceFault<'a>>
     ensures { IfOk result (λ request. IfSome request NamesSome) }
 {
-    let (Some(job), Some(profile), Some(out)) = (
-        found.get_str("JOB"),
-        found.get_str("PROFILE"),
-        found.get_str("OUT"),
-    ) else {
+    let Some((job, profile)) = both_texts(found, "JOB", "PROFILE") else {
         return Ok(None);
     };
-    let choices = match found.get_str("PANEL") {
-        Some(words) => read_choices(alloc, words)?,
-        None => Vec::new(alloc),
+    let Some(out) = found.get_str("OUT") else {
+        return Ok(None);
     };
+    let choices = choices_of(alloc, found)?;
     Ok(Some(Request::Pin {
         job,
         profile,
@@ -209,25 +196,18 @@ pub fn text_request<'a>(matches: &ArgMatches<'a>) -> Option<Request<'a>>
     ensures { IfSome result NamesSome }
 {
     if let Some(found) = matches.subcommand_matches("list") {
-        return Some(Request::List {
-            job: found.get_str("JOB")?,
-        });
+        let job = found.get_str("JOB")?;
+        return Some(Request::List { job });
     }
     if let Some(found) = matches.subcommand_matches("pages") {
-        return Some(Request::Pages {
-            job: found.get_str("JOB")?,
-            profile: found.get_str("PROFILE")?,
-        });
+        let (job, profile) = both_texts(found, "JOB", "PROFILE")?;
+        return Some(Request::Pages { job, profile });
     }
     if let Some(found) = matches.subcommand_matches("notes") {
-        return Some(Request::Notes {
-            job: found.get_str("JOB")?,
-            profile: found.get_str("PROFILE")?,
-        });
+        let (job, profile) = both_texts(found, "JOB", "PROFILE")?;
+        return Some(Request::Notes { job, profile });
     }
     let found = matches.subcommand_matches("plain")?;
-    Some(Request::Plain {
-        job: found.get_str("JOB")?,
-        out: found.get_str("OUT")?,
-    })
+    let (job, out) = both_texts(found, "JOB", "OUT")?;
+    Some(Request::Plain { job, out })
 }

@@ -3,70 +3,17 @@ ghost use Rattle.std.specs.Prelude.{◌≡◌, ◌≢◌, IsFalse, OnOk, IfOk, I
 ghost use Rattle.command_line.specs.Words.{IsEndOfWords};
 ghost use Rattle.requests.specs.Words.{KeepsWhatItReads, NamesSome};
 
-use crate::check_words::{EXPLANATION, check_args, check_request};
+use crate::check_words::check_request;
+use crate::commands::command;
 use crate::panel_words::ChoiceFault;
-use crate::picture_words::{picture_command, picture_request};
-use crate::profile_words::{profile_command, profile_request};
-use crate::text_commands::{
-    list_command, notes_command, pages_command, pin_command, pin_request, plain_command,
-    text_request, with_command,
-};
+use crate::picture_words::picture_request;
+use crate::profile_words::profile_request;
+use crate::text_commands::{pin_request, text_request};
+use clap::ArgMatches;
 use clap::error::ErrorKind;
-use clap::{Arg, ArgAction, ArgMatches, Command};
 use requests::{Input, Request, Status};
-use std::alloc::{AllocError, Global};
+use std::alloc::Global;
 use streams::{Error, Outlet, write_text};
-
-const VERSION: &str = "0.1.0";
-
-const EXPLAIN_EXPLANATION: &str =
-    "CODE is a number, or a name without what stands behind it in brackets, in any letter case.
-
-Exit status:
-  0  an explanation was written, or help was asked for
-  2  usage error, or no fault, finding or note has this code
-  3  a write failed, or memory ran out";
-
-/// The words of the command `explain`.
-fn explain_command<'a>(alloc: Global) -> Result<Command<'a>, AllocError> {
-    let code = Arg::new(alloc, "CODE").action(ArgAction::Set).help(
-        "The fault, finding or note, by its number or its name; without it, all",
-    );
-    Command::new(alloc, "explain")
-        .about(
-            "Tells when a fault, finding or note comes, and what to change in the job or the profile",
-        )
-        .after_help(EXPLAIN_EXPLANATION)
-        .arg(code)
-}
-
-/// The command line of the program.
-fn command<'a>(alloc: Global) -> Result<Command<'a>, AllocError> {
-    let command = Command::new(alloc, "pclcheck")
-        .version(VERSION)
-        .about("A preflight checker for PCL 5 print jobs")
-        .after_help(EXPLANATION)
-        .subcommand_required(true);
-    let command = with_checks(alloc, command)?;
-    with_copies(alloc, command)
-}
-
-/// Adds what checks a job, and what shows what is in it.
-fn with_checks<'a>(alloc: Global, command: Command<'a>) -> Result<Command<'a>, AllocError> {
-    let command = with_command(command, check_args(alloc))?;
-    let command = with_command(command, list_command(alloc))?;
-    let command = with_command(command, pages_command(alloc))?;
-    let command = with_command(command, picture_command(alloc))?;
-    with_command(command, notes_command(alloc))
-}
-
-/// Adds what writes a job again, what explains, and what is done with profiles.
-fn with_copies<'a>(alloc: Global, command: Command<'a>) -> Result<Command<'a>, AllocError> {
-    let command = with_command(command, plain_command(alloc))?;
-    let command = with_command(command, pin_command(alloc))?;
-    let command = with_command(command, explain_command(alloc))?;
-    with_command(command, profile_command(alloc))
-}
 
 /// What the words ask for; the first is the program's own name. Where they ask for help or for the
 /// version, that is written on standard output, and where they are wrong, the reason on standard

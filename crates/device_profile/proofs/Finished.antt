@@ -23,7 +23,7 @@ is_valid-sound draft s complete pages choices =
     let sized : Bool = list_all (λ size. has_size draft.geometries size) draft.choices.sizes in
     let turned : Bool = list_all (λ orientation. has_orientation draft.geometries orientation) draft.choices.orientations in
     let faced : Bool = list_all (λ font. has_face draft.faces font) draft.choices.fonts in
-    let held : Bool = list_all (λ tray. list_any (λ held. held == tray) draft.device_trays) draft.choices.trays in
+    let held : Bool = list_all (λ tray. list_any (λ held. held == tray) draft.device_trays) draft.choices.panel_trays in
     let sided : Bool = list_all (are_sides (is_duplex draft)) draft.choices.sides in
     let p2 = and_parts (sized && turned) (has_every_pair draft.geometries) pages in
     let p1 = and_parts sized turned p2.0 in

@@ -12,7 +12,7 @@ choices_of p = record {
   fonts = p.fonts;
   copies = p.copies;
   sides = p.sides;
-  trays = p.trays;
+  panel_trays = p.panel_trays;
   line_terminations = p.line_terminations;
 }
 
@@ -25,7 +25,7 @@ like_printers p q choices limit pages faces = λ i. record q {
   fonts = (choices i).fonts;
   copies = (choices i).copies;
   sides = (choices i).sides;
-  trays = (choices i).trays;
+  panel_trays = (choices i).panel_trays;
   line_terminations = (choices i).line_terminations;
   most_items = limit i;
   geometries = pages i;

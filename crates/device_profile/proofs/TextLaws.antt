@@ -159,7 +159,7 @@ pages_too a b s pages =
 choices_too : (a b : Draft) → IsSimilar a b → IsTrue (has_its_choices a) → IsTrue (has_its_choices b)
 unfolding has_face
 choices_too a b s choices =
-    let rest : Draft → Bool = λ d. list_all (λ tray. list_any (λ held. held == tray) d.device_trays) d.choices.trays in
+    let rest : Draft → Bool = λ d. list_all (λ tray. list_any (λ held. held == tray) d.device_trays) d.choices.panel_trays in
     let sided : Draft → Bool = λ d. list_all (are_sides (is_duplex d)) d.choices.sides in
     let faced : Bool = list_all (λ font. has_face a.faces font) a.choices.fonts in
     let p = and_parts (faced && rest a) (sided a) choices in

@@ -60,7 +60,7 @@ pub record Valid (printer : Printer) : Type 0 where
   pub sized : IsTrue (list_all (λ size. has_size printer.geometries size) printer.sizes)
   pub turned : IsTrue (list_all (λ orientation. has_orientation printer.geometries orientation) printer.orientations)
   pub faced : IsTrue (list_all (λ font. has_face printer.faces font) printer.fonts)
-  pub held : IsTrue (list_all (λ tray. has_tray printer tray) printer.trays)
+  pub held : IsTrue (list_all (λ tray. has_tray printer tray) printer.panel_trays)
   pub sided : IsTrue (list_all (are_sides printer.has_duplex) printer.sides)
   pub pairs : IsTrue (has_every_pair printer.geometries)
   pub pages : IsTrue (list_all is_page printer.geometries)
@@ -87,7 +87,7 @@ all_listed printer choices field =
       | Font ↦ listed Font printer.fonts c3.1
       | Copies ↦ listed Copies printer.copies c4.1
       | Sides ↦ listed Sides printer.sides c5.1
-      | Tray ↦ listed Tray printer.trays c6.1
+      | Tray ↦ listed Tray printer.panel_trays c6.1
       | LineTerm ↦ listed LineTerm printer.line_terminations c7.1
     ]
 
@@ -141,7 +141,7 @@ IsAllowed-first_panel printer valid =
       font = first-Contains Font printer.fonts (parts.values Font);
       copies = first-Contains Copies printer.copies (parts.values Copies);
       sides = first-Contains Sides printer.sides (parts.values Sides);
-      tray = first-Contains Tray printer.trays (parts.values Tray);
+      tray = first-Contains Tray printer.panel_trays (parts.values Tray);
       line_termination = first-Contains LineTerm printer.line_terminations (parts.values LineTerm);
     }
 
@@ -160,7 +160,7 @@ has_its_values printer panel valid allowed =
       vmi = value-listed Vmi printer.vmis panel.vmi (parts.values Vmi) allowed.vmi;
       copies = value-listed Copies printer.copies panel.copies (parts.values Copies) allowed.copies;
       sides = value-listed Sides printer.sides panel.sides (parts.values Sides) allowed.sides;
-      tray = value-listed Tray printer.trays panel.tray (parts.values Tray) allowed.tray;
+      tray = value-listed Tray printer.panel_trays panel.tray (parts.values Tray) allowed.tray;
       line_termination =
           value-listed LineTerm printer.line_terminations panel.line_termination (parts.values LineTerm) allowed.line_termination;
     }
@@ -177,7 +177,7 @@ HasPages-valid printer valid panel allowed =
 -- each panel that a valid printer may have has a tray
 pub HasTrays-valid : (printer : Printer) → IsTrue (is_valid printer) → HasTrays printer
 HasTrays-valid printer valid panel allowed =
-    passes-at (λ tray. has_tray printer tray) printer.trays panel.tray ((valid_parts printer valid).held) allowed.tray
+    passes-at (λ tray. has_tray printer tray) printer.panel_trays panel.tray ((valid_parts printer valid).held) allowed.tray
 
 page_fits : (row : Geometry) → IsTrue (is_page row) → IsTrue (fits_page row)
 page_fits row is = (and_parts (is_value Size row.size && is_value Orientation row.orientation) (fits_page row) is).1
@@ -241,7 +241,7 @@ CanBeSet-valid printer valid panel allowed =
           passes-at (λ orientation. has_orientation printer.geometries orientation) printer.orientations panel.orientation
           parts.turned allowed.orientation;
       sides = passes-at (are_sides printer.has_duplex) printer.sides panel.sides parts.sided allowed.sides;
-      tray = passes-at (λ tray. has_tray printer tray) printer.trays panel.tray parts.held allowed.tray;
+      tray = passes-at (λ tray. has_tray printer tray) printer.panel_trays panel.tray parts.held allowed.tray;
       request =
           some_and (λ face. IsTrue (is_request face.request)) (face_at printer.faces panel.font)
           (IsSome-find (λ (face : Face). face.id == panel.font) printer.faces

@@ -10,6 +10,6 @@ choices_of_fields c = record {
   fonts = c.fonts.items;
   copies = c.copies.items;
   sides = c.sides.items;
-  trays = c.trays.items;
+  panel_trays = c.panel_trays.items;
   line_terminations = c.line_terminations.items;
 }

@@ -12,7 +12,7 @@ pub record Choices : Type 0 where
   pub fonts : List ℕ
   pub copies : List ℕ
   pub sides : List ℕ
-  pub trays : List ℕ
+  pub panel_trays : List ℕ
   pub line_terminations : List ℕ
 
 -- no field has values
@@ -24,7 +24,7 @@ no_choices = record {
   fonts = [];
   copies = [];
   sides = [];
-  trays = [];
+  panel_trays = [];
   line_terminations = [];
 }
 
@@ -36,7 +36,7 @@ values_in choices Vmi = choices.vmis
 values_in choices Font = choices.fonts
 values_in choices Copies = choices.copies
 values_in choices Sides = choices.sides
-values_in choices Tray = choices.trays
+values_in choices Tray = choices.panel_trays
 values_in choices LineTerm = choices.line_terminations
 
 -- these values for a field, and the others as they are

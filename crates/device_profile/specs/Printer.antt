@@ -22,7 +22,7 @@ pub record Printer : Type 0 where
   pub fonts : List ℕ
   pub copies : List ℕ
   pub sides : List ℕ
-  pub trays : List ℕ
+  pub panel_trays : List ℕ
   pub line_terminations : List ℕ
   pub device_trays : List ℕ
   pub has_duplex : Bool
@@ -40,7 +40,7 @@ values_of printer Vmi = printer.vmis
 values_of printer Font = printer.fonts
 values_of printer Copies = printer.copies
 values_of printer Sides = printer.sides
-values_of printer Tray = printer.trays
+values_of printer Tray = printer.panel_trays
 values_of printer LineTerm = printer.line_terminations
 
 -- the panel may have one value in this field
@@ -59,7 +59,7 @@ pub record IsAllowed (printer : Printer) (panel : Panel) : Type 0 where
   pub font : Contains printer.fonts panel.font
   pub copies : Contains printer.copies panel.copies
   pub sides : Contains printer.sides panel.sides
-  pub tray : Contains printer.trays panel.tray
+  pub tray : Contains printer.panel_trays panel.tray
   pub line_termination : Contains printer.line_terminations panel.line_termination
 
 -- the first value of each list
@@ -71,7 +71,7 @@ first_panel printer = record {
   font = slice_index printer.fonts 0;
   copies = slice_index printer.copies 0;
   sides = slice_index printer.sides 0;
-  tray = slice_index printer.trays 0;
+  tray = slice_index printer.panel_trays 0;
   line_termination = slice_index printer.line_terminations 0;
 }
 
@@ -135,7 +135,7 @@ abbrev pub has_choices : Printer → Bool
 has_choices printer =
     are_choices Size printer.sizes && are_choices Orientation printer.orientations && are_choices Vmi printer.vmis
     && are_choices Font printer.fonts && are_choices Copies printer.copies && are_choices Sides printer.sides
-    && are_choices Tray printer.trays && are_choices LineTerm printer.line_terminations
+    && are_choices Tray printer.panel_trays && are_choices LineTerm printer.line_terminations
     && are_choices Tray printer.device_trays
 
 -- whether the device has this tray
@@ -153,7 +153,7 @@ has_what_it_offers printer =
     list_all (λ size. has_size printer.geometries size) printer.sizes
     && list_all (λ orientation. has_orientation printer.geometries orientation) printer.orientations
     && list_all (λ font. has_face printer.faces font) printer.fonts
-    && list_all (λ tray. has_tray printer tray) printer.trays
+    && list_all (λ tray. has_tray printer tray) printer.panel_trays
 
 -- one side, or both where the device has duplex
 abbrev pub are_sides : Bool → ℕ → Bool

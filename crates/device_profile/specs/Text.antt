@@ -83,7 +83,7 @@ is_duplex draft = unwrap_or draft.duplex 0 == 1
 abbrev pub has_its_choices : Draft → Bool
 has_its_choices draft =
     list_all (λ font. has_face draft.faces font) draft.choices.fonts
-    && list_all (λ tray. list_any (λ held. held == tray) draft.device_trays) draft.choices.trays
+    && list_all (λ tray. list_any (λ held. held == tray) draft.device_trays) draft.choices.panel_trays
     && list_all (are_sides (is_duplex draft)) draft.choices.sides
 
 -- the printer of what was given
@@ -95,7 +95,7 @@ printer_of_draft draft = record {
   fonts = draft.choices.fonts;
   copies = draft.choices.copies;
   sides = draft.choices.sides;
-  trays = draft.choices.trays;
+  panel_trays = draft.choices.panel_trays;
   line_terminations = draft.choices.line_terminations;
   device_trays = draft.device_trays;
   has_duplex = is_duplex draft;

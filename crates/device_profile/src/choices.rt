@@ -14,7 +14,7 @@ pub(crate) struct Choices<A: Allocator> {
     fonts: Vec<u32, A>,
     copies: Vec<u32, A>,
     sides: Vec<u32, A>,
-    trays: Vec<u32, A>,
+    panel_trays: Vec<u32, A>,
     line_terminations: Vec<u32, A>,
 }
 
@@ -45,7 +45,7 @@ impl<A: Allocator> Choices<A> {
             fonts: Vec::new(alloc),
             copies: Vec::new(alloc),
             sides: Vec::new(alloc),
-            trays: Vec::new(alloc),
+            panel_trays: Vec::new(alloc),
             line_terminations: Vec::new(alloc),
         }
     }
@@ -62,7 +62,7 @@ impl<A: Allocator> Choices<A> {
             Field::Font => self.fonts.as_slice(),
             Field::Copies => self.copies.as_slice(),
             Field::Sides => self.sides.as_slice(),
-            Field::Tray => self.trays.as_slice(),
+            Field::Tray => self.panel_trays.as_slice(),
             Field::LineTerm => self.line_terminations.as_slice(),
         }
     }
@@ -86,7 +86,7 @@ impl<A: Allocator> Choices<A> {
             Field::Font => self.fonts = values,
             Field::Copies => self.copies = values,
             Field::Sides => self.sides = values,
-            Field::Tray => self.trays = values,
+            Field::Tray => self.panel_trays = values,
             Field::LineTerm => self.line_terminations = values,
         }
     }

@@ -187,7 +187,7 @@ impl<A: Allocator> Profile<A> {
     }
 
     /// The trays of the device, as `ESC &l#H` numbers them, in the profile's order.
-    pub fn trays(&self) -> &[u32]
+    pub fn device_trays(&self) -> &[u32]
         ensures { result.now ≡ self.now.device_trays }
     {
         &self.device_trays

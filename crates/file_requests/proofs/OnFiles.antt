@@ -1,23 +1,32 @@
 -- What commands leave on files that are new.
-use Rattle.std.proofs.Common.{◌≡◌, ◌||◌, ℕ, Bool, IsTrue, List, [], Option, false, refl, subst, sym, true}
+use Rattle.std.proofs.Common.{◌≡◌, ◌⊎◌, ◌||◌, ◌++◌, ◌∷◌, ℕ, Bool, IsTrue, List, [], Option, false, refl, subst, sym, true}
 use Rattle.profile_commands.specs.ProfileFromPjl.{LeavesAnswered}
 use Rattle.profile_commands.specs.ProfileLint.{LeavesLint}
 use Rattle.profile_commands.specs.ProfileSheet.{LeavesSheet}
 use Rattle.profile_commands.specs.ProfileShow.{LeavesShown}
+use Rattle.picture_command.specs.Picture.{Around, HasNoEnd, IsNamedBy, LeavesPicture}
 use Rattle.renderings.specs.Due.{Rendering, plain_rendering}
+use Rattle.streams.specs.declared.error.Error.TheVariants.{Turns}
+use Rattle.streams.proofs.Uses.{one_more, one_read, one_written}
 use Rattle.streams.specs.Files.{no_outlet, no_source}
 use Rattle.streams.specs.Outlet.{OutletState}
 use Rattle.streams.specs.Source.{SourceState}
+use Rattle.streams.specs.Used.{FileUse, read_at, written_at}
 use Rattle.named_inputs.specs.Choices.{TellsOfPin}
-use Rattle.named_inputs.specs.Fleet.{IsNamed, RefusesBy}
+use Rattle.named_inputs.proofs.InputUses.{file_read, input_read}
+use Rattle.named_inputs.specs.FileJobs.{is_input, reads_named}
+use Rattle.named_inputs.specs.Fleet.{IsNamed, RefusesBy, RefusesOne, RefusesRead}
 use Rattle.named_inputs.specs.Texts.{text_named}
 use Rattle.requests.specs.Status.{is_stop_of_read, is_stop_of_write}
 use Rattle.requests.specs.declared.choices.Choice.{Choice}
+use Rattle.requests.specs.declared.selection.Selection.{Selection}
 use Rattle.requests.specs.declared.status.Status.{Status}
+use Rattle.requests.specs.declared.status.Status.TheVariants.{Stopped}
 use Rattle.subcommands.specs.Check.{IsRightFor, Leaves, texts_by}
 use Rattle.subcommands.specs.JobNotes.{LeavesNotes}
 use Rattle.subcommands.specs.JobTexts.{EndsBy, LeavesOut, LeavesPages, LeavesPinned, LeavesText}
-use Rattle.file_requests.specs.JobRequests.{LeavesCheck, LeavesNotesFor, LeavesPagesFor, LeavesPin, LeavesPlain, LeavesRendered}
+use Rattle.file_requests.specs.JobRequests.{LeavesCheck, LeavesNotesFor, LeavesPagesFor, LeavesPictureOfFile, LeavesPin}
+use Rattle.file_requests.specs.JobRequests.{LeavesPlain, LeavesRendered}
 use Rattle.file_requests.specs.ProfileRequests.{LeavesAnsweredFor, LeavesLintFor, LeavesSheetFor, LeavesShownFor}
 
 -- ---- profiles
@@ -39,39 +48,62 @@ shown_left word given texts failed status out out' err err' none left = record {
   left = subst (λ g. LeavesShown (text_named word) word g texts failed status out out' err err') none left;
 }
 
-pub sheet_left : (word : List ℕ) (given texts : List (List ℕ)) (failed : Bool) (status : Status) (out file err err' : OutletState)
+pub sheet_left : (word into to : List ℕ) (given texts : List (List ℕ)) (failed : Bool) (status : Status)
+    (out file err err' : OutletState) (used used' : List FileUse)
     → given ≡ [] → out ≡ no_outlet → LeavesSheet (text_named word) word given texts failed status out file err err'
-    → LeavesSheetFor word status err err'
-sheet_left word given texts failed status out file err err' none new left = record {
+    → to ≡ into → used' ≡ used ++ written_at to file ∷ [] → LeavesSheetFor word into status used used' err err'
+sheet_left word into to given texts failed status out file err err' used used' none new left is written = record {
   texts = texts;
   failed = failed;
   file = file;
+  used_are = one_written used used' into to file is written;
   left =
       subst (λ o. LeavesSheet (text_named word) word [] texts failed status o file err err') new
       (subst (λ g. LeavesSheet (text_named word) word g texts failed status out file err err') none left);
 }
 
-pub answered_left : (answer : List ℕ) (base : Option (List ℕ)) (given texts : List (List ℕ)) (failed : Bool) (status : Status)
-    (source source' : SourceState) (out out' err err' : OutletState)
+answered_left : (answer : List ℕ) (base : Option (List ℕ)) (given texts : List (List ℕ)) (failed : Bool) (status : Status)
+    (source source' : SourceState) (out out' err err' : OutletState) (used used' : List FileUse)
     → given ≡ [] → source ≡ no_source → LeavesAnswered source source' text_named answer base given texts failed status out out' err err'
-    → LeavesAnsweredFor answer base status out out' err err'
-answered_left answer base given texts failed status source source' out out' err err' none new left = record {
+    → used' ≡ used ++ reads_named answer source' → LeavesAnsweredFor answer base status used used' out out' err err'
+answered_left answer base given texts failed status source source' out out' err err' used used' none new left uses = record {
   source = source';
   texts = texts;
   failed = failed;
   left =
       subst (λ s. LeavesAnswered s source' text_named answer base [] texts failed status out out' err err') new
       (subst (λ g. LeavesAnswered source source' text_named answer base g texts failed status out out' err err') none left);
+  used_are = uses;
 }
+
+-- so where the answer is standard input
+pub answered_by_input : (answer : List ℕ) (base : Option (List ℕ)) (given texts : List (List ℕ)) (failed : Bool) (status : Status)
+    (source source' : SourceState) (out out' err err' : OutletState) (used : List FileUse)
+    → given ≡ [] → source ≡ no_source → LeavesAnswered source source' text_named answer base given texts failed status out out' err err'
+    → is_input answer ≡ true → LeavesAnsweredFor answer base status used used out out' err err'
+answered_by_input answer base given texts failed status source source' out out' err err' used none new left is =
+    answered_left answer base given texts failed status source source' out out' err err' used used none new left
+    (input_read used answer source' is)
+
+-- and where it is a file
+pub answered_by_file : (answer at : List ℕ) (base : Option (List ℕ)) (given texts : List (List ℕ)) (failed : Bool) (status : Status)
+    (source source' : SourceState) (out out' err err' : OutletState) (used used' : List FileUse)
+    → given ≡ [] → source ≡ no_source → LeavesAnswered source source' text_named answer base given texts failed status out out' err err'
+    → is_input answer ≡ false → at ≡ answer → used' ≡ used ++ read_at at source' ∷ []
+    → LeavesAnsweredFor answer base status used used' out out' err err'
+answered_by_file answer at base given texts failed status source source' out out' err err' used used' none new left is place read =
+    answered_left answer base given texts failed status source source' out out' err err' used used' none new left
+    (file_read used used' answer at source' is place read)
 
 -- ---- jobs
 
 -- of files of which nothing was read
-pub check_left : (known known' : List (Option (List ℕ))) (given given' : List (List ℕ)) (before after : SourceState) (status : Status)
-    (out out' : OutletState) → known' ≡ known → given ≡ [] → before ≡ no_source
+pub check_left : (path at : List ℕ) (known known' : List (Option (List ℕ))) (given given' : List (List ℕ)) (before after : SourceState)
+    (status : Status) (out out' : OutletState) (used used' : List FileUse) → known' ≡ known → given ≡ [] → before ≡ no_source
     → Leaves status (IsRightFor (texts_by known' given given') before after) out out' → RefusesBy given given' status
-    → out'.failed ≡ is_stop_of_write status → LeavesCheck known status out out'
-check_left known known' given given' before after status out out' same none new line refused write = record {
+    → out'.failed ≡ is_stop_of_write status → at ≡ path → used' ≡ used ++ read_at at after ∷ []
+    → LeavesCheck path known status used used' out out'
+check_left path at known known' given given' before after status out out' used used' same none new line refused write is read = record {
   job = after;
   texts = given';
   line = subst (λ k. Leaves status (IsRightFor (texts_by k [] given') no_source after) out out') same
@@ -79,23 +111,30 @@ check_left known known' given given' before after status out out' same none new 
       (subst (λ s. Leaves status (IsRightFor (texts_by known' given given') s after) out out') new line));
   refused = subst (λ g. RefusesBy g given' status) none refused;
   write = write;
+  used_are = one_read used used' path at after is read;
 }
 
-pub rendered_left : (rendering : Rendering) (job job' : SourceState) (status : Status) (out out' : OutletState)
+pub rendered_left : (path at : List ℕ) (rendering : Rendering) (job job' : SourceState) (status : Status) (out out' : OutletState)
+    (used used' : List FileUse)
     → job ≡ no_source → EndsBy status (λ s s'. LeavesText status rendering s s' out out') job job' job'.failed out'.failed
-    → LeavesRendered rendering status out out'
-rendered_left rendering job job' status out out' new ends = record {
+    → at ≡ path → used' ≡ used ++ read_at at job' ∷ [] → LeavesRendered path rendering status used used' out out'
+rendered_left path at rendering job job' status out out' used used' new ends is read = record {
   job = job';
+  used_are = one_read used used' path at job' is read;
   ends = subst (λ s. EndsBy status (λ s s'. LeavesText status rendering s s' out out') s job' job'.failed out'.failed) new ends;
 }
 
-pub plain_left : (job job' : SourceState) (status : Status) (out out' file file' : OutletState)
+pub plain_left : (path into at to : List ℕ) (job job' : SourceState) (status : Status) (out out' file file' : OutletState)
+    (used between used' : List FileUse)
     → job ≡ no_source → file ≡ no_outlet
     → EndsBy status (λ s s'. LeavesOut status plain_rendering s s' file file' out out') job job' job'.failed (file'.failed || out'.failed)
-    → LeavesPlain status out out'
-plain_left job job' status out out' file file' new unwritten ends = record {
+    → at ≡ path → to ≡ into → between ≡ used ++ read_at at job' ∷ [] → used' ≡ between ++ written_at to file' ∷ []
+    → LeavesPlain path into status used used' out out'
+plain_left path into at to job job' status out out' file file' used between used' new unwritten ends is is_out read written = record {
   job = job';
   file = file';
+  used_are = one_more used between used' (read_at path job') (written_at into file')
+      (one_read used between path at job' is read) (one_written between used' into to file' is_out written);
   ends =
       subst
       (λ f. EndsBy status (λ s s'. LeavesOut status plain_rendering s s' f file' out out') no_source job' job'.failed
@@ -118,14 +157,15 @@ at_reads status Left job job' read_failed write_failed ends = record {
 }
 
 -- by a text of a profile, too, of which none was read
-pub pages_left : (word : List ℕ) (given texts : List (List ℕ)) (failed : Bool) (job job' : SourceState) (status : Status)
-    (out out' : OutletState)
+pub pages_left : (path at word : List ℕ) (given texts : List (List ℕ)) (failed : Bool) (job job' : SourceState) (status : Status)
+    (out out' : OutletState) (used used' : List FileUse)
     → given ≡ [] → job ≡ no_source
     → EndsBy status (λ s s'. LeavesPages status (IsNamed (text_named word) given texts) s s' out out') job job'
     (job'.failed || failed) out'.failed
-    → LeavesPagesFor word status out out'
-pages_left word given texts failed job job' status out out' none new ends = record {
+    → at ≡ path → used' ≡ used ++ read_at at job' ∷ [] → LeavesPagesFor path word status used used' out out'
+pages_left path at word given texts failed job job' status out out' used used' none new ends is read = record {
   job = job';
+  used_are = one_read used used' path at job' is read;
   texts = texts;
   ends =
       at_reads status (λ s s'. LeavesPages status (IsNamed (text_named word) [] texts) s s' out out') no_source job'
@@ -140,14 +180,15 @@ pages_left word given texts failed job job' status out out' none new ends = reco
       new ends));
 }
 
-pub notes_left : (word : List ℕ) (given texts : List (List ℕ)) (failed : Bool) (job job' : SourceState) (status : Status)
-    (out out' : OutletState)
+pub notes_left : (path at word : List ℕ) (given texts : List (List ℕ)) (failed : Bool) (job job' : SourceState) (status : Status)
+    (out out' : OutletState) (used used' : List FileUse)
     → given ≡ [] → job ≡ no_source
     → EndsBy status (λ s s'. LeavesNotes status (IsNamed (text_named word) given texts) s s' out out') job job'
     (job'.failed || failed) out'.failed
-    → LeavesNotesFor word status out out'
-notes_left word given texts failed job job' status out out' none new ends = record {
+    → at ≡ path → used' ≡ used ++ read_at at job' ∷ [] → LeavesNotesFor path word status used used' out out'
+notes_left path at word given texts failed job job' status out out' used used' none new ends is read = record {
   job = job';
+  used_are = one_read used used' path at job' is read;
   texts = texts;
   ends =
       at_reads status (λ s s'. LeavesNotes status (IsNamed (text_named word) [] texts) s s' out out') no_source job'
@@ -162,36 +203,95 @@ notes_left word given texts failed job job' status out out' none new ends = reco
       new ends));
 }
 
-pub pin_left : (word : List ℕ) (choices : List Choice) (given texts : List (List ℕ)) (failed : Bool) (job job' : SourceState)
-    (status : Status) (out out' file file' err err' : OutletState)
+pub pin_left : (path into at to word : List ℕ) (choices : List Choice) (given texts : List (List ℕ)) (failed : Bool)
+    (job job' : SourceState) (status : Status) (out out' file file' err err' : OutletState) (used between used' : List FileUse)
     → given ≡ [] → job ≡ no_source → file ≡ no_outlet
     → EndsBy status (λ s s'. LeavesPinned status (IsNamed (text_named word) given texts) choices s s' file file' out out') job job'
     (job'.failed || failed) (file'.failed || out'.failed)
-    → TellsOfPin status (IsNamed (text_named word) given texts) choices err err' → LeavesPin word choices status out out' err err'
-pin_left word choices given texts failed job job' status out out' file file' err err' none new unwritten ends choice = record {
-  job = job';
-  texts = texts;
-  file = file';
-  ends =
-      at_reads status (λ s s'. LeavesPinned status (IsNamed (text_named word) [] texts) choices s s' no_outlet file' out out') no_source
-      job' (job'.failed || failed) (file'.failed || out'.failed)
-      (subst
-      (λ f. EndsBy status (λ s s'. LeavesPinned status (IsNamed (text_named word) [] texts) choices s s' f file' out out') no_source
-      job' (job'.failed || failed) (file'.failed || out'.failed))
-      unwritten
-      (subst
-      (λ g. EndsBy status (λ s s'. LeavesPinned status (IsNamed (text_named word) g texts) choices s s' file file' out out') no_source
-      job' (job'.failed || failed) (file'.failed || out'.failed))
-      none
-      (subst
-      (λ s. EndsBy status (λ s s'. LeavesPinned status (IsNamed (text_named word) given texts) choices s s' file file' out out') s job'
-      (job'.failed || failed) (file'.failed || out'.failed))
-      new ends)));
-  choice = subst (λ g. TellsOfPin status (IsNamed (text_named word) g texts) choices err err') none choice;
-}
+    → TellsOfPin status (IsNamed (text_named word) given texts) choices err err'
+    → at ≡ path → to ≡ into → between ≡ used ++ read_at at job' ∷ [] → used' ≡ between ++ written_at to file' ∷ []
+    → LeavesPin path into word choices status used used' out out' err err'
+pin_left path into at to word choices given texts failed job job' status out out' file file' err err' used between used' none new unwritten
+    ends choice is is_out read written = record {
+      job = job';
+      texts = texts;
+      file = file';
+      used_are = one_more used between used' (read_at path job') (written_at into file')
+          (one_read used between path at job' is read) (one_written between used' into to file' is_out written);
+      ends =
+          at_reads status (λ s s'. LeavesPinned status (IsNamed (text_named word) [] texts) choices s s' no_outlet file' out out') no_source
+          job' (job'.failed || failed) (file'.failed || out'.failed)
+          (subst
+          (λ f. EndsBy status (λ s s'. LeavesPinned status (IsNamed (text_named word) [] texts) choices s s' f file' out out') no_source
+          job' (job'.failed || failed) (file'.failed || out'.failed))
+          unwritten
+          (subst
+          (λ g. EndsBy status (λ s s'. LeavesPinned status (IsNamed (text_named word) g texts) choices s s' file file' out out') no_source
+          job' (job'.failed || failed) (file'.failed || out'.failed))
+          none
+          (subst
+          (λ s. EndsBy status (λ s s'. LeavesPinned status (IsNamed (text_named word) given texts) choices s s' file file' out out') s job'
+          (job'.failed || failed) (file'.failed || out'.failed))
+          new ends)));
+      choice = subst (λ g. TellsOfPin status (IsNamed (text_named word) g texts) choices err err') none choice;
+    }
 
 -- one of two readings failed, or that of a text
 pub reads_stop : (first second text stops : Bool) → (first || second || text) ≡ stops → IsTrue (first || second) → IsTrue stops
 reads_stop true second text stops is failed = sym is
 reads_stop false true text stops is failed = sym is
 reads_stop false false text stops is failed = cc
+
+abbrev around : (first first' second second' : SourceState) (out out' err err' : OutletState) → Around
+around first first' second second' out out' err err' = record {
+  first = first;
+  first' = first';
+  second = second;
+  second' = second';
+  out = out;
+  out' = out';
+  err = err;
+  err' = err';
+}
+
+pub picture_left : (word : List ℕ) (choices : List Choice) (selection : Selection) (job at again : List ℕ) (given texts : List (List ℕ))
+    (failed : Bool) (first first' second second' : SourceState) (status : Status) (out out' err err' : OutletState)
+    (used between used' : List FileUse)
+    → given ≡ [] → first ≡ no_source → second ≡ no_source
+    → LeavesPicture status (IsNamedBy given texts (IsNamed (text_named word) given texts)) choices selection job
+    (around first first' second second' out out' err err')
+    → (first'.failed || second'.failed || failed) ≡ is_stop_of_read status → out'.failed ≡ is_stop_of_write status
+    → (status ≡ Stopped Turns → HasNoEnd first first' ⊎ HasNoEnd second second')
+    → RefusesOne (text_named word) status → RefusesRead given texts 1 status
+    → TellsOfPin status (IsNamed (text_named word) given texts) choices err err'
+    → at ≡ job → again ≡ job → between ≡ used ++ read_at at first' ∷ [] → used' ≡ between ++ read_at again second' ∷ []
+    → LeavesPictureOfFile word choices selection job status used used' out out' err err'
+picture_left word choices selection job at again given texts failed first first' second second' status out out' err err' used between used'
+    none new new' left read write turns refusal refused choice is is' reads reads' = record {
+      first = first';
+      second = second';
+      texts = texts;
+      used_are = one_more used between used' (read_at job first') (read_at job second')
+          (one_read used between job at first' is reads) (one_read between used' job again second' is' reads');
+      left =
+          subst
+          (λ g. LeavesPicture status (IsNamedBy g texts (IsNamed (text_named word) g texts)) choices selection job
+          (around no_source first' no_source second' out out' err err'))
+          none
+          (subst
+          (λ s. LeavesPicture status (IsNamedBy given texts (IsNamed (text_named word) given texts)) choices selection job
+          (around s first' no_source second' out out' err err'))
+          new
+          (subst
+          (λ s. LeavesPicture status (IsNamedBy given texts (IsNamed (text_named word) given texts)) choices selection job
+          (around first first' s second' out out' err err'))
+          new' left));
+      read = reads_stop first'.failed second'.failed failed (is_stop_of_read status) read;
+      write = write;
+      turns =
+          subst (λ s. status ≡ Stopped Turns → HasNoEnd s first' ⊎ HasNoEnd no_source second') new
+          (subst (λ s. status ≡ Stopped Turns → HasNoEnd first first' ⊎ HasNoEnd s second') new' turns);
+      refusal = refusal;
+      refused = subst (λ g. RefusesRead g texts 1 status) none refused;
+      choice = subst (λ g. TellsOfPin status (IsNamed (text_named word) g texts) choices err err') none choice;
+    }

@@ -1,10 +1,13 @@
--- What the commands on one job come to. Nothing is known of files beforehand, so this is said for some reads of them.
-use Rattle.std.specs.Prelude.{◌≡◌, ◌⊎◌, ◌||◌, [], ◌∷◌, ℕ, List, Option, IsTrue, codes}
+-- What the commands on one job come to. Nothing is known of files beforehand, so this is said for what the history of
+-- files tells: which were read and which were written, at which path, and what that came to.
+-- It has those of a job and of OUT, and not yet those of profiles.
+use Rattle.std.specs.Prelude.{◌≡◌, ◌⊎◌, ◌||◌, [], ◌∷◌, ◌++◌, ℕ, List, Option, IsTrue, codes}
 use Rattle.streams.specs.declared.error.Error.TheVariants.{Turns}
 use Rattle.renderings.specs.Due.{Rendering, plain_rendering}
 use Rattle.streams.specs.Files.{no_outlet, no_source}
 use Rattle.streams.specs.Outlet.{OutletState}
 use Rattle.streams.specs.Source.{SourceState}
+use Rattle.streams.specs.Used.{FileUse, read_at, written_at}
 use Rattle.requests.specs.declared.selection.Selection.{Selection}
 use Rattle.named_inputs.specs.Fleet.{IsNamed, RefusesBy, RefusesOne, RefusesRead}
 use Rattle.subcommands.specs.Check.{IsRightFor, Leaves, texts_by}
@@ -19,31 +22,39 @@ use Rattle.requests.specs.declared.status.Status.{Status}
 use Rattle.requests.specs.declared.status.Status.TheVariants.{Stopped}
 use Rattle.job_reports.specs.Pipes.{RefusesPipe}
 
--- a check for the printers of these texts, so far as they are known:
+-- a check of the job at a path for the printers of these texts, so far as they are known:
 -- the line of a verdict that is right for all of them
-pub record LeavesCheck (known : List (Option (List ℕ))) (status : Status) (out out' : OutletState) : Type 0 where
+pub record LeavesCheck (path : List ℕ) (known : List (Option (List ℕ))) (status : Status) (used used' : List FileUse)
+    (out out' : OutletState) : Type 0 where
   pub job : SourceState
   pub texts : List (List ℕ)
   pub line : Leaves status (IsRightFor (texts_by known [] texts) no_source job) out out'
   pub refused : RefusesBy [] texts status
   pub write : out'.failed ≡ is_stop_of_write status
+  pub used_are : used' ≡ used ++ read_at path job ∷ []
 
--- what is due of a job by this rendering
-pub record LeavesRendered (rendering : Rendering) (status : Status) (out out' : OutletState) : Type 0 where
+-- what is due of the job at a path by this rendering
+pub record LeavesRendered (path : List ℕ) (rendering : Rendering) (status : Status) (used used' : List FileUse)
+    (out out' : OutletState) : Type 0 where
   pub job : SourceState
+  pub used_are : used' ≡ used ++ read_at path job ∷ []
   pub ends :
       EndsBy status (λ old new. LeavesText status rendering old new out out') no_source job job.failed out'.failed
 
--- the pages of a job on the printer that this word names
-pub record LeavesPagesFor (word : List ℕ) (status : Status) (out out' : OutletState) : Type 0 where
+-- the pages of the job at a path on the printer that this word names
+pub record LeavesPagesFor (path word : List ℕ) (status : Status) (used used' : List FileUse)
+    (out out' : OutletState) : Type 0 where
   pub job : SourceState
+  pub used_are : used' ≡ used ++ read_at path job ∷ []
   pub texts : List (List ℕ)
   pub ends : EndsBy status (λ old new. LeavesPages status (IsNamed (text_named word) [] texts) old new out out')
       no_source job (is_stop_of_read status) out'.failed
 
--- what a job leaves to the printer that this word names
-pub record LeavesNotesFor (word : List ℕ) (status : Status) (out out' : OutletState) : Type 0 where
+-- what the job at a path leaves to the printer that this word names
+pub record LeavesNotesFor (path word : List ℕ) (status : Status) (used used' : List FileUse)
+    (out out' : OutletState) : Type 0 where
   pub job : SourceState
+  pub used_are : used' ≡ used ++ read_at path job ∷ []
   pub texts : List (List ℕ)
   pub ends : EndsBy status (λ old new. LeavesNotes status (IsNamed (text_named word) [] texts) old new out out')
       no_source job (is_stop_of_read status) out'.failed
@@ -52,12 +63,13 @@ pub record LeavesNotesFor (word : List ℕ) (status : Status) (out out' : Outlet
 abbrev pub read_to_draw : List ℕ
 read_to_draw = codes "a picture is drawn at a second reading\n"
 
--- Pages of a job as pictures, from the panel that is chosen of the printer that this word names.
+-- Pages of the job at a path as pictures, from the panel that is chosen of the printer that this word names.
 -- The job is read twice; the work stops where one of these reads fails, and for its turns after 2^40 reads.
 pub record LeavesPictureOfFile (word : List ℕ) (choices : List Choice) (selection : Selection) (job : List ℕ)
-    (status : Status) (out out' err err' : OutletState) : Type 0 where
+    (status : Status) (used used' : List FileUse) (out out' err err' : OutletState) : Type 0 where
   pub first : SourceState
   pub second : SourceState
+  pub used_are : used' ≡ used ++ read_at job first ∷ read_at job second ∷ []
   pub texts : List (List ℕ)
   pub left : LeavesPicture status (IsNamedBy [] texts (IsNamed (text_named word) [] texts)) choices selection job
       (record {
@@ -78,25 +90,28 @@ pub record LeavesPictureOfFile (word : List ℕ) (choices : List Choice) (select
   pub choice : TellsOfPin status (IsNamed (text_named word) [] texts) choices err err'
 
 -- the same, unless the job is no file and is refused, since it cannot be read twice
-abbrev pub LeavesPictureFor : (word : List ℕ) → List Choice → Selection → (job : List ℕ) → Status → OutletState →
-    OutletState → OutletState → OutletState → Type 0
-LeavesPictureFor word choices selection job status out out' err err' =
-    LeavesPictureOfFile word choices selection job status out out' err err'
-    ⊎ (RefusesPipe (job ∷ []) read_to_draw status err err' × (out' ≡ out))
+abbrev pub LeavesPictureFor : (word : List ℕ) → List Choice → Selection → (job : List ℕ) → Status → List FileUse →
+    List FileUse → OutletState → OutletState → OutletState → OutletState → Type 0
+LeavesPictureFor word choices selection job status used used' out out' err err' =
+    LeavesPictureOfFile word choices selection job status used used' out out' err err'
+    ⊎ (RefusesPipe (job ∷ []) read_to_draw status err err' × (out' ≡ out) × (used' ≡ used))
 
--- a job in its canonical spelling, in a file
-pub record LeavesPlain (status : Status) (out out' : OutletState) : Type 0 where
+-- the job at a path in its canonical spelling, in the file at another
+pub record LeavesPlain (path into : List ℕ) (status : Status) (used used' : List FileUse)
+    (out out' : OutletState) : Type 0 where
   pub job : SourceState
   pub file : OutletState
+  pub used_are : used' ≡ used ++ read_at path job ∷ written_at into file ∷ []
   pub ends : EndsBy status (λ old new. LeavesOut status plain_rendering old new no_outlet file out out') no_source job
       job.failed (file.failed || out'.failed)
 
--- a job that is pinned to the panel that is chosen of the printer that this word names, in a file
-pub record LeavesPin (word : List ℕ) (choices : List Choice) (status : Status)
+-- the job at a path, pinned to the panel that is chosen of the printer that this word names, in the file at another
+pub record LeavesPin (path into word : List ℕ) (choices : List Choice) (status : Status) (used used' : List FileUse)
     (out out' err err' : OutletState) : Type 0 where
   pub job : SourceState
   pub texts : List (List ℕ)
   pub file : OutletState
+  pub used_are : used' ≡ used ++ read_at path job ∷ written_at into file ∷ []
   pub ends : EndsBy status
       (λ old new. LeavesPinned status (IsNamed (text_named word) [] texts) choices old new no_outlet file out out')
       no_source job (is_stop_of_read status) (file.failed || out'.failed)

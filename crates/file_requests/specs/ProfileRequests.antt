@@ -1,6 +1,7 @@
 -- What the commands on profiles come to. Nothing is known of files beforehand, so this is said for some reads of them:
--- the texts that these gave, and whether one has failed.
-use Rattle.std.specs.Prelude.{[], ℕ, List, Bool, Option}
+-- the texts that these gave, and whether one has failed. The history of files
+-- tells which answer was read, and which file written.
+use Rattle.std.specs.Prelude.{◌≡◌, [], ◌∷◌, ◌++◌, ℕ, List, Bool, Option}
 use Rattle.profile_commands.specs.ProfileFromPjl.{LeavesAnswered}
 use Rattle.profile_commands.specs.ProfileLint.{LeavesLint}
 use Rattle.profile_commands.specs.ProfileSheet.{LeavesSheet}
@@ -8,6 +9,8 @@ use Rattle.profile_commands.specs.ProfileShow.{LeavesShown}
 use Rattle.streams.specs.Files.{no_outlet, no_source}
 use Rattle.streams.specs.Outlet.{OutletState}
 use Rattle.streams.specs.Source.{SourceState}
+use Rattle.streams.specs.Used.{FileUse, written_at}
+use Rattle.named_inputs.specs.FileJobs.{reads_named}
 use Rattle.named_inputs.specs.Texts.{text_named}
 use Rattle.requests.specs.declared.status.Status.{Status}
 
@@ -23,17 +26,20 @@ pub record LeavesShownFor (word : List ℕ) (status : Status) (out out' err err'
   pub failed : Bool
   pub left : LeavesShown (text_named word) word [] texts failed status out out' err err'
 
--- the sheet of the profile that this word names, in a file
-pub record LeavesSheetFor (word : List ℕ) (status : Status) (err err' : OutletState) : Type 0 where
+-- the sheet of the profile that this word names, in the file at a path
+pub record LeavesSheetFor (word into : List ℕ) (status : Status) (used used' : List FileUse)
+    (err err' : OutletState) : Type 0 where
   pub texts : List (List ℕ)
   pub failed : Bool
   pub file : OutletState
+  pub used_are : used' ≡ used ++ written_at into file ∷ []
   pub left : LeavesSheet (text_named word) word [] texts failed status no_outlet file err err'
 
 -- a profile with what the answer tells that a word names
-pub record LeavesAnsweredFor (answer : List ℕ) (base : Option (List ℕ)) (status : Status)
+pub record LeavesAnsweredFor (answer : List ℕ) (base : Option (List ℕ)) (status : Status) (used used' : List FileUse)
     (out out' err err' : OutletState) : Type 0 where
   pub source : SourceState
+  pub used_are : used' ≡ used ++ reads_named answer source
   pub texts : List (List ℕ)
   pub failed : Bool
   pub left : LeavesAnswered no_source source text_named answer base [] texts failed status out out' err err'

@@ -1,4 +1,5 @@
-//! What the program does on texts of a job by request, on files.
+//! What the program does on texts of a job by request, on files. A history is kept of which files
+//! that were.
 ghost use Rattle.renderings.specs.Due.{list_rendering};
 ghost use Rattle.std.specs.Prelude.{◌≢◌, [], IsFalse, map};
 ghost use Rattle.file_requests.specs.JobRequests.{LeavesCheck, LeavesNotesFor, LeavesPagesFor};
@@ -11,32 +12,49 @@ use named_inputs::FileTexts;
 use picture_command::PictureAsked;
 use requests::{PanelSetting, Status};
 use std::rt::Files;
-use streams::{FileOutlet, FileSource, Outlet};
+use streams::{FilesUsed, Outlet, OutletAt, SourceAt};
 
 /// Checks the job at a path for the printers that words name.
 pub fn check<R: Files + AllocGlobal, O: Outlet>(
     rt: &R,
     job: &str,
     profiles: &[&str],
+    used: &mut FilesUsed,
     stdout: &mut O,
 ) -> Status
     requires stdout { IsFalse (O.state stdout.old).failed }
     requires some { profiles.now ≢ [] }
-    ensures { LeavesCheck (map (λ word. text_named word.now) profiles.now) result
-        (O.state stdout.old) (O.state stdout.new) }
+    ensures { LeavesCheck job.now (map (λ word. text_named word.now) profiles.now) result
+        used.old used.new (O.state stdout.old) (O.state stdout.new) }
 {
-    let mut job = FileSource::new(rt, job);
+    let mut source = SourceAt::new(rt, job);
     let mut texts = FileTexts::new(rt);
-    subcommands::check::check(rt.alloc(), &mut job, &mut texts, profiles, stdout)
+    let status = subcommands::check::check(
+        rt.alloc(),
+        &mut source.file,
+        &mut texts,
+        profiles,
+        stdout,
+    );
+    used.read(source);
+    status
 }
 
 /// Lists the items of the job at a path.
-pub fn list<R: Files + AllocGlobal, O: Outlet>(rt: &R, job: &str, stdout: &mut O) -> Status
+pub fn list<R: Files + AllocGlobal, O: Outlet>(
+    rt: &R,
+    job: &str,
+    used: &mut FilesUsed,
+    stdout: &mut O,
+) -> Status
     requires { IsFalse (O.state stdout.old).failed }
-    ensures { LeavesRendered list_rendering result (O.state stdout.old) (O.state stdout.new) }
+    ensures { LeavesRendered job.now list_rendering result
+        used.old used.new (O.state stdout.old) (O.state stdout.new) }
 {
-    let mut job = FileSource::new(rt, job);
-    subcommands::list::list(rt.alloc(), &mut job, stdout)
+    let mut source = SourceAt::new(rt, job);
+    let status = subcommands::list::list(rt.alloc(), &mut source.file, stdout);
+    used.read(source);
+    status
 }
 
 /// Writes what the job at a path marks on its pages, on the printer that a word names.
@@ -44,14 +62,24 @@ pub fn pages<R: Files + AllocGlobal, O: Outlet>(
     rt: &R,
     job: &str,
     profile: &str,
+    used: &mut FilesUsed,
     stdout: &mut O,
 ) -> Status
     requires { IsFalse (O.state stdout.old).failed }
-    ensures { LeavesPagesFor profile.now result (O.state stdout.old) (O.state stdout.new) }
+    ensures { LeavesPagesFor job.now profile.now result
+        used.old used.new (O.state stdout.old) (O.state stdout.new) }
 {
-    let mut job = FileSource::new(rt, job);
+    let mut source = SourceAt::new(rt, job);
     let mut texts = FileTexts::new(rt);
-    subcommands::pages::pages(rt.alloc(), &mut job, &mut texts, profile, stdout)
+    let status = subcommands::pages::pages(
+        rt.alloc(),
+        &mut source.file,
+        &mut texts,
+        profile,
+        stdout,
+    );
+    used.read(source);
+    status
 }
 
 /// Why a picture reads its job again.
@@ -62,30 +90,34 @@ const READ_TO_DRAW: &[u8] = b"a picture is drawn at a second reading\n";
 pub fn picture<R: Files + AllocGlobal, O: Outlet, E: Outlet>(
     rt: &R,
     asked: &PictureAsked<'_>,
+    used: &mut FilesUsed,
     stdout: &mut O,
     stderr: &mut E,
 ) -> Status
     requires stdout { IsFalse (O.state stdout.old).failed }
     requires stderr { IsFalse (E.state stderr.old).failed }
     ensures { LeavesPictureFor asked.now.setting.profile.now asked.now.setting.choices.now
-        asked.now.selection asked.now.job.now result
+        asked.now.selection asked.now.job.now result used.old used.new
         (O.state stdout.old) (O.state stdout.new) (E.state stderr.old) (E.state stderr.new) }
 {
     if is_pipe(rt, asked.job.as_bytes()) {
         return refuse_pipe(rt.alloc(), asked.job.as_bytes(), READ_TO_DRAW, stderr);
     }
-    let mut first = FileSource::new(rt, asked.job);
-    let mut second = FileSource::new(rt, asked.job);
+    let mut first = SourceAt::new(rt, asked.job);
+    let mut second = SourceAt::new(rt, asked.job);
     let mut texts = FileTexts::new(rt);
-    picture_command::picture(
+    let status = picture_command::picture(
         rt.alloc(),
-        &mut first,
-        &mut second,
+        &mut first.file,
+        &mut second.file,
         &mut texts,
         asked,
         stdout,
         stderr,
-    )
+    );
+    used.read(first);
+    used.read(second);
+    status
 }
 
 /// Writes what the job at a path leaves to the printer that a word names.
@@ -93,14 +125,24 @@ pub fn notes<R: Files + AllocGlobal, O: Outlet>(
     rt: &R,
     job: &str,
     profile: &str,
+    used: &mut FilesUsed,
     stdout: &mut O,
 ) -> Status
     requires { IsFalse (O.state stdout.old).failed }
-    ensures { LeavesNotesFor profile.now result (O.state stdout.old) (O.state stdout.new) }
+    ensures { LeavesNotesFor job.now profile.now result
+        used.old used.new (O.state stdout.old) (O.state stdout.new) }
 {
-    let mut job = FileSource::new(rt, job);
+    let mut source = SourceAt::new(rt, job);
     let mut texts = FileTexts::new(rt);
-    subcommands::job_notes::tell_notes(rt.alloc(), &mut job, &mut texts, profile, stdout)
+    let status = subcommands::job_notes::tell_notes(
+        rt.alloc(),
+        &mut source.file,
+        &mut texts,
+        profile,
+        stdout,
+    );
+    used.read(source);
+    status
 }
 
 /// Writes the job at a path again, at another.
@@ -108,14 +150,19 @@ pub fn plain<R: Files + AllocGlobal, O: Outlet>(
     rt: &R,
     job: &str,
     out: &str,
+    used: &mut FilesUsed,
     stdout: &mut O,
 ) -> Status
     requires { IsFalse (O.state stdout.old).failed }
-    ensures { LeavesPlain result (O.state stdout.old) (O.state stdout.new) }
+    ensures { LeavesPlain job.now out.now result
+        used.old used.new (O.state stdout.old) (O.state stdout.new) }
 {
-    let mut job = FileSource::new(rt, job);
-    let mut out = FileOutlet::new(rt, out);
-    subcommands::plain::plain(rt.alloc(), &mut job, &mut out, stdout)
+    let mut source = SourceAt::new(rt, job);
+    let mut outlet = OutletAt::new(rt, out);
+    let status = subcommands::plain::plain(rt.alloc(), &mut source.file, &mut outlet.file, stdout);
+    used.read(source);
+    used.written(outlet);
+    status
 }
 
 /// Writes the job at a path again, at another, pinned to a panel setting of a printer.
@@ -124,24 +171,29 @@ pub fn pin<R: Files + AllocGlobal, O: Outlet, E: Outlet>(
     job: &str,
     setting: &PanelSetting<'_>,
     out: &str,
+    used: &mut FilesUsed,
     stdout: &mut O,
     stderr: &mut E,
 ) -> Status
     requires stdout { IsFalse (O.state stdout.old).failed }
     requires stderr { IsFalse (E.state stderr.old).failed }
-    ensures { LeavesPin setting.now.profile.now setting.now.choices.now result
+    ensures { LeavesPin job.now out.now setting.now.profile.now setting.now.choices.now result
+        used.old used.new
         (O.state stdout.old) (O.state stdout.new) (E.state stderr.old) (E.state stderr.new) }
 {
-    let mut job = FileSource::new(rt, job);
+    let mut source = SourceAt::new(rt, job);
     let mut texts = FileTexts::new(rt);
-    let mut out = FileOutlet::new(rt, out);
-    subcommands::pin::pin(
+    let mut outlet = OutletAt::new(rt, out);
+    let status = subcommands::pin::pin(
         rt.alloc(),
-        &mut job,
+        &mut source.file,
         &mut texts,
         setting,
-        &mut out,
+        &mut outlet.file,
         stdout,
         stderr,
-    )
+    );
+    used.read(source);
+    used.written(outlet);
+    status
 }

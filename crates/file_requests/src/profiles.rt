@@ -3,7 +3,7 @@ ghost use Rattle.std.specs.Prelude.{IsFalse, map, option_map};
 ghost use Rattle.file_requests.specs.ProfileRequests.{LeavesAnsweredFor, LeavesLintFor};
 ghost use Rattle.file_requests.specs.ProfileRequests.{LeavesSheetFor, LeavesShownFor};
 
-use named_inputs::{FileJobs, FileTexts, Jobs};
+use named_inputs::{FileJobs, FileTexts, Jobs, is_input};
 use profile_commands::from_pjl::profile_from_pjl;
 use profile_commands::lint::profile_lint;
 use profile_commands::sheet::profile_sheet;
@@ -11,7 +11,7 @@ use profile_commands::show::profile_show;
 use requests::Status;
 use std::io::Input;
 use std::rt::Files;
-use streams::{FileOutlet, Outlet};
+use streams::{FilesUsed, Outlet, OutletAt, SourceAt};
 
 /// Tells what is found in profiles.
 pub fn lint<R: Files + AllocGlobal, O: Outlet, E: Outlet>(
@@ -50,14 +50,18 @@ pub fn sheet<R: Files + AllocGlobal, E: Outlet>(
     rt: &R,
     word: &str,
     out: &str,
+    used: &mut FilesUsed,
     stderr: &mut E,
 ) -> Status
     requires { IsFalse (E.state stderr.old).failed }
-    ensures { LeavesSheetFor word.now result (E.state stderr.old) (E.state stderr.new) }
+    ensures { LeavesSheetFor word.now out.now result
+        used.old used.new (E.state stderr.old) (E.state stderr.new) }
 {
     let mut texts = FileTexts::new(rt);
-    let mut out = FileOutlet::new(rt, out);
-    profile_sheet(rt.alloc(), &mut texts, word, &mut out, stderr)
+    let mut outlet = OutletAt::new(rt, out);
+    let status = profile_sheet(rt.alloc(), &mut texts, word, &mut outlet.file, stderr);
+    used.written(outlet);
+    status
 }
 
 /// Writes a profile with what a printer's answer tells, which is read at a path, or with `-` from
@@ -66,23 +70,39 @@ pub fn from_pjl<R: Files + Input + AllocGlobal, O: Outlet, E: Outlet>(
     rt: &R,
     answer: &str,
     base: Option<&str>,
+    used: &mut FilesUsed,
     stdout: &mut O,
     stderr: &mut E,
 ) -> Status
     requires stdout { IsFalse (O.state stdout.old).failed }
     requires stderr { IsFalse (E.state stderr.old).failed }
     ensures { LeavesAnsweredFor answer.now (option_map (λ word. word.now) base.entry) result
+        used.old used.new
         (O.state stdout.old) (O.state stdout.new) (E.state stderr.old) (E.state stderr.new) }
 {
-    let mut source = FileJobs::new(rt).job(answer.as_bytes());
     let mut texts = FileTexts::new(rt);
-    profile_from_pjl(
+    if is_input(answer.as_bytes()) {
+        let mut input = FileJobs::new(rt).job(answer.as_bytes());
+        return profile_from_pjl(
+            rt.alloc(),
+            &mut input,
+            answer,
+            &mut texts,
+            base,
+            stdout,
+            stderr,
+        );
+    }
+    let mut source = SourceAt::new(rt, answer);
+    let status = profile_from_pjl(
         rt.alloc(),
-        &mut source,
+        &mut source.file,
         answer,
         &mut texts,
         base,
         stdout,
         stderr,
-    )
+    );
+    used.read(source);
+    status
 }

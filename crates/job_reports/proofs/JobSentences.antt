@@ -47,7 +47,7 @@ use Rattle.job_reports.specs.CommandWords.{code_words, command_words}
 use Rattle.job_reports.specs.JobSentences.{AreNumbers, IsCulpritOfNumbers, IsOfParts, IsSentence, IsVerdictOfNumbers, IsWithin}
 use Rattle.job_reports.specs.JobSentences.{answer_phrase, at_command, cause_phrase, error_phrase, first_of, for_printer, job_sentence}
 use Rattle.job_reports.specs.JobSentences.{last_of, named_first, reason_phrase, subject, verdict_phrase}
-use Rattle.job_reports.specs.Reports.{Reported, culprit_of, number_told, verdict_of}
+use Rattle.job_reports.specs.Reports.{Reported, culprit_of, number_told, verdict_told}
 use Rattle.requests.specs.Status.{error_words}
 use Rattle.job_reports.proofs.Within.{code_part, decimal_part, escaped_part, first_part, flat_part, joined, last_part, literal, name_at}
 use Rattle.job_reports.proofs.Within.{named_part, nothing, one_of, shown_byte_part, shown_part, wider}
@@ -287,7 +287,7 @@ culprit_numbers : (answer : Result Judgement Error) → IfOk answer AreNumbers �
 culprit_numbers (Ok judgement) h = h.1
 culprit_numbers (Err error) h = tt
 
-verdict_numbers : (answer : Result Judgement Error) → IfOk answer AreNumbers → IfOk (verdict_of answer) IsVerdictOfNumbers
+verdict_numbers : (answer : Result Judgement Error) → IfOk answer AreNumbers → IfOk (verdict_told answer) IsVerdictOfNumbers
 verdict_numbers (Ok judgement) h = h.0
 verdict_numbers (Err error) h = tt
 
@@ -298,11 +298,11 @@ named_first_part name =
 
 pub sentence_is_short : (report : Reported) → IsOfParts report → IsSentence (job_sentence report)
 sentence_is_short report h =
-    let answer : List ℕ = answer_phrase report (verdict_of report.answer) in (
+    let answer : List ℕ = answer_phrase report (verdict_told report.answer) in (
       named_first report.job ++ answer,
       refl,
       wider 999 _ (omega arith)
           (joined (named_first report.job) answer (named_first_part report.job)
-          (answer_part report (verdict_of report.answer) h.names (culprit_numbers report.answer h.numbers)
+          (answer_part report (verdict_told report.answer) h.names (culprit_numbers report.answer h.numbers)
           (verdict_numbers report.answer h.numbers))),
     )

@@ -7,7 +7,7 @@ use Rattle.verdict.specs.declared.verdict.Verdict.TheVariants.{Pass, Fail}
 use Rattle.line_words.specs.Figures.{named}
 use Rattle.line_words.specs.Reason.{reason_words}
 use Rattle.shown_bytes.specs.Shown.{shown}
-use Rattle.job_reports.specs.Reports.{Reported, number_told, verdict_of}
+use Rattle.job_reports.specs.Reports.{Reported, number_told, verdict_told}
 use Rattle.requests.specs.Status.{error_words}
 
 -- a verdict without what is wrong
@@ -37,6 +37,6 @@ cause_part (Some words) = codes ": " ++ shown words
 -- a line begins with the verdict and ends with the job's name
 abbrev pub job_line : Reported → List ℕ
 job_line report =
-    let result = verdict_of report.answer in
+    let result = verdict_told report.answer in
     result_words result ++ (printer_words report.names (number_told report.is_each result)
     ++ (reason_part result ++ 32 ∷ (shown report.job ++ (cause_part report.cause ++ 10 ∷ []))))

@@ -14,7 +14,7 @@ use Rattle.verdict.specs.declared.reason.Reason.{Reason}
 use Rattle.verdict.specs.declared.verdict.Verdict.{Verdict}
 use Rattle.verdict.specs.declared.verdict.Verdict.TheVariants.{Pass, Fail}
 use Rattle.job_reports.specs.CommandWords.{command_words}
-use Rattle.job_reports.specs.Reports.{Reported, culprit_of, number_told, verdict_of}
+use Rattle.job_reports.specs.Reports.{Reported, culprit_of, number_told, verdict_told}
 use Rattle.requests.specs.Status.{error_words}
 
 -- ---- what is long, in part
@@ -81,7 +81,7 @@ named_first name = last_of 500 (shown name) ++ codes ": "
 
 -- a sentence begins with the job's name, and ends with the words by which a line begins or ends
 abbrev pub job_sentence : Reported → List ℕ
-job_sentence report = named_first report.job ++ answer_phrase report (verdict_of report.answer) ++ 10 ∷ []
+job_sentence report = named_first report.job ++ answer_phrase report (verdict_told report.answer) ++ 10 ∷ []
 
 -- ---- how long it is
 

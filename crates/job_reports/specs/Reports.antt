@@ -16,9 +16,9 @@ pub record Reported : Type 0 where
   pub cause : Option (List ℕ)
 
 -- the answer without the item that the job fails at
-abbrev pub verdict_of : Result Judgement Error → Result Verdict Error
-verdict_of (Ok judgement) = Ok judgement.verdict
-verdict_of (Err error) = Err error
+abbrev pub verdict_told : Result Judgement Error → Result Verdict Error
+verdict_told (Ok judgement) = Ok judgement.verdict
+verdict_told (Err error) = Err error
 
 -- the item that the job fails at
 abbrev pub culprit_of : Result Judgement Error → Option Culprit

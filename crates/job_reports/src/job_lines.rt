@@ -2,7 +2,7 @@
 ghost use Rattle.std.specs.Prelude.{◌≡◌, ◌++◌, OnOk, option_map};
 ghost use Rattle.job_reports.specs.JobLines.{cause_part, job_line, printer_words, reason_part};
 ghost use Rattle.job_reports.specs.JobLines.{result_words, verdict_words};
-ghost use Rattle.job_reports.specs.Reports.{number_told, verdict_of};
+ghost use Rattle.job_reports.specs.Reports.{number_told, verdict_told};
 
 use crate::reports::Report;
 use line_words::{push_named, push_reason};
@@ -63,7 +63,7 @@ fn push_printer<A: Allocator, B: Allocator>(
     report: &Report<'_, '_, B>,
 ) -> Result<(), AllocError>
     ensures { OnOk result (line.new.items ≡ line.old.items ++ printer_words report.now.names
-        (number_told report.now.is_each (verdict_of report.now.answer))) }
+        (number_told report.now.is_each (verdict_told report.now.answer))) }
 {
     if report.number_told() == 0 {
         return Ok(());

@@ -4,7 +4,7 @@ ghost use Rattle.job_reports.specs.JobSentences.{IsOfParts, IsSentence, answer_p
 ghost use Rattle.job_reports.specs.JobSentences.{cause_phrase, error_phrase, first_of, for_printer};
 ghost use Rattle.job_reports.specs.JobSentences.{job_sentence, last_of, named_first, reason_phrase};
 ghost use Rattle.job_reports.specs.JobSentences.{subject, verdict_phrase};
-ghost use Rattle.job_reports.specs.Reports.{Reported, number_told, verdict_of};
+ghost use Rattle.job_reports.specs.Reports.{Reported, number_told, verdict_told};
 
 use crate::command_words::push_command_words;
 use crate::reports::Report;
@@ -50,7 +50,7 @@ fn push_answer<A: Allocator + Copy>(
     report: &Report<'_, '_, A>,
 ) -> Result<(), AllocError>
     ensures { OnOk result (line.new.items ≡ line.old.items ++
-        answer_phrase report.now (verdict_of report.now.answer)) }
+        answer_phrase report.now (verdict_told report.now.answer)) }
 {
     match report.verdict() {
         Ok(verdict) => {
@@ -69,7 +69,7 @@ fn push_subject<A: Allocator>(
     report: &Report<'_, '_, A>,
 ) -> Result<(), AllocError>
     ensures { OnOk result (line.new.items ≡ line.old.items ++ subject report.now.names
-        (number_told report.now.is_each (verdict_of report.now.answer))) }
+        (number_told report.now.is_each (verdict_told report.now.answer))) }
 {
     if report.number_told() == 0 {
         return line.extend_from_slice(b"each printer");
@@ -137,7 +137,7 @@ fn push_error<A: Allocator + Copy>(
     error: Error,
     report: &Report<'_, '_, A>,
 ) -> Result<(), AllocError>
-    requires { verdict_of report.now.answer ≡ Err error }
+    requires { verdict_told report.now.answer ≡ Err error }
     ensures { OnOk result (line.new.items ≡ line.old.items ++
         answer_phrase report.now (Err error)) }
 {
@@ -168,7 +168,7 @@ fn push_for_printer<A: Allocator>(
     report: &Report<'_, '_, A>,
 ) -> Result<(), AllocError>
     ensures { OnOk result (line.new.items ≡ line.old.items ++ for_printer report.now.names
-        (number_told report.now.is_each (verdict_of report.now.answer))) }
+        (number_told report.now.is_each (verdict_told report.now.answer))) }
 {
     if report.number_told() == 0 {
         return Ok(());

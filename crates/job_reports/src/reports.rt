@@ -1,6 +1,6 @@
 //! What is told of a job.
 ghost use Rattle.std.specs.Prelude.{◌≡◌, ◌≤◌, ◌-◌, [], get_or};
-ghost use Rattle.job_reports.specs.Reports.{culprit_of, number_told, verdict_of};
+ghost use Rattle.job_reports.specs.Reports.{culprit_of, number_told, verdict_told};
 
 use crate::groups::PrinterGroup;
 use preflight::{Culprit, Judgement, Verdict};
@@ -37,7 +37,7 @@ impl<'t, 'c, A: Allocator> Model for Report<'t, 'c, A> {
 impl<'t, 'c, A: Allocator> Report<'t, 'c, A> {
     /// The answer without the item that the job fails at.
     pub fn verdict(&self) -> Result<Verdict, Error>
-        ensures { result ≡ verdict_of self.now.answer }
+        ensures { result ≡ verdict_told self.now.answer }
     {
         match self.answer {
             Ok(judgement) => Ok(judgement.verdict),
@@ -57,7 +57,7 @@ impl<'t, 'c, A: Allocator> Report<'t, 'c, A> {
 
     /// The number of the printer that this is about, from 1, or 0 where it is about none alone.
     pub fn number_told(&self) -> u64
-        ensures { result ≡ number_told self.now.is_each (verdict_of self.now.answer) }
+        ensures { result ≡ number_told self.now.is_each (verdict_told self.now.answer) }
     {
         match self.verdict() {
             _ if self.printers.is_each() => 1,
@@ -68,9 +68,9 @@ impl<'t, 'c, A: Allocator> Report<'t, 'c, A> {
 
     /// The name of the printer that this is about, or nothing where there are not so many.
     pub fn printer_name(&self) -> &'t [u8]
-        requires { 1 ≤ number_told self.now.is_each (verdict_of self.now.answer) }
+        requires { 1 ≤ number_told self.now.is_each (verdict_told self.now.answer) }
         ensures { result.now ≡ get_or self.now.names
-            (number_told self.now.is_each (verdict_of self.now.answer) - 1) [] }
+            (number_told self.now.is_each (verdict_told self.now.answer) - 1) [] }
     {
         match self.printers.names().get((self.number_told() - 1) as usize) {
             Some(name) => name.as_slice(),

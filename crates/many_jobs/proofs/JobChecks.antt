@@ -6,8 +6,8 @@ use Rattle.std.proofs.Math.Seq.{split_at}
 use Rattle.std.specs.List.{AllByRecursion, range_with_len}
 use Rattle.std.proofs.lemmas.List.{length-take, map-append, map_more}
 use Rattle.device_profile.specs.Printer.{Printer}
-use Rattle.preflight.specs.Verdict.{IsExact, KeepsPromise, NeedsEachRead}
-use Rattle.job_reports.specs.Right.{IsRight}
+use Rattle.preflight.specs.Verdict.{IsExact, VerdictHolds, NeedsEachRead}
+use Rattle.job_reports.specs.Right.{IsRightVerdict}
 use Rattle.streams.specs.Pieces.{ByReads}
 use Rattle.std.proofs.lemmas.Grind.{flat_map-append, fold-append}
 use Rattle.std.proofs.lemmas.List.FromFn.{map-range_with_len_more}
@@ -36,7 +36,7 @@ use Rattle.named_inputs.proofs.FleetFacts.{DescribeBy-more}
 use Rattle.named_inputs.specs.Texts.{IsErrorOfReading}
 use Rattle.requests.specs.declared.status.Status.{Status}
 use Rattle.requests.specs.declared.status.Status.TheVariants.{Stopped}
-use Rattle.job_reports.specs.Reports.{verdict_of}
+use Rattle.job_reports.specs.Reports.{verdict_told}
 use Rattle.many_jobs.specs.Telling.{HowTold, report_text}
 
 -- ---- the worst of endings
@@ -155,7 +155,7 @@ module _ (groups : Groups) (telling : HowTold) (start : List ℕ → SourceState
     told cause = report_text telling (reported group job answer cause)
 
     abbrev printer_of_notes : Option Printer
-    printer_of_notes = note_printer (verdict_of answer) group.note_printers
+    printer_of_notes = note_printer (verdict_told answer) group.note_printers
 
     abbrev write_note : ToldNote → List ℕ
     write_note = told_note telling (subject_of group job)
@@ -163,7 +163,7 @@ module _ (groups : Groups) (telling : HowTold) (start : List ℕ → SourceState
     module _ (old new : Work) (ended : new.ended ≡ old.ended ++ after ∷ []) where
       -- no notes are told
       pub tells_alone : (ending : Ending) → printer_of_notes ≡ None → AddsTold told old.out new.out →
-          ending ≡ ending_of telling.exit_zero (verdict_of answer) → TellsAll groups telling ((job, number) ∷ []) start ending old new
+          ending ≡ ending_of telling.exit_zero (verdict_told answer) → TellsAll groups telling ((job, number) ∷ []) start ending old new
       tells_alone ending none adds is =
           let text = told adds.0 in (
             line_with adds.0 None ∷ [],
@@ -173,7 +173,7 @@ module _ (groups : Groups) (telling : HowTold) (start : List ℕ → SourceState
               written = subst (Adds old.out new.out) (sym (append-nil (text ++ []) ∙ append-nil text)) adds.1;
               ended = ended;
             },
-            is ∙ sym (worse-passes (ending_of telling.exit_zero (verdict_of answer))),
+            is ∙ sym (worse-passes (ending_of telling.exit_zero (verdict_told answer))),
           )
 
       -- the line is not there whole
@@ -208,7 +208,7 @@ module _ (groups : Groups) (telling : HowTold) (start : List ℕ → SourceState
       -- notes are told
       pub tells_noted : (noted : Noted) (ending ending' : Ending) →
           TellsNotes group telling printer (start job) job mid new (Adds mid.out new.out) noted →
-          ending ≡ ending_of telling.exit_zero (verdict_of answer) → ending' ≡ ending_of_notes noted.notes
+          ending ≡ ending_of telling.exit_zero (verdict_told answer) → ending' ≡ ending_of_notes noted.notes
           → TellsAll groups telling ((job, number) ∷ []) start (worse ending ending') old new
       tells_noted noted ending ending' tells is is' =
           let text = told adds.0 in
@@ -222,7 +222,7 @@ module _ (groups : Groups) (telling : HowTold) (start : List ℕ → SourceState
                   (Adds-trans old.out mid.out new.out text notes adds.1 tells.written);
               ended = tells.ended ∙ ap (λ es. es ++ noted.after ∷ []) ended ∙ append_assoc old.ended (after ∷ []) (noted.after ∷ []);
             },
-            ap (λ e. worse e ending') is ∙ ap (worse (ending_of telling.exit_zero (verdict_of answer))) is',
+            ap (λ e. worse e ending') is ∙ ap (worse (ending_of telling.exit_zero (verdict_told answer))) is',
           )
 
       -- what is told of them is not there whole
@@ -319,9 +319,9 @@ error_of_job fleet (Err Items) never none some = tt
 -- it is right for the fleet, where it has a verdict
 pub right_verdict : (fleet : List Printer) (start after : SourceState) (r : Result Judgement Error)
     → IfOk r (λ answer. ByReads start after (λ job. IsExact fleet job answer.verdict))
-    → IfOk r (λ answer. ByReads start after (λ job. KeepsPromise fleet job answer.verdict))
+    → IfOk r (λ answer. ByReads start after (λ job. VerdictHolds fleet job answer.verdict))
     → IfOk r (λ answer. NeedsEachRead fleet start after)
-    → IfOk r (λ answer. IsRight start after fleet answer.verdict)
+    → IfOk r (λ answer. IsRightVerdict start after fleet answer.verdict)
 right_verdict fleet start after (Ok answer) exact promise needed = record { exact = exact; promise = promise; needed = needed }
 right_verdict fleet start after (Err error) exact promise needed = tt
 

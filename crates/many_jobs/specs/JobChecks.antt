@@ -15,12 +15,12 @@ use Rattle.verdict.specs.declared.verdict.Verdict.TheVariants.{Pass as PassOf, F
 use Rattle.streams.specs.Pieces.{ByReads}
 use Rattle.streams.specs.Outlet.{OutletState, Adds, AddsFront}
 use Rattle.streams.specs.Source.{SourceState}
-use Rattle.job_reports.specs.Right.{IsRight}
+use Rattle.job_reports.specs.Right.{IsRightVerdict}
 use Rattle.job_reports.specs.Groups.{Groups, group_at, group_count, reported}
 use Rattle.many_jobs.specs.JobNoting.{AreRightNotes, IsRightlyNoted, Noted, ending_of_noted, note_printer, noted_after}
 use Rattle.many_jobs.specs.JobNoting.{noted_text, notes_text}
 use Rattle.many_jobs.specs.NoteReports.{subject_of, told_note}
-use Rattle.job_reports.specs.Reports.{verdict_of}
+use Rattle.job_reports.specs.Reports.{verdict_told}
 use Rattle.many_jobs.specs.Telling.{HowTold, report_text}
 use Rattle.many_jobs.specs.declared.ending.Ending.{Ending}
 use Rattle.many_jobs.specs.declared.ending.Ending.TheVariants.{Passes, Fails, HasNoVerdict}
@@ -41,7 +41,7 @@ IsErrorOfJob Items = ⊤
 -- verdict is that macros carry out more items than the printers allow, it is an error.
 pub record IsRightAnswer (fleet : List Printer) (start after : SourceState)
     (answer : Result Judgement Error) : Type 0 where
-  pub verdict : IfOk answer (λ judgement. IsRight start after fleet judgement.verdict)
+  pub verdict : IfOk answer (λ judgement. IsRightVerdict start after fleet judgement.verdict)
   pub item : IfOk answer (λ judgement. ByReads start after (λ job. IsTold job judgement.verdict judgement.culprit))
   pub error : IfErr answer IsErrorOfJob
   pub within : IfOk answer (λ judgement. has_many_items judgement.verdict ≡ false)
@@ -106,7 +106,7 @@ IsRightLine groups telling start line =
     let group = group_at groups line.group in
     IsAnswered groups start line
     × IsRightlyNoted (told_note telling (subject_of group line.job)) (start line.job)
-    (note_printer (verdict_of line.answer) group.note_printers) line.noted
+    (note_printer (verdict_told line.answer) group.note_printers) line.noted
 
 abbrev pub keyed : List ℕ → ℕ → List ℕ × ℕ
 keyed job number = (job, number)
@@ -132,7 +132,7 @@ pub record TellsLines (groups : Groups) (telling : HowTold) (start : List ℕ �
 
 -- how a line counts, with its notes
 abbrev pub ending_of_line : Bool → CheckLine → Ending
-ending_of_line exit_zero line = worse (ending_of exit_zero (verdict_of line.answer)) (ending_of_noted line.noted)
+ending_of_line exit_zero line = worse (ending_of exit_zero (verdict_told line.answer)) (ending_of_noted line.noted)
 
 abbrev pub worst : Bool → List CheckLine → Ending
 worst exit_zero lines = fold (λ ending line. worse ending (ending_of_line exit_zero line)) Passes lines

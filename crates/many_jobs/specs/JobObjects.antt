@@ -14,7 +14,7 @@ use Rattle.verdict.specs.declared.verdict.Verdict.TheVariants.{Pass, Fail}
 use Rattle.job_reports.specs.CommandWords.{command_words}
 use Rattle.many_jobs.specs.JsonObject.{with_number, with_text}
 use Rattle.many_jobs.specs.JsonTexts.{name_text, words_text}
-use Rattle.job_reports.specs.Reports.{Reported, culprit_of, number_told, verdict_of}
+use Rattle.job_reports.specs.Reports.{Reported, culprit_of, number_told, verdict_told}
 
 -- ---- what came of a job
 
@@ -82,7 +82,7 @@ with_printer names number members =
 
 abbrev pub report_members : List ℕ → Reported → Members
 report_members explanation report =
-    let verdict = verdict_of report.answer in
+    let verdict = verdict_told report.answer in
     with_answer explanation report verdict
     (with_printer report.names (number_told report.is_each verdict)
     (with_text (codes "job") (name_text report.job) no_members))

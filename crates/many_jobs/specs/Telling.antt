@@ -8,7 +8,7 @@ use Rattle.meanings.specs.Explanations.{explained_by}
 use Rattle.job_reports.specs.JobLines.{job_line}
 use Rattle.many_jobs.specs.JobObjects.{job_object}
 use Rattle.job_reports.specs.JobSentences.{job_sentence}
-use Rattle.job_reports.specs.Reports.{Reported, verdict_of}
+use Rattle.job_reports.specs.Reports.{Reported, verdict_told}
 use Rattle.many_jobs.specs.declared.telling.Format.{Format}
 use Rattle.many_jobs.specs.declared.telling.Format.TheVariants.{Line, Words, Json}
 
@@ -32,4 +32,4 @@ text_in (Json alloc) below report = job_object below report
 
 -- with the explanation of what is wrong
 abbrev pub report_text : HowTold → Reported → List ℕ
-report_text telling report = text_in telling.format (explained telling.explanations (verdict_of report.answer)) report
+report_text telling report = text_in telling.format (explained telling.explanations (verdict_told report.answer)) report

@@ -1,7 +1,7 @@
 //! How jobs count for the exit status of a check of many jobs.
 ghost use Rattle.std.specs.Prelude.{◌≡◌};
 ghost use Rattle.many_jobs.specs.JobChecks.{ending_of, worse};
-ghost use Rattle.job_reports.specs.Reports.{verdict_of};
+ghost use Rattle.job_reports.specs.Reports.{verdict_told};
 
 use preflight::{Judgement, Verdict};
 use streams::Error;
@@ -20,7 +20,7 @@ pub enum Ending {
 impl Ending {
     /// How a job of this result counts; where `exit_zero` is set a FAIL counts as a PASS.
     pub(crate) fn of(exit_zero: bool, answer: Result<Judgement, Error>) -> Ending
-        ensures { result ≡ ending_of exit_zero (verdict_of answer) }
+        ensures { result ≡ ending_of exit_zero (verdict_told answer) }
     {
         match answer {
             Ok(judgement) => Ending::of_verdict(exit_zero, judgement.verdict),

@@ -8,7 +8,7 @@ ghost use Rattle.many_jobs.specs.JobChecks.{AddsTold, CutsNotes, CutsTold, Tells
 ghost use Rattle.many_jobs.specs.JobNoting.{AreRightNotes, Noted, ending_of_notes, kept_notes};
 ghost use Rattle.many_jobs.specs.JobNoting.{note_printer, notes_text};
 ghost use Rattle.many_jobs.specs.NoteReports.{subject_of, told_note};
-ghost use Rattle.job_reports.specs.Reports.{verdict_of};
+ghost use Rattle.job_reports.specs.Reports.{verdict_told};
 
 use crate::ending::Ending;
 use crate::note_reports::NoteReport;
@@ -29,7 +29,7 @@ pub fn note_printer<A: Allocator>(
     answer: Result<Judgement, Error>,
     printers: &[Profile<A>],
 ) -> Option<&Profile<A>>
-    ensures { option_copied result ≡ note_printer (verdict_of answer) printers.now }
+    ensures { option_copied result ≡ note_printer (verdict_told answer) printers.now }
 {
     match answer {
         Ok(judgement) => match judgement.verdict {

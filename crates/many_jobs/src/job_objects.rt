@@ -14,7 +14,7 @@ ghost use Rattle.many_jobs.specs.JobObjects.{
   with_printer,
 };
 ghost use Rattle.many_jobs.specs.JsonObject.{members_of};
-ghost use Rattle.job_reports.specs.Reports.{number_told, verdict_of};
+ghost use Rattle.job_reports.specs.Reports.{number_told, verdict_told};
 
 use crate::json_object::Object;
 use job_reports::{Report, push_command_words};
@@ -66,7 +66,7 @@ fn put_printer<A: Allocator>(
     report: &Report<'_, '_, A>,
 ) -> Result<(), AllocError>
     ensures { OnOk result (members_of object.new ≡ with_printer report.now.names
-        (number_told report.now.is_each (verdict_of report.now.answer)) (members_of object.old)) }
+        (number_told report.now.is_each (verdict_told report.now.answer)) (members_of object.old)) }
 {
     if report.number_told() == 0 {
         return Ok(());
@@ -82,7 +82,7 @@ fn put_answer<A: Allocator + Copy>(
     explanation: &str,
 ) -> Result<(), AllocError>
     ensures { OnOk result (members_of object.new ≡ with_answer explanation.now report.now
-        (verdict_of report.now.answer) (members_of object.old)) }
+        (verdict_told report.now.answer) (members_of object.old)) }
 {
     match report.verdict() {
         Ok(Verdict::Pass { pages, marks }) => put_pass(object, pages, marks),

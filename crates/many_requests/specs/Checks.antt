@@ -9,6 +9,7 @@ use Rattle.streams.specs.declared.error.Error.TheVariants.{Memory}
 use Rattle.streams.specs.Files.{no_source}
 use Rattle.streams.specs.Outlet.{OutletState}
 use Rattle.streams.specs.Source.{SourceState}
+use Rattle.streams.specs.Used.{FileUse}
 use Rattle.many_jobs.specs.CheckMany.{Asked, LeavesMany}
 use Rattle.many_jobs.specs.FleetFile.{AreFleets, FleetText, TellsOfFleet, words_named}
 use Rattle.job_reports.specs.Refusals.{TellsOfNames}
@@ -68,13 +69,13 @@ pub record IsTelling (asking : Asking) (telling : HowTold) : Type 0 where
   pub exit_zero : telling.exit_zero ≡ asking.exit_zero
 
 -- What is checked: the jobs of the words and then those that the bytes of the file of names have, for the printers of
--- the words and then those that the texts of the fleets name.
-pub record Completes (asking : Asking) (asked : Asked) : Type 0 where
+-- the words and then those that the texts of the fleets name. The history of files has the file of names.
+pub record Completes (asking : Asking) (asked : Asked) (used used' : List FileUse) : Type 0 where
   pub names : List ℕ
   pub fleets : List FleetText
   pub jobs : asked.jobs ≡ asking.jobs ++ names_in names
   pub printers : asked.printers ≡ asking.printers ++ flat_map words_named fleets
-  pub are_names : AreNamesAt asking.names_from names
+  pub are_names : AreNamesAt asking.names_from used used' names
   pub are_fleets : AreFleets text_named asking.fleets fleets
   pub most_items : asked.most_items ≡ asking.most_items
   pub is_each : asked.is_each ≡ asking.is_each
@@ -110,7 +111,8 @@ LacksSome fleets names_from status err err' =
     ⊎ ((status ≡ Stopped Memory) × (err' ≡ err)))
 
 -- what is asked for is had and checked, or some of it cannot be had, and no line is written
-abbrev pub LeavesChecks : Asking → Status → OutletState → OutletState → OutletState → OutletState → Type 0
-LeavesChecks asking status out out' err err' =
-    ((asked : Asked) × Completes asking asked × LeavesAsked asking.names_from asked status out out' err err')
+abbrev pub LeavesChecks : Asking → Status → List FileUse → List FileUse → OutletState → OutletState → OutletState →
+    OutletState → Type 0
+LeavesChecks asking status used used' out out' err err' =
+    ((asked : Asked) × Completes asking asked used used' × LeavesAsked asking.names_from asked status out out' err err')
     ⊎ (LacksSome asking.fleets asking.names_from status err err' × (out' ≡ out))

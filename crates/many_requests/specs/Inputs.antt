@@ -1,17 +1,13 @@
 -- Which jobs would be read again whose bytes are gone once they are read.
 use Rattle.std.specs.Prelude.{◌≡◌, ◌⊎◌, ◌&&◌, ◌||◌, ◌++◌, ℕ, Bool, List, Option, IsTrue, codes, count_by, length}
 use Rattle.std.specs.Prelude.{nat_lt, option_to_list}
-use Rattle.std.specs.Str.{bytes_eq}
 use Rattle.streams.specs.Writing.{Writes}
 use Rattle.streams.specs.Outlet.{OutletState}
 use Rattle.many_jobs.specs.CheckMany.{Asked}
+use Rattle.named_inputs.specs.FileJobs.{is_input}
 use Rattle.job_reports.specs.Pipes.{RefusesPipe}
 use Rattle.requests.specs.declared.status.Status.{Status}
 use Rattle.requests.specs.declared.status.Status.TheVariants.{Usage}
-
--- a word for standard input
-abbrev pub is_input : List ℕ → Bool
-is_input name = bytes_eq name (codes "-")
 
 -- each job is read more than once: for its notes, or for each printer
 abbrev pub is_apart : Asked → Bool

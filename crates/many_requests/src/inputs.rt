@@ -1,11 +1,13 @@
 //! Jobs whose bytes are gone once they are read.
 ghost use Rattle.std.specs.Prelude.{◌≡◌, ◌≤◌, Contains, IfNone, IfSome, IsFalse, count_by, length};
 ghost use Rattle.std.specs.Prelude.{map, option_map};
-ghost use Rattle.many_requests.specs.Inputs.{RefusesInput, is_apart, is_input, reads_input_again};
+ghost use Rattle.many_requests.specs.Inputs.{RefusesInput, is_apart, reads_input_again};
+ghost use Rattle.named_inputs.specs.FileJobs.{is_input};
 ghost use Rattle.many_jobs.specs.Asked.{asked_for};
 
 use job_reports::{is_pipe, refuse_pipe, refuse_words};
 use many_jobs::ManyJobs;
+use named_inputs::is_input;
 use requests::Status;
 use std::rt::Files;
 use streams::{Error, Outlet, write_text};
@@ -61,13 +63,6 @@ fn input_count(jobs: &[&[u8]]) -> usize
     ensures most { result ≤ length jobs.now }
 {
     jobs.iter().filter(|job| is_input(job)).count()
-}
-
-/// Whether a word names standard input.
-fn is_input(name: &[u8]) -> bool
-    ensures { result ≡ is_input name.now }
-{
-    name == b"-".as_slice()
 }
 
 /// Whether each job is read more than once.

@@ -17,12 +17,13 @@ use requests::{Form, ManyWords, Status};
 use std::alloc::{AllocError, Global};
 use std::io::Input;
 use std::rt::Files;
-use streams::{Error, Outlet};
+use streams::{Error, FilesUsed, Outlet};
 
 /// Checks many jobs. The fleets are read first, then the names of the jobs, then the profiles.
 pub fn check_asked<R: Files + Input + AllocGlobal, O: Outlet, E: Outlet>(
     rt: &R,
     words: &ManyWords<'_>,
+    used: &mut FilesUsed,
     stdout: &mut O,
     stderr: &mut E,
 ) -> Status
@@ -30,6 +31,7 @@ pub fn check_asked<R: Files + Input + AllocGlobal, O: Outlet, E: Outlet>(
     requires stderr { IsFalse (E.state stderr.old).failed }
     requires some { NamesPrinter words.now }
     ensures { LeavesChecks (asking (map (λ text. text.now) EXPLANATIONS) words.now) result
+        used.old used.new
         (O.state stdout.old) (O.state stdout.new) (E.state stderr.old) (E.state stderr.new) }
 {
     let alloc = rt.alloc();
@@ -41,7 +43,7 @@ pub fn check_asked<R: Files + Input + AllocGlobal, O: Outlet, E: Outlet>(
     let Ok(printers) = all_printers(alloc, words.printers.as_slice(), fleets.as_slice()) else {
         return Status::Stopped(Error::Memory);
     };
-    let names = match read_names(rt, words.names_from, stderr) {
+    let names = match read_names(rt, words.names_from, used, stderr) {
         Ok(names) => names,
         Err(status) => return status,
     };

@@ -1,26 +1,28 @@
 //! The file of the names of jobs.
 ghost use Rattle.std.specs.Prelude.{◌≡◌, ◌++◌, [], IfErr, IfOk, IsFalse, IsSomeAnd, MatchOption};
 ghost use Rattle.std.specs.Prelude.{OnOk, map, option_map};
-ghost use Rattle.many_requests.specs.Names.{AreBytesBy, AreNamesAt, LeadsTo, names_in};
+ghost use Rattle.many_requests.specs.Names.{AreBytesBy, AreBytesOf, AreNamesAt, LeadsTo};
+ghost use Rattle.many_requests.specs.Names.{names_in};
 ghost use Rattle.job_reports.specs.Refusals.{TellsOfNames};
 
 use job_reports::tell_unread;
-use named_inputs::{FileJobs, Jobs, read_front};
+use named_inputs::{FileJobs, Jobs, is_input, read_front};
 use requests::Status;
 use std::alloc::{AllocError, Allocator};
 use std::io::Input;
 use std::rt::Files;
-use streams::{Error, Outlet, Source};
+use streams::{Error, FilesUsed, Outlet, Source, SourceAt};
 
 /// The bytes of the file of names at a path, or none where there is no such file.
 pub fn read_names<R: Files + Input + AllocGlobal, E: Outlet>(
     rt: &R,
     path: Option<&str>,
+    used: &mut FilesUsed,
     stderr: &mut E,
 ) -> Result<Vec<u8>, Status>
     requires { IsFalse (E.state stderr.old).failed }
     ensures read { IfOk result (λ names. AreNamesAt
-        (option_map (λ path. path.now) path.entry) names.items) }
+        (option_map (λ path. path.now) path.entry) used.old used.new names.items) }
     ensures quiet { OnOk result (stderr.new ≡ stderr.old) }
     ensures end { IfErr result (λ status. IsSomeAnd path.entry (λ path.
         TellsOfNames path.now status (E.state stderr.old) (E.state stderr.new))) }
@@ -28,8 +30,30 @@ pub fn read_names<R: Files + Input + AllocGlobal, E: Outlet>(
     let Some(path) = path else {
         return Ok(Vec::new(rt.alloc()));
     };
-    let mut file = FileJobs::new(rt).job(path.as_bytes());
-    read_bytes(rt.alloc(), &mut file, path, stderr)
+    read_named(rt, path, used, stderr)
+}
+
+/// The bytes of the file of names at a path, or those of standard input.
+fn read_named<R: Files + Input + AllocGlobal, E: Outlet>(
+    rt: &R,
+    path: &str,
+    used: &mut FilesUsed,
+    stderr: &mut E,
+) -> Result<Vec<u8>, Status>
+    requires { IsFalse (E.state stderr.old).failed }
+    ensures read { IfOk result (λ names. AreBytesOf path.now used.old used.new names.items) }
+    ensures quiet { OnOk result (stderr.new ≡ stderr.old) }
+    ensures end { IfErr result (λ status. TellsOfNames path.now status
+        (E.state stderr.old) (E.state stderr.new)) }
+{
+    if is_input(path.as_bytes()) {
+        let mut input = FileJobs::new(rt).job(path.as_bytes());
+        return read_bytes(rt.alloc(), &mut input, path, stderr);
+    }
+    let mut source = SourceAt::new(rt, path);
+    let names = read_bytes(rt.alloc(), &mut source.file, path, stderr);
+    used.read(source);
+    names
 }
 
 /// The bytes of a file of names, which the words name so.

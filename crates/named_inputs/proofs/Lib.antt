@@ -2,5 +2,6 @@ mod ChoiceFacts
 mod Examples
 pub mod FleetFacts
 mod FrontFacts
+pub mod InputUses
 pub mod TextFacts
 mod Walks

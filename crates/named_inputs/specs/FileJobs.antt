@@ -1,6 +1,8 @@
 -- What a job stands for that is a file or standard input.
-use Rattle.std.specs.Prelude.{None}
+use Rattle.std.specs.Prelude.{ℕ, Bool, List, [], ◌∷◌, None, codes, if◌then◌else◌}
+use Rattle.std.specs.Str.{bytes_eq}
 use Rattle.streams.specs.Source.{SourceState}
+use Rattle.streams.specs.Used.{FileUse, read_at}
 use Rattle.named_inputs.specs.declared.ended.JobEnd.{JobEnd}
 use Rattle.named_inputs.specs.declared.file_jobs.JobSource.{JobSource}
 use Rattle.named_inputs.specs.declared.file_jobs.JobSource.TheVariants.{File, Standard, NoText}
@@ -13,3 +15,11 @@ state_of_job (NoText none) = record { given = none.given; remaining = None; fail
 -- what a job had come to when it was ended; what it would have given is not known
 abbrev pub state_at_end : JobEnd → SourceState
 state_at_end job = record { given = job.given.pieces; remaining = None; failed = job.has_failed }
+
+-- a word for standard input
+abbrev pub is_input : List ℕ → Bool
+is_input name = bytes_eq name (codes "-")
+
+-- what the reading of a word, which came to this, adds to the history of files: standard input is none
+abbrev pub reads_named : List ℕ → SourceState → List FileUse
+reads_named word source = if is_input word then [] else read_at word source ∷ []

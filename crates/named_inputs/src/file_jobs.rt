@@ -1,6 +1,6 @@
 //! Jobs that are files, and the one on standard input.
 ghost use Rattle.std.specs.Prelude.{◌≡◌, []};
-ghost use Rattle.named_inputs.specs.FileJobs.{state_of_job};
+ghost use Rattle.named_inputs.specs.FileJobs.{is_input, state_of_job};
 
 use crate::ended::{Ended, JobEnd};
 use crate::jobs::Jobs;
@@ -9,6 +9,13 @@ use std::io::{Input, Read};
 use std::marker::Model;
 use std::rt::Files;
 use streams::{FileSource, Given, Latched, Source};
+
+/// Whether a word names standard input.
+pub fn is_input(name: &[u8]) -> bool
+    ensures { result ≡ is_input name.now }
+{
+    name == b"-".as_slice()
+}
 
 /// The jobs at paths, and standard input under the name `-`.
 #[derive(Drop)]

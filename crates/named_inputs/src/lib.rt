@@ -14,7 +14,7 @@ mod texts;
 
 pub use choices::{chosen_panel, refuse_choice};
 pub use ended::{Ended, JobEnd};
-pub use file_jobs::{FileJobs, JobSource};
+pub use file_jobs::{FileJobs, JobSource, is_input};
 pub use file_texts::FileTexts;
 pub use fleet::{read_fleet, read_kept_fleet, read_profile, refusal};
 pub use front::read_front;

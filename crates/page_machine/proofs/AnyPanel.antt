@@ -535,7 +535,7 @@ fields_chosen printer panel other from to =
     ∙ ap (λ x. record p3 { font = x }) (chosen_value printer.fonts panel.font other.font from.font to.font)
     ∙ ap (λ x. record p4 { copies = x }) (chosen_value printer.copies panel.copies other.copies from.copies to.copies)
     ∙ ap (λ x. record p5 { sides = x }) (chosen_value printer.sides panel.sides other.sides from.sides to.sides)
-    ∙ ap (λ x. record p6 { tray = x }) (chosen_value printer.trays panel.tray other.tray from.tray to.tray)
+    ∙ ap (λ x. record p6 { tray = x }) (chosen_value printer.panel_trays panel.tray other.tray from.tray to.tray)
     ∙ ap (λ x. record p7 { line_termination = x })
     (chosen_value printer.line_terminations panel.line_termination other.line_termination from.line_termination to.line_termination)
 

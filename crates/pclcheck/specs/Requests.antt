@@ -1,10 +1,11 @@
--- What the program leaves of what it is asked for.
--- Nothing is known of its files beforehand, so this is said for some reads of them.
+-- What the program leaves of what it is asked for. Nothing is known of its files beforehand; the history of files tells
+-- which were read and which were written; of the texts of profiles and the jobs of many it is said for some reads.
 use Rattle.renderings.specs.Due.{list_rendering}
 use Rattle.std.specs.Prelude.{◌≡◌, List, ℕ, Option, map, option_map, IsFalse, IsTrue}
 use Rattle.requests.specs.declared.request.Request.{Request}
 use Rattle.requests.specs.declared.request.Request.TheVariants as requests
 use Rattle.streams.specs.Outlet.{OutletState}
+use Rattle.streams.specs.Used.{FileUse}
 use Rattle.streams.specs.Writing.{Writes}
 use Rattle.meanings.specs.Explanations.{complaint, end_of_explain, explanation, is_unknown}
 use Rattle.profile_commands.specs.ProfileList.{LeavesModels}
@@ -25,33 +26,38 @@ pub record LeavesExplanation (texts : List (List ℕ)) (code : Option (List ℕ)
   pub complaint : IsTrue (is_unknown texts code) → Writes err err' (complaint code)
   pub quiet : IsFalse (is_unknown texts code) → err' ≡ err
 
--- what a request comes to, on standard output and on standard error; an explanation is one of these texts
-abbrev pub Fulfils : List (List ℕ) → Request → Status → OutletState → OutletState → OutletState → OutletState → Type 0
-Fulfils texts (requests.Check job profiles) status out out' err err' =
-    LeavesCheck (map (λ word. text_named word.now) profiles.items) status out out' × (err' ≡ err)
-Fulfils texts (requests.CheckMany words) status out out' err err' =
-    LeavesChecks (asking texts words) status out out' err err'
-Fulfils texts (requests.List job) status out out' err err' =
-    LeavesRendered list_rendering status out out' × (err' ≡ err)
-Fulfils texts (requests.Pages job profile) status out out' err err' =
-    LeavesPagesFor profile.now status out out' × (err' ≡ err)
-Fulfils texts (requests.Picture job profile choices selection) status out out' err err' =
-    LeavesPictureFor profile.now choices.items selection job.now status out out' err err'
-Fulfils texts (requests.Notes job profile) status out out' err err' =
-    LeavesNotesFor profile.now status out out' × (err' ≡ err)
-Fulfils texts (requests.Plain job file) status out out' err err' = LeavesPlain status out out' × (err' ≡ err)
-Fulfils texts (requests.Pin job profile choices file) status out out' err err' =
-    LeavesPin profile.now choices.items status out out' err err'
-Fulfils texts (requests.Explain code) status out out' err err' =
-    LeavesExplanation texts (option_map (λ word. word.now) code) status out out' err err'
-Fulfils texts requests.ProfileList status out out' err err' = LeavesModels status out out' × (err' ≡ err)
-Fulfils texts (requests.ProfileNew words) status out out' err err' =
+-- what a request comes to, on standard output, on standard error and in the history of files;
+-- an explanation is one of these texts
+abbrev pub Fulfils : List (List ℕ) → Request → Status → List FileUse → List FileUse → OutletState → OutletState →
+    OutletState → OutletState → Type 0
+Fulfils texts (requests.Check job profiles) status used used' out out' err err' =
+    LeavesCheck job.now (map (λ word. text_named word.now) profiles.items) status used used' out out' × (err' ≡ err)
+Fulfils texts (requests.CheckMany words) status used used' out out' err err' =
+    LeavesChecks (asking texts words) status used used' out out' err err'
+Fulfils texts (requests.List job) status used used' out out' err err' =
+    LeavesRendered job.now list_rendering status used used' out out' × (err' ≡ err)
+Fulfils texts (requests.Pages job profile) status used used' out out' err err' =
+    LeavesPagesFor job.now profile.now status used used' out out' × (err' ≡ err)
+Fulfils texts (requests.Picture job profile choices selection) status used used' out out' err err' =
+    LeavesPictureFor profile.now choices.items selection job.now status used used' out out' err err'
+Fulfils texts (requests.Notes job profile) status used used' out out' err err' =
+    LeavesNotesFor job.now profile.now status used used' out out' × (err' ≡ err)
+Fulfils texts (requests.Plain job file) status used used' out out' err err' =
+    LeavesPlain job.now file.now status used used' out out' × (err' ≡ err)
+Fulfils texts (requests.Pin job profile choices file) status used used' out out' err err' =
+    LeavesPin job.now file.now profile.now choices.items status used used' out out' err err'
+Fulfils texts (requests.Explain code) status used used' out out' err err' =
+    LeavesExplanation texts (option_map (λ word. word.now) code) status out out' err err' × (used' ≡ used)
+Fulfils texts requests.ProfileList status used used' out out' err err' =
+    LeavesModels status out out' × (err' ≡ err) × (used' ≡ used)
+Fulfils texts (requests.ProfileNew words) status used used' out out' err err' =
     LeavesProfile words.model.now (map (λ name. name.now) words.papers.items) words.lists status out out' err err'
-Fulfils texts (requests.ProfileLint profiles) status out out' err err' =
-    LeavesLintFor (map (λ word. word.now) profiles.items) status out out' err err'
-Fulfils texts (requests.ProfileShow profile) status out out' err err' =
-    LeavesShownFor profile.now status out out' err err'
-Fulfils texts (requests.ProfileSheet profile file) status out out' err err' =
-    LeavesSheetFor profile.now status err err' × (out' ≡ out)
-Fulfils texts (requests.ProfileFromPjl answer base) status out out' err err' =
-    LeavesAnsweredFor answer.now (option_map (λ word. word.now) base) status out out' err err'
+    × (used' ≡ used)
+Fulfils texts (requests.ProfileLint profiles) status used used' out out' err err' =
+    LeavesLintFor (map (λ word. word.now) profiles.items) status out out' err err' × (used' ≡ used)
+Fulfils texts (requests.ProfileShow profile) status used used' out out' err err' =
+    LeavesShownFor profile.now status out out' err err' × (used' ≡ used)
+Fulfils texts (requests.ProfileSheet profile file) status used used' out out' err err' =
+    LeavesSheetFor profile.now file.now status used used' err err' × (out' ≡ out)
+Fulfils texts (requests.ProfileFromPjl answer base) status used used' out out' err err' =
+    LeavesAnsweredFor answer.now (option_map (λ word. word.now) base) status used used' out out' err err'

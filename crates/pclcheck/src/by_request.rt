@@ -14,12 +14,14 @@ use profile_commands::new::profile_new;
 use requests::{PanelSetting, Request, Status};
 use std::io::Input;
 use std::rt::Files;
-use streams::Outlet;
+use streams::{FilesUsed, Outlet};
 
-/// Does what is asked for. Its files are opened by the subcommands, as late as these say.
+/// Does what is asked for. Its files are opened by the subcommands, as late as these say; a history
+/// is kept of them, but for the texts of profiles and the jobs of many.
 pub fn fulfil<R: Files + Input + AllocGlobal, O: Outlet, E: Outlet>(
     rt: &R,
     request: &Request<'_>,
+    used: &mut FilesUsed,
     stdout: &mut O,
     stderr: &mut E,
 ) -> Status
@@ -27,14 +29,15 @@ pub fn fulfil<R: Files + Input + AllocGlobal, O: Outlet, E: Outlet>(
     requires stderr { IsFalse (E.state stderr.old).failed }
     requires some { NamesSome request.now }
     ensures { Fulfils (map (λ text. text.now) EXPLANATIONS) request.now result
+        used.old used.new
         (O.state stdout.old) (O.state stdout.new) (E.state stderr.old) (E.state stderr.new) }
 {
     let alloc = rt.alloc();
     match request {
-        Request::Check { job, profiles } => check(rt, job, profiles.as_slice(), stdout),
-        Request::CheckMany(words) => check_asked(rt, words, stdout, stderr),
-        Request::List { job } => list(rt, job, stdout),
-        Request::Pages { job, profile } => pages(rt, job, profile, stdout),
+        Request::Check { job, profiles } => check(rt, job, profiles.as_slice(), used, stdout),
+        Request::CheckMany(words) => check_asked(rt, words, used, stdout, stderr),
+        Request::List { job } => list(rt, job, used, stdout),
+        Request::Pages { job, profile } => pages(rt, job, profile, used, stdout),
         Request::Picture {
             job,
             profile,
@@ -48,10 +51,10 @@ pub fn fulfil<R: Files + Input + AllocGlobal, O: Outlet, E: Outlet>(
                 setting,
                 selection: *selection,
             };
-            picture(rt, &asked, stdout, stderr)
+            picture(rt, &asked, used, stdout, stderr)
         }
-        Request::Notes { job, profile } => notes(rt, job, profile, stdout),
-        Request::Plain { job, out } => plain(rt, job, out, stdout),
+        Request::Notes { job, profile } => notes(rt, job, profile, used, stdout),
+        Request::Plain { job, out } => plain(rt, job, out, used, stdout),
         Request::Pin {
             job,
             profile,
@@ -60,7 +63,7 @@ pub fn fulfil<R: Files + Input + AllocGlobal, O: Outlet, E: Outlet>(
         } => {
             let choices = choices.as_slice();
             let setting = PanelSetting { profile, choices };
-            pin(rt, job, &setting, out, stdout, stderr)
+            pin(rt, job, &setting, out, used, stdout, stderr)
         }
         Request::Explain { code } => explain(*code, stdout, stderr),
         Request::ProfileList => profile_list(alloc, stdout),
@@ -70,7 +73,9 @@ pub fn fulfil<R: Files + Input + AllocGlobal, O: Outlet, E: Outlet>(
         }
         Request::ProfileLint { profiles } => lint(rt, profiles.as_slice(), stdout, stderr),
         Request::ProfileShow { profile } => show(rt, profile, stdout, stderr),
-        Request::ProfileSheet { profile, out } => sheet(rt, profile, out, stderr),
-        Request::ProfileFromPjl { answer, base } => from_pjl(rt, answer, *base, stdout, stderr),
+        Request::ProfileSheet { profile, out } => sheet(rt, profile, out, used, stderr),
+        Request::ProfileFromPjl { answer, base } => from_pjl(
+            rt, answer, *base, used, stdout, stderr,
+        ),
     }
 }

@@ -13,7 +13,7 @@ use std::os::fd::{AsRawFd, IntoRawFd, RawFd};
 use std::process::ExitCode;
 use std::rt::{Env, Files};
 use std::{env, fs, io};
-use streams::{Error, Latched, Outlet, write_text};
+use streams::{Error, FilesUsed, Latched, Outlet, write_text};
 
 /// The descriptors of the standard streams are those below this one.
 const STANDARD_STREAMS: RawFd = 3;
@@ -80,7 +80,10 @@ fn run<R: Files + Input + AllocGlobal, O: Outlet, E: Outlet>(
     requires stderr { IsFalse (E.state stderr.old).failed }
 {
     match read_words(rt.alloc(), words, stdout, stderr) {
-        Ok(request) => fulfil(rt, &request, stdout, stderr),
+        Ok(request) => {
+            let mut used = FilesUsed::new();
+            fulfil(rt, &request, &mut used, stdout, stderr)
+        }
         Err(status) => status,
     }
 }

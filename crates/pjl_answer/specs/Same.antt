@@ -13,12 +13,12 @@ pub record HasPageValues (a b : Printer) : Type 0 where
 pub record HasOtherValues (a b : Printer) : Type 0 where
   pub copies : a.copies ≡ b.copies
   pub sides : a.sides ≡ b.sides
-  pub trays : a.trays ≡ b.trays
+  pub panel_trays : a.panel_trays ≡ b.panel_trays
   pub line_terminations : a.line_terminations ≡ b.line_terminations
 
 -- the trays, the sides, the levels of macros, the memory and the limit of items
 pub record IsSameDevice (a b : Printer) : Type 0 where
-  pub trays : a.device_trays ≡ b.device_trays
+  pub device_trays : a.device_trays ≡ b.device_trays
   pub duplex : a.has_duplex ≡ b.has_duplex
   pub depth : a.depth ≡ b.depth
   pub memory : a.memory ≡ b.memory

@@ -163,7 +163,7 @@ with_told printer answer = record printer {
   fonts = values_after printer answer Font;
   copies = values_after printer answer Copies;
   sides = values_after printer answer Sides;
-  trays = values_after printer answer Tray;
+  panel_trays = values_after printer answer Tray;
   line_terminations = values_after printer answer LineTerm;
   has_duplex = duplex_after printer answer;
 }

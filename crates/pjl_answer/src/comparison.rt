@@ -113,7 +113,7 @@ fn is_told_device<A: Allocator, B: Allocator>(
 ) -> bool
     ensures { IsTrue result → IsSameDevice profile.now (with_told base.now answer.now) }
 {
-    are_same(profile.trays(), base.trays())
+    are_same(profile.device_trays(), base.device_trays())
         && profile.has_duplex() == duplex_after(base, answer)
         && profile.depth() == base.depth()
         && profile.memory() == base.memory()

@@ -47,7 +47,7 @@ record HasChoices (printer : Printer) : Type 0 where
   fonts : IsTrue (are_choices Font printer.fonts)
   copies : IsTrue (are_choices Copies printer.copies)
   sides : IsTrue (are_choices Sides printer.sides)
-  trays : IsTrue (are_choices Tray printer.trays)
+  panel_trays : IsTrue (are_choices Tray printer.panel_trays)
   line_terminations : IsTrue (are_choices LineTerm printer.line_terminations)
 
 choices_of : (printer : Printer) → IsTrue (is_valid printer) → HasChoices printer
@@ -73,7 +73,7 @@ choices_of printer valid =
       fonts = c3.1;
       copies = c4.1;
       sides = c5.1;
-      trays = c6.1;
+      panel_trays = c6.1;
       line_terminations = c7.1;
     }
 
@@ -85,14 +85,15 @@ allowed_first printer has = record {
   font = first_of Font printer.fonts has.fonts;
   copies = first_of Copies printer.copies has.copies;
   sides = first_of Sides printer.sides has.sides;
-  tray = first_of Tray printer.trays has.trays;
+  tray = first_of Tray printer.panel_trays has.panel_trays;
   line_termination = first_of LineTerm printer.line_terminations has.line_terminations;
 }
 
 -- the eight parts of a panel that may be
 allow : (printer : Printer) (panel : Panel) → Contains printer.sizes panel.size → Contains printer.orientations panel.orientation →
     Contains printer.vmis panel.vmi → Contains printer.fonts panel.font → Contains printer.copies panel.copies →
-    Contains printer.sides panel.sides → Contains printer.trays panel.tray → Contains printer.line_terminations panel.line_termination →
+    Contains printer.sides panel.sides → Contains printer.panel_trays panel.tray →
+    Contains printer.line_terminations panel.line_termination →
     IsAllowed printer panel
 allow printer panel a b c d e f g h =
     record { size = a; orientation = b; vmi = c; font = d; copies = e; sides = f; tray = g; line_termination = h }
@@ -168,7 +169,7 @@ choose printer field valid flagged = by field flagged
               one.tray one.line_termination;
           differ = λ e. v.differ (ap (λ (p : Panel). p.sides) e);
         }
-    by Tray chosen = let v = other_value Tray printer.trays has.trays chosen in
+    by Tray chosen = let v = other_value Tray printer.panel_trays has.panel_trays chosen in
         record {
           panel = first_panel printer;
           value = v.value;

@@ -14,7 +14,7 @@ use Rattle.verdict.specs.declared.verdict.Verdict.{Verdict}
 use Rattle.verdict.specs.declared.verdict.Verdict.TheVariants.{Fail}
 use Rattle.preflight.specs.declared.culprit.Culprit.{Culprit}
 use Rattle.preflight.specs.Verdict.{IsExact}
-use Rattle.preflight.specs.Culprit.{Names, StandsAt, IsTold, IsRight}
+use Rattle.preflight.specs.Culprit.{Names, StandsAt, IsTold, IsJudgementOn}
 use Rattle.preflight.specs.Carriers.Lockstep.{Action, IsWrong}
 use Rattle.preflight.proofs.Promises.{FailsSay, keeps_failing}
 
@@ -42,7 +42,7 @@ told_there job place number Unpinnable culprit action machines wrong stands = ab
 -- a verdict that is made of a failure is right, with what is told of it
 pub right_failing : FailsSay → (fleet : List Printer) (job : List ℕ) (failure : Failure) (verdict : Verdict) (culprit : Option Culprit) →
     verdict ≡ failing failure →
-    IsExact fleet job (failing failure) × IsTold job (failing failure) culprit → IsRight fleet job verdict culprit
+    IsExact fleet job (failing failure) × IsTold job (failing failure) culprit → IsJudgementOn fleet job verdict culprit
 right_failing says fleet job failure verdict culprit is fails =
     let keeps = keeps_failing says fleet job failure verdict is fails.0 in
     (keeps.0, keeps.1, subst (λ v. IsTold job v culprit) (sym is) fails.1)

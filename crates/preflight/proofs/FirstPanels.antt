@@ -24,7 +24,7 @@ first_allowed printer panel allowed = record {
   font = first_contained printer.fonts panel.font allowed.font;
   copies = first_contained printer.copies panel.copies allowed.copies;
   sides = first_contained printer.sides panel.sides allowed.sides;
-  tray = first_contained printer.trays panel.tray allowed.tray;
+  tray = first_contained printer.panel_trays panel.tray allowed.tray;
   line_termination = first_contained printer.line_terminations panel.line_termination allowed.line_termination;
 }
 

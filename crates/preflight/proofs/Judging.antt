@@ -1,17 +1,18 @@
 -- What the reads of a job came to for a session to which nothing was fed.
-use Rattle.std.proofs.Common.{◌≡◌, ◌≢◌, ℕ, List, [], ◌∷◌, ◌++◌, subst, Result, Ok, Err, IfOk, IfErr, IfSome}
+use Rattle.std.proofs.Common.{◌≡◌, ◌≢◌, ℕ, List, [], ◌∷◌, ◌++◌, ◌∙◌, ap, refl, subst, Result, Ok, Err, IfOk, IfErr, IfSome}
+use Rattle.std.specs.Prelude.{IsErrOf, ⊤}
 use Rattle.std.proofs.lemmas.Result.{IfOk-weaker}
 use Rattle.device_profile.specs.Printer.{Printer}
 use Rattle.streams.specs.declared.error.Error.{Error}
-use Rattle.streams.specs.declared.error.Error.TheVariants.{Memory, Write, Items}
-use Rattle.streams.specs.Pieces.{ByReads}
+use Rattle.streams.specs.declared.error.Error.TheVariants.{Memory, Read, Write, Items}
+use Rattle.streams.specs.Pieces.{ByReads, Spell}
 use Rattle.streams.specs.Source.{SourceState}
 use Rattle.preflight.specs.Session.{SessionState, ChecksOn, HasChecked, IsJudged, IsOutOfMemory}
-use Rattle.preflight.specs.Verdict.{IsExact, KeepsPromise, NeedsEachRead}
+use Rattle.preflight.specs.Verdict.{IsExact, VerdictHolds, NeedsEachRead, StaysOpen, WasOpen}
 use Rattle.preflight.specs.Culprit.{IsTold}
 use Rattle.streams.specs.Driving.{IsAnswered, IsStopped, StopsBy}
 use Rattle.streams.proofs.Pieces.{known_by}
-use Rattle.streams.proofs.Driving.{never_items as none_of_limits}
+use Rattle.streams.proofs.Driving.{never_items as none_of_limits, of_error, of_read, stop_gives}
 use Rattle.preflight.proofs.Sessions.{opened}
 use Rattle.preflight.proofs.StillOpen.{leaves_open}
 use Rattle.verdict.specs.declared.verdict.Verdict.{Verdict}
@@ -51,10 +52,10 @@ module _ (fleet : List Printer) (session now : Beside) (fresh : HasChecked fleet
         known = is.known;
       }
 
-  pub headline : IfOk r (λ verdict. ByReads old new (λ job. KeepsPromise fleet job verdict))
-  headline = IfOk-weaker r Answer (λ verdict. ByReads old new (λ job. KeepsPromise fleet job verdict)) by h
+  pub headline : IfOk r (λ verdict. ByReads old new (λ job. VerdictHolds fleet job verdict))
+  headline = IfOk-weaker r Answer (λ verdict. ByReads old new (λ job. VerdictHolds fleet job verdict)) by h
     where
-      by : (verdict : Verdict) → Answer verdict → ByReads old new (λ job. KeepsPromise fleet job verdict)
+      by : (verdict : Verdict) → Answer verdict → ByReads old new (λ job. VerdictHolds fleet job verdict)
       by verdict is = record {
         pieces = is.before ++ is.last ∷ [];
         given = is.given_is;
@@ -91,6 +92,41 @@ module _ (fleet : List Printer) (session now : Beside) (fresh : HasChecked fleet
           }
 
 -- ---- where it stopped
+
+-- a read that failed was needed
+module _ (fleet : List Printer) (session now : Beside) (fresh : HasChecked fleet [] session.0) (old new : SourceState) where
+  still_open_by : (error : Error) → IsStopped Goes Stops session now error old new → error ≡ Read → StaysOpen fleet old new
+  still_open_by error h is =
+      let goes : ChecksOn session.0 h.bytes now.0 =
+      subst (StopsBy (Goes session h.bytes now) (λ e. Stops session e h.bytes now)) is h.came in
+      let spelled : Spell h.pieces h.bytes = subst (StopsBy (Spell h.pieces h.bytes) (λ e. ⊤)) is h.spelled in
+      let executed = opened now.0 fleet h.bytes goes.is_open (goes.checked fleet [] fresh) in (
+        h.pieces,
+        h.given_is,
+        leaves_open fleet h.bytes now.0.lexer now.0.machines now.0.counts executed.0 goes.open_input h.pieces spelled goes.wants_more,
+      )
+
+  pub still_open : (r : Result Verdict Error) → IfErr r (λ error. IsStopped Goes Stops session now error old new) → IsErrOf r Read →
+      StaysOpen fleet old new
+  still_open r h failed = of_read r (λ error. error ≡ Read → StaysOpen fleet old new) (stop_gives r h still_open_by) failed refl
+
+  -- and the verdict was open before the last read, or behind it
+  was_open_by : (error : Error) → IsStopped Goes Stops session now error old new → WasOpen fleet old new
+  was_open_by error h =
+      let was = h.was_open in
+      let goes : ChecksOn session.0 was.bytes was.between.0 = was.left_open in
+      let executed = opened was.between.0 fleet was.bytes goes.is_open (goes.checked fleet [] fresh) in (
+        was.before,
+        was.last,
+        h.given_is ∙ ap (λ (pieces : List (List ℕ)). old.given ++ pieces) was.split,
+        was.at_most_one,
+        leaves_open fleet was.bytes was.between.0.lexer was.between.0.machines was.between.0.counts executed.0 goes.open_input was.before
+            was.spelled goes.wants_more,
+      )
+
+  pub was_open : (r : Result Verdict Error) (e : Error) → IfErr r (λ error. IsStopped Goes Stops session now error old new) → IsErrOf r e →
+      WasOpen fleet old new
+  was_open r e h failed = of_error r e (λ error. WasOpen fleet old new) (stop_gives r h was_open_by) failed
 
 module _ (session now : Beside) (old new : SourceState) where
   abbrev Stop : Error → Type 0

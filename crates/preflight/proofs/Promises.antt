@@ -8,7 +8,7 @@ use Rattle.verdict.specs.declared.verdict.Verdict.{Verdict}
 use Rattle.verdict.specs.declared.verdict.Verdict.TheVariants.{Fail}
 use Rattle.verdict.specs.Failing.{failing}
 use Rattle.preflight.specs.Failing.{FailSays}
-use Rattle.preflight.specs.Verdict.{IsExact, KeepsPromise, verdict_of}
+use Rattle.preflight.specs.Verdict.{IsExact, VerdictHolds, verdict_of}
 
 -- each Fail says what it means
 abbrev pub FailsSay : Type 0
@@ -17,12 +17,12 @@ FailsSay =
     FailSays fleet reading place number reason
 
 pub keeps : FailsSay → (fleet : List Printer) (job : List ℕ) (place number : ℕ) (reason : Reason) →
-    IsExact fleet job (Fail place number reason) → KeepsPromise fleet job (Fail place number reason)
+    IsExact fleet job (Fail place number reason) → VerdictHolds fleet job (Fail place number reason)
 keeps says fleet job place number reason exact = (exact.0, exact.1, says fleet exact.0 place number reason (sym exact.2))
 
 -- so does a verdict that is made of a failure
 pub keeps_failing : FailsSay → (fleet : List Printer) (job : List ℕ) (failure : Failure) (verdict : Verdict) → verdict ≡ failing failure →
-    IsExact fleet job (failing failure) → IsExact fleet job verdict × KeepsPromise fleet job verdict
+    IsExact fleet job (failing failure) → IsExact fleet job verdict × VerdictHolds fleet job verdict
 keeps_failing says fleet job failure verdict is exact =
-    subst (λ v. IsExact fleet job v × KeepsPromise fleet job v) (sym is)
+    subst (λ v. IsExact fleet job v × VerdictHolds fleet job v) (sym is)
     (exact, keeps says fleet job failure.place failure.profile failure.reason exact)

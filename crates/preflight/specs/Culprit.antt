@@ -11,7 +11,7 @@ use Rattle.verdict.specs.declared.verdict.Verdict.{Verdict}
 use Rattle.verdict.specs.declared.verdict.Verdict.TheVariants.{Pass, Fail}
 use Rattle.preflight.specs.declared.culprit.Culprit.{Culprit}
 use Rattle.preflight.specs.declared.culprit.Culprit.TheVariants as culprits
-use Rattle.preflight.specs.Verdict.{IsExact, KeepsPromise}
+use Rattle.preflight.specs.Verdict.{IsExact, VerdictHolds}
 
 -- the item is this one, but for its data
 abbrev pub IsCulprit : Culprit → Entry → Type 0
@@ -43,6 +43,6 @@ IsTold job (Fail place number Differs) culprit = StandsAt job place culprit
 IsTold job (Fail place number Unpinnable) culprit = ⊥
 
 -- all that a check says of its verdict, and what is told with it
-abbrev pub IsRight : List Printer → List ℕ → Verdict → Option Culprit → Type 0
-IsRight fleet job verdict culprit =
-    IsExact fleet job verdict × KeepsPromise fleet job verdict × IsTold job verdict culprit
+abbrev pub IsJudgementOn : List Printer → List ℕ → Verdict → Option Culprit → Type 0
+IsJudgementOn fleet job verdict culprit =
+    IsExact fleet job verdict × VerdictHolds fleet job verdict × IsTold job verdict culprit

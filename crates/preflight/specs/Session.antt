@@ -12,7 +12,7 @@ use Rattle.streams.specs.declared.error.Error.TheVariants.{Memory}
 use Rattle.verdict.specs.declared.verdict.Verdict.{Verdict}
 use Rattle.streams.specs.Pieces.{MayBeBy}
 use Rattle.preflight.specs.declared.culprit.Culprit.{Culprit}
-use Rattle.preflight.specs.Culprit.{IsRight}
+use Rattle.preflight.specs.Culprit.{IsJudgementOn}
 use Rattle.preflight.specs.Carriers.Checking.{HasExecuted}
 
 -- the lexer and the machines with their counts, how many bytes were fed, how far it has come, and the item
@@ -31,7 +31,7 @@ abbrev pub ChecksTo : Standing → List Printer → List ℕ → SessionState �
 ChecksTo Open fleet bytes session =
     HasExecuted fleet bytes session.lexer session.machines session.counts × (session.total ≡ length bytes)
 ChecksTo (Judged verdict) fleet bytes session =
-    (job : List ℕ) → MayBe false bytes job → IsRight fleet job verdict session.culprit
+    (job : List ℕ) → MayBe false bytes job → IsJudgementOn fleet job verdict session.culprit
 ChecksTo (Stopped error) fleet bytes session = Unit {0}
 
 -- the session was fed these bytes, for a check by this fleet
@@ -59,7 +59,7 @@ pub record IsJudged (first : SessionState) (verdict : Verdict) (pieces : List (L
   pub standing_is : now.standing ≡ Judged verdict
   pub right : (fleet : List Printer) (base : List ℕ) → HasChecked fleet base first → (rest : List ℕ) →
       MayBeBy pieces rest →
-      IsRight fleet (base ++ rest) verdict now.culprit
+      IsJudgementOn fleet (base ++ rest) verdict now.culprit
 
 -- memory was refused, which the session answers from then on
 abbrev pub IsOutOfMemory : SessionState → Error → List ℕ → SessionState → Type 0

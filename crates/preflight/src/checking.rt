@@ -3,7 +3,7 @@
 ghost use Rattle.std.specs.Prelude.{◌≡◌, ℕ, List, length, None};
 ghost use Rattle.device_profile.specs.Printer.{Printer};
 ghost use Rattle.preflight.specs.Carriers.Lockstep.{machines_of, counts_of};
-ghost use Rattle.preflight.specs.Culprit.{IsRight};
+ghost use Rattle.preflight.specs.Culprit.{IsJudgementOn};
 ghost use Rattle.preflight.specs.Standing.{Ends};
 
 use crate::culprit::Culprit;
@@ -86,7 +86,7 @@ impl<A: Allocator + Copy, P: Allocator> Checking<'_, A, P> {
         ensures { Ends self.new.standing (λ verdict. (fleet : List Printer) (bytes : List ℕ) →
             HasExecuted fleet bytes self.old.lexer (machines_of self.old.machines)
             (counts_of self.old.machines) → total ≡ length bytes →
-            IsRight fleet bytes verdict self.new.culprit) }
+            IsJudgementOn fleet bytes verdict self.new.culprit) }
     {
         watched_runs_are_alike();
         watched_is_plain();

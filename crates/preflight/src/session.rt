@@ -7,8 +7,8 @@ ghost use Rattle.device_profile.specs.Printer.{Printer};
 ghost use Rattle.streams.specs.declared.error.Error.{Error};
 ghost use Rattle.verdict.specs.declared.verdict.Verdict.{Verdict};
 ghost use Rattle.preflight.specs.Session.{ChecksOn, HasChecked, HasRoom, IsJudged, IsOutOfMemory};
-ghost use Rattle.preflight.specs.Verdict.{IsExact, KeepsPromise};
-ghost use Rattle.preflight.specs.Culprit.{IsRight};
+ghost use Rattle.preflight.specs.Verdict.{IsExact, VerdictHolds};
+ghost use Rattle.preflight.specs.Culprit.{IsJudgementOn};
 ghost use Rattle.preflight.specs.Carriers.Lockstep.{AreIn, AreRunning, counts_of, machines_of};
 
 use crate::checking::Checking;
@@ -162,7 +162,7 @@ impl<'p, A: Allocator + Copy, P: Allocator> Session<'p, A, P> {
         ensures exact { IfOk result (λ verdict. (fleet : List Printer) (bytes : List ℕ) →
             HasChecked fleet bytes self.entry → IsExact fleet bytes verdict) }
         ensures headline { IfOk result (λ verdict. (fleet : List Printer) (bytes : List ℕ) →
-            HasChecked fleet bytes self.entry → KeepsPromise fleet bytes verdict) }
+            HasChecked fleet bytes self.entry → VerdictHolds fleet bytes verdict) }
         ensures after_verdict { (verdict : Verdict) → self.entry.standing ≡
             standings.Judged verdict → result ≡ Ok verdict }
         ensures after_error { (error : Error) → self.entry.standing ≡ standings.Stopped error →
@@ -177,7 +177,7 @@ impl<'p, A: Allocator + Copy, P: Allocator> Session<'p, A, P> {
     // It only borrows the session, so that the proof of each way out need not free it.
     fn verdict(&mut self) -> Result<Verdict, Error>
         ensures ended { IfOk result (λ verdict. (fleet : List Printer) (bytes : List ℕ) →
-            HasChecked fleet bytes self.old → IsRight fleet bytes verdict self.new.culprit) }
+            HasChecked fleet bytes self.old → IsJudgementOn fleet bytes verdict self.new.culprit) }
         ensures judged { (verdict : Verdict) → self.old.standing ≡ standings.Judged verdict →
             result ≡ Ok verdict }
         ensures kept { (verdict : Verdict) → self.old.standing ≡ standings.Judged verdict →

@@ -18,7 +18,8 @@ use Rattle.printer_models.specs.Panel.{panel_values}
 -- numbers that a profile can have, the tables answer the same.
 pub record IsPrinterOf (model : Model) (papers : List Paper) (lists : PanelLists) (printer : Printer) : Type 0 where
   pub values : (field : Field) → values_of printer field ≡ panel_values model papers lists field
-  pub trays : (tray : ℕ) → tray < 256 → has_tray printer tray ≡ list_any (λ held. held == tray) (facts_of model).trays
+  pub trays : (tray : ℕ) → tray < 256 →
+      has_tray printer tray ≡ list_any (λ held. held == tray) (facts_of model).device_trays
   pub pages : (size orientation : ℕ) → size < 1_000 → orientation < 4 →
       row_at printer.geometries size orientation ≡ page_at papers size orientation
   pub faces : (id : ℕ) → id < 256 → face_at printer.faces id ≡ face_numbered (faces_of (facts_of model).generation) id

@@ -17,18 +17,18 @@ pub record Facts : Type 0 where
   pub title : List ℕ
   pub generation : Generation
   pub papers : List Paper
-  pub trays : List ℕ
+  pub device_trays : List ℕ
   pub panel_trays : List ℕ
   pub has_duplex : Bool
   pub memory : ℕ
 
 abbrev pub facts : List ℕ → List ℕ → Generation → List Paper → List ℕ → List ℕ → Bool → ℕ → Facts
-facts word title generation papers trays panel_trays has_duplex memory = record {
+facts word title generation papers device_trays panel_trays has_duplex memory = record {
   word = word;
   title = title;
   generation = generation;
   papers = papers;
-  trays = trays;
+  device_trays = device_trays;
   panel_trays = panel_trays;
   has_duplex = has_duplex;
   memory = memory;

@@ -68,7 +68,7 @@ fn is_printer_of<A: Allocator + Copy>(
     let has_values = has_values(alloc, profile, model, papers, lists)?;
     Ok(
         has_values
-            && has_trays(profile, row.trays)
+            && has_trays(profile, row.device_trays)
             && has_pages(profile, papers)
             && has_faces(profile, &faces)
             && profile.has_duplex() == row.has_duplex

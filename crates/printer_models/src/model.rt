@@ -63,7 +63,7 @@ pub struct ModelRow {
     /// The papers that it can have.
     pub papers: &'static [Paper],
     /// Its trays, as `ESC &l#H` numbers them.
-    pub trays: &'static [u32],
+    pub device_trays: &'static [u32],
     /// Those from which it takes paper by itself, the usual one first.
     pub panel_trays: &'static [u32],
     /// Whether it can print on both sides.
@@ -83,7 +83,7 @@ impl Model {
         ensures title { result.now.title.now ≡ (facts_of self).title }
         ensures generation { result.now.generation ≡ (facts_of self).generation }
         ensures papers { result.now.papers.now ≡ (facts_of self).papers }
-        ensures trays { result.now.trays.now ≡ (facts_of self).trays }
+        ensures trays { result.now.device_trays.now ≡ (facts_of self).device_trays }
         ensures panel_trays { result.now.panel_trays.now ≡ (facts_of self).panel_trays }
         ensures duplex { result.now.has_duplex ≡ (facts_of self).has_duplex }
         ensures memory { result.now.memory ≡ (facts_of self).memory }
@@ -98,7 +98,7 @@ impl Model {
             result.now.title.now
             result.now.generation
             result.now.papers.now
-            result.now.trays.now
+            result.now.device_trays.now
             result.now.panel_trays.now
             result.now.has_duplex
             result.now.memory
@@ -270,7 +270,7 @@ const HP_LASERJET_4: ModelRow = ModelRow {
     title: "HP LaserJet 4",
     generation: Generation::LaserJet4,
     papers: FIRST_PAPERS,
-    trays: SIX_TRAYS,
+    device_trays: SIX_TRAYS,
     panel_trays: ONE_AND_FOUR,
     has_duplex: false,
     memory: 1_048_576,
@@ -287,7 +287,7 @@ const HP_LASERJET_4_PLUS: ModelRow = ModelRow {
     title: "HP LaserJet 4 Plus",
     generation: Generation::LaserJet4,
     papers: FIRST_PAPERS,
-    trays: SIX_TRAYS,
+    device_trays: SIX_TRAYS,
     panel_trays: ONE_AND_FOUR,
     has_duplex: true,
     memory: 1_048_576,
@@ -302,7 +302,7 @@ const HP_LASERJET_5: ModelRow = ModelRow {
     title: "HP LaserJet 5",
     generation: Generation::LaserJet5,
     papers: FIRST_PAPERS,
-    trays: SIX_TRAYS,
+    device_trays: SIX_TRAYS,
     panel_trays: ONE_AND_FOUR,
     has_duplex: false,
     memory: 1_048_576,
@@ -319,7 +319,7 @@ const HP_LASERJET_5SI: ModelRow = ModelRow {
     title: "HP LaserJet 5Si",
     generation: Generation::LaserJet5,
     papers: PAPERS_OF_5SI,
-    trays: &[1, 2, 3, 4, 5, 6, 20],
+    device_trays: &[1, 2, 3, 4, 5, 6, 20],
     panel_trays: ONE_AND_FOUR,
     has_duplex: true,
     memory: 1_048_576,
@@ -334,7 +334,7 @@ const HP_LASERJET_4000: ModelRow = ModelRow {
     title: "HP LaserJet 4000",
     generation: Generation::LaserJet5,
     papers: PAPERS_WITH_A5,
-    trays: SIX_TRAYS,
+    device_trays: SIX_TRAYS,
     panel_trays: ONE_AND_FOUR,
     has_duplex: true,
     memory: 1_048_576,
@@ -349,7 +349,7 @@ const HP_LASERJET_4200: ModelRow = ModelRow {
     title: "HP LaserJet 4200",
     generation: Generation::LaserJet5,
     papers: PAPERS_WITH_A5,
-    trays: &[1, 2, 3, 4, 5, 6, 20],
+    device_trays: &[1, 2, 3, 4, 5, 6, 20],
     panel_trays: ONE_AND_FOUR,
     has_duplex: true,
     memory: 1_048_576,
@@ -375,7 +375,7 @@ const HP_LASERJET_5000: ModelRow = ModelRow {
     title: "HP LaserJet 5000",
     generation: Generation::LaserJet5,
     papers: &PAPERS,
-    trays: FIVE_TRAYS,
+    device_trays: FIVE_TRAYS,
     panel_trays: ONE_AND_FOUR,
     has_duplex: true,
     memory: 1_048_576,
@@ -389,7 +389,7 @@ const HP_LASERJET_8000: ModelRow = ModelRow {
     title: "HP LaserJet 8000",
     generation: Generation::LaserJet5,
     papers: WIDE_PAPERS,
-    trays: &[1, 2, 3, 4, 5, 6, 20, 21],
+    device_trays: &[1, 2, 3, 4, 5, 6, 20, 21],
     panel_trays: ONE_AND_FOUR,
     has_duplex: true,
     memory: 1_048_576,
@@ -404,7 +404,7 @@ const HP_LASERJET_9000: ModelRow = ModelRow {
     title: "HP LaserJet 9000",
     generation: Generation::LaserJet5,
     papers: WIDE_PAPERS,
-    trays: &[1, 2, 3, 4, 5, 20],
+    device_trays: &[1, 2, 3, 4, 5, 20],
     panel_trays: ONE_AND_FOUR,
     has_duplex: true,
     memory: 1_048_576,
@@ -419,7 +419,7 @@ const HP_LASERJET_P3005: ModelRow = ModelRow {
     title: "HP LaserJet P3005",
     generation: Generation::LaserJet5,
     papers: PAPERS_WITH_A6,
-    trays: FIVE_TRAYS,
+    device_trays: FIVE_TRAYS,
     panel_trays: ONE_AND_FOUR,
     has_duplex: true,
     memory: 1_048_576,
@@ -433,7 +433,7 @@ const HP_LASERJET_P3015: ModelRow = ModelRow {
     title: "HP LaserJet P3015",
     generation: Generation::LaserJet5,
     papers: PAPERS_WITH_A6,
-    trays: &[1, 2, 3, 4, 5, 20],
+    device_trays: &[1, 2, 3, 4, 5, 20],
     panel_trays: ONE_AND_FOUR,
     has_duplex: true,
     memory: 1_048_576,
@@ -448,7 +448,7 @@ const HP_LASERJET_M605: ModelRow = ModelRow {
     title: "HP LaserJet M605",
     generation: Generation::LaserJet5,
     papers: PAPERS_WITH_A6,
-    trays: &[1, 2, 3, 4, 5, 6, 20, 21, 22],
+    device_trays: &[1, 2, 3, 4, 5, 6, 20, 21, 22],
     panel_trays: ONE_AND_FOUR,
     has_duplex: true,
     memory: 1_048_576,
@@ -463,7 +463,7 @@ const BROTHER_HL_5350DN: ModelRow = ModelRow {
     title: "Brother HL-5350DN",
     generation: Generation::LaserJet5,
     papers: PAPERS_OF_BROTHER,
-    trays: FIVE_TRAYS,
+    device_trays: FIVE_TRAYS,
     panel_trays: ONE_AND_FOUR,
     has_duplex: true,
     memory: 1_048_576,
@@ -480,7 +480,7 @@ const KYOCERA_FS_1020D: ModelRow = ModelRow {
     title: "Kyocera FS-1020D",
     generation: Generation::LaserJet5,
     papers: PAPERS_OF_KYOCERA,
-    trays: FIVE_TRAYS,
+    device_trays: FIVE_TRAYS,
     panel_trays: ONE_AND_FOUR,
     has_duplex: true,
     memory: 1_048_576,
@@ -497,7 +497,7 @@ const LEXMARK_MS520: ModelRow = ModelRow {
     title: "Lexmark MS520",
     generation: Generation::LaserJet5,
     papers: PAPERS_WITH_A6,
-    trays: &[1, 2, 3, 4, 5, 6, 8, 20],
+    device_trays: &[1, 2, 3, 4, 5, 6, 8, 20],
     panel_trays: ONE_AND_EIGHT,
     has_duplex: true,
     memory: 1_048_576,
@@ -514,7 +514,7 @@ const RICOH_SP_3710DN: ModelRow = ModelRow {
     title: "Ricoh SP 3710DN",
     generation: Generation::LaserJet5,
     papers: PAPERS_OF_RICOH,
-    trays: ONE_AND_EIGHT,
+    device_trays: ONE_AND_EIGHT,
     panel_trays: ONE_AND_EIGHT,
     has_duplex: true,
     memory: 1_048_576,
@@ -531,7 +531,7 @@ const GENERIC: ModelRow = ModelRow {
     title: "a printer of PCL 5e that is not in this list",
     generation: Generation::LaserJet5,
     papers: &PAPERS,
-    trays: &[1, 2, 3],
+    device_trays: &[1, 2, 3],
     panel_trays: &[1],
     has_duplex: false,
     memory: 262_144,

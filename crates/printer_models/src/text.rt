@@ -190,7 +190,7 @@ fn push_numbers<A: Allocator>(text: &mut Vec<u8, A>, numbers: &[u32]) -> Result<
 
 /// Appends the lines on the device.
 fn push_device<A: Allocator>(text: &mut Vec<u8, A>, row: &ModelRow) -> Result<(), AllocError> {
-    push_list(text, Key::Trays, row.trays)?;
+    push_list(text, Key::Trays, row.device_trays)?;
     push_list(text, Key::Duplex, &[u32::from(row.has_duplex)])?;
     push_list(text, Key::Memory, &[row.memory])
 }

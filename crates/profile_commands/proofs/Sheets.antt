@@ -10,7 +10,7 @@ use Rattle.requests.specs.declared.status.Status.TheVariants.{Overwrites}
 use Rattle.requests.specs.declared.status.Trouble.{Trouble}
 use Rattle.test_sheet.specs.Sheet.{sheet}
 use Rattle.device_profile.specs.Printer.{Printer}
-use Rattle.preflight.specs.Verdict.{IsExact, KeepsPromise}
+use Rattle.preflight.specs.Verdict.{IsExact, VerdictHolds}
 use Rattle.profile_commands.specs.ProfileSheet.{FailsBy, IsEndOfCheck, LeavesSheet, LeavesSheetOf, Passes}
 use Rattle.verdict.specs.declared.failure.Failure.{Failure}
 use Rattle.verdict.specs.declared.verdict.Verdict.{Verdict}
@@ -18,12 +18,12 @@ use Rattle.verdict.specs.declared.verdict.Verdict.TheVariants.{Pass, Fail}
 use Rattle.verdict.specs.Failing.{IsPass, failing}
 
 pub passes : (printer : Printer) (fleet : List Printer) (job : List ℕ) (verdict : Verdict) → fleet ≡ printer ∷ [] → IsPass verdict →
-    IsExact fleet job verdict → KeepsPromise fleet job verdict → Passes printer job
+    IsExact fleet job verdict → VerdictHolds fleet job verdict → Passes printer job
 passes printer fleet job (Pass pages marks) one is exact promise = (
   pages,
   marks,
   subst (λ printers. IsExact printers job (Pass pages marks)) one exact,
-  subst (λ printers. KeepsPromise printers job (Pass pages marks)) one promise,
+  subst (λ printers. VerdictHolds printers job (Pass pages marks)) one promise,
 )
 passes printer fleet job (Fail place number reason) one is exact promise = absurd is
 

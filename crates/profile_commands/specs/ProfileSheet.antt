@@ -3,7 +3,7 @@ use Rattle.std.specs.Prelude.{◌≡◌, ◌⊎◌, ◌∷◌, [], ℕ, List, Bo
 use Rattle.device_profile.specs.Name.{printer_name}
 use Rattle.device_profile.specs.Printer.{Printer}
 use Rattle.streams.specs.declared.error.Error.TheVariants.{Memory, Read, Write, Turns}
-use Rattle.preflight.specs.Verdict.{IsExact, KeepsPromise}
+use Rattle.preflight.specs.Verdict.{IsExact, VerdictHolds}
 use Rattle.shown_bytes.specs.Shown.{shown}
 use Rattle.profile_commands.specs.ProfileReading.{IsRead, IsTextOf, TellsWhyNone}
 use Rattle.profile_commands.specs.WholeText.{WritesWhole}
@@ -23,7 +23,7 @@ use Rattle.verdict.specs.Failing.{failing}
 abbrev pub Passes : Printer → List ℕ → Type 0
 Passes printer job =
     (pages : ℕ) × (marks : ℕ) × IsExact (printer ∷ []) job (Pass pages marks)
-    × KeepsPromise (printer ∷ []) job (Pass pages marks)
+    × VerdictHolds (printer ∷ []) job (Pass pages marks)
 
 -- the job fails on it so
 abbrev pub FailsBy : Printer → List ℕ → Failure → Type 0

@@ -94,14 +94,15 @@ tells_choices : (draft : Draft) →
     Tells (has_its_choices draft) (Fault 0 Range) (choice_faults draft Font ++ choice_faults draft Tray ++ choice_faults draft Sides)
 tells_choices draft =
     let faced : Bool = list_all (λ font. has_face draft.faces font) draft.choices.fonts in
-    let held : Bool = list_all (λ tray. list_any (λ held. held == tray) draft.device_trays) draft.choices.trays in
+    let held : Bool = list_all (λ tray. list_any (λ held. held == tray) draft.device_trays) draft.choices.panel_trays in
     let sided : Bool = list_all (are_sides (is_duplex draft)) draft.choices.sides in
     tells_both (faced && held) sided (Fault 0 Range) (choice_faults draft Font ++ choice_faults draft Tray) (choice_faults draft Sides)
     (tells_both faced held (Fault 0 Range) (choice_faults draft Font) (choice_faults draft Tray)
     (tells_flat (λ font. has_face draft.faces font) (unheld draft Font) (Fault 0 Range)
     (λ font. tells_unless (has_face draft.faces font) (NoFace font) (Fault 0 Range) refl) draft.choices.fonts)
     (tells_flat (λ tray. list_any (λ held. held == tray) draft.device_trays) (unheld draft Tray) (Fault 0 Range)
-    (λ tray. tells_unless (list_any (λ held. held == tray) draft.device_trays) (NoTray tray) (Fault 0 Range) refl) draft.choices.trays))
+    (λ tray. tells_unless (list_any (λ held. held == tray) draft.device_trays) (NoTray tray) (Fault 0 Range) refl)
+    draft.choices.panel_trays))
     (tells_flat (are_sides (is_duplex draft)) (unheld draft Sides) (Fault 0 Range)
     (λ sides. tells_unless (are_sides (is_duplex draft) sides) (NoSides sides) (Fault 0 Range) refl) draft.choices.sides)
 

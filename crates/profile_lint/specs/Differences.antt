@@ -66,7 +66,7 @@ has_same_values a b Orientation = are_among a.orientations b.orientations && are
 has_same_values a b Vmi = are_among a.vmis b.vmis && are_among b.vmis a.vmis
 has_same_values a b Copies = are_among a.copies b.copies && are_among b.copies a.copies
 has_same_values a b Sides = are_among a.sides b.sides && are_among b.sides a.sides
-has_same_values a b Tray = are_among a.trays b.trays && are_among b.trays a.trays
+has_same_values a b Tray = are_among a.panel_trays b.panel_trays && are_among b.panel_trays a.panel_trays
 has_same_values a b LineTerm =
     are_among a.line_terminations b.line_terminations && are_among b.line_terminations a.line_terminations
 

@@ -61,7 +61,7 @@ fn push_device<A: Allocator, P: Allocator>(
     ensures { OnOk result (text.new.items ≡ text.old.items ++ device_lines profile.now) }
 {
     text.extend_from_slice(b"device:\n")?;
-    push_trays_line(text, profile.trays())?;
+    push_trays_line(text, profile.device_trays())?;
     push_sides_line(text, profile.has_duplex())?;
     push_macros_line(text, profile.depth(), profile.memory())
 }

@@ -54,28 +54,28 @@ same_none number n (x ∷ xs) (y ∷ ys) e =
     heads a b rest others e = (cc, cc)
 
 -- a printer whose run has no finding and these events
-abbrev IsRight : Reading → List (List Event) → Printer → Type 0
-IsRight reading events printer = Agreed (watched_items printer reading) × (events_by_item (watched_items printer reading) ≡ events)
+abbrev GivesEvents : Reading → List (List Event) → Printer → Type 0
+GivesEvents reading events printer = Agreed (watched_items printer reading) × (events_by_item (watched_items printer reading) ≡ events)
 
 both_none : {X : Type 0} (xs ys : List X) → xs ≡ [] → ys ≡ [] → xs ++ ys ≡ []
 both_none xs ys a b = ap (λ zs. zs ++ ys) a ∙ b
 
 no_findings : (reading : Reading) (events : List (List Event)) (number : ℕ) (fleet : List Printer) →
-    AllByRecursion (IsRight reading events) fleet → of_each findings_in number (runs_of fleet reading) ≡ []
+    AllByRecursion (GivesEvents reading events) fleet → of_each findings_in number (runs_of fleet reading) ≡ []
 no_findings reading events number [] h = refl
 no_findings reading events number (p ∷ ps) h =
     both_none (findings_in number 0 (watched_items p reading)) (of_each findings_in (number + 1) (runs_of ps reading))
     (agreed_findings number 0 (watched_items p reading) h.0.0) (no_findings reading events (number + 1) ps h.1)
 
 no_differences : (reading : Reading) (events : List (List Event)) (first : List ItemRun) → events_by_item first ≡ events → (number : ℕ)
-    (fleet : List Printer) → AllByRecursion (IsRight reading events) fleet →
+    (fleet : List Printer) → AllByRecursion (GivesEvents reading events) fleet →
     of_each (differences_in first) number (runs_of fleet reading) ≡ []
 no_differences reading events first is number [] h = refl
 no_differences reading events first is number (p ∷ ps) h =
     both_none (differences_in first number 0 (watched_items p reading)) (of_each (differences_in first) (number + 1) (runs_of ps reading))
     (same_none number 0 first (watched_items p reading) (h.0.1 ∙ sym is)) (no_differences reading events first is (number + 1) ps h.1)
 
-none_wrong : (reading : Reading) (events : List (List Event)) (fleet : List Printer) → AllByRecursion (IsRight reading events) fleet →
+none_wrong : (reading : Reading) (events : List (List Event)) (fleet : List Printer) → AllByRecursion (GivesEvents reading events) fleet →
     first_wrong (runs_of fleet reading) ≡ None
 none_wrong reading events [] h = refl
 none_wrong reading events (p ∷ ps) h =
@@ -96,7 +96,7 @@ not_watched printer nothing = λ i. record {
   font = one_value printer.fonts (nothing fields.Font) i;
   copies = one_value printer.copies (nothing fields.Copies) i;
   sides = one_value printer.sides (nothing fields.Sides) i;
-  tray = one_value printer.trays (nothing fields.Tray) i;
+  tray = one_value printer.panel_trays (nothing fields.Tray) i;
   line_termination = one_value printer.line_terminations (nothing fields.LineTerm) i;
 }
 
@@ -150,7 +150,7 @@ module _ (plainly : (printer : Printer) (panel : Panel) (reading : Reading) → 
   clean_passes : ((printer : Printer) → Contains fleet printer → LeavesNothing printer) → AreClean fleet items place →
       IsPass (verdict_of fleet whole)
   clean_passes nothing clean =
-      let right = all_of (IsRight whole clean.events) fleet (λ p has.
+      let right = all_of (GivesEvents whole clean.events) fleet (λ p has.
       let same : (plain_run p (first_panel p) whole).items ≡ watched_items p whole =
       ap (λ flags. (run_from p flags (first_panel p) whole).items) (sym (not_watched p (nothing p has))) in
       let ends : Ends (plain_run p (first_panel p) whole).ending = subst Ends (sym (clean.clean p has).is_done) tt in

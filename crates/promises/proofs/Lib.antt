@@ -6,3 +6,5 @@ mod ReadAgain
 mod SameRuns
 mod PinnedReading
 mod PinnedVerdicts
+mod ClosingsFacts
+mod StartedRastersFacts

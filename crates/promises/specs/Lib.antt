@@ -1,2 +1,4 @@
 pub mod Clean
 pub mod Laws
+pub mod Closings
+pub mod StartedRasters

@@ -1,4 +1,4 @@
-//! Laws of spellings, of verdicts and of texts.
+//! Laws of spellings, of steps, of verdicts and of texts.
 
 ghost use Rattle.std.specs.Prelude.{◌≡◌, ◌↔◌, ℕ, List, Option, Some, false};
 ghost use Rattle.std.specs.List.{AllByRecursion};
@@ -11,10 +11,17 @@ ghost use Rattle.pcl_spelling.specs.Laws.{HasCanon, IsOneUnit};
 ghost use Rattle.device_profile.specs.declared.panel.Panel.{Panel};
 ghost use Rattle.device_profile.specs.Printer.{CanBeSetTo, Printer};
 ghost use Rattle.page_env.specs.Pinned.{is_unpinnable};
+ghost use Rattle.page_env.specs.Settings.{Settings, State};
+ghost use Rattle.page_env.specs.Table.{transition_of};
+ghost use Rattle.page_machine.specs.declared.nesting.Nesting.{Nesting};
 ghost use Rattle.page_machine.specs.Job.{plain_run};
 ghost use Rattle.page_machine.specs.Laws.{IsSet};
+ghost use Rattle.page_machine.specs.Macros.{MacroContext};
+ghost use Rattle.page_machine.specs.Run.{Conditions};
+ghost use Rattle.promises.specs.Closings.{ClosesInOrder, FixesInOrder};
 ghost use Rattle.promises.specs.Laws.{HasOneRun, HaveOnePlainText, IsPinned, IsReadAgain};
 ghost use Rattle.promises.specs.Laws.{PartPasses, RunAlike};
+ghost use Rattle.promises.specs.StartedRasters.{RastersHavePlaces};
 ghost use Rattle.renderings.specs.Pins.{pinned_rendering};
 ghost use Rattle.streams.specs.Pieces.{ByReads, HasEnd};
 ghost use Rattle.streams.specs.Source.{SourceState};
@@ -106,3 +113,19 @@ pub fn pinned_job_prints_alike()
 {
     pinned_jobs_print_alike();
 }
+
+/// What is found where a page is closed stands in the one order of findings: 21, 23 and 12 of the
+/// closing, which is a step of its own; and before it, behind the checks of an item that sets the
+/// paper, 23 where the paper is fixed.
+pub fn closings_are_in_order()
+    ensures closings { (context : MacroContext) (nesting : Nesting) (s : State) →
+        ClosesInOrder context nesting s }
+    ensures papers { (printer : Printer) (conditions : Conditions) (s : State) (item : Entry) →
+        FixesInOrder conditions s (transition_of printer conditions.defaults s item) }
+{}
+
+/// A raster that is started has a vertical place: each item but those of rasters ends it, and
+/// starts none, and each of rasters leaves it one. So its rows and skips read no VMI.
+pub fn started_rasters_have_places()
+    ensures { (printer : Printer) (defaults : Settings) → RastersHavePlaces printer defaults }
+{}

@@ -11,7 +11,7 @@ use Rattle.pcl_lexer.proofs.Lexing.Steps.{decides}
 use Rattle.renderings.specs.declared.outcome.Outcome.{Outcome}
 use Rattle.renderings.specs.Due.{Rendering, WritesDue, WritesFront, WritesDecided}
 use Rattle.streams.specs.Outlet.{OutletState}
-use Rattle.streams.specs.Pieces.{MayBeBy}
+use Rattle.streams.specs.Pieces.{MayBeBy, Spell}
 use Rattle.streams.specs.Source.{SourceState}
 use Rattle.renderings.specs.Carriers.Rendering.{IsFrontFor}
 use Rattle.renderings.specs.Carriers.Rendered.{IsRendered, RendersOn}
@@ -53,11 +53,12 @@ module _ (first : Rendering) (start written : OutletState) (source source' : Sou
 
     -- and all that the bytes decide
     pub decided_told : ((place : ℕ) (cause : LexCause) → rendering.text (Stopped [] place cause) ≡ rendering.at_fault [] place cause) →
-        WritesDecided first source source' start written
-    decided_told adds = record {
+        Spell pieces bytes → WritesDecided first source source' start written
+    decided_told adds spelled = record {
       pieces = pieces;
       given_is = given_is;
       consumed = all_consumed;
+      spelled = subst (Spell pieces) (sym joined) spelled;
       items = goes.rendered.items;
       decided = subst (λ (l : List ℕ). Decides false l goes.rendered.items) (sym joined)
           (subst (λ w. Decides w bytes goes.rendered.items) goes.open_input

@@ -16,7 +16,7 @@ use Rattle.renderings.specs.declared.outcome.Outcome.{Outcome}
 use Rattle.streams.specs.Errors.{is_err_of_read, is_err_of_write}
 use Rattle.streams.specs.Outlet.{OutletState, Adds, AddsFront}
 use Rattle.renderings.specs.PageTexts.{pages_text, pages_outcome}
-use Rattle.streams.specs.Pieces.{ByReads}
+use Rattle.streams.specs.Pieces.{ByReads, Spell}
 use Rattle.streams.specs.Source.{SourceState}
 use Rattle.renderings.specs.Texts.{plain_text, list_text, reading_outcome}
 
@@ -51,12 +51,13 @@ pub record WritesFront (rendering : Rendering) (source source' : SourceState)
   pub front : AddsFront outlet outlet' (rendering.text reading)
 
 -- All that is due of the items was written, and nothing else, which the bytes that the reads gave decide:
--- what is due of a job that stops behind them, but for what the fault itself adds.
+-- what is due of a job that stops behind them, but for what the fault itself adds. No read gave the end.
 pub record WritesDecided (rendering : Rendering) (source source' : SourceState)
     (outlet outlet' : OutletState) : Type 0 where
   pub pieces : List (List ℕ)
   pub given_is : source'.given ≡ source.given ++ pieces
   pub consumed : Consumes source.remaining source'.remaining (concat pieces)
+  pub spelled : Spell pieces (concat pieces)
   pub items : List Placed
   pub decided : Decides false (concat pieces) items
   pub no_more : Undecided (concat pieces) items

@@ -1,5 +1,5 @@
 -- The reads of a job: its start, one more piece, and its end.
-use Rattle.std.specs.Prelude.{IsErrOf}
+use Rattle.std.specs.Prelude.{IsErrOf, ⊤}
 use Rattle.streams.specs.Errors.{is_err_of_write, is_write}
 use Rattle.std.proofs.Common.{Bool, false, ◌≡◌, ◌≢◌, ◌+◌, ◌≤◌, ◌<◌, ℕ, List, [], ◌∷◌, ◌++◌, length, take, refl, ap, sym, ◌∙◌, subst}
 use Rattle.std.proofs.Common.{append-nil, Option, None, Some, Result, Ok, Err, IfOk, IfErr, arith, length-append}
@@ -10,7 +10,7 @@ use Rattle.streams.specs.declared.error.Error.{Error}
 use Rattle.streams.specs.declared.error.Error.TheVariants.{Memory, Read, Write, Turns, NoProfile, Items}
 use Rattle.streams.specs.Pieces.{ByReads, MayBeBy, Spell}
 use Rattle.streams.specs.Source.{SourceState}
-use Rattle.streams.specs.Driving.{ComesByEnd, ComesByPiece, IsAnswered, IsErrorOfPiece, IsStopped, IsUnderWay, StopsBy}
+use Rattle.streams.specs.Driving.{ComesByEnd, ComesByPiece, IsAnswered, IsErrorOfPiece, IsStopped, IsUnderWay, OpenBefore, StopsBy}
 use Rattle.streams.proofs.OutletFacts.{concat_more}
 use Rattle.streams.proofs.Pieces.{all_read, at_front, at_job, by_length, given_more, spell_none, spell_more}
 
@@ -40,6 +40,19 @@ module _ {C : Type 0} (goes_on : C → List ℕ → C → Type 0) (stops : C →
   }
 
   module _ (now : C) (mid : SourceState) (reads : ℕ) (way : IsUnderWay goes_on first now source mid reads) where
+    -- all that was read left it open
+    open_now : OpenBefore goes_on first way.pieces
+    open_now = record {
+      before = way.pieces;
+      last = [];
+      split = sym (append-nil way.pieces);
+      at_most_one = omega arith;
+      bytes = way.bytes;
+      spelled = way.spelled;
+      between = now;
+      left_open = way.left_open;
+    }
+
     -- no more is read
     pub stopped_turning : IsStopped goes_on stops first now Turns source mid
     stopped_turning = record {
@@ -48,6 +61,8 @@ module _ {C : Type 0} (goes_on : C → List ℕ → C → Type 0) (stops : C →
       given_is = way.given_is;
       joined = way.joined;
       consumed = way.consumed;
+      spelled = way.spelled;
+      was_open = open_now;
       came = way.left_open;
     }
 
@@ -65,6 +80,8 @@ module _ {C : Type 0} (goes_on : C → List ℕ → C → Type 0) (stops : C →
         given_is = none ∙ (append-nil mid.given ∙ way.given_is);
         joined = way.joined;
         consumed = Consumes-kept source.remaining mid.remaining after.remaining way.bytes way.consumed keeps;
+        spelled = way.spelled;
+        was_open = open_now;
         came = way.left_open;
       }
 
@@ -88,6 +105,17 @@ module _ {C : Type 0} (goes_on : C → List ℕ → C → Type 0) (stops : C →
           given_is = all_given;
           joined = all_joined;
           consumed = all_consumed;
+          spelled = own_error (Spell (way.pieces ++ piece ∷ []) (way.bytes ++ piece)) (λ e. ⊤) error tt own;
+          was_open = record {
+            before = way.pieces;
+            last = piece ∷ [];
+            split = refl;
+            at_most_one = omega arith;
+            bytes = way.bytes;
+            spelled = way.spelled;
+            between = now;
+            left_open = way.left_open;
+          };
           came = own_error (goes_on first (way.bytes ++ piece) next) (λ e. stops first e (way.bytes ++ piece) next) error h own;
         }
 
@@ -208,6 +236,19 @@ own_read Open Stops Write h = (h, λ is. absurd cc)
 own_read Open Stops Turns h = h
 own_read Open Stops NoProfile h = h
 own_read Open Stops Items h = h
+
+-- two facts of the reads go together
+pub stops_both : (P Q : Type 0) (Stops : Error → Type 0) (e : Error) → StopsBy P Stops e → StopsBy Q (λ e. ⊤) e → StopsBy (P × Q) Stops e
+stops_both P Q Stops Memory p q = p
+stops_both P Q Stops Read p q = (p, q)
+stops_both P Q Stops Write p q = p
+stops_both P Q Stops Turns p q = (p, q)
+stops_both P Q Stops NoProfile p q = p
+stops_both P Q Stops Items p q = p
+
+-- what follows from an error
+pub of_error : {A : Type 0} (r : Result A Error) (e : Error) (Q : Error → Type 0) → IfErr r (λ e. Q e) → IsErrOf r e → Q e
+of_error r e Q h is = subst (λ r. IfErr r Q) is h
 
 -- what follows from an error of a read
 pub of_read : {A : Type 0} (r : Result A Error) (Q : Error → Type 0) → IfErr r (λ e. Q e) → IsErrOf r Read → Q Read

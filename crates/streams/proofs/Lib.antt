@@ -2,3 +2,4 @@ mod Walks
 pub mod OutletFacts
 pub mod Pieces
 pub mod Driving
+pub mod Uses

@@ -1,6 +1,6 @@
 -- How what takes a job in pieces comes through it.
 use Rattle.std.specs.Prelude.{◌≡◌, ◌*◌, ◌≤◌, ℕ, List, [], ◌∷◌, ◌++◌, length, Option, None, Some, IfSome, Result, Ok}
-use Rattle.std.specs.Prelude.{Err}
+use Rattle.std.specs.Prelude.{Err, ⊤}
 use Rattle.std.specs.List.{concat}
 use Rattle.std.specs.Io.KnownBytes.{Consumes}
 use Rattle.streams.specs.declared.error.Error.{Error}
@@ -71,7 +71,20 @@ StopsBy Open Stops Turns = Open
 StopsBy Open Stops NoProfile = ⊥
 StopsBy Open Stops Items = ⊥
 
--- The reads gave these bytes, and then it stopped.
+-- what the reads before the last one gave, or what all gave, left the answer open
+pub record OpenBefore {C : Type 0} (goes_on : C → List ℕ → C → Type 0) (first : C)
+    (pieces : List (List ℕ)) : Type 0 where
+  pub before : List (List ℕ)
+  pub last : List (List ℕ)
+  pub split : pieces ≡ before ++ last
+  pub at_most_one : length last ≤ 1
+  pub bytes : List ℕ
+  pub spelled : Spell before bytes
+  pub between : C
+  pub left_open : goes_on first bytes between
+
+-- The reads gave these bytes, and then it stopped. Where a read failed, or they came to no end, none gave the end;
+-- and the answer was open before the last one, or behind it.
 pub record IsStopped {C : Type 0} (goes_on : C → List ℕ → C → Type 0) (stops : C → Error → List ℕ → C → Type 0)
     (first now : C) (error : Error) (source source' : SourceState) : Type 0 where
   pub pieces : List (List ℕ)
@@ -79,4 +92,6 @@ pub record IsStopped {C : Type 0} (goes_on : C → List ℕ → C → Type 0) (s
   pub given_is : source'.given ≡ source.given ++ pieces
   pub joined : concat pieces ≡ bytes
   pub consumed : Consumes source.remaining source'.remaining bytes
+  pub spelled : StopsBy (Spell pieces bytes) (λ e. ⊤) error
+  pub was_open : OpenBefore goes_on first pieces
   pub came : StopsBy (goes_on first bytes now) (λ e. stops first e bytes now) error

@@ -3,6 +3,7 @@ pub mod Pieces
 pub mod Outlet
 pub mod Latched
 pub mod Files
+pub mod Used
 pub mod Errors
 pub mod Writing
 pub mod Driving

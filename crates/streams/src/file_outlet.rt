@@ -1,8 +1,10 @@
 //! A file as an outlet.
 ghost use Rattle.std.specs.Prelude.{◌≡◌, IsFalse, IsTrue, OnOk, is_err};
+ghost use Rattle.std.specs.List.{concat};
 ghost use Rattle.streams.specs.Files.{no_outlet};
 
 use crate::file_id::FileId;
+use crate::given::Given;
 use crate::latched::Latched;
 use crate::opened::Opened;
 use crate::opening::Create;
@@ -40,6 +42,16 @@ impl<'a, R: Files> FileOutlet<'a, R> {
             files,
             path,
             created: Opened::NotYet,
+        }
+    }
+
+    /// What its writes took.
+    pub fn into_taken(self) -> Given
+        ensures { concat result.pieces ≡ self.entry.outlet.taken }
+    {
+        match self.created {
+            Opened::Done(file) => file.into_taken(),
+            Opened::NotYet | Opened::Failed(_) => Given::new(),
         }
     }
 

@@ -1,5 +1,6 @@
 //! A reader or a writer of std that latches its first failure.
 ghost use Rattle.std.specs.Prelude.{◌≡◌, [], false};
+ghost use Rattle.std.specs.List.{concat};
 
 use crate::given::Given;
 use crate::outlet::Outlet;
@@ -57,6 +58,13 @@ impl<T: Drop> Latched<T> {
         ensures { result.pieces ≡ self.given }
     {
         self.given
+    }
+
+    /// What its writes took.
+    pub fn into_taken(self) -> Given
+        ensures { concat result.pieces ≡ self.taken }
+    {
+        self.taken
     }
 }
 

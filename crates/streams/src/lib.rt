@@ -4,6 +4,7 @@
 
 mod driver;
 mod error;
+mod file_at;
 mod file_id;
 mod file_outlet;
 mod file_source;
@@ -14,10 +15,12 @@ mod opened;
 mod opening;
 mod outlet;
 mod source;
+mod used;
 mod writing;
 
 pub use driver::{Consumer, PIECE, read_job};
 pub use error::Error;
+pub use file_at::{OutletAt, SourceAt};
 pub use file_id::FileId;
 pub use file_outlet::FileOutlet;
 pub use file_source::FileSource;
@@ -27,4 +30,5 @@ pub use latched::Latched;
 pub use opening::{Create, Open};
 pub use outlet::Outlet;
 pub use source::Source;
+pub use used::FilesUsed;
 pub use writing::write_text;

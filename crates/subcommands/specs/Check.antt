@@ -13,7 +13,7 @@ use Rattle.requests.specs.declared.status.Status.TheVariants.{Pass, Fail, Help, 
 use Rattle.requests.specs.declared.status.Status.TheVariants.{Profile, Stopped}
 use Rattle.named_inputs.specs.Fleet.{DescribeBy, DescribeFleet}
 use Rattle.job_reports.specs.Lines.{verdict_line}
-use Rattle.job_reports.specs.Right.{IsRight}
+use Rattle.job_reports.specs.Right.{IsRightVerdict}
 
 -- the texts of profiles: those that are known, in order, and those that were read before and after
 pub record Texts : Type 0 where
@@ -28,7 +28,7 @@ texts_by known before after = record { known = known; before = before; after = a
 abbrev pub IsRightFor : Texts → SourceState → SourceState → Verdict → Type 0
 IsRightFor texts job job' verdict =
     (fleet : List Printer) × DescribeFleet texts.known fleet × DescribeBy texts.before texts.after fleet
-    × IsRight job job' fleet verdict
+    × IsRightVerdict job job' fleet verdict
 
 -- where a write failed, a front of the line of a verdict with this fact stands there, and otherwise nothing new
 abbrev pub LeavesAtStop : Error → (Verdict → Type 0) → OutletState → OutletState → Type 0

@@ -2,10 +2,10 @@
 ghost use Rattle.std.specs.Prelude.{◌≡◌, ◌≢◌, ◌+◌, ◌^◌, [], ◌||◌, length, map, IfOk, IfErr};
 ghost use Rattle.std.specs.Prelude.{IsErrOf, IsFalse, IsTrue};
 ghost use Rattle.streams.specs.Errors.{is_err_of_read, is_err_of_write};
-ghost use Rattle.preflight.specs.Verdict.{IsExact, KeepsPromise};
+ghost use Rattle.preflight.specs.Verdict.{IsExact, VerdictHolds};
 ghost use Rattle.streams.specs.Outlet.{Adds};
 ghost use Rattle.subcommands.specs.Check.{texts_by, IsRightFor, Leaves, LeavesAtStop};
-ghost use Rattle.job_reports.specs.Right.{IsRight};
+ghost use Rattle.job_reports.specs.Right.{IsRightVerdict};
 ghost use Rattle.named_inputs.specs.Fleet.{RefusesBy, RefusesFirst, ReachesSome};
 ghost use Rattle.job_reports.specs.Lines.{verdict_line};
 ghost use Rattle.requests.specs.Status.{is_refusal, is_stop_of_read, is_stop_of_write};
@@ -68,11 +68,11 @@ fn write_verdict<S: Source, O: Outlet, A: Allocator + Copy>(
     requires job { IsFalse (S.state job.old).failed }
     requires stdout { IsFalse (O.state stdout.old).failed }
     requires some { fleet.now ≢ [] }
-    ensures ok { IfOk result (λ verdict. IsRight (S.state job.old)
+    ensures ok { IfOk result (λ verdict. IsRightVerdict (S.state job.old)
         (S.state job.new) fleet.now verdict
         × Adds (O.state stdout.old) (O.state stdout.new) (verdict_line verdict)) }
     ensures err { IfErr result (λ error. LeavesAtStop error
-        (IsRight (S.state job.old) (S.state job.new) fleet.now)
+        (IsRightVerdict (S.state job.old) (S.state job.new) fleet.now)
         (O.state stdout.old) (O.state stdout.new)) }
     ensures read { (S.state job.new).failed ≡ is_err_of_read result }
     ensures write { (O.state stdout.new).failed ≡ is_err_of_write result }
@@ -96,7 +96,7 @@ pub fn verdict_on<A: Allocator + Copy>(
     fleet: &[Profile<A>],
 ) -> Result<Verdict, Error>
     ensures exact { IfOk result (IsExact fleet.now job.now) }
-    ensures promise { IfOk result (KeepsPromise fleet.now job.now) }
+    ensures promise { IfOk result (VerdictHolds fleet.now job.now) }
 {
     let mut source = Latched::new(job);
     check_job(alloc, &mut source, fleet)

@@ -3,5 +3,6 @@ use Rattle.file_requests.proofs.job_texts.pin.Goals as goal
 
 pub returns : goal.returns
 returns g c =
-    pin_left c.args.setting.now.profile.now c.args.setting.now.choices.now _ _ _ _ _ _ _ _ _ _ _ _
-    c.new-texts.ensures.given c.new-job.ensures c.new-out.ensures c.pin.ensures.ends c.pin.ensures.choice
+    pin_left c.args.job.now c.args.out.now _ _ c.args.setting.now.profile.now c.args.setting.now.choices.now _ _ _ _ _ _ _ _ _ _ _ _ _ _ _
+    c.new-texts.ensures.given c.new-source.ensures.file c.new-outlet.ensures.file c.pin-status.ensures.ends c.pin-status.ensures.choice
+    c.new-source.ensures.path c.new-outlet.ensures.path c.read.ensures c.written.ensures

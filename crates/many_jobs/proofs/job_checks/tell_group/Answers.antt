@@ -6,7 +6,7 @@ use Rattle.many_jobs.specs.Asked.{told_by}
 use Rattle.job_reports.specs.Groups.{Groups, group_at, reported}
 use Rattle.many_jobs.specs.JobChecks.{AddsTold, CutsNotes, CutsTold, IsRightAnswer, TellsNotes, work}
 use Rattle.many_jobs.specs.JobNoting.{note_printer}
-use Rattle.job_reports.specs.Reports.{verdict_of}
+use Rattle.job_reports.specs.Reports.{verdict_told}
 use Rattle.many_jobs.specs.Telling.{report_text}
 use Rattle.many_jobs.proofs.JobChecks.{cuts_line, cuts_notes, tells_alone, tells_noted, where_err}
 use Rattle.many_jobs.proofs.job_checks.tell_group.Goals as goal
@@ -51,9 +51,9 @@ returns-in-None-clause-told g c =
     let adds =
     subst (λ (part : Groups). AddsTold (λ cause. report_text telling (reported part name answer cause)) old.out mid.out)
     c.part-group.ensures c.in_ok-tell_line.ensures.told in
-    let none : note_printer (verdict_of answer) (group_at printers number).note_printers ≡ None =
-    ap (λ (part : Groups). note_printer (verdict_of answer) part.note_printers) (sym c.part-group.ensures)
-    ∙ (ap (note_printer (verdict_of answer)) (sym c.note_printers.ensures) ∙ sym c.in-None.ensures) in
+    let none : note_printer (verdict_told answer) (group_at printers number).note_printers ≡ None =
+    ap (λ (part : Groups). note_printer (verdict_told answer) part.note_printers) (sym c.part-group.ensures)
+    ∙ (ap (note_printer (verdict_told answer)) (sym c.note_printers.ensures) ∙ sym c.in-None.ensures) in
     tells_alone printers telling start name number after answer right old mid c.end.ensures.ended c.of-ending.result none
     adds c.of-ending.ensures
 
@@ -77,9 +77,9 @@ returns-in_err-noted-in-Some-clause-front g c =
     subst (λ (part : Groups). AddsTold (λ cause. report_text telling (reported part name answer cause)) old.out mid.out)
     c.part-group.ensures c.in_ok-tell_line.ensures.told in
     let printer = c.in-Some.printer.now in
-    let has : note_printer (verdict_of answer) (group_at printers number).note_printers ≡ Some printer =
-    ap (λ (part : Groups). note_printer (verdict_of answer) part.note_printers) (sym c.part-group.ensures)
-    ∙ (ap (note_printer (verdict_of answer)) (sym c.note_printers.ensures) ∙ sym c.in-Some.ensures) in
+    let has : note_printer (verdict_told answer) (group_at printers number).note_printers ≡ Some printer =
+    ap (λ (part : Groups). note_printer (verdict_told answer) part.note_printers) (sym c.part-group.ensures)
+    ∙ (ap (note_printer (verdict_told answer)) (sym c.note_printers.ensures) ∙ sym c.in-Some.ensures) in
     let error = c.in_err-noted-in-Some.field-0.0 in
     let cut =
     subst (λ (part : Groups). CutsNotes error part telling printer (g.J.Jobs.start c.end.new.self name) name mid new) c.part-group.ensures
@@ -109,9 +109,9 @@ returns-in_ok-noted-in-Some-clause-told g c =
     subst (λ (part : Groups). AddsTold (λ cause. report_text telling (reported part name answer cause)) old.out mid.out)
     c.part-group.ensures c.in_ok-tell_line.ensures.told in
     let printer = c.in-Some.printer.now in
-    let has : note_printer (verdict_of answer) (group_at printers number).note_printers ≡ Some printer =
-    ap (λ (part : Groups). note_printer (verdict_of answer) part.note_printers) (sym c.part-group.ensures)
-    ∙ (ap (note_printer (verdict_of answer)) (sym c.note_printers.ensures) ∙ sym c.in-Some.ensures) in
+    let has : note_printer (verdict_told answer) (group_at printers number).note_printers ≡ Some printer =
+    ap (λ (part : Groups). note_printer (verdict_told answer) part.note_printers) (sym c.part-group.ensures)
+    ∙ (ap (note_printer (verdict_told answer)) (sym c.note_printers.ensures) ∙ sym c.in-Some.ensures) in
     let told = c.in_ok-noted-in-Some.ensures.told in
     let tells =
     subst

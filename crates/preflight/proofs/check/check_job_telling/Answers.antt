@@ -1,12 +1,12 @@
-use Rattle.std.proofs.Common.{◌≡◌, Result, Ok, Err, refl, ap, subst, sym}
+use Rattle.std.proofs.Common.{◌≡◌, Result, Ok, Err, refl, ap, inl, inr, subst, sym}
 use Rattle.std.proofs.lemmas.Result.{err_from_is_err_and}
 use Rattle.streams.specs.Pieces.{ByReads}
 use Rattle.preflight.specs.declared.culprit.Judgement.{Judgement}
 use Rattle.streams.specs.declared.error.Error.{Error}
-use Rattle.streams.specs.declared.error.Error.TheVariants.{Turns}
+use Rattle.streams.specs.declared.error.Error.TheVariants.{Memory, Read, Turns}
 use Rattle.preflight.specs.Culprit.{IsTold}
-use Rattle.preflight.specs.Verdict.{IsExact, KeepsPromise}
-use Rattle.preflight.proofs.Judging.{exact, headline, known_ok, needed, never_items, never_write, told}
+use Rattle.preflight.specs.Verdict.{IsExact, VerdictHolds}
+use Rattle.preflight.proofs.Judging.{exact, headline, known_ok, needed, never_items, never_write, still_open, told, was_open}
 use Rattle.preflight.proofs.check.check_job_telling.Goals as goal
 
 same_error : (a b : Error) (x y : Result Judgement Error) → x ≡ Err a → y ≡ Err b → x ≡ y → a ≡ b
@@ -42,7 +42,7 @@ returns-clause-known_exact g c =
 
 pub returns-clause-known_headline : goal.returns-clause-known_headline
 returns-clause-known_headline g c =
-    known_ok _ _ (λ job verdict. KeepsPromise c.args.fleet.now job verdict) (Ok c.in_ok-verdict.verdict) (returns-clause-headline g c)
+    known_ok _ _ (λ job verdict. VerdictHolds c.args.fleet.now job verdict) (Ok c.in_ok-verdict.verdict) (returns-clause-headline g c)
 
 pub returns-clause-told : goal.returns-clause-told
 returns-clause-told g c =
@@ -66,3 +66,25 @@ pub returns-in_err-verdict-clause-long : goal.returns-in_err-verdict-clause-long
 returns-in_err-verdict-clause-long g c =
     let same = err_from_is_err_and c.from_residual-in_err-verdict.result c.from_residual-in_err-verdict.ensures.1 in
     rw (same.1, same.2) (λ turns. c.in_err-verdict.ensures.long (ap Err (same_error c.in_err-verdict.field-0.0 Turns _ _ refl refl turns)))
+
+pub returns-in_err-verdict-clause-still_open : goal.returns-in_err-verdict-clause-still_open
+returns-in_err-verdict-clause-still_open g c =
+    let same = err_from_is_err_and c.from_residual-in_err-verdict.result c.from_residual-in_err-verdict.ensures.1 in
+    rw (same.1, same.2)
+    (λ failed.
+    still_open c.args.fleet.now (c.in_ok-session.session, tt) (c.read_job.new.consumer, tt) c.in_ok-session.ensures.none _ _
+    (Err c.in_err-verdict.field-0.0) c.in_err-verdict.ensures.stopped
+    (ap Err (same_error c.in_err-verdict.field-0.0 Read _ _ refl refl failed)))
+
+pub returns-in_err-session-clause-was_open : goal.returns-in_err-session-clause-was_open
+returns-in_err-session-clause-was_open g c = λ memory. inl refl
+
+pub returns-in_err-verdict-clause-was_open : goal.returns-in_err-verdict-clause-was_open
+returns-in_err-verdict-clause-was_open g c =
+    let same = err_from_is_err_and c.from_residual-in_err-verdict.result c.from_residual-in_err-verdict.ensures.1 in
+    rw (same.1, same.2)
+    (λ memory.
+    inr
+    (was_open c.args.fleet.now (c.in_ok-session.session, tt) (c.read_job.new.consumer, tt) c.in_ok-session.ensures.none _ _
+    (Err c.in_err-verdict.field-0.0) Memory c.in_err-verdict.ensures.stopped
+    (ap Err (same_error c.in_err-verdict.field-0.0 Memory _ _ refl refl memory))))

@@ -6,7 +6,9 @@ use Rattle.streams.specs.declared.error.Error.TheVariants.{Read, Turns}
 use Rattle.renderings.specs.Due.{WritesDecided, WritesFront}
 use Rattle.streams.specs.Errors.{is_write}
 use Rattle.renderings.specs.Carriers.Rendered.{IsCutOff, RendersOn}
-use Rattle.streams.proofs.Driving.{answer_gives, by_whose, never_items, never_none, of_read, own_read, stop_gives, write_status}
+use Rattle.streams.proofs.Driving.{answer_gives, by_whose, never_items, never_none, of_read, own_read, stop_gives, stops_both}
+use Rattle.streams.proofs.Driving.{write_status}
+use Rattle.streams.specs.Pieces.{Spell}
 use Rattle.renderings.proofs.Renderings.{nothing_decided, rendered_none}
 use Rattle.renderings.proofs.WrittenTexts.{decided_told, due_by, front_by, front_told}
 use Rattle.renderings.proofs.render.render_job.Goals as goal
@@ -44,10 +46,11 @@ returns g c =
     let Decided : Error → Type 0 = λ error. error ≡ Read → WritesDecided rendering source source' outlet outlet' in
     let decided : IfErr result Decided = stop_gives result stopped
     (λ error is.
-    by_whose (Open is.bytes) (λ e. CutOff is.bytes e × (e ≡ Read → ⊥)) Decided error
-    (own_read (Open is.bytes) (CutOff is.bytes) error is.came)
-    (λ h _. decided_told rendering outlet outlet' source source' is.pieces is.bytes is.given_is is.joined is.consumed _ _ _ _ _ _ h
-    (g.met.R.Renderer.adds_at_fault new.consumer.renderer.now))
+    by_whose (Open is.bytes × Spell is.pieces is.bytes) (λ e. CutOff is.bytes e × (e ≡ Read → ⊥)) Decided error
+    (stops_both (Open is.bytes) (Spell is.pieces is.bytes) (λ e. CutOff is.bytes e × (e ≡ Read → ⊥)) error
+    (own_read (Open is.bytes) (CutOff is.bytes) error is.came) is.spelled)
+    (λ h _. decided_told rendering outlet outlet' source source' is.pieces is.bytes is.given_is is.joined is.consumed _ _ _ _ _ _ h.0
+    (g.met.R.Renderer.adds_at_fault new.consumer.renderer.now) h.1)
     (λ h turns. let both : Turns ≡ Read = turns in absurd cc)
     (λ e h read. absurd (h.1 read))) in
     record {

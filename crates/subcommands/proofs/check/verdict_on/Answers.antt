@@ -1,5 +1,5 @@
 use Rattle.std.proofs.Common.{IfOk, subst}
-use Rattle.preflight.specs.Verdict.{IsExact, KeepsPromise}
+use Rattle.preflight.specs.Verdict.{IsExact, VerdictHolds}
 use Rattle.subcommands.proofs.check.verdict_on.Goals as goal
 
 pub returns-clause-exact : goal.returns-clause-exact
@@ -9,5 +9,5 @@ returns-clause-exact g c =
 
 pub returns-clause-promise : goal.returns-clause-promise
 returns-clause-promise g c =
-    subst (λ inner. IfOk c.check_job.result (λ verdict. KeepsPromise c.args.fleet.now inner.now verdict)) c.new-source.ensures.inner
+    subst (λ inner. IfOk c.check_job.result (λ verdict. VerdictHolds c.args.fleet.now inner.now verdict)) c.new-source.ensures.inner
     c.check_job.ensures.known_headline

@@ -1,14 +1,14 @@
 use Rattle.std.proofs.Common.{rules, subst, ◌∙◌}
 use Rattle.std.proofs.lemmas.Result.{err_from_is_err_and}
 use Rattle.streams.specs.Outlet.{Adds}
-use Rattle.job_reports.specs.Right.{IsRight}
+use Rattle.job_reports.specs.Right.{IsRightVerdict}
 use Rattle.subcommands.proofs.Leaves.{LeavesAtStop-memory}
 use Rattle.subcommands.proofs.check.write_verdict.Goals as goal
 
 pub returns-in_err-line-clause-err : goal.returns-in_err-line-clause-err
 returns-in_err-line-clause-err g c =
     LeavesAtStop-memory c.from_residual-in_err-line.result
-    (IsRight (g.S.Source.state c.args.job.now) (g.S.Source.state c.check_job.new.reader) c.args.fleet.now)
+    (IsRightVerdict (g.S.Source.state c.args.job.now) (g.S.Source.state c.check_job.new.reader) c.args.fleet.now)
     (g.O.Outlet.state c.args.stdout.now) c.from_residual-in_err-line.ensures.1
 
 pub returns-clause-ok : goal.returns-clause-ok

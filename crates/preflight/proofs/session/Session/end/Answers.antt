@@ -2,22 +2,24 @@ use Rattle.std.proofs.Common.{ℕ, List}
 use Rattle.std.proofs.lemmas.Result.{IfOk-weaker}
 use Rattle.device_profile.specs.Printer.{Printer}
 use Rattle.preflight.specs.Session.{HasChecked}
-use Rattle.preflight.specs.Culprit.{IsRight}
-use Rattle.preflight.specs.Verdict.{IsExact, KeepsPromise}
+use Rattle.preflight.specs.Culprit.{IsJudgementOn}
+use Rattle.preflight.specs.Verdict.{IsExact, VerdictHolds}
 use Rattle.preflight.proofs.session.Session.end.Goals as goal
 
 pub returns-clause-exact : goal.returns-clause-exact
 returns-clause-exact g c =
     IfOk-weaker c.verdict.result (λ verdict.
-    (fleet : List Printer) (bytes : List ℕ) → HasChecked fleet bytes c.args.self → IsRight fleet bytes verdict c.verdict.new.self.culprit)
+    (fleet : List Printer) (bytes : List ℕ) → HasChecked fleet bytes c.args.self →
+    IsJudgementOn fleet bytes verdict c.verdict.new.self.culprit)
     (λ verdict. (fleet : List Printer) (bytes : List ℕ) → HasChecked fleet bytes c.args.self → IsExact fleet bytes verdict)
     (λ verdict ended fleet bytes checked. (ended fleet bytes checked).0) c.verdict.ensures.ended
 
 pub returns-clause-headline : goal.returns-clause-headline
 returns-clause-headline g c =
     IfOk-weaker c.verdict.result (λ verdict.
-    (fleet : List Printer) (bytes : List ℕ) → HasChecked fleet bytes c.args.self → IsRight fleet bytes verdict c.verdict.new.self.culprit)
-    (λ verdict. (fleet : List Printer) (bytes : List ℕ) → HasChecked fleet bytes c.args.self → KeepsPromise fleet bytes verdict)
+    (fleet : List Printer) (bytes : List ℕ) → HasChecked fleet bytes c.args.self →
+    IsJudgementOn fleet bytes verdict c.verdict.new.self.culprit)
+    (λ verdict. (fleet : List Printer) (bytes : List ℕ) → HasChecked fleet bytes c.args.self → VerdictHolds fleet bytes verdict)
     (λ verdict ended fleet bytes checked. (ended fleet bytes checked).1) c.verdict.ensures.ended
 
 pub returns-clause-after_verdict : goal.returns-clause-after_verdict

@@ -1,0 +1,150 @@
+//! The commands by their rows, and the command line that they make up.
+
+use crate::check_words::{CHECK, EXPLANATION};
+use crate::picture_words::PICTURE;
+use crate::profile_tool_words::{PROFILE_FROM_PJL, PROFILE_LINT, PROFILE_SHEET, PROFILE_SHOW};
+use crate::profile_words::{PROFILE_COMMANDS, PROFILE_LIST, PROFILE_NEW};
+use crate::rows::{CommandRow, Count, Need, WordRow};
+use crate::text_commands::{LIST, NOTES, PAGES, PIN, PLAIN};
+use clap::Command;
+use std::alloc::{AllocError, Global};
+
+const VERSION: &str = "0.1.0";
+
+const EXPLAIN_EXPLANATION: &str =
+    "CODE is a number, or a name without what stands behind it in brackets, in any letter case.
+
+Exit status:
+  0  an explanation was written, or help was asked for
+  2  usage error, or no fault, finding or note has this code
+  3  a write failed, or memory ran out";
+
+/// The program itself.
+const PROGRAM: &CommandRow = &CommandRow {
+    name: "pclcheck",
+    about: "A preflight checker for PCL 5 print jobs",
+    explanation: EXPLANATION,
+    words: &[],
+    options: &[],
+};
+
+/// The words of the command `explain`.
+const EXPLAIN: &CommandRow = &CommandRow {
+    name: "explain",
+    about: "Tells when a fault, finding or note comes, and what to change in the job or the \
+        profile",
+    explanation: EXPLAIN_EXPLANATION,
+    words: &[WordRow {
+        id: "CODE",
+        need: Need::Never,
+        count: Count::One,
+        help: "The fault, finding or note, by its number or its name; without it, all",
+    }],
+    options: &[],
+};
+
+/// The program or one of its commands, by which its row is found.
+#[derive(Clone, Copy)]
+enum CommandName {
+    Program,
+    Check,
+    List,
+    Pages,
+    Picture,
+    Notes,
+    Plain,
+    Pin,
+    Explain,
+    Profile,
+    ProfileList,
+    ProfileNew,
+    ProfileLint,
+    ProfileShow,
+    ProfileSheet,
+    ProfileFromPjl,
+}
+
+/// The commands that none stands below, in the order in which help lists them.
+const BELOW_PROGRAM: &[CommandName] = &[
+    CommandName::Check,
+    CommandName::List,
+    CommandName::Pages,
+    CommandName::Picture,
+    CommandName::Notes,
+    CommandName::Plain,
+    CommandName::Pin,
+    CommandName::Explain,
+];
+
+/// The commands below `profile`, in the order in which help lists them.
+const BELOW_PROFILE: &[CommandName] = &[
+    CommandName::ProfileList,
+    CommandName::ProfileNew,
+    CommandName::ProfileLint,
+    CommandName::ProfileShow,
+    CommandName::ProfileSheet,
+    CommandName::ProfileFromPjl,
+];
+
+impl CommandName {
+    // A proof has the texts of a constant at each step behind the one that names it, so rows are
+    // named here, where no step follows.
+    fn row(self) -> &'static CommandRow {
+        match self {
+            CommandName::Program => PROGRAM,
+            CommandName::Check => CHECK,
+            CommandName::List => LIST,
+            CommandName::Pages => PAGES,
+            CommandName::Picture => PICTURE,
+            CommandName::Notes => NOTES,
+            CommandName::Plain => PLAIN,
+            CommandName::Pin => PIN,
+            CommandName::Explain => EXPLAIN,
+            CommandName::Profile => PROFILE_COMMANDS,
+            CommandName::ProfileList => PROFILE_LIST,
+            CommandName::ProfileNew => PROFILE_NEW,
+            CommandName::ProfileLint => PROFILE_LINT,
+            CommandName::ProfileShow => PROFILE_SHOW,
+            CommandName::ProfileSheet => PROFILE_SHEET,
+            CommandName::ProfileFromPjl => PROFILE_FROM_PJL,
+        }
+    }
+}
+
+/// The command line of the program.
+pub(crate) fn command<'a>(alloc: Global) -> Result<Command<'a>, AllocError> {
+    let command = with_commands(alloc, program(alloc)?, BELOW_PROGRAM)?;
+    with_command(command, profile_command(alloc))
+}
+
+/// The program without its commands.
+fn program<'a>(alloc: Global) -> Result<Command<'a>, AllocError> {
+    let program = CommandName::Program.row().command(alloc)?;
+    Ok(program.version(VERSION).subcommand_required(true))
+}
+
+/// The command `profile` with those below it.
+fn profile_command<'a>(alloc: Global) -> Result<Command<'a>, AllocError> {
+    let profile = CommandName::Profile.row().command(alloc)?;
+    with_commands(alloc, profile.subcommand_required(true), BELOW_PROFILE)
+}
+
+/// Adds commands to the one that they stand below.
+fn with_commands<'a>(
+    alloc: Global,
+    mut command: Command<'a>,
+    names: &[CommandName],
+) -> Result<Command<'a>, AllocError> {
+    for name in names {
+        command = with_command(command, name.row().command(alloc))?;
+    }
+    Ok(command)
+}
+
+/// A command with one more below it.
+fn with_command<'a>(
+    command: Command<'a>,
+    below: Result<Command<'a>, AllocError>,
+) -> Result<Command<'a>, AllocError> {
+    command.subcommand(below?)
+}

@@ -1,0 +1,112 @@
+//! The files that were read and written, with the paths that they were asked for at. Only proofs
+//! read this: it takes no memory, and nothing is done for it at run time.
+ghost use Rattle.std.specs.Prelude.{◌≡◌, List, [], ◌∷◌, ◌++◌};
+ghost use Rattle.std.specs.Borrow.{ftrue};
+ghost use Rattle.streams.specs.Used.{FileUse, read_at, use_of, written_at};
+
+use crate::file_at::{OutletAt, SourceAt};
+use crate::given::Given;
+use crate::outlet::Outlet;
+use crate::source::Source;
+use std::marker::Model;
+use std::rt::Files;
+
+/// What a file had come to when no more was read of it or written to it.
+#[derive(Drop)]
+pub struct FileEnd<'a> {
+    pub path: &'a str,
+    pub is_written: bool,
+    /// What its reads gave.
+    pub given: Given,
+    /// What its writes took.
+    pub taken: Given,
+    pub has_failed: bool,
+}
+
+/// The uses of files that have ended so far. A clause reads them as `uses`.
+#[derive(Drop)]
+pub struct FileUses {
+    pub ghost uses: { List FileUse },
+}
+
+impl Model for FileUses {
+    ghost also_owns = { λ _. ftrue };
+}
+
+impl FileUses {
+    fn new() -> FileUses
+        ensures { result.uses ≡ [] }
+    {
+        FileUses {}
+    }
+
+    #[inline(always)]
+    fn and(&self, _file: &FileEnd<'_>) -> FileUses
+        ensures { result.uses ≡ self.now.uses ++ use_of _file.now ∷ [] }
+    {
+        FileUses {}
+    }
+}
+
+/// The files that were read and written so far, in the order in which that ended. A clause sees it
+/// as the list of them. Nothing but `read` and `written` adds one.
+#[derive(Drop)]
+pub struct FilesUsed {
+    so_far: FileUses,
+}
+
+impl Model for FilesUsed {
+    ghost use Rattle.std.specs.Prelude.{List};
+    ghost use Rattle.streams.specs.Used.{FileUse};
+
+    ghost Value = { List FileUse };
+
+    ghost view = { λ used. used.so_far.uses };
+}
+
+impl FilesUsed {
+    /// No file was read or written yet.
+    pub fn new() -> FilesUsed
+        ensures { result ≡ [] }
+    {
+        FilesUsed {
+            so_far: FileUses::new(),
+        }
+    }
+
+    /// And then this one, of which no more is read.
+    pub fn read<R: Files>(&mut self, source: SourceAt<'_, R>)
+        ensures { self.new ≡ self.old
+            ++ read_at source.entry.path.now source.entry.file.source ∷ [] }
+    {
+        let SourceAt { path, file } = source;
+        let has_failed = file.has_failed();
+        let given = file.into_given();
+        let taken = Given::new();
+        self.so_far = self.so_far.and(&FileEnd {
+            path,
+            is_written: false,
+            given,
+            taken,
+            has_failed,
+        });
+    }
+
+    /// And then this one, to which no more is written.
+    pub fn written<R: Files>(&mut self, outlet: OutletAt<'_, R>)
+        ensures { self.new ≡ self.old
+            ++ written_at outlet.entry.path.now outlet.entry.file.outlet ∷ [] }
+    {
+        let OutletAt { path, file } = outlet;
+        let has_failed = file.has_failed();
+        let given = Given::new();
+        let taken = file.into_taken();
+        self.so_far = self.so_far.and(&FileEnd {
+            path,
+            is_written: true,
+            given,
+            taken,
+            has_failed,
+        });
+    }
+}
