@@ -362,7 +362,7 @@ const HP_LASERJET_4250: ModelRow = ModelRow {
     title: "HP LaserJet 4250",
     generation: Generation::LaserJet5,
     papers: PAPERS_WITH_A5,
-    trays: &[1, 2, 3, 4, 5, 6, 20],
+    device_trays: &[1, 2, 3, 4, 5, 6, 20],
     panel_trays: ONE_AND_FOUR,
     has_duplex: true,
     memory: 1_048_576,
