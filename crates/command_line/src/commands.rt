@@ -45,7 +45,7 @@ const EXPLAIN: &CommandRow = &CommandRow {
 
 /// The program or one of its commands, by which its row is found.
 #[derive(Clone, Copy)]
-enum CommandName {
+pub(crate) enum CommandName {
     Program,
     Check,
     List,
@@ -89,7 +89,7 @@ const BELOW_PROFILE: &[CommandName] = &[
 impl CommandName {
     // A proof has the texts of a constant at each step behind the one that names it, so rows are
     // named here, where no step follows.
-    fn row(self) -> &'static CommandRow {
+    pub(crate) fn row(self) -> &'static CommandRow {
         match self {
             CommandName::Program => PROGRAM,
             CommandName::Check => CHECK,
@@ -109,6 +109,26 @@ impl CommandName {
             CommandName::ProfileFromPjl => PROFILE_FROM_PJL,
         }
     }
+}
+
+/// The command that words are about, of which the first is the program's own name; the program
+/// itself where they name none.
+pub(crate) fn command_asked(words: &[String]) -> CommandName {
+    let Some(first) = words.get(1) else {
+        return CommandName::Program;
+    };
+    if first.as_str() != "profile" {
+        return named(BELOW_PROGRAM, first.as_str()).unwrap_or(CommandName::Program);
+    }
+    match words.get(2) {
+        Some(second) => { named(BELOW_PROFILE, second.as_str()).unwrap_or(CommandName::Profile) }
+        None => CommandName::Profile,
+    }
+}
+
+/// The first of these commands that a word names.
+fn named(names: &[CommandName], word: &str) -> Option<CommandName> {
+    names.iter().copied().find(|name| name.row().name == word)
 }
 
 /// The command line of the program.
