@@ -255,6 +255,10 @@ fn push_placed<A: Allocator>(
         ≡ all.old.items ++ placed answer.now it others.now) }
 {
     match others {
+        [] => {
+            all.push(it)?;
+            Ok(())
+        }
         [other, more @ ..] if is_before(answer, *other, it) => {
             all.push(*other)?;
             push_placed(all, answer, it, more)
