@@ -68,6 +68,7 @@ pclcheck explain Uns|Unset
 pclcheck profile list let|
 pclcheck profile new hp-laserjet-425|hp-laserjet-4250
 pclcheck profile new --panel fr|free
+pclcheck profile new --fixed cop|copies
 pclcheck profile new --size execu|executive
 pclcheck profile new hp-laserjet-4 --size jis|
 pclcheck profile new kyocera-fs-1020d --size a4,exe|a4,executive

@@ -3,7 +3,8 @@
     python3 crosscheck/manual.py PROGRAM
 
 man/pclcheck.1 has each command, argument, option, exit status and line of each help in the same
-words, each finding of `explain`, and no other option; `explain` tells of each number and each name
+words, each finding of `explain`, and no other option; with `-h` each command tells in fifteen lines
+at most what it does and how it is used; `explain` tells of each number and each name
 what it tells of it among all; man/pclcheck-profile.5 has what manual_profile.py says; each file in
 completions/ offers each command and option, the fixed values of options, and no other;
 debian/changelog and CHANGELOG.md begin with the program's version. Needs bash. Prints a line for
@@ -28,6 +29,8 @@ PAGE = ROOT / "man" / "pclcheck.1"
 PROFILE_PAGE = ROOT / "man" / "pclcheck-profile.5"
 COMPLETIONS = ROOT / "completions"
 HELP = "-h, --help"
+# What -h writes has so many lines at most.
+SHORT_LINES = 15
 
 
 def bare(words: str) -> str:
@@ -78,6 +81,17 @@ def compare_page(comparison: Comparison, program: Program, commands: List[Comman
             comparison.holds(f"{command.name or 'pclcheck'}: {cell!r} is not in the page",
                              re.sub(":$", "", cell) in text)
     compare_mentions(comparison, text, commands)
+
+
+def compare_short_helps(comparison: Comparison, program: Program, commands: List[Command]) -> None:
+    """What `-h` tells: what the command does, and how it is used, in few lines."""
+    for command in commands:
+        about, blank, usage, *lines = program.output(*command.words, "-h").splitlines()
+        comparison.same(f"{command.name} -h: what it does", (about, blank), (command.about, ""))
+        comparison.holds(f"{command.name} -h: {usage!r} is no usage", usage.startswith("Usage:"))
+        comparison.holds(f"{command.name} -h is long", len(lines) <= SHORT_LINES - 3)
+        comparison.holds(f"{command.name} -h does not name the command",
+                         f"pclcheck {command.name}".strip() in " ".join([usage, *lines]))
 
 
 def compare_explanations(comparison: Comparison, program: Program) -> None:
@@ -154,6 +168,7 @@ def main(words: List[str]) -> int:
     comparison, program = Comparison(), Program(words[0])
     commands = list(program.commands())
     compare_page(comparison, program, commands)
+    compare_short_helps(comparison, program, commands)
     compare_explanations(comparison, program)
     compare_profile_page(comparison, program, PROFILE_PAGE)
     compare_completions(comparison, program, commands)

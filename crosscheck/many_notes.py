@@ -23,6 +23,7 @@ SHORT = {
     110: b"a line feed leads past the bottom margin of a blank page",
     111: b"a tray or sides are chosen where the left margin is not 0",
     112: b"macros carry out more than a million items",
+    113: b"this looks like PostScript, PDF, PCL XL or an image, and is no PCL",
 }
 
 

@@ -8,7 +8,8 @@ from profiles_models import new_text
 
 @dataclass(frozen=True)
 class Answer:
-    """An answer; the papers that it asks for; and the panel and the warnings that come of it."""
+    """An answer; the papers that it asks for; the panel, the trays and the duplex that come of it,
+    and the warnings."""
     model: str
     papers: str
     text: str
@@ -60,11 +61,13 @@ orientation 0
 vmi 8
 font 1
 copies 1
-sides 0 1 2
+sides 0
 tray 1 4
+trays 1 2 3 4 5 6
+duplex 0
 """, """\
-line 31: CPLOCK=OFF: anyone can change the panel; each list promises that nobody does
 line 8: MEMORY=8388608: bytes in all; what macros may take is not told
+line 31: CPLOCK=OFF: anyone can change the panel; each list promises that nobody does
 """)
 
 LASERJET_4250 = Answer("hp-laserjet-4250", "a4,letter", """\
@@ -100,11 +103,13 @@ font 1
 copies 1
 sides 1
 tray 1
+trays 1 2 3 4 5 6 20
+duplex 1
 """, """\
+line 3: MEMORY=67108864: bytes in all; what macros may take is not told
 line 9: FORMLINES=64: the line spacing is reckoned from it; measure ten lines
 line 17: OVERRIDEA4WITHLETTER=YES: A4 may come out on letter paper, and letter on A4
 line 20: CPLOCK=NONE: anyone can change the panel; each list promises that nobody does
-line 3: MEMORY=67108864: bytes in all; what macros may take is not told
 """)
 
 LASERJET_P3015 = Answer("hp-laserjet-p3015", "letter,a4", """\
@@ -135,10 +140,12 @@ font 23
 copies 1
 sides 2
 tray 1
+trays 1 2 3 4 5 20
+duplex 1
 """, """\
+line 3: MEMORY=134217728: bytes in all; what macros may take is not told
 line 12: WIDEA4=YES: the A4 pages have to be those of 80 columns
 line 15: CPLOCK=NONE: anyone can change the panel; each list promises that nobody does
-line 3: MEMORY=134217728: bytes in all; what macros may take is not told
 """)
 
 ANSWERS = (LASERJET_4000, LASERJET_4250, LASERJET_P3015)

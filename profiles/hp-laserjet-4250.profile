@@ -1,5 +1,5 @@
 pclprofile 1
-# HP LaserJet 4200 or 4250, by 'pclcheck profile new hp-laserjet-4250'.
+# HP LaserJet 4250, by 'pclcheck profile new hp-laserjet-4250'.
 # DRAFT: no number of it was measured at a printer.
 #
 # What it is from:
@@ -9,7 +9,7 @@ pclprofile 1
 #   59. The printable area lies 50 dots inside each edge.
 #   face: what is usual from the LaserJet 4 on. A letter's box is 7200/pitch wide, 3/4 of the
 #   letter's size high and 1/4 deep: give it alike in all profiles, or their letters differ (33).
-#   which papers it can have: the PostScript PPDs of both (HPLIP 3.22.10).
+#   which papers it can have: its PostScript PPD (HPLIP 3.22.10).
 #
 # What to check at the printer, and how:
 #   Print the configuration page, the menu map and the PCL font list at its panel, or ask it

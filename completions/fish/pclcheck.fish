@@ -172,6 +172,8 @@ complete -c pclcheck -n '__pclcheck_at "profile new"' -l size -x -a '(__pclcheck
     -d 'The papers that are in the printer; without it letter and a4'
 complete -c pclcheck -n '__pclcheck_at "profile new"' -l panel -x -a 'fixed free' \
     -d 'Whether people change what the panel has'
+complete -c pclcheck -n '__pclcheck_at "profile new"' -l fixed -x -a 'size orientation vmi font copies sides tray' \
+    -d 'Fields that nobody changes at a panel that is free'
 
 for place in 'profile lint' 'profile show' 'profile sheet' 'profile from-pjl'
     complete -c pclcheck -n "__pclcheck_at '$place'" -a '(__pclcheck_samples)' -d sample

@@ -7,8 +7,10 @@ use crate::profile_tool_words::{PROFILE_FROM_PJL, PROFILE_LINT, PROFILE_SHEET, P
 use crate::profile_words::{PROFILE_COMMANDS, PROFILE_LIST, PROFILE_NEW};
 use crate::rows::{CommandRow, Count, Need, WordRow};
 use crate::text_commands::{LIST, NOTES, PAGES, PIN, PLAIN};
+use crate::word::Word;
 use clap::Command;
 use std::alloc::{AllocError, Global};
+use std::convert::AsStr;
 
 const VERSION: &str = "0.1.0";
 
@@ -46,7 +48,7 @@ const EXPLAIN: &CommandRow = &CommandRow {
 
 /// The program or one of its commands, by which its row is found.
 #[derive(Clone, Copy)]
-enum CommandName {
+pub(crate) enum CommandName {
     Program,
     Check,
     List,
@@ -90,7 +92,7 @@ const BELOW_PROFILE: &[CommandName] = &[
 impl CommandName {
     // A proof has the texts of a constant at each step behind the one that names it, so rows are
     // named here, where no step follows.
-    fn row(self) -> &'static CommandRow {
+    pub(crate) fn row(self) -> &'static CommandRow {
         match self {
             CommandName::Program => PROGRAM,
             CommandName::Check => CHECK,
@@ -110,6 +112,39 @@ impl CommandName {
             CommandName::ProfileFromPjl => PROFILE_FROM_PJL,
         }
     }
+}
+
+/// The command that words are about, of which the first is the program's own name; the program
+/// itself where they name none. The option for the form may stand before a command.
+pub(crate) fn command_asked(words: &[Word]) -> CommandName {
+    let mut asked = CommandName::Program;
+    let mut is_passed = true;
+    for word in words {
+        let text = word.as_str();
+        if !is_passed && !text.starts_with("--format") {
+            let Some(name) = below(asked, text) else {
+                return asked;
+            };
+            asked = name;
+        }
+        is_passed = !is_passed && text == "--format";
+    }
+    asked
+}
+
+/// The command below one that a word names.
+fn below(name: CommandName, word: &str) -> Option<CommandName> {
+    match name {
+        CommandName::Program if word == "profile" => Some(CommandName::Profile),
+        CommandName::Program => named(BELOW_PROGRAM, word),
+        CommandName::Profile => named(BELOW_PROFILE, word),
+        _ => None,
+    }
+}
+
+/// The first of these commands that a word names.
+fn named(names: &[CommandName], word: &str) -> Option<CommandName> {
+    names.iter().copied().find(|name| name.row().name == word)
 }
 
 /// The command line of the program.

@@ -10,6 +10,7 @@ mod picture_words;
 mod profile_tool_words;
 mod profile_words;
 mod rows;
+mod short_helps;
 mod text_commands;
 mod texts;
 mod word;

@@ -53,8 +53,9 @@ const FROM_PJL_EXPLANATION: &str =
       | nc -w 5 PRINTER 9100 > answer.txt
 
 The size, the orientation, copies, sides, tray, VMI, font and line termination that it tells take the
-place of those of BASE; without BASE, of those of the model generic. What is not understood, and what
-a profile cannot say, is told on standard error and stands in the comments of the text.
+place of those of BASE; without BASE, of those of the model generic. So does duplex, where it tells
+the device (INFO CONFIG). What is not understood, and what a profile cannot say, is told on standard
+error in the order of its lines, and stands in the comments of the text.
 
 Exit status:
   0  the text was written, or help was asked for

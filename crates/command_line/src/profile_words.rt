@@ -6,7 +6,7 @@ use crate::profile_tool_words::tool_request;
 use crate::rows::{CommandRow, Count, Need, OptionRow, Value, WordRow};
 use crate::texts::texts_of;
 use clap::ArgMatches;
-use printer_models::PanelLists;
+use printer_models::{FixedFields, PanelLists};
 use requests::{NewProfile, Request};
 use std::alloc::{AllocError, Global};
 
@@ -49,6 +49,7 @@ Exit status:
 const NEW_EXPLANATION: &str = "Examples:
   pclcheck profile new hp-laserjet-4250 > front.profile
   pclcheck profile new lexmark-ms520 --size a4,a5 --panel free > back.profile
+  pclcheck profile new generic --panel free --fixed copies,sides,tray > shop.profile
 
 MODEL and PAPER are names that 'pclcheck profile list' writes; a PAPER may be in any letter case, and
 the first one is the usual one.
@@ -59,6 +60,7 @@ check at the printer before a verdict on the profile is trusted.
 --panel fixed: each field of the panel has one value, the usual one. The profile promises that the
 panel stands so, and that nobody changes it.
 --panel free: each field has the values that people choose among, and a job has to set what is open.
+--fixed: of a free panel these fields have the one usual value, and nobody changes them.
 
 Exit status:
   0  the text was written, or help was asked for
@@ -68,6 +70,17 @@ Exit status:
 
 /// The words of the panels.
 const PANELS: &[&str] = &["fixed", "free"];
+
+/// The words of the panel's fields of which a list may have several values.
+const FIELDS: &[&str] = &[
+    "size",
+    "orientation",
+    "vmi",
+    "font",
+    "copies",
+    "sides",
+    "tray",
+];
 
 /// The command `profile`, which others stand below.
 pub(crate) const PROFILE_COMMANDS: &CommandRow = &CommandRow {
@@ -118,6 +131,17 @@ pub(crate) const PROFILE_NEW: &CommandRow = &CommandRow {
             excludes: None,
             help: "Whether people change what the panel has",
         },
+        OptionRow {
+            id: "FIXED",
+            short: None,
+            long: "fixed",
+            value: Value::ListOf {
+                name: "FIELD,..",
+                words: FIELDS,
+            },
+            excludes: None,
+            help: "Fields that nobody changes at a panel that is free",
+        },
     ],
 };
 
@@ -148,14 +172,40 @@ fn new_request<'a>(alloc: Global, found: &ArgMatches<'a>) -> Result<Option<Reque
     Ok(Some(Request::ProfileNew(NewProfile {
         model,
         papers,
-        lists: lists_of(found.get_str("PANEL")),
+        lists: lists_of(found),
     })))
 }
 
-/// What the panel may have, by a word.
-fn lists_of(word: Option<&str>) -> PanelLists {
-    match word {
-        Some("free") => PanelLists::Free,
+/// What the panel may have. Where it is fixed, `--fixed` says nothing more.
+fn lists_of(found: &ArgMatches<'_>) -> PanelLists {
+    match found.get_str("PANEL") {
+        Some("free") => free_lists(found.get_strs("FIXED")),
         _ => PanelLists::Fixed,
     }
+}
+
+/// What a free panel may have, but for fields of these words.
+fn free_lists(words: Option<&[&str]>) -> PanelLists {
+    match words {
+        Some(words) => PanelLists::FreeBut(fields_of(words)),
+        None => PanelLists::Free,
+    }
+}
+
+/// The fields of words.
+fn fields_of(words: &[&str]) -> FixedFields {
+    FixedFields {
+        size: has_word(words, "size"),
+        orientation: has_word(words, "orientation"),
+        vmi: has_word(words, "vmi"),
+        font: has_word(words, "font"),
+        copies: has_word(words, "copies"),
+        sides: has_word(words, "sides"),
+        tray: has_word(words, "tray"),
+    }
+}
+
+/// Whether a word is among these.
+fn has_word(words: &[&str], word: &str) -> bool {
+    words.iter().any(|one| *one == word)
 }

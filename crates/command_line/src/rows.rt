@@ -60,6 +60,11 @@ pub(crate) enum Value {
     EachText(&'static str),
     /// Texts with commas between them, which help calls so.
     List(&'static str),
+    /// The same of these words.
+    ListOf {
+        name: &'static str,
+        words: &'static [&'static str],
+    },
     /// A whole number, which help calls so, from this one on.
     Number(&'static str, u64),
     /// One of these words, and the usual one where the option does not come.
@@ -156,6 +161,7 @@ fn with_value<'a>(arg: Arg<'a>, value: &Value) -> Arg<'a> {
         Value::Text(name) => with_text(arg, name),
         Value::EachText(name) => arg.action(ArgAction::Append).value_name(name),
         Value::List(name) => with_text(arg, name).value_delimiter(','),
+        Value::ListOf { name, words } => list_of(arg, name, words),
         Value::Number(name, least) => {
             with_text(arg, name).value_parser(ValueParser::Unsigned(*least, u64::MAX))
         }
@@ -165,6 +171,12 @@ fn with_value<'a>(arg: Arg<'a>, value: &Value) -> Arg<'a> {
 
 fn with_text<'a>(arg: Arg<'a>, name: &'a str) -> Arg<'a> {
     arg.action(ArgAction::Set).value_name(name)
+}
+
+fn list_of<'a>(arg: Arg<'a>, name: &'a str, words: &'a [&'a str]) -> Arg<'a> {
+    with_text(arg, name)
+        .value_delimiter(',')
+        .value_parser(ValueParser::Names(words))
 }
 
 fn one_of<'a>(arg: Arg<'a>, words: &'a [&'a str], usual: Option<&'a str>) -> Arg<'a> {

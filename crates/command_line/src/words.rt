@@ -4,17 +4,19 @@ ghost use Rattle.command_line.specs.Words.{IsEndOfWords};
 ghost use Rattle.requests.specs.Words.{KeepsWhatItReads, NamesSome};
 
 use crate::check_words::check_request;
-use crate::commands::command;
+use crate::commands::{CommandName, command, command_asked};
 use crate::form_words::form_asked;
 use crate::panel_words::ChoiceFault;
 use crate::picture_words::picture_request;
 use crate::profile_words::profile_request;
+use crate::short_helps::short_help;
 use crate::text_commands::{pin_request, text_request};
 use crate::word::{Word, first_stand_in, first_without_text, is_stand_in, without_zeros};
 use clap::ArgMatches;
 use clap::error::ErrorKind;
-use requests::{Form, Input, ManyWords, Request, Status};
+use requests::{Form, Input, ManyWords, Request, Status, write_pieces};
 use std::alloc::Global;
+use std::convert::AsStr;
 use streams::{Error, Outlet, write_text};
 
 /// What the words ask for.
@@ -53,7 +55,7 @@ pub fn read_words<'a, O: Outlet, E: Outlet>(
     };
     let matches = match command.try_get_matches_from(words) {
         Ok(matches) => matches,
-        Err(error) => return Err(refuse(alloc, &error, stdout, stderr)),
+        Err(error) => return Err(end_words(alloc, &error, words, stdout, stderr)),
     };
     let form = form_asked(&matches).unwrap_or(usual);
     let request = match request_of(alloc, words, form, &matches) {
@@ -203,6 +205,51 @@ fn request_of<'a>(
         return Ok(profile_request(alloc, found)?);
     }
     Ok(text_request(matches))
+}
+
+/// Writes help in short where `-h` asked for it, or else what `clap` answers.
+fn end_words<O: Outlet, E: Outlet>(
+    alloc: Global,
+    error: &clap::Error,
+    words: &[Word],
+    stdout: &mut O,
+    stderr: &mut E,
+) -> Status
+    requires stdout { IsFalse (O.state stdout.old).failed }
+    requires stderr { IsFalse (E.state stderr.old).failed }
+    ensures end { IsEndOfWords result }
+    ensures help { result ≡ Status.Help → stderr.new ≡ stderr.old }
+    ensures quiet { IsFalse (E.state stderr.new).failed → result ≢ Status.Usage →
+        stderr.new ≡ stderr.old }
+    ensures words { result ≡ Status.Usage → stdout.new ≡ stdout.old }
+{
+    if error.kind() == ErrorKind::DisplayHelp && has_short_word(words) {
+        return write_short_help(command_asked(words), stdout);
+    }
+    refuse(alloc, error, stdout, stderr)
+}
+
+/// Whether a word is `-h`, which `--help` is not.
+fn has_short_word(words: &[Word]) -> bool {
+    words.iter().any(|word| word.as_str() == "-h")
+}
+
+/// Writes what a command does, and how it is used mostly.
+fn write_short_help<O: Outlet>(name: CommandName, stdout: &mut O) -> Status
+    requires { IsFalse (O.state stdout.old).failed }
+    ensures end { IsEndOfWords result }
+    ensures no_usage { result ≢ Status.Usage }
+{
+    let pieces: [&[u8]; 4] = [
+        name.row().about.as_bytes(),
+        b"\n\n",
+        short_help(name).as_bytes(),
+        b"\n",
+    ];
+    match write_pieces(stdout, &pieces) {
+        Ok(()) => Status::Help,
+        Err(_) => Status::Stopped(Error::Write),
+    }
 }
 
 /// Writes why the words were refused, or the help or the version that they asked for.

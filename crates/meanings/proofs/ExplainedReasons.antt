@@ -94,13 +94,14 @@ each_note note_kinds.ShortRaster = of refl refl refl
 each_note note_kinds.BlankOverflow = of refl refl refl
 each_note note_kinds.SourceMovesLeft = of refl refl refl
 each_note note_kinds.LongRun = of refl refl refl
+each_note note_kinds.OtherLanguage = of refl refl refl
 
 abbrev notes : List Note
 notes =
     note_kinds.OpenStart ∷ note_kinds.OpenEnd ∷ note_kinds.NoPage ∷ note_kinds.PjlAsText ∷ note_kinds.SameOrientation
     ∷ note_kinds.RoundedColumn
     ∷ note_kinds.FractionOfUnit ∷ note_kinds.LaterLanguage ∷ note_kinds.ShortRaster ∷ note_kinds.BlankOverflow ∷ note_kinds.SourceMovesLeft
-    ∷ note_kinds.LongRun ∷ []
+    ∷ note_kinds.LongRun ∷ note_kinds.OtherLanguage ∷ []
 
 only : map first_line texts ≡ map head_of reasons ++ map head_of_note notes
 unfolding digits

@@ -8,7 +8,7 @@ ghost use Rattle.meanings.specs.Explanations.{ExplainReasons};
 /// treats of it.
 ///
 /// `docs/DEFINITIONS.md` has the same sentences, and `docs/check_commands.py` compares the two.
-pub const EXPLANATIONS: [&str; 45] = [
+pub const EXPLANATIONS: [&str; 46] = [
     "\
 1 Syntax
   When:    A byte comes with which no escape sequence goes on, or a command
@@ -501,6 +501,18 @@ pub const EXPLANATIONS: [&str; 45] = [
   Change:  Send what macros repeat as items of the job, or fewer macros that
            call others.
   Manual:  \"Macros\", Macro Control
+",
+    "\
+113 OtherLanguage
+  When:    Text begins, where the job does or behind a reset, the universal
+           exit or a line of the job language, with the bytes of a file in
+           another language: %!PS, %PDF, ) HP as PCL XL has it, GIF8, or the
+           first four of PNG or JPEG.
+  Printer: It prints the bytes as text: pages of signs, one line over another.
+  Change:  Send the file to a queue whose driver makes PCL of it, or print it
+           from the program that it is of. Behind @PJL the line ENTER LANGUAGE
+           has to name its language, and pclcheck does not check such a job.
+  Manual:  \"PCL Job Control Commands\", Universal Exit Language
 ",
 ];
 

@@ -1,5 +1,5 @@
 -- Jobs whose notes are computed from the definitions alone.
-use Rattle.std.proofs.Common.{◌≡◌, ℕ, List, [], ◌∷◌, ◌++◌, Some, refl}
+use Rattle.std.proofs.Common.{◌≡◌, ℕ, true, false, List, [], ◌∷◌, ◌++◌, Some, refl}
 use Rattle.std.specs.Prelude.{codes}
 use Rattle.pcl_lexer.specs.Escapes.Field.{field_at, amount_of}
 use Rattle.pcl_lexer.specs.Reader.{first_of, after_escape, after_introducer, after_parenthesis, command_in, without_group}
@@ -12,6 +12,8 @@ use Rattle.notes.specs.declared.note.Note.{Note}
 use Rattle.notes.specs.declared.note.Note.TheVariants.{OpenStart, OpenEnd, NoPage, SameOrientation, FractionOfUnit, LaterLanguage, LongRun}
 use Rattle.notes.specs.Note.{Told, firsts}
 use Rattle.notes.specs.Notes.{notes_of}
+use Rattle.notes.specs.ItemNotes.{is_other_language}
+use Rattle.pcl_items.specs.Items.{Text, Reset, at as placed}
 
 abbrev escape : ℕ
 escape = 27
@@ -70,3 +72,13 @@ long_run : firsts []
 unfolding first_of after_escape after_introducer after_parenthesis command_in without_group field_at amount_of read_on reading_of row_at
     geometry_at has_size has_orientation is_between is_inside page_reads page_and_line_reads
 long_run = refl
+
+-- `%!P` behind a reset, the nearest first, and `S`
+postscript : is_other_language (placed 4 (Text 80) ∷ placed 3 (Text 33) ∷ placed 2 (Text 37) ∷ placed 0 Reset ∷ [])
+    (placed 5 (Text 83)) ≡ true
+postscript = refl
+
+-- the same behind a letter
+postscript_behind_text : is_other_language (placed 3 (Text 80) ∷ placed 2 (Text 33) ∷ placed 1 (Text 37) ∷ placed 0 (Text 65) ∷ [])
+    (placed 4 (Text 83)) ≡ false
+postscript_behind_text = refl

@@ -1,15 +1,19 @@
 -- What the code keeps of the items before an item finds the notes of the definitions.
 use Rattle.std.proofs.Common.{◌≡◌, ℕ, ◌==◌, Bool, true, false, not, ◌&&◌, ◌||◌, cond, List, [], ◌∷◌, ◌++◌, ◌-◌, refl, ap, sym, ◌∙◌}
-use Rattle.pcl_items.specs.Items.{Entry, Placed, Text}
+use Rattle.pcl_items.specs.Items.{Entry, Placed, Text, Reset, ExitLanguage, PjlLine}
 use Rattle.page_env.specs.JobControl.{is_reset}
 use Rattle.notes.specs.declared.note.Note.TheVariants.{OpenStart, PjlAsText, FractionOfUnit, LaterLanguage}
+use Rattle.notes.specs.declared.note.Note.TheVariants.{OtherLanguage}
+use Rattle.notes.specs.declared.past.Front.{Front}
+use Rattle.notes.specs.declared.past.Front.TheVariants.{NoText, One, Two, Three, More}
 use Rattle.notes.specs.declared.past.Past.{Past}
 use Rattle.notes.specs.declared.past.Spelled.{Spelled}
 use Rattle.notes.specs.declared.past.Spelled.TheVariants.{Nothing, At, AtP, AtPj, Other}
 use Rattle.notes.specs.Note.{told_if}
 use Rattle.notes.specs.ItemNotes.{acts, is_line, has_reset, is_text, is_byte, ends_word, is_job_word, is_fraction, is_later, is_open_end}
-use Rattle.notes.specs.ItemNotes.{item_notes}
+use Rattle.notes.specs.ItemNotes.{begins_with, is_other_language, item_notes}
 use Rattle.notes.specs.Carriers.Past.{spelled_with, spelled_behind, past_behind, past_of, ends_job_word, ends_open, past_notes}
+use Rattle.notes.specs.Carriers.Past.{front_with, front_behind, is_three, spells, ends_other_word}
 
 and_false : (b : Bool) → b && false ≡ false
 and_false b = elim b as (λ v. v && false ≡ false) [ true ↦ refl | false ↦ refl ]
@@ -110,6 +114,117 @@ job_word_with Other item = sym (and_false (is_byte 76 item))
 job_word_is : (before : List Placed) (x : Placed) → ends_job_word (past_of before).spelled x.item ≡ is_job_word before x
 job_word_is before x = job_word_with (past_of before).spelled x.item ∙ ap (λ b. is_byte 76 x.item && b) (at_pj_is before)
 
+-- ---- the word with which text begins
+
+abbrev is_no_text : Front → Bool
+is_no_text NoText = true
+is_no_text _ = false
+
+abbrev is_one : ℕ → Front → Bool
+is_one first (One a) = a == first
+is_one first _ = false
+
+abbrev is_two : ℕ → ℕ → Front → Bool
+is_two first second (Two a b) = (b == second) && (a == first)
+is_two first second _ = false
+
+no_text_with : (front : Front) (code : ℕ) → is_no_text (front_with front code) ≡ false
+no_text_with NoText code = refl
+no_text_with (One a) code = refl
+no_text_with (Two a b) code = refl
+no_text_with (Three a b c) code = refl
+no_text_with More code = refl
+
+no_text_behind : (front : Front) (item : Entry) → is_no_text (front_behind front item) ≡ not (acts item)
+no_text_behind front (Text code) = no_text_with front code
+no_text_behind front Reset = refl
+no_text_behind front ExitLanguage = refl
+no_text_behind front (PjlLine line) = refl
+no_text_behind front _ = refl
+
+no_text_is : (before : List Placed) → is_no_text (past_of before).front ≡ begins_with [] before
+no_text_is [] = refl
+no_text_is (x ∷ before) = no_text_behind (past_of before).front x.item
+
+one_with : (first : ℕ) (front : Front) (code : ℕ) → is_one first (front_with front code) ≡ (code == first) && is_no_text front
+one_with first NoText code = sym (and_true (code == first))
+one_with first (One a) code = sym (and_false (code == first))
+one_with first (Two a b) code = sym (and_false (code == first))
+one_with first (Three a b c) code = sym (and_false (code == first))
+one_with first More code = sym (and_false (code == first))
+
+one_behind : (first : ℕ) (front : Front) (item : Entry) →
+    is_one first (front_behind front item) ≡ is_byte first item && is_no_text front
+one_behind first front (Text code) = one_with first front code
+one_behind first front Reset = refl
+one_behind first front ExitLanguage = refl
+one_behind first front (PjlLine line) = refl
+one_behind first front _ = refl
+
+one_is : (first : ℕ) (before : List Placed) → is_one first (past_of before).front ≡ begins_with (first ∷ []) before
+one_is first [] = refl
+one_is first (x ∷ before) =
+    one_behind first (past_of before).front x.item ∙ ap (λ b. is_byte first x.item && b) (no_text_is before)
+
+two_with : (first second : ℕ) (front : Front) (code : ℕ) →
+    is_two first second (front_with front code) ≡ (code == second) && is_one first front
+two_with first second NoText code = sym (and_false (code == second))
+two_with first second (One a) code = refl
+two_with first second (Two a b) code = sym (and_false (code == second))
+two_with first second (Three a b c) code = sym (and_false (code == second))
+two_with first second More code = sym (and_false (code == second))
+
+two_behind : (first second : ℕ) (front : Front) (item : Entry) →
+    is_two first second (front_behind front item) ≡ is_byte second item && is_one first front
+two_behind first second front (Text code) = two_with first second front code
+two_behind first second front Reset = refl
+two_behind first second front ExitLanguage = refl
+two_behind first second front (PjlLine line) = refl
+two_behind first second front _ = refl
+
+two_is : (first second : ℕ) (before : List Placed) →
+    is_two first second (past_of before).front ≡ begins_with (second ∷ first ∷ []) before
+two_is first second [] = refl
+two_is first second (x ∷ before) =
+    two_behind first second (past_of before).front x.item ∙ ap (λ b. is_byte second x.item && b) (one_is first before)
+
+three_with : (first second third : ℕ) (front : Front) (code : ℕ) →
+    is_three first second third (front_with front code) ≡ (code == third) && is_two first second front
+three_with first second third NoText code = sym (and_false (code == third))
+three_with first second third (One a) code = sym (and_false (code == third))
+three_with first second third (Two a b) code = refl
+three_with first second third (Three a b c) code = sym (and_false (code == third))
+three_with first second third More code = sym (and_false (code == third))
+
+three_behind : (first second third : ℕ) (front : Front) (item : Entry) →
+    is_three first second third (front_behind front item) ≡ is_byte third item && is_two first second front
+three_behind first second third front (Text code) = three_with first second third front code
+three_behind first second third front Reset = refl
+three_behind first second third front ExitLanguage = refl
+three_behind first second third front (PjlLine line) = refl
+three_behind first second third front _ = refl
+
+three_is : (first second third : ℕ) (before : List Placed) →
+    is_three first second third (past_of before).front ≡ begins_with (third ∷ second ∷ first ∷ []) before
+three_is first second third [] = refl
+three_is first second third (x ∷ before) =
+    three_behind first second third (past_of before).front x.item
+    ∙ ap (λ b. is_byte third x.item && b) (two_is first second before)
+
+spells_is : (before : List Placed) (x : Placed) (first second third fourth : ℕ) →
+    spells (past_of before).front x.item first second third fourth
+    ≡ begins_with (fourth ∷ third ∷ second ∷ first ∷ []) (x ∷ before)
+spells_is before x first second third fourth = ap (λ b. is_byte fourth x.item && b) (three_is first second third before)
+
+other_is : (before : List Placed) (x : Placed) → ends_other_word (past_of before).front x.item ≡ is_other_language before x
+other_is before x = λ i.
+    (spells_is before x 37 33 80 83 i || (spells_is before x 37 80 68 70 i || spells_is before x 41 32 72 80 i))
+    || (spells_is before x 71 73 70 56 i
+    || (spells_is before x 137 80 78 71 i
+    || (spells_is before x 255 216 255 224 i
+    || (spells_is before x 255 216 255 225 i
+    || (spells_is before x 255 216 255 238 i || spells_is before x 255 216 255 219 i)))))
+
 -- ---- resets
 
 reset_is : (before : List Placed) → (past_of before).has_reset ≡ has_reset before
@@ -124,6 +239,7 @@ past_is before x = λ i.
     ++ told_if (job_word_is before x i) (x.place - 3) PjlAsText
     ++ told_if (is_fraction x.item) x.place FractionOfUnit
     ++ told_if (is_later x.item) x.place LaterLanguage
+    ++ told_if (other_is before x i) (x.place - 3) OtherLanguage
 
 -- ---- behind the last reset
 

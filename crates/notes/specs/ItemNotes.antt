@@ -8,6 +8,7 @@ use Rattle.pcl_items.specs.Escapes.Value.{Amount, is_whole}
 use Rattle.page_env.specs.JobControl.{is_reset}
 use Rattle.page_env.specs.Numbers.{is_minus}
 use Rattle.notes.specs.declared.note.Note.TheVariants.{OpenStart, PjlAsText, FractionOfUnit, LaterLanguage}
+use Rattle.notes.specs.declared.note.Note.TheVariants.{OtherLanguage}
 use Rattle.notes.specs.Note.{Told, told_if}
 
 -- ---- where a job begins and ends (the manual's "Printer Reset Command", "Universal Exit Language Command")
@@ -62,6 +63,42 @@ job_word = 76 ∷ 74 ∷ 80 ∷ 64 ∷ []
 abbrev pub is_job_word : List Placed → Placed → Bool
 is_job_word before x = ends_word job_word (x ∷ before)
 
+-- ---- another language: the bytes with which its files begin are text where the mode is PCL
+
+-- of items, the nearest first, the nearest one prints, moves or sets
+abbrev pub is_behind_action : List Placed → Bool
+is_behind_action [] = false
+is_behind_action (x ∷ before) = acts x.item
+
+-- Of items, the nearest first, the nearest are the bytes of a word, its last one first,
+-- and before these stands nothing, or a reset, the universal exit or a line of the job language.
+abbrev pub begins_with : List ℕ → List Placed → Bool
+begins_with [] before = not (is_behind_action before)
+begins_with (code ∷ word) [] = false
+begins_with (code ∷ word) (x ∷ before) = is_byte code x.item && begins_with word before
+
+-- the nearest are `%!PS`, `%PDF`, or `) HP` of PCL XL
+abbrev pub begins_document : List Placed → Bool
+begins_document items =
+    begins_with (83 ∷ 80 ∷ 33 ∷ 37 ∷ []) items
+    || (begins_with (70 ∷ 68 ∷ 80 ∷ 37 ∷ []) items || begins_with (80 ∷ 72 ∷ 32 ∷ 41 ∷ []) items)
+
+-- the nearest are 255, 216 and 255 of JPEG with the byte of JFIF behind them, of Exif, of Adobe, or of a table
+abbrev pub begins_photo : List Placed → Bool
+begins_photo items =
+    begins_with (224 ∷ 255 ∷ 216 ∷ 255 ∷ []) items
+    || (begins_with (225 ∷ 255 ∷ 216 ∷ 255 ∷ []) items
+    || (begins_with (238 ∷ 255 ∷ 216 ∷ 255 ∷ []) items || begins_with (219 ∷ 255 ∷ 216 ∷ 255 ∷ []) items))
+
+-- the nearest are `GIF8`, or 137 and `PNG`, or those of JPEG
+abbrev pub begins_image : List Placed → Bool
+begins_image items =
+    begins_with (56 ∷ 70 ∷ 73 ∷ 71 ∷ []) items || (begins_with (71 ∷ 78 ∷ 80 ∷ 137 ∷ []) items || begins_photo items)
+
+-- 113 OtherLanguage: the item is the fourth byte of a document or an image of another language
+abbrev pub is_other_language : List Placed → Placed → Bool
+is_other_language before x = begins_document (x ∷ before) || begins_image (x ∷ before)
+
 -- ---- what printers read otherwise
 
 -- decimals other than 0
@@ -87,10 +124,11 @@ is_later _ = false
 -- ---- all of these
 
 -- The notes of an item by what stands before it, the nearest first.
--- What begins `@PJL` stands three bytes before the last of it.
+-- What begins `@PJL` stands three bytes before the last of it, and so does what begins a word of another language.
 abbrev pub item_notes : List Placed → Placed → List Told
 item_notes before x =
     told_if (is_open_start before x.item) x.place OpenStart
     ++ told_if (is_job_word before x) (x.place - 3) PjlAsText
     ++ told_if (is_fraction x.item) x.place FractionOfUnit
     ++ told_if (is_later x.item) x.place LaterLanguage
+    ++ told_if (is_other_language before x) (x.place - 3) OtherLanguage

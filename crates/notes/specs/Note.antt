@@ -17,6 +17,7 @@ note_number note_kinds.ShortRaster = 109
 note_number note_kinds.BlankOverflow = 110
 note_number note_kinds.SourceMovesLeft = 111
 note_number note_kinds.LongRun = 112
+note_number note_kinds.OtherLanguage = 113
 
 abbrev pub note_name : Note → List ℕ
 note_name note_kinds.OpenStart = codes "OpenStart"
@@ -31,6 +32,7 @@ note_name note_kinds.ShortRaster = codes "ShortRaster"
 note_name note_kinds.BlankOverflow = codes "BlankOverflow"
 note_name note_kinds.SourceMovesLeft = codes "SourceMovesLeft"
 note_name note_kinds.LongRun = codes "LongRun"
+note_name note_kinds.OtherLanguage = codes "OtherLanguage"
 
 -- in short words
 abbrev pub short_note : Note → List ℕ
@@ -46,6 +48,7 @@ short_note note_kinds.ShortRaster = codes "a raster ends before the last row of 
 short_note note_kinds.BlankOverflow = codes "a line feed leads past the bottom margin of a blank page"
 short_note note_kinds.SourceMovesLeft = codes "a tray or sides are chosen where the left margin is not 0"
 short_note note_kinds.LongRun = codes "macros carry out more than a million items"
+short_note note_kinds.OtherLanguage = codes "this looks like PostScript, PDF, PCL XL or an image, and is no PCL"
 
 -- ---- notes at their places
 

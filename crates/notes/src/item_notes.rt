@@ -6,6 +6,7 @@ ghost use Rattle.notes.specs.ItemNotes.{has_decimals, is_fraction, is_later, is_
 ghost use Rattle.pcl_items.specs.Items.{amount, at, view};
 
 use crate::note::{Note, NoteText};
+use crate::other_words::ends_other_word;
 use crate::past::{Past, Spelled, acts};
 use crate::telling::tell;
 use pcl_items::{Command, Item, Number, Place, Sign, SimpleItem};
@@ -88,6 +89,7 @@ pub(crate) fn tell_item<N: NoteText, A: Allocator, B: Allocator>(
         (past_notes past (at place (view item.now)))) }
 {
     let (is_word, begins) = (ends_job_word(past.spelled, item), place.saturating_sub(3));
+    let is_other = ends_other_word(past.front, item);
     tell(form, told, text, opens(past, item), place, Note::OpenStart)?;
     tell(form, told, text, is_word, begins, Note::PjlAsText)?;
     tell(
@@ -99,5 +101,6 @@ pub(crate) fn tell_item<N: NoteText, A: Allocator, B: Allocator>(
         Note::FractionOfUnit,
     )?;
     tell(form, told, text, is_later(item), place, Note::LaterLanguage)?;
+    tell(form, told, text, is_other, begins, Note::OtherLanguage)?;
     Ok(())
 }

@@ -5,6 +5,7 @@ mod closing;
 mod item_notes;
 mod job_notes;
 mod note;
+mod other_words;
 mod past;
 mod state_before;
 mod telling;

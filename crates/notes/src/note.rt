@@ -37,6 +37,8 @@ pub enum Note {
     SourceMovesLeft,
     /// Macros would carry out more items than the profile allows.
     LongRun,
+    /// Text begins as a file of another language does.
+    OtherLanguage,
 }
 
 impl Note {
@@ -57,6 +59,7 @@ impl Note {
             Note::BlankOverflow => 110,
             Note::SourceMovesLeft => 111,
             Note::LongRun => 112,
+            Note::OtherLanguage => 113,
         }
     }
 }
@@ -78,6 +81,7 @@ pub fn note_name(note: Note) -> &'static [u8]
         Note::BlankOverflow => b"BlankOverflow",
         Note::SourceMovesLeft => b"SourceMovesLeft",
         Note::LongRun => b"LongRun",
+        Note::OtherLanguage => b"OtherLanguage",
     }
 }
 
@@ -98,6 +102,8 @@ pub fn short_note(note: Note) -> &'static [u8]
         Note::BlankOverflow => b"a line feed leads past the bottom margin of a blank page",
         Note::SourceMovesLeft => b"a tray or sides are chosen where the left margin is not 0",
         Note::LongRun => b"macros carry out more than a million items",
+        Note::OtherLanguage =>
+            b"this looks like PostScript, PDF, PCL XL or an image, and is no PCL",
     }
 }
 

@@ -1,6 +1,7 @@
 //! What is kept of the items before an item.
 ghost use Rattle.std.specs.Prelude.{◌≡◌};
-ghost use Rattle.notes.specs.Carriers.Past.{no_past, past_behind, spelled_behind, spelled_with};
+ghost use Rattle.notes.specs.Carriers.Past.{front_behind, front_with, no_past, past_behind};
+ghost use Rattle.notes.specs.Carriers.Past.{spelled_behind, spelled_with};
 ghost use Rattle.notes.specs.ItemNotes.{acts};
 ghost use Rattle.page_env.specs.JobControl.{is_reset};
 ghost use Rattle.pcl_items.specs.Items.{view};
@@ -22,6 +23,19 @@ pub enum Spelled {
     Other,
 }
 
+/// The bytes of text before an item, from where text begins behind a reset, the universal exit or a
+/// line of the job language, or at the beginning of the job.
+#[derive(Clone, Copy, PartialEq, Eq)]
+pub enum Front {
+    /// Nothing stands there.
+    NoText,
+    One(u8),
+    Two(u8, u8),
+    Three(u8, u8, u8),
+    /// More text, or something else that prints, moves or sets.
+    More,
+}
+
 /// What is kept of the items before an item.
 #[derive(Clone, Copy, PartialEq, Eq)]
 pub struct Past {
@@ -30,6 +44,7 @@ pub struct Past {
     /// Behind the last of these one prints, moves or sets.
     pub is_open: bool,
     pub spelled: Spelled,
+    pub front: Front,
 }
 
 /// Whether an item is a reset: the universal exit is one, too.
@@ -71,6 +86,30 @@ fn spelled_behind(spelled: Spelled, item: &Item<'_>) -> Spelled
     }
 }
 
+/// The bytes of text behind one more.
+fn front_with(front: Front, code: u8) -> Front
+    ensures { result ≡ front_with front code }
+{
+    match front {
+        Front::NoText => Front::One(code),
+        Front::One(first) => Front::Two(first, code),
+        Front::Two(first, second) => Front::Three(first, second, code),
+        Front::Three(_, _, _) | Front::More => Front::More,
+    }
+}
+
+/// The bytes of text behind an item.
+fn front_behind(front: Front, item: &Item<'_>) -> Front
+    ensures { result ≡ front_behind front (view item.now) }
+{
+    match item {
+        Item::Text(byte) => front_with(front, byte.code),
+        Item::Simple(SimpleItem::Reset | SimpleItem::ExitLanguage) => Front::NoText,
+        Item::PjlLine(_) => Front::NoText,
+        _ => Front::More,
+    }
+}
+
 impl Past {
     /// Before the first item.
     pub(crate) fn none() -> Past
@@ -80,6 +119,7 @@ impl Past {
             has_reset: false,
             is_open: false,
             spelled: Spelled::Nothing,
+            front: Front::NoText,
         }
     }
 
@@ -92,6 +132,7 @@ impl Past {
             has_reset: resets || self.has_reset,
             is_open: !resets && (self.is_open || acts(item)),
             spelled: spelled_behind(self.spelled, item),
+            front: front_behind(self.front, item),
         }
     }
 }

@@ -1,5 +1,6 @@
 pub mod Variable
 pub mod Answer
+pub mod Config
 pub mod Values
 pub mod FormLines
 pub mod Told

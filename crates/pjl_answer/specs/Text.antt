@@ -1,6 +1,6 @@
 -- The text of a profile with what a printer's answer tells.
-use Rattle.std.specs.Prelude.{ℕ, Bool, nat_eq, List, [], ◌∷◌, ◌++◌, Option, None, Some, find, codes, decimal, flat_map}
-use Rattle.std.specs.Prelude.{option_map, unwrap_or, if◌then◌else◌}
+use Rattle.std.specs.Prelude.{ℕ, Bool, false, nat_eq, List, [], ◌∷◌, ◌++◌, Option, None, Some, find, codes, decimal}
+use Rattle.std.specs.Prelude.{flat_map, option_map, unwrap_or, if◌then◌else◌}
 use Rattle.std.specs.List.{starts_with}
 use Rattle.std.specs.Option.{option_and_then, option_map_or}
 use Rattle.std.specs.Str.{bytes_eq}
@@ -15,6 +15,7 @@ use Rattle.device_profile.specs.Text.{format_name, format_of, words_of_line}
 use Rattle.device_profile.specs.Words.{words_of}
 use Rattle.shown_bytes.specs.Decimals.{with_four_decimals}
 use Rattle.pjl_answer.specs.declared.warning.Warning.{Warning}
+use Rattle.pjl_answer.specs.Config.{device_duplex}
 use Rattle.pjl_answer.specs.Told.{told}
 use Rattle.pjl_answer.specs.Warning.{warning_lines, warnings}
 
@@ -40,9 +41,23 @@ abbrev pub told_line : Printer → List ℕ → List ℕ → Option (List ℕ)
 told_line printer answer line =
     option_and_then (λ field. option_map (field_line field) (told printer answer field)) (field_on (words_of_line line))
 
+-- the words are those of the line that says whether the device has duplex
+abbrev pub is_duplex_line : List (List ℕ) → Bool
+is_duplex_line [] = false
+is_duplex_line (word ∷ words) = bytes_eq word (codes "duplex")
+
+abbrev pub duplex_words : Bool → List ℕ
+duplex_words has_duplex = if has_duplex then codes "duplex 1" else codes "duplex 0"
+
+-- the line of the device that an answer tells in the place of one
+abbrev pub device_line : List ℕ → List ℕ → Option (List ℕ)
+device_line answer line =
+    if is_duplex_line (words_of_line line) then option_map duplex_words (device_duplex answer) else None
+
 -- a line of the text behind the first: as it was, where the answer tells none in its place
 abbrev pub line_after : Printer → List ℕ → List ℕ → List ℕ
-line_after printer answer line = unwrap_or (told_line printer answer line) line ++ codes "\n"
+line_after printer answer line =
+    unwrap_or (told_line printer answer line) (unwrap_or (device_line answer line) line) ++ codes "\n"
 
 -- the version that the text is of; one that has a line termination is of the second
 abbrev pub version : Format → Option (List ℕ) → List ℕ

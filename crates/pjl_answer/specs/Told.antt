@@ -21,6 +21,7 @@ use Rattle.pjl_answer.specs.declared.variable.Variable.TheVariants as variables
 use Rattle.pjl_answer.specs.declared.values.ToldValues.{ToldValues}
 use Rattle.pjl_answer.specs.declared.values.ToldValues.TheVariants.{One, Two}
 use Rattle.pjl_answer.specs.Answer.{value_of}
+use Rattle.pjl_answer.specs.Config.{device_duplex, has_no_duplex}
 use Rattle.pjl_answer.specs.FormLines.{text_height, is_whole_share, vmi_by}
 use Rattle.pjl_answer.specs.Values.{binding_of, copies_of, form_lines_of, is_first, is_internal, is_on, kept}
 use Rattle.pjl_answer.specs.Values.{line_termination_of, mp_trays_of, orientation_of, paper_of}
@@ -46,9 +47,13 @@ sides_by is_duplex binding = if is_duplex then option_map_or binding_of binding 
 abbrev pub duplex_told : List ℕ → Option Bool
 duplex_told answer = option_and_then is_on (value_of answer variables.Duplex)
 
-abbrev pub sides_told : List ℕ → Option ℕ
-sides_told answer =
+abbrev pub panel_sides : List ℕ → Option ℕ
+panel_sides answer =
     option_and_then (λ is_duplex. sides_by is_duplex (value_of answer variables.Binding)) (duplex_told answer)
+
+-- a device that cannot do otherwise prints on one side
+abbrev pub sides_told : List ℕ → Option ℕ
+sides_told answer = if has_no_duplex answer then Some 0 else panel_sides answer
 
 -- where paper is fed by hand that is tray 2; else the trays are those by the multipurpose tray, or tray 1
 abbrev pub trays_by : Bool → Option (List ℕ) → Option (List ℕ)
@@ -123,6 +128,10 @@ font_told faces answer =
     then option_and_then (λ set. option_and_then (courier_among faces set) (pitch_told answer)) (set_told answer)
     else None
 
+-- whether the printer can print on both sides: as the answer tells it, or else as the profile has it
+abbrev pub duplex_after : Printer → List ℕ → Bool
+duplex_after printer answer = unwrap_or (device_duplex answer) printer.has_duplex
+
 -- trays that the printer has
 abbrev pub held_trays : Printer → Option (List ℕ) → Option (List ℕ)
 held_trays printer trays = option_and_then (λ all. if list_all (has_tray printer) all then Some all else None) trays
@@ -137,7 +146,7 @@ told printer answer Orientation = one (kept (has_orientation printer.geometries)
 told printer answer Vmi = one (vmi_told answer)
 told printer answer Font = one (font_told printer.faces answer)
 told printer answer Copies = one (copies_told answer)
-told printer answer Sides = one (kept (are_sides printer.has_duplex) (sides_told answer))
+told printer answer Sides = one (kept (are_sides (duplex_after printer answer)) (sides_told answer))
 told printer answer Tray = held_trays printer (trays_told answer)
 told printer answer LineTerm = one (line_termination_told answer)
 
@@ -145,7 +154,7 @@ told printer answer LineTerm = one (line_termination_told answer)
 abbrev pub values_after : Printer → List ℕ → Field → List ℕ
 values_after printer answer field = unwrap_or (told printer answer field) (values_of printer field)
 
--- the printer with these values; all else is as the profile has it
+-- the printer with these values, and with duplex where the device is told; all else is as the profile has it
 abbrev pub with_told : Printer → List ℕ → Printer
 with_told printer answer = record printer {
   sizes = values_after printer answer Size;
@@ -156,6 +165,7 @@ with_told printer answer = record printer {
   sides = values_after printer answer Sides;
   panel_trays = values_after printer answer Tray;
   line_terminations = values_after printer answer LineTerm;
+  has_duplex = duplex_after printer answer;
 }
 
 -- one or two values, as a list

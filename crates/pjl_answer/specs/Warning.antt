@@ -92,10 +92,35 @@ abbrev pub value_warning : List ℕ → Variable → Option Warning
 value_warning answer variable =
     option_map (warning variable) (option_and_then (note_of answer variable) (value_of answer variable))
 
--- all warnings of an answer, for a profile of this printer: of the fields, and of the values
-abbrev pub warnings : Printer → List ℕ → List Warning
-warnings printer answer =
+-- the warnings of an answer, for a profile of this printer: of the fields, and then of the values
+abbrev pub found_warnings : Printer → List ℕ → List Warning
+found_warnings printer answer =
     filter_map (field_warning printer answer) every_field ++ filter_map (value_warning answer) every_variable
+
+-- ---- in the order of the lines
+
+-- the number of the line that gives the variable, 0 where none does
+abbrev pub line_of : List ℕ → Warning → ℕ
+line_of answer it = option_map_or (λ entry. entry.0) (entry_of answer it.variable) 0
+
+-- the line of the first stands before that of the second
+abbrev pub is_before : List ℕ → Warning → Warning → Bool
+is_before answer a b = nat_lt (line_of answer a) (line_of answer b)
+
+-- others with one more, which stands behind those of lines before its own
+abbrev pub placed : List ℕ → Warning → List Warning → List Warning
+placed answer it [] = it ∷ []
+placed answer it (other ∷ more) =
+    if is_before answer other it then other ∷ placed answer it more else it ∷ other ∷ more
+
+-- in the order of their lines; those of one line stay as they stand
+abbrev pub by_line : List ℕ → List Warning → List Warning
+by_line answer [] = []
+by_line answer (it ∷ more) = placed answer it (by_line answer more)
+
+-- all warnings of an answer, for a profile of this printer
+abbrev pub warnings : Printer → List ℕ → List Warning
+warnings printer answer = by_line answer (found_warnings printer answer)
 
 -- ---- in words
 

@@ -5,7 +5,7 @@ ghost use Rattle.device_profile.specs.Text.{printer_of_text};
 ghost use Rattle.pjl_answer.specs.Told.{values_after, values_in, with_told};
 ghost use Rattle.pjl_answer.specs.Same.{HasOtherValues, HasPageValues, IsSameDevice};
 
-use crate::told_values::told;
+use crate::told_values::{duplex_after, told};
 use crate::values::ToldValues;
 use device_profile::{Field, FontRow, Geometry, Profile, ProfileFault, are_same_ranges};
 use std::alloc::{AllocError, Allocator};
@@ -38,7 +38,7 @@ fn is_told<A: Allocator, B: Allocator>(
 {
     has_page_values(profile, base, answer)
         && has_other_values(profile, base, answer)
-        && is_same_device(profile, base)
+        && is_told_device(profile, base, answer)
         && are_same_pages(profile.geometries(), base.geometries())
         && are_same_faces(profile.faces(), base.faces())
 }
@@ -104,15 +104,20 @@ fn are_same(a: &[u32], b: &[u32]) -> bool
     a == b
 }
 
-/// Whether the two have the same trays, sides, levels of macros, memory and limit of items.
-fn is_same_device<A: Allocator, B: Allocator>(a: &Profile<A>, b: &Profile<B>) -> bool
-    ensures { IsTrue result → IsSameDevice a.now b.now }
+/// Whether a printer has the trays, levels of macros, memory and limit of items of a profile, and
+/// duplex as an answer tells it.
+fn is_told_device<A: Allocator, B: Allocator>(
+    profile: &Profile<A>,
+    base: &Profile<B>,
+    answer: &[u8],
+) -> bool
+    ensures { IsTrue result → IsSameDevice profile.now (with_told base.now answer.now) }
 {
-    are_same(a.device_trays(), b.device_trays())
-        && a.has_duplex() == b.has_duplex()
-        && a.depth() == b.depth()
-        && a.memory() == b.memory()
-        && a.most_items() == b.most_items()
+    are_same(profile.device_trays(), base.device_trays())
+        && profile.has_duplex() == duplex_after(base, answer)
+        && profile.depth() == base.depth()
+        && profile.memory() == base.memory()
+        && profile.most_items() == base.most_items()
 }
 
 /// Whether the pages are the same, one by one.

@@ -4,6 +4,7 @@
 
 mod answered;
 mod comparison;
+mod config;
 mod entry;
 mod form_lines;
 mod line;

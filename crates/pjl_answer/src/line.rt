@@ -22,7 +22,7 @@ fn place_of(text: &[u8], byte: u8) -> usize
 }
 
 /// What stands before the first such byte, or all where there is none.
-fn before_byte(text: &[u8], byte: u8) -> &[u8]
+pub(crate) fn before_byte(text: &[u8], byte: u8) -> &[u8]
     ensures { result.now ≡ before_byte byte text.now }
 {
     &text[..place_of(text, byte)]
@@ -48,7 +48,7 @@ fn has_byte(text: &[u8], byte: u8) -> bool
 }
 
 /// A text without the white space at its start and at its end.
-fn trimmed(text: &[u8]) -> &[u8]
+pub(crate) fn trimmed(text: &[u8]) -> &[u8]
     ensures { result.now ≡ trimmed text.now }
 {
     text.trim_ascii()
@@ -103,7 +103,7 @@ fn value_at(text: &[u8]) -> &[u8]
 }
 
 /// Whether a line begins with a tab or a space.
-fn is_indented(line: &[u8]) -> bool
+pub(crate) fn is_indented(line: &[u8]) -> bool
     ensures { result ≡ is_indented line.now }
 {
     match line {

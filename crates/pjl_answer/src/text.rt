@@ -1,16 +1,19 @@
 //! The text of a profile with what a printer's answer tells.
-ghost use Rattle.std.specs.Prelude.{◌≡◌, ◌++◌, ◌∷◌, [], find, flat_map, option_map, IfOk, OnOk};
+ghost use Rattle.std.specs.Prelude.{◌≡◌, ◌++◌, ◌∷◌, [], find, flat_map, option_map, unwrap_or};
+ghost use Rattle.std.specs.Prelude.{IfOk, OnOk};
 ghost use Rattle.std.specs.Str.{bytes_eq};
 ghost use Rattle.std.specs.Str.Lines.{lines};
 ghost use Rattle.device_profile.specs.Field.{field_key};
 ghost use Rattle.device_profile.specs.Text.{words_of_line};
 ghost use Rattle.pjl_answer.specs.Text.{added_line, answered_text, behind_comments};
-ghost use Rattle.pjl_answer.specs.Text.{behind_warnings, field_line, field_of, field_on};
-ghost use Rattle.pjl_answer.specs.Text.{first_line, head_with, is_warning, line_after, origin};
+ghost use Rattle.pjl_answer.specs.Text.{behind_warnings, device_line, duplex_words, field_line};
+ghost use Rattle.pjl_answer.specs.Text.{field_of, field_on, first_line, head_with};
+ghost use Rattle.pjl_answer.specs.Text.{is_duplex_line, is_warning, line_after, origin};
 ghost use Rattle.pjl_answer.specs.Text.{told_line, value_word, version};
 ghost use Rattle.pjl_answer.specs.Told.{values_in};
 ghost use Rattle.pjl_answer.specs.Warning.{warnings};
 
+use crate::config::device_duplex;
 use crate::told_values::told;
 use crate::values::ToldValues;
 use crate::warning::Warning;
@@ -105,6 +108,52 @@ fn told_on<B: Allocator>(
     Some((field, values))
 }
 
+/// Whether a line says whether the device has duplex.
+fn is_duplex_line(line: &[u8]) -> bool
+    ensures { result ≡ is_duplex_line (words_of_line line.now) }
+{
+    if let [b'#', ..] = line {
+        return false;
+    }
+    match next_word(line) {
+        Some((word, _)) => word == b"duplex".as_slice(),
+        None => false,
+    }
+}
+
+/// Whether the device has duplex, where a line says it and an answer tells it.
+fn duplex_on(answer: &[u8], line: &[u8]) -> Option<bool>
+    ensures { option_map duplex_words result ≡ device_line answer.now line.now }
+{
+    if is_duplex_line(line) {
+        device_duplex(answer)
+    } else {
+        None
+    }
+}
+
+/// The line that says whether the device has duplex.
+fn duplex_words(has_duplex: bool) -> &'static str
+    ensures { result.now ≡ duplex_words has_duplex }
+{
+    if has_duplex { "duplex 1" } else { "duplex 0" }
+}
+
+/// Appends a line of the device: as it was, or as an answer tells it.
+fn push_device_line<A: Allocator>(
+    text: &mut Vec<u8, A>,
+    answer: &[u8],
+    line: &[u8],
+) -> Result<(), AllocError>
+    ensures { OnOk result (text.new.items
+        ≡ text.old.items ++ unwrap_or (device_line answer.now line.now) line.now) }
+{
+    match duplex_on(answer, line) {
+        Some(has_duplex) => text.extend_from_slice(duplex_words(has_duplex).as_bytes()),
+        None => text.extend_from_slice(line),
+    }
+}
+
 /// Appends a line of a profile's text: as it was, or as an answer tells it.
 fn push_line<A: Allocator, B: Allocator>(
     text: &mut Vec<u8, A>,
@@ -117,7 +166,7 @@ fn push_line<A: Allocator, B: Allocator>(
 {
     match told_on(base, answer, line) {
         Some((field, values)) => push_field(text, field, values)?,
-        None => text.extend_from_slice(line)?,
+        None => push_device_line(text, answer, line)?,
     }
     text.extend_from_slice(b"\n")
 }

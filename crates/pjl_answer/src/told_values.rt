@@ -9,11 +9,13 @@ ghost use Rattle.pjl_answer.specs.Told.{held_trays, is_courier, is_courier_numbe
 ghost use Rattle.pjl_answer.specs.Told.{is_vmi_rounded, line_termination_told, one};
 ghost use Rattle.pjl_answer.specs.Told.{orientation_told, paper_told};
 ghost use Rattle.pjl_answer.specs.Told.{pitch_told, set_told, is_first_number, is_own_source};
-ghost use Rattle.pjl_answer.specs.Told.{duplex_told, sides_by, sides_told, text_height_told, told};
+ghost use Rattle.pjl_answer.specs.Told.{duplex_after, duplex_told, panel_sides, sides_by};
+ghost use Rattle.pjl_answer.specs.Told.{sides_told, text_height_told, told};
 ghost use Rattle.pjl_answer.specs.Told.{trays_by, trays_of, trays_told, values_in, vmi_told};
 ghost use Rattle.pjl_answer.specs.Values.{kept};
 ghost use Rattle.printer_models.specs.Paper.{code_of};
 
+use crate::config::{device_duplex, has_no_duplex};
 use crate::entry::value_of;
 use crate::form_lines::{is_whole_share, text_height, vmi_by};
 use crate::values::{
@@ -80,11 +82,22 @@ fn sides_by(is_duplex: bool, binding: Option<&[u8]>) -> Option<u32>
     }
 }
 
-/// The sides that are printed on.
+/// The sides that the panel chooses.
+fn panel_sides(answer: &[u8]) -> Option<u32>
+    ensures { result ≡ panel_sides answer.now }
+{
+    sides_by(duplex_told(answer)?, value_of(answer, Variable::Binding))
+}
+
+/// The sides that are printed on: one where the device cannot do otherwise.
 fn sides_told(answer: &[u8]) -> Option<u32>
     ensures { result ≡ sides_told answer.now }
 {
-    sides_by(duplex_told(answer)?, value_of(answer, Variable::Binding))
+    if has_no_duplex(answer) {
+        Some(0)
+    } else {
+        panel_sides(answer)
+    }
 }
 
 /// The trays that paper may come from, where it is fed by hand or not.
@@ -279,12 +292,25 @@ fn held_orientation<A: Allocator>(base: &Profile<A>, answer: &[u8]) -> Option<u3
     }
 }
 
-/// Sides that the profile's printer can print on.
+/// Whether the printer can print on both sides: as an answer tells it, or else as the profile has
+/// it.
+pub(crate) fn duplex_after<A: Allocator>(base: &Profile<A>, answer: &[u8]) -> bool
+    ensures { result ≡ duplex_after base.now answer.now }
+{
+    match device_duplex(answer) {
+        Some(has_duplex) => has_duplex,
+        None => base.has_duplex(),
+    }
+}
+
+/// Sides that the printer can print on.
 fn held_sides<A: Allocator>(base: &Profile<A>, answer: &[u8]) -> Option<u32>
-    ensures { result ≡ kept (are_sides base.now.has_duplex) (sides_told answer.now) }
+    ensures { result ≡ kept (are_sides (duplex_after base.now answer.now))
+        (sides_told answer.now) }
 {
     let sides = sides_told(answer)?;
-    if sides == 0 || base.has_duplex() && (sides == 1 || sides == 2) {
+    let has_duplex = duplex_after(base, answer);
+    if sides == 0 || has_duplex && (sides == 1 || sides == 2) {
         Some(sides)
     } else {
         None

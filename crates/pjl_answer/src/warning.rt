@@ -2,12 +2,12 @@
 ghost use Rattle.std.specs.Prelude.{◌≡◌, ◌++◌, find, IfOk, OnOk};
 ghost use Rattle.std.specs.List.{filter_map};
 ghost use Rattle.std.specs.Option.{option_to_list};
-ghost use Rattle.pjl_answer.specs.Warning.{blame, field_warning, is_wrong, note_if, note_of};
-ghost use Rattle.pjl_answer.specs.Warning.{switch_note, value_warning, variables_of, warning};
-ghost use Rattle.pjl_answer.specs.Warning.{warnings};
+ghost use Rattle.pjl_answer.specs.Warning.{blame, by_line, field_warning, is_before, is_wrong};
+ghost use Rattle.pjl_answer.specs.Warning.{line_of, note_if, note_of, placed, switch_note};
+ghost use Rattle.pjl_answer.specs.Warning.{value_warning, variables_of, warning, warnings};
 ghost use Rattle.pjl_answer.specs.Answer.{is_given};
 
-use crate::entry::{is_given, value_of};
+use crate::entry::{entry_of, is_given, value_of};
 use crate::told_values::{is_vmi_rounded, told};
 use crate::values::is_understood;
 use crate::variable::{VARIABLES, Variable};
@@ -192,20 +192,82 @@ fn value_warning(answer: &[u8], variable: Variable) -> Option<Warning>
 }
 
 /// All warnings of an answer, for the profile that it is put into: of fields that are given and
-/// not told, and then of values.
+/// not told, and of values, in the order of the answer's lines.
 ///
 /// An error means that the allocator refused a request.
-pub fn warnings<A: Allocator, B: Allocator>(
+pub fn warnings<A: Allocator + Copy, B: Allocator>(
     alloc: A,
     base: &Profile<B>,
     answer: &[u8],
 ) -> Result<Vec<Warning, A>, AllocError>
     ensures { IfOk result (λ all. all.items ≡ warnings base.now answer.now) }
 {
-    let mut all = Vec::new(alloc);
-    push_field_warnings(&mut all, base, answer, &Field::ALL)?;
-    push_value_warnings(&mut all, answer, &VARIABLES)?;
-    Ok(all)
+    let mut found = Vec::new(alloc);
+    push_field_warnings(&mut found, base, answer, &Field::ALL)?;
+    push_value_warnings(&mut found, answer, &VARIABLES)?;
+    in_order(alloc, answer, &found)
+}
+
+/// The number of the line that gives a warning's variable; 0 where none does.
+fn line_of(answer: &[u8], it: Warning) -> u64
+    ensures { result ≡ line_of answer.now it }
+{
+    match entry_of(answer, it.variable) {
+        Some((line, _)) => line,
+        None => 0,
+    }
+}
+
+/// Whether the line of a warning stands before that of another.
+fn is_before(answer: &[u8], a: Warning, b: Warning) -> bool
+    ensures { result ≡ is_before answer.now a b }
+{
+    line_of(answer, a) < line_of(answer, b)
+}
+
+/// Warnings in the order of their lines; those of one line stay as they stand.
+fn in_order<A: Allocator + Copy>(
+    alloc: A,
+    answer: &[u8],
+    found: &[Warning],
+) -> Result<Vec<Warning, A>, AllocError>
+    ensures { IfOk result (λ all. all.items ≡ by_line answer.now found.now) }
+{
+    match found {
+        [] => Ok(Vec::new(alloc)),
+        [it, more @ ..] => {
+            let others = in_order(alloc, answer, more)?;
+            let mut all = Vec::new(alloc);
+            push_placed(&mut all, answer, *it, others.as_slice())?;
+            Ok(all)
+        }
+    }
+}
+
+/// Appends others with one more, which stands behind those of lines before its own.
+fn push_placed<A: Allocator>(
+    all: &mut Vec<Warning, A>,
+    answer: &[u8],
+    it: Warning,
+    others: &[Warning],
+) -> Result<(), AllocError>
+    ensures { OnOk result (all.new.items
+        ≡ all.old.items ++ placed answer.now it others.now) }
+{
+    match others {
+        [] => {
+            all.push(it)?;
+            Ok(())
+        }
+        [other, more @ ..] if is_before(answer, *other, it) => {
+            all.push(*other)?;
+            push_placed(all, answer, it, more)
+        }
+        _ => {
+            all.push(it)?;
+            all.extend_from_slice(others)
+        }
+    }
 }
 
 /// Appends a warning, where there is one.

@@ -88,8 +88,11 @@ facts_of models.HpLaserJet5Si =
 facts_of models.HpLaserJet4000 =
     facts (codes "hp-laserjet-4000")
     (codes "HP LaserJet 4000") LaserJet5 papers_with_a5 six_trays one_and_four true 1_048_576
+facts_of models.HpLaserJet4200 =
+    facts (codes "hp-laserjet-4200") (codes "HP LaserJet 4200") LaserJet5 papers_with_a5
+    (1 ∷ 2 ∷ 3 ∷ 4 ∷ 5 ∷ 6 ∷ 20 ∷ []) one_and_four true 1_048_576
 facts_of models.HpLaserJet4250 =
-    facts (codes "hp-laserjet-4250") (codes "HP LaserJet 4200 or 4250") LaserJet5 papers_with_a5
+    facts (codes "hp-laserjet-4250") (codes "HP LaserJet 4250") LaserJet5 papers_with_a5
     (1 ∷ 2 ∷ 3 ∷ 4 ∷ 5 ∷ 6 ∷ 20 ∷ []) one_and_four true 1_048_576
 facts_of models.HpLaserJet5000 =
     facts (codes "hp-laserjet-5000")
@@ -129,7 +132,7 @@ facts_of models.RicohSp3710Dn =
 abbrev pub every_model : List Model
 every_model =
     models.HpLaserJet4 ∷ models.HpLaserJet4Plus ∷ models.HpLaserJet5 ∷ models.HpLaserJet5Si ∷ models.HpLaserJet4000
-    ∷ models.HpLaserJet4250 ∷ models.HpLaserJet5000
+    ∷ models.HpLaserJet4200 ∷ models.HpLaserJet4250 ∷ models.HpLaserJet5000
     ∷ models.HpLaserJet8000 ∷ models.HpLaserJet9000 ∷ models.HpLaserJetP3005 ∷ models.HpLaserJetP3015
     ∷ models.HpLaserJetM605
     ∷ models.BrotherHl5350Dn ∷ models.KyoceraFs1020D ∷ models.LexmarkMs520 ∷ models.RicohSp3710Dn ∷ models.Generic ∷ []

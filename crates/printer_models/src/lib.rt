@@ -21,5 +21,5 @@ pub use listing::models_text;
 pub use model::{MODELS, Model, ModelRow};
 pub use new_profile::{NewError, new_text};
 pub use page::{page_numbers, page_of};
-pub use panel_lists::PanelLists;
+pub use panel_lists::{FixedFields, PanelLists};
 pub use paper::{Measure, PAPERS, Paper, Sheet};

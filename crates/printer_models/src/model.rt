@@ -14,6 +14,7 @@ pub enum Model {
     HpLaserJet5,
     HpLaserJet5Si,
     HpLaserJet4000,
+    HpLaserJet4200,
     HpLaserJet4250,
     HpLaserJet5000,
     HpLaserJet8000,
@@ -29,12 +30,13 @@ pub enum Model {
 }
 
 /// All models, in the order in which they are listed.
-pub const MODELS: [Model; 17] = [
+pub const MODELS: [Model; 18] = [
     Model::HpLaserJet4,
     Model::HpLaserJet4Plus,
     Model::HpLaserJet5,
     Model::HpLaserJet5Si,
     Model::HpLaserJet4000,
+    Model::HpLaserJet4200,
     Model::HpLaserJet4250,
     Model::HpLaserJet5000,
     Model::HpLaserJet8000,
@@ -108,6 +110,7 @@ impl Model {
             Model::HpLaserJet5 => &HP_LASERJET_5,
             Model::HpLaserJet5Si => &HP_LASERJET_5SI,
             Model::HpLaserJet4000 => &HP_LASERJET_4000,
+            Model::HpLaserJet4200 => &HP_LASERJET_4200,
             Model::HpLaserJet4250 => &HP_LASERJET_4250,
             Model::HpLaserJet5000 => &HP_LASERJET_5000,
             Model::HpLaserJet8000 => &HP_LASERJET_8000,
@@ -257,6 +260,11 @@ const ONE_AND_FOUR: &[u32] = &[1, 4];
 
 const ONE_AND_EIGHT: &[u32] = &[1, 8];
 
+/// The trays of the LaserJet 4200, which the 4250 has, too.
+const TRAYS_OF_4200: &str = "\
+1 tray 2, 2 manual feed, 3 manual feed of envelopes, 4 tray 1, 5 tray 3 (option), 6 the\n\
+#   envelope feeder (option), 20 tray 4 (option)";
+
 const HP_LASERJET_4: ModelRow = ModelRow {
     word: "hp-laserjet-4",
     title: "HP LaserJet 4",
@@ -336,19 +344,30 @@ const HP_LASERJET_4000: ModelRow = ModelRow {
 #   envelope feeder (option)",
 };
 
-const HP_LASERJET_4250: ModelRow = ModelRow {
-    word: "hp-laserjet-4250",
-    title: "HP LaserJet 4200 or 4250",
+const HP_LASERJET_4200: ModelRow = ModelRow {
+    word: "hp-laserjet-4200",
+    title: "HP LaserJet 4200",
     generation: Generation::LaserJet5,
     papers: PAPERS_WITH_A5,
     device_trays: &[1, 2, 3, 4, 5, 6, 20],
     panel_trays: ONE_AND_FOUR,
     has_duplex: true,
     memory: 1_048_576,
-    papers_from: "the PostScript PPDs of both (HPLIP 3.22.10)",
-    tray_words: "\
-1 tray 2, 2 manual feed, 3 manual feed of envelopes, 4 tray 1, 5 tray 3 (option), 6 the\n\
-#   envelope feeder (option), 20 tray 4 (option)",
+    papers_from: "its PostScript PPD (HPLIP 3.22.10)",
+    tray_words: TRAYS_OF_4200,
+};
+
+const HP_LASERJET_4250: ModelRow = ModelRow {
+    word: "hp-laserjet-4250",
+    title: "HP LaserJet 4250",
+    generation: Generation::LaserJet5,
+    papers: PAPERS_WITH_A5,
+    device_trays: &[1, 2, 3, 4, 5, 6, 20],
+    panel_trays: ONE_AND_FOUR,
+    has_duplex: true,
+    memory: 1_048_576,
+    papers_from: "its PostScript PPD (HPLIP 3.22.10)",
+    tray_words: TRAYS_OF_4200,
 };
 
 const HP_LASERJET_5000: ModelRow = ModelRow {

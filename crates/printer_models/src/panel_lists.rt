@@ -1,12 +1,43 @@
 //! The values that the panel of a printer may have.
 ghost use Rattle.std.specs.Prelude.{◌≡◌, ◌∷◌, [], IfOk, if◌then◌else◌};
-ghost use Rattle.printer_models.specs.Panel.{allowed_in, free_values, panel_values};
+ghost use Rattle.printer_models.specs.Panel.{allowed_in, free_values, is_fixed, is_fixed_field};
+ghost use Rattle.printer_models.specs.Panel.{panel_values};
 ghost use Rattle.printer_models.specs.Model.{facts_of};
 
 use crate::model::Model;
 use crate::paper::Paper;
 use device_profile::Field;
 use std::alloc::{AllocError, Allocator};
+
+/// Fields of a panel that nobody changes.
+#[derive(Clone, Copy)]
+pub struct FixedFields {
+    pub size: bool,
+    pub orientation: bool,
+    pub vmi: bool,
+    pub font: bool,
+    pub copies: bool,
+    pub sides: bool,
+    pub tray: bool,
+}
+
+impl FixedFields {
+    /// Whether a field is one of these.
+    fn has(self, field: Field) -> bool
+        ensures { result ≡ is_fixed_field self field }
+    {
+        match field {
+            Field::Size => self.size,
+            Field::Orientation => self.orientation,
+            Field::Vmi => self.vmi,
+            Field::Font => self.font,
+            Field::Copies => self.copies,
+            Field::Sides => self.sides,
+            Field::Tray => self.tray,
+            Field::LineTerm => false,
+        }
+    }
+}
 
 /// Whether people use the panel.
 #[derive(Clone, Copy)]
@@ -15,6 +46,21 @@ pub enum PanelLists {
     Fixed,
     /// They may choose: each list has what they usually choose among.
     Free,
+    /// The same, but in these fields, whose lists have the one usual value.
+    FreeBut(FixedFields),
+}
+
+impl PanelLists {
+    /// Whether nobody changes a field.
+    fn is_fixed(self, field: Field) -> bool
+        ensures { result ≡ is_fixed self field }
+    {
+        match self {
+            PanelLists::Fixed => true,
+            PanelLists::Free => false,
+            PanelLists::FreeBut(fixed) => fixed.has(field),
+        }
+    }
 }
 
 /// The values that the panel may have in a field.
@@ -28,10 +74,10 @@ pub(crate) fn panel_values<A: Allocator>(
     ensures { IfOk result (λ values. values.items ≡ panel_values model papers.now lists field) }
 {
     let mut values = free_values(alloc, model, papers, field)?;
-    match lists {
-        PanelLists::Fixed => values.truncate(1),
-        PanelLists::Free => {}
+    if !lists.is_fixed(field) {
+        return Ok(values);
     }
+    values.truncate(1);
     Ok(values)
 }
 

@@ -77,6 +77,14 @@ const FREE: &str = "\
 #   what a list leaves open. Take out what nobody chooses at this printer.
 ";
 
+/// What a panel means that is free but in some fields.
+const FREE_BUT: &str = "\
+#
+# Of the lists from size to tray those of several values have what people may choose, the usual
+#   value first, and a job has to set what they leave open. Those of one value promise that the
+#   panel stands so, and that nobody changes it.
+";
+
 /// Appends the first line and the comments.
 fn push_comments<A: Allocator>(
     text: &mut Vec<u8, A>,
@@ -108,6 +116,7 @@ fn meaning_of(lists: PanelLists) -> &'static str {
     match lists {
         PanelLists::Fixed => FIXED,
         PanelLists::Free => FREE,
+        PanelLists::FreeBut(_) => FREE_BUT,
     }
 }
 

@@ -1,8 +1,11 @@
 -- What the code keeps of the items before an item, and the notes that it finds by that.
 use Rattle.std.specs.Prelude.{ℕ, ◌-◌, ◌==◌, Bool, false, not, ◌&&◌, ◌||◌, cond, List, [], ◌∷◌, ◌++◌}
-use Rattle.pcl_items.specs.Items.{Entry, Placed, Text}
+use Rattle.pcl_items.specs.Items.{Entry, Placed, Text, Reset, ExitLanguage, PjlLine}
 use Rattle.page_env.specs.JobControl.{is_reset}
 use Rattle.notes.specs.declared.note.Note.TheVariants.{OpenStart, PjlAsText, FractionOfUnit, LaterLanguage}
+use Rattle.notes.specs.declared.note.Note.TheVariants.{OtherLanguage}
+use Rattle.notes.specs.declared.past.Front.{Front}
+use Rattle.notes.specs.declared.past.Front.TheVariants.{NoText, One, Two, Three, More}
 use Rattle.notes.specs.declared.past.Past.{Past}
 use Rattle.notes.specs.declared.past.Spelled.{Spelled}
 use Rattle.notes.specs.declared.past.Spelled.TheVariants.{Nothing, At, AtP, AtPj, Other}
@@ -11,7 +14,7 @@ use Rattle.notes.specs.Note.{Told, told_if}
 
 -- before the first item
 abbrev pub no_past : Past
-no_past = record { has_reset = false; is_open = false; spelled = Nothing }
+no_past = record { has_reset = false; is_open = false; spelled = Nothing; front = NoText }
 
 -- behind a byte of text
 abbrev pub spelled_with : Spelled → ℕ → Spelled
@@ -25,12 +28,28 @@ abbrev pub spelled_behind : Spelled → Entry → Spelled
 spelled_behind spelled (Text code) = spelled_with spelled code
 spelled_behind spelled _ = Nothing
 
+-- behind a byte of text
+abbrev pub front_with : Front → ℕ → Front
+front_with NoText code = One code
+front_with (One first) code = Two first code
+front_with (Two first second) code = Three first second code
+front_with (Three first second third) code = More
+front_with More code = More
+
+abbrev pub front_behind : Front → Entry → Front
+front_behind front (Text code) = front_with front code
+front_behind front Reset = NoText
+front_behind front ExitLanguage = NoText
+front_behind front (PjlLine line) = NoText
+front_behind front _ = More
+
 -- behind an item
 abbrev pub past_behind : Past → Entry → Past
 past_behind past item = record {
   has_reset = is_reset item || past.has_reset;
   is_open = not (is_reset item) && (past.is_open || acts item);
   spelled = spelled_behind past.spelled item;
+  front = front_behind past.front item;
 }
 
 -- behind items, the nearest first
@@ -45,6 +64,34 @@ abbrev pub ends_job_word : Spelled → Entry → Bool
 ends_job_word AtPj item = is_byte 76 item
 ends_job_word _ item = false
 
+-- the bytes of text are these three
+abbrev pub is_three : ℕ → ℕ → ℕ → Front → Bool
+is_three first second third (Three a b c) = (c == third) && ((b == second) && (a == first))
+is_three first second third _ = false
+
+-- the bytes of text are the first three of these four, and the item is the fourth
+abbrev pub spells : Front → Entry → (first second third fourth : ℕ) → Bool
+spells front item first second third fourth = is_byte fourth item && is_three first second third front
+
+-- a word of a document, `%!PS`, `%PDF` or `) HP`
+abbrev pub ends_document_word : Front → Entry → Bool
+ends_document_word front item =
+    spells front item 37 33 80 83 || (spells front item 37 80 68 70 || spells front item 41 32 72 80)
+
+-- a word of JPEG
+abbrev pub ends_photo_word : Front → Entry → Bool
+ends_photo_word front item =
+    spells front item 255 216 255 224
+    || (spells front item 255 216 255 225 || (spells front item 255 216 255 238 || spells front item 255 216 255 219))
+
+-- a word of an image
+abbrev pub ends_image_word : Front → Entry → Bool
+ends_image_word front item =
+    spells front item 71 73 70 56 || (spells front item 137 80 78 71 || ends_photo_word front item)
+
+abbrev pub ends_other_word : Front → Entry → Bool
+ends_other_word front item = ends_document_word front item || ends_image_word front item
+
 -- the notes of an item by what was kept
 abbrev pub past_notes : Past → Placed → List Told
 past_notes past x =
@@ -52,6 +99,7 @@ past_notes past x =
     ++ told_if (ends_job_word past.spelled x.item) (x.place - 3) PjlAsText
     ++ told_if (is_fraction x.item) x.place FractionOfUnit
     ++ told_if (is_later x.item) x.place LaterLanguage
+    ++ told_if (ends_other_word past.front x.item) (x.place - 3) OtherLanguage
 
 -- an item acted that was kept, or one of these does, and no reset stands behind it
 abbrev pub ends_open : Past → List Placed → Bool
