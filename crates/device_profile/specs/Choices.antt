@@ -47,5 +47,5 @@ with_values choices Vmi values = record choices { vmis = values }
 with_values choices Font values = record choices { fonts = values }
 with_values choices Copies values = record choices { copies = values }
 with_values choices Sides values = record choices { sides = values }
-with_values choices Tray values = record choices { trays = values }
+with_values choices Tray values = record choices { panel_trays = values }
 with_values choices LineTerm values = record choices { line_terminations = values }
