@@ -4,6 +4,6 @@ use Rattle.profile_show.proofs.panel.push_fields.Goals as goal
 
 pub loop-field-preserved : goal.loop-field-preserved
 loop-field-preserved g c =
-    further (field_lines c.args.profile.now) c.args.fields.now c.loop-field.field-index _
+    further (field_lines c.args.profile.now) c.args.fields.now c.loop-field.field-index c.field-item.result
     c.args.text.now.items c.loop-field.text.items c.push_field.new.text.items
     c.loop-field-test.true c.loop-field.invariant c.in_ok-push_field.ensures
