@@ -49,10 +49,27 @@ def edits_of(crate: str) -> list[Path]:
 
 
 def size_of(crate: str) -> int:
-    """How many bytes of proofs, specs and sources a crate has: the larger, the longer it takes."""
+    """How many bytes of sources and specs a crate has: the larger, the longer it takes. Proofs do
+    not tell: a long answer is quickly read, and a search stands in a line."""
     folder = ROOT / "crates" / crate
-    return sum(path.stat().st_size for part in ("src", "specs", "proofs")
+    return sum(path.stat().st_size for part in ("src", "specs")
                for path in (folder / part).rglob("*") if path.is_file())
+
+
+def sizes_behind(names: set[str]) -> dict[str, int]:
+    """For each of these crates the size of the largest chain of them that begins with it, each
+    crate standing on the one before."""
+    known, behind = crates(), {}
+
+    def measure(crate: str) -> int:
+        if crate not in behind:
+            above = (measure(it) for it in names if crate in known[it])
+            behind[crate] = size_of(crate) + max(above, default=0)
+        return behind[crate]
+
+    for name in names:
+        measure(name)
+    return behind
 
 
 def crates_with_edits() -> list[str]:
