@@ -46,6 +46,14 @@ HOME=$work/home
 TMPDIR=$work/tmp
 LC_ALL=C.UTF-8
 export HOME TMPDIR LC_ALL
+# 35 KB whose macros would carry out 25 million items.
+{
+    printf '\033&f1Y\033&f0X'
+    head -c 10000 /dev/zero | tr '\0' '\r'
+    printf '\033&f1X\033&f2Y\033&f0X\033&f1Y'
+    yes "$(printf '\033&f2X')" | head -n 2500 | tr -d '\n'
+    printf '\033&f1X\033&f2Y\033&f2X'
+} >"$work/items.pcl"
 passed=0
 failed=0
 started=                        # the processes to end

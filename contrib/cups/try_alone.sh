@@ -72,6 +72,53 @@ echo 4 >"$alone/status"
 say 'backend: the status of the true backend is kept' gate 4 /shop/stand-in:x 1 "$job"
 echo 0 >"$alone/status"
 
+# The way log: each job is sent, a line tells of it, and one that fails is copied.
+PCLCHECK_LOG=$alone/log
+export PCLCHECK_LOG
+is_logged() { tail -n 1 "$alone/log/$1.jsonl" | grep -q "^{\"time\":\"....-..-..T..:..:..Z\",$2}$"; }
+no_copy() { [ ! -e "$alone/log/$1/7.pcl" ]; }
+mkdir "$alone/log"
+passes='"job":"7","marks":16,"pages":1,"verdict":"PASS"'
+say 'backend: logged: a job that passes' gate 0 /shop/log/stand-in:x 1 "$job"
+say 'backend: logged: is sent' sends "$job"
+say 'backend: logged: has its line' is_logged shop "$passes"
+say 'backend: logged: is not copied' no_copy shop
+say 'backend: logged: on standard input' input 0 /shop/log/stand-in:x "$job"
+say 'backend: logged: is sent as it is' sends "$job"
+say 'backend: logged: has its line' is_logged shop "$passes"
+say 'backend: logged: a job that fails is sent' gate 0 /all/log/stand-in:x 1 "$job"
+say 'backend: logged: as it is' sends "$job"
+say 'backend: logged: and why it would be held is told' tells \
+    'NOTICE: preflight: would be held: export-desk refuses this job at byte 134, ESC &l2A: '
+say 'backend: logged: has its line' is_logged all '"at":134,"code":11,.*"job":"7",.*"FAIL"'
+say 'backend: logged: is copied' cmp "$alone/log/all/7.pcl" "$job"
+rm "$alone/log/all/7.pcl"
+say 'backend: logged: three copies' gate 0 /all/log/stand-in:x 3 "$job"
+say 'backend: logged: are copied as they are sent' cmp "$alone/log/all/7.pcl" "$alone/three"
+rm "$alone/log/all/7.pcl"
+say 'backend: logged: one that fails on standard input' input 0 /all/log/stand-in:x "$job"
+say 'backend: logged: is sent as it is' sends "$job"
+say 'backend: logged: is copied' cmp "$alone/log/all/7.pcl" "$job"
+rm "$alone/log/all/7.pcl"
+PCLCHECK_LOG_MOST=0
+export PCLCHECK_LOG_MOST
+say 'backend: logged: where the folder is full' gate 0 /all/log/stand-in:x 1 "$job"
+say 'backend: logged: it is sent' sends "$job"
+say 'backend: logged: it is not copied' no_copy all
+say 'backend: logged: which is told' tells 'has its limit of jobs'
+unset PCLCHECK_LOG_MOST
+PCLCHECK_LOG=$work/gone
+say 'backend: logged: where no log can be written' gate 0 /all/log/stand-in:x 1 "$job"
+say 'backend: logged: the job is sent' sends "$job"
+say 'backend: logged: which is told' tells "$work/gone cannot be written"
+PCLCHECK_LOG=$alone/log
+
+# 35 KB whose macros would carry out 25 million items.
+say 'backend: macros with too many items' gate 3 /front/stand-in:x 1 "$work/items.pcl"
+say 'backend: are told' tells '(ERROR items)'
+say 'backend: are printed by the word print' gate 0 /front/print/stand-in:x 1 "$work/items.pcl"
+say 'backend: and as they are' sends "$work/items.pcl"
+
 # Its own troubles: with hold, or no word, the job is held; with print it is sent unchecked.
 printf '#!/bin/sh\nkill -9 $$\n' >"$work/bin/killed"
 printf '#!/bin/sh\necho "-: this job has no verdict (ERROR memory)"\nexit 3\n' >"$work/bin/error"
@@ -88,6 +135,11 @@ for PROGRAM in "$work/bin/gone" /bin/true /bin/false "$work/bin/killed" "$work/b
     say "$trouble: as it is" sends "$job"
     say "$trouble: printed from standard input" input 0 /shop/print/stand-in:x "$job"
     say "$trouble: as it is" sends "$job"
+    rm -f "$alone/log/shop/7.pcl"
+    say "$trouble: logged, printed" gate 0 /shop/log/stand-in:x 1 "$job"
+    say "$trouble: as it is" sends "$job"
+    say "$trouble: has its line" is_logged shop '"job":"7",.*"verdict":"ERROR"'
+    say "$trouble: is copied" cmp "$alone/log/shop/7.pcl" "$job"
 done
 PROGRAM=
 say 'backend: a profile with a fault: held' gate 3 /broken/stand-in:x 1 "$job"
@@ -103,7 +155,7 @@ say 'backend: no folder for files: printed from standard input' \
     input 0 /shop/print/stand-in:x "$job"
 say 'backend: as it is' sends "$job"
 TEMPORARY=
-for word in /shop/ /shop/print/; do
+for word in /shop/ /shop/print/ /shop/log/; do
     say "backend: a spool file that cannot be read: held ($word)" \
         gate 3 "${word}stand-in:x" 2 "$work/gone"
     say "backend: nothing is sent" sends_nothing
@@ -112,7 +164,7 @@ for word in /shop/ /shop/print/; do
         input 3 "${word}stand-in:x" "$work"
     say "backend: no such true backend: held ($word)" gate 3 "${word}nowhere:x" 1 "$job"
 done
-for path in '' / /shop /shop/ /shop/print /shop/print/ //stand-in:x /../stand-in:x /shop/../x:y; do
+for path in '' / /shop /shop/ /shop/print /shop/print/ /shop/log/ //stand-in:x /../stand-in:x /shop/../x:y; do
     say "backend: the URI pclgate:$path: held" gate 3 "$path" 1 "$job"
 done
 

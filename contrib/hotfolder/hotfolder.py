@@ -1,12 +1,13 @@
 #!/usr/bin/env python3
 """Watches a folder: each job that is put there is checked and moved, with what pclcheck says of it.
 
-    hotfolder.py FOLDER FLEET [--once] [--quiet SECONDS] [--every SECONDS]
+    hotfolder.py FOLDER FLEET [--once] [--quiet SECONDS] [--every SECONDS] [--most-items N]
 
-A job NAME goes to FOLDER/passed or FOLDER/refused, and NAME.txt beside it. A job without a verdict
-stays. A file is taken when it is whole: not empty, not changed for the quiet seconds, and open for
-writing by no process of this machine. Names that begin with a dot or end with .part, .tmp or
-.filepart are left alone, and so is all that is no plain file.
+A job NAME goes to FOLDER/passed or FOLDER/refused, and NAME.txt beside it. A job whose macros would
+carry out more than N items is refused. A job without a verdict stays. A file is taken when it is
+whole: not empty, not changed for the quiet seconds, and open for writing by no process of this
+machine. Names that begin with a dot or end with .part, .tmp or .filepart are left alone, and so is
+all that is no plain file.
 
 PCLCHECK names the program, if it is not the pclcheck of PATH. Exit status: 0, with --once 1 where
 a job was refused and 3 where one has no verdict; 2 where the words are wrong. INT or TERM ends it.
@@ -31,8 +32,11 @@ sys.dont_write_bytecode = True
 UNFINISHED = (".part", ".tmp", ".filepart")
 FOLDERS = {0: "passed", 1: "refused"}       # by the exit status of pclcheck
 LOCK = ".hotfolder.lock"
-NO_VERDICT = 3
+REFUSED, NO_VERDICT = 1, 3
 RETRY_SECONDS = 30.0                        # until a job without a verdict is tried again
+# An overlay of 2,000 items on each of 10,000 pages; it takes some seconds for each printer.
+MOST_ITEMS = 20_000_000
+TOO_MANY_ITEMS = b"(ERROR items)"           # ends the sentence of a job that would not end for long
 State = Tuple[int, int, int]
 
 
@@ -85,6 +89,7 @@ class HotFolder:
     fleet: Path
     program: str
     quiet: float
+    most_items: int
     since: Dict[str, Tuple[State, float]] = field(default_factory=dict)     # unchanged since when
     retry: Dict[str, Tuple[State, float]] = field(default_factory=dict)     # not before when
     status: int = 0
@@ -113,8 +118,8 @@ class HotFolder:
 
         It gets the job by standard input: of a path it asks that it is UTF-8 text.
         """
-        words = [self.program, "check", "--format", "words", "--explain", "-f", str(self.fleet),
-                 "-"]
+        words = [self.program, "check", "--format", "words", "--explain", "--most-items",
+                 str(self.most_items), "-f", str(self.fleet), "-"]
         try:
             with open_job(self.folder / name) as job:
                 run = subprocess.run(words, stdin=job, stdout=subprocess.PIPE,
@@ -123,7 +128,10 @@ class HotFolder:
             return NO_VERDICT, f"{error.filename}: {error.strerror}".encode()
         if not run.stdout.startswith(b"-: "):
             return max(NO_VERDICT, run.returncode), run.stdout or b"pclcheck tells nothing of it"
-        return run.returncode, shown(name).encode() + run.stdout.removeprefix(b"-")
+        # Another try would end in the same way.
+        is_endless = run.stdout.partition(b"\n")[0].endswith(TOO_MANY_ITEMS)
+        status = REFUSED if is_endless else run.returncode
+        return status, shown(name).encode() + run.stdout.removeprefix(b"-")
 
     def place(self, folder: Path, name: str) -> Path:
         """Where the job goes: under its name, or with a number where that is taken."""
@@ -233,6 +241,8 @@ def words() -> argparse.Namespace:
                         help="how long a whole file has not changed (2)")
     parser.add_argument("--every", type=float, default=1.0, metavar="SECONDS",
                         help="how long to wait between two looks (1)")
+    parser.add_argument("--most-items", type=int, default=MOST_ITEMS, metavar="N",
+                        help=f"how many items the macros of a job may carry out ({MOST_ITEMS})")
     given = parser.parse_args()
     for path in (given.folder, given.fleet):
         if not path.exists():
@@ -243,7 +253,7 @@ def words() -> argparse.Namespace:
 def main() -> int:
     given = words()
     folder = HotFolder(given.folder.resolve(), given.fleet.resolve(),
-                       os.environ.get("PCLCHECK", "pclcheck"), given.quiet)
+                       os.environ.get("PCLCHECK", "pclcheck"), given.quiet, given.most_items)
     for name in FOLDERS.values():
         (folder.folder / name).mkdir(exist_ok=True)
     signal.signal(signal.SIGIO, signal.SIG_IGN)     # a writer that meets the lease

@@ -53,6 +53,9 @@ cp "$examples/invoice.pcl" "$hot/kept.pcl"
 say 'hot folder: a name that was there before' once 1
 say 'hot folder: gets a number' is_moved passed kept.2.pcl 'kept.pcl: each printer prints this job'
 say 'hot folder: the earlier job stays' has earlier "$hot/passed/kept.pcl"
+cp "$work/items.pcl" "$hot/items.pcl"
+say 'hot folder: macros with too many items end a round with 1' once 1
+say 'hot folder: they are in refused' is_moved refused items.pcl '(ERROR items)'
 long=$(printf '%0253d' 0)
 cp "$examples/invoice.pcl" "$hot/$long"
 say 'hot folder: a name that is too long for a text beside it' once 3
