@@ -105,12 +105,12 @@ export PCLCHECK_LOG_MOST
 say 'backend: logged: where the folder is full' gate 0 /all/log/stand-in:x 1 "$job"
 say 'backend: logged: it is sent' sends "$job"
 say 'backend: logged: it is not copied' no_copy all
-say 'backend: logged: which is told' tells 'has its limit of jobs'
+say 'backend: logged: which is told' tells 'all takes no more jobs'
 unset PCLCHECK_LOG_MOST
-PCLCHECK_LOG=$work/gone
+PCLCHECK_LOG=$job
 say 'backend: logged: where no log can be written' gate 0 /all/log/stand-in:x 1 "$job"
 say 'backend: logged: the job is sent' sends "$job"
-say 'backend: logged: which is told' tells "$work/gone cannot be written"
+say 'backend: logged: which is told' tells "$job cannot be written"
 PCLCHECK_LOG=$alone/log
 
 # Proportional spacing, which pclcheck does not check, and a cursor that is popped too often.

@@ -234,7 +234,8 @@ fn push_design<A: Allocator>(
     typeface: Typeface,
     other: Option<Typeface>,
 ) -> Result<(), AllocError> {
-    push_all(text, &[before, typeface.name(), " ("])?;
+    push(text, before)?;
+    push_all(text, &[typeface.name(), " ("])?;
     push_number(text, u64::from(typeface.number()))?;
     if let Some(other) = other {
         push(text, ", ")?;

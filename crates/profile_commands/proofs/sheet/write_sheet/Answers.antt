@@ -14,8 +14,8 @@ returns-in-None-clause-left g c =
       refl,
     )
 
-pub returns-in-Some-clause-left : goal.returns-in-Some-clause-left
-returns-in-Some-clause-left g c =
+pub returns-clause-left : goal.returns-clause-left
+returns-clause-left g c =
     let one : c.as_slice.result.now ≡ c.args.profile ∷ [] = search rules in
     inr (inl (
       c.in-Some.failure,
@@ -24,5 +24,5 @@ returns-in-Some-clause-left g c =
       refl,
     ))
 
-pub returns-in-Some-clause-refused : goal.returns-in-Some-clause-refused
-returns-in-Some-clause-refused g c = λ is. absurd (told_refuses_none c.refuse.result _ _ _ _ c.refuse.ensures is)
+pub returns-clause-refused : goal.returns-clause-refused
+returns-clause-refused g c = λ is. absurd (told_refuses_none c.refuse.result _ _ _ _ c.refuse.ensures is)

@@ -1,9 +1,0 @@
-use Rattle.shown_bytes.proofs.Further.{further}
-use Rattle.profile_show.specs.Pages.{page_lines}
-use Rattle.profile_show.proofs.pages.push_each.Goals as goal
-
-pub loop-page-preserved : goal.loop-page-preserved
-loop-page-preserved g c =
-    further (page_lines c.args.profile.now.geometries) c.args.pages.now c.loop-page.page-index _
-    c.args.text.now.items c.loop-page.text.items c.push_page.new.text.items
-    c.loop-page-test.true c.loop-page.invariant c.in_ok-push_page.ensures
