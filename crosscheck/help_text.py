@@ -1,4 +1,4 @@
-"""What a program says of its own commands: the help of each, its findings and its version."""
+"""What a program says of its own commands: the help of each, its models and its version."""
 
 import re
 import subprocess
@@ -7,7 +7,6 @@ from typing import Dict, Iterator, List, Tuple
 
 # A row of a table of the help: what is told of, and what is told, behind two blanks or more.
 ROW = re.compile(r"  +(\S.*?)(?:  +(\S.*))?$")
-FINDING = re.compile(r"(?ms)^(\d+ \w+)\n  When:(.*?)\n  Change:(.*?)\n  Manual:.*?(?=^\d|\Z)")
 
 
 def words_of(text: str) -> str:
@@ -63,11 +62,6 @@ class Program:
 
     def version(self) -> str:
         return self.output("--version").split()[-1]
-
-    def findings(self) -> Dict[str, str]:
-        """Each finding, by its number and name: when it comes, and what to change."""
-        return {name: f"{words_of(when)} Change: {words_of(change)}"
-                for name, when, change in FINDING.findall(self.output("explain"))}
 
     def models(self) -> Dict[str, List[str]]:
         """The papers of each model."""

@@ -2,13 +2,14 @@
 
     python3 crosscheck/manual.py PROGRAM
 
-man/pclcheck.1 has each command, argument, option, exit status and line of each help in the same
-words, each finding of `explain`, and no other option; with `-h` each command tells in fifteen lines
-at most what it does and how it is used; `explain` tells of each number and each name
-what it tells of it among all; man/pclcheck-profile.5 has what manual_profile.py says; each file in
-completions/ offers each command and option, the fixed values of options, and no other;
-debian/changelog and CHANGELOG.md begin with the program's version. Needs bash. Prints a line for
-each that differs, and at last `N compared, M differ`. The exit status is 0 where M is 0, else 1.
+man/pclcheck.1 has each command, option of all, exit status of `check` and line of each help in the
+same words, and names no other option; what docs/make.py writes into it is not compared again. With
+`-h` each command tells in fifteen lines at most what it does and how it is used; `explain` tells of
+each number and each name what it tells of it among all; man/pclcheck-profile.5 has what
+manual_profile.py says; each file in completions/ offers each command and option, the fixed values
+of options, and no other; debian/changelog and CHANGELOG.md begin with the program's version. Needs
+bash. Prints a line for each that differs, and at last `N compared, M differ`. The exit status is 0
+where M is 0, else 1.
 """
 
 import re
@@ -28,33 +29,16 @@ ROOT = Path(__file__).resolve().parent.parent
 PAGE = ROOT / "man" / "pclcheck.1"
 PROFILE_PAGE = ROOT / "man" / "pclcheck-profile.5"
 COMPLETIONS = ROOT / "completions"
-HELP = "-h, --help"
 # What -h writes has so many lines at most.
 SHORT_LINES = 15
 
 
-def bare(words: str) -> str:
-    """An argument or an option without the brackets and points of a help."""
-    return re.sub(r"[][<>]|\.\.\.$", "", words)
-
-
 def compare_command(comparison: Comparison, command: Command, section: Section) -> None:
-    """The part of the page on one command: its usage, arguments, options and exit statuses."""
+    """The part of the page on one command: its usage, and what it does."""
     name = command.name
     comparison.same(f"{name}: usage", section.bold[:1], [command.usage])
     comparison.holds(f"{name}: {command.about!r} is not in its part",
                      command.about in words_of(section.text))
-    due = {bare(words): about for words, about in command.arguments.items()}
-    due.update((bare(words), about) for words, about in command.options.items() if words != HELP)
-    due.update((words, about) for words, about in command.commands.items())
-    if command.words != ("check",):
-        due.update(command.statuses)
-    shown = {tag: words_of(text) for tag, text in section.entries.items()}
-    for tag, about in due.items():
-        comparison.same(f"{name}: {tag}", shown.get(tag), about)
-    for tag in shown:
-        if tag.startswith("-") or tag.isdigit():
-            comparison.holds(f"{name}: the page has {tag!r}, the program not", tag in due)
 
 
 def compare_page(comparison: Comparison, program: Program, commands: List[Command]) -> None:
@@ -64,9 +48,6 @@ def compare_page(comparison: Comparison, program: Program, commands: List[Comman
     parts = titles[titles.index("COMMANDS") + 1:titles.index("VERDICTS")]
     top, *below = commands
     comparison.same("the commands of the page", parts, [one.name for one in below] + ["help"])
-    comparison.same("the synopsis", page["SYNOPSIS"].bold,
-                    [one.usage for one in below if not one.commands]
-                    + ["pclcheck help [COMMAND]..."])
     comparison.same("the name", words_of(page["NAME"].text),
                     "pclcheck - " + top.about.removeprefix("A "))
     for command in below:
@@ -74,7 +55,6 @@ def compare_page(comparison: Comparison, program: Program, commands: List[Comman
     comparison.same_entries("an option of all", page["OPTIONS"], top.options)
     comparison.same_entries("an exit status", page["EXIT STATUS"], top.statuses)
     comparison.same("the exit statuses of check", commands[1].statuses, top.statuses)
-    comparison.same_entries("a finding", page["FINDINGS"], program.findings())
     text = " ".join(words_of(section.text) for section in page.values())
     for command in commands:
         for cell in command.cells:

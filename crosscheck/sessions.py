@@ -17,7 +17,8 @@ from pathlib import Path
 from typing import Iterator, List, Tuple
 
 ROOT = Path(__file__).resolve().parent.parent
-DOCUMENTS = (ROOT / "README.md", ROOT / "examples" / "README.md", *sorted(ROOT.glob("docs/*.md")))
+DOCUMENTS = (ROOT / "README.md", *sorted(ROOT.glob("examples/*.md")),
+             *sorted(ROOT.glob("docs/*.md")))
 # Lines that say where the sessions are given, and what the word `pclcheck` is there.
 SETTING = re.compile(r"cd examples$|alias pclcheck=")
 

@@ -24,9 +24,10 @@ FONT_PARTS = ("symbol_set", "spacing", "pitch", "height", "style", "weight", "ty
 PAGE_FIELDS = ("Size", "Orientation", "Copies", "Sides", "Tray")
 
 # The rules that are read here, with the names of findings and the order of the checks of one step.
-RULES = (Path(__file__).resolve().parent.parent / "docs" / "DEFINITIONS.md").read_text()
-FINDINGS = {int(number): name
-            for number, name in re.findall(r"(?m)^\| (\d\d) (\w+) \|", RULES)}
+DOCUMENTS = Path(__file__).resolve().parent.parent / "docs"
+RULES = (DOCUMENTS / "DEFINITIONS.md").read_text()
+FINDINGS = {int(number): name for number, name in
+            re.findall(r"(?m)^## (\d\d) (\w+)$", (DOCUMENTS / "FINDINGS.md").read_text())}
 ORDER = re.search(r"(?m)^At one step the first finding in the order ([\d, ]+) is reported", RULES)
 CHECK_ORDER = tuple(map(int, ORDER[1].split(", ")))
 

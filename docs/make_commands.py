@@ -263,7 +263,9 @@ def commands(tree: Tree) -> str:
         line = table_line(tree, kind)
         text = line + "".join(one.text for one in found)
         reads = reads_of(found, line)
-        spelled = bytes_of.pop(kind)
+        spelled = bytes_of.pop(kind, None)
+        if spelled is None:
+            raise Unreadable(f"{TABLE} has a line of `{kind}`, which the lexer does not know")
         says = [name for name in own if name not in SAYS_NOTHING]
         words = words_of(tree, says, spelled)
         first = told.setdefault(words, spelled)
