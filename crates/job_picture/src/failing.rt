@@ -184,7 +184,7 @@ fn printable_outline(paper: &Geometry) -> Outline
 }
 
 /// How far two lengths lead, one behind the other.
-fn sum(first: Length, second: Length) -> i64
+fn sum_of_two(first: Length, second: Length) -> i64
     ensures { result ≡ first +ℤ second }
 {
     first.ticks() + second.ticks()
@@ -196,8 +196,8 @@ fn logical_outline(paper: &Geometry) -> Outline
     Outline {
         left: paper.logical_left.ticks(),
         top: paper.logical_top.ticks(),
-        right: sum(paper.logical_left, paper.logical_width),
-        bottom: sum(paper.logical_top, paper.logical_height),
+        right: sum_of_two(paper.logical_left, paper.logical_width),
+        bottom: sum_of_two(paper.logical_top, paper.logical_height),
     }
 }
 
@@ -209,8 +209,8 @@ fn text_outline(paper: &Geometry, page: &Page) -> Outline
     Outline {
         left: paper.logical_left.ticks(),
         top: paper.logical_top.ticks(),
-        right: sum(paper.logical_left, width),
-        bottom: sum(paper.logical_top, paper.logical_height),
+        right: sum_of_two(paper.logical_left, width),
+        bottom: sum_of_two(paper.logical_top, paper.logical_height),
     }
 }
 
@@ -240,7 +240,7 @@ fn frame_outline(paper: &Geometry, frame: &Frame) -> Outline
     ensures { result ≡ frame_outline paper.now frame.now }
 {
     Outline {
-        left: sum(paper.logical_left, frame.left),
+        left: sum_of_two(paper.logical_left, frame.left),
         top: down(paper.logical_top, frame.top),
         right: sum_of_three(paper.logical_left, frame.left, frame.width),
         bottom: further_down(paper.logical_top, frame.top, frame.height),
