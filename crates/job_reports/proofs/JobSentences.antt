@@ -45,8 +45,8 @@ use Rattle.streams.specs.declared.error.Error.{Error}
 use Rattle.streams.specs.declared.error.Error.TheVariants.{Memory, Read, Write, Turns, NoProfile, Items}
 use Rattle.job_reports.specs.CommandWords.{code_words, command_words}
 use Rattle.job_reports.specs.JobSentences.{AreNumbers, IsCulpritOfNumbers, IsOfParts, IsSentence, IsVerdictOfNumbers, IsWithin}
-use Rattle.job_reports.specs.JobSentences.{answer_phrase, at_command, cause_phrase, claim, claim_by, error_phrase, fails_at, few_words}
-use Rattle.job_reports.specs.JobSentences.{first_of, for_each, for_printer, is_bad_value, job_sentence, last_of, named_first}
+use Rattle.job_reports.specs.JobSentences.{answer_phrase, at_command, cause_phrase, claim_by, error_phrase, fails_at, few_words}
+use Rattle.job_reports.specs.JobSentences.{first_of, for_each, for_printer, is_bad_value, job_claim, job_sentence, last_of, named_first}
 use Rattle.job_reports.specs.JobSentences.{reason_phrase, refusal, subject, verdict_phrase}
 use Rattle.job_reports.specs.Kinds.{kind_by}
 use Rattle.job_reports.specs.LeftOut.{left_out_of, value_words}
@@ -315,7 +315,7 @@ cause_part (Some words) =
 answer_part : (report : Reported) (answer : Result Verdict Error) → AllByRecursion (IsWithin 32) report.names →
     IsCulpritOfNumbers (culprit_of report.answer) → IfOk answer IsVerdictOfNumbers → IsWithin 381 (answer_phrase report answer)
 answer_part report (Ok verdict) h k l =
-    joined (claim report) (verdict_phrase (fails_at (culprit_of report.answer)) verdict)
+    joined (job_claim report) (verdict_phrase (fails_at (culprit_of report.answer)) verdict)
     (claim_part (subject report.names (number_told report.is_each (verdict_told report.answer))) (for_each report.is_each report.names)
     (subject_part report.names _ h) (for_each_part report.is_each report.names h) (left_out_of (culprit_of report.answer))
     (verdict_told report.answer))

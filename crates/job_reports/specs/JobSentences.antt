@@ -69,8 +69,8 @@ claim_by who each left_out (Ok (Pass pages marks)) = who ++ codes " prints this 
 claim_by who each left_out (Ok (Fail place profile reason)) = refusal (kind_by left_out reason) who each
 claim_by who each left_out (Err error) = []
 
-abbrev pub claim : Reported → List ℕ
-claim report =
+abbrev pub job_claim : Reported → List ℕ
+job_claim report =
     let answer = verdict_told report.answer in
     claim_by (subject report.names (number_told report.is_each answer)) (for_each report.is_each report.names)
     (left_out_of (culprit_of report.answer)) answer
@@ -127,7 +127,8 @@ cause_phrase (Some words) = codes ": " ++ first_of 200 (shown words)
 -- ---- the sentence
 
 abbrev pub answer_phrase : Reported → Result Verdict Error → List ℕ
-answer_phrase report (Ok verdict) = claim report ++ verdict_phrase (fails_at (culprit_of report.answer)) verdict
+answer_phrase report (Ok verdict) =
+    job_claim report ++ verdict_phrase (fails_at (culprit_of report.answer)) verdict
 answer_phrase report (Err error) =
     error_phrase error ++ for_printer report.names (number_told report.is_each (Err error)) ++ cause_phrase report.cause
     ++ codes " (" ++ error_words error ++ codes ")"

@@ -7,7 +7,6 @@ ghost use Rattle.job_reports.specs.JobSentences.{
   at_command,
   begins_character,
   cause_phrase,
-  claim,
   error_phrase,
   fails_at,
   few_words,
@@ -16,6 +15,7 @@ ghost use Rattle.job_reports.specs.JobSentences.{
   for_printer,
   from_character,
   is_bad_value,
+  job_claim,
   job_sentence,
   last_of,
   named_first,
@@ -91,7 +91,7 @@ fn push_claim<A: Allocator>(
     line: &mut Vec<u8, A>,
     report: &Report<'_, '_, A>,
 ) -> Result<(), AllocError>
-    ensures { OnOk result (line.new.items ≡ line.old.items ++ claim report.now) }
+    ensures { OnOk result (line.new.items ≡ line.old.items ++ job_claim report.now) }
 {
     match report.verdict() {
         Ok(Verdict::Pass { .. }) => {
