@@ -75,7 +75,8 @@ module _ (selection : Selection) (job : List ℕ) (group : Groups) (machine : Ma
     pub item_fails : (found : Option Finding) (finding : Finding) → found ≡ Some finding →
         Steps machine machine' x.item counts counts' (Ok found) → false ≡ is_behind selection (open_page counts')
         → (failure : Failure) → failure ≡ found_at x.place 1 finding → (culprit : Culprit) → IsCulprit culprit x.item
-        → (r : Result Outcome Error) → Keeps kept kept' (found_at_failure selection job group counts' (fails_at None (Some culprit)) failure) r
+        → (r : Result Outcome Error)
+        → Keeps kept kept' (found_at_failure selection job group counts' (fails_at None (Some culprit)) failure) r
         → Ended rendering (StartsWith x) old old kept kept' r
     item_fails found finding is steps goes failure failure_is culprit named r told =
         let halts : HasRun ((item_of machine x.item).run any_panel) (Halts finding) counts counts' =

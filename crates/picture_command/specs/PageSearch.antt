@@ -146,7 +146,8 @@ items_search selection job group printer defaults finally counts (x ∷ items) m
 
 abbrev pub end_search : Selection → (job : List ℕ) → Groups → Printer → Settings → ℕ → Counts → Store → State → Searched
 end_search selection job group printer defaults place counts macros s =
-    run_search selection job group counts (fails_at None None) place (job_end_run (with_macros printer defaults macros) s)
+    run_search selection job group counts (fails_at None None) place
+    (job_end_run (with_macros printer defaults macros) s)
     (λ counts' t. found_at_end selection job group counts')
 
 abbrev pub fault_search : Selection → (job : List ℕ) → Groups → ℕ → LexCause → Counts → Store → State → Searched

@@ -372,7 +372,7 @@ pub finds_there : (action : Action) (finding : Finding) (pages pages' n i : ℕ)
 finds_there action finding pages pages' n zero [] machine rest e finds paged = absurd cc
 finds_there action finding pages pages' n zero (m ∷ ms) machine rest e finds paged =
     let same : m ≡ machine = cc in
-    subst (λ k. FindsAt action finding pages pages' (0 + n) n (k ∷ ms)) (sym same) (inl (omega arith, (finds, paged)))
+    subst (λ k. FindsAt action finding pages pages' (zero + n) n (k ∷ ms)) (sym same) (inl (omega arith, (finds, paged)))
 finds_there action finding pages pages' n (suc i) [] machine rest e finds paged = absurd cc
 finds_there action finding pages pages' n (suc i) (m ∷ ms) machine rest e finds paged =
     inr

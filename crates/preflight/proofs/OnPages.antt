@@ -1,8 +1,7 @@
 -- The page on which a job fails.
-use Rattle.std.proofs.Common.{◌≡◌, inl, inr, ◌+◌, ℕ, Bool, List, [], ◌∷◌, ◌++◌, length, take, Option, Some, refl, ap, sym, ◌∙◌, append-nil}
+use Rattle.std.proofs.Common.{◌≡◌, inl, inr, ◌+◌, ℕ, Bool, List, [], ◌∷◌, ◌++◌, length, take, Some, refl, ap, sym, ◌∙◌, append-nil}
 use Rattle.std.proofs.Common.{append_assoc, arith}
-use Rattle.std.proofs.Math.Nat.{zero-add}
-use Rattle.std.proofs.Math.Seq.{take-append_seam}
+use Rattle.std.proofs.lemmas.List.{take-append-le, take_all}
 use Rattle.std.specs.List.{Contains}
 use Rattle.pcl_items.specs.declared.fault.LexCause.{LexCause}
 use Rattle.pcl_items.specs.Items.{Placed}
@@ -78,7 +77,7 @@ module _ (items : List Placed) (done : List ItemRun) (action : Action) (finding 
 
 -- the first of two lists
 front_taken : (xs ys : List ItemRun) → take (0 + length xs) (xs ++ ys) ≡ xs
-front_taken xs ys = ap (λ n. take n (xs ++ ys)) (zero-add (length xs)) ∙ take-append_seam xs ys
+front_taken xs ys = take-append-le (0 + length xs) xs ys (omega arith) ∙ take_all (0 + length xs) xs (omega arith)
 
 module _ (fleet : List Printer) (bytes : List ℕ) (lexer : LexerState) (machines : List MachineState) (counts : Counts)
     (executed : HasExecuted fleet bytes lexer machines counts) where

@@ -35,18 +35,19 @@ pub returns-then-not-judge-clause-came : goal.returns-then-not-judge-clause-came
 returns-then-not-judge-clause-came g c =
     let action = action_of c.args.task.now in
     let begun : Recorded = record { events = []; counts = c.self.inside.counts } in
+    let counts = c.counts-self-inside-then-not-judge.result in
     fails_by recorder_takes recorder_refuses action _ _ c.self.inside.first c.execute_by-answer.new.machine _
     c.args.place 1 c.execute_by-answer.result c.judge.new.self c.judge.ensures.standing
     (sym c.judge.ensures.open ∙ c.if-not-judge.true) c.execute_by-answer.ensures
     (λ finding finds leads. (
       refl,
       subst (λ (f : Fleet). FoundFrom action finding 1 1 f.machines) c.self.view_is (inl (refl, finds)),
-      subst (λ (f : Fleet). FindsAt action finding f.counts.pages c.counts-self-inside.result.pages 1 1 f.machines) c.self.view_is (inl (
+      subst (λ (f : Fleet). FindsAt action finding f.counts.pages counts.pages 1 1 f.machines) c.self.view_is (inl (
         refl,
         (
           finds,
-          pages_recorded begun c.restart.new.self c.execute_by-answer.new.sink finds.events c.counts-self-inside.result c.restart.ensures
-              leads c.counts-self-inside.ensures,
+          pages_recorded begun c.restart.new.self c.execute_by-answer.new.sink finds.events counts c.restart.ensures leads
+              c.counts-self-inside-then-not-judge.ensures,
         ),
       )),
     ))
