@@ -52,7 +52,8 @@ def crate_of(words: list[str], folder: str) -> str:
 
 
 def sample(seen: dict) -> None:
-    """Notes what the processes of the toolchain have taken so far."""
+    """Notes what the processes of the toolchain in this session have taken so far."""
+    session = str(os.getsid(0))
     for entry in os.listdir("/proc"):
         if not entry.isdigit():
             continue
@@ -61,8 +62,10 @@ def sample(seen: dict) -> None:
             kind = kind_of(os.path.basename(words[0]), words)
             if kind is None:
                 continue
-            # Behind the name in brackets: 11 and 12 are the times of the process itself.
+            # Behind the name in brackets: 3 is the session, 11 and 12 the times of the process.
             state = Path(f"/proc/{entry}/stat").read_text().rpartition(") ")[2].split()
+            if state[3] != session:
+                continue
             seconds = (int(state[11]) + int(state[12])) / TICKS
             key = entry, state[19]
             if key not in seen:

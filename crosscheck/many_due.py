@@ -20,6 +20,7 @@ class Told:
     pages: int = 0
     marks: int = 0
     at: int = 0
+    page: int = 0                             # the page that is open there
     profile: int = 0
     code: int = 0                             # the number of what is wrong, its name,
     finding: bytes = b""

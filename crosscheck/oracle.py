@@ -40,8 +40,16 @@ def read_profiles(texts: List[bytes]) -> Tuple[List[Profile], Optional[Answer]]:
     return profiles, None
 
 
+def ended(events) -> int:
+    """How many pages end by events."""
+    return sum(1 for line, _ in events if line is None)
+
+
 class Fleet:
-    """All printers in step: each item goes through every one before the next item."""
+    """All printers in step: each item goes through every one before the next item.
+
+    Where one has a finding, its pages are counted up to that.
+    """
 
     def __init__(self, profiles: List[Profile]):
         self.machines = [Machine(profile, profile.first_panel(), watched=True)
@@ -56,32 +64,46 @@ class Fleet:
             try:
                 machine.finish() if item is None else machine.step(item)
             except Finding as finding:
+                self.pages += ended(machine.events)
                 return number, finding
         events = self.machines[0].events
         for number, machine in enumerate(self.machines, start=1):
             if machine.events != events:
                 return number, Finding(33)
-        self.pages += sum(1 for line, _ in events if line is None)
-        self.marks += sum(1 for line, _ in events if line is not None)
+        self.pages += ended(events)
+        self.marks += len(events) - ended(events)
         return None
 
 
-def check(texts: List[bytes], job: bytes) -> Answer:
-    profiles, error = read_profiles(texts)
-    if error:
-        return error
+def checked(fleet: Fleet, job: bytes) -> Optional[bytes]:
+    """Executes a job; the line of its failure, if it has one."""
     lexed = lex(job)
-    fleet = Fleet(profiles)
     steps: List[Tuple[int, Optional[Item]]] = list(lexed.items)
     if lexed.fault is None:
         steps.append((len(job), None))
     for place, item in steps:
         found = fleet.step(item)
         if found:
-            return Answer(FAILED, fail_line(place, *found))
-    if lexed.fault:
-        return Answer(FAILED, fault_line(lexed))
+            return fail_line(place, *found)
+    return fault_line(lexed) if lexed.fault else None
+
+
+def check(texts: List[bytes], job: bytes) -> Answer:
+    profiles, error = read_profiles(texts)
+    if error:
+        return error
+    fleet = Fleet(profiles)
+    failure = checked(fleet, job)
+    if failure:
+        return Answer(FAILED, failure)
     return Answer(PASS, f"PASS pages={fleet.pages} marks={fleet.marks}\n".encode())
+
+
+def failing_page(texts: List[bytes], job: bytes) -> int:
+    """The page that is open where a job fails for printers of these texts."""
+    fleet = Fleet([read_profile(text) for text in texts])
+    checked(fleet, job)
+    return fleet.pages + 1
 
 
 def shown(data: bytes) -> bytes:

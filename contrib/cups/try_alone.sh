@@ -56,14 +56,14 @@ say 'backend: a job on standard input' input 0 /shop/stand-in:x "$job"
 say 'backend: is sent as it is' sends "$job"
 say 'backend: a job that fails is held' gate 3 /all/stand-in:x 1 "$job"
 say 'backend: and why is told' \
-    tells 'ERROR: preflight: export-desk refuses this job at byte 134, ESC &l2A: the printer does'
+    tells 'ERROR: preflight: export-desk refuses this job at byte 134 on page 1, ESC &l2A: the printer does'
 say 'backend: nothing is sent' sends_nothing
 say 'backend: on standard input, too' input 3 /all/stand-in:x "$job"
 say 'backend: nothing is sent' sends_nothing
 
 say 'backend: a job that passes once' gate 0 /front/stand-in:x 1 "$cups/once.pcl"
 say 'backend: is held where it has two copies' gate 3 /front/stand-in:x 2 "$cups/once.pcl"
-say 'backend: for the second one' tells 'front-desk refuses this job at byte 44, '
+say 'backend: for the second one' tells 'front-desk refuses this job at byte 44 on page 1, '
 cat "$job" "$job" "$job" >"$alone/three"
 say 'backend: three copies' gate 0 /shop/stand-in:x 3 "$job"
 say 'backend: are sent' sends "$alone/three"
@@ -89,7 +89,7 @@ say 'backend: logged: has its line' is_logged shop "$passes"
 say 'backend: logged: a job that fails is sent' gate 0 /all/log/stand-in:x 1 "$job"
 say 'backend: logged: as it is' sends "$job"
 say 'backend: logged: and why it would be held is told' tells \
-    'NOTICE: preflight: would be held: export-desk refuses this job at byte 134, ESC &l2A: '
+    'NOTICE: preflight: would be held: export-desk refuses this job at byte 134 on page 1, ESC &l2A: '
 say 'backend: logged: has its line' is_logged all '"at":134,"code":11,.*"job":"7",.*"FAIL"'
 say 'backend: logged: is copied' cmp "$alone/log/all/7.pcl" "$job"
 rm "$alone/log/all/7.pcl"
@@ -118,10 +118,10 @@ printf '\033(s1P' >"$alone/spaced.pcl"
 printf '\033&f1S' >"$alone/wrong.pcl"
 say 'backend: a job that is wrong is held' gate 3 /front/stand-in:x 1 "$alone/wrong.pcl"
 say 'backend: and why is told' \
-    tells 'ERROR: preflight: this job is wrong at byte 0, ESC &f1S: no cursor is pushed'
+    tells 'ERROR: preflight: this job is wrong at byte 0 on page 1, ESC &f1S: no cursor is pushed'
 say 'backend: a job that pclcheck cannot judge is held' \
     gate 3 /front/stand-in:x 1 "$alone/spaced.pcl"
-say 'backend: and why is told' tells 'ERROR: preflight: pclcheck cannot judge this job at byte 0, '
+say 'backend: and why is told' tells 'ERROR: preflight: pclcheck cannot judge this job at byte 0 on page 1, '
 say 'backend: logged: it is printed' gate 0 /front/log/stand-in:x 1 "$alone/spaced.pcl"
 say 'backend: logged: and copied' cmp "$alone/log/front/7.pcl" "$alone/spaced.pcl"
 rm "$alone/log/front/7.pcl"
@@ -130,7 +130,7 @@ export PCLCHECK_UNCHECKED
 say 'backend: or printed, where that is set' gate 0 /front/stand-in:x 1 "$alone/spaced.pcl"
 say 'backend: as it is' sends "$alone/spaced.pcl"
 say 'backend: which is told' tells \
-    'NOTICE: preflight: printed all the same: pclcheck cannot judge this job at byte 0, ESC (s1P: '
+    'NOTICE: preflight: printed all the same: pclcheck cannot judge this job at byte 0 on page 1, ESC (s1P: '
 say 'backend: a job that is wrong is held then, too' gate 3 /front/stand-in:x 1 "$alone/wrong.pcl"
 say 'backend: and one that a printer refuses' gate 3 /all/stand-in:x 1 "$job"
 say 'backend: logged: it is printed' gate 0 /front/log/stand-in:x 1 "$alone/spaced.pcl"

@@ -38,7 +38,7 @@ for name; do
     say "hot folder: '$shown' is in passed, with its sentence" \
         is_moved passed "$name" ': each printer prints this job (pages=1 marks=268)'
     say "hot folder: 'bad$shown' is in refused, with its sentence" \
-        is_moved refused "bad$name" ': back-office refuses this job at byte 2, ESC *p75X: '
+        is_moved refused "bad$name" ': back-office refuses this job at byte 2 on page 1, ESC *p75X: '
 done
 say 'hot folder: half a job is left while a process writes it' [ -f "$hot/half.pcl" ]
 say 'hot folder: an upload, an empty file, a link and a pipe are left' \
@@ -62,7 +62,7 @@ printf '\033(s1P' >"$hot/spaced.pcl"
 cp "$hot/spaced.pcl" "$work/spaced.pcl"
 say 'hot folder: a job that pclcheck cannot judge ends a round with 1' once 1
 say 'hot folder: it is in refused' \
-    is_moved refused spaced.pcl 'pclcheck cannot judge this job at byte 0, ESC (s1P: '
+    is_moved refused spaced.pcl 'pclcheck cannot judge this job at byte 0 on page 1, ESC (s1P: '
 cp "$work/spaced.pcl" "$hot/spaced.pcl"
 say 'hot folder: with --unchecked pass it does not' once 0 --unchecked pass
 say 'hot folder: and is in passed' is_moved passed spaced.pcl 'pclcheck cannot judge this job'

@@ -23,7 +23,7 @@ pub const EXPLANATION: &str = "Examples:
       a line for each job and printer, with the verdict for that printer alone
   pclcheck check -f shop.fleet --format words a.pcl b.pcl
       a.pcl: each printer prints this job (pages=1 marks=16)
-      b.pcl: this job is wrong at byte 9: a macro definition is still open (24 DefinitionOpen)
+      b.pcl: this job is wrong at byte 9 on page 2: the bytes here are no command (1 Syntax)
   pclcheck check -f shop.fleet --format json a.pcl
       {\"job\":\"a.pcl\",\"marks\":16,\"pages\":1,\"verdict\":\"PASS\"}
   pclcheck check -f shop.fleet --explain c.pcl
@@ -75,10 +75,11 @@ With -p, -f, --allow-empty, --most-items, --each, --notes, --format, --explain, 
   --format words: a sentence for the line, of at most 1,000 bytes; of a long JOB it has the end, and
   letters of UTF-8 stand in it as they are. It tells who says no: a printer refuses the job, or the
   job is wrong, or pclcheck cannot judge it.
-  --format json: an object with job and verdict; of a PASS pages and marks; of a FAIL at, profile,
-  printer, code, finding, field, kind, command and explanation; of an ERROR error and cause. Below
-  a PASS an object for each note with job, printer, at, code, note and explanation. In job each
-  backslash is doubled; a JOB that is no UTF-8 text stands there as in a line.
+  --format json: an object with job and verdict; of a PASS pages and marks; of a FAIL at, page,
+  profile, printer, code, finding, field, kind, command and explanation; of an ERROR error and
+  cause. Below a PASS an object for each note with job, printer, at, code, note and explanation. In
+  job each backslash is doubled; a JOB that is no UTF-8 text stands there as in a line. The page is
+  the one that is open at the byte, from 1.
 
   kind tells who says no:
   unchecked  pclcheck, which does not check this; printers may take it

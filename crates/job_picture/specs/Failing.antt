@@ -23,23 +23,33 @@ use Rattle.job_picture.specs.declared.failing.Spot.{Spot}
 
 -- ---- the mark that an item would make
 
--- the box of a character of a face with its reference point at the cursor
+-- the box of a character of a face with its reference point at a place
+abbrev pub character_on : Face → (x y : ℤ) → Outline
+character_on face x y = record {
+  left = x;
+  top = y -ℤ face.ascent;
+  right = x +ℤ face.advance;
+  bottom = y +ℤ face.descent;
+}
+
+-- the same at the cursor
 abbrev pub character_at : Geometry → State → Face → Outline
-character_at paper s face = record {
-  left = cursor_x (origin_on paper) s;
-  top = cursor_y (origin_on paper) s -ℤ face.ascent;
-  right = cursor_x (origin_on paper) s +ℤ face.advance;
-  bottom = cursor_y (origin_on paper) s +ℤ face.descent;
+character_at paper s face = character_on face (cursor_x (origin_on paper) s) (cursor_y (origin_on paper) s)
+
+-- the box of a rectangle with its corner at a place
+abbrev pub rectangle_on : (width height x y : ℤ) → Outline
+rectangle_on width height x y = record {
+  left = x;
+  top = y;
+  right = x +ℤ width;
+  bottom = y +ℤ height;
 }
 
 -- the next rectangle with its corner at the cursor
 abbrev pub rectangle_at : Geometry → State → Outline
-rectangle_at paper s = record {
-  left = cursor_x (origin_on paper) s;
-  top = cursor_y (origin_on paper) s;
-  right = cursor_x (origin_on paper) s +ℤ s.settings.job.rectangle_width;
-  bottom = cursor_y (origin_on paper) s +ℤ s.settings.job.rectangle_height;
-}
+rectangle_at paper s =
+    rectangle_on s.settings.job.rectangle_width s.settings.job.rectangle_height
+    (cursor_x (origin_on paper) s) (cursor_y (origin_on paper) s)
 
 -- of a command
 abbrev pub mark_of_command : Geometry → State → Command → Option Outline

@@ -8,6 +8,7 @@ ghost use Rattle.page_env.specs.Settings.{state_at};
 ghost use Rattle.renderings.specs.Carriers.PageRendering.{any_panel};
 ghost use Rattle.job_picture.specs.Failing.{
   character_at,
+  character_on,
   frame_outline,
   limit_left,
   logical_outline,
@@ -16,6 +17,7 @@ ghost use Rattle.job_picture.specs.Failing.{
   mark_or_cross,
   printable_outline,
   rectangle_at,
+  rectangle_on,
   spot_of,
   text_outline,
   unmade_mark,
@@ -68,17 +70,23 @@ fn place_on(paper: &Geometry, page: &Page) -> SheetPlace
     cursor_on(paper, page, page.env.fields.vmi.under(0))
 }
 
-/// The box of a character of a face at the cursor.
-fn character_at<A: Allocator>(paper: &Geometry, page: &Page, face: &FontRow<A>) -> Outline
-    ensures { result ≡ character_at paper.now (state_at any_panel page.now) face.now }
+/// The box of a character of a face at a place.
+fn character_on<A: Allocator>(place: SheetPlace, face: &FontRow<A>) -> Outline
+    ensures { result ≡ character_on face.now place.x place.y }
 {
-    let place = place_on(paper, page);
     Outline {
         left: place.x,
         top: before(place.y, face.ascent()),
         right: behind(place.x, face.advance()),
         bottom: behind(place.y, face.descent()),
     }
+}
+
+/// The same at the cursor.
+fn character_at<A: Allocator>(paper: &Geometry, page: &Page, face: &FontRow<A>) -> Outline
+    ensures { result ≡ character_at paper.now (state_at any_panel page.now) face.now }
+{
+    character_on(place_on(paper, page), face)
 }
 
 /// Any panel, where none is asked for a setting.
@@ -113,17 +121,24 @@ fn character_mark<A: Allocator>(
     }
 }
 
+/// The box of a rectangle with its corner at a place.
+fn rectangle_on(place: SheetPlace, width: Length, height: Length) -> Outline
+    ensures { result ≡ rectangle_on width height place.x place.y }
+{
+    Outline {
+        left: place.x,
+        top: place.y,
+        right: behind(place.x, width),
+        bottom: behind(place.y, height),
+    }
+}
+
 /// The next rectangle at the cursor.
 fn rectangle_at(paper: &Geometry, page: &Page) -> Outline
     ensures { result ≡ rectangle_at paper.now (state_at any_panel page.now) }
 {
-    let place = place_on(paper, page);
-    Outline {
-        left: place.x,
-        top: place.y,
-        right: behind(place.x, page.env.job.rectangle_width),
-        bottom: behind(place.y, page.env.job.rectangle_height),
-    }
+    let (width, height) = (page.env.job.rectangle_width, page.env.job.rectangle_height);
+    rectangle_on(place_on(paper, page), width, height)
 }
 
 /// The mark that a command would make at the cursor.
@@ -169,7 +184,7 @@ fn printable_outline(paper: &Geometry) -> Outline
 }
 
 /// How far two lengths lead, one behind the other.
-fn sum(first: Length, second: Length) -> i64
+fn sum_of_two(first: Length, second: Length) -> i64
     ensures { result ≡ first +ℤ second }
 {
     first.ticks() + second.ticks()
@@ -181,8 +196,8 @@ fn logical_outline(paper: &Geometry) -> Outline
     Outline {
         left: paper.logical_left.ticks(),
         top: paper.logical_top.ticks(),
-        right: sum(paper.logical_left, paper.logical_width),
-        bottom: sum(paper.logical_top, paper.logical_height),
+        right: sum_of_two(paper.logical_left, paper.logical_width),
+        bottom: sum_of_two(paper.logical_top, paper.logical_height),
     }
 }
 
@@ -194,8 +209,8 @@ fn text_outline(paper: &Geometry, page: &Page) -> Outline
     Outline {
         left: paper.logical_left.ticks(),
         top: paper.logical_top.ticks(),
-        right: sum(paper.logical_left, width),
-        bottom: sum(paper.logical_top, paper.logical_height),
+        right: sum_of_two(paper.logical_left, width),
+        bottom: sum_of_two(paper.logical_top, paper.logical_height),
     }
 }
 
@@ -225,7 +240,7 @@ fn frame_outline(paper: &Geometry, frame: &Frame) -> Outline
     ensures { result ≡ frame_outline paper.now frame.now }
 {
     Outline {
-        left: sum(paper.logical_left, frame.left),
+        left: sum_of_two(paper.logical_left, frame.left),
         top: down(paper.logical_top, frame.top),
         right: sum_of_three(paper.logical_left, frame.left, frame.width),
         bottom: further_down(paper.logical_top, frame.top, frame.height),

@@ -37,18 +37,19 @@ report_of is_each answer cause = record {
 }
 
 abbrev passed : Result Judgement Error
-passed = Ok (record { verdict = Pass 1 22; culprit = None })
+passed = Ok (record { verdict = Pass 1 22; culprit = None; page = None })
 
 -- the second printer has no page of this size
 abbrev refused : Result Judgement Error
 refused = Ok (record {
   verdict = Fail 134 2 (Finding NotOnDevice);
   culprit = Some (Simple (Parameterized PageSize (record { sign = Absent; ten_thousandths = 20000; within = lit≤ tt })));
+  page = Some 2;
 })
 
 -- the bytes are wrong, whatever the printer
 abbrev faulty : Result Judgement Error
-faulty = Ok (record { verdict = Fail 9 0 (Fault Syntax); culprit = None })
+faulty = Ok (record { verdict = Fail 9 0 (Fault Syntax); culprit = None; page = Some 1 })
 
 abbrev gone : Option (List ℕ)
 gone = Some (codes "No such file or directory")
@@ -75,12 +76,12 @@ sentence_of_pass = refl
 
 sentence_of_finding : job_sentence (report_of false refused None)
     ≡ codes
-    "in/note 4712.pcl: export-desk refuses this job at byte 134, ESC &l2A: the printer does not have this size, orientation, tray or sides (11 NotOnDevice)\n"
+    "in/note 4712.pcl: export-desk refuses this job at byte 134 on page 2, ESC &l2A: the printer does not have this size, orientation, tray or sides (11 NotOnDevice)\n"
 unfolding shown_text is_utf8 chars encode_utf8 digits
 sentence_of_finding = refl
 
 sentence_of_fault : job_sentence (report_of false faulty None)
-    ≡ codes "in/note 4712.pcl: this job is wrong at byte 9: the bytes here are no command (1 Syntax)\n"
+    ≡ codes "in/note 4712.pcl: this job is wrong at byte 9 on page 1: the bytes here are no command (1 Syntax)\n"
 unfolding shown_text is_utf8 chars encode_utf8 digits
 sentence_of_fault = refl
 
@@ -89,16 +90,16 @@ abbrev spaced : Sign → Option Culprit
 spaced sign = Some (Simple (Parameterized FontSpacing (record { sign = sign; ten_thousandths = 10000; within = lit≤ tt })))
 
 abbrev failing_at : Option Culprit → Result Judgement Error
-failing_at culprit = Ok (record { verdict = Fail 7 1 (Finding BadValue); culprit = culprit })
+failing_at culprit = Ok (record { verdict = Fail 7 1 (Finding BadValue); culprit = culprit; page = Some 1 })
 
 sentence_of_unchecked : job_sentence (report_of true (failing_at (spaced Absent)) None)
     ≡ codes
-    "in/note 4712.pcl: pclcheck cannot judge this job for counter at byte 7, ESC (s1P: pclcheck does not check proportional spacing (10 BadValue)\n"
+    "in/note 4712.pcl: pclcheck cannot judge this job for counter at byte 7 on page 1, ESC (s1P: pclcheck does not check proportional spacing (10 BadValue)\n"
 unfolding shown_text is_utf8 chars encode_utf8 digits
 sentence_of_unchecked = refl
 
 sentence_of_wrong : job_sentence (report_of false (failing_at (spaced Minus)) None)
-    ≡ codes "in/note 4712.pcl: this job is wrong at byte 7, ESC (s-1P: the command does not take this value (10 BadValue)\n"
+    ≡ codes "in/note 4712.pcl: this job is wrong at byte 7 on page 1, ESC (s-1P: the command does not take this value (10 BadValue)\n"
 unfolding shown_text is_utf8 chars encode_utf8 digits
 sentence_of_wrong = refl
 

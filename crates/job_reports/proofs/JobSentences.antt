@@ -44,9 +44,10 @@ use Rattle.preflight.specs.declared.culprit.Judgement.{Judgement}
 use Rattle.streams.specs.declared.error.Error.{Error}
 use Rattle.streams.specs.declared.error.Error.TheVariants.{Memory, Read, Write, Turns, NoProfile, Items}
 use Rattle.job_reports.specs.CommandWords.{code_words, command_words}
-use Rattle.job_reports.specs.JobSentences.{AreNumbers, IsCulpritOfNumbers, IsOfParts, IsSentence, IsVerdictOfNumbers, IsWithin}
-use Rattle.job_reports.specs.JobSentences.{answer_phrase, at_command, cause_phrase, claim, claim_by, error_phrase, fails_at, few_words}
-use Rattle.job_reports.specs.JobSentences.{first_of, for_each, for_printer, is_bad_value, job_sentence, last_of, named_first}
+use Rattle.job_reports.specs.JobSentences.{AreNumbers, IsCulpritOfNumbers, IsOfParts, IsPageOfNumber, IsSentence, IsVerdictOfNumbers}
+use Rattle.job_reports.specs.JobSentences.{IsWithin, on_page, place_phrase}
+use Rattle.job_reports.specs.JobSentences.{answer_phrase, at_command, cause_phrase, claim_by, error_phrase, fails_at, few_words}
+use Rattle.job_reports.specs.JobSentences.{first_of, for_each, for_printer, is_bad_value, job_claim, job_sentence, last_of, named_first}
 use Rattle.job_reports.specs.JobSentences.{reason_phrase, refusal, subject, verdict_phrase}
 use Rattle.job_reports.specs.Kinds.{kind_by}
 use Rattle.job_reports.specs.LeftOut.{left_out_of, value_words}
@@ -54,7 +55,7 @@ use Rattle.job_reports.specs.declared.kind.Kind.{Kind}
 use Rattle.job_reports.specs.declared.kind.Kind.TheVariants as kinds
 use Rattle.job_reports.specs.declared.left_out.LeftOut.{LeftOut}
 use Rattle.job_reports.specs.declared.left_out.LeftOut.TheVariants as left_outs
-use Rattle.job_reports.specs.Reports.{Reported, culprit_of, number_told, verdict_told}
+use Rattle.job_reports.specs.Reports.{Reported, culprit_of, number_told, page_of, verdict_told}
 use Rattle.requests.specs.Status.{error_words}
 use Rattle.job_reports.proofs.Within.{code_part, decimal_part, escaped_part, first_part, flat_part, joined, last_part, literal, name_at}
 use Rattle.job_reports.proofs.Within.{name_shown, named_part, nothing, one_of, shown_byte_part, shown_part, wider}
@@ -131,6 +132,14 @@ command_part Line h = literal 144 _ refl refl
 at_part : (culprit : Option Culprit) → IsCulpritOfNumbers culprit → IsWithin 146 (at_command culprit)
 at_part None h = nothing 146
 at_part (Some culprit) h = joined (codes ", ") (command_words culprit) (literal 2 _ refl refl) (command_part culprit h)
+
+on_page_part : (page : Option ℕ) → IsPageOfNumber page → IsWithin 29 (on_page page)
+on_page_part None h = nothing 29
+on_page_part (Some page) h = named_part 9 (codes " on page ") page refl refl h
+
+place_part : (place : ℕ) (page : Option ℕ) → place < 2 ^ 64 → IsPageOfNumber page → IsWithin 58 (place_phrase place page)
+place_part place page h k =
+    joined (named (codes " at byte ") place) (on_page page) (named_part 9 (codes " at byte ") place refl refl h) (on_page_part page k)
 
 -- ---- what is wrong
 
@@ -242,20 +251,20 @@ reason_phrase_part left_out reason =
 
 -- ---- the answer
 
-verdict_part : (culprit : Option Culprit) (verdict : Verdict) → IsCulpritOfNumbers culprit → IsVerdictOfNumbers verdict →
-    IsWithin 314 (verdict_phrase (fails_at culprit) verdict)
-verdict_part culprit (Pass pages marks) h k =
+verdict_part : (page : Option ℕ) (culprit : Option Culprit) (verdict : Verdict) → IsPageOfNumber page → IsCulpritOfNumbers culprit →
+    IsVerdictOfNumbers verdict → IsWithin 343 (verdict_phrase (fails_at page culprit) verdict)
+verdict_part page culprit (Pass pages marks) p h k =
     let front : List ℕ = named (codes " (pages=") pages in
     let back : List ℕ = named (codes " marks=") marks in
-    wider 314 _ (omega arith)
+    wider 343 _ (omega arith)
     (joined (front ++ back) (codes ")")
     (joined front back (named_part 8 (codes " (pages=") pages refl refl k.0)
     (named_part 7 (codes " marks=") marks refl refl k.1))
     (literal 1 _ refl refl))
-verdict_part culprit (Fail place profile reason) h k =
-    let front : List ℕ = named (codes " at byte ") place in
+verdict_part page culprit (Fail place profile reason) p h k =
+    let front : List ℕ = place_phrase place page in
     joined (front ++ at_command culprit) (reason_phrase (left_out_of culprit) reason)
-    (joined front (at_command culprit) (named_part 9 (codes " at byte ") place refl refl k) (at_part culprit h))
+    (joined front (at_command culprit) (place_part place page k p) (at_part culprit h))
     (reason_phrase_part (left_out_of culprit) reason)
 
 subject_part : (names : List (List ℕ)) (number : ℕ) → AllByRecursion (IsWithin 32) names → IsWithin 32 (subject names number)
@@ -313,16 +322,17 @@ cause_part (Some words) =
     (first_part 200 (shown words) (flat_part shown_byte shown_byte_part words).shown)
 
 answer_part : (report : Reported) (answer : Result Verdict Error) → AllByRecursion (IsWithin 32) report.names →
-    IsCulpritOfNumbers (culprit_of report.answer) → IfOk answer IsVerdictOfNumbers → IsWithin 381 (answer_phrase report answer)
-answer_part report (Ok verdict) h k l =
-    joined (claim report) (verdict_phrase (fails_at (culprit_of report.answer)) verdict)
+    IsPageOfNumber (page_of report.answer) → IsCulpritOfNumbers (culprit_of report.answer) → IfOk answer IsVerdictOfNumbers →
+    IsWithin 410 (answer_phrase report answer)
+answer_part report (Ok verdict) h p k l =
+    joined (job_claim report) (verdict_phrase (fails_at (page_of report.answer) (culprit_of report.answer)) verdict)
     (claim_part (subject report.names (number_told report.is_each (verdict_told report.answer))) (for_each report.is_each report.names)
     (subject_part report.names _ h) (for_each_part report.is_each report.names h) (left_out_of (culprit_of report.answer))
     (verdict_told report.answer))
-    (verdict_part (culprit_of report.answer) verdict k l)
-answer_part report (Err error) h k l =
+    (verdict_part (page_of report.answer) (culprit_of report.answer) verdict p k l)
+answer_part report (Err error) h p k l =
     let front : List ℕ = error_phrase error ++ for_printer report.names (number_told report.is_each (Err error)) in
-    wider 381 _ (omega arith)
+    wider 410 _ (omega arith)
     (joined (((front ++ cause_phrase report.cause) ++ codes " (") ++ error_words error) (codes ")")
     (joined ((front ++ cause_phrase report.cause) ++ codes " (") (error_words error)
     (joined (front ++ cause_phrase report.cause) (codes " (")
@@ -335,6 +345,10 @@ answer_part report (Err error) h k l =
 culprit_numbers : (answer : Result Judgement Error) → IfOk answer AreNumbers → IsCulpritOfNumbers (culprit_of answer)
 culprit_numbers (Ok judgement) h = h.1
 culprit_numbers (Err error) h = tt
+
+page_number : (answer : Result Judgement Error) → IfOk answer AreNumbers → IsPageOfNumber (page_of answer)
+page_number (Ok judgement) h = h.2
+page_number (Err error) h = tt
 
 verdict_numbers : (answer : Result Judgement Error) → IfOk answer AreNumbers → IfOk (verdict_told answer) IsVerdictOfNumbers
 verdict_numbers (Ok judgement) h = h.0
@@ -351,6 +365,6 @@ sentence_is_short report h =
       refl,
       wider 999 _ (omega arith)
           (joined (named_first report.job) answer (named_first_part report.job)
-          (answer_part report (verdict_told report.answer) h.names (culprit_numbers report.answer h.numbers)
-          (verdict_numbers report.answer h.numbers))),
+          (answer_part report (verdict_told report.answer) h.names (page_number report.answer h.numbers)
+          (culprit_numbers report.answer h.numbers) (verdict_numbers report.answer h.numbers))),
     )

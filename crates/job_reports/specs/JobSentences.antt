@@ -22,7 +22,7 @@ use Rattle.job_reports.specs.LeftOut.{left_out_of, value_words}
 use Rattle.job_reports.specs.declared.kind.Kind.{Kind}
 use Rattle.job_reports.specs.declared.kind.Kind.TheVariants as kinds
 use Rattle.job_reports.specs.declared.left_out.LeftOut.{LeftOut}
-use Rattle.job_reports.specs.Reports.{Reported, culprit_of, number_told, verdict_told}
+use Rattle.job_reports.specs.Reports.{Reported, culprit_of, number_told, page_of, verdict_told}
 use Rattle.requests.specs.Status.{error_words}
 
 -- ---- what is long, in part
@@ -69,8 +69,8 @@ claim_by who each left_out (Ok (Pass pages marks)) = who ++ codes " prints this 
 claim_by who each left_out (Ok (Fail place profile reason)) = refusal (kind_by left_out reason) who each
 claim_by who each left_out (Err error) = []
 
-abbrev pub claim : Reported → List ℕ
-claim report =
+abbrev pub job_claim : Reported → List ℕ
+job_claim report =
     let answer = verdict_told report.answer in
     claim_by (subject report.names (number_told report.is_each answer)) (for_each report.is_each report.names)
     (left_out_of (culprit_of report.answer)) answer
@@ -79,13 +79,22 @@ abbrev pub at_command : Option Culprit → List ℕ
 at_command None = []
 at_command (Some culprit) = codes ", " ++ command_words culprit
 
--- where a job fails, behind its place, and what is left out of the value there
+-- where a job fails: the page, the words behind that, and what is left out of the value there
 pub record FailsAt : Type 0 where
+  pub page : Option ℕ
   pub words : List ℕ
   pub left_out : Option LeftOut
 
-abbrev pub fails_at : Option Culprit → FailsAt
-fails_at culprit = record { words = at_command culprit; left_out = left_out_of culprit }
+abbrev pub fails_at : Option ℕ → Option Culprit → FailsAt
+fails_at page culprit = record { page = page; words = at_command culprit; left_out = left_out_of culprit }
+
+abbrev pub on_page : Option ℕ → List ℕ
+on_page None = []
+on_page (Some page) = named (codes " on page ") page
+
+-- the byte, and the page that is open there
+abbrev pub place_phrase : ℕ → Option ℕ → List ℕ
+place_phrase place page = named (codes " at byte ") place ++ on_page page
 
 abbrev pub is_bad_value : Reason → Bool
 is_bad_value (Finding BadValue) = true
@@ -104,7 +113,7 @@ reason_phrase left_out reason =
 abbrev pub verdict_phrase : FailsAt → Verdict → List ℕ
 verdict_phrase at (Pass pages marks) = named (codes " (pages=") pages ++ named (codes " marks=") marks ++ codes ")"
 verdict_phrase at (Fail place profile reason) =
-    named (codes " at byte ") place ++ at.words ++ reason_phrase at.left_out reason
+    place_phrase place at.page ++ at.words ++ reason_phrase at.left_out reason
 
 -- ---- why there is none
 
@@ -127,7 +136,8 @@ cause_phrase (Some words) = codes ": " ++ first_of 200 (shown words)
 -- ---- the sentence
 
 abbrev pub answer_phrase : Reported → Result Verdict Error → List ℕ
-answer_phrase report (Ok verdict) = claim report ++ verdict_phrase (fails_at (culprit_of report.answer)) verdict
+answer_phrase report (Ok verdict) =
+    job_claim report ++ verdict_phrase (fails_at (page_of report.answer) (culprit_of report.answer)) verdict
 answer_phrase report (Err error) =
     error_phrase error ++ for_printer report.names (number_told report.is_each (Err error)) ++ cause_phrase report.cause
     ++ codes " (" ++ error_words error ++ codes ")"
@@ -158,9 +168,14 @@ IsCulpritOfNumbers (Some (Simple item)) = ⊤
 IsCulpritOfNumbers (Some Line) = ⊤
 IsCulpritOfNumbers None = ⊤
 
+abbrev pub IsPageOfNumber : Option ℕ → Type 0
+IsPageOfNumber (Some page) = page < 2 ^ 64
+IsPageOfNumber None = ⊤
+
 -- numbers of 64 bits
 abbrev pub AreNumbers : Judgement → Type 0
-AreNumbers judgement = IsVerdictOfNumbers judgement.verdict × IsCulpritOfNumbers judgement.culprit
+AreNumbers judgement =
+    IsVerdictOfNumbers judgement.verdict × IsCulpritOfNumbers judgement.culprit × IsPageOfNumber judgement.page
 
 -- names of printers as their texts give them, and numbers as the program has them
 pub record IsOfParts (report : Reported) : Type 0 where

@@ -15,7 +15,7 @@ pub record Reported : Type 0 where
   pub answer : Result Judgement Error
   pub cause : Option (List ℕ)
 
--- the answer without the item that the job fails at
+-- the answer without where the job fails
 abbrev pub verdict_told : Result Judgement Error → Result Verdict Error
 verdict_told (Ok judgement) = Ok judgement.verdict
 verdict_told (Err error) = Err error
@@ -24,6 +24,11 @@ verdict_told (Err error) = Err error
 abbrev pub culprit_of : Result Judgement Error → Option Culprit
 culprit_of (Ok judgement) = judgement.culprit
 culprit_of (Err error) = None
+
+-- the page on which the job fails
+abbrev pub page_of : Result Judgement Error → Option ℕ
+page_of (Ok judgement) = judgement.page
+page_of (Err error) = None
 
 -- The number of the printer that this is about: where each printer is told of by itself, the only one;
 -- else the one that the job fails for. 0 is none.

@@ -7,7 +7,6 @@ ghost use Rattle.job_reports.specs.JobSentences.{
   at_command,
   begins_character,
   cause_phrase,
-  claim,
   error_phrase,
   fails_at,
   few_words,
@@ -16,9 +15,11 @@ ghost use Rattle.job_reports.specs.JobSentences.{
   for_printer,
   from_character,
   is_bad_value,
+  job_claim,
   job_sentence,
   last_of,
   named_first,
+  place_phrase,
   reason_phrase,
   refusal,
   subject,
@@ -78,7 +79,7 @@ fn push_answer<A: Allocator + Copy>(
     match report.verdict() {
         Ok(verdict) => {
             push_claim(line, report)?;
-            push_verdict(alloc, line, report.culprit(), verdict)
+            push_verdict(alloc, line, report.page(), report.culprit(), verdict)
         }
         Err(error) => push_error(alloc, line, error, report),
     }
@@ -91,7 +92,7 @@ fn push_claim<A: Allocator>(
     line: &mut Vec<u8, A>,
     report: &Report<'_, '_, A>,
 ) -> Result<(), AllocError>
-    ensures { OnOk result (line.new.items ≡ line.old.items ++ claim report.now) }
+    ensures { OnOk result (line.new.items ≡ line.old.items ++ job_claim report.now) }
 {
     match report.verdict() {
         Ok(Verdict::Pass { .. }) => {
@@ -165,11 +166,12 @@ fn push_subject<A: Allocator>(
 fn push_verdict<A: Allocator + Copy>(
     alloc: A,
     line: &mut Vec<u8, A>,
+    page: Option<u64>,
     culprit: Option<Culprit>,
     verdict: Verdict,
 ) -> Result<(), AllocError>
     ensures { OnOk result (line.new.items ≡ line.old.items ++
-        verdict_phrase (fails_at culprit) verdict) }
+        verdict_phrase (fails_at page culprit) verdict) }
 {
     match verdict {
         Verdict::Pass { pages, marks } => {
@@ -178,10 +180,25 @@ fn push_verdict<A: Allocator + Copy>(
             line.extend_from_slice(b")")
         }
         Verdict::Fail { place, finding, .. } => {
-            push_named(line, b" at byte ", place)?;
+            push_place(line, place, page)?;
             push_at_command(alloc, line, culprit)?;
             push_reason_phrase(line, left_out_of(culprit), finding)
         }
+    }
+}
+
+/// Appends the byte at which a job fails, and the page that is open there.
+fn push_place<A: Allocator>(
+    line: &mut Vec<u8, A>,
+    place: u64,
+    page: Option<u64>,
+) -> Result<(), AllocError>
+    ensures { OnOk result (line.new.items ≡ line.old.items ++ place_phrase place page) }
+{
+    push_named(line, b" at byte ", place)?;
+    match page {
+        Some(page) => push_named(line, b" on page ", page),
+        None => Ok(()),
     }
 }
 

@@ -1,6 +1,6 @@
 //! What is told of a job.
 ghost use Rattle.std.specs.Prelude.{◌≡◌, ◌≤◌, ◌-◌, [], get_or};
-ghost use Rattle.job_reports.specs.Reports.{culprit_of, number_told, verdict_told};
+ghost use Rattle.job_reports.specs.Reports.{culprit_of, number_told, page_of, verdict_told};
 
 use crate::groups::PrinterGroup;
 use preflight::{Culprit, Judgement, Verdict};
@@ -35,7 +35,7 @@ impl<'t, 'c, A: Allocator> Model for Report<'t, 'c, A> {
 }
 
 impl<'t, 'c, A: Allocator> Report<'t, 'c, A> {
-    /// The answer without the item that the job fails at.
+    /// The answer without where the job fails.
     pub fn verdict(&self) -> Result<Verdict, Error>
         ensures { result ≡ verdict_told self.now.answer }
     {
@@ -51,6 +51,16 @@ impl<'t, 'c, A: Allocator> Report<'t, 'c, A> {
     {
         match self.answer {
             Ok(judgement) => judgement.culprit,
+            Err(_) => None,
+        }
+    }
+
+    /// The page on which the job fails.
+    pub fn page(&self) -> Option<u64>
+        ensures { result ≡ page_of self.now.answer }
+    {
+        match self.answer {
+            Ok(judgement) => judgement.page,
             Err(_) => None,
         }
     }

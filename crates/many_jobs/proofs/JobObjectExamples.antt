@@ -30,13 +30,14 @@ report_of is_each job answer cause = record {
 }
 
 abbrev passed : Result Judgement Error
-passed = Ok (record { verdict = Pass 1 22; culprit = None })
+passed = Ok (record { verdict = Pass 1 22; culprit = None; page = None })
 
 -- the panel of the second printer leaves the size of the page open
 abbrev unset : Result Judgement Error
 unset = Ok (record {
   verdict = Fail 134 2 (Finding (Unset Size));
   culprit = Some (Simple (Parameterized PageSize (record { sign = Absent; ten_thousandths = 20000; within = lit≤ tt })));
+  page = Some 3;
 })
 
 object_of_pass : job_object [] (report_of false (codes "in/note 4712.pcl") passed None)
@@ -46,14 +47,14 @@ object_of_pass = refl
 
 object_of_fail : job_object [] (report_of false (codes "a.pcl") unset None)
     ≡ codes
-    "{\"at\":134,\"code\":12,\"command\":\"ESC &l2A\",\"field\":\"Size\",\"finding\":\"Unset\",\"job\":\"a.pcl\",\"kind\":\"panel\",\"printer\":\"export-desk\",\"profile\":2,\"verdict\":\"FAIL\"}\n"
+    "{\"at\":134,\"code\":12,\"command\":\"ESC &l2A\",\"field\":\"Size\",\"finding\":\"Unset\",\"job\":\"a.pcl\",\"kind\":\"panel\",\"page\":3,\"printer\":\"export-desk\",\"profile\":2,\"verdict\":\"FAIL\"}\n"
 unfolding serde_json_on_literals is_utf8 chars encode_utf8 digits
 object_of_fail = refl
 
 explained : job_object (codes "12 Unset\nset it\n")
-    (report_of true (codes "a.pcl") (Ok (record { verdict = Fail 134 1 (Finding (Unset Size)); culprit = None })) None)
+    (report_of true (codes "a.pcl") (Ok (record { verdict = Fail 134 1 (Finding (Unset Size)); culprit = None; page = Some 1 })) None)
     ≡ codes
-    "{\"at\":134,\"code\":12,\"explanation\":\"12 Unset\\nset it\\n\",\"field\":\"Size\",\"finding\":\"Unset\",\"job\":\"a.pcl\",\"kind\":\"panel\",\"printer\":\"counter\",\"profile\":1,\"verdict\":\"FAIL\"}\n"
+    "{\"at\":134,\"code\":12,\"explanation\":\"12 Unset\\nset it\\n\",\"field\":\"Size\",\"finding\":\"Unset\",\"job\":\"a.pcl\",\"kind\":\"panel\",\"page\":1,\"printer\":\"counter\",\"profile\":1,\"verdict\":\"FAIL\"}\n"
 unfolding serde_json_on_literals is_utf8 chars encode_utf8 digits
 explained = refl
 

@@ -16,7 +16,7 @@ use Rattle.job_reports.specs.CommandWords.{command_words}
 use Rattle.job_reports.specs.Kinds.{kind_name, kind_of}
 use Rattle.many_jobs.specs.JsonObject.{with_number, with_text}
 use Rattle.many_jobs.specs.JsonTexts.{name_text, words_text}
-use Rattle.job_reports.specs.Reports.{Reported, culprit_of, number_told, verdict_told}
+use Rattle.job_reports.specs.Reports.{Reported, culprit_of, number_told, page_of, verdict_told}
 
 -- ---- what came of a job
 
@@ -45,6 +45,11 @@ with_fail place profile reason members =
 -- who says no
 abbrev pub with_kind : Kind → Members → Members
 with_kind kind members = with_text (codes "kind") (kind_name kind) members
+
+-- the page that is open where it fails
+abbrev pub with_page : Option ℕ → Members → Members
+with_page None members = members
+with_page (Some page) members = with_number (codes "page") page members
 
 abbrev pub with_command : Option Culprit → Members → Members
 with_command None members = members
@@ -78,7 +83,8 @@ with_answer explanation report (Ok (Pass pages marks)) members = with_pass pages
 with_answer explanation report (Ok (Fail place profile reason)) members =
     with_explanation explanation
     (with_command (culprit_of report.answer)
-    (with_kind (kind_of reason (culprit_of report.answer)) (with_fail place profile reason members)))
+    (with_page (page_of report.answer)
+    (with_kind (kind_of reason (culprit_of report.answer)) (with_fail place profile reason members))))
 with_answer explanation report (Err error) members = with_error error report.cause members
 
 -- ---- the whole object

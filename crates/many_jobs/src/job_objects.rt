@@ -11,6 +11,7 @@ ghost use Rattle.many_jobs.specs.JobObjects.{
   with_fail,
   with_field,
   with_kind,
+  with_page,
   with_pass,
   with_printer,
 };
@@ -96,6 +97,7 @@ fn put_answer<A: Allocator + Copy>(
         ) => {
             put_fail(alloc, object, place, profile, finding)?;
             put_kind(object, kind_of(finding, report.culprit()))?;
+            put_page(object, report.page())?;
             put_command(alloc, object, report.culprit())?;
             put_explanation(object, explanation)
         }
@@ -147,6 +149,16 @@ fn put_kind(object: &mut Object, kind: Kind) -> Result<(), AllocError>
     ensures { OnOk result (members_of object.new ≡ with_kind kind (members_of object.old)) }
 {
     object.put_text("kind", kind.name())
+}
+
+/// Puts the page that is open where a job fails, if that is known.
+fn put_page(object: &mut Object, page: Option<u64>) -> Result<(), AllocError>
+    ensures { OnOk result (members_of object.new ≡ with_page page (members_of object.old)) }
+{
+    match page {
+        Some(page) => object.put_number("page", page),
+        None => Ok(()),
+    }
 }
 
 /// Puts the item that a job fails at, where there is one.

@@ -51,9 +51,8 @@ const DROP: i64 = 12_192_000_000;
 const LARGEST_LETTERS: u64 = 100_000;
 
 /// Appends what stands before the marks of a page: its size, the patterns, and the page with rulers
-/// at two edges. Where a
-/// sentence is to follow, the picture has room for it below the sheet. A document has the patterns
-/// once, since their names stand for one thing there.
+/// at two edges. Where a sentence is to follow, the picture has room for it below the sheet. A
+/// document has the patterns once, since their names stand for one thing there.
 pub fn push_head<A: Allocator>(
     text: &mut Vec<u8, A>,
     page: &Geometry,

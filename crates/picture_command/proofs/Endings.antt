@@ -75,7 +75,8 @@ module _ (selection : Selection) (job : List ℕ) (group : Groups) (machine : Ma
     pub item_fails : (found : Option Finding) (finding : Finding) → found ≡ Some finding →
         Steps machine machine' x.item counts counts' (Ok found) → false ≡ is_behind selection (open_page counts')
         → (failure : Failure) → failure ≡ found_at x.place 1 finding → (culprit : Culprit) → IsCulprit culprit x.item
-        → (r : Result Outcome Error) → Keeps kept kept' (found_at_failure selection job group counts' (fails_at (Some culprit)) failure) r
+        → (r : Result Outcome Error)
+        → Keeps kept kept' (found_at_failure selection job group counts' (fails_at None (Some culprit)) failure) r
         → Ended rendering (StartsWith x) old old kept kept' r
     item_fails found finding is steps goes failure failure_is culprit named r told =
         let halts : HasRun ((item_of machine x.item).run any_panel) (Halts finding) counts counts' =
@@ -117,26 +118,26 @@ module _ (selection : Selection) (job : List ℕ) (group : Groups) (machine : Ma
     pub end_fails : (found : Option Finding) (finding : Finding) → found ≡ Some finding → Finishes machine counts counts' (Ok found) →
         false ≡ is_behind selection (open_page counts')
         → (failure : Failure) → failure ≡ found_at place 1 finding
-        → (r : Result Outcome Error) → Keeps kept kept' (found_at_failure selection job group counts' (fails_at None) failure) r
+        → (r : Result Outcome Error) → Keeps kept kept' (found_at_failure selection job group counts' (fails_at None None) failure) r
         → Ended rendering (λ reading. reading ≡ Whole [] place) old old kept kept' r
     end_fails found finding is finishes goes failure failure_is r told =
         let halts : HasRun ((end_of machine).run any_panel) (Halts finding) counts counts' =
         subst (λ f. Finishes machine counts counts' (Ok f)) is finishes in
         kept_ended rendering IsEnd old kept kept'
-        (found_at_failure selection job group counts' (fails_at None) (found_at place 1 finding)) r
+        (found_at_failure selection job group counts' (fails_at None None) (found_at place 1 finding)) r
         (end_found selection job group machine counts counts' place finding halts (sym goes))
-        (subst (λ (f : Failure). Keeps kept kept' (found_at_failure selection job group counts' (fails_at None) f) r) failure_is told)
+        (subst (λ (f : Failure). Keeps kept kept' (found_at_failure selection job group counts' (fails_at None None) f) r) failure_is told)
 
 -- ---- a fault of the bytes
 
 pub fault_fails : (selection : Selection) (job : List ℕ) (group : Groups) (machine : MachineState) (counts : Counts) (old : OutletState)
     (kept kept' : List ℕ) (place : ℕ) (cause : LexCause) (failure : Failure) →
     failure ≡ fault_at place cause
-    → (r : Result Outcome Error) → Keeps kept kept' (found_at_failure selection job group counts (fails_at None) failure) r
+    → (r : Result Outcome Error) → Keeps kept kept' (found_at_failure selection job group counts (fails_at None None) failure) r
     → Ended (search_from selection job group machine counts) (λ reading. reading ≡ Stopped [] place cause) old old kept kept' r
 fault_fails selection job group machine counts old kept kept' place cause failure failure_is r told =
     let rendering : Rendering = search_from selection job group machine counts in
     kept_ended rendering (λ reading. reading ≡ Stopped [] place cause) old kept kept'
-    (found_at_failure selection job group counts (fails_at None) (fault_at place cause)) r
+    (found_at_failure selection job group counts (fails_at None None) (fault_at place cause)) r
     (record { due = λ reading is. ap rendering.text is; outcome_is = λ reading is. ap rendering.outcome is })
-    (subst (λ (f : Failure). Keeps kept kept' (found_at_failure selection job group counts (fails_at None) f) r) failure_is told)
+    (subst (λ (f : Failure). Keeps kept kept' (found_at_failure selection job group counts (fails_at None None) f) r) failure_is told)

@@ -160,11 +160,11 @@ module _ (selection : Selection) (job : List ℕ) (group : Groups) where
 
       end_ended : (ending : Ending) (is_over : Bool) (found : Searched) → HasRun end_run ending counts counts' →
           is_behind selection (open_page counts') ≡ is_over
-          → by_ending counts (fails_at None) place last counts' ending is_over ≡ found
+          → by_ending counts (fails_at None None) place last counts' ending is_over ≡ found
           → EndsWith rendering (λ reading. reading ≡ Whole [] place) found.text found.outcome
       end_ended ending is_over found has over comes =
           let known : rest_search selection job group machine counts (Whole [] place) ≡ found =
-          run_known counts (fails_at None) place last end_run ending counts' is_over has over ∙ comes in
+          run_known counts (fails_at None None) place last end_run ending counts' is_over has over ∙ comes in
           record {
             due = λ reading is. ap rendering.text is ∙ ap (λ (s : Searched). s.text) known;
             outcome_is = λ reading is. ap rendering.outcome is ∙ ap (λ (s : Searched). s.outcome) known;
@@ -182,7 +182,7 @@ module _ (selection : Selection) (job : List ℕ) (group : Groups) where
       end_goes s has goes = end_ended (Done s) false at_end has goes refl
 
       abbrev end_failed : Finding → Searched
-      end_failed finding = found_at_failure selection job group counts' (fails_at None) (found_at place 1 finding)
+      end_failed finding = found_at_failure selection job group counts' (fails_at None None) (found_at place 1 finding)
 
       pub end_found : (finding : Finding) → HasRun end_run (Halts finding) counts counts' →
           is_behind selection (open_page counts') ≡ false →

@@ -1,5 +1,5 @@
 -- What sentences say of a failure.
-use Rattle.std.proofs.Common.{◌≡◌, ℕ, List, [], ◌∷◌, ◌++◌, Some, refl, ap, sym, ◌∙◌}
+use Rattle.std.proofs.Common.{◌≡◌, ℕ, List, [], ◌∷◌, ◌++◌, None, Some, refl, ap, sym, ◌∙◌}
 use Rattle.std.specs.Prelude.{codes, decimal, flat_map}
 use Rattle.pcl_items.specs.declared.pcl.command.DataCommand.{DataCommand}
 use Rattle.pcl_items.specs.declared.item.SimpleItem.{SimpleItem}
@@ -52,8 +52,9 @@ culprit_leaves (culprits.Simple plain) item is = sym (ap left_out_in is)
 culprit_leaves (culprits.WithData command count) item is = sym (ap left_out_in is.1)
 culprit_leaves culprits.Line item is = sym (ap left_out_in is.1)
 
-pub culprit_at_item : (culprit : Culprit) (item : Entry) → IsCulprit culprit item → fails_at (Some culprit) ≡ at_item item
+pub culprit_at_item : (culprit : Culprit) (item : Entry) → IsCulprit culprit item → fails_at None (Some culprit) ≡ at_item item
 culprit_at_item culprit item is = λ i. record {
+  page = None;
   words = codes ", " ++ culprit_words culprit item is i;
   left_out = culprit_leaves culprit item is i;
 }

@@ -1,5 +1,5 @@
 -- What is told of the pages of a job before they are drawn: whether the job fails on them, and whether it has them.
-use Rattle.std.specs.Prelude.{ℕ, ◌+◌, false, List, [], ◌∷◌, ◌++◌, codes, decimal, flat_map, length, get_or, None}
+use Rattle.std.specs.Prelude.{ℕ, ◌+◌, false, List, [], ◌∷◌, ◌++◌, codes, decimal, flat_map, length, get_or, None, Some}
 use Rattle.std.specs.Prelude.{Ok, if◌then◌else◌}
 use Rattle.pcl_items.specs.declared.fault.LexCause.{LexCause}
 use Rattle.pcl_items.specs.Spellings.Canon.{canon}
@@ -45,9 +45,9 @@ item_words (WithData command bytes) =
 item_words (PjlLine line) = codes "@PJL"
 item_words item = flat_map code_words (canon item)
 
--- where a failure at an item stands, behind its place
+-- where a failure at an item stands, whatever its page
 abbrev pub at_item : Entry → FailsAt
-at_item item = record { words = codes ", " ++ item_words item; left_out = left_out_in item }
+at_item item = record { page = None; words = codes ", " ++ item_words item; left_out = left_out_in item }
 
 -- the sentence on a verdict on the job of this name for these printers, where the failure stands so
 abbrev pub sentence : (job : List ℕ) → Groups → (at : FailsAt) → Verdict → List ℕ
@@ -91,16 +91,20 @@ missing_part selection job counts = missing_part_of selection.pages job counts
 abbrev pub open_page : Counts → ℕ
 open_page counts = capped (counts.pages + 1)
 
+-- and where a failure stands on it
+abbrev pub on_open_page : Counts → FailsAt → FailsAt
+on_open_page counts at = record at { page = Some (open_page counts) }
+
 -- a failure, where so much was counted: on a page that is searched for, or before it, where the job does not have it
 abbrev pub found_at_failure : Selection → (job : List ℕ) → Groups → Counts → (at : FailsAt) → Failure → Searched
 found_at_failure selection job group counts at failure =
     if is_drawn selection (open_page counts)
     then (record {
-      text = sentence job group at (failing failure);
+      text = sentence job group (on_open_page counts at) (failing failure);
       outcome = fails_with failure;
     })
     else (record {
-      text = missing_part selection job counts ++ sentence job group at (failing failure);
+      text = missing_part selection job counts ++ sentence job group (on_open_page counts at) (failing failure);
       outcome = AllDone;
     })
 
@@ -142,12 +146,13 @@ items_search selection job group printer defaults finally counts (x ∷ items) m
 
 abbrev pub end_search : Selection → (job : List ℕ) → Groups → Printer → Settings → ℕ → Counts → Store → State → Searched
 end_search selection job group printer defaults place counts macros s =
-    run_search selection job group counts (fails_at None) place (job_end_run (with_macros printer defaults macros) s)
+    run_search selection job group counts (fails_at None None) place
+    (job_end_run (with_macros printer defaults macros) s)
     (λ counts' t. found_at_end selection job group counts')
 
 abbrev pub fault_search : Selection → (job : List ℕ) → Groups → ℕ → LexCause → Counts → Store → State → Searched
 fault_search selection job group place cause counts macros s =
-    found_at_failure selection job group counts (fails_at None) (fault_at place cause)
+    found_at_failure selection job group counts (fails_at None None) (fault_at place cause)
 
 -- of the items of a job and its end, or of the items before a fault and of the fault
 abbrev pub reading_search : Selection → (job : List ℕ) → Groups → Printer → Settings → Counts → Reading → Store →

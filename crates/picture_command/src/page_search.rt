@@ -1,6 +1,6 @@
 //! What is told of the pages of a job before they are drawn: whether the job fails on them, and
 //! whether it has them.
-ghost use Rattle.std.specs.Prelude.{◌≡◌, ◌++◌, IfErr, IsSome, OnOk, false, refl};
+ghost use Rattle.std.specs.Prelude.{◌≡◌, ◌++◌, IfErr, IsSome, OnOk, None, Some, false, refl};
 ghost use Rattle.pcl_items.specs.declared.item.Mode.TheVariants.{Pcl};
 ghost use Rattle.pcl_items.specs.Modes.{follows};
 ghost use Rattle.pcl_items.specs.Items.{view};
@@ -140,13 +140,17 @@ impl<'p, 'n, B: Allocator + Copy> PageSearch<'p, 'n, B> {
     ) -> Result<(), AllocError>
         ensures { OnOk result (text.new.items ≡ text.old.items
             ++ sentence self.now.names.now.job.now self.now.names.now.printers.now
-            (fails_at culprit) verdict) }
+            (fails_at (Some (open_page self.now.counts)) culprit) verdict) }
     {
         let mut line = Vec::new(self.alloc);
         let report = Report {
             printers: self.names.printers,
             job: self.names.job,
-            answer: Ok(Judgement { verdict, culprit }),
+            answer: Ok(Judgement {
+                verdict,
+                culprit,
+                page: Some(self.open_page()),
+            }),
             cause: None,
         };
         push_job_sentence(self.alloc, &mut line, &report)?;
@@ -206,7 +210,8 @@ impl<'p, 'n, B: Allocator + Copy> PageSearch<'p, 'n, B> {
     ) -> Result<Outcome, Error>
         ensures told { Keeps text.old.items text.new.items
             (found_at_failure self.now.selection self.now.names.now.job.now
-            self.now.names.now.printers.now self.now.counts (fails_at culprit) failure) result }
+            self.now.names.now.printers.now self.now.counts (fails_at None culprit) failure)
+            result }
         ensures err { IfErr result (λ error. error ≡ Error.Memory) }
     {
         if self.selection.is_drawn(self.open_page()) {

@@ -205,7 +205,8 @@ pub fn warnings<A: Allocator + Copy, B: Allocator>(
     let mut found = Vec::new(alloc);
     push_field_warnings(&mut found, base, answer, &Field::ALL)?;
     push_value_warnings(&mut found, answer, &VARIABLES)?;
-    in_order(alloc, answer, &found)
+    let all = in_order(alloc, answer, &found)?;
+    Ok(all)
 }
 
 /// The number of the line that gives a warning's variable; 0 where none does.

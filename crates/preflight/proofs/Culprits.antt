@@ -13,8 +13,10 @@ use Rattle.verdict.specs.declared.reason.Reason.TheVariants.{Fault, Finding, Dif
 use Rattle.verdict.specs.declared.verdict.Verdict.{Verdict}
 use Rattle.verdict.specs.declared.verdict.Verdict.TheVariants.{Fail}
 use Rattle.preflight.specs.declared.culprit.Culprit.{Culprit}
-use Rattle.preflight.specs.Verdict.{IsExact}
 use Rattle.preflight.specs.Culprit.{Names, StandsAt, IsTold, IsJudgementOn}
+use Rattle.preflight.specs.Where.{IsOnPage, page_with}
+use Rattle.sinks.specs.declared.counts.Counts.{Counts}
+use Rattle.preflight.specs.Carriers.Checking.{FailsBy}
 use Rattle.preflight.specs.Carriers.Lockstep.{Action, IsWrong}
 use Rattle.preflight.proofs.Promises.{FailsSay, keeps_failing}
 
@@ -40,9 +42,13 @@ told_there job place number (Fault cause) culprit action machines wrong stands =
 told_there job place number Unpinnable culprit action machines wrong stands = absurd wrong
 
 -- a verdict that is made of a failure is right, with what is told of it
-pub right_failing : FailsSay → (fleet : List Printer) (job : List ℕ) (failure : Failure) (verdict : Verdict) (culprit : Option Culprit) →
-    verdict ≡ failing failure →
-    IsExact fleet job (failing failure) × IsTold job (failing failure) culprit → IsJudgementOn fleet job verdict culprit
-right_failing says fleet job failure verdict culprit is fails =
-    let keeps = keeps_failing says fleet job failure verdict is fails.0 in
-    (keeps.0, keeps.1, subst (λ v. IsTold job v culprit) (sym is) fails.1)
+pub right_failing : FailsSay → (fleet : List Printer) (job : List ℕ) (failure : Failure) (verdict : Verdict) (culprit : Option Culprit)
+    (counts : Counts) → verdict ≡ failing failure → FailsBy fleet job failure culprit counts →
+    IsJudgementOn fleet job verdict culprit (page_with verdict counts)
+right_failing says fleet job failure verdict culprit counts is fails =
+    let keeps = keeps_failing says fleet job failure verdict is fails.0 in (
+      keeps.0,
+      keeps.1,
+      subst (λ v. IsTold job v culprit) (sym is) fails.1,
+      subst (λ v. IsOnPage fleet job v (page_with v counts)) (sym is) fails.2,
+    )

@@ -22,7 +22,7 @@ use Rattle.verdict.specs.declared.failure.Failure.{Failure}
 use Rattle.verdict.specs.declared.reason.Reason.{Reason}
 use Rattle.verdict.specs.declared.reason.Reason.TheVariants as reasons
 use Rattle.verdict.specs.Failing.{found_at}
-use Rattle.sinks.specs.Counts.{counts_after}
+use Rattle.sinks.specs.Counts.{counts_after, pages_after}
 use Rattle.sinks.specs.Recorder.{Recorded, recorded_all}
 use Rattle.sinks.proofs.Recording.{recorder_takes, TakesAll-recorded}
 use Rattle.preflight.specs.Standing.{StandsAfter, StandsBy, is_open}
@@ -31,8 +31,8 @@ use Rattle.preflight.specs.Carriers.Each.{Each}
 use Rattle.preflight.specs.declared.lockstep.Formation.{Formation}
 use Rattle.preflight.specs.Carriers.Formation.{others_in, fleet_of, IsFormed, GoesAsOne}
 use Rattle.preflight.specs.Carriers.Lockstep.{Action, Execute, Fleet, carrying_of, is_last, Does, IsDone, Finds, FoundFrom, DiffersFrom}
-use Rattle.preflight.specs.Carriers.Lockstep.{WrongFrom, IsWrong, Compared, GoesInStep}
-use Rattle.preflight.proofs.Counting.{counter_takes, counter_refuses, TakesAll-counts}
+use Rattle.preflight.specs.Carriers.Lockstep.{WrongFrom, IsWrong, Compared, CountsPages, FindsAt, GoesInStep, PagesAt}
+use Rattle.preflight.proofs.Counting.{counter_takes, counter_refuses, TakesAll-counts, pages_counted, pages_taken}
 use Rattle.preflight.proofs.Formations.{all_do, still_formed}
 use Rattle.preflight.proofs.Standings.{failed_by, open_by, refused_by}
 
@@ -78,11 +78,13 @@ module _ {S F : Type 0} (takes refuses : S → Event → S → Type 0) (action :
   -- where it is not, it has a finding, or memory was refused
   pub fails_by : (P : Option Failure → Type 0) (place number : ℕ) (answer : Result Unit (Stop F)) (standing : Standing) →
       StandsAfter place number answer standing → is_open standing ≡ false → Answers answer
-      → ((finding : Finding) → Finds action finding machine → P (Some (found_at place number finding))) → StandsBy standing P
+      → ((finding : Finding) (finds : Finds action finding machine) → TakesAll takes sink finds.events sink' →
+      P (Some (found_at place number finding)))
+      → StandsBy standing P
   fails_by P place number (Ok done) standing stands is h wrong = let both : true ≡ false = sym (ap is_open stands) ∙ is in absurd cc
   fails_by P place number (Err (stops.Found finding)) standing stands is h wrong =
       failed_by P standing (found_at place number finding) stands
-      (wrong finding record { events = h.2.events; peaks = h.2.peaks; run = h.2.is })
+      (wrong finding (record { events = h.2.events; peaks = h.2.peaks; run = h.2.is }) h.2.leads)
   fails_by P place number (Err (stops.Refused fault)) standing stands is h wrong = refused_by P standing stands
   fails_by P place number (Err (stops.Memory error)) standing stands is h wrong = refused_by P standing stands
   fails_by P place number (Err stops.Stopped) standing stands is h wrong = absurd stands
@@ -110,8 +112,9 @@ module _ (action : Action) (place : ℕ) (formation : Formation) (counts counts'
           TakesAll-counts counts counts' h.2.events h.2.leads,
         )
     as_one_in_step (Err (stops.Found finding)) standing stands h =
+        let finds : Finds action finding first = record { events = h.2.events; peaks = h.2.peaks; run = h.2.is } in
         failed_by came standing (found_at place 1 finding) stands
-        (refl, inl (refl, record { events = h.2.events; peaks = h.2.peaks; run = h.2.is }))
+        (refl, inl (refl, finds), inl (refl, (finds, pages_taken counts counts' h.2.events h.2.leads)))
     as_one_in_step (Err (stops.Refused fault)) standing stands h = refused_by came standing stands
     as_one_in_step (Err (stops.Memory error)) standing stands h = refused_by came standing stands
     as_one_in_step (Err stops.Stopped) standing stands h = absurd stands
@@ -166,24 +169,49 @@ wrong_in_step action events first first' others number reasons.Differs does h =
 wrong_in_step action events first first' others number (reasons.Fault cause) does h = absurd h
 wrong_in_step action events first first' others number reasons.Unpinnable does h = absurd h
 
-pub in_step : (action : Action) (place : ℕ) (events : List Event) (first first' : MachineState) (others others' : List MachineState)
-    (counts counts' : Counts) (failed : Option Failure) → Does action events first first' → counts' ≡ counts_after events counts →
-    Compared action place events 2 others others' failed → GoesInStep action place (first ∷ others) (first' ∷ others') counts counts' failed
-in_step action place events first first' others others' counts counts' None does counted h = (events, (does, h), counted)
-in_step action place events first first' others others' counts counts' (Some failure) does counted h =
-    (h.0, wrong_in_step action events first first' others failure.profile failure.reason does h.1)
+-- and so many pages have ended on it
+pages_in_step : (action : Action) (pages pages' : ℕ) (first : MachineState) (others : List MachineState) (number : ℕ) (reason : Reason) →
+    PagesAt action pages pages' 2 others number reason → PagesAt action pages pages' 1 (first ∷ others) number reason
+pages_in_step action pages pages' first others number (reasons.Finding finding) h = inr h
+pages_in_step action pages pages' first others number reasons.Differs h = h
+pages_in_step action pages pages' first others number (reasons.Fault cause) h = h
+pages_in_step action pages pages' first others number reasons.Unpinnable h = h
+
+-- where all executed it, the events of the first were counted, and else the pages up to what is wrong
+in_step : (action : Action) (place : ℕ) (events : List Event) (first first' : MachineState) (others others' : List MachineState)
+    (counts counts' : Counts) (failed : Option Failure) → Does action events first first' →
+    Compared action place events 2 others others' failed → CountsPages action counts.pages counts'.pages 2 others failed →
+    (failed ≡ None → counts' ≡ counts_after events counts) →
+    GoesInStep action place (first ∷ others) (first' ∷ others') counts counts' failed
+in_step action place events first first' others others' counts counts' None does h paged counted = (events, (does, h), counted refl)
+in_step action place events first first' others others' counts counts' (Some failure) does h paged counted = (
+  h.0,
+  wrong_in_step action events first first' others failure.profile failure.reason does h.1,
+  pages_in_step action counts.pages counts'.pages first others failure.profile failure.reason paged,
+)
 
 -- the first machine's events are recorded, and the others' compared with the record
 pub step_recorded : (action : Action) (place : ℕ) (first first' : MachineState) (others others' : List MachineState)
-    (before cleared after : Recorded) (given events : List Event) (failed : Option Failure) → cleared ≡ record before { events = [] } →
-    Does action given first first' → TakesAll recorder_takes cleared given after → events ≡ after.events →
-    Compared action place events 2 others others' failed →
-    GoesInStep action place (first ∷ others) (first' ∷ others') before.counts after.counts failed
-step_recorded action place first first' others others' before cleared after given events failed clear does leads recorded h =
+    (before cleared after : Recorded) (given events : List Event) (counts' : Counts) (failed : Option Failure) →
+    cleared ≡ record before { events = [] } → Does action given first first' → TakesAll recorder_takes cleared given after →
+    events ≡ after.events → Compared action place events 2 others others' failed →
+    CountsPages action before.counts.pages counts'.pages 2 others failed → (failed ≡ None → counts' ≡ after.counts) →
+    GoesInStep action place (first ∷ others) (first' ∷ others') before.counts counts' failed
+step_recorded action place first first' others others' before cleared after given events counts' failed clear does leads recorded h paged
+    counted =
     let all : after ≡ record { events = given; counts = counts_after given before.counts } =
     TakesAll-recorded cleared after given leads ∙ ap (recorded_all given) clear in
-    in_step action place given first first' others others' before.counts after.counts failed does (ap (λ (r : Recorded). r.counts) all)
-    (subst (λ es. Compared action place es 2 others others' failed) (recorded ∙ ap (λ (r : Recorded). r.events) all) h)
+    in_step action place given first first' others others' before.counts counts' failed does
+    (subst (λ es. Compared action place es 2 others others' failed) (recorded ∙ ap (λ (r : Recorded). r.events) all) h) paged
+    (λ none. counted none ∙ ap (λ (r : Recorded). r.counts) all)
+
+-- the pages of what was recorded behind these counts
+pub pages_recorded : (before cleared after : Recorded) (given : List Event) (counts' : Counts) → cleared ≡ record before { events = [] } →
+    TakesAll recorder_takes cleared given after → counts' ≡ after.counts → counts'.pages ≡ pages_after given before.counts.pages
+pages_recorded before cleared after given counts' clear leads counted =
+    let all : after ≡ record { events = given; counts = counts_after given before.counts } =
+    TakesAll-recorded cleared after given leads ∙ ap (recorded_all given) clear in
+    ap (λ (c : Counts). c.pages) (counted ∙ ap (λ (r : Recorded). r.counts) all) ∙ pages_counted given before.counts
 
 -- a slice of all elements that was written back
 pub written_back : {X : Type 0} (n : ℕ) (old new : List X) → length new ≡ n → length old ≡ n → take n (new ++ drop (length new) old) ≡ new
@@ -336,6 +364,20 @@ all_there P zero [] x rest e h = absurd cc
 all_there P zero (y ∷ ys) x rest e h = let same : y ≡ x = cc in subst P same h.0
 all_there P (suc i) [] x rest e h = absurd cc
 all_there P (suc i) (y ∷ ys) x rest e h = all_there P i ys x rest e h.1
+
+-- so many pages have ended where the machine that stands there has a finding
+pub finds_there : (action : Action) (finding : Finding) (pages pages' n i : ℕ) (machines : List MachineState) (machine : MachineState)
+    (rest : List MachineState) → drop i machines ≡ machine ∷ rest → (finds : Finds action finding machine) →
+    pages' ≡ pages_after finds.events pages → FindsAt action finding pages pages' (i + n) n machines
+finds_there action finding pages pages' n zero [] machine rest e finds paged = absurd cc
+finds_there action finding pages pages' n zero (m ∷ ms) machine rest e finds paged =
+    let same : m ≡ machine = cc in
+    subst (λ k. FindsAt action finding pages pages' (zero + n) n (k ∷ ms)) (sym same) (inl (omega arith, (finds, paged)))
+finds_there action finding pages pages' n (suc i) [] machine rest e finds paged = absurd cc
+finds_there action finding pages pages' n (suc i) (m ∷ ms) machine rest e finds paged =
+    inr
+    (subst (λ number. FindsAt action finding pages pages' number (n + 1) ms) (omega arith)
+    (finds_there action finding pages pages' (n + 1) i ms machine rest e finds paged))
 
 -- all machines executed the action
 pub all_so_far : (action : Action) (place : ℕ) (events : List Event) (i : ℕ) (old new : List MachineState) →

@@ -1,5 +1,5 @@
 -- What the reads of a job came to for a session to which nothing was fed.
-use Rattle.std.proofs.Common.{◌≡◌, ◌≢◌, ℕ, List, [], ◌∷◌, ◌++◌, ◌∙◌, ap, refl, subst, Result, Ok, Err, IfOk, IfErr, IfSome}
+use Rattle.std.proofs.Common.{◌≡◌, ◌≢◌, ℕ, List, [], ◌∷◌, ◌++◌, ◌∙◌, ap, refl, subst, sym, Result, Ok, Err, IfOk, IfErr, IfSome}
 use Rattle.std.specs.Prelude.{IsErrOf, ⊤}
 use Rattle.std.proofs.lemmas.Result.{IfOk-weaker}
 use Rattle.device_profile.specs.Printer.{Printer}
@@ -7,9 +7,10 @@ use Rattle.streams.specs.declared.error.Error.{Error}
 use Rattle.streams.specs.declared.error.Error.TheVariants.{Memory, Read, Write, Items}
 use Rattle.streams.specs.Pieces.{ByReads, Spell}
 use Rattle.streams.specs.Source.{SourceState}
-use Rattle.preflight.specs.Session.{SessionState, ChecksOn, HasChecked, IsJudged, IsOutOfMemory}
+use Rattle.preflight.specs.Session.{SessionState, ChecksOn, HasChecked, IsJudged, IsOutOfMemory, page_told}
 use Rattle.preflight.specs.Verdict.{IsExact, VerdictHolds, NeedsEachRead, StaysOpen, WasOpen}
 use Rattle.preflight.specs.Culprit.{IsTold}
+use Rattle.preflight.specs.Where.{IsOnPage}
 use Rattle.streams.specs.Driving.{IsAnswered, IsStopped, StopsBy}
 use Rattle.streams.proofs.Pieces.{known_by}
 use Rattle.streams.proofs.Driving.{never_items as none_of_limits, of_error, of_read, stop_gives}
@@ -71,6 +72,23 @@ module _ (fleet : List Printer) (session now : Beside) (fresh : HasChecked fleet
         pieces = is.before ++ is.last ∷ [];
         given = is.given_is;
         each = λ job may. (is.answered.right fleet [] fresh job may).2;
+        known = is.known;
+      }
+
+  pub paged : IfOk r
+      (λ verdict. ByReads old new (λ job. IsOnPage fleet job verdict (page_told now.0.standing now.0.counts)))
+  paged =
+      IfOk-weaker r Answer
+      (λ verdict. ByReads old new (λ job. IsOnPage fleet job verdict (page_told now.0.standing now.0.counts))) by h
+    where
+      by : (verdict : Verdict) → Answer verdict →
+          ByReads old new (λ job. IsOnPage fleet job verdict (page_told now.0.standing now.0.counts))
+      by verdict is = record {
+        pieces = is.before ++ is.last ∷ [];
+        given = is.given_is;
+        each =
+            λ job may. subst (λ s. IsOnPage fleet job verdict (page_told s now.0.counts)) (sym is.answered.standing_is)
+            (is.answered.right fleet [] fresh job may).3;
         known = is.known;
       }
 

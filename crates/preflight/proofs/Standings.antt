@@ -55,6 +55,13 @@ closed_on P Q Open is on h = absurd cc
 closed_on P Q (Judged verdict) is on h = (h.0, h.1, on h.0 h.2)
 closed_on P Q (Stopped error) is on h = h
 
+-- what follows with no failure follows where it stands open
+pub open_on : (P Q : Option Failure → Type 0) (standing : Standing) → is_open standing ≡ true → (P None → Q None) → StandsBy standing P →
+    StandsBy standing Q
+open_on P Q Open is on h = on h
+open_on P Q (Judged verdict) is on h = absurd cc
+open_on P Q (Stopped error) is on h = absurd cc
+
 -- what follows of the verdict of each failure holds where it stands open no more
 pub ends_by : (P : Option Failure → Type 0) (Q : Verdict → Type 0) (standing : Standing) → is_open standing ≡ false →
     ((failure : Failure) (verdict : Verdict) → verdict ≡ failing failure → P (Some failure) → Q verdict) → StandsBy standing P →

@@ -1,5 +1,5 @@
 -- What a session stands for, and what it says of the bytes that it was fed.
-use Rattle.std.specs.Prelude.{◌≡◌, ◌+◌, ◌≤◌, ◌^◌, ℕ, List, ◌++◌, length, false, Option}
+use Rattle.std.specs.Prelude.{◌≡◌, ◌+◌, ◌≤◌, ◌^◌, ℕ, List, ◌++◌, length, false, Option, None}
 use Rattle.pcl_lexer.specs.Lexing.State.{LexerState, WantsMore}
 use Rattle.pcl_lexer.specs.Lexing.Meaning.{MayBe}
 use Rattle.device_profile.specs.Printer.{Printer}
@@ -13,6 +13,7 @@ use Rattle.verdict.specs.declared.verdict.Verdict.{Verdict}
 use Rattle.streams.specs.Pieces.{MayBeBy}
 use Rattle.preflight.specs.declared.culprit.Culprit.{Culprit}
 use Rattle.preflight.specs.Culprit.{IsJudgementOn}
+use Rattle.preflight.specs.Where.{page_with}
 use Rattle.preflight.specs.Carriers.Checking.{HasExecuted}
 
 -- the lexer and the machines with their counts, how many bytes were fed, how far it has come, and the item
@@ -25,13 +26,20 @@ pub record SessionState : Type 0 where
   pub standing : Standing
   pub culprit : Option Culprit
 
+-- the page on which the job fails, where that is known
+abbrev pub page_told : Standing → Counts → Option ℕ
+page_told Open counts = None
+page_told (Judged verdict) counts = page_with verdict counts
+page_told (Stopped error) counts = None
+
 -- What the bytes so far came to: the items that were read of them were executed on each printer, alike and without a
--- finding; or this is the verdict on every job that begins with them, and the item that it fails at.
+-- finding; or this is the verdict on every job that begins with them, and the item and the page that it fails at.
 abbrev pub ChecksTo : Standing → List Printer → List ℕ → SessionState → Type 0
 ChecksTo Open fleet bytes session =
     HasExecuted fleet bytes session.lexer session.machines session.counts × (session.total ≡ length bytes)
 ChecksTo (Judged verdict) fleet bytes session =
-    (job : List ℕ) → MayBe false bytes job → IsJudgementOn fleet job verdict session.culprit
+    (job : List ℕ) → MayBe false bytes job →
+    IsJudgementOn fleet job verdict session.culprit (page_with verdict session.counts)
 ChecksTo (Stopped error) fleet bytes session = Unit {0}
 
 -- the session was fed these bytes, for a check by this fleet
@@ -53,13 +61,14 @@ pub record ChecksOn (first : SessionState) (bytes : List ℕ) (now : SessionStat
   pub checked : (fleet : List Printer) (base : List ℕ) → HasChecked fleet base first →
       HasChecked fleet (base ++ bytes) now
 
--- From the one to the other, with the verdict on every job that may be by these pieces, and the item that it fails at.
+-- From the one to the other, with the verdict on every job that may be by these pieces, and the item and the page that
+-- it fails at.
 pub record IsJudged (first : SessionState) (verdict : Verdict) (pieces : List (List ℕ))
     (now : SessionState) : Type 0 where
   pub standing_is : now.standing ≡ Judged verdict
   pub right : (fleet : List Printer) (base : List ℕ) → HasChecked fleet base first → (rest : List ℕ) →
       MayBeBy pieces rest →
-      IsJudgementOn fleet (base ++ rest) verdict now.culprit
+      IsJudgementOn fleet (base ++ rest) verdict now.culprit (page_with verdict now.counts)
 
 -- memory was refused, which the session answers from then on
 abbrev pub IsOutOfMemory : SessionState → Error → List ℕ → SessionState → Type 0

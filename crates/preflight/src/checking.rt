@@ -5,6 +5,7 @@ ghost use Rattle.device_profile.specs.Printer.{Printer};
 ghost use Rattle.preflight.specs.Carriers.Lockstep.{machines_of, counts_of};
 ghost use Rattle.preflight.specs.Culprit.{IsJudgementOn};
 ghost use Rattle.preflight.specs.Standing.{Ends};
+ghost use Rattle.preflight.specs.Where.{page_with};
 
 use crate::culprit::Culprit;
 use crate::laws::fails_say;
@@ -86,7 +87,8 @@ impl<A: Allocator + Copy, P: Allocator> Checking<'_, A, P> {
         ensures { Ends self.new.standing (λ verdict. (fleet : List Printer) (bytes : List ℕ) →
             HasExecuted fleet bytes self.old.lexer (machines_of self.old.machines)
             (counts_of self.old.machines) → total ≡ length bytes →
-            IsJudgementOn fleet bytes verdict self.new.culprit) }
+            IsJudgementOn fleet bytes verdict self.new.culprit
+            (page_with verdict (counts_of self.new.machines))) }
     {
         watched_runs_are_alike();
         watched_is_plain();

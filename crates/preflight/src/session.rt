@@ -7,12 +7,14 @@ ghost use Rattle.device_profile.specs.Printer.{Printer};
 ghost use Rattle.streams.specs.declared.error.Error.{Error};
 ghost use Rattle.verdict.specs.declared.verdict.Verdict.{Verdict};
 ghost use Rattle.preflight.specs.Session.{ChecksOn, HasChecked, HasRoom, IsJudged, IsOutOfMemory};
+ghost use Rattle.preflight.specs.Session.{page_told};
+ghost use Rattle.preflight.specs.Where.{page_with};
 ghost use Rattle.preflight.specs.Verdict.{IsExact, VerdictHolds};
 ghost use Rattle.preflight.specs.Culprit.{IsJudgementOn};
 ghost use Rattle.preflight.specs.Carriers.Lockstep.{AreIn, AreRunning, counts_of, machines_of};
 
 use crate::checking::Checking;
-use crate::culprit::Culprit;
+use crate::culprit::{Culprit, page_with};
 use crate::laws::fails_say;
 use crate::lockstep::Lockstep;
 use crate::standing::Standing;
@@ -153,6 +155,19 @@ impl<'p, A: Allocator + Copy, P: Allocator> Session<'p, A, P> {
         self.checking.culprit
     }
 
+    /// The page on which the job fails, whatever follows.
+    ///
+    /// It is None while nothing is wrong, and after an error.
+    pub fn page(&self) -> Option<u64>
+        ensures { result ≡ page_told self.now.standing self.now.counts }
+    {
+        match self.checking.standing {
+            Standing::Open => None,
+            Standing::Judged(verdict) => page_with(verdict, self.checking.machines.counts()),
+            Standing::Stopped(_) => None,
+        }
+    }
+
     /// The verdict on the job that was fed, whole.
     ///
     /// It is the verdict that `check_job` gives on the same bytes. The error is the one that
@@ -177,7 +192,8 @@ impl<'p, A: Allocator + Copy, P: Allocator> Session<'p, A, P> {
     // It only borrows the session, so that the proof of each way out need not free it.
     fn verdict(&mut self) -> Result<Verdict, Error>
         ensures ended { IfOk result (λ verdict. (fleet : List Printer) (bytes : List ℕ) →
-            HasChecked fleet bytes self.old → IsJudgementOn fleet bytes verdict self.new.culprit) }
+            HasChecked fleet bytes self.old → IsJudgementOn fleet bytes verdict self.new.culprit
+            (page_with verdict self.new.counts)) }
         ensures judged { (verdict : Verdict) → self.old.standing ≡ standings.Judged verdict →
             result ≡ Ok verdict }
         ensures kept { (verdict : Verdict) → self.old.standing ≡ standings.Judged verdict →

@@ -17,5 +17,15 @@ abbrev pub counts_after : List Event → Counts → Counts
 counts_after [] counts = counts
 counts_after (e ∷ es) counts = counts_after es (counted e counts)
 
+-- how many pages have ended behind one more event, from so many on
+abbrev pub paged : Event → ℕ → ℕ
+paged (Marked mark) pages = pages
+paged (Ended page) pages = capped (pages + 1)
+
+-- and behind these events
+abbrev pub pages_after : List Event → ℕ → ℕ
+pages_after [] pages = pages
+pages_after (e ∷ es) pages = pages_after es (paged e pages)
+
 abbrev pub no_counts : Counts
 no_counts = record { pages = 0; marks = 0 }

@@ -28,13 +28,11 @@ impl Beside {
     ) -> io::Result<(R::File, Beside)> {
         let (file, path) = create_new(files, target.as_str(), mode)?;
         let beside = Beside { path, target };
-        match set_mode(&file, mode) {
-            Ok(()) => Ok((file, beside)),
-            Err(error) => {
-                beside.remove(files);
-                Err(error)
-            }
+        if let Err(error) = set_mode(&file, mode) {
+            beside.remove(files);
+            return Err(error);
         }
+        Ok((file, beside))
     }
 
     /// Puts the file in the place of the other one.

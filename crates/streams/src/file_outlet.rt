@@ -69,7 +69,8 @@ impl<'a, R: Files> FileOutlet<'a, R> {
     pub fn into_taken(self) -> Given
         ensures { concat result.pieces ≡ self.entry.outlet.taken }
     {
-        match self.created {
+        let FileOutlet { created, .. } = self;
+        match created {
             Opened::Done(file) => file.into_taken(),
             Opened::NotYet | Opened::Failed(_) => Given::new(),
         }
@@ -197,14 +198,17 @@ impl<R: Files + Print + AllocGlobal> Create for FileOutlet<'_, R> {
     }
 
     fn leads_to(&self, file: FileId) -> bool {
-        let path = if is_output(self.path) {
-            "/dev/stdout"
-        } else {
-            self.path
-        };
-        match fs::metadata(self.files, path) {
-            Ok(metadata) => FileId::of(&metadata) == Some(file),
-            Err(_) => false,
+        if is_output(self.path) {
+            return is_at(self.files, "/dev/stdout", file);
         }
+        is_at(self.files, self.path, file)
+    }
+}
+
+/// Whether a path leads to this file.
+fn is_at<R: Files>(files: &R, path: &str, file: FileId) -> bool {
+    match fs::metadata(files, path) {
+        Ok(metadata) => FileId::of(&metadata) == Some(file),
+        Err(_) => false,
     }
 }

@@ -142,7 +142,7 @@ const ROWS: &[(&[Event], &[Event], bool)] = &[
 fn differs(alloc: Global, recorded: &[Event], events: &[Event]) -> Result<bool, AllocError> {
     let mut recorder = Recorder::new(alloc);
     hand(recorded, &mut recorder)?;
-    let mut comparer = Comparer::new(recorder.events());
+    let mut comparer = Comparer::new(recorder.events(), 0);
     match hand(events, &mut comparer) {
         Ok(()) => Ok(comparer.differs()),
         Err(never) => match never {},
@@ -231,7 +231,7 @@ fn rows_are_told_from_others(rt: HostRuntime) -> Result<(), Fail> {
     let mut recorder = Recorder::new(rt.alloc());
     assert!(rt; run(rt.alloc(), ROW, &mut recorder)?);
     for (job, differ) in OTHERS {
-        let mut comparer = Comparer::new(recorder.events());
+        let mut comparer = Comparer::new(recorder.events(), 0);
         assert!(rt; run(rt.alloc(), job, &mut comparer)?);
         assert!(rt; comparer.differs() == *differ, "{job:?}");
     }

@@ -133,13 +133,13 @@ const LETTER: [u32; 12] = [
     2, 0, 61_200, 79_200, 1_800, 0, 57_600, 79_200, 1_200, 1_200, 60_000, 78_000,
 ];
 
-/// A control code, a code above ASCII, and the one behind its last character.
+/// A control code, a letter behind ASCII, and the code behind the last character of ASCII.
 #[test]
 fn a_sentence_has_characters_alone(rt: HostRuntime) -> Result<(), Fail> {
     let mut text = Vec::new(rt.alloc());
-    push_sentence(&mut text, &Geometry::from_row(&LETTER), b"\x1b\xe9\x7f")?;
+    push_sentence(&mut text, &Geometry::from_row(&LETTER), b"\x1b\xc3\xa9\x7f")?;
     let text = text.as_slice();
-    let wanted: &[u8] = b"font-size=\"1000\" fill=\"red\">&#65533;&#65533;&#65533;</text>\n";
+    let wanted: &[u8] = b"font-size=\"1000\" fill=\"red\">&#65533;\xc3\xa9&#65533;</text>\n";
     assert!(rt; text.ends_with(wanted), "{}", shown(text));
     Ok(())
 }

@@ -1,4 +1,4 @@
-//! The items that jobs fail at, told of jobs that come in pieces.
+//! The items and the pages that jobs fail at, told of jobs that come in pieces.
 
 ghost use Rattle.std.specs.Prelude.{◌<◌};
 
@@ -27,6 +27,9 @@ const ROWS: &[Row] = &[
     (&[B], b"\x1bE\x01"),
     (&[B], b"\x1bE\x1b&f1"),
     (&[B], b"\x1bE\x1b&f0X"),
+    (&[B], b"\x1bE\x0c\x1b&f1S"),
+    (&[B, D], b"\x1bE\x0cA"),
+    (&[B, D], b"\x1b&f0X\x0c\x1b*p9999X\x1b&f1X\x1b&f2X"),
     (&[B], b"\x1bE\x1b*p300x300Y\x1b*c100a50b0P"),
 ];
 
@@ -49,6 +52,11 @@ fn check_pieces(
     let before = session.culprit();
     assert!(rt;
         before == None || before == whole.culprit,
+        "{job:?} in pieces of {size}"
+    );
+    let page = session.page();
+    assert!(rt;
+        page == None || page == whole.page,
         "{job:?} in pieces of {size}"
     );
     let verdict = session.end()?;

@@ -14,6 +14,7 @@ returns g c =
     let right : IsRightAnswer fleet start after answer = record {
       verdict = right_verdict fleet start after answer check.exact check.headline check.needed;
       item = check.told;
+      page = check.paged;
       error = error_of_job fleet answer check.never_write check.no_profile.0 some;
       within = check.within;
       items = check.items;

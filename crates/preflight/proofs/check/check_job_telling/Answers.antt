@@ -5,8 +5,9 @@ use Rattle.preflight.specs.declared.culprit.Judgement.{Judgement}
 use Rattle.streams.specs.declared.error.Error.{Error}
 use Rattle.streams.specs.declared.error.Error.TheVariants.{Memory, Read, Turns}
 use Rattle.preflight.specs.Culprit.{IsTold}
+use Rattle.preflight.specs.Where.{IsOnPage}
 use Rattle.preflight.specs.Verdict.{IsExact, VerdictHolds}
-use Rattle.preflight.proofs.Judging.{exact, headline, known_ok, needed, never_items, never_write, still_open, told, was_open}
+use Rattle.preflight.proofs.Judging.{exact, headline, known_ok, needed, never_items, never_write, paged, still_open, told, was_open}
 use Rattle.preflight.proofs.check.check_job_telling.Goals as goal
 
 same_error : (a b : Error) (x y : Result Judgement Error) → x ≡ Err a → y ≡ Err b → x ≡ y → a ≡ b
@@ -56,6 +57,20 @@ returns-clause-told g c =
 pub returns-clause-known_told : goal.returns-clause-known_told
 returns-clause-known_told g c =
     known_ok _ _ (λ job verdict. IsTold job verdict c.culprit.result) (Ok c.in_ok-verdict.verdict) (returns-clause-told g c)
+
+pub returns-clause-paged : goal.returns-clause-paged
+returns-clause-paged g c =
+    subst
+    (λ page. ByReads (g.S.Source.state c.args.reader.now) (g.S.Source.state c.read_job.new.reader)
+    (λ job. IsOnPage c.args.fleet.now job c.in_ok-verdict.verdict page))
+    (sym c.page.ensures)
+    (paged c.args.fleet.now (c.in_ok-session.session, tt) (c.read_job.new.consumer, tt) c.in_ok-session.ensures.none _ _
+    (Ok c.in_ok-verdict.verdict) c.in_ok-verdict.ensures.answered)
+
+pub returns-clause-known_paged : goal.returns-clause-known_paged
+returns-clause-known_paged g c =
+    known_ok _ _ (λ job verdict. IsOnPage c.args.fleet.now job verdict c.page.result) (Ok c.in_ok-verdict.verdict)
+    (returns-clause-paged g c)
 
 pub returns-clause-needed : goal.returns-clause-needed
 returns-clause-needed g c =

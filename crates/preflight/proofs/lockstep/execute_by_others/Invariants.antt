@@ -8,5 +8,6 @@ use Rattle.preflight.proofs.lockstep.execute_by_others.Given as goal
 abbrev pub invariant-loop-index : goal.invariant-loop-index
 invariant-loop-index g l = record {
   stands_open : l.standing ≡ Open;
+  uncounted : l.counts ≡ l.initial.counts;
   so_far : SoFar (action_of l.task) l.place (map event_of l.events) l.index l.first_other l.initial.others l.others;
 }

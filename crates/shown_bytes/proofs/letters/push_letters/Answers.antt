@@ -1,8 +1,8 @@
-use Rattle.std.proofs.Common.{◌≡◌, ◌∙◌, ◌++◌, ℕ, List, ap, rules}
+use Rattle.std.proofs.Common.{◌∙◌, ◌++◌, ℕ, List, sym, ap, map-id}
 use Rattle.std.specs.List.{flat_map}
-use Rattle.std.specs.Str.{IsUtf8, encode_utf8_all}
+use Rattle.std.proofs.lemmas.Iterator.{YieldsList-from_chars}
+use Rattle.std.proofs.lemmas.Iterator.Consumers.{YieldsList-end}
 use Rattle.std.proofs.lemmas.List.{flat_map_more}
-use Rattle.std.proofs.lemmas.Str.{chars_from_encodes}
 use Rattle.shown_bytes.specs.Shown.{shown_letter}
 use Rattle.shown_bytes.proofs.letters.push_letters.Goals as goal
 
@@ -14,8 +14,7 @@ loop-letter-preserved g c =
 
 pub returns : goal.returns
 returns g c =
-    let whole : encode_utf8_all c.loop-letter.yielded ≡ c.args.text.now = search rules in
-    let valid : IsUtf8 c.args.text.now = search rules in
+    let end = YieldsList-end (YieldsList-from_chars c.args.text.now c.utf8.text cc) c.loop-letter.yielded _ c.loop-letter.yielded_by
+    _ _ c.in-None.is c.next.ensures.steps in
     c.loop-letter.invariant
-    ∙ ap (λ (cs : List ℕ). c.args.out.now.items ++ flat_map shown_letter cs)
-    (chars_from_encodes c.loop-letter.yielded c.args.text.now valid whole)
+    ∙ ap (λ (cs : List ℕ). c.args.out.now.items ++ flat_map shown_letter cs) (sym (map-id c.loop-letter.yielded) ∙ end.0)

@@ -1,4 +1,4 @@
-use Rattle.std.proofs.Common.{◌≡◌, ◌∷◌, [], List, map, take, drop, length, ◌++◌, refl, sym, ap, subst, ◌∙◌, inl, arith}
+use Rattle.std.proofs.Common.{◌≡◌, ◌∷◌, [], List, map, take, drop, length, ◌++◌, Option, None, Some, refl, sym, ap, subst, ◌∙◌, inl, arith}
 use Rattle.page_machine.specs.Event.{Event}
 use Rattle.page_machine.specs.MachineState.{MachineState}
 use Rattle.sinks.specs.Owned.{event_of}
@@ -6,9 +6,10 @@ use Rattle.sinks.specs.Recorder.{Recorded}
 use Rattle.sinks.proofs.Recording.{recorder_takes}
 use Rattle.preflight.specs.Standing.{StandsBy}
 use Rattle.preflight.specs.Carriers.Formation.{others_in, IsFormed}
-use Rattle.preflight.specs.Carriers.Lockstep.{action_of, AllAdmit, AreRunning, Compared, Fleet, FoundFrom, GoesInStep}
-use Rattle.preflight.proofs.Executing.{does_by, fails_by, parted, step_recorded, was_running, written_back}
-use Rattle.preflight.proofs.Standings.{open_is, stands_on}
+use Rattle.verdict.specs.declared.failure.Failure.{Failure}
+use Rattle.preflight.specs.Carriers.Lockstep.{action_of, AllAdmit, AreRunning, Compared, CountsPages, FindsAt, Fleet, FoundFrom, GoesInStep}
+use Rattle.preflight.proofs.Executing.{does_by, fails_by, pages_recorded, parted, step_recorded, was_running, written_back}
+use Rattle.preflight.proofs.Standings.{closed_on, open_is, open_on}
 use Rattle.preflight.proofs.lockstep.Lockstep.execute_on_each.Goals as goal
 
 -- where a recorder refuses an event it is as before
@@ -32,11 +33,24 @@ judge-requires-clause-running g c =
 
 pub returns-then-not-judge-clause-came : goal.returns-then-not-judge-clause-came
 returns-then-not-judge-clause-came g c =
-    fails_by recorder_takes recorder_refuses (action_of c.args.task.now) _ _ c.self.inside.first c.execute_by-answer.new.machine _
+    let action = action_of c.args.task.now in
+    let begun : Recorded = record { events = []; counts = c.self.inside.counts } in
+    let counts = c.counts-self-inside-then-not-judge.result in
+    fails_by recorder_takes recorder_refuses action _ _ c.self.inside.first c.execute_by-answer.new.machine _
     c.args.place 1 c.execute_by-answer.result c.judge.new.self c.judge.ensures.standing
     (sym c.judge.ensures.open ∙ c.if-not-judge.true) c.execute_by-answer.ensures
-    (λ finding finds.
-    (refl, subst (λ (f : Fleet). FoundFrom (action_of c.args.task.now) finding 1 1 f.machines) c.self.view_is (inl (refl, finds))))
+    (λ finding finds leads. (
+      refl,
+      subst (λ (f : Fleet). FoundFrom action finding 1 1 f.machines) c.self.view_is (inl (refl, finds)),
+      subst (λ (f : Fleet). FindsAt action finding f.counts.pages counts.pages 1 1 f.machines) c.self.view_is (inl (
+        refl,
+        (
+          finds,
+          pages_recorded begun c.restart.new.self c.execute_by-answer.new.sink finds.events counts c.restart.ensures leads
+              c.counts-self-inside-then-not-judge.ensures,
+        ),
+      )),
+    ))
 
 pub execute_by_others-requires-clause-running : goal.execute_by_others-requires-clause-running
 execute_by_others-requires-clause-running g c =
@@ -62,14 +76,18 @@ execute_by_others-requires-clause-admitted g c =
 pub execute_by_others-requires-clause-open : goal.execute_by_others-requires-clause-open
 execute_by_others-requires-clause-open g c = open_is c.judge.new.self (sym c.judge.ensures.open ∙ c.if-not-judge.false)
 
-pub returns-clause-came : goal.returns-clause-came
-returns-clause-came g c =
+-- the others, where one of them fails
+pub returns-then-not-execute_by_others-clause-came : goal.returns-then-not-execute_by_others-clause-came
+returns-then-not-execute_by_others-clause-came g c =
     let before = c.self.inside in
     let n = before.others.len in
     let action = action_of c.args.task.now in
     let first = c.execute_by-answer.new.machine in
     let after = c.execute_by-answer.new.sink in
     let others = c.execute_by_others.new.others in
+    let counts = c.execute_by_others.new.counts in
+    let lent = c.deref_mut-2.result.now in
+    let stood : List MachineState = others_in before.formation before.first before.others.items in
     let begun : Recorded = record { events = []; counts = before.counts } in
     let events = map event_of c.events-events.result.now in
     let did =
@@ -79,31 +97,69 @@ returns-clause-came g c =
     let len : length before.others.items ≡ n = omega (arith, before.others.ok.0) in
     let parted_len : length c.part.new.others ≡ n = omega (arith, c.part.auto.others, c.deref_mut.ensures.len) in
     let stand =
-    parted before.formation before.first n before.others.items c.deref_mut.result.now c.part.new.others c.deref_mut-2.result.now
+    parted before.formation before.first n before.others.items c.deref_mut.result.now c.part.new.others lent
     c.deref_mut-2.ensures.value c.part.ensures c.deref_mut.ensures.value parted_len len in
     let whole : take n (others ++ drop (length others) items) ≡ others =
     written_back n items others (omega (arith, c.execute_by_others.auto.others, c.deref_mut-2.ensures.len))
     (omega (arith, ap length (sym c.deref_mut-2.ensures.value), c.deref_mut-2.ensures.len)) in
     subst
     (λ (f : Fleet). StandsBy c.execute_by_others.new.standing (λ failed.
-    GoesInStep action c.args.place f.machines
-    (first ∷ take n (others ++ drop (length others) items)) f.counts c.counts-self-inside.result failed))
+    GoesInStep action c.args.place f.machines (first ∷ take n (others ++ drop (length others) items)) f.counts counts failed))
     c.self.view_is
-    (stands_on (Compared action c.args.place events 2 c.deref_mut-2.result.now others)
-    (GoesInStep action c.args.place (before.first ∷ others_in before.formation before.first before.others.items)
-    (first ∷ take n (others ++ drop (length others) items)) before.counts c.counts-self-inside.result)
-    c.execute_by_others.new.standing
-    (λ failed compared.
-    subst
-    (λ xs. GoesInStep action c.args.place (before.first ∷ others_in before.formation before.first before.others.items)
-    (first ∷ xs) before.counts c.counts-self-inside.result failed)
-    (sym whole)
-    (subst
-    (λ counts. GoesInStep action c.args.place (before.first ∷ others_in before.formation before.first before.others.items)
-    (first ∷ others) before.counts counts failed)
-    (sym c.counts-self-inside.ensures)
-    (step_recorded action c.args.place before.first first
-    (others_in before.formation before.first before.others.items) others begun c.restart.new.self after did.0 _ failed
+    (closed_on
+    (λ failed. Compared action c.args.place events 2 lent others failed
+    × CountsPages action before.counts.pages counts.pages 2 lent failed)
+    (GoesInStep action c.args.place (before.first ∷ stood) (first ∷ take n (others ++ drop (length others) items)) before.counts counts)
+    c.execute_by_others.new.standing (sym c.execute_by_others.ensures.open ∙ c.if-not-execute_by_others.true)
+    (λ failure compared.
+    let fails : Option Failure = Some failure in
+    subst (λ xs. GoesInStep action c.args.place (before.first ∷ stood) (first ∷ xs) before.counts counts fails) (sym whole)
+    (step_recorded action c.args.place before.first first stood others begun c.restart.new.self after did.0 _ counts fails
     c.restart.ensures did.1 did.2 c.events-events.ensures
-    (subst (λ xs. Compared action c.args.place events 2 xs others failed) stand compared))))
+    (subst (λ xs. Compared action c.args.place events 2 xs others fails) stand compared.0)
+    (subst (λ xs. CountsPages action before.counts.pages counts.pages 2 xs fails) stand compared.1)
+    (λ none. absurd cc)))
+    c.execute_by_others.ensures.came)
+
+-- all machines
+pub returns-clause-came : goal.returns-clause-came
+returns-clause-came g c =
+    let before = c.self.inside in
+    let n = before.others.len in
+    let action = action_of c.args.task.now in
+    let first = c.execute_by-answer.new.machine in
+    let after = c.execute_by-answer.new.sink in
+    let others = c.execute_by_others.new.others in
+    let counts = c.counts-self-inside.result in
+    let lent = c.deref_mut-2.result.now in
+    let stood : List MachineState = others_in before.formation before.first before.others.items in
+    let begun : Recorded = record { events = []; counts = before.counts } in
+    let events = map event_of c.events-events.result.now in
+    let did =
+    does_by recorder_takes recorder_refuses action _ after before.first first c.args.place 1 c.execute_by-answer.result c.judge.new.self
+    c.judge.ensures.standing (sym c.judge.ensures.open ∙ c.if-not-judge.false) c.execute_by-answer.ensures in
+    let items : List MachineState = take n (c.part.new.others ++ drop (length c.part.new.others) before.others.items) in
+    let len : length before.others.items ≡ n = omega (arith, before.others.ok.0) in
+    let parted_len : length c.part.new.others ≡ n = omega (arith, c.part.auto.others, c.deref_mut.ensures.len) in
+    let stand =
+    parted before.formation before.first n before.others.items c.deref_mut.result.now c.part.new.others lent
+    c.deref_mut-2.ensures.value c.part.ensures c.deref_mut.ensures.value parted_len len in
+    let whole : take n (others ++ drop (length others) items) ≡ others =
+    written_back n items others (omega (arith, c.execute_by_others.auto.others, c.deref_mut-2.ensures.len))
+    (omega (arith, ap length (sym c.deref_mut-2.ensures.value), c.deref_mut-2.ensures.len)) in
+    let none : Option Failure = None in
+    subst
+    (λ (f : Fleet). StandsBy c.execute_by_others.new.standing (λ failed.
+    GoesInStep action c.args.place f.machines (first ∷ take n (others ++ drop (length others) items)) f.counts counts failed))
+    c.self.view_is
+    (open_on
+    (λ failed. Compared action c.args.place events 2 lent others failed
+    × CountsPages action before.counts.pages c.execute_by_others.new.counts.pages 2 lent failed)
+    (GoesInStep action c.args.place (before.first ∷ stood) (first ∷ take n (others ++ drop (length others) items)) before.counts counts)
+    c.execute_by_others.new.standing (sym c.execute_by_others.ensures.open ∙ c.if-not-execute_by_others.false)
+    (λ compared.
+    subst (λ xs. GoesInStep action c.args.place (before.first ∷ stood) (first ∷ xs) before.counts counts none) (sym whole)
+    (step_recorded action c.args.place before.first first stood others begun c.restart.new.self after did.0 _ counts none
+    c.restart.ensures did.1 did.2 c.events-events.ensures
+    (subst (λ xs. Compared action c.args.place events 2 xs others none) stand compared.0) tt (λ same. c.counts-self-inside.ensures)))
     c.execute_by_others.ensures.came)

@@ -3,9 +3,7 @@ use Rattle.pcl_lexer.specs.Lexing.State.{LexerState}
 use Rattle.pcl_lexer.specs.Lexing.Meaning.{MayBe}
 use Rattle.pcl_lexer.specs.Modes.{mode_of}
 use Rattle.preflight.specs.Standing.{is_open}
-use Rattle.preflight.specs.Verdict.{IsExact}
-use Rattle.preflight.specs.Culprit.{IsTold}
-use Rattle.verdict.specs.Failing.{failing}
+use Rattle.preflight.specs.Carriers.Checking.{FailsBy}
 use Rattle.preflight.specs.Carriers.Lockstep.{AreIn, counts_of, machines_of}
 use Rattle.preflight.specs.Session.{ChecksOn, SessionState}
 use Rattle.preflight.proofs.Answered.{came_open, goes_open}
@@ -77,7 +75,7 @@ returns g c = λ first bytes goes.
           (λ fleet base executed.
           subst
           (λ ended. (job : List ℕ) → MayBe ended (base ++ piece) job →
-          IsExact fleet job (failing judged.0) × IsTold job (failing judged.0) new.culprit)
+          FailsBy fleet job judged.0 new.culprit (counts_of new.machines))
           not_ended
           (judged.2 fleet (base ++ piece)
           (executed_fed fleet base piece here.lexer c.feed.new.self (machines_of here.machines)
