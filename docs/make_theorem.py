@@ -20,12 +20,12 @@ PARTS = {
     "theorem: reads": (("streams/Pieces", "ByReads MayBeBy"),),
     "theorem: a Pass": (
         ("preflight/Verdict", "VerdictHolds PrintsAlike RunsTo"),
-        ("page_machine/Pages", "IsWithin IsPrintable IsInside marks_left pages pages_from"),
-        ("page_machine/Job", "events_of plain_run watched_run run_from")),
+        ("page_machine/Pages", "IsWithin IsPrintable IsInside"),
+        ("page_machine/Job", "plain_run watched_run run_from")),
     "theorem: a Fail": (
         ("preflight/Failing", "FailSays SaysFound SaysUnset SaysDiffers FindsNothing"),),
     "theorem: exact": (
-        ("preflight/Verdict", "IsExact verdict_of verdict_from AreAllowed verdict_by"),
+        ("preflight/Verdict", "IsExact verdict_of verdict_from verdict_by"),
         ("preflight/Wrong", "first_wrong all_wrong findings_in differences_in")),
     "theorem: open": (("preflight/Verdict", "NeedsEachRead LeavesOpen"),),
 }
@@ -33,6 +33,13 @@ PARTS = {
 ROOTS = (("preflight/Verdict", "VerdictHolds IsExact NeedsEachRead StaysOpen WasOpen"),
          ("streams/Pieces", "ByReads"))
 ROOT_OF_TEXTS = ("device_profile/Text", "printer_of_text")
+# Where it stops, and the name says enough.
+PLAIN = """
+IsNumbered AreAllowed events_by_item events_before events_behind runs_of runs_from failure_of
+of_each first_run watched_items soonest fault_at capped finding_of row_at bounds_of
+""".split()
+# Of a file with fewer lines to read no sentence is told.
+FEW = 7
 CLAUSES = "docs/edit_clauses.txt"
 CAME = "docs/edit_outcomes.txt"
 
@@ -85,13 +92,15 @@ def printed(tree: Tree, part: str) -> str:
 
 
 def stops(tree: Tree) -> str:
-    """The definitions that the printed ones cite and that are not printed: those with a comment by
-    their words, and the others, types among them, by their names."""
+    """The definitions that the printed ones cite and that are not printed: by their comments, and
+    types and those with a plain name by this alone."""
     specs = Specs(tree)
     known = {it for rows in PARTS.values() for it in chosen(specs, rows)}
-    cited = {it for definition in known for it in specs.cited_by(definition)} - known
+    cited = {it for definition in known for it in specs.cited_by(definition)}
+    cited = cited.union(chosen(specs, ROOTS)) - known
     in_order = sorted(cited, key=lambda it: (place_of(tree, it.path), it.path, it.first))
-    told = [it for it in in_order if it.said() and not it.is_type or it.name.startswith("Is")]
+    told = [it for it in in_order if it.name not in PLAIN and it.said()
+            and (not it.is_type or it.name.startswith("Is"))]
     rows = [f"- {it.link()}: {it.said()}" for it in told]
     others = ", ".join(it.link() for it in in_order if it not in told)
     return "\n".join(rows) + f"\n\nTypes, and what shows in its name: {others}."
@@ -131,19 +140,24 @@ def below_theorem(specs: Specs) -> set[Definition]:
     return specs.all_below(chosen(specs, ROOTS))
 
 
+def told_file(specs: Specs, path: str, lines: int) -> str:
+    sentence = next(it.said for it in specs.files.values() if it.path == path)
+    return f"- {file_link(path, short_name(path))} ({lines}): {sentence}"
+
+
 def listed(specs: Specs, tree: Tree, definitions: set[Definition]) -> str:
     """The files of these definitions by crates, with the lines of the definitions in each and the
-    first sentence of each file."""
-    said = []
+    first sentence of each file; of some lines the file alone, behind the others."""
+    said, few = [], []
     by_crate = sorted(definitions, key=lambda it: place_of(tree, it.path))
     for crate, group in groupby(by_crate, key=lambda it: crate_of(it.path)):
         own = set(group)
-        said += ["", f"**`{crate}`**", ""]
-        for path in downward(specs, own):
-            lines = lines_in(path, own)
-            sentence = next(it.said for it in specs.files.values() if it.path == path)
-            said.append(f"- {file_link(path, short_name(path))} ({lines}): {sentence}")
-    return "\n".join(said[1:])
+        lines = {path: lines_in(path, own) for path in downward(specs, own)}
+        rows = [told_file(specs, path, count) for path, count in lines.items() if count >= FEW]
+        said += ["", f"**`{crate}`**", "", *rows] if rows else []
+        few += [f"{file_link(path, f'{crate}/{short_name(path)}')} ({count})"
+                for path, count in lines.items() if count < FEW]
+    return "\n".join([*said[1:], "", f"And some lines of {', '.join(few)}."])
 
 
 def files_to_believe(tree: Tree) -> str:
