@@ -29,9 +29,11 @@ PARTS = {
         ("preflight/Wrong", "first_wrong all_wrong findings_in differences_in")),
     "theorem: open": (("preflight/Verdict", "NeedsEachRead LeavesOpen"),),
 }
-# What the clauses of `check_job` name, and the printer that a text describes.
+# What the clauses of `check_job` name, what a profile and a source stand for in them, and the
+# printer that a text describes.
 ROOTS = (("preflight/Verdict", "VerdictHolds IsExact NeedsEachRead StaysOpen WasOpen"),
-         ("streams/Pieces", "ByReads"))
+         ("streams/Pieces", "ByReads"), ("streams/Source", "Reads"),
+         ("device_profile/Fields", "printer_of"))
 ROOT_OF_TEXTS = ("device_profile/Text", "printer_of_text")
 # Where it stops, and the name says enough.
 PLAIN = """
@@ -141,8 +143,11 @@ def below_theorem(specs: Specs) -> set[Definition]:
 
 
 def told_file(specs: Specs, path: str, lines: int) -> str:
+    """A file with its first sentence, up to a colon where a title of some words stands before."""
     sentence = next(it.said for it in specs.files.values() if it.path == path)
-    return f"- {file_link(path, short_name(path))} ({lines}): {sentence}"
+    title = sentence.partition(": ")[0]
+    said = title if len(title.split()) > 2 else sentence
+    return f"- {file_link(path, short_name(path))} ({lines}): {said}"
 
 
 def listed(specs: Specs, tree: Tree, definitions: set[Definition]) -> str:
@@ -177,16 +182,22 @@ def files_of_texts(tree: Tree) -> str:
 
 
 def count_to_believe(tree: Tree) -> str:
-    """How much that is, beside all spec files, and the sources that declare the types."""
+    """How much that is, beside all spec files."""
     specs = Specs(tree)
     found = below_theorem(specs)
     whole = lines_of(it for file in specs.files.values() for it in file.definitions.values())
     files = len({it.path for it in found})
-    sources = sorted(specs.sources_of_types(found), key=lambda it: (place_of(tree, it), it))
+    return (f"The theorem stands on {lines_of(found):,} lines of definitions in {files} spec "
+            f"files, of {whole:,} in {len(specs.files)}.")
+
+
+def types_to_believe(tree: Tree) -> str:
+    """The sources that declare the types which these definitions name."""
+    specs = Specs(tree)
+    sources = sorted(specs.sources_of_types(below_theorem(specs)),
+                     key=lambda it: (place_of(tree, it), it))
     links = [file_link(path, path.partition("/src/")[2]) for path in sources]
-    return (f"The theorem stands on {lines_of(found):,} lines of definitions in {files} files, of "
-            f"{whole:,} in {len(specs.files)}. The types that they name are declared in "
-            f"{', '.join(links)}.")
+    return f"The types that they name are declared in {', '.join(links)}."
 
 
 # ---- the toolchain
@@ -246,6 +257,7 @@ MAKERS = {
     **{part: lambda tree, part=part: printed(tree, part) for part in PARTS},
     "theorem: stops": stops,
     "believe: count": count_to_believe,
+    "believe: types": types_to_believe,
     "believe: files": files_to_believe,
     "believe: profiles": files_of_texts,
     "toolchain": toolchain,

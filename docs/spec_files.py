@@ -14,8 +14,8 @@ CONSTRUCTOR = re.compile(r"  (?:pub )?(\w+) :")
 # What a file takes from another: single names, or the file itself under a name.
 USE = re.compile(r"^(?:pub )?use (\S+?)(?:\.\{([^}]*)\})?(?: as (\w+))?$", re.MULTILINE)
 WORD = re.compile(r"[^\s(){};,→×λ⊎]+")
-# A type of a source, CRATE.specs.declared.FILE.TYPE, or its variants.
-DECLARED = re.compile(r"Rattle\.(\w+)\.specs\.declared\.([\w.]+?)\.\w+(?:\.TheVariants)?")
+# A type of a source, CRATE.specs.declared.FILE.TYPE, or what is within it.
+DECLARED = re.compile(r"Rattle\.(\w+)\.specs\.declared\.([\w.]+?)\.\w+(?:\.The\w+)?")
 
 
 @dataclass(frozen=True)
