@@ -7,6 +7,7 @@ import re
 import shutil
 import subprocess
 from collections.abc import Iterable, Iterator
+from functools import cache
 from itertools import groupby
 from typing import Optional
 
@@ -44,6 +45,11 @@ of_each first_run watched_items soonest fault_at capped finding_of row_at bounds
 FEW = 7
 CLAUSES = "docs/edit_clauses.txt"
 CAME = "docs/edit_outcomes.txt"
+
+
+@cache
+def specs_of(tree: Tree) -> Specs:
+    return Specs(tree)
 
 
 def fenced(text: str) -> str:
@@ -84,7 +90,7 @@ def chosen(specs: Specs, rows: Iterable[tuple[str, str]]) -> Iterator[Definition
 
 def printed(tree: Tree, part: str) -> str:
     """The definitions of a part as they stand, without comments, each file with its link."""
-    specs, said = Specs(tree), []
+    specs, said = specs_of(tree), []
     for row in PARTS[part]:
         path = specs.file(row[0]).path
         texts = [it.text() for it in chosen(specs, [row])]
@@ -96,7 +102,7 @@ def printed(tree: Tree, part: str) -> str:
 def stops(tree: Tree) -> str:
     """The definitions that the printed ones cite and that are not printed: by their comments, and
     types and those with a plain name by this alone."""
-    specs = Specs(tree)
+    specs = specs_of(tree)
     known = {it for rows in PARTS.values() for it in chosen(specs, rows)}
     cited = {it for definition in known for it in specs.cited_by(definition)}
     cited = cited.union(chosen(specs, ROOTS)) - known
@@ -111,6 +117,7 @@ def stops(tree: Tree) -> str:
 # ---- what has to be believed
 
 
+@cache
 def crates_downward(tree: Tree) -> list[str]:
     """The crates of crates.txt, the highest first."""
     names = re.findall(r"(?m)^(\w+):", tree.text("crates.txt"))
@@ -166,13 +173,13 @@ def listed(specs: Specs, tree: Tree, definitions: set[Definition]) -> str:
 
 
 def files_to_believe(tree: Tree) -> str:
-    specs = Specs(tree)
+    specs = specs_of(tree)
     return listed(specs, tree, below_theorem(specs))
 
 
 def files_of_texts(tree: Tree) -> str:
     """The files below the reading of a profile's text, without what the theorem stands on."""
-    specs = Specs(tree)
+    specs = specs_of(tree)
     root = specs.definition(*ROOT_OF_TEXTS)
     own = specs.all_below([root]) - below_theorem(specs)
     paths = [path for crate in crates_downward(tree)
@@ -183,7 +190,7 @@ def files_of_texts(tree: Tree) -> str:
 
 def count_to_believe(tree: Tree) -> str:
     """How much that is, beside all spec files."""
-    specs = Specs(tree)
+    specs = specs_of(tree)
     found = below_theorem(specs)
     whole = lines_of(it for file in specs.files.values() for it in file.definitions.values())
     files = len({it.path for it in found})
@@ -193,7 +200,7 @@ def count_to_believe(tree: Tree) -> str:
 
 def types_to_believe(tree: Tree) -> str:
     """The sources that declare the types which these definitions name."""
-    specs = Specs(tree)
+    specs = specs_of(tree)
     sources = sorted(specs.sources_of_types(below_theorem(specs)),
                      key=lambda it: (place_of(tree, it), it))
     links = [file_link(path, path.partition("/src/")[2]) for path in sources]
