@@ -9,8 +9,9 @@ that always holds, and the answers that proved it are left out, with those that 
 edit is made, and of what the prover refuses the goals of the edited function count; what refuses
 those that call it does not. So an edit that proves now was refused by that clause alone.
 
-What came of each edit is written into the table of PROOFS.md, which has a row an edit. The status
-is 1 where the edits, edit_clauses.txt and the table differ, or where an edit could not be tried.
+What came of each edit is written into edit_outcomes.txt, a line an edit; `docs/make.py` makes the
+table in PROOFS.md of the two files. The status is 1 where the edits, edit_clauses.txt and the
+sources differ, or where an edit could not be tried.
 """
 
 import argparse
@@ -29,8 +30,11 @@ import wrong_bodies
 from clauses import CLAUSES, Clause, ClauseError
 from clauses import answer_files, contract_of, known_clauses, without_answers, without_facts
 
-PROOFS = ROOT / "docs" / "PROOFS.md"
-TABLE = re.compile(r"(?m)^\| Crate \| Edit \| Clause \| Without it \|\n\|-.*\n((?:\|.*\n)*)")
+CAME = ROOT / "docs" / "edit_outcomes.txt"
+HEAD = """\
+# What came of each edit that was tried without its clause: CRATE/EDIT: OUTCOME. Written by
+# docs/edit_reasons.py alone.
+"""
 UNTRIED = "not tried yet"
 # By crate and edit: the clauses that it is for, and what came of it.
 Known = dict[tuple[str, str], list[Clause]]
@@ -152,18 +156,25 @@ def try_all(names: list[str], known: Known) -> Came:
     return {key: said for found in came for key, said in found.items()}
 
 
-# ---- the table
+# ---- what came of them
 
 
 def rows(known: Known, came: Came) -> str:
-    return "".join(f"| `{crate}` | `{edit}` | {'; '.join(it.told() for it in away)} "
-                   f"| {came.get((crate, edit), UNTRIED)} |\n"
-                   for (crate, edit), away in sorted(known.items()))
+    """A line an edit: its clauses, and what came of it without them."""
+    return "".join(f"{'/'.join(key)}: {'; '.join(it.told() for it in away)}: "
+                   f"{came.get(key, UNTRIED)}\n" for key, away in sorted(known.items()))
 
 
-def came_before(table: str) -> Came:
-    cells = [line.strip("|\n").split(" | ") for line in table.splitlines()]
-    return {(crate.strip(" `"), edit.strip(" `")): said.strip() for crate, edit, _, said in cells}
+def came_before() -> Came:
+    lines = CAME.read_text(encoding="utf-8").splitlines() if CAME.is_file() else []
+    parts = [line.partition(": ") for line in lines if not line.startswith("#")]
+    return {tuple(edit.split("/")): said for edit, _, said in parts}
+
+
+def keep(known: Known, came: Came) -> None:
+    """Writes what came of the edits that there are."""
+    lines = [f"{'/'.join(key)}: {said}\n" for key, said in sorted(came.items()) if key in known]
+    CAME.write_text(HEAD + "".join(lines), encoding="utf-8")
 
 
 def differences(known: Known) -> list[str]:
@@ -193,18 +204,14 @@ def main() -> int:
     parser.add_argument("--list", action="store_true")
     asked = parser.parse_args()
     known, names = known_clauses(), tree.crates_with_edits()
-    said, document = differences(known), PROOFS.read_text(encoding="utf-8")
-    table = TABLE.search(document)
-    came = came_before(table[1])
+    said, came = differences(known), came_before()
     if asked.list:
         print(rows(known, came), end="")
-        said += ["the table of PROOFS.md has other rows"] * (table[1] != rows(known, came))
     elif said or not set(asked.crates) <= set(names):
         said = said or [f"crates with edits are {' '.join(names)}"]
     else:
         came |= try_all(list(dict.fromkeys(asked.crates or names)), known)
-        whole = document[:table.start(1)] + rows(known, came) + document[table.end(1):]
-        PROOFS.write_text(whole, encoding="utf-8")
+        keep(known, came)
     print("\n".join(said) or f"edit_reasons: {len(known)} edits have their clauses")
     return 1 if said or any(it.startswith("not tried:") for it in came.values()) else 0
 
