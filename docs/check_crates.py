@@ -9,7 +9,9 @@ import re
 import sys
 from pathlib import Path
 
-from make_crates import crates_of_list
+sys.dont_write_bytecode = True
+
+from make_crates import crates_of_list                                 # noqa: E402
 
 ROOT = Path(__file__).resolve().parent.parent
 # In code a crate begins a path; in definitions it stands behind the house's name.
