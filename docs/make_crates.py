@@ -109,5 +109,5 @@ def table_of_tests(tree) -> str:
 MAKERS = {
     "floors": picture_of_floors,
     "crates": table_of_crates,
-    "crates_of_tests": table_of_tests,
+    "crates of tests": table_of_tests,
 }
