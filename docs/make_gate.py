@@ -1,4 +1,4 @@
-"""What CONTRIBUTING.md has of the gate: its parts in their order, made from .ci/run and the scripts.
+"""What CONTRIBUTING.md has of the gate: its parts in order, made from .ci/run and the scripts.
 
 `MAKERS` has the part by its name. It needs no program.
 """
