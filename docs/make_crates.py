@@ -88,26 +88,25 @@ def picture_of_floors(tree) -> str:
     return "\n".join(["```", *lines, "```"])
 
 
-def table_of(tree, are_tests: bool) -> str:
-    """A row for each crate, the lowest first."""
-    rows = [f"| `{name}` | {first_sentence(tree.root, name)} |"
-            for name, crate in crates_of_list(tree.root).items()
-            if (crate.floor == TESTS) == are_tests]
-    return "\n".join(["| Crate | What it is |", "|---|---|", *rows])
+def lines_of(tree, are_tests: bool) -> str:
+    """A line for each crate, the lowest first: what it is."""
+    return "\n".join(f"- `{name}`: {first_sentence(tree.root, name)}"
+                     for name, crate in crates_of_list(tree.root).items()
+                     if (crate.floor == TESTS) == are_tests)
 
 
-def table_of_crates(tree) -> str:
+def list_of_crates(tree) -> str:
     """The crates of the product."""
-    return table_of(tree, are_tests=False)
+    return lines_of(tree, are_tests=False)
 
 
-def table_of_tests(tree) -> str:
+def list_of_tests(tree) -> str:
     """The crates with tests, and what these share."""
-    return table_of(tree, are_tests=True)
+    return lines_of(tree, are_tests=True)
 
 
 MAKERS = {
     "floors": picture_of_floors,
-    "crates": table_of_crates,
-    "crates of tests": table_of_tests,
+    "crates": list_of_crates,
+    "crates of tests": list_of_tests,
 }
