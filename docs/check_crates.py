@@ -1,17 +1,19 @@
 #!/usr/bin/env python3
-"""Compares crates.txt with the crates, and with the tables of ARCHITECTURE.md.
+"""Compares crates.txt with the crates, and finds modules in a circle.
 
 A crate stands behind those on which it stands, and a file of it names each of these. Its modules
-stand in no circle, nor does its root with them. It has one row in the tables of crates, on the
-floor on which crates.txt has it. What differs is printed, and the status is 1.
+stand in no circle, nor does its root with them. What differs is printed, and the status is 1.
 """
 
 import re
 import sys
 from pathlib import Path
 
+sys.dont_write_bytecode = True
+
+from make_crates import crates_of_list                                 # noqa: E402
+
 ROOT = Path(__file__).resolve().parent.parent
-FLOOR = re.compile(r"# ---- (.+?):")
 # In code a crate begins a path; in definitions it stands behind the house's name.
 NAMED = re.compile(r"(?<![\w:.])([a-z]\w*)::|\bRattle\.(\w+)\.")
 USED = re.compile(r"\bcrate::(\{[^}]*\}|\w+(?:::\w+)*)")
@@ -21,28 +23,6 @@ HANDED_ON = re.compile(r"\bpub use ([a-z]\w*(?:::[a-z]\w*)*)::(\{[^}]*\}|\w+)")
 ROOTS = (("lib",), ("main",))
 # What is proved has its own folders, which are no modules of the code.
 OF_PROOFS = ("specs", "proofs")
-
-
-def crates_of_list():
-    """The crates in the order of crates.txt: their floor, and on what they stand."""
-    floor, crates = "", {}
-    for line in (ROOT / "crates.txt").read_text(encoding="utf-8").splitlines():
-        if found := FLOOR.match(line):
-            floor = found[1]
-        elif line and not line.startswith("#"):
-            words, _, below = line.partition(":")
-            crates[words.split()[0]] = (floor, below.split())
-    return crates
-
-
-def crates_of_document():
-    """The crates of the document's tables with their floors, as `ground: streams`."""
-    text = (ROOT / "docs" / "ARCHITECTURE.md").read_text(encoding="utf-8").partition("\n## ")[0]
-    rows, floor = [], ""
-    for first, crate in re.findall(r"(?m)^\| ([\w ]*?) ?\| `(\w+)` \|", text):
-        floor = first or floor
-        rows.append(f"{floor}: {crate}")
-    return rows
 
 
 def code_of(path):
@@ -105,19 +85,15 @@ def circles_of(crate):
 
 
 def main():
-    crates = crates_of_list()
+    crates = crates_of_list(ROOT)
     said, order = [], list(crates)
-    for crate, (_, below) in crates.items():
-        unused = sorted(set(below) - names_of(crate))
-        later = sorted(set(below) & set(order[order.index(crate):]))
-        said += [f"{crate} stands on {other}, which no file of it names" for other in unused]
-        said += [f"{crate} stands before {other}, on which it stands" for other in later]
-        if circle := circles_of(crate):
-            said.append(f"{crate} has modules in a circle: {', '.join(circle)}")
-    listed = [f"{floor}: {crate}" for crate, (floor, _) in crates.items()]
-    shown = crates_of_document()
-    said += [f"ARCHITECTURE.md has no row `{row}`" for row in listed if row not in shown]
-    said += [f"crates.txt has no `{row}`" for row in shown if row not in listed]
+    for name, crate in crates.items():
+        unused = sorted(set(crate.below) - names_of(name))
+        later = sorted(set(crate.below) & set(order[order.index(name):]))
+        said += [f"{name} stands on {other}, which no file of it names" for other in unused]
+        said += [f"{name} stands before {other}, on which it stands" for other in later]
+        if circle := circles_of(name):
+            said.append(f"{name} has modules in a circle: {', '.join(circle)}")
     print("\n".join(said) or f"check_crates: {len(crates)} crates are as they are listed")
     return 1 if said else 0
 
