@@ -2,9 +2,10 @@
 
     python3 docs/pictures.py PROGRAM [--write]
 
-There is a picture of the first page of each example that passes on the sample B and has a page, and
-of each page of the test sheet of a shipped profile; and no other file is there. Prints a line for
-each that differs, and at last `N compared, M differ`. The exit status is 0 where M is 0, else 1.
+There is a picture of the first page of each example that passes on the sample B and has a page, of
+each page of the test sheet of a shipped profile, and of the page of the README that fails; and no
+other file is there. Prints a line for each that differs, and at last `N compared, M differ`. The
+exit status is 0 where M is 0, else 1.
 """
 
 import subprocess
@@ -17,6 +18,10 @@ ROOT = Path(__file__).resolve().parent.parent
 PICTURES = ROOT / "docs" / "pictures"
 PRINTER = "@B"
 SHEET_OF = ROOT / "profiles" / "generic.profile"
+EXAMPLES = ROOT / "examples"
+# The page that fails is an example whose last box was made wider. Its picture has its name.
+FAILING = "wide_total"
+NARROW, WIDE = b"c750a120b", b"c900a120b"
 
 
 def output(program: str, *words: str) -> bytes:
@@ -27,7 +32,7 @@ def output(program: str, *words: str) -> bytes:
 
 def pictures_of_examples(program: str) -> Dict[str, bytes]:
     """The pictures of the first pages of examples, by their names."""
-    jobs = sorted((ROOT / "examples").glob("*.pcl"))
+    jobs = sorted(EXAMPLES.glob("*.pcl"))
     drawn = {job.stem: output(program, "picture", str(job), PRINTER) for job in jobs}
     return {name: picture for name, picture in drawn.items() if picture}
 
@@ -43,6 +48,16 @@ def pictures_of_sheet(program: str) -> Dict[str, bytes]:
         ):
             drawn[f"sheet_page_{len(drawn) + 1}"] = page
         return drawn
+
+
+def picture_of_failure(program: str) -> Dict[str, bytes]:
+    """The picture of the page that fails, whose sentence has the name of the job as it is given."""
+    with tempfile.TemporaryDirectory() as folder:
+        job = Path(folder) / f"{FAILING}.pcl"
+        job.write_bytes((EXAMPLES / "invoice.pcl").read_bytes().replace(NARROW, WIDE))
+        words = ("picture", job.name, str(EXAMPLES / "front_desk.profile"))
+        ran = subprocess.run([program, *words], cwd=folder, capture_output=True, check=False)
+    return {FAILING: ran.stdout}
 
 
 def differences(due: Dict[str, bytes]) -> List[str]:
@@ -61,8 +76,12 @@ def main() -> int:
     if len(sys.argv) not in (2, 3) or sys.argv[2:] not in ([], ["--write"]):
         print(__doc__, file=sys.stderr)
         return 2
-    program = sys.argv[1]
-    due = {**pictures_of_examples(program), **pictures_of_sheet(program)}
+    program = str(Path(sys.argv[1]).resolve())
+    due = {
+        **pictures_of_examples(program),
+        **pictures_of_sheet(program),
+        **picture_of_failure(program),
+    }
     if sys.argv[2:]:
         for name, picture in due.items():
             (PICTURES / f"{name}.svg").write_bytes(picture)
