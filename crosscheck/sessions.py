@@ -117,11 +117,12 @@ FILES = {"short.pcl": b"\x1bEA\x1b&l2A\x0c", "faulty.pcl": b"A\x1bQ", "empty.pcl
 
 
 def sessions(document: Path) -> Iterator[Tuple[str, str]]:
-    """The commands of a document, each with what it writes, without the indent of the block."""
-    command, written, indent = None, [], ""
-    for line in document.read_text().splitlines() + [""]:
-        if command is not None and re.match(r" *(\$ |```|$)", line):
-            yield command, "".join(f"{part}\n" for part in written)
+    """The commands of a document, each with what it writes, without the indent of the block. In a
+    block between fences an empty line may stand in what is written."""
+    command, written, indent, ends = None, [], "", r" *(\$ |```|$)"
+    for line in document.read_text().splitlines() + ["```"]:
+        if command is not None and re.match(ends, line):
+            yield command, "\n".join(written).rstrip("\n") + "\n" if written else ""
             command = None
         begins = re.match(r"( *)\$ (.*)$", line)
         if begins:
@@ -129,6 +130,8 @@ def sessions(document: Path) -> Iterator[Tuple[str, str]]:
             written = []
         elif command is not None:
             written.append(line.removeprefix(indent))
+        if line.startswith("```"):
+            ends = r"\$ |```" if ends.startswith(" ") else r" *(\$ |```|$)"
 
 
 def shown(session: Tuple[str, str], folder: Path) -> List[str]:
