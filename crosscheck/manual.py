@@ -52,7 +52,8 @@ def compare_page(comparison: Comparison, program: Program, commands: List[Comman
                     "pclcheck - " + top.about.removeprefix("A "))
     for command in below:
         compare_command(comparison, command, page.get(command.name, Section()))
-    comparison.same_entries("an option of all", page["OPTIONS"], top.options)
+    due = {re.sub("[<>]", "", option): told for option, told in top.options.items()}
+    comparison.same_entries("an option of all", page["OPTIONS"], due)
     comparison.same_entries("an exit status", page["EXIT STATUS"], top.statuses)
     comparison.same("the exit statuses of check", commands[1].statuses, top.statuses)
     text = " ".join(words_of(section.text) for section in page.values())
