@@ -17,19 +17,19 @@ use Rattle.renderings.specs.Outcomes.{fails_with}
 use Rattle.requests.specs.declared.selection.Selection.{Selection}
 use Rattle.requests.specs.Selection.{is_drawn}
 use Rattle.job_reports.specs.Groups.{Groups}
-use Rattle.job_reports.specs.JobSentences.{FailsAt, claim_by, fails_at, for_each, named_first, reason_phrase, subject}
-use Rattle.job_reports.specs.JobSentences.{verdict_phrase}
+use Rattle.job_reports.specs.JobSentences.{FailsAt, claim_by, fails_at, for_each, named_first, on_page, place_phrase}
+use Rattle.job_reports.specs.JobSentences.{reason_phrase, subject, verdict_phrase}
 use Rattle.job_reports.specs.Reports.{number_told}
 use Rattle.picture_command.specs.Carriers.{search_from}
-use Rattle.picture_command.specs.PageSearch.{Searched, missing_part, open_page, sentence}
+use Rattle.picture_command.specs.PageSearch.{Searched, missing_part, on_open_page, open_page, sentence}
 
 -- the fault of bytes that end too early, here
 abbrev early : ℕ → Failure
 early place = fault_at place Truncated
 
--- where no item stands
-abbrev nowhere : FailsAt
-nowhere = fails_at None
+-- where no item stands, on the page that is open
+abbrev nowhere : Counts → FailsAt
+nowhere counts = on_open_page counts (fails_at None None)
 
 -- ---- the sentence names the place
 
@@ -48,21 +48,21 @@ same_number : (is_each : Bool) →
 same_number true = refl
 same_number false = refl
 
-module _ (job : List ℕ) (group : Groups) where
+module _ (job : List ℕ) (group : Groups) (counts : Counts) where
   abbrev number : ℕ → ℕ
   number place = number_told group.is_each (Ok (failing (early place)))
 
   -- the printer of this number refuses a job whose bytes end too early
   abbrev refuses : ℕ → List ℕ
   refuses printer =
-      claim_by (subject group.names printer) (for_each group.is_each group.names) nowhere.left_out
+      claim_by (subject group.names printer) (for_each group.is_each group.names) (nowhere counts).left_out
       (Ok (failing (early 0)))
 
   abbrev phrase : ℕ → List ℕ
-  phrase place = verdict_phrase nowhere (failing (early place))
+  phrase place = verdict_phrase (nowhere counts) (failing (early place))
 
   abbrev line : ℕ → List ℕ
-  line place = sentence job group nowhere (failing (early place))
+  line place = sentence job group (nowhere counts) (failing (early place))
 
   -- behind the same text, too
   sentences_differ : (text : List ℕ) → text ++ line 0 ≡ text ++ line 1 → ⊥
@@ -77,19 +77,26 @@ module _ (job : List ℕ) (group : Groups) where
       let phrases : phrase 0 ≡ phrase 1 =
       append_cancel_left (refuses (number 1)) (phrase 0) (phrase 1)
       (ap (λ printer. refuses printer ++ phrase 0) (same_number group.is_each) ∙ claims) in
-      digits_differ (codes " at byte ") nowhere.words
-      (append_cancel_right (named (codes " at byte ") 0 ++ nowhere.words)
-      (named (codes " at byte ") 1 ++ nowhere.words) (reason_phrase nowhere.left_out (early 0).reason) phrases)
+      let page : List ℕ = on_page (nowhere counts).page in
+      let places : place_phrase 0 (nowhere counts).page ++ (nowhere counts).words
+      ≡ place_phrase 1 (nowhere counts).page ++ (nowhere counts).words =
+      append_cancel_right (place_phrase 0 (nowhere counts).page ++ (nowhere counts).words)
+      (place_phrase 1 (nowhere counts).page ++ (nowhere counts).words)
+      (reason_phrase (nowhere counts).left_out (early 0).reason) phrases in
+      digits_differ (codes " at byte ") page
+      (append_cancel_right (named (codes " at byte ") 0 ++ page) (named (codes " at byte ") 1 ++ page)
+      (nowhere counts).words places)
 
   -- ---- what is told
 
-  module _ (selection : Selection) (counts : Counts) where
+  module _ (selection : Selection) where
     -- of a failure, on a page that is searched for or before it
     abbrev told : Bool → Failure → Searched
     told drawn failure =
-        if drawn then (record { text = sentence job group nowhere (failing failure); outcome = fails_with failure })
+        if drawn
+        then (record { text = sentence job group (nowhere counts) (failing failure); outcome = fails_with failure })
         else (record {
-          text = missing_part selection job counts ++ sentence job group nowhere (failing failure);
+          text = missing_part selection job counts ++ sentence job group (nowhere counts) (failing failure);
           outcome = AllDone;
         })
 
@@ -103,4 +110,4 @@ pub search_matters : (selection : Selection) (job : List ℕ) (group : Groups) (
     (counts : Counts) → IsOver (search_from selection job group machine counts) → ⊥
 search_matters selection job group machine counts over =
     let same = over (Stopped [] 0 Truncated) (Stopped [] 1 Truncated) in
-    differs job group selection counts (is_drawn selection (open_page counts)) same.0 same.1
+    differs job group counts selection (is_drawn selection (open_page counts)) same.0 same.1
