@@ -84,11 +84,7 @@ pub(crate) fn font_request<A: Allocator>(
 }
 
 /// The request in force where the panel is this one.
-pub fn request_under<A: Allocator>(
-    profile: &Profile<A>,
-    page: &Page,
-    panel: &Panel,
-) -> FontRequest
+pub fn request_under<A: Allocator>(profile: &Profile<A>, page: &Page, panel: &Panel) -> FontRequest
     ensures { result ≡ request_of profile.now (state_at panel.now page.now) }
 {
     let font = page.env.fields.font.under(panel.font);
