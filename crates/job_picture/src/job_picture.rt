@@ -4,6 +4,7 @@ ghost use Rattle.device_profile.specs.Printer.{IsAllowed};
 ghost use Rattle.page_env.specs.Places.{geometry_of};
 ghost use Rattle.page_env.specs.Settings.{state_at};
 ghost use Rattle.renderings.specs.Carriers.PageRendering.{any_panel};
+ghost use Rattle.renderings.specs.Carriers.Rests.{faults_matter};
 ghost use Rattle.renderings.specs.Due.{Renders};
 ghost use Rattle.job_picture.specs.Carriers.Rest.{drawn_from};
 ghost use Rattle.job_picture.specs.JobPicture.{late_end, picture_rendering};
@@ -227,6 +228,11 @@ impl<P: Allocator, B: Allocator + Copy> Renderer for JobPicture<'_, '_, P, B> {
     }
 
     ghost adds_at_fault = { λ _ place cause. refl };
+
+    ghost rest_matters = { λ picture over. faults_matter
+        (drawn_from picture.wanted.selection picture.wanted.sentence.now
+        picture.machine picture.progress picture.is_started)
+        (λ place. refl) over };
 }
 
 /// Writes the pictures of pages of a job on a printer, from a panel that its profile allows: of one

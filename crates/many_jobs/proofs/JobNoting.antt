@@ -7,7 +7,7 @@ use Rattle.streams.specs.declared.error.Error.{Error}
 use Rattle.streams.specs.declared.error.Error.TheVariants.{Memory, Read, Write, Turns, NoProfile, Items}
 use Rattle.renderings.specs.declared.outcome.Outcome.{Outcome}
 use Rattle.renderings.specs.declared.outcome.Outcome.TheVariants.{Done as AllDone, Fail}
-use Rattle.renderings.specs.Due.{IsDue, Renders}
+use Rattle.renderings.specs.Due.{IsDue, Renders, TextNeedsReads, TextStaysOpen}
 use Rattle.streams.specs.Errors.{is_err_of_read, is_read}
 use Rattle.streams.specs.Outlet.{OutletState, Adds}
 use Rattle.streams.specs.Pieces.{ByReads}
@@ -43,8 +43,10 @@ module _ (write : Told → List ℕ) (printer : Printer) (panel : Panel) (first 
       text ≡ kept'.taken → AreRightNotes write printer job job' (Ok text)
   notes_had text rendered empty is = record {
     text = comes AllDone text rendered empty is;
+    needed = subst (λ (p : Panel). TextNeedsReads (notes_rendering write printer p) job job') first rendered.written.needed;
     error = tt;
     failed = λ failed. absurd (true≢false (sym failed ∙ rendered.read));
+    still_open = λ failed. absurd (true≢false (sym failed ∙ rendered.read));
     read = λ it. absurd (true≢false (sym (ap is_err_of_read it)));
   }
 
@@ -54,8 +56,10 @@ module _ (write : Told → List ℕ) (printer : Printer) (panel : Panel) (first 
       AreRightNotes write printer job job' (Err Read)
   notes_lost place profile reason rendered empty = record {
     text = tt;
+    needed = tt;
     error = tt;
     failed = λ failed. refl;
+    still_open = λ failed. absurd (true≢false (sym failed ∙ rendered.read));
     read =
         λ it. inr (
           kept'.taken,
@@ -70,15 +74,25 @@ module _ (write : Told → List ℕ) (printer : Printer) (panel : Panel) (first 
       AreRightNotes write printer job job' (Err error)
   stopped_by error is other read = record {
     text = tt;
+    needed = tt;
     error = is;
     failed = λ failed. absurd (true≢false (sym failed ∙ read));
+    still_open = λ failed. absurd (true≢false (sym failed ∙ read));
     read = λ it. absurd (true≢false (sym (ap is_err_of_read it) ∙ other));
   }
 
   pub notes_stopped : (error : Error) → Renders (notes_rendering write printer panel) job job' kept kept' (Err error) →
       AreRightNotes write printer job job' (Err (kept_error error))
   notes_stopped Memory rendered = stopped_by Memory tt refl rendered.read
-  notes_stopped Read rendered = record { text = tt; error = tt; failed = λ failed. refl; read = λ it. inl rendered.read }
+  notes_stopped Read rendered = record {
+    text = tt;
+    needed = tt;
+    error = tt;
+    failed = λ failed. refl;
+    still_open =
+        λ failed. subst (λ (p : Panel). TextStaysOpen (notes_rendering write printer p) job job') first (rendered.front.still_open failed);
+    read = λ it. inl rendered.read;
+  }
   notes_stopped Write rendered = stopped_by Memory tt refl rendered.read
   notes_stopped Turns rendered = stopped_by Turns tt refl rendered.read
   notes_stopped NoProfile rendered = absurd (rendered.never_no_profile refl)

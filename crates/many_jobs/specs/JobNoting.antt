@@ -6,7 +6,7 @@ use Rattle.streams.specs.declared.error.Error.{Error}
 use Rattle.streams.specs.declared.error.Error.TheVariants.{Memory, Read, Turns}
 use Rattle.renderings.specs.declared.outcome.Outcome.{Outcome}
 use Rattle.renderings.specs.declared.outcome.Outcome.TheVariants.{Done}
-use Rattle.renderings.specs.Due.{IsDue}
+use Rattle.renderings.specs.Due.{IsDue, TextNeedsReads, TextStaysOpen}
 use Rattle.streams.specs.Pieces.{ByReads}
 use Rattle.streams.specs.Source.{SourceState}
 use Rattle.verdict.specs.declared.verdict.Verdict.{Verdict}
@@ -54,13 +54,16 @@ abbrev pub IsAnother : (Told → List ℕ) → Printer → (start after : Source
 IsAnother write printer start after =
     (text : List ℕ) × (outcome : Outcome) × (outcome ≢ Done) × Comes write printer start after text outcome
 
--- The text is what is due, of a job that comes to its end.
--- An error is that of a read where one failed, and where the job was another.
+-- The text is what is due, of a job that comes to its end, and each read was needed.
+-- An error is that of a read where one failed, since what is due was still open, and where the job was another.
 pub record AreRightNotes (write : Told → List ℕ) (printer : Printer) (start after : SourceState)
     (notes : Result (List ℕ) Error) : Type 0 where
   pub text : IfOk notes (λ text. Comes write printer start after text Done)
+  pub needed : IfOk notes (λ text. TextNeedsReads (notes_rendering write printer (first_panel printer)) start after)
   pub error : IfErr notes IsErrorOfNotes
   pub failed : IsTrue after.failed → IsErrOf notes Read
+  pub still_open : IsTrue after.failed →
+      TextStaysOpen (notes_rendering write printer (first_panel printer)) start after
   pub read : IsErrOf notes Read → IsTrue after.failed ⊎ IsAnother write printer start after
 
 -- a job is read a second time just where there is a printer that notes are told for, and they are right

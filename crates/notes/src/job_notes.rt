@@ -3,6 +3,7 @@ ghost use Rattle.std.specs.Prelude.{◌≡◌, IfOk, IsFalse, OnOk, false, refl}
 ghost use Rattle.device_profile.specs.Printer.{IsAllowed};
 ghost use Rattle.notes.specs.Carriers.Rest.{WritesNotes, notes_from};
 ghost use Rattle.notes.specs.Notes.{long_run, noted_outcome, notes_at_end, notes_rendering};
+ghost use Rattle.renderings.specs.Carriers.Rests.{faults_matter};
 ghost use Rattle.renderings.specs.Due.{Renders};
 ghost use Rattle.renderings.specs.Outcomes.{fails_with};
 ghost use Rattle.verdict.specs.Failing.{found_at};
@@ -164,6 +165,11 @@ impl<N: NoteText, P: Allocator, B: Allocator + Copy> Renderer for Notes<'_, N, P
     }
 
     ghost adds_at_fault = { λ _ place cause. refl };
+
+    ghost rest_matters = { λ notes over. faults_matter
+        (notes_from (N.note_text notes.form.now) notes.machine notes.panel
+        notes.past notes.closing.closed notes.told.items)
+        (λ place. refl) over };
 }
 
 /// Writes the notes of a job on a printer from a panel that its profile allows, each in this form,

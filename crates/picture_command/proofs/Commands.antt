@@ -25,7 +25,8 @@ use Rattle.named_inputs.specs.Choices.{TellsOfChoice, TellsOfPin, choice_line, c
 use Rattle.streams.specs.Writing.{Writes}
 use Rattle.requests.specs.Status.{is_refusal, is_refused_choice, is_stop_of_read, is_stop_of_write}
 use Rattle.picture_command.specs.Picture.{Around, Draws, IsErrorOfSearch, IsUnsearched, IsUntouched, LeavesDrawn, LeavesOther}
-use Rattle.picture_command.specs.Picture.{LeavesPicture, LeavesPictureOf, LeavesSame, LeavesTold, TellsOutcome, TellsChange, status_of}
+use Rattle.picture_command.specs.Picture.{LeavesPicture, LeavesPictureOf, LeavesSame, LeavesTold, StopsSearch, TellsOutcome, TellsChange}
+use Rattle.picture_command.specs.Picture.{status_of}
 
 pub Stays-none : (a : OutletState) → Stays a a
 Stays-none a = record { taken = refl; contents = Keeps-refl a.contents }
@@ -38,7 +39,13 @@ pub kept_told : (rendering : Rendering) (job job' : SourceState) (kept kept' : O
 kept_told rendering job job' kept kept' outcome text rendered empty is =
     let due = rendered.written in
     let text_is : due.text ≡ text = sym (is ∙ (due.adds.taken ∙ ap (λ l. l ++ due.text) empty)) in
-    subst (λ (t : List ℕ). ByReads job job' (λ bytes. IsDue rendering bytes t outcome)) text_is due.due
+    (subst (λ (t : List ℕ). ByReads job job' (λ bytes. IsDue rendering bytes t outcome)) text_is due.due, due.needed)
+
+-- it was not gone through
+pub kept_stopped : (rendering : Rendering) (job job' : SourceState) (kept kept' : OutletState) (error : Error) →
+    Renders rendering job job' kept kept' (Err error) → StopsSearch rendering job job'
+kept_stopped rendering job job' kept kept' error rendered =
+    record { was_open = rendered.front.was_open; still_open = rendered.front.still_open }
 
 -- a write in memory fails for want of memory alone
 pub search_stops : (error : Error) → error ≢ NoProfile → error ≢ Items → IsErrorOfSearch (kept_error error)

@@ -1,3 +1,4 @@
 pub mod PageSearch
 pub mod Picture
 pub mod Carriers
+pub mod SearchedRests

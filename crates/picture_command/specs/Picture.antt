@@ -8,7 +8,7 @@ use Rattle.streams.specs.declared.error.Error.{Error}
 use Rattle.streams.specs.declared.error.Error.TheVariants.{Memory, Read, Turns, NoProfile, Items}
 use Rattle.renderings.specs.declared.outcome.Outcome.{Outcome}
 use Rattle.renderings.specs.declared.outcome.Outcome.TheVariants.{Done as AllDone, Fail as FailsOf}
-use Rattle.renderings.specs.Due.{Rendering, IsDue, WritesDue, WritesFront}
+use Rattle.renderings.specs.Due.{Rendering, IsDue, TextNeedsReads, TextStaysOpen, TextWasOpen, WritesDue, WritesFront}
 use Rattle.streams.specs.Writing.{Writes}
 use Rattle.streams.specs.Outlet.{OutletState, Stays}
 use Rattle.streams.specs.Pieces.{ByReads}
@@ -27,9 +27,15 @@ use Rattle.picture_command.specs.PageSearch.{search_rendering}
 
 -- ---- what the first reading tells
 
--- this text and this outcome are due of each job that may be by what the reads gave
+-- this text and this outcome are due of each job that may be by what the reads gave, of which each was needed
 abbrev pub TellsOutcome : Rendering → SourceState → SourceState → (text : List ℕ) → Outcome → Type 0
-TellsOutcome rendering job job' text outcome = ByReads job job' (λ bytes. IsDue rendering bytes text outcome)
+TellsOutcome rendering job job' text outcome =
+    ByReads job job' (λ bytes. IsDue rendering bytes text outcome) × TextNeedsReads rendering job job'
+
+-- it stopped: what is told was open before the last read, and where a read failed, it was open then
+pub record StopsSearch (rendering : Rendering) (job job' : SourceState) : Type 0 where
+  pub was_open : TextWasOpen rendering job job'
+  pub still_open : IsTrue job'.failed → TextStaysOpen rendering job job'
 
 -- the job does not have the page that is wanted alone: nothing fails on it, and yet something is told
 abbrev pub is_missing_of : DrawnPages → (text : List ℕ) → Outcome → Bool
@@ -146,7 +152,9 @@ pub record LeavesTold (status : Status) (printer : Printer) (panel : Panel) (sel
 -- where the first reading stopped nothing was drawn
 abbrev pub Draws : Status → Printer → Panel → Selection → (job : List ℕ) → (group : Groups) → Around → Type 0
 Draws (Stopped error) printer panel selection job group a =
-    (IsUndrawn a × Stays a.err a.err') ⊎ LeavesTold (Stopped error) printer panel selection job group a
+    (IsUndrawn a × Stays a.err a.err'
+    × StopsSearch (search_rendering printer panel selection job group) a.first a.first')
+    ⊎ LeavesTold (Stopped error) printer panel selection job group a
 Draws status printer panel selection job group a = LeavesTold status printer panel selection job group a
 
 -- for a printer with this fact and this name, which sentences name, from the panel that is chosen

@@ -9,7 +9,8 @@ ghost use Rattle.streams.specs.Source.{SourceState};
 ghost use Rattle.job_picture.specs.JobPicture.{picture_rendering};
 ghost use Rattle.picture_command.specs.PageSearch.{search_rendering};
 ghost use Rattle.picture_command.specs.Picture.{Draws, HasNoEnd, IsErrorOfSearch, IsNamedBy};
-ghost use Rattle.picture_command.specs.Picture.{LeavesDrawn, LeavesPicture, TellsOutcome};
+ghost use Rattle.picture_command.specs.Picture.{LeavesDrawn, LeavesPicture, StopsSearch};
+ghost use Rattle.picture_command.specs.Picture.{TellsOutcome};
 ghost use Rattle.picture_command.specs.Picture.{TellsChange, change_line, is_missing, status_of};
 ghost use Rattle.picture_command.specs.Picture.{without_line_end};
 
@@ -183,6 +184,10 @@ fn find<S: Source, A: Allocator + Copy>(
         (search_rendering drawn.now.profile.now drawn.now.panel drawn.now.selection
         drawn.now.names.job.now drawn.now.names.printers.now)
         (S.state job.old) (S.state job.new) found.text.items found.outcome) }
+    ensures stops { IfErr result (λ _. StopsSearch
+        (search_rendering drawn.now.profile.now drawn.now.panel drawn.now.selection
+        drawn.now.names.job.now drawn.now.names.printers.now)
+        (S.state job.old) (S.state job.new)) }
     ensures error { IfErr result IsErrorOfSearch }
     ensures read { (S.state job.new).failed ≡ is_err_of_read result }
     ensures turns { IsErrOf result Error.Turns → HasNoEnd (S.state job.old) (S.state job.new) }

@@ -8,6 +8,7 @@ ghost use Rattle.device_profile.specs.Printer.{IsAllowed};
 ghost use Rattle.job_reports.specs.JobSentences.{fails_at};
 ghost use Rattle.requests.specs.Selection.{is_behind};
 ghost use Rattle.picture_command.specs.Carriers.{Finishes, Keeps, Steps, search_from};
+ghost use Rattle.picture_command.specs.SearchedRests.{search_matters};
 ghost use Rattle.picture_command.specs.PageSearch.{drawn_line, found_at_failure, missing_line};
 ghost use Rattle.picture_command.specs.PageSearch.{missing_part, open_page, search_rendering};
 ghost use Rattle.picture_command.specs.PageSearch.{sentence, text_at_end};
@@ -294,4 +295,7 @@ impl<B: Allocator + Copy> Renderer for PageSearch<'_, '_, B> {
     }
 
     ghost adds_at_fault = { λ _ place cause. refl };
+
+    ghost rest_matters = { λ search over. search_matters search.selection search.names.now.job.now
+        search.names.now.printers.now search.machine search.counts over };
 }

@@ -3,5 +3,6 @@ mod PageRenderings
 pub mod PinSettings
 mod PinRenderings
 mod TextExamples
+mod OpenTexts
 mod WrittenTexts
 mod Rendered

@@ -4,3 +4,4 @@ pub mod Rendering
 pub mod Rendered
 pub mod PageRendering
 pub mod Rooms
+pub mod Rests

@@ -1,12 +1,12 @@
 -- What was written of a job, against the text that is due.
-use Rattle.std.specs.Prelude.{◌≡◌, ◌≢◌, ◌+◌, ◌^◌, ◌≤◌, ℕ, List, [], ◌++◌, length, flat_map, false, Result, IfOk, IfErr}
-use Rattle.std.specs.Prelude.{IsErrOf}
+use Rattle.std.specs.Prelude.{◌≡◌, ◌≢◌, ◌+◌, ◌^◌, ◌≤◌, ℕ, List, [], ◌∷◌, ◌++◌, length, flat_map, false, Result, IfOk}
+use Rattle.std.specs.Prelude.{IfErr, IsErrOf, IsTrue}
 use Rattle.std.specs.List.{concat}
 use Rattle.std.specs.Io.KnownBytes.{Consumes}
 use Rattle.pcl_items.specs.declared.fault.LexCause.{LexCause}
 use Rattle.pcl_items.specs.Items.{Placed}
 use Rattle.pcl_lexer.specs.Lexing.Meaning.{Decides, Undecided}
-use Rattle.pcl_lexer.specs.Reading.{Reading, Stopped, IsReading, items_of}
+use Rattle.pcl_lexer.specs.Reading.{Reading, Whole, Stopped, IsReading, items_of}
 use Rattle.device_profile.specs.declared.panel.Panel.{Panel}
 use Rattle.device_profile.specs.Printer.{Printer}
 use Rattle.line_words.specs.ItemLines.{fault_line}
@@ -33,14 +33,69 @@ IsDue rendering job text outcome =
     (reading : Reading) × IsReading job reading × (text ≡ rendering.text reading)
     × (outcome ≡ rendering.outcome reading)
 
+-- ---- how far a job is read
+
+-- these items stand before the rest
+abbrev pub behind : List Placed → Reading → Reading
+behind xs (Whole items place) = Whole (xs ++ items) place
+behind xs (Stopped items place cause) = Stopped (xs ++ items) place cause
+
+-- whatever the rest of a job is, the same is due of it
+abbrev pub IsOver : Rendering → Type 0
+IsOver rendering =
+    (one other : Reading) →
+    (rendering.text one ≡ rendering.text other) × (rendering.outcome one ≡ rendering.outcome other)
+
+-- the text ends at these items: whatever stands behind them, the same is due
+abbrev pub EndsText : Rendering → List Placed → Type 0
+EndsText rendering items =
+    (one other : Reading) →
+    (rendering.text (behind items one) ≡ rendering.text (behind items other))
+    × (rendering.outcome (behind items one) ≡ rendering.outcome (behind items other))
+
+-- What reads gave leaves the text open:
+-- it decides these items, none behind them and no fault, and the text does not end at them.
+pub record LeavesTextOpen (rendering : Rendering) (pieces : List (List ℕ)) : Type 0 where
+  pub bytes : List ℕ
+  pub spelled : Spell pieces bytes
+  pub items : List Placed
+  pub decided : Decides false bytes items
+  pub no_more : Undecided bytes items
+  pub goes_on : EndsText rendering items → ⊥
+
+-- Each read between old and new was needed:
+-- what those before the last one gave leaves the text open, and the last one gave at most 4096 bytes.
+pub record TextNeedsReads (rendering : Rendering) (old new : SourceState) : Type 0 where
+  pub before : List (List ℕ)
+  pub last : List ℕ
+  pub given : new.given ≡ old.given ++ (before ++ last ∷ [])
+  pub short : length last ≤ 4096
+  pub left_open : LeavesTextOpen rendering before
+
+-- what the reads between old and new gave, but for the last one or not even that, leaves the text open
+abbrev pub TextWasOpen : Rendering → SourceState → SourceState → Type 0
+TextWasOpen rendering old new =
+    (before : List (List ℕ)) × (last : List (List ℕ)) × (new.given ≡ old.given ++ (before ++ last)) × (length last ≤ 1)
+    × LeavesTextOpen rendering before
+
+-- what the reads between old and new gave leaves the text open
+abbrev pub TextStaysOpen : Rendering → SourceState → SourceState → Type 0
+TextStaysOpen rendering old new =
+    (pieces : List (List ℕ)) × (new.given ≡ old.given ++ pieces) × LeavesTextOpen rendering pieces
+
+-- ---- what was written
+
 -- A text was written, and nothing else, and of every job that may be by what the reads gave it is what is due.
+-- Each of them was needed.
 pub record WritesDue (rendering : Rendering) (source source' : SourceState)
     (outlet outlet' : OutletState) (outcome : Outcome) : Type 0 where
   pub text : List ℕ
   pub adds : Adds outlet outlet' text
   pub due : ByReads source source' (λ job. IsDue rendering job text outcome)
+  pub needed : TextNeedsReads rendering source source'
 
 -- Some front was written, and nothing else, of what is due for the bytes that the reads gave, taken as a whole job.
+-- Nothing was read once the text ended, and where a read failed, it was still open then.
 pub record WritesFront (rendering : Rendering) (source source' : SourceState)
     (outlet outlet' : OutletState) : Type 0 where
   pub pieces : List (List ℕ)
@@ -49,6 +104,8 @@ pub record WritesFront (rendering : Rendering) (source source' : SourceState)
   pub reading : Reading
   pub spelled : IsReading (concat pieces) reading
   pub front : AddsFront outlet outlet' (rendering.text reading)
+  pub was_open : TextWasOpen rendering source source'
+  pub still_open : IsTrue source'.failed → TextStaysOpen rendering source source'
 
 -- All that is due of the items was written, and nothing else, which the bytes that the reads gave decide:
 -- what is due of a job that stops behind them, but for what the fault itself adds. No read gave the end.
@@ -68,8 +125,9 @@ pub record WritesDecided (rendering : Rendering) (source source' : SourceState)
 
 -- What a call that writes a text of a job leaves, with this result. Of every job that may be by what
 -- the reads gave, the text was written that is due, and nothing else; after an error a front of what
--- is due for the bytes that were read, and after a failed read all that these bytes decide. A read or
--- a write has failed just where the error says so; `Turns` means 2^40 reads without an end.
+-- is due for the bytes that were read, and after a failed read all that these bytes decide. Nothing is
+-- read behind the item that ends the text. A read or a write has failed just where the error says so;
+-- `Turns` means 2^40 reads without an end.
 pub record Renders (rendering : Rendering) (source source' : SourceState)
     (outlet outlet' : OutletState) (result : Result Outcome Error) : Type 0 where
   pub written : IfOk result (WritesDue rendering source source' outlet outlet')

@@ -1,6 +1,7 @@
 //! Renders each item by itself.
 ghost use Rattle.std.specs.Prelude.{◌≡◌, ◌++◌, ℕ, List, OnOk, refl};
 ghost use Rattle.pcl_items.specs.Items.{Placed, at, view};
+ghost use Rattle.renderings.specs.Carriers.Rests.{faults_matter};
 ghost use Rattle.renderings.specs.Due.{item_by_item};
 
 use crate::outcome::Outcome;
@@ -66,4 +67,6 @@ impl<T: ItemText> Renderer for ItemByItem<T> {
     }
 
     ghost adds_at_fault = { λ _ place cause. refl };
+
+    ghost rest_matters = { λ _ over. faults_matter (item_by_item T.text) (λ place. refl) over };
 }

@@ -1,5 +1,6 @@
 //! The list of a job's items.
 ghost use Rattle.std.specs.Prelude.{IsFalse, refl};
+ghost use Rattle.renderings.specs.Carriers.Rests.{faults_matter};
 ghost use Rattle.renderings.specs.Due.{Renders, list_rendering};
 
 use crate::outcome::Outcome;
@@ -63,6 +64,8 @@ impl<B: Allocator> Renderer for Listing<B> {
     }
 
     ghost adds_at_fault = { λ _ place cause. refl };
+
+    ghost rest_matters = { λ _ over. faults_matter list_rendering (λ place. refl) over };
 }
 
 /// Writes a line for each item of a job, its place and its spelling, and for a fault of its bytes a

@@ -3,6 +3,7 @@ ghost use Rattle.std.specs.Prelude.{◌≡◌, IsFalse, false, refl};
 ghost use Rattle.device_profile.specs.Printer.{IsAllowed};
 ghost use Rattle.renderings.specs.Carriers.PageRendering.{pages_from, TakesLine, RefusesLine};
 ghost use Rattle.renderings.specs.Carriers.Rendering.{IsErrorOfRendering};
+ghost use Rattle.renderings.specs.Carriers.Rests.{faults_matter};
 ghost use Rattle.streams.specs.Writing.{PutsKept};
 ghost use Rattle.renderings.specs.Due.{Renders, pages_rendering};
 ghost use Rattle.streams.specs.Errors.{is_err_of_write, is_write};
@@ -144,6 +145,9 @@ impl<P: Allocator, B: Allocator + Copy> Renderer for Pages<'_, P, B> {
     }
 
     ghost adds_at_fault = { λ _ place cause. refl };
+
+    ghost rest_matters = { λ pages over. faults_matter (pages_from pages.machine pages.page)
+        (λ place. refl) over };
 }
 
 /// Writes the pages of a job on a printer from a panel that its profile allows: a line for each

@@ -12,6 +12,7 @@ ghost use Rattle.pcl_items.specs.Spellings.Canon.{canon};
 ghost use Rattle.pcl_items.specs.Items.{Parameterized, SymbolSet, simple_view, view};
 ghost use Rattle.pcl_items.specs.declared.pcl.command.Command.TheVariants.{FontWeight};
 ghost use Rattle.pcl_items.specs.Escapes.Value.{most};
+ghost use Rattle.renderings.specs.Carriers.Rests.{faults_matter};
 ghost use Rattle.renderings.specs.Due.{Renders};
 ghost use Rattle.renderings.specs.Pins.{pinned_item, pins_from, pinned_rendering};
 
@@ -267,6 +268,10 @@ impl Renderer for Pinning {
     }
 
     ghost adds_at_fault = { λ _ place cause. refl };
+
+    ghost rest_matters = { λ pinning over. faults_matter
+        (pins_from pinning.settings.panel pinning.settings.request pinning.is_due)
+        (λ place. refl) over };
 }
 
 /// Writes the items of a job, each in its canonical spelling, with commands that set all that a

@@ -8,7 +8,7 @@ ghost use Rattle.pcl_items.specs.Items.{at, view};
 ghost use Rattle.pcl_lexer.specs.Lexing.State.{WantsMore};
 ghost use Rattle.pcl_lexer.specs.Modes.{mode_of};
 ghost use Rattle.pcl_lexer.specs.Reading.{Whole, Stopped};
-ghost use Rattle.renderings.specs.Due.{Renders, Rendering};
+ghost use Rattle.renderings.specs.Due.{IsOver, Renders, Rendering};
 ghost use Rattle.streams.specs.Errors.{is_err_of_write};
 ghost use Rattle.streams.specs.Outlet.{OutletState};
 ghost use Rattle.renderings.specs.Carriers.Rendering.{MayCome, RenderedTo, Ended, StaysIn};
@@ -80,6 +80,9 @@ pub trait Renderer {
     ghost adds_at_fault: { (renderer : Self) (place : ℕ) (cause : LexCause) →
         (rendering renderer).text (Stopped [] place cause)
         ≡ (rendering renderer).at_fault [] place cause };
+
+    // Where a renderer goes on, what is due goes by what follows.
+    ghost rest_matters: { (renderer : Self) → IsOver (rendering renderer) → ⊥ };
 }
 
 /// Renders an item of any kind.

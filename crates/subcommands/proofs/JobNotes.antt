@@ -6,7 +6,7 @@ use Rattle.device_profile.specs.Printer.{Printer, first_panel}
 use Rattle.streams.specs.declared.error.Error.{Error}
 use Rattle.streams.specs.declared.error.Error.TheVariants.{Memory, Read, Write, Turns, NoProfile, Items}
 use Rattle.renderings.specs.declared.outcome.Outcome.{Outcome}
-use Rattle.renderings.specs.Due.{IsDue, Renders, WritesFront}
+use Rattle.renderings.specs.Due.{IsDue, Renders, TextNeedsReads, WritesFront}
 use Rattle.streams.specs.Errors.{is_read, is_write}
 use Rattle.streams.specs.Outlet.{OutletState, Adds}
 use Rattle.streams.specs.Pieces.{ByReads}
@@ -157,25 +157,39 @@ noted_of printer limited panel job job' kept kept' work is first rendered =
 module _ (IsPrinter : Printer → Type 0) (printer : Printer) (named : IsPrinter printer) (job job' : SourceState) where
   -- the job was gone through
   pub told_left : (status : Status) (text : List ℕ) (outcome : Outcome) (old new : OutletState) →
-      ByReads job job' (λ bytes. IsDue (noted note_line printer) bytes text outcome) →
+      ByReads job job' (λ bytes. IsDue (noted note_line printer) bytes text outcome) → TextNeedsReads (noted note_line printer) job job' →
       EndsNotes status (text ++ outcome_line outcome) old new →
       LeavesNotes status IsPrinter job job' old new
-  told_left Pass text outcome old new due ends = (printer, named, record { text = text; outcome = outcome; due = due; told = ends })
-  told_left Fail text outcome old new due ends = (printer, named, record { text = text; outcome = outcome; due = due; told = ends })
-  told_left (Stopped Memory) text outcome old new due ends =
-      inr (memory_known, memory_unlimited, printer, named, inr (record { text = text; outcome = outcome; due = due; told = ends }))
-  told_left (Stopped Write) text outcome old new due ends =
-      inr (write_known, write_unlimited, printer, named, inr (record { text = text; outcome = outcome; due = due; told = ends }))
-  told_left (Stopped Read) text outcome old new due ends = absurd ends
-  told_left (Stopped Turns) text outcome old new due ends = absurd ends
-  told_left (Stopped NoProfile) text outcome old new due ends = absurd ends
-  told_left (Stopped Items) text outcome old new due ends = absurd ends
-  told_left Help text outcome old new due ends = absurd ends
-  told_left Usage text outcome old new due ends = absurd ends
-  told_left (Overwrites input) text outcome old new due ends = absurd ends
-  told_left (NotAllowed choice) text outcome old new due ends = absurd ends
-  told_left (Told trouble) text outcome old new due ends = absurd ends
-  told_left (Profile number line cause) text outcome old new due ends = absurd ends
+  told_left Pass text outcome old new due needed ends =
+      (printer, named, record { text = text; outcome = outcome; due = due; needed = needed; told = ends })
+  told_left Fail text outcome old new due needed ends =
+      (printer, named, record { text = text; outcome = outcome; due = due; needed = needed; told = ends })
+  told_left (Stopped Memory) text outcome old new due needed ends =
+      inr (
+        memory_known,
+        memory_unlimited,
+        printer,
+        named,
+        inr (record { text = text; outcome = outcome; due = due; needed = needed; told = ends }),
+      )
+  told_left (Stopped Write) text outcome old new due needed ends =
+      inr (
+        write_known,
+        write_unlimited,
+        printer,
+        named,
+        inr (record { text = text; outcome = outcome; due = due; needed = needed; told = ends }),
+      )
+  told_left (Stopped Read) text outcome old new due needed ends = absurd ends
+  told_left (Stopped Turns) text outcome old new due needed ends = absurd ends
+  told_left (Stopped NoProfile) text outcome old new due needed ends = absurd ends
+  told_left (Stopped Items) text outcome old new due needed ends = absurd ends
+  told_left Help text outcome old new due needed ends = absurd ends
+  told_left Usage text outcome old new due needed ends = absurd ends
+  told_left (Overwrites input) text outcome old new due needed ends = absurd ends
+  told_left (NotAllowed choice) text outcome old new due needed ends = absurd ends
+  told_left (Told trouble) text outcome old new due needed ends = absurd ends
+  told_left (Profile number line cause) text outcome old new due needed ends = absurd ends
 
   -- work stopped before
   pub stopped_left : (error : Error) (kept kept' out : OutletState) → error ≢ NoProfile → error ≢ Items →
@@ -192,6 +206,8 @@ module _ (IsPrinter : Printer → Type 0) (printer : Printer) (named : IsPrinter
       reading = front.reading;
       spelled = front.spelled;
       front = ([], (noted note_line printer).text front.reading, refl, Adds-none out);
+      was_open = front.was_open;
+      still_open = front.still_open;
     }),
   )
 
@@ -204,7 +220,8 @@ module _ (IsPrinter : Printer → Type 0) (printer : Printer) (named : IsPrinter
   notes_left (Ok outcome) status kept kept' old new rendered empty ends stop =
       let due = rendered.written in
       let text_is : kept'.taken ≡ due.text = due.adds.taken ∙ ap (λ l. l ++ due.text) empty in
-      told_left status due.text outcome old new due.due (subst (λ t. EndsNotes status (t ++ outcome_line outcome) old new) text_is ends)
+      told_left status due.text outcome old new due.due due.needed
+      (subst (λ t. EndsNotes status (t ++ outcome_line outcome) old new) text_is ends)
   notes_left (Err error) status kept kept' old new rendered empty ends stop =
       subst (λ s. LeavesNotes s IsPrinter job job' old new) (sym stop.0)
       (subst (λ o. LeavesNotes (Stopped (kept_error error)) IsPrinter job job' old o) (sym stop.1)

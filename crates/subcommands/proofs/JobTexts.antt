@@ -1,16 +1,17 @@
 -- Lemmas on what is left of a text of a job.
 use Rattle.std.proofs.Common.{false, ◌≡◌, ◌≢◌, inl, inr, ℕ, Bool, List, [], Option, None, Some, Result, Ok, Err, IfErr, IfOk, refl, sym}
-use Rattle.std.proofs.Common.{◌∙◌, ap, subst, append-nil}
+use Rattle.std.proofs.Common.{◌∙◌, ap, arith, subst, append-nil}
 use Rattle.std.specs.Io.KnownBytes.{Consumes}
 use Rattle.pcl_items.specs.declared.item.Mode.TheVariants.{Pcl}
 use Rattle.pcl_lexer.specs.Grammar.{here}
-use Rattle.pcl_lexer.specs.Reading.{IsReading, Whole}
+use Rattle.pcl_lexer.specs.Reading.{IsReading, Whole, items_of}
 use Rattle.device_profile.specs.Printer.{Printer}
 use Rattle.streams.specs.declared.error.Error.{Error}
 use Rattle.streams.specs.declared.error.Error.TheVariants.{Memory, Read, Write, Turns, NoProfile, Items}
 use Rattle.renderings.specs.declared.outcome.Outcome.{Outcome}
 use Rattle.renderings.specs.declared.outcome.Outcome.TheVariants.{Done, Fail as FailsOf}
-use Rattle.renderings.specs.Due.{Rendering, Renders, WritesDue, WritesFront}
+use Rattle.renderings.specs.Due.{Rendering, IsOver, LeavesTextOpen, Renders, WritesDue, WritesFront}
+use Rattle.renderings.proofs.Renderings.{behind_none, nothing_decided}
 use Rattle.std.specs.Prelude.{IsFalse, OnOk, ◌||◌}
 use Rattle.std.proofs.Math.Bool.{or-false}
 use Rattle.streams.specs.Errors.{is_err_of_write}
@@ -38,16 +39,35 @@ Consumes-nothing (Some xs) = refl
 Adds-nothing : (a : OutletState) (failed : Bool) → Adds a (record a { failed = failed }) []
 Adds-nothing a failed = record { taken = sym (append-nil a.taken); contents = Appends-nil a.contents }
 
+-- no bytes leave a text open that some job has
+nothing_told : (rendering : Rendering) → (IsOver rendering → ⊥) → LeavesTextOpen rendering []
+nothing_told rendering matters = record {
+  bytes = [];
+  spelled = record { leads = λ later job may. (job, refl, may); led = λ later more may. may };
+  items = [];
+  decided = λ job reading may is. (items_of reading, refl);
+  no_more = nothing_decided;
+  goes_on =
+      λ ends. matters
+      (λ one other. let same = ends one other in (
+        sym (ap rendering.text (behind_none one)) ∙ (same.0 ∙ ap rendering.text (behind_none other)),
+        sym (ap rendering.outcome (behind_none one)) ∙ (same.1 ∙ ap rendering.outcome (behind_none other)),
+      ));
+}
+
 -- of a job of which nothing was read nothing need stand there, whatever has failed
-nothing_written : (rendering : Rendering) (job : SourceState) (a : OutletState) (read_failed write_failed : Bool) →
+nothing_written : (rendering : Rendering) → (IsOver rendering → ⊥) → (job : SourceState) (a : OutletState)
+    (read_failed write_failed : Bool) →
     WritesFront rendering job (record job { failed = read_failed }) a (record a { failed = write_failed })
-nothing_written rendering job a read_failed write_failed = record {
+nothing_written rendering matters job a read_failed write_failed = record {
   pieces = [];
   given_is = sym (append-nil job.given);
   consumed = Consumes-nothing job.remaining;
   reading = Whole [] 0;
   spelled = nothing_spelled;
   front = ([], rendering.text (Whole [] 0), refl, Adds-nothing a write_failed);
+  was_open = ([], [], sym (append-nil job.given), omega arith, nothing_told rendering matters);
+  still_open = λ failed. ([], sym (append-nil job.given), nothing_told rendering matters);
 }
 
 -- work on the job stopped
@@ -132,36 +152,36 @@ sound_beside (Ok outcome) failed sound = sound
 sound_beside (Err error) failed sound = tt
 
 -- the job could not be opened or OUT not be created, for want of memory too, or OUT is a file that is read
-at_opening : (status : Status) (rendering : Rendering) (job : SourceState) (read_failed : Bool) (old : OutletState) (write_failed : Bool)
-    (start : OutletState) → IsEndOfOpening status →
+at_opening : (status : Status) (rendering : Rendering) → (IsOver rendering → ⊥) → (job : SourceState) (read_failed : Bool)
+    (old : OutletState) (write_failed : Bool) (start : OutletState) → IsEndOfOpening status →
     LeavesOut status rendering job (record job { failed = read_failed }) old (record old { failed = write_failed }) start start
-at_opening (Overwrites input) rendering job read_failed old write_failed start end =
+at_opening (Overwrites input) rendering matters job read_failed old write_failed start end =
     ((refl, record { taken = refl; contents = Keeps-refl old.contents }), Stays-none start)
-at_opening (Stopped Memory) rendering job read_failed old write_failed start end =
-    inl (nothing_written rendering job old read_failed write_failed, Stays-none start)
-at_opening (Stopped Read) rendering job read_failed old write_failed start end =
-    (nothing_written rendering job old read_failed write_failed, Stays-none start)
-at_opening (Stopped Write) rendering job read_failed old write_failed start end =
-    inl (nothing_written rendering job old read_failed write_failed, Stays-none start)
-at_opening (Stopped Turns) rendering job read_failed old write_failed start end = absurd end
-at_opening (Stopped NoProfile) rendering job read_failed old write_failed start end = absurd end
-at_opening (Stopped Items) rendering job read_failed old write_failed start end = absurd end
-at_opening Pass rendering job read_failed old write_failed start end = absurd end
-at_opening Fail rendering job read_failed old write_failed start end = absurd end
-at_opening Help rendering job read_failed old write_failed start end = absurd end
-at_opening Usage rendering job read_failed old write_failed start end = absurd end
-at_opening (NotAllowed choice) rendering job read_failed old write_failed start end = absurd end
-at_opening (Told trouble) rendering job read_failed old write_failed start end = absurd end
-at_opening (Profile number line cause) rendering job read_failed old write_failed start end = absurd end
+at_opening (Stopped Memory) rendering matters job read_failed old write_failed start end =
+    inl (nothing_written rendering matters job old read_failed write_failed, Stays-none start)
+at_opening (Stopped Read) rendering matters job read_failed old write_failed start end =
+    (nothing_written rendering matters job old read_failed write_failed, Stays-none start)
+at_opening (Stopped Write) rendering matters job read_failed old write_failed start end =
+    inl (nothing_written rendering matters job old read_failed write_failed, Stays-none start)
+at_opening (Stopped Turns) rendering matters job read_failed old write_failed start end = absurd end
+at_opening (Stopped NoProfile) rendering matters job read_failed old write_failed start end = absurd end
+at_opening (Stopped Items) rendering matters job read_failed old write_failed start end = absurd end
+at_opening Pass rendering matters job read_failed old write_failed start end = absurd end
+at_opening Fail rendering matters job read_failed old write_failed start end = absurd end
+at_opening Help rendering matters job read_failed old write_failed start end = absurd end
+at_opening Usage rendering matters job read_failed old write_failed start end = absurd end
+at_opening (NotAllowed choice) rendering matters job read_failed old write_failed start end = absurd end
+at_opening (Told trouble) rendering matters job read_failed old write_failed start end = absurd end
+at_opening (Profile number line cause) rendering matters job read_failed old write_failed start end = absurd end
 
-pub opening_left : (status : Status) (rendering : Rendering) (job job' : SourceState) (read_failed : Bool) (old new : OutletState)
-    (write_failed : Bool) (start : OutletState) → IsEndOfOpening status →
+pub opening_left : (status : Status) (rendering : Rendering) → (IsOver rendering → ⊥) → (job job' : SourceState) (read_failed : Bool)
+    (old new : OutletState) (write_failed : Bool) (start : OutletState) → IsEndOfOpening status →
     job' ≡ record job { failed = read_failed } → new ≡ record old { failed = write_failed } →
     LeavesOut status rendering job job' old new start start
-opening_left status rendering job job' read_failed old new write_failed start end opened created =
+opening_left status rendering matters job job' read_failed old new write_failed start end opened created =
     subst (λ s. LeavesOut status rendering job s old new start start) (sym opened)
     (subst (λ o. LeavesOut status rendering job (record job { failed = read_failed }) old o start start) (sym created)
-    (at_opening status rendering job read_failed old write_failed start end))
+    (at_opening status rendering matters job read_failed old write_failed start end))
 
 -- what is rendered from a source that was opened, to an outlet that was created, is rendered from and to these as they were
 pub rendered_from : (rendering : Rendering) (job ready job' : SourceState) (old created new : OutletState) (work : Result Outcome Error) →

@@ -4,7 +4,7 @@ use Rattle.device_profile.specs.Printer.{Printer, first_panel}
 use Rattle.streams.specs.declared.error.Error.TheVariants.{Memory, Write, NoProfile, Items}
 use Rattle.renderings.specs.declared.outcome.Outcome.{Outcome}
 use Rattle.renderings.specs.declared.outcome.Outcome.TheVariants.{Done, Fail as FailsOf}
-use Rattle.renderings.specs.Due.{Rendering, IsDue, WritesFront}
+use Rattle.renderings.specs.Due.{Rendering, IsDue, TextNeedsReads, WritesFront}
 use Rattle.streams.specs.Outlet.{OutletState, Adds, AddsFront}
 use Rattle.streams.specs.Pieces.{ByReads}
 use Rattle.streams.specs.Source.{SourceState}
@@ -30,12 +30,13 @@ abbrev pub status_of_text : List ℕ → Status
 status_of_text [] = Pass
 status_of_text (byte ∷ bytes) = Fail
 
--- A text and an outcome, of every job that may be by what the reads gave;
+-- A text and an outcome, of every job that may be by what the reads gave, of which each was needed;
 -- and of it with the line of the outcome this holds.
 pub record TellsDue (rendering : Rendering) (job job' : SourceState) (P : List ℕ → Type 0) : Type 0 where
   pub text : List ℕ
   pub outcome : Outcome
   pub due : ByReads job job' (λ bytes. IsDue rendering bytes text outcome)
+  pub needed : TextNeedsReads rendering job job'
   pub told : P (text ++ outcome_line outcome)
 
 -- all of it was written, and the status says whether that is something

@@ -4,7 +4,7 @@ use Rattle.pcl_items.specs.declared.fault.LexCause.{LexCause}
 use Rattle.pcl_items.specs.declared.item.Mode.{Mode}
 use Rattle.pcl_items.specs.Modes.{follows}
 use Rattle.pcl_items.specs.Items.{Entry, Placed}
-use Rattle.pcl_lexer.specs.Reading.{Reading, Whole, Stopped, IsReading, with_item}
+use Rattle.pcl_lexer.specs.Reading.{Reading, IsReading, with_item}
 use Rattle.pcl_lexer.specs.Lexing.State.{LexerState}
 use Rattle.pcl_lexer.specs.Lexing.Meaning.{HasRead, MayBe, Undecided}
 use Rattle.streams.specs.declared.error.Error.{Error}
@@ -12,7 +12,7 @@ use Rattle.streams.specs.declared.error.Error.TheVariants.{Memory, Read, Write, 
 use Rattle.renderings.specs.declared.outcome.Outcome.{Outcome}
 use Rattle.streams.specs.Outlet.{OutletState, Adds, AddsFront}
 use Rattle.streams.specs.Writing.{Puts}
-use Rattle.renderings.specs.Due.{Rendering, IsDue}
+use Rattle.renderings.specs.Due.{Rendering, IsDue, behind}
 
 -- ---- one item, or what comes behind the last
 
@@ -66,11 +66,6 @@ StaysIn is_in old new item (Ok (Some outcome)) = Unit {0}
 StaysIn is_in old new item (Err e) = Unit {0}
 
 -- ---- the items of a job
-
--- these items stand before the rest
-abbrev pub behind : List Placed → Reading → Reading
-behind xs (Whole items place) = Whole (xs ++ items) place
-behind xs (Stopped items place cause) = Stopped (xs ++ items) place cause
 
 -- So far the items that were read of the bytes were rendered:
 -- this was put, and the rest of the job is rendered from there.

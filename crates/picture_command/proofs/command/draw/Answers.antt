@@ -6,7 +6,7 @@ use Rattle.picture_command.proofs.Commands.{Stays-none, draws_told, search_write
 use Rattle.picture_command.proofs.command.draw.Goals as goal
 
 pub returns-in-Err-clause-left : goal.returns-in-Err-clause-left
-returns-in-Err-clause-left g c = inl ((refl, Stays-none _), Stays-none _)
+returns-in-Err-clause-left g c = inl ((refl, Stays-none _), Stays-none _, c.in-Err.ensures.stops)
 
 pub returns-in-Err-clause-read : goal.returns-in-Err-clause-read
 returns-in-Err-clause-read g c =

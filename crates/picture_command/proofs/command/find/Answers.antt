@@ -4,7 +4,7 @@ use Rattle.renderings.specs.Due.{Renders}
 use Rattle.streams.specs.Errors.{is_read}
 use Rattle.picture_command.specs.PageSearch.{search_rendering}
 use Rattle.picture_command.specs.Picture.{IsErrorOfSearch}
-use Rattle.picture_command.proofs.Commands.{kept_read, kept_told, kept_turns, search_stops}
+use Rattle.picture_command.proofs.Commands.{kept_read, kept_stopped, kept_told, kept_turns, search_stops}
 use Rattle.picture_command.proofs.command.find.Goals as goal
 
 pub returns-in-Ok-clause-told : goal.returns-in-Ok-clause-told
@@ -17,6 +17,16 @@ returns-in-Ok-clause-told g c =
     (subst (λ rendering. Renders rendering job job' c.new-text.result c.render_job.new.writer (Ok c.in-Ok.outcome))
     c.new-search.ensures.rendering c.in-Ok.ensures)
     c.new-text.ensures.bytes c.into_bytes.ensures
+
+pub returns-clause-stops : goal.returns-clause-stops
+returns-clause-stops g c =
+    let drawn = c.args.drawn.now in
+    let job = g.S.Source.state c.args.job.now in
+    let job' = g.S.Source.state c.render_job.new.reader in
+    kept_stopped (search_rendering drawn.profile.now drawn.panel drawn.selection drawn.names.job.now drawn.names.printers.now) job job'
+    c.new-text.result c.render_job.new.writer c.in-Err.error
+    (subst (λ rendering. Renders rendering job job' c.new-text.result c.render_job.new.writer (Err c.in-Err.error))
+    c.new-search.ensures.rendering c.in-Err.ensures)
 
 pub returns-in-Ok-clause-read : goal.returns-in-Ok-clause-read
 returns-in-Ok-clause-read g c = c.in-Ok.ensures.read

@@ -1,6 +1,7 @@
 use Rattle.std.proofs.Common.{◌≡◌, ◌||◌, ◌∙◌, false, refl, ap, sym, subst, true≢false}
 use Rattle.std.proofs.Math.Bool.{or-false}
 use Rattle.streams.specs.Outlet.{OutletState}
+use Rattle.renderings.specs.Carriers.Rests.{faults_matter}
 use Rattle.renderings.specs.Pins.{pinned_rendering}
 use Rattle.streams.specs.Source.{SourceState}
 use Rattle.named_inputs.specs.Choices.{TellsOfPin}
@@ -58,8 +59,8 @@ returns-in-Err-open_and_create-clause-ends g c =
         panel,
         (c.in-Ok.ensures.profile, c.in-Ok.ensures.given),
         sym c.in-Ok-chosen_panel.ensures.value,
-        opening_left status
-            (pinned_rendering printer panel) _ _ _ _ _ _ _ c.in-Err-open_and_create.ensures.err opening.source opening.outlet,
+        opening_left status (pinned_rendering printer panel) (faults_matter (pinned_rendering printer panel) (λ place. refl)) _ _ _ _ _ _ _
+            c.in-Err-open_and_create.ensures.err opening.source opening.outlet,
       );
       read =
           ap (λ failed. (g.S.Source.state c.open_and_create.new.job).failed || failed)

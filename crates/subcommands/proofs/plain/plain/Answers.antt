@@ -1,5 +1,6 @@
-use Rattle.std.proofs.Common.{◌||◌, ◌∙◌, ap, sym, subst}
+use Rattle.std.proofs.Common.{◌||◌, ◌∙◌, ap, refl, sym, subst}
 use Rattle.std.proofs.Math.Bool.{or-false}
+use Rattle.renderings.specs.Carriers.Rests.{faults_matter}
 use Rattle.renderings.specs.Due.{plain_rendering}
 use Rattle.streams.specs.Outlet.{OutletState}
 use Rattle.streams.specs.Source.{SourceState}
@@ -14,7 +15,9 @@ pub returns-in-Err-clause-ends : goal.returns-in-Err-clause-ends
 returns-in-Err-clause-ends g c =
     let opening = c.open_and_create.ensures in
     record {
-      left = opening_left c.in-Err.status plain_rendering _ _ _ _ _ _ _ c.in-Err.ensures.err opening.source opening.outlet;
+      left =
+          opening_left c.in-Err.status plain_rendering (faults_matter plain_rendering (λ place. refl)) _ _ _ _ _ _ _
+          c.in-Err.ensures.err opening.source opening.outlet;
       read = ap (λ (s : SourceState). s.failed) opening.source ∙ ap is_err_at_read c.in-Err.is;
       write =
           ap (λ failed. (g.W.Outlet.state c.open_and_create.new.out).failed || failed) c.requires.stdout
