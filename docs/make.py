@@ -5,9 +5,10 @@
 
 A generated part stands between the lines `<!-- made: NAME -->` and `<!-- end -->`, in the manual
 page `.\\" made: NAME` and `.\\" end`. Its text is what the maker NAME of a module docs/make_*.py
-gives of the tree. Parts that are read from the program are left as they are without PROGRAM; their
-makers give None then. With --check nothing is written, and what differs first is told. The status
-is 1 where something differs, where a part has no maker, or where a maker's part stands nowhere.
+gives of the tree. Parts that are read from the program are left as they are without PROGRAM, and
+that of the toolchain where there is no rt; their makers give None then, and how many did is told.
+With --check nothing is written, and what differs first is told. The status is 1 where something
+differs, where a part has no maker, or where a maker's part stands nowhere.
 """
 
 import importlib
@@ -46,9 +47,9 @@ def documents() -> Iterator[tuple[Path, str]]:
             yield path, text
 
 
-def written(text: str, tree: Tree, known: dict[str, Maker]) -> tuple[str, set[str]]:
-    """A document with its parts as they are made, and the names of these."""
-    names = set()
+def written(text: str, tree: Tree, known: dict[str, Maker]) -> tuple[str, set[str], set[str]]:
+    """A document with its parts as they are made, the names of these, and of those left unmade."""
+    names, unmade = set(), set()
 
     def made(part: re.Match[str]) -> str:
         begin, name, name_of_page, stands, end = part.groups()
@@ -57,10 +58,12 @@ def written(text: str, tree: Tree, known: dict[str, Maker]) -> tuple[str, set[st
         if name not in known:
             raise Unreadable(f"no maker has the name `{name}`")
         text_due = known[name](tree)
+        if text_due is None:
+            unmade.add(name)
         body = stands if text_due is None else text_due.strip("\n") + "\n"
         return f"{begin}\n{body}{end}"
 
-    return PART.sub(made, text), names
+    return PART.sub(made, text), names, unmade
 
 
 def first_difference(name: str, old: str, new: str) -> str:
@@ -79,12 +82,13 @@ def main(words: list[str]) -> int:
         print(__doc__.strip(), file=sys.stderr)
         return 2
     tree = Tree(ROOT, Path(paths[0]).resolve() if paths else None)
-    known, placed, count = makers(), set(), 0
+    known, placed, count, left = makers(), set(), 0, 0
     try:
         for path, text in documents():
-            new, names = written(text, tree, known)
+            new, names, unmade = written(text, tree, known)
             placed |= names
-            count += len(names)
+            count += len(names) - len(unmade)
+            left += len(unmade)
             if new != text and "--check" in words:
                 print(first_difference(str(path.relative_to(ROOT)), text, new))
                 return 1
@@ -96,7 +100,8 @@ def main(words: list[str]) -> int:
         return 1
     for name in sorted(set(known) - placed):
         print(f"make: the part `{name}` stands in no document")
-    print(f"make: {count} parts are as they are made")
+    behind = f", {left} were not made: they need PROGRAM, or rt" if left else ""
+    print(f"make: {count} parts are as they are made{behind}")
     return 1 if set(known) - placed else 0
 
 
