@@ -9,9 +9,9 @@ that always holds, and the answers that proved it are left out, with those that 
 edit is made, and of what the prover refuses the goals of the edited function count; what refuses
 those that call it does not. So an edit that proves now was refused by that clause alone.
 
-What came of each edit is written into edit_outcomes.txt, a line an edit; `docs/make.py` makes the
-table in PROOFS.md of the two files. The status is 1 where the edits, edit_clauses.txt and the
-sources differ, or where an edit could not be tried.
+What came of each edit is written into edit_outcomes.txt, a line an edit; `docs/make.py` makes of
+the two files what PROOFS.md tells of them. The status is 1 where the edits, edit_clauses.txt and
+the sources differ, or where an edit could not be tried.
 """
 
 import argparse

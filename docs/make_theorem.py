@@ -1,6 +1,6 @@
 """Makes what PROOFS and BELIEVE print of the theorem: the contract of `check_job`, the definitions
 to which it unfolds, those where it stops, the spec files below it, the release of the toolchain,
-and the table of edits with their clauses.
+and how many edits there are and what came of them.
 """
 
 import re
@@ -41,6 +41,7 @@ PLAIN = """
 IsNumbered AreAllowed events_by_item events_before events_behind runs_of runs_from failure_of
 of_each first_run watched_items soonest fault_at capped finding_of row_at bounds_of
 """.split()
+DECLARED_TYPE = re.compile(r"(?ms)^(?:pub(?:\(crate\))? )?(?:struct|enum) \w+.*?(?:^\}|;$)")
 # Of a file with fewer lines to read no sentence is told.
 FEW = 7
 CLAUSES = "docs/edit_clauses.txt"
@@ -188,14 +189,24 @@ def files_of_texts(tree: Tree) -> str:
     return f"{', '.join(links)}: {lines_of(own)} lines."
 
 
+def lines_declared(text: str) -> list[int]:
+    """The lines of each struct and each enum that a source declares, without comments."""
+    found = [it[0].split("\n") for it in DECLARED_TYPE.finditer(text)]
+    return [sum(1 for line in lines if not line.strip().startswith("//")) for lines in found]
+
+
 def count_to_believe(tree: Tree) -> str:
-    """How much that is, beside all spec files."""
+    """How much that is, beside all spec files, with the types that it names and names of std."""
     specs = specs_of(tree)
     found = below_theorem(specs)
+    sources = specs.sources_of_types(found)
+    types = [count for path in sources for count in lines_declared(tree.text(path))]
     whole = lines_of(it for file in specs.files.values() for it in file.definitions.values())
     files = len({it.path for it in found})
     return (f"The theorem stands on {lines_of(found):,} lines of definitions in {files} spec "
-            f"files, of {whole:,} in {len(specs.files)}.")
+            f"files, of {whole:,} in {len(specs.files)}; on the types of {len(sources)} sources "
+            f"({len(types)} structs and enums, {sum(types)} lines); and on "
+            f"{len(specs.names_of_std(found))} names of std, besides operators.")
 
 
 def types_to_believe(tree: Tree) -> str:
@@ -222,17 +233,6 @@ def toolchain(tree: Tree) -> Optional[str]:
 # ---- edits and their clauses
 
 
-def told_clause(words: str) -> str:
-    """What stands behind a name in the list of edits, FILE FUNCTION CLAUSE .., for a reader."""
-    file, function, *names = words.split()
-    below = file.rpartition(":")[0]
-    said = [f"{below}/{function}" if below else function]
-    if names not in (["ensures"], ["ensures*"]):
-        said[0] += ":"
-        said += names
-    return f"`{' '.join(said)}`"
-
-
 def lines_by_edit(text: str) -> Iterator[tuple[str, str]]:
     """The lines of a list of edits, CRATE/EDIT: .., without comments."""
     for line in text.splitlines():
@@ -242,21 +242,21 @@ def lines_by_edit(text: str) -> Iterator[tuple[str, str]]:
 
 
 def edits(tree: Tree) -> str:
-    """A row a crate: its edits, and behind each its clauses and what came of it without them."""
-    came = {}
-    if (tree.root / CAME).is_file():
-        came = dict(lines_by_edit(tree.text(CAME)))
+    """How many edits there are, and what came of those that were tried without their clauses."""
     known = dict(lines_by_edit(tree.text(CLAUSES)))
-    rows = ["Crate | Edits, with their clauses", "---|---"]
-    for crate, group in groupby(sorted(known), key=lambda it: it.partition("/")[0]):
-        cells = []
-        for edit in group:
-            clauses = ", ".join(map(told_clause, known[edit].split(";")))
-            behind = f", {came[edit]}" if edit in came else ""
-            cells.append(f"`{edit.partition('/')[2]}` ({clauses}{behind})")
-        rows.append(f"`{crate}` | {', '.join(cells)}")
-    tried = len(known.keys() & came.keys())
-    return "\n".join([*rows, "", f"{tried} of {len(known)} were tried without their clause."])
+    crates = {edit.partition("/")[0] for edit in known}
+    head = (f"[edit_clauses.txt](edit_clauses.txt) has {len(known)} edits of {len(crates)} crates, "
+            "each with its file, function and clause.")
+    if not (tree.root / CAME).is_file():
+        return f"{head} What comes of them without their clause is to be tried."
+    came = {edit: said for edit, said in lines_by_edit(tree.text(CAME)) if edit in known}
+    counts = [sum(said.startswith(word) for said in came.values())
+              for word in ("proves", "refused by", "not taken away")]
+    proved, refused, kept = counts
+    told = (f"Without its clause {proved} prove, {refused} are refused still; of {kept} it was not "
+            f"taken away, and {len(known) - sum(counts)} are not tried yet: "
+            "[edit_outcomes.txt](edit_outcomes.txt) has what came of each.")
+    return f"{head} {told}"
 
 
 MAKERS = {

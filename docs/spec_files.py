@@ -14,6 +14,7 @@ CONSTRUCTOR = re.compile(r"  (?:pub )?(\w+) :")
 # What a file takes from another: single names, or the file itself under a name.
 USE = re.compile(r"^(?:pub )?use (\S+?)(?:\.\{([^}]*)\})?(?: as (\w+))?$", re.MULTILINE)
 WORD = re.compile(r"[^\s(){};,→×λ⊎]+")
+STD = "Rattle.std."
 # A type of a source, CRATE.specs.declared.FILE.TYPE, or what is within it.
 DECLARED = re.compile(r"Rattle\.(\w+)\.specs\.declared\.([\w.]+?)\.\w+(?:\.The\w+)?")
 
@@ -170,6 +171,15 @@ class Specs:
                 found.add(file.names.get(front, ("",))[0] or file.modules.get(front, ""))
         declared = filter(None, map(DECLARED.fullmatch, found))
         return {f"crates/{at[1]}/src/{at[2].replace('.', '/')}.rt" for at in declared}
+
+    def names_of_std(self, definitions: Iterable[Definition]) -> set[str]:
+        """The names that these definitions take from std."""
+        found = set()
+        for it in definitions:
+            names = self.files[module_of(it.path)].names
+            used = {word.partition(".")[0] for word in WORD.findall(it.text())} & names.keys()
+            found |= {names[word][1] for word in used if names[word][0].startswith(STD)}
+        return found
 
 
 def lines_of(definitions: Iterable[Definition]) -> int:
