@@ -30,11 +30,13 @@ PARTS = {
         ("preflight/Wrong", "first_wrong all_wrong findings_in differences_in")),
     "theorem: open": (("preflight/Verdict", "NeedsEachRead LeavesOpen"),),
 }
-# What the clauses of `check_job` name, what a profile and a source stand for in them, and the
-# printer that a text describes.
+# What the clauses of `check_job` name, what a profile, its lists and its faces, and a source stand
+# for in them, and the printer that a text describes.
 ROOTS = (("preflight/Verdict", "VerdictHolds IsExact NeedsEachRead StaysOpen WasOpen"),
          ("streams/Pieces", "ByReads"), ("streams/Source", "Reads"),
-         ("device_profile/Fields", "printer_of"))
+         ("device_profile/Fields", "printer_of"),
+         ("device_profile/ChoiceFields", "choices_of_fields"),
+         ("device_profile/FaceFields", "face_of"))
 ROOT_OF_TEXTS = ("device_profile/Text", "printer_of_text")
 # Where it stops, and the name says enough.
 PLAIN = """
