@@ -22,6 +22,7 @@ define INSTALLED
 644 examples/* $(DOCUMENTS)/examples
 644 README.md CHANGELOG.md CONTRIBUTING.md $(DOCUMENTS)
 644 docs/*.md $(DOCUMENTS)/docs
+644 docs/pictures/*.svg $(DOCUMENTS)/docs/pictures
 644 bench/RESULTS.md $(DOCUMENTS)/bench
 644 contrib/README.md $(DOCUMENTS)/contrib
 644 contrib/cups/README.md contrib/cups/pclgate $(DOCUMENTS)/contrib/cups
@@ -69,8 +70,8 @@ uninstall:
 	@$(call each,rm -f "$$place")
 	@for folder in $(DOCUMENTS)/contrib/cups $(DOCUMENTS)/contrib/hotfolder \
 		$(DOCUMENTS)/contrib/parallel $(DOCUMENTS)/contrib $(DOCUMENTS)/bench \
-		$(DOCUMENTS)/examples $(DOCUMENTS)/docs $(DOCUMENTS) $(SHARE)/pclcheck/profiles \
-		$(SHARE)/pclcheck; do \
+		$(DOCUMENTS)/examples $(DOCUMENTS)/docs/pictures $(DOCUMENTS)/docs $(DOCUMENTS) \
+		$(SHARE)/pclcheck/profiles $(SHARE)/pclcheck; do \
 		place="$$DESTDIR$$folder"; \
 		if [ -d "$$place" ]; then rmdir --ignore-fail-on-non-empty "$$place"; fi; \
 	done

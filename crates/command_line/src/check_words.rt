@@ -41,7 +41,8 @@ pub const EXPLANATION: &str = "Examples:
   pclcheck check -f shop.fleet --exit-zero a.pcl b.pcl
       for a script that reads the lines: a status other than 0 says that a verdict is missing
   pclcheck check -f shop.fleet --unchecked pass a.pcl b.pcl
-      a job that pclcheck cannot judge counts as 0: printers may take what it does not check
+      a job that pclcheck cannot judge counts as 0: printers may take what it does not check, and
+      what stands behind that place is not looked at
   pclcheck check -f shop.fleet --most-items 1000000 a.pcl b.pcl
       a job is given up whose macros would carry out more items, so that none holds a queue
   find . -name '*.pcl' -print0 | pclcheck check -f shop.fleet --files0-from -
@@ -55,13 +56,13 @@ Output of check, one line:
                                'pclcheck explain NUMBER' tells what it means
 
   at=       the number of bytes before the command
-  profile=  the printer's number among the words, from 1;
-            0: the bytes themselves are wrong, whatever the printer
+  profile=  the number among the words of the printer for which it was found, from 1;
+            0: the bytes alone tell it
 
 With -p, -f, --allow-empty, --most-items, --each, --notes, --format, --explain, --exit-zero or
 --unchecked, a line for each job, in the order of the words:
   PASS pages=N marks=N JOB
-  FAIL at=N printer=NAME FINDING JOB  NAME by its profile; no printer= where the bytes are wrong
+  FAIL at=N printer=NAME FINDING JOB  NAME by its profile; no printer= where the bytes alone tell it
   ERROR read JOB: WHY                 the job could not be read; those behind it are checked
   ERROR memory JOB, ERROR turns JOB   memory ran out, or no end after 2^40 reads
   ERROR items JOB                     macros would carry out more items than --most-items allows
@@ -73,8 +74,8 @@ With -p, -f, --allow-empty, --most-items, --each, --notes, --format, --explain, 
   shows nothing and the backslash are \\x and two digits.
 
   --format words: a sentence for the line, of at most 1,000 bytes; of a long JOB it has the end, and
-  letters of UTF-8 stand in it as they are. It tells who says no: a printer refuses the job, or the
-  job is wrong, or pclcheck cannot judge it.
+  letters of UTF-8 stand in it as they are. It tells who says no, as the line does not: a printer
+  refuses the job, or the job is wrong, or pclcheck cannot judge it.
   --format json: an object with job and verdict; of a PASS pages and marks; of a FAIL at, page,
   profile, printer, code, finding, field, kind, command and explanation; of an ERROR error and
   cause. Below a PASS an object for each note with job, printer, at, code, note and explanation. In

@@ -7,7 +7,7 @@ ghost use Rattle.meanings.specs.Explanations.{ExplainReasons};
 /// printer may do, what to change, and where HP's PCL 5 Printer Language Technical Reference Manual
 /// treats of it.
 ///
-/// `docs/DEFINITIONS.md` has the same sentences, and `docs/check_commands.py` compares the two.
+/// `docs/make.py` makes of them what FINDINGS and the manual page tell.
 pub const EXPLANATIONS: [&str; 46] = [
     "\
 1 Syntax
@@ -44,9 +44,9 @@ pub const EXPLANATIONS: [&str; 46] = [
            the two letters of a command of a frame; a byte that shows nothing
            is x and two digits to base 16.
   Kind:    unchecked: pclcheck does not check it, and printers may take it
-  Change:  Take it out, or write the job with the commands of the README. The
-           others work differently on different printers, or depend on what is
-           left by earlier jobs.
+  Change:  Take it out, or write the job with the commands that docs/SHOP.md
+           lists under \"Which PCL\". The others are not done here, differ from
+           printer to printer, or depend on what is left by earlier jobs.
   Manual:  \"Introduction to HP Printer Languages\", escape sequence syntax, and
            the section of the command that is named
 ",
@@ -70,8 +70,10 @@ pub const EXPLANATIONS: [&str; 46] = [
            JOB with NAME or DISPLAY, EOJ with at most one NAME, or ENTER
            LANGUAGE=PCL. Or such a line has more than 1024 bytes with its LF.
   Kind:    unchecked: pclcheck does not check it, and printers may take it
-  Change:  Correct the line or take it out. What @PJL SET would set, which is
-           the control panel's, the job sets by commands of its own.
+  Change:  Where ENTER LANGUAGE names another language, leave the line in, and
+           send the job to a queue for it. Else correct the line or take it
+           out. What @PJL SET would set, which is the control panel's, the job
+           sets by commands of its own.
   Manual:  \"PCL Job Control Commands\", Universal Exit Language; the lines are
            those of the Printer Job Language Technical Reference Manual
 ",
