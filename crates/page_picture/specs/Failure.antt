@@ -19,21 +19,24 @@ veil_picture page =
 
 -- ---- boxes
 
+-- how far its right and its lower edge lie from the others
+unfoldable pub extent_attributes : Outline → List ℕ
+extent_attributes box = attribute Width (span box.left box.right) ++ attribute Height (span box.top box.bottom)
+
 -- a box by its upper left corner, and by how far its other edges lie from there
 unfoldable pub outline_attributes : Outline → List ℕ
-outline_attributes box =
-    length_attribute X box.left ++ length_attribute Y box.top
-    ++ attribute Width (span box.left box.right) ++ attribute Height (span box.top box.bottom)
+outline_attributes box = length_attribute X box.left ++ length_attribute Y box.top ++ extent_attributes box
 
--- from where to where it goes along an axis
-unfoldable pub stretch : (first last : ℤ) → List ℕ
-stretch first last = millimetres first ++ failure_part parts.MeasureTo ++ millimetres last
+-- from where to where it goes along an axis of this name
+unfoldable pub stretch : (name : FailurePart) → (first last : ℤ) → List ℕ
+stretch name first last =
+    failure_part name ++ millimetres first ++ failure_part parts.MeasureTo ++ millimetres last
 
 -- the same of both axes, in millimetres from the left and the upper edge of the sheet
 unfoldable pub measures : Outline → List ℕ
 measures box =
-    failure_part parts.MeasureX ++ stretch box.left box.right ++ failure_part parts.MeasureY
-    ++ stretch box.top box.bottom ++ failure_part parts.MeasureEnd
+    stretch parts.MeasureX box.left box.right ++ stretch parts.MeasureY box.top box.bottom
+    ++ failure_part parts.MeasureEnd
 
 -- where measures stand: in the middle of the sheet, where they can be read wherever the box is
 unfoldable pub measure_place : (start : FailurePart) → Geometry → List ℕ

@@ -7,11 +7,14 @@ use Rattle.page_picture.specs.declared.mark_parts.MarkPart.TheVariants as parts
 use Rattle.page_picture.specs.Figures.{millimetres}
 use Rattle.page_picture.specs.MarkParts.{mark_part}
 
+-- where it stands
+unfoldable pub title_spot : (x y : ℤ) → List ℕ
+title_spot x y = mark_part parts.TitleX ++ millimetres x ++ mark_part parts.TitleY ++ millimetres y
+
 -- behind what it is
 unfoldable pub title_end : (place : ℕ) → (x y : ℤ) → List ℕ
 title_end place x y =
-    mark_part parts.TitlePlace ++ decimal place ++ mark_part parts.TitleX ++ millimetres x
-    ++ mark_part parts.TitleY ++ millimetres y ++ mark_part parts.TitleEnd
+    mark_part parts.TitlePlace ++ decimal place ++ title_spot x y ++ mark_part parts.TitleEnd
 
 -- of a mark of this name
 unfoldable pub title : (name : MarkPart) → (place : ℕ) → (x y : ℤ) → List ℕ

@@ -2,6 +2,7 @@
 ghost use Rattle.std.specs.Prelude.{◌≡◌, ◌++◌, OnOk};
 ghost use Rattle.page_picture.specs.Attributes.{span};
 ghost use Rattle.page_picture.specs.Failure.{
+  extent_attributes,
   limit_picture,
   measure_place,
   measures,
@@ -47,6 +48,17 @@ fn ticks_span(first: i64, last: i64) -> i64
     hundredths(last) - hundredths(first)
 }
 
+/// Appends how far the right and the lower edge of a box lie from its others.
+#[tactic(auto, unfolding(crate::specs::Failure::extent_attributes))]
+fn push_extent<A: Allocator>(text: &mut Vec<u8, A>, outline: &Outline) -> Result<(), AllocError>
+    ensures { OnOk result (text.new.items ≡ text.old.items ++ extent_attributes outline.now) }
+{
+    let width = ticks_span(outline.left, outline.right);
+    let height = ticks_span(outline.top, outline.bottom);
+    push_attribute(text, Attribute::Width, width)?;
+    push_attribute(text, Attribute::Height, height)
+}
+
 /// Appends a box by its upper left corner, and by how far its other edges lie from there.
 #[tactic(auto, unfolding(crate::specs::Failure::outline_attributes))]
 fn push_outline<A: Allocator>(text: &mut Vec<u8, A>, outline: &Outline) -> Result<(), AllocError>
@@ -54,27 +66,20 @@ fn push_outline<A: Allocator>(text: &mut Vec<u8, A>, outline: &Outline) -> Resul
 {
     push_ticks_attribute(text, Attribute::X, outline.left)?;
     push_ticks_attribute(text, Attribute::Y, outline.top)?;
-    push_attribute(
-        text,
-        Attribute::Width,
-        ticks_span(outline.left, outline.right),
-    )?;
-    push_attribute(
-        text,
-        Attribute::Height,
-        ticks_span(outline.top, outline.bottom),
-    )
+    push_extent(text, outline)
 }
 
-/// Appends from where to where a box goes along an axis.
+/// Appends from where to where a box goes along an axis of this name.
 #[tactic(auto, unfolding(crate::specs::Failure::stretch))]
 fn push_stretch<A: Allocator>(
     text: &mut Vec<u8, A>,
+    name: FailurePart,
     first: i64,
     last: i64,
 ) -> Result<(), AllocError>
-    ensures { OnOk result (text.new.items ≡ text.old.items ++ stretch first last) }
+    ensures { OnOk result (text.new.items ≡ text.old.items ++ stretch name first last) }
 {
+    text.extend_from_slice(name.bytes())?;
     push_millimetres(text, first)?;
     text.extend_from_slice(FailurePart::MeasureTo.bytes())?;
     push_millimetres(text, last)
@@ -85,10 +90,8 @@ fn push_stretch<A: Allocator>(
 fn push_measures<A: Allocator>(text: &mut Vec<u8, A>, outline: &Outline) -> Result<(), AllocError>
     ensures { OnOk result (text.new.items ≡ text.old.items ++ measures outline.now) }
 {
-    text.extend_from_slice(FailurePart::MeasureX.bytes())?;
-    push_stretch(text, outline.left, outline.right)?;
-    text.extend_from_slice(FailurePart::MeasureY.bytes())?;
-    push_stretch(text, outline.top, outline.bottom)?;
+    push_stretch(text, FailurePart::MeasureX, outline.left, outline.right)?;
+    push_stretch(text, FailurePart::MeasureY, outline.top, outline.bottom)?;
     text.extend_from_slice(FailurePart::MeasureEnd.bytes())
 }
 
