@@ -1,6 +1,7 @@
 -- What shows why a job fails: the mark that it would have made, and the box that this leaves, each with its measures.
 use Rattle.std.specs.Prelude.{ℕ, ℤ, List, ◌++◌}
 use Rattle.device_profile.specs.declared.geometry.Geometry.{Geometry}
+use Rattle.page_picture.specs.declared.attributes.Attribute.{Attribute}
 use Rattle.page_picture.specs.declared.attributes.Attribute.TheVariants.{X, Y, Width, Height}
 use Rattle.page_picture.specs.declared.failure.Outline.{Outline}
 use Rattle.page_picture.specs.declared.failure_parts.FailurePart.{FailurePart}
@@ -19,13 +20,15 @@ veil_picture page =
 
 -- ---- boxes
 
--- how far its right and its lower edge lie from the others
-unfoldable pub extent_attributes : Outline → List ℕ
-extent_attributes box = attribute Width (span box.left box.right) ++ attribute Height (span box.top box.bottom)
+-- an attribute that is how far one place lies behind another
+unfoldable pub span_attribute : (name : Attribute) → (first last : ℤ) → List ℕ
+span_attribute name first last = attribute name (span first last)
 
 -- a box by its upper left corner, and by how far its other edges lie from there
 unfoldable pub outline_attributes : Outline → List ℕ
-outline_attributes box = length_attribute X box.left ++ length_attribute Y box.top ++ extent_attributes box
+outline_attributes box =
+    length_attribute X box.left ++ length_attribute Y box.top
+    ++ span_attribute Width box.left box.right ++ span_attribute Height box.top box.bottom
 
 -- from where to where it goes along an axis of this name
 unfoldable pub stretch : (name : FailurePart) → (first last : ℤ) → List ℕ

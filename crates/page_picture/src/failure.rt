@@ -2,11 +2,11 @@
 ghost use Rattle.std.specs.Prelude.{◌≡◌, ◌++◌, OnOk};
 ghost use Rattle.page_picture.specs.Attributes.{span};
 ghost use Rattle.page_picture.specs.Failure.{
-  extent_attributes,
   limit_picture,
   measure_place,
   measures,
   outline_attributes,
+  span_attribute,
   stretch,
   unmade_picture,
   veil_picture,
@@ -48,15 +48,17 @@ fn ticks_span(first: i64, last: i64) -> i64
     hundredths(last) - hundredths(first)
 }
 
-/// Appends how far the right and the lower edge of a box lie from its others.
-#[tactic(auto, unfolding(crate::specs::Failure::extent_attributes))]
-fn push_extent<A: Allocator>(text: &mut Vec<u8, A>, outline: &Outline) -> Result<(), AllocError>
-    ensures { OnOk result (text.new.items ≡ text.old.items ++ extent_attributes outline.now) }
+/// Appends an attribute that is how far one place lies behind another.
+#[tactic(auto, unfolding(crate::specs::Failure::span_attribute))]
+fn push_span<A: Allocator>(
+    text: &mut Vec<u8, A>,
+    name: Attribute,
+    first: i64,
+    last: i64,
+) -> Result<(), AllocError>
+    ensures { OnOk result (text.new.items ≡ text.old.items ++ span_attribute name first last) }
 {
-    let width = ticks_span(outline.left, outline.right);
-    let height = ticks_span(outline.top, outline.bottom);
-    push_attribute(text, Attribute::Width, width)?;
-    push_attribute(text, Attribute::Height, height)
+    push_attribute(text, name, ticks_span(first, last))
 }
 
 /// Appends a box by its upper left corner, and by how far its other edges lie from there.
@@ -66,7 +68,8 @@ fn push_outline<A: Allocator>(text: &mut Vec<u8, A>, outline: &Outline) -> Resul
 {
     push_ticks_attribute(text, Attribute::X, outline.left)?;
     push_ticks_attribute(text, Attribute::Y, outline.top)?;
-    push_extent(text, outline)
+    push_span(text, Attribute::Width, outline.left, outline.right)?;
+    push_span(text, Attribute::Height, outline.top, outline.bottom)
 }
 
 /// Appends from where to where a box goes along an axis of this name.
