@@ -24,22 +24,35 @@ veil_picture page =
 unfoldable pub span_attribute : (name : Attribute) → (first last : ℤ) → List ℕ
 span_attribute name first last = attribute name (span first last)
 
--- a box by its upper left corner, and by how far its other edges lie from there
-unfoldable pub outline_attributes : Outline → List ℕ
-outline_attributes box =
-    length_attribute X box.left ++ length_attribute Y box.top
-    ++ span_attribute Width box.left box.right ++ span_attribute Height box.top box.bottom
+-- the upper left corner of a box
+unfoldable pub corner_attributes : Outline → List ℕ
+corner_attributes box = length_attribute X box.left ++ length_attribute Y box.top
 
--- from where to where it goes along an axis of this name
-unfoldable pub stretch : (name : FailurePart) → (first last : ℤ) → List ℕ
-stretch name first last =
-    failure_part name ++ millimetres first ++ failure_part parts.MeasureTo ++ millimetres last
+-- how wide it is, and how high
+unfoldable pub width_attribute : Outline → List ℕ
+width_attribute box = span_attribute Width box.left box.right
+
+unfoldable pub height_attribute : Outline → List ℕ
+height_attribute box = span_attribute Height box.top box.bottom
+
+-- a box by these
+unfoldable pub outline_attributes : Outline → List ℕ
+outline_attributes box = corner_attributes box ++ width_attribute box ++ height_attribute box
+
+-- from where to where it goes
+unfoldable pub stretch : (first last : ℤ) → List ℕ
+stretch first last = millimetres first ++ failure_part parts.MeasureTo ++ millimetres last
+
+-- along the first axis, and along the second
+unfoldable pub across : Outline → List ℕ
+across box = failure_part parts.MeasureX ++ stretch box.left box.right
+
+unfoldable pub down : Outline → List ℕ
+down box = failure_part parts.MeasureY ++ stretch box.top box.bottom
 
 -- the same of both axes, in millimetres from the left and the upper edge of the sheet
 unfoldable pub measures : Outline → List ℕ
-measures box =
-    stretch parts.MeasureX box.left box.right ++ stretch parts.MeasureY box.top box.bottom
-    ++ failure_part parts.MeasureEnd
+measures box = across box ++ down box ++ failure_part parts.MeasureEnd
 
 -- where measures stand: in the middle of the sheet, where they can be read wherever the box is
 unfoldable pub measure_place : (start : FailurePart) → Geometry → List ℕ

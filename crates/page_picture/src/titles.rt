@@ -1,6 +1,7 @@
 //! The titles of marks, which a browser shows where one points at a mark.
 ghost use Rattle.std.specs.Prelude.{◌≡◌, ◌++◌, OnOk};
-ghost use Rattle.page_picture.specs.Titles.{character_title, title, title_end, title_spot};
+ghost use Rattle.page_picture.specs.Titles.{character_title, title, title_distance, title_end};
+ghost use Rattle.page_picture.specs.Titles.{title_place, title_spot};
 
 use crate::figures::push_millimetres;
 use crate::mark_parts::MarkPart;
@@ -9,19 +10,38 @@ use shown_bytes::push_number;
 use std::alloc::{AllocError, Allocator};
 use tick_length::Length;
 
+/// Appends that so many bytes stand before an item.
+#[tactic(auto, unfolding(crate::specs::Titles::title_place))]
+fn push_title_place<A: Allocator>(text: &mut Vec<u8, A>, place: u64) -> Result<(), AllocError>
+    ensures { OnOk result (text.new.items ≡ text.old.items ++ title_place place) }
+{
+    text.extend_from_slice(MarkPart::TitlePlace.bytes())?;
+    push_number(text, place)
+}
+
+/// Appends how far a mark lies from an edge of the sheet.
+#[tactic(auto, unfolding(crate::specs::Titles::title_distance))]
+fn push_title_distance<A: Allocator>(
+    text: &mut Vec<u8, A>,
+    name: MarkPart,
+    ticks: i64,
+) -> Result<(), AllocError>
+    ensures { OnOk result (text.new.items ≡ text.old.items ++ title_distance name ticks) }
+{
+    text.extend_from_slice(name.bytes())?;
+    push_millimetres(text, ticks)
+}
+
 /// Appends a place in ticks from the left and the upper edge of the sheet.
 #[tactic(auto, unfolding(crate::specs::Titles::title_spot))]
 fn push_title_spot<A: Allocator>(text: &mut Vec<u8, A>, x: i64, y: i64) -> Result<(), AllocError>
     ensures { OnOk result (text.new.items ≡ text.old.items ++ title_spot x y) }
 {
-    text.extend_from_slice(MarkPart::TitleX.bytes())?;
-    push_millimetres(text, x)?;
-    text.extend_from_slice(MarkPart::TitleY.bytes())?;
-    push_millimetres(text, y)
+    push_title_distance(text, MarkPart::TitleX, x)?;
+    push_title_distance(text, MarkPart::TitleY, y)
 }
 
-/// Appends where a mark stands: the number of bytes before its item, and its place, in ticks from
-/// the left and the upper edge of the sheet.
+/// Appends where a mark stands: the number of bytes before its item, and its place.
 #[tactic(auto, unfolding(crate::specs::Titles::title_end))]
 fn push_title_end<A: Allocator>(
     text: &mut Vec<u8, A>,
@@ -31,8 +51,7 @@ fn push_title_end<A: Allocator>(
 ) -> Result<(), AllocError>
     ensures { OnOk result (text.new.items ≡ text.old.items ++ title_end place x y) }
 {
-    text.extend_from_slice(MarkPart::TitlePlace.bytes())?;
-    push_number(text, place)?;
+    push_title_place(text, place)?;
     push_title_spot(text, x, y)?;
     text.extend_from_slice(MarkPart::TitleEnd.bytes())
 }

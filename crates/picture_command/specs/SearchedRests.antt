@@ -77,8 +77,8 @@ module _ (job : List ℕ) (group : Groups) (counts : Counts) where
       let phrases : phrase 0 ≡ phrase 1 =
       append_cancel_left (refuses (number 1)) (phrase 0) (phrase 1)
       (ap (λ printer. refuses printer ++ phrase 0) (same_number group.is_each) ∙ claims) in
-      digits_differ (codes " at byte ") (on_page (nowhere counts).page ++ ((nowhere counts).words
-      ++ reason_phrase (nowhere counts).left_out (early 0).reason)) phrases
+      digits_differ (codes " at byte ") (on_page (nowhere counts).page ++ (nowhere counts).words
+      ++ reason_phrase (nowhere counts).left_out (early 0).reason) phrases
 
   -- ---- what is told
 
