@@ -30,7 +30,7 @@ millimetre_hundredths (pos ticks) = pos (ticks / 14_400_000)
 millimetre_hundredths (negsuc ticks) = negsuc (ticks / 14_400_000)
 
 -- so many ticks in millimetres
-abbrev pub millimetres : ℤ → List ℕ
+unfoldable pub millimetres : ℤ → List ℕ
 millimetres ticks = units (millimetre_hundredths ticks)
 
 -- ---- inches

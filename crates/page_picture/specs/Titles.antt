@@ -7,11 +7,21 @@ use Rattle.page_picture.specs.declared.mark_parts.MarkPart.TheVariants as parts
 use Rattle.page_picture.specs.Figures.{millimetres}
 use Rattle.page_picture.specs.MarkParts.{mark_part}
 
+-- so many bytes stand before its item
+unfoldable pub title_place : ℕ → List ℕ
+title_place place = mark_part parts.TitlePlace ++ decimal place
+
+-- how far it lies from an edge
+unfoldable pub title_distance : (name : MarkPart) → (ticks : ℤ) → List ℕ
+title_distance name ticks = mark_part name ++ millimetres ticks
+
+-- where it stands
+unfoldable pub title_spot : (x y : ℤ) → List ℕ
+title_spot x y = title_distance parts.TitleX x ++ title_distance parts.TitleY y
+
 -- behind what it is
 unfoldable pub title_end : (place : ℕ) → (x y : ℤ) → List ℕ
-title_end place x y =
-    mark_part parts.TitlePlace ++ decimal place ++ mark_part parts.TitleX ++ millimetres x
-    ++ mark_part parts.TitleY ++ millimetres y ++ mark_part parts.TitleEnd
+title_end place x y = title_place place ++ title_spot x y ++ mark_part parts.TitleEnd
 
 -- of a mark of this name
 unfoldable pub title : (name : MarkPart) → (place : ℕ) → (x y : ℤ) → List ℕ

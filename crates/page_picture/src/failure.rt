@@ -2,13 +2,19 @@
 ghost use Rattle.std.specs.Prelude.{◌≡◌, ◌++◌, OnOk};
 ghost use Rattle.page_picture.specs.Attributes.{span};
 ghost use Rattle.page_picture.specs.Failure.{
+  across,
+  corner_attributes,
+  down,
+  height_attribute,
   limit_picture,
   measure_place,
   measures,
   outline_attributes,
+  span_attribute,
   stretch,
   unmade_picture,
   veil_picture,
+  width_attribute,
 };
 
 use crate::attributes::{Attribute, push_attribute, push_length_attribute, push_ticks_attribute};
@@ -47,26 +53,55 @@ fn ticks_span(first: i64, last: i64) -> i64
     hundredths(last) - hundredths(first)
 }
 
-/// Appends a box by its upper left corner, and by how far its other edges lie from there.
+/// Appends an attribute that is how far one place lies behind another.
+#[tactic(auto, unfolding(crate::specs::Failure::span_attribute))]
+fn push_span<A: Allocator>(
+    text: &mut Vec<u8, A>,
+    name: Attribute,
+    first: i64,
+    last: i64,
+) -> Result<(), AllocError>
+    ensures { OnOk result (text.new.items ≡ text.old.items ++ span_attribute name first last) }
+{
+    push_attribute(text, name, ticks_span(first, last))
+}
+
+/// Appends the upper left corner of a box.
+#[tactic(auto, unfolding(crate::specs::Failure::corner_attributes))]
+fn push_corner<A: Allocator>(text: &mut Vec<u8, A>, outline: &Outline) -> Result<(), AllocError>
+    ensures { OnOk result (text.new.items ≡ text.old.items ++ corner_attributes outline.now) }
+{
+    push_ticks_attribute(text, Attribute::X, outline.left)?;
+    push_ticks_attribute(text, Attribute::Y, outline.top)
+}
+
+/// Appends how wide a box is.
+#[tactic(auto, unfolding(crate::specs::Failure::width_attribute))]
+fn push_width<A: Allocator>(text: &mut Vec<u8, A>, outline: &Outline) -> Result<(), AllocError>
+    ensures { OnOk result (text.new.items ≡ text.old.items ++ width_attribute outline.now) }
+{
+    push_span(text, Attribute::Width, outline.left, outline.right)
+}
+
+/// Appends how high a box is.
+#[tactic(auto, unfolding(crate::specs::Failure::height_attribute))]
+fn push_height<A: Allocator>(text: &mut Vec<u8, A>, outline: &Outline) -> Result<(), AllocError>
+    ensures { OnOk result (text.new.items ≡ text.old.items ++ height_attribute outline.now) }
+{
+    push_span(text, Attribute::Height, outline.top, outline.bottom)
+}
+
+/// Appends a box.
 #[tactic(auto, unfolding(crate::specs::Failure::outline_attributes))]
 fn push_outline<A: Allocator>(text: &mut Vec<u8, A>, outline: &Outline) -> Result<(), AllocError>
     ensures { OnOk result (text.new.items ≡ text.old.items ++ outline_attributes outline.now) }
 {
-    push_ticks_attribute(text, Attribute::X, outline.left)?;
-    push_ticks_attribute(text, Attribute::Y, outline.top)?;
-    push_attribute(
-        text,
-        Attribute::Width,
-        ticks_span(outline.left, outline.right),
-    )?;
-    push_attribute(
-        text,
-        Attribute::Height,
-        ticks_span(outline.top, outline.bottom),
-    )
+    push_corner(text, outline)?;
+    push_width(text, outline)?;
+    push_height(text, outline)
 }
 
-/// Appends from where to where a box goes along an axis.
+/// Appends from where to where something goes.
 #[tactic(auto, unfolding(crate::specs::Failure::stretch))]
 fn push_stretch<A: Allocator>(
     text: &mut Vec<u8, A>,
@@ -80,15 +115,31 @@ fn push_stretch<A: Allocator>(
     push_millimetres(text, last)
 }
 
+/// Appends from where to where a box goes along the first axis.
+#[tactic(auto, unfolding(crate::specs::Failure::across))]
+fn push_across<A: Allocator>(text: &mut Vec<u8, A>, outline: &Outline) -> Result<(), AllocError>
+    ensures { OnOk result (text.new.items ≡ text.old.items ++ across outline.now) }
+{
+    text.extend_from_slice(FailurePart::MeasureX.bytes())?;
+    push_stretch(text, outline.left, outline.right)
+}
+
+/// Appends from where to where a box goes along the second axis.
+#[tactic(auto, unfolding(crate::specs::Failure::down))]
+fn push_down<A: Allocator>(text: &mut Vec<u8, A>, outline: &Outline) -> Result<(), AllocError>
+    ensures { OnOk result (text.new.items ≡ text.old.items ++ down outline.now) }
+{
+    text.extend_from_slice(FailurePart::MeasureY.bytes())?;
+    push_stretch(text, outline.top, outline.bottom)
+}
+
 /// Appends from where to where a box goes.
 #[tactic(auto, unfolding(crate::specs::Failure::measures))]
 fn push_measures<A: Allocator>(text: &mut Vec<u8, A>, outline: &Outline) -> Result<(), AllocError>
     ensures { OnOk result (text.new.items ≡ text.old.items ++ measures outline.now) }
 {
-    text.extend_from_slice(FailurePart::MeasureX.bytes())?;
-    push_stretch(text, outline.left, outline.right)?;
-    text.extend_from_slice(FailurePart::MeasureY.bytes())?;
-    push_stretch(text, outline.top, outline.bottom)?;
+    push_across(text, outline)?;
+    push_down(text, outline)?;
     text.extend_from_slice(FailurePart::MeasureEnd.bytes())
 }
 

@@ -86,6 +86,7 @@ fn millimetre_hundredths(ticks: i64) -> i64
 }
 
 /// Appends so many ticks in millimetres.
+#[tactic(auto, unfolding(crate::specs::Figures::millimetres))]
 pub(crate) fn push_millimetres<A: Allocator>(
     text: &mut Vec<u8, A>,
     ticks: i64,

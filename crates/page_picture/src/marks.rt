@@ -29,7 +29,7 @@ use crate::figures::push_pair;
 use crate::mark_parts::MarkPart;
 use crate::rows::push_runs;
 use crate::texts::push_character;
-use crate::titles::{push_character_title, push_title};
+use crate::titles::{push_character_title, push_row_title, push_shape_title};
 use device_profile::FontRequest;
 use page_env::{Area, Fill, Glyph, Mark, PenLine, RasterRow, Resolution};
 use shown_bytes::push_number;
@@ -63,12 +63,12 @@ fn push_area<A: Allocator>(text: &mut Vec<u8, A>, area: &Area, place: u64) -> Re
     text.extend_from_slice(MarkPart::AreaStart.bytes())?;
     push_box(text, &area.bounds)?;
     push_fill(text, area.fill)?;
-    push_title(
+    push_shape_title(
         text,
         MarkPart::RectangleTitle,
         place,
-        area.bounds.left.ticks(),
-        area.bounds.top.ticks(),
+        area.bounds.left,
+        area.bounds.top,
     )?;
     text.extend_from_slice(MarkPart::RectangleEnd.bytes())
 }
@@ -305,13 +305,7 @@ fn push_row<A: Allocator>(
     text.extend_from_slice(MarkPart::RowStart.bytes())?;
     push_row_place(text, row)?;
     text.extend_from_slice(MarkPart::RowPlaceEnd.bytes())?;
-    push_title(
-        text,
-        MarkPart::RowTitle,
-        place,
-        row.x.ticks(),
-        row.y.ticks(),
-    )?;
+    push_row_title(text, MarkPart::RowTitle, place, row.x, row.y)?;
     push_runs_twice(text, row.bytes)
 }
 
@@ -343,12 +337,6 @@ fn push_line<A: Allocator>(
     text.extend_from_slice(MarkPart::LineStart.bytes())?;
     push_line_attributes(text, line)?;
     text.extend_from_slice(MarkPart::LineLook.bytes())?;
-    push_title(
-        text,
-        MarkPart::LineTitle,
-        place,
-        line.x0.ticks(),
-        line.y0.ticks(),
-    )?;
+    push_shape_title(text, MarkPart::LineTitle, place, line.x0, line.y0)?;
     text.extend_from_slice(MarkPart::LineEnd.bytes())
 }

@@ -11,6 +11,16 @@ use Rattle.notes.proofs.Rests.{none_written, refuses, takes, tells_finding, tell
 use Rattle.notes.proofs.ToldNotes.{WritesNotes-then}
 use Rattle.notes.proofs.job_notes.NotesRenderer.item.Goals as goal
 
+pub returns-in_err-tell_item-clause-rendered : goal.returns-in_err-tell_item-clause-rendered
+returns-in_err-tell_item-clause-rendered g c =
+    let notes = c.args.self.now in
+    none_written
+    (notes_from (g.N.NoteText.note_text notes.form.now) notes.machine notes.panel notes.past notes.closing.closed notes.told.items)
+    (notes_from
+    (g.N.NoteText.note_text notes.form.now) notes.machine notes.panel notes.past notes.closing.closed c.tell_item.new.told.items)
+    (at c.args.place (view c.args.item.now)) (g.W.Outlet.state c.args._outlet.now) c.args.kept.now.items c.tell_item.new.text.items
+    c.from_residual.result c.from_residual.ensures.0
+
 pub returns-in_err-tell_behind-in-Ok-clause-rendered : goal.returns-in_err-tell_behind-in-Ok-clause-rendered
 returns-in_err-tell_behind-in-Ok-clause-rendered g c =
     let notes = c.args.self.now in

@@ -35,7 +35,7 @@ pub returns-then-not-judge-clause-came : goal.returns-then-not-judge-clause-came
 returns-then-not-judge-clause-came g c =
     let action = action_of c.args.task.now in
     let begun : Recorded = record { events = []; counts = c.self.inside.counts } in
-    let counts = c.counts-self-inside-then-not-judge.result in
+    let counts = c.counts-self-inside.result in
     fails_by recorder_takes recorder_refuses action _ _ c.self.inside.first c.execute_by-answer.new.machine _
     c.args.place 1 c.execute_by-answer.result c.judge.new.self c.judge.ensures.standing
     (sym c.judge.ensures.open ∙ c.if-not-judge.true) c.execute_by-answer.ensures
@@ -47,7 +47,7 @@ returns-then-not-judge-clause-came g c =
         (
           finds,
           pages_recorded begun c.restart.new.self c.execute_by-answer.new.sink finds.events counts c.restart.ensures leads
-              c.counts-self-inside-then-not-judge.ensures,
+              c.counts-self-inside.ensures,
         ),
       )),
     ))
@@ -130,7 +130,7 @@ returns-clause-came g c =
     let first = c.execute_by-answer.new.machine in
     let after = c.execute_by-answer.new.sink in
     let others = c.execute_by_others.new.others in
-    let counts = c.counts-self-inside.result in
+    let counts = c.counts-self-inside-2.result in
     let lent = c.deref_mut-2.result.now in
     let stood : List MachineState = others_in before.formation before.first before.others.items in
     let begun : Recorded = record { events = []; counts = before.counts } in
@@ -161,5 +161,5 @@ returns-clause-came g c =
     subst (λ xs. GoesInStep action c.args.place (before.first ∷ stood) (first ∷ xs) before.counts counts none) (sym whole)
     (step_recorded action c.args.place before.first first stood others begun c.restart.new.self after did.0 _ counts none
     c.restart.ensures did.1 did.2 c.events-events.ensures
-    (subst (λ xs. Compared action c.args.place events 2 xs others none) stand compared.0) tt (λ same. c.counts-self-inside.ensures)))
+    (subst (λ xs. Compared action c.args.place events 2 xs others none) stand compared.0) tt (λ same. c.counts-self-inside-2.ensures)))
     c.execute_by_others.ensures.came)
