@@ -12,9 +12,9 @@ returns-in_ok-extend_from_slice-in-Unchecked g c =
     let each = for_each report.is_each report.names in
     on_ok_weaker c.push_for_each.result
     (λ (added : c.push_for_each.new.line.items ≡ c.extend_from_slice.new.self.items ++ each).
-        added ∙ ap (λ l. l ++ each) c.in_ok-extend_from_slice-in-Unchecked.ensures.items
-        ∙ append_assoc old (codes "pclcheck cannot judge this job") each
-        ∙ ap (λ kind. old ++ refusal kind who each) (sym c.in-Unchecked.is))
+    added ∙ ap (λ l. l ++ each) c.in_ok-extend_from_slice-in-Unchecked.ensures.items
+    ∙ append_assoc old (codes "pclcheck cannot judge this job") each
+    ∙ ap (λ kind. old ++ refusal kind who each) (sym c.in-Unchecked.is))
     c.push_for_each.ensures
 
 pub returns-in_ok-extend_from_slice-in-Wrong : goal.returns-in_ok-extend_from_slice-in-Wrong
@@ -25,7 +25,7 @@ returns-in_ok-extend_from_slice-in-Wrong g c =
     let each = for_each report.is_each report.names in
     on_ok_weaker c.push_for_each-in-Wrong.result
     (λ (added : c.push_for_each-in-Wrong.new.line.items ≡ c.extend_from_slice-in-Wrong.new.self.items ++ each).
-        added ∙ ap (λ l. l ++ each) c.in_ok-extend_from_slice-in-Wrong.ensures.items
-        ∙ append_assoc old (codes "this job is wrong") each
-        ∙ ap (λ kind. old ++ refusal kind who each) (sym c.in-Wrong.is))
+    added ∙ ap (λ l. l ++ each) c.in_ok-extend_from_slice-in-Wrong.ensures.items
+    ∙ append_assoc old (codes "this job is wrong") each
+    ∙ ap (λ kind. old ++ refusal kind who each) (sym c.in-Wrong.is))
     c.push_for_each-in-Wrong.ensures
