@@ -1,4 +1,4 @@
-use Rattle.std.proofs.Common.{Ok, Err, ℕ, List, subst}
+use Rattle.std.proofs.Common.{Ok, Err, ℕ, List, subst, sym}
 use Rattle.streams.specs.declared.error.Error.TheVariants.{Read}
 use Rattle.many_jobs.specs.Asked.{told_by}
 use Rattle.named_inputs.specs.KeptText.{kept_error}
@@ -35,3 +35,18 @@ returns-in-Ok-Fail g c =
     (notes_lost (told_note telling (record { job = c.args.name.now; printer = c.first_name.result.now })) c.args.printer.now
     c.first_panel-panel.result c.first_panel-panel.ensures.value start after _ _
     _ _ _ fails c.new-text.ensures.bytes)
+
+pub returns-in-Err : goal.returns-in-Err
+returns-in-Err g c =
+    let telling = told_by c.args.telling.now in
+    let start = g.S.Source.state c.args.job.now in
+    let after = g.S.Source.state c.notes_of.new.reader in
+    let write = told_note telling (record { job = c.args.name.now; printer = c.first_name.result.now }) in
+    subst
+    (λ (name : List ℕ).
+    AreRightNotes (told_note telling (record { job = c.args.name.now; printer = name })) c.args.printer.now start after
+    (Err c.kept_error.result))
+    c.first_name.ensures
+    (subst (λ error. AreRightNotes write c.args.printer.now start after (Err error)) (sym c.kept_error.ensures)
+    (notes_stopped write c.args.printer.now c.first_panel-panel.result c.first_panel-panel.ensures.value start after _ _
+    _ c.in-Err.ensures))
