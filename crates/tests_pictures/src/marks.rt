@@ -187,7 +187,7 @@ fn check_character(
     set: Set,
     weight: i32,
     (code, digits): Code,
-    wanted: &[u8],
+    wanted: &'static [u8],
 ) -> Result<(), Fail> {
     let mark = character(set, weight, code);
     if wanted.is_empty() {
@@ -204,7 +204,7 @@ fn check_character(
 #[test]
 fn characters_of_other_codes_and_faces(rt: HostRuntime) -> Result<(), Fail> {
     for (set, weight, code, wanted) in CHARACTERS {
-        check_character(&rt, *set, *weight, *code, wanted)?;
+        check_character(&rt, *set, *weight, *code, *wanted)?;
     }
     Ok(())
 }
