@@ -12,7 +12,7 @@ CLAUSES = tree.ROOT / "docs" / "edit_clauses.txt"
 ENSURES = re.compile(r"(?m)^ *ensures(\*)? *(\w+)? *\{")
 TRAIT = re.compile(r"(?m)^(?:pub )?trait (\w+)|^\}")
 # What a clause is replaced by: it always holds.
-HOLDS = " Unit {0} "
+HOLDS = " Prim.Unit {0} "
 # A line of a file of answers that begins no definition, but goes on with one.
 GOES_ON = re.compile(r"unfolding |[\])}]")
 SIGNED = re.compile(r"(?:pub |abbrev )*(\S+) : (goal\.)?")
