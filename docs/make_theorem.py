@@ -243,6 +243,14 @@ def lines_by_edit(text: str) -> Iterator[tuple[str, str]]:
             yield edit, rest
 
 
+def edits_of(crate: str, known: dict[str, str], came: dict[str, str]) -> tuple[int, int, int]:
+    """How many edits a crate has, and how many prove and are refused without their clause."""
+    own = [edit for edit in known if edit.startswith(f"{crate}/")]
+    said = [came.get(edit, "") for edit in own]
+    return (len(own), sum(it == "proves" for it in said),
+            sum(it.startswith("refused") for it in said))
+
+
 def edits(tree: Tree) -> str:
     """How many edits there are, and what came of those that were tried without their clauses."""
     known = dict(lines_by_edit(tree.text(CLAUSES)))
@@ -252,13 +260,11 @@ def edits(tree: Tree) -> str:
     if not (tree.root / CAME).is_file():
         return f"{head} What comes of them without their clause is to be tried."
     came = {edit: said for edit, said in lines_by_edit(tree.text(CAME)) if edit in known}
-    counts = [sum(said.startswith(word) for said in came.values())
-              for word in ("proves", "refused by", "not taken away")]
-    proved, refused, kept = counts
-    told = (f"Without its clause {proved} prove, {refused} are refused still; of {kept} it was not "
-            f"taken away, and {len(known) - sum(counts)} are not tried yet: "
-            "[edit_outcomes.txt](edit_outcomes.txt) has what came of each.")
-    return f"{head} {told}"
+    rows = [f"`{crate}` | {' | '.join(map(str, edits_of(crate, known, came)))}"
+            for crate in sorted(crates)]
+    told = "[edit_outcomes.txt](edit_outcomes.txt) has what came of each without its clause:"
+    table = "\n".join(["Crate | Edits | Prove | Refused still", "---|---|---|---", *rows])
+    return f"{head} {told}\n\n{table}"
 
 
 MAKERS = {
