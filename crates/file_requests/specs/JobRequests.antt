@@ -1,13 +1,14 @@
 -- What the commands on one job come to. Nothing is known of files beforehand, so this is said for what the history of
 -- files tells: which were read and which were written, at which path, and what that came to.
--- It has those of a job and of OUT, and not yet those of profiles.
-use Rattle.std.specs.Prelude.{◌≡◌, ◌⊎◌, ◌||◌, [], ◌∷◌, ◌++◌, ℕ, List, Option, IsTrue, codes}
+-- It has those of a job and of OUT, and the text of the one profile of a command;
+-- not yet those of the fleet of `check`.
+use Rattle.std.specs.Prelude.{◌≡◌, ◌⊎◌, ◌||◌, [], ◌∷◌, ◌++◌, ℕ, Bool, List, Option, IsTrue, codes}
 use Rattle.streams.specs.declared.error.Error.TheVariants.{Turns}
 use Rattle.renderings.specs.Due.{Rendering, plain_rendering}
 use Rattle.streams.specs.Files.{no_outlet, no_source}
 use Rattle.streams.specs.Outlet.{OutletState}
 use Rattle.streams.specs.Source.{SourceState}
-use Rattle.streams.specs.Used.{FileUse, read_at}
+use Rattle.streams.specs.Used.{FileUse, TextsAt, read_at}
 use Rattle.requests.specs.declared.selection.Selection.{Selection}
 use Rattle.named_inputs.specs.Fleet.{IsNamed, RefusesBy, RefusesOne, RefusesRead}
 use Rattle.subcommands.specs.Check.{IsRightFor, Leaves, texts_by}
@@ -46,8 +47,9 @@ pub record LeavesRendered (path : List ℕ) (rendering : Rendering) (status : St
 pub record LeavesPagesFor (path word : List ℕ) (status : Status) (used used' : List FileUse)
     (out out' : OutletState) : Type 0 where
   pub job : SourceState
-  pub used_are : used' ≡ used ++ read_at path job ∷ []
   pub texts : List (List ℕ)
+  pub failed : Bool
+  pub used_are : used' ≡ used ++ TextsAt (word ∷ []) texts failed ∷ read_at path job ∷ []
   pub ends : EndsBy status (λ old new. LeavesPages status (IsNamed (text_named word) [] texts) old new out out')
       no_source job (is_stop_of_read status) out'.failed
 
@@ -55,8 +57,9 @@ pub record LeavesPagesFor (path word : List ℕ) (status : Status) (used used' :
 pub record LeavesNotesFor (path word : List ℕ) (status : Status) (used used' : List FileUse)
     (out out' : OutletState) : Type 0 where
   pub job : SourceState
-  pub used_are : used' ≡ used ++ read_at path job ∷ []
   pub texts : List (List ℕ)
+  pub failed : Bool
+  pub used_are : used' ≡ used ++ TextsAt (word ∷ []) texts failed ∷ read_at path job ∷ []
   pub ends : EndsBy status (λ old new. LeavesNotes status (IsNamed (text_named word) [] texts) old new out out')
       no_source job (is_stop_of_read status) out'.failed
 
@@ -70,8 +73,9 @@ pub record LeavesPictureOfFile (word : List ℕ) (choices : List Choice) (select
     (status : Status) (used used' : List FileUse) (out out' err err' : OutletState) : Type 0 where
   pub first : SourceState
   pub second : SourceState
-  pub used_are : used' ≡ used ++ read_at job first ∷ read_at job second ∷ []
   pub texts : List (List ℕ)
+  pub failed : Bool
+  pub used_are : used' ≡ used ++ TextsAt (word ∷ []) texts failed ∷ read_at job first ∷ read_at job second ∷ []
   pub left : LeavesPicture status (IsNamedBy [] texts (IsNamed (text_named word) [] texts)) choices selection job
       (record {
         first = no_source;
@@ -115,10 +119,11 @@ pub record LeavesPin (path into word : List ℕ) (choices : List Choice) (status
     (out out' err err' : OutletState) : Type 0 where
   pub job : SourceState
   pub texts : List (List ℕ)
+  pub failed : Bool
   pub file : OutletState
   pub answer : Status
   pub one : FileUse
-  pub used_are : used' ≡ used ++ read_at path job ∷ one ∷ []
+  pub used_are : used' ≡ used ++ TextsAt (word ∷ []) texts failed ∷ read_at path job ∷ one ∷ []
   pub ends : EndsBy answer
       (λ old new. LeavesPinned answer (IsNamed (text_named word) [] texts) choices old new no_outlet file out out')
       no_source job (is_stop_of_read answer) (file.failed || out'.failed)

@@ -80,6 +80,7 @@ pub fn pages<R: Files + AllocGlobal, O: Outlet>(
         profile,
         stdout,
     );
+    texts.end(used);
     used.read(source);
     status
 }
@@ -117,6 +118,7 @@ pub fn picture<R: Files + AllocGlobal, O: Outlet, E: Outlet>(
         stdout,
         stderr,
     );
+    texts.end(used);
     used.read(first);
     used.read(second);
     status
@@ -143,6 +145,7 @@ pub fn notes<R: Files + AllocGlobal, O: Outlet>(
         profile,
         stdout,
     );
+    texts.end(used);
     used.read(source);
     status
 }
@@ -198,6 +201,7 @@ pub fn pin<R: Files + Print + AllocGlobal, O: Outlet, E: Outlet>(
         stderr,
     );
     let status = end_out(answer, &mut outlet.file);
+    texts.end(used);
     used.read(source);
     used.written(outlet);
     status

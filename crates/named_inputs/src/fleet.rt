@@ -1,6 +1,6 @@
 //! The fleet that the words name.
-ghost use Rattle.std.specs.Prelude.{◌≡◌, ◌+◌, ◌<◌, ◌^◌, [], ◌∷◌, map, length, IfSome, IsFalse};
-ghost use Rattle.std.specs.Prelude.{IfOk, MatchResult};
+ghost use Rattle.std.specs.Prelude.{◌≡◌, ◌+◌, ◌<◌, ◌^◌, [], ◌∷◌, ◌++◌, map, length, IfSome};
+ghost use Rattle.std.specs.Prelude.{IfOk, IsFalse, MatchResult};
 ghost use Rattle.named_inputs.specs.Fleet.{DescribeBy, DescribeFleet, Describes, IsEndOfFleet};
 ghost use Rattle.named_inputs.specs.Fleet.{IsEndOfProfile, RefusesBy, RefusesRead};
 ghost use Rattle.requests.specs.Status.{is_err_at_read, refusal_of};
@@ -76,6 +76,7 @@ pub fn read_profile<T: ProfileTexts, A: Allocator + Copy>(
     ensures given { MatchResult result
         (λ profile. DescribeBy (T.given texts.old) (T.given texts.new) (profile ∷ []))
         (RefusesRead (T.given texts.old) (T.given texts.new) number) }
+    ensures named { T.named texts.new ≡ T.named texts.old ++ word.now ∷ [] }
     ensures same { T.text_of texts.new ≡ T.text_of texts.old }
     ensures read { T.failed texts.new ≡ is_err_at_read result }
 {

@@ -1,5 +1,6 @@
 -- What the program leaves of what it is asked for. Nothing is known of its files beforehand; the history of files tells
--- which were read and which were written; of the texts of profiles and the jobs of many it is said for some reads.
+-- which were read and which were written, and which was the one profile of a job or of a sheet;
+-- of other texts of profiles and of the jobs of many it is said for some reads.
 use Rattle.renderings.specs.Due.{list_rendering}
 use Rattle.std.specs.Prelude.{◌≡◌, List, ℕ, Option, map, option_map, IsFalse, IsTrue}
 use Rattle.requests.specs.declared.request.Request.{Request}
