@@ -8,7 +8,7 @@ use Rattle.profile_commands.specs.ProfileShow.{LeavesShown}
 use Rattle.picture_command.specs.Picture.{Around, HasNoEnd, IsNamedBy, LeavesPicture}
 use Rattle.renderings.specs.Due.{Rendering, plain_rendering}
 use Rattle.streams.specs.declared.error.Error.TheVariants.{Turns}
-use Rattle.streams.proofs.Uses.{one_behind, one_more, one_read, one_text, one_written}
+use Rattle.streams.proofs.Uses.{one_behind, one_more, one_read, one_written, texts_read}
 use Rattle.streams.specs.Files.{FileOutletState, no_outlet, no_source}
 use Rattle.streams.specs.Outlet.{OutletState}
 use Rattle.streams.specs.Source.{SourceState}
@@ -17,7 +17,7 @@ use Rattle.named_inputs.specs.Choices.{TellsOfPin}
 use Rattle.named_inputs.proofs.InputUses.{file_read, input_read}
 use Rattle.named_inputs.specs.FileJobs.{is_input, reads_named}
 use Rattle.named_inputs.specs.Fleet.{IsNamed, RefusesBy, RefusesOne, RefusesRead}
-use Rattle.named_inputs.specs.Texts.{text_named}
+use Rattle.named_inputs.specs.Texts.{AsksInOrder, text_named}
 use Rattle.requests.specs.Status.{is_stop_of_read, is_stop_of_write}
 use Rattle.requests.specs.declared.choices.Choice.{Choice}
 use Rattle.requests.specs.declared.selection.Selection.{Selection}
@@ -78,7 +78,7 @@ sheet_left word into to given texts failed answer status out file err err' file'
       one = written_at into file'.outlet file'.is_put;
       used_are =
           one_more used between used' (TextsAt (word ∷ []) texts failed) (written_at into file'.outlet file'.is_put)
-          (one_text used between before named texts word failed unnamed are told)
+          (texts_read used between before named texts (word ∷ []) failed unnamed are told)
           (one_written between used' into to file'.outlet file'.is_put is written);
       left =
           subst (λ o. LeavesSheet (text_named word) word [] texts failed answer o file err err') new
@@ -122,21 +122,32 @@ answered_by_file answer at base given texts failed status source source' out out
 -- ---- jobs
 
 -- of files of which nothing was read
-pub check_left : (path at : List ℕ) (known known' : List (Option (List ℕ))) (given given' : List (List ℕ)) (before after : SourceState)
-    (status : Status) (out out' : OutletState) (used used' : List FileUse) → known' ≡ known → given ≡ [] → before ≡ no_source
+pub check_left : (path at : List ℕ) (words : List (List ℕ)) (known known' : List (Option (List ℕ))) (given given' : List (List ℕ))
+    (before after : SourceState) (status : Status) (out out' : OutletState) (unasked named : List (List ℕ)) (failed : Bool)
+    (used between used' : List FileUse) → known' ≡ known → given ≡ [] → before ≡ no_source
     → Leaves status (IsRightFor (texts_by known' given given') before after) out out' → RefusesBy given given' status
-    → out'.failed ≡ is_stop_of_write status → at ≡ path → used' ≡ used ++ read_at at after ∷ []
-    → LeavesCheck path known status used used' out out'
-check_left path at known known' given given' before after status out out' used used' same none new line refused write is read = record {
-  job = after;
-  texts = given';
-  line = subst (λ k. Leaves status (IsRightFor (texts_by k [] given') no_source after) out out') same
-      (subst (λ g. Leaves status (IsRightFor (texts_by known' g given') no_source after) out out') none
-      (subst (λ s. Leaves status (IsRightFor (texts_by known' given given') s after) out out') new line));
-  refused = subst (λ g. RefusesBy g given' status) none refused;
-  write = write;
-  used_are = one_read used used' path at after is read;
-}
+    → out'.failed ≡ is_stop_of_write status
+    → unasked ≡ [] → AsksInOrder words unasked named → between ≡ used ++ TextsAt named given' failed ∷ []
+    → at ≡ path → used' ≡ between ++ read_at at after ∷ []
+    → LeavesCheck path words known status used used' out out'
+check_left path at words known known' given given' before after status out out' unasked named failed used between used' same none new line
+    refused write unnamed order told is read = record {
+      job = after;
+      texts = given';
+      failed = failed;
+      asked = order.0;
+      later = order.1;
+      in_order = order.2;
+      line = subst (λ k. Leaves status (IsRightFor (texts_by k [] given') no_source after) out out') same
+          (subst (λ g. Leaves status (IsRightFor (texts_by known' g given') no_source after) out out') none
+          (subst (λ s. Leaves status (IsRightFor (texts_by known' given given') s after) out out') new line));
+      refused = subst (λ g. RefusesBy g given' status) none refused;
+      write = write;
+      used_are =
+          one_more used between used' (TextsAt order.0 given' failed) (read_at path after)
+          (texts_read used between unasked named given' order.0 failed unnamed order.3 told)
+          (one_read between used' path at after is read);
+    }
 
 pub rendered_left : (path at : List ℕ) (rendering : Rendering) (job job' : SourceState) (status : Status) (out out' : OutletState)
     (used used' : List FileUse)
@@ -201,7 +212,7 @@ pages_left path at word given texts failed job job' status out out' before named
       failed = failed;
       used_are =
           one_more used between used' (TextsAt (word ∷ []) texts failed) (read_at path job')
-          (one_text used between before named texts word failed unnamed are told)
+          (texts_read used between before named texts (word ∷ []) failed unnamed are told)
           (one_read between used' path at job' is read);
       ends =
           at_reads status (λ s s'. LeavesPages status (IsNamed (text_named word) [] texts) s s' out out') no_source job'
@@ -230,7 +241,7 @@ notes_left path at word given texts failed job job' status out out' before named
       failed = failed;
       used_are =
           one_more used between used' (TextsAt (word ∷ []) texts failed) (read_at path job')
-          (one_text used between before named texts word failed unnamed are told)
+          (texts_read used between before named texts (word ∷ []) failed unnamed are told)
           (one_read between used' path at job' is read);
       ends =
           at_reads status (λ s s'. LeavesNotes status (IsNamed (text_named word) [] texts) s s' out out') no_source job'
@@ -268,7 +279,7 @@ pin_left path into at to word choices given texts failed job job' answer status 
           one_behind used between used' (TextsAt (word ∷ []) texts failed ∷ read_at path job' ∷ [])
           (written_at into ended.outlet ended.is_put)
           (one_more used early between (TextsAt (word ∷ []) texts failed) (read_at path job')
-          (one_text used early before named texts word failed unnamed are told) (one_read early between path at job' is read))
+          (texts_read used early before named texts (word ∷ []) failed unnamed are told) (one_read early between path at job' is read))
           (one_written between used' into to ended.outlet ended.is_put is_out written);
       ends =
           at_reads answer (λ s s'. LeavesPinned answer (IsNamed (text_named word) [] texts) choices s s' no_outlet file' out out') no_source
@@ -329,7 +340,7 @@ picture_left word choices selection job at again given texts failed first first'
       used_are =
           one_behind used between used' (TextsAt (word ∷ []) texts failed ∷ read_at job first' ∷ []) (read_at job second')
           (one_more used early between (TextsAt (word ∷ []) texts failed) (read_at job first')
-          (one_text used early before named texts word failed unnamed are told) (one_read early between job at first' is reads))
+          (texts_read used early before named texts (word ∷ []) failed unnamed are told) (one_read early between job at first' is reads))
           (one_read between used' job again second' is' reads');
       left =
           subst

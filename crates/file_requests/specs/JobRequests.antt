@@ -1,7 +1,6 @@
 -- What the commands on one job come to. Nothing is known of files beforehand, so this is said for what the history of
 -- files tells: which were read and which were written, at which path, and what that came to.
--- It has those of a job and of OUT, and the text of the one profile of a command;
--- not yet those of the fleet of `check`.
+-- It has those of a job, of OUT and of the texts of profiles.
 use Rattle.std.specs.Prelude.{◌≡◌, ◌⊎◌, ◌||◌, [], ◌∷◌, ◌++◌, ℕ, Bool, List, Option, IsTrue, codes}
 use Rattle.streams.specs.declared.error.Error.TheVariants.{Turns}
 use Rattle.renderings.specs.Due.{Rendering, plain_rendering}
@@ -24,16 +23,20 @@ use Rattle.requests.specs.declared.status.Status.{Status}
 use Rattle.requests.specs.declared.status.Status.TheVariants.{Stopped}
 use Rattle.job_reports.specs.Pipes.{RefusesPipe}
 
--- a check of the job at a path for the printers of these texts, so far as they are known:
--- the line of a verdict that is right for all of them
-pub record LeavesCheck (path : List ℕ) (known : List (Option (List ℕ))) (status : Status) (used used' : List FileUse)
-    (out out' : OutletState) : Type 0 where
+-- a check of the job at a path for the printers of the texts that these words name, so far as they are known:
+-- the line of a verdict that is right for all of them; of the words the first ones were asked for, as far as it came
+pub record LeavesCheck (path : List ℕ) (words : List (List ℕ)) (known : List (Option (List ℕ))) (status : Status)
+    (used used' : List FileUse) (out out' : OutletState) : Type 0 where
   pub job : SourceState
   pub texts : List (List ℕ)
+  pub failed : Bool
+  pub asked : List (List ℕ)
+  pub later : List (List ℕ)
+  pub in_order : words ≡ asked ++ later
   pub line : Leaves status (IsRightFor (texts_by known [] texts) no_source job) out out'
   pub refused : RefusesBy [] texts status
   pub write : out'.failed ≡ is_stop_of_write status
-  pub used_are : used' ≡ used ++ read_at path job ∷ []
+  pub used_are : used' ≡ used ++ TextsAt asked texts failed ∷ read_at path job ∷ []
 
 -- what is due of the job at a path by this rendering
 pub record LeavesRendered (path : List ℕ) (rendering : Rendering) (status : Status) (used used' : List FileUse)

@@ -26,7 +26,8 @@ pub fn check<R: Files + AllocGlobal, O: Outlet>(
 ) -> Status
     requires stdout { IsFalse (O.state stdout.old).failed }
     requires some { profiles.now ≢ [] }
-    ensures { LeavesCheck job.now (map (λ word. text_named word.now) profiles.now) result
+    ensures { LeavesCheck job.now (map (λ word. word.now) profiles.now)
+        (map (λ word. text_named word.now) profiles.now) result
         used.old used.new (O.state stdout.old) (O.state stdout.new) }
 {
     let mut source = SourceAt::new(rt, job);
@@ -38,6 +39,7 @@ pub fn check<R: Files + AllocGlobal, O: Outlet>(
         profiles,
         stdout,
     );
+    texts.end(used);
     used.read(source);
     status
 }

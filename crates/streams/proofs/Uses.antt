@@ -14,13 +14,13 @@ pub one_written : (used used' : List FileUse) (into to : List ℕ) (file : Outle
     → to ≡ into → used' ≡ used ++ written_at to file put ∷ [] → used' ≡ used ++ written_at into file put ∷ []
 one_written used used' into to file put is more = more ∙ ap (λ (p : List ℕ). used ++ written_at p file put ∷ []) is
 
--- the text of one word is read, where none was asked for before
-pub one_text : (used used' : List FileUse) (before words texts : List (List ℕ)) (word : List ℕ) (failed : Bool)
-    → before ≡ [] → words ≡ before ++ word ∷ [] → used' ≡ used ++ TextsAt words texts failed ∷ []
-    → used' ≡ used ++ TextsAt (word ∷ []) texts failed ∷ []
-one_text used used' before words texts word failed none are more =
+-- the texts of some words are read, where none was asked for before
+pub texts_read : (used used' : List FileUse) (before words texts asked : List (List ℕ)) (failed : Bool)
+    → before ≡ [] → words ≡ before ++ asked → used' ≡ used ++ TextsAt words texts failed ∷ []
+    → used' ≡ used ++ TextsAt asked texts failed ∷ []
+texts_read used used' before words texts asked failed none are more =
     more
-    ∙ ap (λ (w : List (List ℕ)). used ++ TextsAt w texts failed ∷ []) (are ∙ ap (λ (b : List (List ℕ)). b ++ word ∷ []) none)
+    ∙ ap (λ (w : List (List ℕ)). used ++ TextsAt w texts failed ∷ []) (are ∙ ap (λ (b : List (List ℕ)). b ++ asked) none)
 
 -- behind some files one more
 pub one_behind : (used between used' front : List FileUse) (other : FileUse)
