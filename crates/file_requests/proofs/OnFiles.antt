@@ -8,16 +8,16 @@ use Rattle.profile_commands.specs.ProfileShow.{LeavesShown}
 use Rattle.picture_command.specs.Picture.{Around, HasNoEnd, IsNamedBy, LeavesPicture}
 use Rattle.renderings.specs.Due.{Rendering, plain_rendering}
 use Rattle.streams.specs.declared.error.Error.TheVariants.{Turns}
-use Rattle.streams.proofs.Uses.{one_more, one_read, one_written}
+use Rattle.streams.proofs.Uses.{one_behind, one_more, one_read, one_written, texts_read}
 use Rattle.streams.specs.Files.{FileOutletState, no_outlet, no_source}
 use Rattle.streams.specs.Outlet.{OutletState}
 use Rattle.streams.specs.Source.{SourceState}
-use Rattle.streams.specs.Used.{FileUse, read_at, written_at}
+use Rattle.streams.specs.Used.{FileUse, TextsAt, read_at, written_at}
 use Rattle.named_inputs.specs.Choices.{TellsOfPin}
 use Rattle.named_inputs.proofs.InputUses.{file_read, input_read}
 use Rattle.named_inputs.specs.FileJobs.{is_input, reads_named}
 use Rattle.named_inputs.specs.Fleet.{IsNamed, RefusesBy, RefusesOne, RefusesRead}
-use Rattle.named_inputs.specs.Texts.{text_named}
+use Rattle.named_inputs.specs.Texts.{AsksInOrder, text_named}
 use Rattle.requests.specs.Status.{is_stop_of_read, is_stop_of_write}
 use Rattle.requests.specs.declared.choices.Choice.{Choice}
 use Rattle.requests.specs.declared.selection.Selection.{Selection}
@@ -64,22 +64,27 @@ puts_out into answer status file file' (inr stop) =
     )
 
 pub sheet_left : (word into to : List ℕ) (given texts : List (List ℕ)) (failed : Bool) (answer status : Status)
-    (out file err err' : OutletState) (file' : FileOutletState) (used used' : List FileUse)
+    (out file err err' : OutletState) (file' : FileOutletState) (before named : List (List ℕ)) (used between used' : List FileUse)
     → given ≡ [] → out ≡ no_outlet → LeavesSheet (text_named word) word given texts failed answer out file err err'
     → EndsOut answer status file file'
-    → to ≡ into → used' ≡ used ++ written_at to file'.outlet file'.is_put ∷ [] → LeavesSheetFor word into status used used' err err'
-sheet_left word into to given texts failed answer status out file err err' file' used used' none new left end is written = record {
-  texts = texts;
-  failed = failed;
-  file = file;
-  answer = answer;
-  one = written_at into file'.outlet file'.is_put;
-  used_are = one_written used used' into to file'.outlet file'.is_put is written;
-  left =
-      subst (λ o. LeavesSheet (text_named word) word [] texts failed answer o file err err') new
-      (subst (λ g. LeavesSheet (text_named word) word g texts failed answer out file err err') none left);
-  put = puts_out into answer status file file' end;
-}
+    → before ≡ [] → named ≡ before ++ word ∷ [] → between ≡ used ++ TextsAt named texts failed ∷ []
+    → to ≡ into → used' ≡ between ++ written_at to file'.outlet file'.is_put ∷ [] → LeavesSheetFor word into status used used' err err'
+sheet_left word into to given texts failed answer status out file err err' file' before named used between used' none new left end
+    unnamed are told is written = record {
+      texts = texts;
+      failed = failed;
+      file = file;
+      answer = answer;
+      one = written_at into file'.outlet file'.is_put;
+      used_are =
+          one_more used between used' (TextsAt (word ∷ []) texts failed) (written_at into file'.outlet file'.is_put)
+          (texts_read used between before named texts (word ∷ []) failed unnamed are told)
+          (one_written between used' into to file'.outlet file'.is_put is written);
+      left =
+          subst (λ o. LeavesSheet (text_named word) word [] texts failed answer o file err err') new
+          (subst (λ g. LeavesSheet (text_named word) word g texts failed answer out file err err') none left);
+      put = puts_out into answer status file file' end;
+    }
 
 answered_left : (answer : List ℕ) (base : Option (List ℕ)) (given texts : List (List ℕ)) (failed : Bool) (status : Status)
     (source source' : SourceState) (out out' err err' : OutletState) (used used' : List FileUse)
@@ -117,21 +122,32 @@ answered_by_file answer at base given texts failed status source source' out out
 -- ---- jobs
 
 -- of files of which nothing was read
-pub check_left : (path at : List ℕ) (known known' : List (Option (List ℕ))) (given given' : List (List ℕ)) (before after : SourceState)
-    (status : Status) (out out' : OutletState) (used used' : List FileUse) → known' ≡ known → given ≡ [] → before ≡ no_source
+pub check_left : (path at : List ℕ) (words : List (List ℕ)) (known known' : List (Option (List ℕ))) (given given' : List (List ℕ))
+    (before after : SourceState) (status : Status) (out out' : OutletState) (unasked named : List (List ℕ)) (failed : Bool)
+    (used between used' : List FileUse) → known' ≡ known → given ≡ [] → before ≡ no_source
     → Leaves status (IsRightFor (texts_by known' given given') before after) out out' → RefusesBy given given' status
-    → out'.failed ≡ is_stop_of_write status → at ≡ path → used' ≡ used ++ read_at at after ∷ []
-    → LeavesCheck path known status used used' out out'
-check_left path at known known' given given' before after status out out' used used' same none new line refused write is read = record {
-  job = after;
-  texts = given';
-  line = subst (λ k. Leaves status (IsRightFor (texts_by k [] given') no_source after) out out') same
-      (subst (λ g. Leaves status (IsRightFor (texts_by known' g given') no_source after) out out') none
-      (subst (λ s. Leaves status (IsRightFor (texts_by known' given given') s after) out out') new line));
-  refused = subst (λ g. RefusesBy g given' status) none refused;
-  write = write;
-  used_are = one_read used used' path at after is read;
-}
+    → out'.failed ≡ is_stop_of_write status
+    → unasked ≡ [] → AsksInOrder words unasked named → between ≡ used ++ TextsAt named given' failed ∷ []
+    → at ≡ path → used' ≡ between ++ read_at at after ∷ []
+    → LeavesCheck path words known status used used' out out'
+check_left path at words known known' given given' before after status out out' unasked named failed used between used' same none new line
+    refused write unnamed order told is read = record {
+      job = after;
+      texts = given';
+      failed = failed;
+      asked = order.0;
+      later = order.1;
+      in_order = order.2;
+      line = subst (λ k. Leaves status (IsRightFor (texts_by k [] given') no_source after) out out') same
+          (subst (λ g. Leaves status (IsRightFor (texts_by known' g given') no_source after) out out') none
+          (subst (λ s. Leaves status (IsRightFor (texts_by known' given given') s after) out out') new line));
+      refused = subst (λ g. RefusesBy g given' status) none refused;
+      write = write;
+      used_are =
+          one_more used between used' (TextsAt order.0 given' failed) (read_at path after)
+          (texts_read used between unasked named given' order.0 failed unnamed order.3 told)
+          (one_read between used' path at after is read);
+    }
 
 pub rendered_left : (path at : List ℕ) (rendering : Rendering) (job job' : SourceState) (status : Status) (out out' : OutletState)
     (used used' : List FileUse)
@@ -183,70 +199,87 @@ at_reads status Left job job' read_failed write_failed ends = record {
 
 -- by a text of a profile, too, of which none was read
 pub pages_left : (path at word : List ℕ) (given texts : List (List ℕ)) (failed : Bool) (job job' : SourceState) (status : Status)
-    (out out' : OutletState) (used used' : List FileUse)
+    (out out' : OutletState) (before named : List (List ℕ)) (used between used' : List FileUse)
     → given ≡ [] → job ≡ no_source
     → EndsBy status (λ s s'. LeavesPages status (IsNamed (text_named word) given texts) s s' out out') job job'
     (job'.failed || failed) out'.failed
-    → at ≡ path → used' ≡ used ++ read_at at job' ∷ [] → LeavesPagesFor path word status used used' out out'
-pages_left path at word given texts failed job job' status out out' used used' none new ends is read = record {
-  job = job';
-  used_are = one_read used used' path at job' is read;
-  texts = texts;
-  ends =
-      at_reads status (λ s s'. LeavesPages status (IsNamed (text_named word) [] texts) s s' out out') no_source job'
-      (job'.failed || failed) out'.failed
-      (subst
-      (λ g. EndsBy status (λ s s'. LeavesPages status (IsNamed (text_named word) g texts) s s' out out') no_source job'
-      (job'.failed || failed) out'.failed)
-      none
-      (subst
-      (λ s. EndsBy status (λ s s'. LeavesPages status (IsNamed (text_named word) given texts) s s' out out') s job'
-      (job'.failed || failed) out'.failed)
-      new ends));
-}
+    → before ≡ [] → named ≡ before ++ word ∷ [] → between ≡ used ++ TextsAt named texts failed ∷ []
+    → at ≡ path → used' ≡ between ++ read_at at job' ∷ [] → LeavesPagesFor path word status used used' out out'
+pages_left path at word given texts failed job job' status out out' before named used between used' none new ends unnamed are told is
+    read = record {
+      job = job';
+      texts = texts;
+      failed = failed;
+      used_are =
+          one_more used between used' (TextsAt (word ∷ []) texts failed) (read_at path job')
+          (texts_read used between before named texts (word ∷ []) failed unnamed are told)
+          (one_read between used' path at job' is read);
+      ends =
+          at_reads status (λ s s'. LeavesPages status (IsNamed (text_named word) [] texts) s s' out out') no_source job'
+          (job'.failed || failed) out'.failed
+          (subst
+          (λ g. EndsBy status (λ s s'. LeavesPages status (IsNamed (text_named word) g texts) s s' out out') no_source job'
+          (job'.failed || failed) out'.failed)
+          none
+          (subst
+          (λ s. EndsBy status (λ s s'. LeavesPages status (IsNamed (text_named word) given texts) s s' out out') s job'
+          (job'.failed || failed) out'.failed)
+          new ends));
+    }
 
 pub notes_left : (path at word : List ℕ) (given texts : List (List ℕ)) (failed : Bool) (job job' : SourceState) (status : Status)
-    (out out' : OutletState) (used used' : List FileUse)
+    (out out' : OutletState) (before named : List (List ℕ)) (used between used' : List FileUse)
     → given ≡ [] → job ≡ no_source
     → EndsBy status (λ s s'. LeavesNotes status (IsNamed (text_named word) given texts) s s' out out') job job'
     (job'.failed || failed) out'.failed
-    → at ≡ path → used' ≡ used ++ read_at at job' ∷ [] → LeavesNotesFor path word status used used' out out'
-notes_left path at word given texts failed job job' status out out' used used' none new ends is read = record {
-  job = job';
-  used_are = one_read used used' path at job' is read;
-  texts = texts;
-  ends =
-      at_reads status (λ s s'. LeavesNotes status (IsNamed (text_named word) [] texts) s s' out out') no_source job'
-      (job'.failed || failed) out'.failed
-      (subst
-      (λ g. EndsBy status (λ s s'. LeavesNotes status (IsNamed (text_named word) g texts) s s' out out') no_source job'
-      (job'.failed || failed) out'.failed)
-      none
-      (subst
-      (λ s. EndsBy status (λ s s'. LeavesNotes status (IsNamed (text_named word) given texts) s s' out out') s job'
-      (job'.failed || failed) out'.failed)
-      new ends));
-}
+    → before ≡ [] → named ≡ before ++ word ∷ [] → between ≡ used ++ TextsAt named texts failed ∷ []
+    → at ≡ path → used' ≡ between ++ read_at at job' ∷ [] → LeavesNotesFor path word status used used' out out'
+notes_left path at word given texts failed job job' status out out' before named used between used' none new ends unnamed are told is
+    read = record {
+      job = job';
+      texts = texts;
+      failed = failed;
+      used_are =
+          one_more used between used' (TextsAt (word ∷ []) texts failed) (read_at path job')
+          (texts_read used between before named texts (word ∷ []) failed unnamed are told)
+          (one_read between used' path at job' is read);
+      ends =
+          at_reads status (λ s s'. LeavesNotes status (IsNamed (text_named word) [] texts) s s' out out') no_source job'
+          (job'.failed || failed) out'.failed
+          (subst
+          (λ g. EndsBy status (λ s s'. LeavesNotes status (IsNamed (text_named word) g texts) s s' out out') no_source job'
+          (job'.failed || failed) out'.failed)
+          none
+          (subst
+          (λ s. EndsBy status (λ s s'. LeavesNotes status (IsNamed (text_named word) given texts) s s' out out') s job'
+          (job'.failed || failed) out'.failed)
+          new ends));
+    }
 
 pub pin_left : (path into at to word : List ℕ) (choices : List Choice) (given texts : List (List ℕ)) (failed : Bool)
     (job job' : SourceState) (answer status : Status) (out out' file file' err err' : OutletState) (ended : FileOutletState)
-    (used between used' : List FileUse)
+    (before named : List (List ℕ)) (used early between used' : List FileUse)
     → given ≡ [] → job ≡ no_source → file ≡ no_outlet
     → EndsBy answer (λ s s'. LeavesPinned answer (IsNamed (text_named word) given texts) choices s s' file file' out out') job job'
     (job'.failed || failed) (file'.failed || out'.failed)
     → TellsOfPin answer (IsNamed (text_named word) given texts) choices err err'
     → EndsOut answer status file' ended
-    → at ≡ path → to ≡ into → between ≡ used ++ read_at at job' ∷ [] → used' ≡ between ++ written_at to ended.outlet ended.is_put ∷ []
+    → before ≡ [] → named ≡ before ++ word ∷ [] → early ≡ used ++ TextsAt named texts failed ∷ []
+    → at ≡ path → to ≡ into → between ≡ early ++ read_at at job' ∷ [] → used' ≡ between ++ written_at to ended.outlet ended.is_put ∷ []
     → LeavesPin path into word choices status used used' out out' err err'
-pin_left path into at to word choices given texts failed job job' answer status out out' file file' err err' ended used between used' none
-    new unwritten ends choice end is is_out read written = record {
+pin_left path into at to word choices given texts failed job job' answer status out out' file file' err err' ended before named used early
+    between used' none new unwritten ends choice end unnamed are told is is_out read written = record {
       job = job';
       texts = texts;
+      failed = failed;
       file = file';
       answer = answer;
       one = written_at into ended.outlet ended.is_put;
-      used_are = one_more used between used' (read_at path job') (written_at into ended.outlet ended.is_put)
-          (one_read used between path at job' is read)
+      used_are =
+          one_behind used between used' (TextsAt (word ∷ []) texts failed ∷ read_at path job' ∷ [])
+          (written_at into ended.outlet ended.is_put)
+          (one_more used early between (TextsAt (word ∷ []) texts failed) (read_at path job')
+          (texts_read used early before named texts (word ∷ []) failed unnamed are told) (one_read early between path at job' is read))
           (one_written between used' into to ended.outlet ended.is_put is_out written);
       ends =
           at_reads answer (λ s s'. LeavesPinned answer (IsNamed (text_named word) [] texts) choices s s' no_outlet file' out out') no_source
@@ -287,7 +320,7 @@ around first first' second second' out out' err err' = record {
 
 pub picture_left : (word : List ℕ) (choices : List Choice) (selection : Selection) (job at again : List ℕ) (given texts : List (List ℕ))
     (failed : Bool) (first first' second second' : SourceState) (status : Status) (out out' err err' : OutletState)
-    (used between used' : List FileUse)
+    (before named : List (List ℕ)) (used early between used' : List FileUse)
     → given ≡ [] → first ≡ no_source → second ≡ no_source
     → LeavesPicture status (IsNamedBy given texts (IsNamed (text_named word) given texts)) choices selection job
     (around first first' second second' out out' err err')
@@ -295,15 +328,20 @@ pub picture_left : (word : List ℕ) (choices : List Choice) (selection : Select
     → (status ≡ Stopped Turns → HasNoEnd first first' ⊎ HasNoEnd second second')
     → RefusesOne (text_named word) status → RefusesRead given texts 1 status
     → TellsOfPin status (IsNamed (text_named word) given texts) choices err err'
-    → at ≡ job → again ≡ job → between ≡ used ++ read_at at first' ∷ [] → used' ≡ between ++ read_at again second' ∷ []
+    → before ≡ [] → named ≡ before ++ word ∷ [] → early ≡ used ++ TextsAt named texts failed ∷ []
+    → at ≡ job → again ≡ job → between ≡ early ++ read_at at first' ∷ [] → used' ≡ between ++ read_at again second' ∷ []
     → LeavesPictureOfFile word choices selection job status used used' out out' err err'
-picture_left word choices selection job at again given texts failed first first' second second' status out out' err err' used between used'
-    none new new' left read write turns refusal refused choice is is' reads reads' = record {
+picture_left word choices selection job at again given texts failed first first' second second' status out out' err err' before named used
+    early between used' none new new' left read write turns refusal refused choice unnamed are told is is' reads reads' = record {
       first = first';
       second = second';
       texts = texts;
-      used_are = one_more used between used' (read_at job first') (read_at job second')
-          (one_read used between job at first' is reads) (one_read between used' job again second' is' reads');
+      failed = failed;
+      used_are =
+          one_behind used between used' (TextsAt (word ∷ []) texts failed ∷ read_at job first' ∷ []) (read_at job second')
+          (one_more used early between (TextsAt (word ∷ []) texts failed) (read_at job first')
+          (texts_read used early before named texts (word ∷ []) failed unnamed are told) (one_read early between job at first' is reads))
+          (one_read between used' job again second' is' reads');
       left =
           subst
           (λ g. LeavesPicture status (IsNamedBy g texts (IsNamed (text_named word) g texts)) choices selection job

@@ -1,13 +1,13 @@
 -- What the commands on one job come to. Nothing is known of files beforehand, so this is said for what the history of
 -- files tells: which were read and which were written, at which path, and what that came to.
--- It has those of a job and of OUT, and not yet those of profiles.
-use Rattle.std.specs.Prelude.{◌≡◌, ◌⊎◌, ◌||◌, [], ◌∷◌, ◌++◌, ℕ, List, Option, IsTrue, codes}
+-- It has those of a job, of OUT and of the texts of profiles.
+use Rattle.std.specs.Prelude.{◌≡◌, ◌⊎◌, ◌||◌, [], ◌∷◌, ◌++◌, ℕ, Bool, List, Option, IsTrue, codes}
 use Rattle.streams.specs.declared.error.Error.TheVariants.{Turns}
 use Rattle.renderings.specs.Due.{Rendering, plain_rendering}
 use Rattle.streams.specs.Files.{no_outlet, no_source}
 use Rattle.streams.specs.Outlet.{OutletState}
 use Rattle.streams.specs.Source.{SourceState}
-use Rattle.streams.specs.Used.{FileUse, read_at}
+use Rattle.streams.specs.Used.{FileUse, TextsAt, read_at}
 use Rattle.requests.specs.declared.selection.Selection.{Selection}
 use Rattle.named_inputs.specs.Fleet.{IsNamed, RefusesBy, RefusesOne, RefusesRead}
 use Rattle.subcommands.specs.Check.{IsRightFor, Leaves, texts_by}
@@ -23,16 +23,20 @@ use Rattle.requests.specs.declared.status.Status.{Status}
 use Rattle.requests.specs.declared.status.Status.TheVariants.{Stopped}
 use Rattle.job_reports.specs.Pipes.{RefusesPipe}
 
--- a check of the job at a path for the printers of these texts, so far as they are known:
--- the line of a verdict that is right for all of them
-pub record LeavesCheck (path : List ℕ) (known : List (Option (List ℕ))) (status : Status) (used used' : List FileUse)
-    (out out' : OutletState) : Type 0 where
+-- a check of the job at a path for the printers of the texts that these words name, so far as they are known:
+-- the line of a verdict that is right for all of them; of the words the first ones were asked for, as far as it came
+pub record LeavesCheck (path : List ℕ) (words : List (List ℕ)) (known : List (Option (List ℕ))) (status : Status)
+    (used used' : List FileUse) (out out' : OutletState) : Type 0 where
   pub job : SourceState
   pub texts : List (List ℕ)
+  pub failed : Bool
+  pub asked : List (List ℕ)
+  pub later : List (List ℕ)
+  pub in_order : words ≡ asked ++ later
   pub line : Leaves status (IsRightFor (texts_by known [] texts) no_source job) out out'
   pub refused : RefusesBy [] texts status
   pub write : out'.failed ≡ is_stop_of_write status
-  pub used_are : used' ≡ used ++ read_at path job ∷ []
+  pub used_are : used' ≡ used ++ TextsAt asked texts failed ∷ read_at path job ∷ []
 
 -- what is due of the job at a path by this rendering
 pub record LeavesRendered (path : List ℕ) (rendering : Rendering) (status : Status) (used used' : List FileUse)
@@ -46,8 +50,9 @@ pub record LeavesRendered (path : List ℕ) (rendering : Rendering) (status : St
 pub record LeavesPagesFor (path word : List ℕ) (status : Status) (used used' : List FileUse)
     (out out' : OutletState) : Type 0 where
   pub job : SourceState
-  pub used_are : used' ≡ used ++ read_at path job ∷ []
   pub texts : List (List ℕ)
+  pub failed : Bool
+  pub used_are : used' ≡ used ++ TextsAt (word ∷ []) texts failed ∷ read_at path job ∷ []
   pub ends : EndsBy status (λ old new. LeavesPages status (IsNamed (text_named word) [] texts) old new out out')
       no_source job (is_stop_of_read status) out'.failed
 
@@ -55,8 +60,9 @@ pub record LeavesPagesFor (path word : List ℕ) (status : Status) (used used' :
 pub record LeavesNotesFor (path word : List ℕ) (status : Status) (used used' : List FileUse)
     (out out' : OutletState) : Type 0 where
   pub job : SourceState
-  pub used_are : used' ≡ used ++ read_at path job ∷ []
   pub texts : List (List ℕ)
+  pub failed : Bool
+  pub used_are : used' ≡ used ++ TextsAt (word ∷ []) texts failed ∷ read_at path job ∷ []
   pub ends : EndsBy status (λ old new. LeavesNotes status (IsNamed (text_named word) [] texts) old new out out')
       no_source job (is_stop_of_read status) out'.failed
 
@@ -70,8 +76,9 @@ pub record LeavesPictureOfFile (word : List ℕ) (choices : List Choice) (select
     (status : Status) (used used' : List FileUse) (out out' err err' : OutletState) : Type 0 where
   pub first : SourceState
   pub second : SourceState
-  pub used_are : used' ≡ used ++ read_at job first ∷ read_at job second ∷ []
   pub texts : List (List ℕ)
+  pub failed : Bool
+  pub used_are : used' ≡ used ++ TextsAt (word ∷ []) texts failed ∷ read_at job first ∷ read_at job second ∷ []
   pub left : LeavesPicture status (IsNamedBy [] texts (IsNamed (text_named word) [] texts)) choices selection job
       (record {
         first = no_source;
@@ -115,10 +122,11 @@ pub record LeavesPin (path into word : List ℕ) (choices : List Choice) (status
     (out out' err err' : OutletState) : Type 0 where
   pub job : SourceState
   pub texts : List (List ℕ)
+  pub failed : Bool
   pub file : OutletState
   pub answer : Status
   pub one : FileUse
-  pub used_are : used' ≡ used ++ read_at path job ∷ one ∷ []
+  pub used_are : used' ≡ used ++ TextsAt (word ∷ []) texts failed ∷ read_at path job ∷ one ∷ []
   pub ends : EndsBy answer
       (λ old new. LeavesPinned answer (IsNamed (text_named word) [] texts) choices old new no_outlet file out out')
       no_source job (is_stop_of_read answer) (file.failed || out'.failed)

@@ -1,6 +1,6 @@
 -- What the commands on profiles come to. Nothing is known of files beforehand, so this is said for some reads of them:
 -- the texts that these gave, and whether one has failed. The history of files
--- tells which answer was read, and which file written.
+-- tells which answer was read, which file written, and of what profile a sheet is.
 use Rattle.std.specs.Prelude.{◌≡◌, [], ◌∷◌, ◌++◌, ℕ, List, Bool, Option}
 use Rattle.profile_commands.specs.ProfileFromPjl.{LeavesAnswered}
 use Rattle.profile_commands.specs.ProfileLint.{LeavesLint}
@@ -9,7 +9,7 @@ use Rattle.profile_commands.specs.ProfileShow.{LeavesShown}
 use Rattle.streams.specs.Files.{no_outlet, no_source}
 use Rattle.streams.specs.Outlet.{OutletState}
 use Rattle.streams.specs.Source.{SourceState}
-use Rattle.streams.specs.Used.{FileUse}
+use Rattle.streams.specs.Used.{FileUse, TextsAt}
 use Rattle.file_requests.specs.Outs.{PutsOut}
 use Rattle.named_inputs.specs.FileJobs.{reads_named}
 use Rattle.named_inputs.specs.Texts.{text_named}
@@ -35,7 +35,7 @@ pub record LeavesSheetFor (word into : List ℕ) (status : Status) (used used' :
   pub file : OutletState
   pub answer : Status
   pub one : FileUse
-  pub used_are : used' ≡ used ++ one ∷ []
+  pub used_are : used' ≡ used ++ TextsAt (word ∷ []) texts failed ∷ one ∷ []
   pub left : LeavesSheet (text_named word) word [] texts failed answer no_outlet file err err'
   pub put : PutsOut into answer status file one
 

@@ -26,7 +26,8 @@ pub fn check<R: Files + AllocGlobal, O: Outlet>(
 ) -> Status
     requires stdout { IsFalse (O.state stdout.old).failed }
     requires some { profiles.now ≢ [] }
-    ensures { LeavesCheck job.now (map (λ word. text_named word.now) profiles.now) result
+    ensures { LeavesCheck job.now (map (λ word. word.now) profiles.now)
+        (map (λ word. text_named word.now) profiles.now) result
         used.old used.new (O.state stdout.old) (O.state stdout.new) }
 {
     let mut source = SourceAt::new(rt, job);
@@ -38,6 +39,7 @@ pub fn check<R: Files + AllocGlobal, O: Outlet>(
         profiles,
         stdout,
     );
+    texts.end(used);
     used.read(source);
     status
 }
@@ -80,6 +82,7 @@ pub fn pages<R: Files + AllocGlobal, O: Outlet>(
         profile,
         stdout,
     );
+    texts.end(used);
     used.read(source);
     status
 }
@@ -117,6 +120,7 @@ pub fn picture<R: Files + AllocGlobal, O: Outlet, E: Outlet>(
         stdout,
         stderr,
     );
+    texts.end(used);
     used.read(first);
     used.read(second);
     status
@@ -143,6 +147,7 @@ pub fn notes<R: Files + AllocGlobal, O: Outlet>(
         profile,
         stdout,
     );
+    texts.end(used);
     used.read(source);
     status
 }
@@ -198,6 +203,7 @@ pub fn pin<R: Files + Print + AllocGlobal, O: Outlet, E: Outlet>(
         stderr,
     );
     let status = end_out(answer, &mut outlet.file);
+    texts.end(used);
     used.read(source);
     used.written(outlet);
     status

@@ -62,6 +62,7 @@ pub fn sheet<R: Files + Print + AllocGlobal, E: Outlet>(
     let mut outlet = OutletAt::new(rt, out);
     let answer = profile_sheet(rt.alloc(), &mut texts, word, &mut outlet.file, stderr);
     let status = end_out(answer, &mut outlet.file);
+    texts.end(used);
     used.written(outlet);
     status
 }

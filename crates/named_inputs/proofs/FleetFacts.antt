@@ -13,6 +13,7 @@ use Rattle.requests.specs.declared.status.Status.TheVariants.{Pass, Fail, Help, 
 use Rattle.requests.specs.Status.{is_stop_of_write, refusal_of}
 use Rattle.named_inputs.specs.Fleet.{Describes, DescribeBy, DescribeFleet, IsReached, IsRefused, IsEndOfProfile, IsEndOfFleet, RefusesBy}
 use Rattle.named_inputs.specs.Fleet.{RefusesRead}
+use Rattle.named_inputs.specs.Texts.{AsksInOrder}
 
 -- one more text describes one more printer
 DescribeFleet-more : (texts : List (Option (List ℕ))) (printers : List Printer) (text : Option (List ℕ)) (printer : Printer) →
@@ -204,3 +205,38 @@ no_write_before number text Usage end = refl
 no_write_before number text (Overwrites input) end = refl
 no_write_before number text (NotAllowed choice) end = refl
 no_write_before number text (Told trouble) end = refl
+
+-- ---- the words that were asked for
+
+-- one more word
+pub named_more : {X : Type 0} (bytes : X → List ℕ) (words : List X) (i : ℕ) (d : X) (start mid after : List (List ℕ)) →
+    i < length words → mid ≡ start ++ map bytes (take i words) → after ≡ mid ++ bytes (get_or words i d) ∷ [] →
+    after ≡ start ++ map bytes (take (i + 1) words)
+named_more bytes words i d start mid after h before more =
+    let word = bytes (get_or words i d) in
+    more
+    ∙ (ap (λ (front : List (List ℕ)). front ++ word ∷ []) before
+    ∙ (append_assoc start (map bytes (take i words)) (word ∷ [])
+    ∙ ap (λ (l : List (List ℕ)). start ++ l) (sym (map_more bytes words i d h))))
+
+-- it is the last one
+pub named_front : {X : Type 0} (bytes : X → List ℕ) (words : List X) (i : ℕ) (d : X) (start mid after : List (List ℕ)) →
+    i < length words → mid ≡ start ++ map bytes (take i words) → after ≡ mid ++ bytes (get_or words i d) ∷ [] →
+    AsksInOrder (map bytes words) start after
+named_front bytes words i d start mid after h before more =
+    let word = bytes (get_or words i d) in
+    let front = map bytes (take i words) in
+    let later = map bytes (drop (suc i) words) in (
+      front ++ word ∷ [],
+      later,
+      ap (map bytes) (split_at words i d h)
+          ∙ (map-append bytes (take i words) (get_or words i d ∷ drop (suc i) words) ∙ sym (append_assoc front (word ∷ []) later)),
+      more ∙ (ap (λ (l : List (List ℕ)). l ++ word ∷ []) before ∙ append_assoc start front (word ∷ [])),
+    )
+
+-- all were asked for
+pub named_all : {X : Type 0} (bytes : X → List ℕ) (words : List X) (i : ℕ) (start after : List (List ℕ)) →
+    after ≡ start ++ map bytes (take i words) → length words ≤ i → AsksInOrder (map bytes words) start after
+named_all bytes words i start after before all =
+    let front = map bytes (take i words) in
+    (front, [], ap (map bytes) (sym (take_all i words all)) ∙ sym (append-nil front), before)

@@ -1,5 +1,5 @@
 -- The texts of profiles, and the words that name them.
-use Rattle.std.specs.Prelude.{◌≡◌, [], ◌∷◌, take, Result, Ok, Err, ℕ, List, Option, Some, None, option_map, codes}
+use Rattle.std.specs.Prelude.{◌≡◌, [], ◌∷◌, ◌++◌, take, Result, Ok, Err, ℕ, List, Option, Some, None, option_map, codes}
 use Rattle.std.specs.Prelude.{if◌then◌else◌, ⊤}
 use Rattle.std.specs.Str.{bytes_eq}
 use Rattle.device_profile.specs.declared.sample.Sample.{Sample}
@@ -31,6 +31,11 @@ text_named word = option_map sample_text (sample_named word)
 -- first 65,537, or all, where it has no more
 abbrev pub IsTextBy : List (List ℕ) → List ℕ → Type 0
 IsTextBy pieces text = (input : List ℕ) → MayBeBy pieces input → text ≡ take 65_537 input
+
+-- texts were asked for by some of these words, the first ones in their order, and by no others
+abbrev pub AsksInOrder : (words old new : List (List ℕ)) → Type 0
+AsksInOrder words old new =
+    (asked : List (List ℕ)) × (later : List (List ℕ)) × (words ≡ asked ++ later) × (new ≡ old ++ asked)
 
 -- the text that was read; where it could not be, none
 abbrev pub text_read : {T : Type 0} → (T → List ℕ) → Result T Error → List (List ℕ)

@@ -110,9 +110,12 @@ impl<R: Files + Input> Source for JobSource<'_, R> {
 impl<'a, R: Files + Input> Jobs<'a> for FileJobs<'a, R> {
     type Job = JobSource<'a, R>;
 
+    ghost use Rattle.named_inputs.specs.FileJobs.{is_job_at};
     ghost use Rattle.streams.specs.Files.{no_source};
 
     ghost start = { λ _ _. no_source };
+
+    ghost is_named = { λ job name. is_job_at job name };
 
     ghost ended = { λ jobs. jobs };
 

@@ -1,8 +1,9 @@
 //! The fleet that the words name.
-ghost use Rattle.std.specs.Prelude.{◌≡◌, ◌+◌, ◌<◌, ◌^◌, [], ◌∷◌, map, length, IfSome, IsFalse};
-ghost use Rattle.std.specs.Prelude.{IfOk, MatchResult};
+ghost use Rattle.std.specs.Prelude.{◌≡◌, ◌+◌, ◌<◌, ◌^◌, [], ◌∷◌, ◌++◌, map, length, IfSome};
+ghost use Rattle.std.specs.Prelude.{IfOk, IsFalse, MatchResult};
 ghost use Rattle.named_inputs.specs.Fleet.{DescribeBy, DescribeFleet, Describes, IsEndOfFleet};
 ghost use Rattle.named_inputs.specs.Fleet.{IsEndOfProfile, RefusesBy, RefusesRead};
+ghost use Rattle.named_inputs.specs.Texts.{AsksInOrder};
 ghost use Rattle.requests.specs.Status.{is_err_at_read, refusal_of};
 
 use crate::texts::ProfileTexts;
@@ -27,6 +28,8 @@ pub fn read_fleet<T: ProfileTexts, A: Allocator + Copy>(
     ensures given { MatchResult result
         (λ fleet. DescribeBy (T.given texts.old) (T.given texts.new) fleet.items)
         (RefusesBy (T.given texts.old) (T.given texts.new)) }
+    ensures named { AsksInOrder (map (λ word. word.now) words.now)
+        (T.named texts.old) (T.named texts.new) }
     ensures read { T.failed texts.new ≡ is_err_at_read result }
 {
     let mut kept = Vec::new(alloc);
@@ -51,6 +54,8 @@ pub fn read_kept_fleet<T: ProfileTexts, A: Allocator + Copy>(
     ensures given { MatchResult result
         (λ fleet. DescribeBy (T.given texts.old) (T.given texts.new) fleet.items)
         (RefusesBy (T.given texts.old) (T.given texts.new)) }
+    ensures named { AsksInOrder (map (λ word. word.now) words.now)
+        (T.named texts.old) (T.named texts.new) }
     ensures kept { IfOk result (λ fleet. DescribeBy (map (λ text. text.items) kept.old.items)
         (map (λ text. text.items) kept.new.items) fleet.items) }
     ensures read { T.failed texts.new ≡ is_err_at_read result }
@@ -76,6 +81,7 @@ pub fn read_profile<T: ProfileTexts, A: Allocator + Copy>(
     ensures given { MatchResult result
         (λ profile. DescribeBy (T.given texts.old) (T.given texts.new) (profile ∷ []))
         (RefusesRead (T.given texts.old) (T.given texts.new) number) }
+    ensures named { T.named texts.new ≡ T.named texts.old ++ word.now ∷ [] }
     ensures same { T.text_of texts.new ≡ T.text_of texts.old }
     ensures read { T.failed texts.new ≡ is_err_at_read result }
 {
@@ -103,6 +109,7 @@ fn read_kept<T: ProfileTexts, A: Allocator + Copy>(
         (RefusesRead (T.given texts.old) (T.given texts.new) number) }
     ensures kept { IfOk result (λ profile. DescribeBy (map (λ text. text.items) kept.old.items)
         (map (λ text. text.items) kept.new.items) (profile ∷ [])) }
+    ensures named { T.named texts.new ≡ T.named texts.old ++ word.now ∷ [] }
     ensures same { T.text_of texts.new ≡ T.text_of texts.old }
     ensures read { T.failed texts.new ≡ is_err_at_read result }
 {

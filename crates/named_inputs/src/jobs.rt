@@ -12,13 +12,17 @@ pub trait Jobs<'n> {
     // What the source of a name is like before its first read.
     ghost start: { Self → List ℕ → SourceState };
 
+    // The source is the one that this name stands for.
+    ghost is_named: { Self.Job → List ℕ → Type 0 };
+
     // What the jobs that were ended had come to, in their order.
     ghost ended: { Self → List SourceState };
 
     /// The job that a word names, of which nothing is read yet.
     fn job(&self, name: &'n [u8]) -> Self::Job
         ensures working { IsFalse (Self.Job.state result).failed }
-        ensures start { Self.Job.state result ≡ start self.now name.now };
+        ensures start { Self.Job.state result ≡ start self.now name.now }
+        ensures named { is_named result name.now };
 
     /// Ends a job, of which no more is read.
     fn end(&mut self, job: Self::Job)

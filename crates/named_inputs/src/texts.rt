@@ -1,6 +1,6 @@
 //! What the texts of profiles are read from.
-ghost use Rattle.std.specs.Prelude.{◌≡◌, ◌≤◌, ℕ, Bool, List, [], ◌++◌, Option, take, length, IfOk};
-ghost use Rattle.std.specs.Prelude.{IfErr, IfSome, IsFalse};
+ghost use Rattle.std.specs.Prelude.{◌≡◌, ◌≤◌, ℕ, Bool, List, [], ◌∷◌, ◌++◌, Option, take, length};
+ghost use Rattle.std.specs.Prelude.{IfErr, IfOk, IfSome, IsFalse};
 ghost use Rattle.streams.specs.Errors.{is_err_of_read};
 ghost use Rattle.named_inputs.specs.Texts.{IsErrorOfReading, IsTextBy, text_read};
 
@@ -17,6 +17,9 @@ const MOST_OF_TEXT: usize = 65_537;
 pub trait ProfileTexts {
     // The text that a word names, where it is known.
     ghost text_of: { Self → List ℕ → Option (List ℕ) };
+
+    // The words under which texts were asked for so far, one after another.
+    ghost named: { Self → List (List ℕ) };
 
     // The texts that were read so far, one after another.
     ghost given: { Self → List (List ℕ) };
@@ -39,6 +42,7 @@ pub trait ProfileTexts {
         ensures reads { IfOk result (λ text. IsTextBy (reads self.new) text.items) }
         ensures most { IfOk result (λ text. length text.items ≤ 65_537) }
         ensures errors { IfErr result IsErrorOfReading }
+        ensures named { named self.new ≡ named self.old ++ word.now ∷ [] }
         ensures same { text_of self.new ≡ text_of self.old }
         ensures status { failed self.new ≡ is_err_of_read result };
 

@@ -1,5 +1,6 @@
 -- What the program leaves of what it is asked for. Nothing is known of its files beforehand; the history of files tells
--- which were read and which were written; of the texts of profiles and the jobs of many it is said for some reads.
+-- which were read and which were written, and which profiles a job or a sheet is for;
+-- of other texts of profiles and of the jobs of many it is said for some reads.
 use Rattle.renderings.specs.Due.{list_rendering}
 use Rattle.std.specs.Prelude.{◌≡◌, List, ℕ, Option, map, option_map, IsFalse, IsTrue}
 use Rattle.requests.specs.declared.request.Request.{Request}
@@ -31,7 +32,8 @@ pub record LeavesExplanation (texts : List (List ℕ)) (code : Option (List ℕ)
 abbrev pub Fulfils : List (List ℕ) → Request → Status → List FileUse → List FileUse → OutletState → OutletState →
     OutletState → OutletState → Type 0
 Fulfils texts (requests.Check job profiles) status used used' out out' err err' =
-    LeavesCheck job.now (map (λ word. text_named word.now) profiles.items) status used used' out out' × (err' ≡ err)
+    LeavesCheck job.now (map (λ word. word.now) profiles.items) (map (λ word. text_named word.now) profiles.items)
+    status used used' out out' × (err' ≡ err)
 Fulfils texts (requests.CheckMany words) status used used' out out' err err' =
     LeavesChecks (asking texts words) status used used' out out' err err'
 Fulfils texts (requests.List job) status used used' out out' err err' =

@@ -17,7 +17,7 @@ use std::rt::Files;
 use streams::{FilesUsed, Outlet};
 
 /// Does what is asked for. Its files are opened by the subcommands, as late as these say; a history
-/// is kept of them, but for the texts of profiles and the jobs of many.
+/// is kept of them, but for the jobs of many with their fleet, and what tells of profiles.
 pub fn fulfil<R: Files + Input + Print + AllocGlobal, O: Outlet, E: Outlet>(
     rt: &R,
     request: &Request<'_>,

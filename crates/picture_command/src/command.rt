@@ -1,5 +1,6 @@
 //! The command `picture`.
-ghost use Rattle.std.specs.Prelude.{◌≡◌, ◌⊎◌, ◌||◌, IfErr, IfOk, IsErrOf, IsFalse, IsTrue};
+ghost use Rattle.std.specs.Prelude.{◌≡◌, ◌⊎◌, ◌||◌, ◌++◌, ◌∷◌, [], IfErr, IfOk, IsErrOf};
+ghost use Rattle.std.specs.Prelude.{IsFalse, IsTrue};
 ghost use Rattle.device_profile.specs.Printer.{IsAllowed};
 ghost use Rattle.streams.specs.Errors.{is_err_of_read};
 ghost use Rattle.named_inputs.specs.Fleet.{RefusesRead, IsNamed, RefusesOne};
@@ -95,6 +96,8 @@ pub fn picture<S: Source, T: ProfileTexts, O: Outlet, E: Outlet, A: Allocator + 
         ⊎ HasNoEnd (S.state second.old) (S.state second.new) }
     ensures refusal { RefusesOne (T.text_of texts.old asked.now.setting.profile.now) result }
     ensures refused { RefusesRead (T.given texts.old) (T.given texts.new) 1 result }
+    ensures named { T.named texts.new
+        ≡ T.named texts.old ++ asked.now.setting.profile.now ∷ [] }
     ensures unread { IsTrue (is_refusal result || T.failed texts.new) →
         (first.new ≡ first.old) × (second.new ≡ second.old) }
     ensures choice { TellsOfPin result

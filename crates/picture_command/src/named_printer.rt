@@ -1,5 +1,6 @@
 //! A printer with the name that its text gives it.
-ghost use Rattle.std.specs.Prelude.{◌≡◌, ℕ, List, [], ◌∷◌, map, IfErr, IfOk, IsFalse, MatchResult};
+ghost use Rattle.std.specs.Prelude.{◌≡◌, ℕ, List, [], ◌∷◌, ◌++◌, map, IfErr, IfOk, IsFalse};
+ghost use Rattle.std.specs.Prelude.{MatchResult};
 ghost use Rattle.device_profile.specs.Name.{printer_name};
 ghost use Rattle.picture_command.specs.Picture.{IsNamedBy};
 ghost use Rattle.named_inputs.specs.Fleet.{IsEndOfProfile, RefusesRead, IsNamed};
@@ -32,6 +33,7 @@ pub(crate) fn read_printer<T: ProfileTexts, A: Allocator + Copy>(
         (IsNamed (T.text_of texts.old word.now) (T.given texts.old) (T.given texts.new))
         printer.profile name)
         (IsEndOfProfile 1 (T.text_of texts.old word.now)) }
+    ensures named { T.named texts.new ≡ T.named texts.old ++ word.now ∷ [] }
     ensures refused { IfErr result (RefusesRead (T.given texts.old) (T.given texts.new) 1) }
     ensures read { T.failed texts.new ≡ is_err_at_read result }
 {

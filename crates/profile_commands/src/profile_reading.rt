@@ -1,5 +1,5 @@
 //! Reading a profile for the commands on profiles, which tell all that is wrong with it.
-ghost use Rattle.std.specs.Prelude.{◌≡◌, IfOk, IfErr, IsFalse, OnOk, MatchResult};
+ghost use Rattle.std.specs.Prelude.{◌≡◌, ◌++◌, ◌∷◌, [], IfOk, IfErr, IsFalse, OnOk, MatchResult};
 ghost use Rattle.streams.specs.Writing.{Writes};
 ghost use Rattle.profile_commands.specs.ProfileReading.{IsRead, IsTextOf, TellsFaults, TellsNoText};
 ghost use Rattle.profile_lint.specs.Lint.{faults_text};
@@ -24,6 +24,7 @@ pub fn read_text<T: ProfileTexts, E: Outlet, A: Allocator + Copy>(
     requires stderr { IsFalse (E.state stderr.old).failed }
     ensures text { IfOk result (λ text. IsRead (T.text_of texts.old word.now)
         (T.given texts.old) (T.given texts.new) text.items) }
+    ensures named { T.named texts.new ≡ T.named texts.old ++ word.now ∷ [] }
     ensures same { T.text_of texts.new ≡ T.text_of texts.old }
     ensures working { OnOk result (IsFalse (T.failed texts.new)) }
     ensures quiet { OnOk result (stderr.new ≡ stderr.old) }

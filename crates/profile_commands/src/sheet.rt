@@ -1,5 +1,5 @@
 //! The command `profile sheet`.
-ghost use Rattle.std.specs.Prelude.{◌≡◌, IfOk, IsFalse, IsSome, IsTrue};
+ghost use Rattle.std.specs.Prelude.{◌≡◌, ◌++◌, ◌∷◌, [], IfOk, IsFalse, IsSome, IsTrue};
 ghost use Rattle.profile_commands.specs.ProfileSheet.{IsEndOfCheck, LeavesSheet, LeavesSheetOf};
 ghost use Rattle.profile_commands.specs.ProfileSheet.{WritesOut, unprinted_sheet};
 ghost use Rattle.job_reports.specs.Refusals.{TellsLine};
@@ -35,6 +35,7 @@ pub fn profile_sheet<T: ProfileTexts, W: Create, E: Outlet, A: Allocator + Copy>
     ensures left { LeavesSheet (T.text_of texts.old word.now) word.now (T.given texts.old)
         (T.given texts.new) (T.failed texts.new) result (W.state out.old) (W.state out.new)
         (E.state stderr.old) (E.state stderr.new) }
+    ensures named { T.named texts.new ≡ T.named texts.old ++ word.now ∷ [] }
     // Where OUT is the profile, it is as it was.
     ensures kept { IsTrue (is_overwriting result) → out.new ≡ out.old }
 {

@@ -2,7 +2,7 @@
 use Rattle.std.proofs.Common.{◌≡◌, ◌∙◌, ◌++◌, ◌∷◌, ℕ, Bool, List, [], ap, append_assoc}
 use Rattle.streams.specs.Outlet.{OutletState}
 use Rattle.streams.specs.Source.{SourceState}
-use Rattle.streams.specs.Used.{FileUse, read_at, written_at}
+use Rattle.streams.specs.Used.{FileUse, TextsAt, read_at, written_at}
 
 -- one file is read, at the path that a word is
 pub one_read : (used used' : List FileUse) (path at : List ℕ) (job : SourceState)
@@ -13,6 +13,20 @@ one_read used used' path at job is more = more ∙ ap (λ (p : List ℕ). used +
 pub one_written : (used used' : List FileUse) (into to : List ℕ) (file : OutletState) (put : Bool)
     → to ≡ into → used' ≡ used ++ written_at to file put ∷ [] → used' ≡ used ++ written_at into file put ∷ []
 one_written used used' into to file put is more = more ∙ ap (λ (p : List ℕ). used ++ written_at p file put ∷ []) is
+
+-- the texts of some words are read, where none was asked for before
+pub texts_read : (used used' : List FileUse) (before words texts asked : List (List ℕ)) (failed : Bool)
+    → before ≡ [] → words ≡ before ++ asked → used' ≡ used ++ TextsAt words texts failed ∷ []
+    → used' ≡ used ++ TextsAt asked texts failed ∷ []
+texts_read used used' before words texts asked failed none are more =
+    more
+    ∙ ap (λ (w : List (List ℕ)). used ++ TextsAt w texts failed ∷ []) (are ∙ ap (λ (b : List (List ℕ)). b ++ asked) none)
+
+-- behind some files one more
+pub one_behind : (used between used' front : List FileUse) (other : FileUse)
+    → between ≡ used ++ front → used' ≡ between ++ other ∷ [] → used' ≡ used ++ (front ++ other ∷ [])
+one_behind used between used' front other first more =
+    more ∙ ap (λ (u : List FileUse). u ++ other ∷ []) first ∙ append_assoc used front (other ∷ [])
 
 -- and then another one
 pub one_more : (used between used' : List FileUse) (one other : FileUse)

@@ -1,22 +1,24 @@
 -- What a file stands for that is read, and one that is written. What stands in a file is not known.
-use Rattle.std.specs.Prelude.{[], Bool, true, false, Option, None}
+use Rattle.std.specs.Prelude.{[], ℕ, List, Bool, true, false, Option, None}
 use Rattle.streams.specs.declared.file_id.FileId.{FileId}
 use Rattle.streams.specs.declared.opened.Opened.{Opened}
 use Rattle.streams.specs.declared.opened.Opened.TheVariants.{NotYet, Failed, Done}
 use Rattle.streams.specs.Outlet.{OutletState}
 use Rattle.streams.specs.Source.{SourceState}
 
--- as a source, whether it is open, and which file that is
+-- as a source, whether it is open, which file that is, and the path at which it is opened
 pub record FileSourceState : Type 0 where
   pub source : SourceState
   pub is_open : Bool
   pub file : Option FileId
+  pub path : List ℕ
 
--- as an outlet, whether it was created, and whether what was written was put in its place
+-- as an outlet, whether it was created, whether what was written was put in its place, and the path of that
 pub record FileOutletState : Type 0 where
   pub outlet : OutletState
   pub is_created : Bool
   pub is_put : Bool
+  pub path : List ℕ
 
 abbrev pub is_open : {F : Type 0} → Opened F → Bool
 is_open NotYet = false

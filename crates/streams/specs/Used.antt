@@ -7,10 +7,12 @@ use Rattle.streams.specs.Source.{SourceState}
 
 -- what was done with the file at a path: what its reads gave, piece by piece, or what its writes took;
 -- whether a read, or a write, has failed, as where it could not be opened, or created;
--- and whether what the writes took was put in its place
+-- and whether what the writes took was put in its place;
+-- or the texts that these words name, as far as they were asked for, one after another, and whether a read failed
 pub data FileUse : Type 0 where
   ReadAt : (path : List ℕ) (given : List (List ℕ)) (failed : Bool) → FileUse
   WrittenAt : (path taken : List ℕ) (failed put : Bool) → FileUse
+  TextsAt : (words texts : List (List ℕ)) (failed : Bool) → FileUse
 
 -- it was read, and came to this
 abbrev pub read_at : List ℕ → SourceState → FileUse
@@ -22,5 +24,6 @@ written_at path outlet put = WrittenAt path outlet.taken outlet.failed put
 
 abbrev pub use_of : FileEnd → FileUse
 use_of end =
-    if end.is_written then WrittenAt end.path.now (concat end.taken.pieces) end.has_failed end.is_put
-    else ReadAt end.path.now end.given.pieces end.has_failed
+    if end.are_texts then TextsAt end.words.pieces end.given.pieces end.has_failed
+    else (if end.is_written then WrittenAt end.path.now (concat end.taken.pieces) end.has_failed end.is_put
+    else ReadAt end.path.now end.given.pieces end.has_failed)

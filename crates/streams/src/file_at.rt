@@ -19,6 +19,7 @@ impl<'a, R: Files> SourceAt<'a, R> {
     pub fn new(files: &'a R, path: &'a str) -> SourceAt<'a, R>
         ensures path { result.path.now ≡ path.now }
         ensures file { result.file.source ≡ no_source }
+        ensures opens { result.file.path ≡ path.now }
     {
         SourceAt {
             path,
@@ -39,6 +40,7 @@ impl<'a, R: Files> OutletAt<'a, R> {
     pub fn new(files: &'a R, path: &'a str) -> OutletAt<'a, R>
         ensures path { result.path.now ≡ path.now }
         ensures file { result.file.outlet ≡ no_outlet }
+        ensures creates { result.file.path ≡ path.now }
     {
         OutletAt {
             path,

@@ -41,13 +41,15 @@ impl<'a, R: Files> Model for FileOutlet<'a, R> {
       outlet = outlet_of file.created;
       is_created = is_open file.created;
       is_put = file.is_put;
+      path = file.path.now;
     } };
 }
 
 impl<'a, R: Files> FileOutlet<'a, R> {
     /// The file at a path, which is not created yet.
     pub fn new(files: &'a R, path: &'a str) -> FileOutlet<'a, R>
-        ensures { result.outlet ≡ no_outlet }
+        ensures outlet { result.outlet ≡ no_outlet }
+        ensures path { result.path ≡ path.now }
     {
         FileOutlet {
             files,

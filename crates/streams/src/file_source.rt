@@ -32,13 +32,15 @@ impl<'a, R: Files> Model for FileSource<'a, R> {
       source = source_of file.opened;
       is_open = is_open file.opened;
       file = file.file;
+      path = file.path.now;
     } };
 }
 
 impl<'a, R: Files> FileSource<'a, R> {
     /// The file at a path, of which nothing is read yet.
     pub fn new(files: &'a R, path: &'a str) -> FileSource<'a, R>
-        ensures { result.source ≡ no_source }
+        ensures source { result.source ≡ no_source }
+        ensures path { result.path ≡ path.now }
     {
         FileSource {
             files,

@@ -2,7 +2,7 @@
 //! read this: it takes no memory, and nothing is done for it at run time.
 ghost use Rattle.std.specs.Prelude.{◌≡◌, List, [], ◌∷◌, ◌++◌};
 ghost use Rattle.std.specs.Borrow.{ftrue};
-ghost use Rattle.streams.specs.Used.{FileUse, read_at, use_of, written_at};
+ghost use Rattle.streams.specs.Used.{FileUse, TextsAt, read_at, use_of, written_at};
 
 use crate::file_at::{OutletAt, SourceAt};
 use crate::given::Given;
@@ -17,7 +17,10 @@ use std::rt::Files;
 pub struct FileEnd<'a> {
     pub path: &'a str,
     pub is_written: bool,
-    /// What its reads gave.
+    /// These are texts under words, and no path.
+    pub are_texts: bool,
+    pub words: Given,
+    /// What its reads gave, or the texts.
     pub given: Given,
     /// What its writes took.
     pub taken: Given,
@@ -52,7 +55,7 @@ impl FileUses {
 }
 
 /// The files that were read and written so far, in the order in which that ended. A clause sees it
-/// as the list of them. Nothing but `read` and `written` adds one.
+/// as the list of them. Nothing but `read`, `written` and `texts` adds one.
 #[derive(Drop)]
 pub struct FilesUsed {
     so_far: FileUses,
@@ -77,6 +80,23 @@ impl FilesUsed {
         }
     }
 
+    /// And then the texts under these words, of which no more is read: they gave this.
+    pub fn texts(&mut self, words: Given, given: Given, has_failed: bool)
+        ensures { self.new ≡ self.old ++ TextsAt words.pieces given.pieces has_failed ∷ [] }
+    {
+        let taken = Given::new();
+        self.so_far = self.so_far.and(&FileEnd {
+            path: "",
+            is_written: false,
+            are_texts: true,
+            words,
+            given,
+            taken,
+            has_failed,
+            is_put: false,
+        });
+    }
+
     /// And then this one, of which no more is read.
     pub fn read<R: Files>(&mut self, source: SourceAt<'_, R>)
         ensures { self.new ≡ self.old
@@ -89,6 +109,8 @@ impl FilesUsed {
         self.so_far = self.so_far.and(&FileEnd {
             path,
             is_written: false,
+            are_texts: false,
+            words: Given::new(),
             given,
             taken,
             has_failed,
@@ -110,6 +132,8 @@ impl FilesUsed {
         self.so_far = self.so_far.and(&FileEnd {
             path,
             is_written: true,
+            are_texts: false,
+            words: Given::new(),
             given,
             taken,
             has_failed,

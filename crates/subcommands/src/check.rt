@@ -7,6 +7,7 @@ ghost use Rattle.streams.specs.Outlet.{Adds};
 ghost use Rattle.subcommands.specs.Check.{texts_by, IsRightFor, Leaves, LeavesAtStop};
 ghost use Rattle.job_reports.specs.Right.{IsRightVerdict};
 ghost use Rattle.named_inputs.specs.Fleet.{RefusesBy, RefusesFirst, ReachesSome};
+ghost use Rattle.named_inputs.specs.Texts.{AsksInOrder};
 ghost use Rattle.job_reports.specs.Lines.{verdict_line};
 ghost use Rattle.requests.specs.Status.{is_refusal, is_stop_of_read, is_stop_of_write};
 
@@ -39,6 +40,8 @@ pub fn check<S: Source, T: ProfileTexts, O: Outlet, A: Allocator + Copy>(
     ensures refusal { RefusesFirst (map (λ word. T.text_of texts.old word.now) profiles.now)
         result }
     ensures refused { RefusesBy (T.given texts.old) (T.given texts.new) result }
+    ensures named { AsksInOrder (map (λ word. word.now) profiles.now)
+        (T.named texts.old) (T.named texts.new) }
     ensures reached { IsTrue (T.failed texts.new) →
         ReachesSome (map (λ word. T.text_of texts.old word.now) profiles.now) }
     ensures unread { IsTrue (is_refusal result || T.failed texts.new) → job.new ≡ job.old }

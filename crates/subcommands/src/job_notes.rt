@@ -1,5 +1,5 @@
 //! The command `notes`.
-ghost use Rattle.std.specs.Prelude.{◌≡◌, ◌||◌, ◌++◌, IfErr, IfOk, IsErrOf, IsFalse, OnOk};
+ghost use Rattle.std.specs.Prelude.{◌≡◌, ◌||◌, ◌++◌, ◌∷◌, [], IfErr, IfOk, IsErrOf, IsFalse, OnOk};
 ghost use Rattle.streams.specs.Errors.{is_err_of_read};
 ghost use Rattle.subcommands.specs.JobNotes.{EndsNotes, LeavesNotes, outcome_line, status_of_text};
 ghost use Rattle.named_inputs.specs.KeptText.{kept_error};
@@ -41,6 +41,7 @@ pub fn tell_notes<S: Source, T: ProfileTexts, O: Outlet, A: Allocator + Copy>(
         ((S.state job.new).failed || T.failed texts.new) (O.state stdout.new).failed }
     ensures first { JudgesFirst result (T.text_of texts.old profile.now)
         (T.given texts.old) (T.given texts.new) (T.failed texts.new) job.old job.new }
+    ensures named { T.named texts.new ≡ T.named texts.old ++ profile.now ∷ [] }
 {
     let mut profile = match read_profile(alloc, texts, profile, 1) {
         Ok(profile) => profile,

@@ -1,5 +1,5 @@
 //! The command `pages`.
-ghost use Rattle.std.specs.Prelude.{◌||◌, IsFalse};
+ghost use Rattle.std.specs.Prelude.{◌≡◌, ◌||◌, ◌++◌, ◌∷◌, [], IsFalse};
 ghost use Rattle.subcommands.specs.JobTexts.{EndsBy, JudgesFirst, LeavesPages};
 ghost use Rattle.named_inputs.specs.Fleet.{IsNamed};
 
@@ -30,6 +30,7 @@ pub fn pages<S: Source, T: ProfileTexts, O: Outlet, A: Allocator + Copy>(
         ((S.state job.new).failed || T.failed texts.new) (O.state stdout.new).failed }
     ensures first { JudgesFirst result (T.text_of texts.old profile.now)
         (T.given texts.old) (T.given texts.new) (T.failed texts.new) job.old job.new }
+    ensures named { T.named texts.new ≡ T.named texts.old ++ profile.now ∷ [] }
 {
     let profile = match read_profile(alloc, texts, profile, 1) {
         Ok(profile) => profile,

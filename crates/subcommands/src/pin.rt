@@ -1,5 +1,5 @@
 //! The command `pin`.
-ghost use Rattle.std.specs.Prelude.{◌≡◌, ◌||◌, IsFalse, IsTrue};
+ghost use Rattle.std.specs.Prelude.{◌≡◌, ◌||◌, ◌++◌, ◌∷◌, [], IsFalse, IsTrue};
 ghost use Rattle.subcommands.specs.JobTexts.{CreatesOnceOpen, EndsBy, JudgesFirst, LeavesPinned};
 ghost use Rattle.named_inputs.specs.Choices.{TellsOfPin};
 ghost use Rattle.named_inputs.specs.Fleet.{IsNamed};
@@ -43,6 +43,7 @@ pub fn pin<S: Open, T: ProfileTexts, W: Create, O: Outlet, E: Outlet, A: Allocat
         ((W.state out.new).failed || (O.state stdout.new).failed) }
     ensures first { JudgesFirst result (T.text_of texts.old setting.now.profile.now)
         (T.given texts.old) (T.given texts.new) (T.failed texts.new) job.old job.new }
+    ensures named { T.named texts.new ≡ T.named texts.old ++ setting.now.profile.now ∷ [] }
     ensures created { CreatesOnceOpen result S.opens W.creates job.old out.old out.new }
     // Where OUT is a file that is read, it is as it was.
     ensures kept { IsTrue (is_overwriting result) → out.new ≡ out.old }

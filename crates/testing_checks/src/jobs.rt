@@ -94,6 +94,8 @@ impl<'n> Jobs<'n> for KeptJobs {
 
     ghost start = { λ _ _. no_source };
 
+    ghost is_named = { λ _ _. Unit {0} };
+
     ghost ended = { λ jobs. jobs.ended.jobs };
 
     fn job(&self, name: &'n [u8]) -> KeptJob {

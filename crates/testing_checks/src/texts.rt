@@ -12,6 +12,8 @@ pub type Named<'a> = (&'a str, &'a [u8]);
 #[derive(Drop)]
 pub struct KeptTexts<'a> {
     texts: &'a [Named<'a>],
+    /// The words under which texts were asked for.
+    named: Given,
     given: Given,
     /// What the reads of the last text gave.
     reads: Given,
@@ -24,6 +26,7 @@ impl<'a> KeptTexts<'a> {
     {
         KeptTexts {
             texts,
+            named: Given::new(),
             given: Given::new(),
             reads: Given::new(),
             has_failed: false,
@@ -44,6 +47,8 @@ impl<'a> KeptTexts<'a> {
 impl ProfileTexts for KeptTexts<'_> {
     ghost text_of = { λ _ _. None };
 
+    ghost named = { λ kept. kept.named.pieces };
+
     ghost given = { λ kept. kept.given.pieces };
 
     ghost reads = { λ kept. kept.reads.pieces };
@@ -51,6 +56,7 @@ impl ProfileTexts for KeptTexts<'_> {
     ghost failed = { λ kept. kept.has_failed };
 
     fn read_text<A: Allocator>(&mut self, alloc: A, word: &str) -> Result<Vec<u8, A>, Error> {
+        self.named = self.named.and(word.as_bytes());
         let Some(text) = self.text_named(word) else {
             self.has_failed = true;
             return Err(Error::Read);

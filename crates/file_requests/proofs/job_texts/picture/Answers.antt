@@ -15,6 +15,8 @@ returns g c =
     let left = c.picture-status.ensures in
     inl
     (picture_left asked.setting.profile.now asked.setting.choices.now asked.selection asked.job.now _ _ _ _ _ _ _ _ _ _ _ _ _ _ _ _ _
+    _ _ _
     c.new-texts.ensures.given c.new-first.ensures.file c.new-second.ensures.file
     left.left left.read left.write left.turns left.refusal left.refused left.choice
+    c.new-texts.ensures.named left.named c.end.ensures
     c.new-first.ensures.path c.new-second.ensures.path c.read.ensures c.read-2.ensures)

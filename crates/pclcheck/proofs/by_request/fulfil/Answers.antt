@@ -9,8 +9,8 @@ pub returns-in-Check : goal.returns-in-Check
 returns-in-Check g c =
     asked _ _ _ _ _ _ _ _ _ _ c.in-Check.is (
       subst
-          (λ words. LeavesCheck c.in-Check.job.now (map (λ word. text_named word.now) words) c.check.result c.args.used.now
-          c.check.new.used (g.O.Outlet.state c.args.stdout.now) (g.O.Outlet.state c.check.new.stdout))
+          (λ words. LeavesCheck c.in-Check.job.now (map (λ word. word.now) words) (map (λ word. text_named word.now) words)
+          c.check.result c.args.used.now c.check.new.used (g.O.Outlet.state c.args.stdout.now) (g.O.Outlet.state c.check.new.stdout))
           c.as_slice.ensures.value c.check.ensures,
       refl,
     )
