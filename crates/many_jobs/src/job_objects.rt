@@ -6,6 +6,7 @@ ghost use Rattle.many_jobs.specs.JobObjects.{
   report_members,
   with_answer,
   with_command,
+  with_cursor,
   with_error,
   with_explanation,
   with_fail,
@@ -21,7 +22,8 @@ ghost use Rattle.job_reports.specs.Reports.{number_told, verdict_told};
 use crate::json_object::Object;
 use job_reports::{Kind, Report, kind_of, push_command_words};
 use line_words::{bare_name, push_field_words};
-use preflight::{Culprit, Verdict};
+use preflight::{Culprit, SheetSpot, Verdict};
+use shown_bytes::push_millimetres;
 use std::alloc::{AllocError, Allocator, Global};
 use streams::Error;
 use verdict::Reason;
@@ -98,6 +100,7 @@ fn put_answer<A: Allocator + Copy>(
             put_fail(alloc, object, place, profile, finding)?;
             put_kind(object, kind_of(finding, report.culprit()))?;
             put_page(object, report.page())?;
+            put_cursor(alloc, object, report.cursor())?;
             put_command(alloc, object, report.culprit())?;
             put_explanation(object, explanation)
         }
@@ -157,6 +160,27 @@ fn put_page(object: &mut Object, page: Option<u64>) -> Result<(), AllocError>
 {
     match page {
         Some(page) => object.put_number("page", page),
+        None => Ok(()),
+    }
+}
+
+/// Puts where the cursor stood, if that is known.
+fn put_cursor<A: Allocator>(
+    alloc: A,
+    object: &mut Object,
+    cursor: Option<SheetSpot>,
+) -> Result<(), AllocError>
+    ensures { OnOk result (members_of object.new ≡ with_cursor cursor (members_of object.old)) }
+{
+    match cursor {
+        Some(spot) => {
+            let mut words = Vec::new(alloc);
+            push_millimetres(&mut words, spot.x)?;
+            object.put_words("x_mm", words.as_slice())?;
+            words.clear();
+            push_millimetres(&mut words, spot.y)?;
+            object.put_words("y_mm", words.as_slice())
+        }
         None => Ok(()),
     }
 }

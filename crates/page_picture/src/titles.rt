@@ -2,10 +2,9 @@
 ghost use Rattle.std.specs.Prelude.{◌≡◌, ◌++◌, OnOk};
 ghost use Rattle.page_picture.specs.Titles.{character_title, title, title_end};
 
-use crate::figures::push_millimetres;
 use crate::mark_parts::MarkPart;
 use page_env::Glyph;
-use shown_bytes::push_number;
+use shown_bytes::{push_millimetres, push_number};
 use std::alloc::{AllocError, Allocator};
 
 /// Appends where a mark stands: the number of bytes before its item, and its place, in ticks from

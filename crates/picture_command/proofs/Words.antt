@@ -55,6 +55,7 @@ culprit_leaves culprits.Line item is = sym (ap left_out_in is.1)
 pub culprit_at_item : (culprit : Culprit) (item : Entry) → IsCulprit culprit item → fails_at None (Some culprit) ≡ at_item item
 culprit_at_item culprit item is = λ i. record {
   page = None;
+  cursor = None;
   words = codes ", " ++ culprit_words culprit item is i;
   left_out = culprit_leaves culprit item is i;
 }

@@ -47,7 +47,8 @@ item_words item = flat_map code_words (canon item)
 
 -- where a failure at an item stands, whatever its page
 abbrev pub at_item : Entry → FailsAt
-at_item item = record { page = None; words = codes ", " ++ item_words item; left_out = left_out_in item }
+at_item item =
+    record { page = None; cursor = None; words = codes ", " ++ item_words item; left_out = left_out_in item }
 
 -- the sentence on a verdict on the job of this name for these printers, where the failure stands so
 abbrev pub sentence : (job : List ℕ) → Groups → (at : FailsAt) → Verdict → List ℕ

@@ -150,6 +150,8 @@ impl<'p, 'n, B: Allocator + Copy> PageSearch<'p, 'n, B> {
                 verdict,
                 culprit,
                 page: Some(self.open_page()),
+                cursor: None,
+                request: None,
             }),
             cause: None,
         };
