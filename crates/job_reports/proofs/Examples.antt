@@ -38,7 +38,7 @@ report_of is_each answer cause = record {
 }
 
 abbrev passed : Result Judgement Error
-passed = Ok (record { verdict = Pass 1 22; culprit = None; page = None; cursor = None; request = None })
+passed = Ok (record { verdict = Pass 1 22; culprit = None; page = None; cursor = None; font = None })
 
 -- the second printer has no page of this size
 abbrev refused : Result Judgement Error
@@ -47,12 +47,12 @@ refused = Ok (record {
   culprit = Some (Simple (Parameterized PageSize (record { sign = Absent; ten_thousandths = 20000; within = lit≤ tt })));
   page = Some 2;
   cursor = None;
-  request = None;
+  font = None;
 })
 
 -- the bytes are wrong, whatever the printer
 abbrev faulty : Result Judgement Error
-faulty = Ok (record { verdict = Fail 9 0 (Fault Syntax); culprit = None; page = Some 1; cursor = None; request = None })
+faulty = Ok (record { verdict = Fail 9 0 (Fault Syntax); culprit = None; page = Some 1; cursor = None; font = None })
 
 abbrev gone : Option (List ℕ)
 gone = Some (codes "No such file or directory")
@@ -90,7 +90,7 @@ placed = Ok (record {
   culprit = None;
   page = Some 1;
   cursor = Some (record { x = pos 45_720_000_000; y = pos 54_864_000_000 });
-  request = None;
+  font = None;
 })
 
 sentence_of_place : job_sentence (report_of false placed None)
@@ -114,7 +114,7 @@ failing_at culprit = Ok (record {
   culprit = culprit;
   page = Some 1;
   cursor = None;
-  request = None;
+  font = None;
 })
 
 sentence_of_unchecked : job_sentence (report_of true (failing_at (spaced Absent)) None)

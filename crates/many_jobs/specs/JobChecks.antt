@@ -8,7 +8,7 @@ use Rattle.streams.specs.declared.error.Error.TheVariants.{Memory, Read, Write, 
 use Rattle.preflight.specs.declared.culprit.Culprit.{Culprit}
 use Rattle.preflight.specs.declared.culprit.Judgement.{Judgement}
 use Rattle.preflight.specs.Culprit.{IsTold}
-use Rattle.preflight.specs.Stood.{IsCursorOf, IsRequestOf}
+use Rattle.preflight.specs.Stood.{IsCursorOf, IsFontOf}
 use Rattle.preflight.specs.Where.{IsOnPage}
 use Rattle.streams.specs.Errors.{is_err_of_read}
 use Rattle.preflight.specs.Verdict.{PassesItems}
@@ -51,8 +51,8 @@ pub record IsRightAnswer (fleet : List Printer) (start after : SourceState)
   pub item : IfOk answer (λ judgement. ByReads start after (λ job. IsTold job judgement.verdict judgement.culprit))
   pub page : IfOk answer (λ judgement. ByReads start after (λ job. IsOnPage fleet job judgement.verdict judgement.page))
   pub cursor : IfOk answer (λ judgement. ByReads start after (λ job. IsCursorOf fleet job judgement.verdict judgement.cursor))
-  pub request : IfOk answer (λ judgement.
-      ByReads start after (λ job. IsRequestOf fleet job judgement.verdict judgement.request))
+  pub font : IfOk answer (λ judgement.
+      ByReads start after (λ job. IsFontOf fleet job judgement.verdict judgement.font))
   pub error : IfErr answer IsErrorOfJob
   pub within : IfOk answer (λ judgement. has_many_items judgement.verdict ≡ false)
   pub items : IsErrOf answer Items → PassesItems fleet start after

@@ -11,7 +11,9 @@ ghost use Rattle.many_jobs.specs.JobObjects.{
   with_explanation,
   with_fail,
   with_field,
+  with_font,
   with_kind,
+  with_missing_font,
   with_page,
   with_pass,
   with_printer,
@@ -20,9 +22,10 @@ ghost use Rattle.many_jobs.specs.JsonObject.{members_of};
 ghost use Rattle.job_reports.specs.Reports.{number_told, verdict_told};
 
 use crate::json_object::Object;
-use job_reports::{Kind, Report, kind_of, push_command_words};
+use device_profile::FontRequest;
+use job_reports::{Kind, Report, kind_of, push_command_words, push_font_commands};
 use line_words::{bare_name, push_field_words};
-use preflight::{Culprit, SheetSpot, Verdict};
+use preflight::{Culprit, MissingFont, SheetSpot, Verdict};
 use shown_bytes::push_millimetres;
 use std::alloc::{AllocError, Allocator, Global};
 use streams::Error;
@@ -101,6 +104,7 @@ fn put_answer<A: Allocator + Copy>(
             put_kind(object, kind_of(finding, report.culprit()))?;
             put_page(object, report.page())?;
             put_cursor(alloc, object, report.cursor())?;
+            put_missing_font(alloc, object, report.font())?;
             put_command(alloc, object, report.culprit())?;
             put_explanation(object, explanation)
         }
@@ -180,6 +184,45 @@ fn put_cursor<A: Allocator>(
             words.clear();
             push_millimetres(&mut words, spot.y)?;
             object.put_words("y_mm", words.as_slice())
+        }
+        None => Ok(()),
+    }
+}
+
+/// Puts the font that no face answers, and what selects the nearest, where a font is missing.
+fn put_missing_font<A: Allocator>(
+    alloc: A,
+    object: &mut Object,
+    font: Option<MissingFont>,
+) -> Result<(), AllocError>
+    ensures { OnOk result (members_of object.new ≡
+        with_missing_font font (members_of object.old)) }
+{
+    match font {
+        Some(font) => {
+            let mut words = Vec::new(alloc);
+            put_font(object, "asked", Some(font.asked), &mut words)?;
+            put_font(object, "nearest", font.nearest, &mut words)
+        }
+        None => Ok(()),
+    }
+}
+
+/// Puts the commands that ask for a font, if there is one, which are written here.
+fn put_font<A: Allocator>(
+    object: &mut Object,
+    key: &str,
+    font: Option<FontRequest>,
+    words: &mut Vec<u8, A>,
+) -> Result<(), AllocError>
+    ensures { OnOk result (members_of object.new ≡
+        with_font key.now font (members_of object.old)) }
+{
+    match font {
+        Some(font) => {
+            words.clear();
+            push_font_commands(words, &font)?;
+            object.put_words(key, words.as_slice())
         }
         None => Ok(()),
     }

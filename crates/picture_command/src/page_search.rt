@@ -151,7 +151,7 @@ impl<'p, 'n, B: Allocator + Copy> PageSearch<'p, 'n, B> {
                 culprit,
                 page: Some(self.open_page()),
                 cursor: None,
-                request: None,
+                font: None,
             }),
             cause: None,
         };

@@ -4,8 +4,8 @@ use Rattle.std.proofs.Common.{IfSome, refl, ap, sym, ◌∙◌, subst, append-ni
 use Rattle.pcl_items.specs.Items.{Entry, Placed}
 use Rattle.pcl_lexer.specs.Lexing.State.{LexerState}
 use Rattle.pcl_lexer.specs.Reading.{Reading, IsReading, items_of}
-use Rattle.device_profile.specs.declared.font.FontRequest.{FontRequest}
 use Rattle.device_profile.specs.declared.panel.Panel.{Panel}
+use Rattle.device_profile.specs.Nearest.{nearest_request}
 use Rattle.device_profile.specs.Printer.{Printer, IsAllowed}
 use Rattle.macro_store.specs.Store.{no_macros}
 use Rattle.page_env.specs.declared.cursor.Cursor.{Cursor}
@@ -23,6 +23,7 @@ use Rattle.verdict.specs.declared.reason.Reason.TheVariants.{Fault, Finding, Dif
 use Rattle.verdict.specs.declared.verdict.Verdict.{Verdict}
 use Rattle.verdict.specs.declared.verdict.Verdict.TheVariants.{Pass, Fail}
 use Rattle.preflight.specs.declared.culprit.Culprit.{Culprit}
+use Rattle.preflight.specs.declared.culprit.MissingFont.{MissingFont}
 use Rattle.preflight.specs.declared.culprit.SheetSpot.{SheetSpot}
 use Rattle.preflight.specs.declared.standing.Standing.{Standing}
 use Rattle.preflight.specs.declared.standing.Standing.TheVariants.{Open, Judged, Stopped}
@@ -30,8 +31,8 @@ use Rattle.preflight.specs.Carriers.Checking.{Along, HasExecuted}
 use Rattle.preflight.specs.Carriers.Each.{Each}
 use Rattle.preflight.specs.Carriers.Lockstep.{Action, StopsAt, StopsThere, carrying_of}
 use Rattle.preflight.specs.Culprit.{IsCulprit, Names}
-use Rattle.preflight.specs.Stood.{AsksFor, HoldsStill, IsAt, IsCursorOf, IsFinder, IsOfSession, IsOfStopped, IsRequestOf}
-use Rattle.preflight.specs.Stood.{IsSpotOf, IsThere, MachineStood}
+use Rattle.preflight.specs.Stood.{HoldsStill, IsAskedOf, IsAt, IsCursorOf, IsFinder, IsOfSession, IsOfStopped, IsFontOf}
+use Rattle.preflight.specs.Stood.{IsSpotOf, IsThere, LacksFont, MachineStood}
 use Rattle.preflight.specs.Stood.{StoodBefore, StoppedAt, run_of_items}
 use Rattle.preflight.proofs.Printers.{IsItem}
 
@@ -216,8 +217,11 @@ module _ (machine : MachineState) (printer : Printer) (panel : Panel) (s : State
     h.1 ∙ told_there (λ p k c. y_on_sheet p (record here { settings = k; cursor = c })),
   )
 
-  request_there : (request : FontRequest) → request ≡ request_of machine.printer here → request ≡ request_of printer s
-  request_there request h = h ∙ told_there (λ p k c. request_of p (record here { settings = k; cursor = c }))
+  font_there : (font : MissingFont) → IsAskedOf font machine.printer here → IsAskedOf font printer s
+  font_there font h = (
+    h.0 ∙ told_there (λ p k c. request_of p (record here { settings = k; cursor = c })),
+    h.1 ∙ ap (λ (p : Printer). nearest_request p.faces font.asked) is,
+  )
 
 -- where the cursor stood
 pub cursor_right : (fleet : List Printer) (job : List ℕ) (verdict : Verdict) (culprit : Option Culprit) (machines : List MachineState)
@@ -237,20 +241,20 @@ cursor_right fleet job (Fail place number (Finding finding)) (Some culprit) mach
     (stands h.0 h.1.0)
 
 -- which font was asked for
-pub request_right : (fleet : List Printer) (job : List ℕ) (verdict : Verdict) (culprit : Option Culprit) (machines : List MachineState)
-    (told : Option FontRequest) → IsOfStopped AsksFor verdict culprit machines told → MachineStood fleet job verdict culprit machines →
-    IsRequestOf fleet job verdict told
-request_right fleet job verdict culprit machines None h stands = tt
-request_right fleet job (Pass pages marks) culprit machines (Some request) h stands = absurd h.1
-request_right fleet job (Fail place number Differs) culprit machines (Some request) h stands = absurd h.1
-request_right fleet job (Fail place number (Fault cause)) culprit machines (Some request) h stands = absurd h.1
-request_right fleet job (Fail place number Unpinnable) culprit machines (Some request) h stands = absurd h.1
-request_right fleet job (Fail place number (Finding finding)) None machines (Some request) h stands = absurd h.1
-request_right fleet job (Fail place number (Finding finding)) (Some culprit) machines (Some request) h stands =
-    stood_on fleet job place number (HoldsStill culprit h.0) (λ item printer panel s. request ≡ request_of printer s)
+pub font_right : (fleet : List Printer) (job : List ℕ) (verdict : Verdict) (culprit : Option Culprit) (machines : List MachineState)
+    (told : Option MissingFont) → IsOfStopped LacksFont verdict culprit machines told → MachineStood fleet job verdict culprit machines →
+    IsFontOf fleet job verdict told
+font_right fleet job verdict culprit machines None h stands = tt
+font_right fleet job (Pass pages marks) culprit machines (Some font) h stands = absurd h.1
+font_right fleet job (Fail place number Differs) culprit machines (Some font) h stands = absurd h.1
+font_right fleet job (Fail place number (Fault cause)) culprit machines (Some font) h stands = absurd h.1
+font_right fleet job (Fail place number Unpinnable) culprit machines (Some font) h stands = absurd h.1
+font_right fleet job (Fail place number (Finding finding)) None machines (Some font) h stands = absurd h.1
+font_right fleet job (Fail place number (Finding finding)) (Some culprit) machines (Some font) h stands =
+    stood_on fleet job place number (HoldsStill culprit h.0) (λ item printer panel s. IsAskedOf font printer s)
     (λ item printer panel s still.
     let put = still.stays (h.1.1 item still.names) in
-    request_there h.0 printer panel s still.printer_is put.0 put.1 request (h.2 panel))
+    font_there h.0 printer panel s still.printer_is put.0 put.1 font (h.2 panel))
     (stands h.0 h.1.0)
 
 -- ---- a part of what is told

@@ -2,8 +2,8 @@
 use Rattle.std.specs.Prelude.{◌≡◌, ◌+◌, ◌⊎◌, ℕ, true, List, [], ◌∷◌, ◌++◌, Option, None, Some}
 use Rattle.pcl_items.specs.Items.{Entry, Placed, at}
 use Rattle.pcl_lexer.specs.Reading.{Reading, IsReading, items_of}
-use Rattle.device_profile.specs.declared.font.FontRequest.{FontRequest}
 use Rattle.device_profile.specs.declared.panel.Panel.{Panel}
+use Rattle.device_profile.specs.Nearest.{nearest_request}
 use Rattle.device_profile.specs.Printer.{Printer, IsAllowed}
 use Rattle.macro_store.specs.Store.{no_macros}
 use Rattle.page_env.specs.FontInForce.{request_of}
@@ -17,6 +17,7 @@ use Rattle.verdict.specs.declared.reason.Reason.TheVariants.{Fault, Finding, Dif
 use Rattle.verdict.specs.declared.verdict.Verdict.{Verdict}
 use Rattle.verdict.specs.declared.verdict.Verdict.TheVariants.{Pass, Fail}
 use Rattle.preflight.specs.declared.culprit.Culprit.{Culprit}
+use Rattle.preflight.specs.declared.culprit.MissingFont.{MissingFont}
 use Rattle.preflight.specs.declared.culprit.SheetSpot.{SheetSpot}
 use Rattle.preflight.specs.declared.standing.Standing.{Standing}
 use Rattle.preflight.specs.declared.standing.Standing.TheVariants.{Open, Judged, Stopped}
@@ -57,12 +58,17 @@ IsCursorOf fleet job (Fail place number (Finding finding)) (Some spot) =
     StoodBefore fleet job place number (λ item printer panel s. IsAt spot printer s)
 IsCursorOf fleet job _ (Some spot) = ⊥
 
+-- this font is asked for, and the nearest face of the printer is this
+abbrev pub IsAskedOf : MissingFont → Printer → State → Type 0
+IsAskedOf font printer s =
+    (font.asked ≡ request_of printer s) × (font.nearest ≡ nearest_request printer.faces font.asked)
+
 -- and which font was asked for
-abbrev pub IsRequestOf : List Printer → List ℕ → Verdict → Option FontRequest → Type 0
-IsRequestOf fleet job verdict None = Unit {0}
-IsRequestOf fleet job (Fail place number (Finding finding)) (Some request) =
-    StoodBefore fleet job place number (λ item printer panel s. request ≡ request_of printer s)
-IsRequestOf fleet job _ (Some request) = ⊥
+abbrev pub IsFontOf : List Printer → List ℕ → Verdict → Option MissingFont → Type 0
+IsFontOf fleet job verdict None = Unit {0}
+IsFontOf fleet job (Fail place number (Finding finding)) (Some font) =
+    StoodBefore fleet job place number (λ item printer panel s. IsAskedOf font printer s)
+IsFontOf fleet job _ (Some font) = ⊥
 
 -- ---- the machines that were stopped
 
@@ -105,8 +111,8 @@ abbrev pub IsSpotOf : MachineState → SheetSpot → Type 0
 IsSpotOf machine spot = (panel : Panel) → IsAt spot machine.printer (state_at panel machine.page)
 
 -- and under each panel this font is asked for
-abbrev pub AsksFor : MachineState → FontRequest → Type 0
-AsksFor machine request = (panel : Panel) → request ≡ request_of machine.printer (state_at panel machine.page)
+abbrev pub LacksFont : MachineState → MissingFont → Type 0
+LacksFont machine font = (panel : Panel) → IsAskedOf font machine.printer (state_at panel machine.page)
 
 -- a part of what is told is that of such a machine
 abbrev pub IsOfStopped : {T : Type 0} → (MachineState → T → Type 0) → Verdict → Option Culprit → List MachineState →

@@ -31,6 +31,15 @@ pub struct SheetSpot {
     pub y: i64,
 }
 
+/// A font that no face of a printer answers.
+#[derive(Clone, Copy, Debug, PartialEq, Eq)]
+pub struct MissingFont {
+    pub asked: FontRequest,
+    /// What selects the face that meets most parts of it, of several such the first of the profile.
+    /// None where there is no face.
+    pub nearest: Option<FontRequest>,
+}
+
 /// A verdict on a job, and where it fails.
 #[derive(Clone, Copy, Debug, PartialEq, Eq)]
 pub struct Judgement {
@@ -49,8 +58,8 @@ pub struct Judgement {
     /// it, a macro, several characters of data, and a move of the pen.
     pub cursor: Option<SheetSpot>,
     /// The font that the item of a finding asked for, where no face answers that: 13 NoFont. None
-    /// where the cursor would be for what is more than one step, and where the panel decides it.
-    pub request: Option<FontRequest>,
+    /// where the panel decides it, and for what is more than one step on the page.
+    pub font: Option<MissingFont>,
 }
 
 impl Culprit {

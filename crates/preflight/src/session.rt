@@ -11,16 +11,16 @@ ghost use Rattle.preflight.specs.Session.{page_told};
 ghost use Rattle.preflight.specs.Where.{page_with};
 ghost use Rattle.preflight.specs.Verdict.{IsExact, VerdictHolds};
 ghost use Rattle.preflight.specs.Judgement.{IsJudgementOn};
-ghost use Rattle.preflight.specs.Stood.{AsksFor, IsOfSession, IsSpotOf};
+ghost use Rattle.preflight.specs.Stood.{LacksFont, IsOfSession, IsSpotOf};
 ghost use Rattle.preflight.specs.Carriers.Lockstep.{AreIn, AreRunning, counts_of, machines_of};
 
 use crate::checking::Checking;
-use crate::culprit::{Culprit, SheetSpot, page_with};
+use crate::culprit::{Culprit, MissingFont, SheetSpot, page_with};
 use crate::laws::fails_say;
 use crate::lockstep::Lockstep;
 use crate::standing::Standing;
-use crate::stood::{cursor_with, request_with};
-use device_profile::{FontRequest, Profile};
+use crate::stood::{cursor_with, font_with};
+use device_profile::Profile;
 use pcl_lexer::Lexer;
 use std::alloc::Allocator;
 use std::marker::Model;
@@ -191,13 +191,13 @@ impl<'p, A: Allocator + Copy, P: Allocator> Session<'p, A, P> {
     /// the printer answers that.
     ///
     /// It is None where `cursor` is, for a panel that decides it and what is more than one step.
-    pub fn request(&self) -> Option<FontRequest>
-        ensures { IsOfSession AsksFor self.now.standing self.now.culprit self.now.machines result }
+    pub fn font(&self) -> Option<MissingFont>
+        ensures { IsOfSession LacksFont self.now.standing self.now.culprit self.now.machines result }
     {
         match self.checking.standing {
             Standing::Open => None,
             Standing::Judged(verdict) => {
-                request_with(verdict, self.checking.culprit, &self.checking.machines)
+                font_with(verdict, self.checking.culprit, &self.checking.machines)
             }
             Standing::Stopped(_) => None,
         }

@@ -2,11 +2,11 @@
 
 ghost use Rattle.std.specs.Prelude.{IfSome};
 ghost use Rattle.preflight.specs.Carriers.Lockstep.{machines_of};
-ghost use Rattle.preflight.specs.Stood.{AsksFor, IsFinder, IsOfStopped, IsSpotOf, StoppedAt};
+ghost use Rattle.preflight.specs.Stood.{LacksFont, IsFinder, IsOfStopped, IsSpotOf, StoppedAt};
 
-use crate::culprit::{Culprit, SheetSpot};
+use crate::culprit::{Culprit, MissingFont, SheetSpot};
 use crate::lockstep::Lockstep;
-use device_profile::FontRequest;
+use device_profile::nearest_request;
 use page_env::{Finding, font_request, known_cursor};
 use page_machine::Machine;
 use std::alloc::Allocator;
@@ -19,7 +19,9 @@ fn finder(verdict: Verdict) -> Option<u64>
     match verdict {
         Verdict::Pass { .. } => None,
         Verdict::Fail {
-            profile, finding, ..
+            profile,
+            finding,
+            ..
         } => match finding {
             Reason::Finding(_) => Some(profile),
             Reason::Fault(_) => None,
@@ -59,13 +61,18 @@ fn spot_of<A: Allocator + Copy, P: Allocator>(machine: &Machine<'_, P, A>) -> Op
     }
 }
 
-/// The font that a machine is asked for, if that is known whatever the panel.
-fn request_of<A: Allocator + Copy, P: Allocator>(machine: &Machine<'_, P, A>) -> Option<FontRequest>
-    ensures { IfSome result (λ request. AsksFor machine.now request) }
+/// The font that a machine is asked for, if that is known whatever the panel, and the nearest that
+/// its printer has.
+fn font_of<A: Allocator + Copy, P: Allocator>(machine: &Machine<'_, P, A>) -> Option<MissingFont>
+    ensures { IfSome result (λ font. LacksFont machine.now font) }
 {
-    match font_request(machine.profile(), machine.page()) {
+    let profile = machine.profile();
+    match font_request(profile, machine.page()) {
         Err(_) => None,
-        Ok(request) => Some(request),
+        Ok(asked) => {
+            let nearest = nearest_request(profile.faces(), &asked);
+            Some(MissingFont { asked, nearest })
+        }
     }
 }
 
@@ -82,12 +89,12 @@ pub(crate) fn cursor_with<A: Allocator + Copy, P: Allocator>(
 }
 
 /// The font that is told with a verdict: what no face answers.
-pub(crate) fn request_with<A: Allocator + Copy, P: Allocator>(
+pub(crate) fn font_with<A: Allocator + Copy, P: Allocator>(
     verdict: Verdict,
     culprit: Option<Culprit>,
     machines: &Lockstep<'_, A, P>,
-) -> Option<FontRequest>
-    ensures { IsOfStopped AsksFor verdict culprit (machines_of machines.now) result }
+) -> Option<MissingFont>
+    ensures { IsOfStopped LacksFont verdict culprit (machines_of machines.now) result }
 {
     let Verdict::Fail {
         finding: Reason::Finding(Finding::NoFont),
@@ -97,5 +104,5 @@ pub(crate) fn request_with<A: Allocator + Copy, P: Allocator>(
         return None;
     };
     let machine = stopped(verdict, culprit, machines)?;
-    request_of(machine)
+    font_of(machine)
 }

@@ -66,9 +66,9 @@ fn check_pieces(
         cursor == None || cursor == whole.cursor,
         "{job:?} in pieces of {size}"
     );
-    let request = session.request();
+    let font = session.font();
     assert!(rt;
-        request == None || request == whole.request,
+        font == None || font == whole.font,
         "{job:?} in pieces of {size}"
     );
     let verdict = session.end()?;

@@ -81,7 +81,7 @@ returns-clause-placed g c =
 pub returns-clause-asked : goal.returns-clause-asked
 returns-clause-asked g c =
     asked c.args.fleet.now (c.in_ok-session.session, tt) (c.read_job.new.consumer, tt) c.in_ok-session.ensures.none _ _
-    (Ok c.in_ok-verdict.verdict) c.in_ok-verdict.ensures.answered c.request.result c.request.ensures
+    (Ok c.in_ok-verdict.verdict) c.in_ok-verdict.ensures.answered c.font.result c.font.ensures
 
 pub returns-clause-needed : goal.returns-clause-needed
 returns-clause-needed g c =

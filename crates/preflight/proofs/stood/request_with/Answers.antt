@@ -1,9 +1,0 @@
-use Rattle.preflight.specs.Carriers.Lockstep.{machines_of}
-use Rattle.preflight.specs.Stood.{AsksFor}
-use Rattle.preflight.proofs.Stood.{told_of}
-use Rattle.preflight.proofs.stood.request_with.Goals as goal
-
-pub returns : goal.returns
-returns g c =
-    told_of AsksFor c.args.verdict c.args.culprit (machines_of c.args.machines.now) c.in_ok-machine.machine.now c.in_ok-machine.ensures
-    c.request_of.result c.request_of.ensures
