@@ -12,7 +12,7 @@ from typing import Dict, List, Optional, Tuple
 from commands import COMMANDS, FIELDS
 from effects import EFFECTS
 from items import ONE, Item, canon
-from printer_profile import Profile
+from printer_profile import FontRequest, Profile
 from state import (CHECK_ORDER, FONT_PARTS, INCH, PAGE_FIELDS, PER_7200, Finding, Level,
                    Plotter, Raster, State, default_settings, font_request)
 
@@ -131,6 +131,21 @@ class Machine:
                     raise Finding(12, field)
             elif number in by_number and by_number[number]():
                 raise Finding(number)
+
+    # What is known whatever the panel has where the job has set nothing
+
+    def known_spot(self) -> Optional[Tuple[int, int]]:
+        """Where the cursor stands on the sheet."""
+        if self.first_unset("Gv", False):
+            return None
+        row = self.geometry
+        return row.lx * PER_7200 + self.state.x, row.ly * PER_7200 + self.cursor_y()
+
+    def known_font(self) -> Optional[FontRequest]:
+        """The font that is asked for."""
+        if self.first_unset("F", False):
+            return None
+        return font_request(self.profile, self.panel, self.settings)
 
     def is_bad(self, item: Item) -> bool:
         command = COMMANDS[item.name]

@@ -50,7 +50,8 @@ pub record IsRightAnswer (fleet : List Printer) (start after : SourceState)
   pub verdict : IfOk answer (λ judgement. IsRightVerdict start after fleet judgement.verdict)
   pub item : IfOk answer (λ judgement. ByReads start after (λ job. IsTold job judgement.verdict judgement.culprit))
   pub page : IfOk answer (λ judgement. ByReads start after (λ job. IsOnPage fleet job judgement.verdict judgement.page))
-  pub cursor : IfOk answer (λ judgement. ByReads start after (λ job. IsCursorOf fleet job judgement.verdict judgement.cursor))
+  pub cursor : IfOk answer (λ judgement.
+      ByReads start after (λ job. IsCursorOf fleet job judgement.verdict judgement.cursor))
   pub font : IfOk answer (λ judgement.
       ByReads start after (λ job. IsFontOf fleet job judgement.verdict judgement.font))
   pub error : IfErr answer IsErrorOfJob

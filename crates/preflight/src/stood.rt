@@ -1,4 +1,5 @@
-//! Where a printer stood, and which font it was asked for, as a job came to the item that it fails at.
+//! Where a printer stood, and which font it was asked for, as a job came to the item that it fails
+//! at.
 
 ghost use Rattle.std.specs.Prelude.{IfSome};
 ghost use Rattle.preflight.specs.Carriers.Lockstep.{machines_of};

@@ -53,7 +53,8 @@ returns-then-not-judge-clause-came g c =
               c.counts-self-inside-then-not-judge.ensures,
         ),
       )),
-      subst (λ (f : Fleet). StopsThere action 1 1 f.machines (c.execute_by-answer.new.machine ∷ parts)) c.self.view_is (inl (refl, stopped)),
+      subst (λ (f : Fleet). StopsThere action 1 1 f.machines (c.execute_by-answer.new.machine ∷ parts)) c.self.view_is
+          (inl (refl, stopped)),
     ))
 
 pub execute_by_others-requires-clause-running : goal.execute_by_others-requires-clause-running
