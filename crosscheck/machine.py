@@ -121,7 +121,8 @@ class Machine:
                 return field
         return ""
 
-    def judge(self, reads: str, *checks, is_relative: bool = False) -> None:
+    def judge(self, reads: str, *checks, is_relative: bool = False,
+              code: Optional[int] = None) -> None:
         """The checks of one step in their order; each is (number, is it a finding?)."""
         by_number = dict(checks)
         for number in CHECK_ORDER:
@@ -130,7 +131,7 @@ class Machine:
                 if field:
                     raise Finding(12, field)
             elif number in by_number and by_number[number]():
-                raise Finding(number)
+                raise Finding(number, code=code)
 
     # What is known whatever the panel has where the job has set nothing
 

@@ -5,10 +5,10 @@
 Checks random jobs under random names for random fleets, by all forms of the words. Each run is made
 for lines, for sentences and for objects of JSON, with and without explanations and notes, and each
 line, sentence and object is compared with what `check JOB PROFILE..` alone says of that job, its
-page, the place of the cursor and the missing font with those of the second reading, its notes with
-what `notes JOB PROFILE` says, and the exit status with those. Prints each difference and at last `N
-compared, M differ`, where N counts jobs and printers that are told of, at least COUNT. The exit
-status is 0 where M is 0, else 1.
+page, the place of the cursor and the missing font or character with those of the second reading,
+its notes with what `notes JOB PROFILE` says, and the exit status with those. Prints each difference
+and at last `N compared, M differ`, where N counts jobs and printers that are told of, at least
+COUNT. The exit status is 0 where M is 0, else 1.
 """
 
 import itertools

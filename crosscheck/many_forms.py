@@ -15,7 +15,7 @@ SHOWN = re.compile("[ -~\u00a0-\U0010ffff]*")
 # A sentence behind who says no: the item that a job fails at, and what is wrong in words.
 REFUSED = re.compile(rb" at byte (\d+) on page \d+"
                      rb"(?:, [-\d.]+ mm from the left and [-\d.]+ mm from the top)?"
-                     rb"(?:, ([ -~]+))?: ([^:]+) \(([^:]+)\)")
+                     rb"(?:, ([ -~]+))?: ([^:]+:?) \(([^:]+)\)")
 # Who says no, where it is no printer.
 CLAIMS = {UNCHECKED: b"pclcheck cannot judge this job", WRONG: b"this job is wrong"}
 # What is missing of a sentence or an object that is not as it should be.
@@ -46,7 +46,8 @@ def phrase(told: Told, command: Optional[str]) -> Tuple[bytes, bytes]:
         return subject + b" prints this job (pages=%d marks=%d)" % (told.pages, told.marks), b""
     if told.verdict == "FAIL":
         place = b" at byte %d" % told.at + told.place.phrase().encode()
-        return claim(told, command) + place, b" (%s)" % told.reason()
+        lacked = told.place.character and " " + told.place.character
+        return claim(told, command) + place, lacked.encode() + b" (%s)" % told.reason()
     printer = b" for " + told.printer if told.printer else b""
     cause = escaped(told.cause)
     cause = cause if len(cause) <= MOST_OF_CAUSE else cause[:MOST_OF_CAUSE] + b"..."

@@ -65,6 +65,7 @@ class Place:
     page: int = 0
     spot: Optional[Tuple[int, int]] = None       # of the cursor, in ticks on the sheet
     fonts: Tuple[str, ...] = ()                  # the font that is missing, and the nearest face
+    character: str = ""                          # that the face lacks
 
     def phrase(self) -> str:
         """What stands behind the byte in a sentence."""
@@ -76,6 +77,8 @@ class Place:
     def members(self) -> Dict[str, object]:
         """What an object has of it."""
         found = {"page": self.page, **dict(zip(("asked", "nearest"), self.fonts))}
+        if self.character:
+            found["character"] = self.character
         if self.spot is not None:
             found.update(zip(("x_mm", "y_mm"), map(millimetres, self.spot)))
         return found
@@ -94,6 +97,7 @@ class Fleet:
         self.marks = 0
         self.spot: Optional[Tuple[int, int]] = None
         self.fonts: Tuple[str, ...] = ()
+        self.character = ""
 
     def step(self, item: Optional[Item]) -> Optional[Tuple[int, Finding]]:
         """One item, None for the end; the finding with its profile, if there is one."""
@@ -104,6 +108,8 @@ class Fleet:
                 machine.finish() if item is None else machine.step(item)
             except Finding as finding:
                 self.pages += ended(machine.events)
+                if finding.number == 14:
+                    self.character = shown(bytes([finding.code])).decode()
                 if item is not None and item.name not in MANY_STEPS:
                     self.spot = spot
                     self.fonts = fonts(machine.profile, font) if finding.number == 13 else ()
@@ -153,7 +159,7 @@ def failing_place(texts: List[bytes], job: bytes) -> Place:
     """Where a job fails for printers of these texts."""
     fleet = Fleet([read_profile(text) for text in texts])
     checked(fleet, job)
-    return Place(fleet.pages + 1, fleet.spot, fleet.fonts)
+    return Place(fleet.pages + 1, fleet.spot, fleet.fonts, fleet.character)
 
 
 def shown(data: bytes) -> bytes:

@@ -25,7 +25,7 @@ use Rattle.pcl_spelling.proofs.Frames.Canonical.{coordinate_spelled}
 use Rattle.device_profile.specs.declared.field.Field.{Field}
 use Rattle.device_profile.specs.declared.field.Field.TheVariants.{Size}
 use Rattle.page_env.specs.declared.finding.Finding.{Finding}
-use Rattle.page_env.specs.declared.finding.Finding.TheVariants.{BadValue, Unset}
+use Rattle.page_env.specs.declared.finding.Finding.TheVariants.{BadValue, NoGlyph, Unset}
 use Rattle.page_env.specs.Order.{number_of}
 use Rattle.verdict.specs.declared.reason.Reason.{Reason}
 use Rattle.verdict.specs.declared.reason.Reason.TheVariants.{Fault, Finding as Found, Differs, Unpinnable}
@@ -50,7 +50,7 @@ use Rattle.job_reports.specs.JobSentences.{AreNumbers, IsCulpritOfNumbers, IsOfP
 use Rattle.job_reports.specs.JobSentences.{IsSpotOfNumbers, IsWithin, on_page, on_sheet, place_phrase}
 use Rattle.job_reports.specs.JobSentences.{answer_phrase, at_command, cause_phrase, claim_by, error_phrase, fails_where, few_words}
 use Rattle.job_reports.specs.JobSentences.{first_of, for_each, for_printer, is_bad_value, job_claim, job_sentence, last_of, named_first}
-use Rattle.job_reports.specs.JobSentences.{reason_phrase, refusal, subject, verdict_phrase}
+use Rattle.job_reports.specs.JobSentences.{lacked, reason_phrase, refusal, subject, verdict_phrase}
 use Rattle.job_reports.specs.Kinds.{kind_by}
 use Rattle.job_reports.specs.LeftOut.{left_out_of, value_words}
 use Rattle.job_reports.specs.declared.kind.Kind.{Kind}
@@ -276,13 +276,20 @@ few_words_part : (left_out : Option LeftOut) (reason : Reason) → IsWithin 80 (
 few_words_part left_out reason =
     one_of 80 (is_bad_value reason) (value_words left_out) (short_reason reason) (λ e. value_part left_out) (short_part reason)
 
-reason_phrase_part : (left_out : Option LeftOut) (reason : Reason) → IsWithin 139 (reason_phrase left_out reason)
+lacked_part : (reason : Reason) → IsWithin 5 (lacked reason)
+lacked_part (Found (NoGlyph code)) = joined (codes " ") (escaped_byte code) (literal 1 _ refl refl) (escaped_part code)
+lacked_part _ = nothing 5
+
+reason_phrase_part : (left_out : Option LeftOut) (reason : Reason) → IsWithin 144 (reason_phrase left_out reason)
 reason_phrase_part left_out reason =
-    let front : List ℕ = codes ": " ++ few_words left_out reason in
+    let words : List ℕ = codes ": " ++ few_words left_out reason in
+    let front : List ℕ = words ++ lacked reason in
     joined ((front ++ codes " (") ++ reason_words reason) (codes ")")
     (joined (front ++ codes " (") (reason_words reason)
     (joined front (codes " (")
-    (joined (codes ": ") (few_words left_out reason) (literal 2 _ refl refl) (few_words_part left_out reason)) (literal 2 _ refl refl))
+    (joined words (lacked reason)
+    (joined (codes ": ") (few_words left_out reason) (literal 2 _ refl refl) (few_words_part left_out reason)) (lacked_part reason))
+    (literal 2 _ refl refl))
     (reason_part reason))
     (literal 1 _ refl refl)
 
@@ -290,11 +297,11 @@ reason_phrase_part left_out reason =
 
 verdict_part : (page : Option ℕ) (cursor : Option SheetSpot) (culprit : Option Culprit) (verdict : Verdict) → IsPageOfNumber page →
     IsSpotOfNumbers cursor → IsCulpritOfNumbers culprit → IsVerdictOfNumbers verdict →
-    IsWithin 417 (verdict_phrase (fails_where page cursor culprit) verdict)
+    IsWithin 422 (verdict_phrase (fails_where page cursor culprit) verdict)
 verdict_part page cursor culprit (Pass pages marks) p s h k =
     let front : List ℕ = named (codes " (pages=") pages in
     let back : List ℕ = named (codes " marks=") marks in
-    wider 417 _ (omega arith)
+    wider 422 _ (omega arith)
     (joined (front ++ back) (codes ")")
     (joined front back (named_part 8 (codes " (pages=") pages refl refl k.0)
     (named_part 7 (codes " marks=") marks refl refl k.1))
@@ -361,7 +368,7 @@ cause_part (Some words) =
 
 answer_part : (report : Reported) (answer : Result Verdict Error) → AllByRecursion (IsWithin 32) report.names →
     IsPageOfNumber (page_of report.answer) → IsSpotOfNumbers (cursor_of report.answer) →
-    IsCulpritOfNumbers (culprit_of report.answer) → IfOk answer IsVerdictOfNumbers → IsWithin 484 (answer_phrase report answer)
+    IsCulpritOfNumbers (culprit_of report.answer) → IfOk answer IsVerdictOfNumbers → IsWithin 489 (answer_phrase report answer)
 answer_part report (Ok verdict) h p s k l =
     joined (job_claim report)
     (verdict_phrase (fails_where (page_of report.answer) (cursor_of report.answer) (culprit_of report.answer)) verdict)
@@ -371,7 +378,7 @@ answer_part report (Ok verdict) h p s k l =
     (verdict_part (page_of report.answer) (cursor_of report.answer) (culprit_of report.answer) verdict p s k l)
 answer_part report (Err error) h p s k l =
     let front : List ℕ = error_phrase error ++ for_printer report.names (number_told report.is_each (Err error)) in
-    wider 484 _ (omega arith)
+    wider 489 _ (omega arith)
     (joined (((front ++ cause_phrase report.cause) ++ codes " (") ++ error_words error) (codes ")")
     (joined ((front ++ cause_phrase report.cause) ++ codes " (") (error_words error)
     (joined (front ++ cause_phrase report.cause) (codes " (")

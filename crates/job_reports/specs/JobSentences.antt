@@ -3,9 +3,9 @@ use Rattle.std.specs.Prelude.{◌≡◌, ℕ, ◌==◌, ◌-◌, ◌^◌, ◌<�
 use Rattle.std.specs.Prelude.{take, length, get_or, if◌then◌else◌, Bool, true, false, Option, None, Some, Result}
 use Rattle.std.specs.Prelude.{Ok, Err, IfOk, unsigned_abs, ⊤}
 use Rattle.std.specs.List.{AllByRecursion}
-use Rattle.line_words.specs.Figures.{named}
+use Rattle.line_words.specs.Figures.{escaped_byte, named}
 use Rattle.line_words.specs.Reason.{reason_words, short_reason}
-use Rattle.page_env.specs.declared.finding.Finding.TheVariants.{BadValue}
+use Rattle.page_env.specs.declared.finding.Finding.TheVariants.{BadValue, NoGlyph}
 use Rattle.preflight.specs.declared.culprit.Culprit.{Culprit}
 use Rattle.preflight.specs.declared.culprit.Culprit.TheVariants.{Text, Simple, WithData, Line}
 use Rattle.preflight.specs.declared.culprit.Judgement.{Judgement}
@@ -119,10 +119,15 @@ is_bad_value _ = false
 abbrev pub few_words : Option LeftOut → Reason → List ℕ
 few_words left_out reason = if is_bad_value reason then value_words left_out else short_reason reason
 
+-- the character that a face lacks, behind these words
+abbrev pub lacked : Reason → List ℕ
+lacked (Finding (NoGlyph code)) = codes " " ++ escaped_byte code
+lacked _ = []
+
 -- what is wrong, in words and as a line has it
 abbrev pub reason_phrase : Option LeftOut → Reason → List ℕ
 reason_phrase left_out reason =
-    codes ": " ++ few_words left_out reason ++ codes " (" ++ reason_words reason ++ codes ")"
+    codes ": " ++ few_words left_out reason ++ lacked reason ++ codes " (" ++ reason_words reason ++ codes ")"
 
 -- what stands behind the claim
 abbrev pub verdict_phrase : FailsAt → Verdict → List ℕ

@@ -17,6 +17,7 @@ ghost use Rattle.job_reports.specs.JobSentences.{
   is_bad_value,
   job_claim,
   job_sentence,
+  lacked,
   last_of,
   named_first,
   on_page,
@@ -33,7 +34,7 @@ use crate::command_words::push_command_words;
 use crate::kind::{Kind, kind_of};
 use crate::left_out::{LeftOut, left_out_of, value_words};
 use crate::reports::Report;
-use line_words::{push_named, push_reason, short_reason};
+use line_words::{push_escaped, push_named, push_reason, short_reason};
 use page_env::Finding;
 use preflight::{Culprit, SheetSpot, Verdict};
 use requests::error_words;
@@ -267,6 +268,7 @@ fn push_reason_phrase<A: Allocator>(
 {
     line.extend_from_slice(b": ")?;
     line.extend_from_slice(few_words(left_out, reason))?;
+    push_lacked(line, reason)?;
     line.extend_from_slice(b" (")?;
     push_reason(line, reason)?;
     line.extend_from_slice(b")")
@@ -280,6 +282,19 @@ fn few_words(left_out: Option<LeftOut>, reason: Reason) -> &'static [u8]
         value_words(left_out)
     } else {
         short_reason(reason)
+    }
+}
+
+/// Appends the character that a face lacks, where that is what is wrong.
+fn push_lacked<A: Allocator>(line: &mut Vec<u8, A>, reason: Reason) -> Result<(), AllocError>
+    ensures { OnOk result (line.new.items ≡ line.old.items ++ lacked reason) }
+{
+    match reason {
+        Reason::Finding(Finding::NoGlyph(code)) => {
+            line.push(b' ')?;
+            push_escaped(line, &[code])
+        }
+        _ => Ok(()),
     }
 }
 

@@ -4,7 +4,9 @@ use Rattle.std.specs.Prelude.{Some, Result, Ok, Err}
 use Rattle.serde_json.specs.Data.{object, Members, no_members}
 use Rattle.serde_json.specs.Written.{compact_text}
 use Rattle.device_profile.specs.declared.font.FontRequest.{FontRequest}
+use Rattle.line_words.specs.Figures.{escaped_byte}
 use Rattle.line_words.specs.Reason.{bare_name, field_words}
+use Rattle.page_env.specs.declared.finding.Finding.TheVariants.{NoGlyph}
 use Rattle.preflight.specs.declared.culprit.Culprit.{Culprit}
 use Rattle.preflight.specs.declared.culprit.MissingFont.{MissingFont}
 use Rattle.preflight.specs.declared.culprit.SheetSpot.{SheetSpot}
@@ -13,6 +15,7 @@ use Rattle.streams.specs.declared.error.Error.{Error}
 use Rattle.streams.specs.declared.error.Error.TheVariants.{Memory, Read, Write, Turns, NoProfile, Items}
 use Rattle.verdict.specs.Numbers.{reason_number}
 use Rattle.verdict.specs.declared.reason.Reason.{Reason}
+use Rattle.verdict.specs.declared.reason.Reason.TheVariants.{Finding}
 use Rattle.verdict.specs.declared.verdict.Verdict.{Verdict}
 use Rattle.verdict.specs.declared.verdict.Verdict.TheVariants.{Pass, Fail}
 use Rattle.job_reports.specs.declared.kind.Kind.{Kind}
@@ -73,6 +76,11 @@ with_missing_font None members = members
 with_missing_font (Some font) members =
     with_font (codes "nearest") font.nearest (with_font (codes "asked") (Some font.asked) members)
 
+-- the character that a face lacks
+abbrev pub with_character : Reason → Members → Members
+with_character (Finding (NoGlyph code)) members = with_text (codes "character") (words_text (escaped_byte code)) members
+with_character _ members = members
+
 abbrev pub with_command : Option Culprit → Members → Members
 with_command None members = members
 with_command (Some culprit) members = with_text (codes "command") (words_text (command_words culprit)) members
@@ -105,10 +113,11 @@ with_answer explanation report (Ok (Pass pages marks)) members = with_pass pages
 with_answer explanation report (Ok (Fail place profile reason)) members =
     with_explanation explanation
     (with_command (culprit_of report.answer)
+    (with_character reason
     (with_missing_font (font_of report.answer)
     (with_cursor (cursor_of report.answer)
     (with_page (page_of report.answer)
-    (with_kind (kind_of reason (culprit_of report.answer)) (with_fail place profile reason members))))))
+    (with_kind (kind_of reason (culprit_of report.answer)) (with_fail place profile reason members)))))))
 with_answer explanation report (Err error) members = with_error error report.cause members
 
 -- ---- the whole object

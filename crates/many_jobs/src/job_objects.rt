@@ -5,6 +5,7 @@ ghost use Rattle.many_jobs.specs.JobObjects.{
   job_object,
   report_members,
   with_answer,
+  with_character,
   with_command,
   with_cursor,
   with_error,
@@ -24,7 +25,8 @@ ghost use Rattle.job_reports.specs.Reports.{number_told, verdict_told};
 use crate::json_object::Object;
 use device_profile::FontRequest;
 use job_reports::{Kind, Report, kind_of, push_command_words, push_font_commands};
-use line_words::{bare_name, push_field_words};
+use line_words::{bare_name, push_escaped, push_field_words};
+use page_env::Finding;
 use preflight::{Culprit, MissingFont, SheetSpot, Verdict};
 use shown_bytes::push_millimetres;
 use std::alloc::{AllocError, Allocator, Global};
@@ -105,6 +107,7 @@ fn put_answer<A: Allocator + Copy>(
             put_page(object, report.page())?;
             put_cursor(alloc, object, report.cursor())?;
             put_missing_font(alloc, object, report.font())?;
+            put_character(alloc, object, finding)?;
             put_command(alloc, object, report.culprit())?;
             put_explanation(object, explanation)
         }
@@ -225,6 +228,25 @@ fn put_font<A: Allocator>(
             object.put_words(key, words.as_slice())
         }
         None => Ok(()),
+    }
+}
+
+/// Puts the character that a face lacks, where that is what is wrong.
+fn put_character<A: Allocator>(
+    alloc: A,
+    object: &mut Object,
+    finding: Reason,
+) -> Result<(), AllocError>
+    ensures { OnOk result (members_of object.new ≡
+        with_character finding (members_of object.old)) }
+{
+    match finding {
+        Reason::Finding(Finding::NoGlyph(code)) => {
+            let mut words = Vec::new(alloc);
+            push_escaped(&mut words, &[code])?;
+            object.put_words("character", words.as_slice())
+        }
+        _ => Ok(()),
     }
 }
 
