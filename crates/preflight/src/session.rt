@@ -192,9 +192,8 @@ impl<'p, A: Allocator + Copy, P: Allocator> Session<'p, A, P> {
     ///
     /// It is None where `cursor` is, for a panel that decides it and what is more than one step.
     pub fn font(&self) -> Option<MissingFont>
-        ensures {
-            IsOfSession LacksFont self.now.standing self.now.culprit self.now.machines result
-        }
+        ensures { IsOfSession LacksFont self.now.standing self.now.culprit self.now.machines
+            result }
     {
         match self.checking.standing {
             Standing::Open => None,
