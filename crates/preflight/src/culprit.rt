@@ -76,7 +76,7 @@ impl Culprit {
     }
 
     /// Whether it is one step on the page.
-    pub(crate) fn is_one_step(&self) -> bool
+    pub fn is_one_step(&self) -> bool
         ensures { (item : Entry) → IsCulprit self.now item → is_one_step item ≡ result }
     {
         match self {
