@@ -81,7 +81,8 @@ def text_byte(machine, code: int, is_transparent: bool) -> None:
         (14, lambda: not is_space and code not in face.codes),
         (15, lambda: x >= machine.right_margin() and after() > machine.page_width()),
         (16, lambda: x < machine.right_margin() and after() > machine.right_margin()),
-        (17, lambda: not is_space and machine.is_outside(*box())))
+        (17, lambda: not is_space and machine.is_outside(*box())),
+        code=code)
     if not is_space:
         height = y + machine.geometry.ly * PER_7200
         machine.mark(f"glyph {code} {face.words()} {height} {machine.on_page(*box())}")

@@ -12,7 +12,7 @@ from typing import Dict, List, Optional, Tuple
 from commands import COMMANDS, FIELDS
 from effects import EFFECTS
 from items import ONE, Item, canon
-from printer_profile import Profile
+from printer_profile import FontRequest, Profile
 from state import (CHECK_ORDER, FONT_PARTS, INCH, PAGE_FIELDS, PER_7200, Finding, Level,
                    Plotter, Raster, State, default_settings, font_request)
 
@@ -121,7 +121,8 @@ class Machine:
                 return field
         return ""
 
-    def judge(self, reads: str, *checks, is_relative: bool = False) -> None:
+    def judge(self, reads: str, *checks, is_relative: bool = False,
+              code: Optional[int] = None) -> None:
         """The checks of one step in their order; each is (number, is it a finding?)."""
         by_number = dict(checks)
         for number in CHECK_ORDER:
@@ -130,7 +131,22 @@ class Machine:
                 if field:
                     raise Finding(12, field)
             elif number in by_number and by_number[number]():
-                raise Finding(number)
+                raise Finding(number, code=code)
+
+    # What is known whatever the panel has where the job has set nothing
+
+    def known_spot(self) -> Optional[Tuple[int, int]]:
+        """Where the cursor stands on the sheet."""
+        if self.first_unset("Gv", False):
+            return None
+        row = self.geometry
+        return row.lx * PER_7200 + self.state.x, row.ly * PER_7200 + self.cursor_y()
+
+    def known_font(self) -> Optional[FontRequest]:
+        """The font that is asked for."""
+        if self.first_unset("F", False):
+            return None
+        return font_request(self.profile, self.panel, self.settings)
 
     def is_bad(self, item: Item) -> bool:
         command = COMMANDS[item.name]

@@ -5,8 +5,8 @@
 Checks random jobs under random names for random fleets, by all forms of the words. Each run is made
 for lines, for sentences and for objects of JSON, with and without explanations and notes, and each
 line, sentence and object is compared with what `check JOB PROFILE..` alone says of that job, its
-page with that of the second reading, its notes with what `notes JOB PROFILE` says, and the exit
-status with those. Prints each difference
+page, the place of the cursor and the missing font or character with those of the second reading,
+its notes with what `notes JOB PROFILE` says, and the exit status with those. Prints each difference
 and at last `N compared, M differ`, where N counts jobs and printers that are told of, at least
 COUNT. The exit status is 0 where M is 0, else 1.
 """
@@ -29,7 +29,7 @@ from many_forms import line_differs, object_differs, sentence_differs       # no
 from many_names import cut, escaped, sentenced                     # noqa: E402
 from many_notes import notes_in                                    # noqa: E402
 from many_runs import Answer, Job, Printer, Try                    # noqa: E402
-from oracle import failing_page                                    # noqa: E402
+from oracle import failing_place                                   # noqa: E402
 
 REFUSAL = re.compile(rb"ERROR profile (\d+) (\d+) (\w+)\n")
 
@@ -55,8 +55,8 @@ class Comparison:
         answer = self.run.alone(job.data, group)
         told = told_of(job.name, answer.output, names, self.run.is_each)
         if told.verdict == "FAIL":
-            page = failing_page([printer.text for printer in group], job.data)
-            return replace(told, page=page)
+            place = failing_place([printer.text for printer in group], job.data)
+            return replace(told, place=place)
         if told.verdict != "PASS" or not self.run.tells_notes:
             return told
         return replace(told, notes=notes_in(self.run.notes(group[0]), names[0]))

@@ -6,9 +6,11 @@ from typing import List, Tuple
 
 from many_names import escaped
 from many_notes import Note
+from oracle import Place
 
 VERDICT = re.compile(rb"PASS pages=(\d+) marks=(\d+)\n"
                      rb"|FAIL at=(\d+) profile=(\d+) (\d+) (\w+)(?:\((.*)\))?\n")
+NO_PLACE = Place()
 
 
 @dataclass(frozen=True)
@@ -20,7 +22,7 @@ class Told:
     pages: int = 0
     marks: int = 0
     at: int = 0
-    page: int = 0                             # the page that is open there
+    place: Place = NO_PLACE                   # its page, and where the cursor stood
     profile: int = 0
     code: int = 0                             # the number of what is wrong, its name,
     finding: bytes = b""

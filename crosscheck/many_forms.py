@@ -13,7 +13,9 @@ MOST_OF_NAME, MOST_OF_CAUSE, MOST = 500, 200, 1000
 PLAIN = re.compile(rb"[ -~]*")
 SHOWN = re.compile("[ -~\u00a0-\U0010ffff]*")
 # A sentence behind who says no: the item that a job fails at, and what is wrong in words.
-REFUSED = re.compile(rb" at byte (\d+) on page \d+(?:, ([ -~]+))?: ([^:]+) \(([^:]+)\)")
+REFUSED = re.compile(rb" at byte (\d+) on page \d+"
+                     rb"(?:, [-\d.]+ mm from the left and [-\d.]+ mm from the top)?"
+                     rb"(?:, ([ -~]+))?: ([^:]+:?) \(([^:]+)\)")
 # Who says no, where it is no printer.
 CLAIMS = {UNCHECKED: b"pclcheck cannot judge this job", WRONG: b"this job is wrong"}
 # What is missing of a sentence or an object that is not as it should be.
@@ -43,8 +45,9 @@ def phrase(told: Told, command: Optional[str]) -> Tuple[bytes, bytes]:
     if told.verdict == "PASS":
         return subject + b" prints this job (pages=%d marks=%d)" % (told.pages, told.marks), b""
     if told.verdict == "FAIL":
-        place = b" at byte %d on page %d" % (told.at, told.page)
-        return claim(told, command) + place, b" (%s)" % told.reason()
+        place = b" at byte %d" % told.at + told.place.phrase().encode()
+        lacked = told.place.character and " " + told.place.character
+        return claim(told, command) + place, lacked.encode() + b" (%s)" % told.reason()
     printer = b" for " + told.printer if told.printer else b""
     cause = escaped(told.cause)
     cause = cause if len(cause) <= MOST_OF_CAUSE else cause[:MOST_OF_CAUSE] + b"..."
@@ -85,8 +88,9 @@ def due_members(told: Told, command: Optional[str], explanation: bytes) -> Dict[
     if told.verdict == "PASS":
         due.update(pages=told.pages, marks=told.marks)
     elif told.verdict == "FAIL":
-        due.update(at=told.at, profile=told.profile, code=told.code, page=told.page,
+        due.update(at=told.at, profile=told.profile, code=told.code,
                    finding=told.finding.decode(), kind=kind_of(told.code, command))
+        due.update(told.place.members())
         due.update({"field": told.field.decode()} if told.field else {})
         due.update({"explanation": explanation.decode()} if explanation else {})
     else:

@@ -6,7 +6,7 @@ from typing import Dict, List, Optional, Tuple
 from items import ONE, Item, canon, spell_signed, spell_size
 from lexer import Lexed, lex
 from machine import Machine
-from printer_profile import Profile, ProfileFault, read_profile
+from printer_profile import FontRequest, Profile, ProfileFault, read_profile
 from state import Finding
 
 PASS, FAILED, BAD_WORDS = 0, 1, 2
@@ -45,10 +45,49 @@ def ended(events) -> int:
     return sum(1 for line, _ in events if line is None)
 
 
+# Items that are more than one step on the page: these may close it, run macros, print data of
+# several characters or move the pen.
+MANY_STEPS = ("CR", "LF", "FF", "=", "E", "UEL", "&lS", "&lH", "&lA", "&lO", "&fX", "&pX",
+              "PU", "PD", "PA", "PR")
+HUNDREDTH_MILLIMETRE = 14_400_000
+
+
+def millimetres(ticks: int) -> str:
+    """A length, rounded down to hundredths."""
+    hundredths = ticks // HUNDREDTH_MILLIMETRE
+    whole, part = divmod(abs(hundredths), 100)
+    return ("-" if hundredths < 0 else "") + (f"{whole}.{part:02d}" if part else str(whole))
+
+
+@dataclass(frozen=True)
+class Place:
+    """Where a job fails: the page, and what was known before an item that is one step."""
+    page: int = 0
+    spot: Optional[Tuple[int, int]] = None       # of the cursor, in ticks on the sheet
+    fonts: Tuple[str, ...] = ()                  # the font that is missing, and the nearest face
+    character: str = ""                          # that the face lacks
+
+    def phrase(self) -> str:
+        """What stands behind the byte in a sentence."""
+        if self.spot is None:
+            return f" on page {self.page}"
+        x, y = map(millimetres, self.spot)
+        return f" on page {self.page}, {x} mm from the left and {y} mm from the top"
+
+    def members(self) -> Dict[str, object]:
+        """What an object has of it."""
+        found = {"page": self.page, **dict(zip(("asked", "nearest"), self.fonts))}
+        if self.character:
+            found["character"] = self.character
+        if self.spot is not None:
+            found.update(zip(("x_mm", "y_mm"), map(millimetres, self.spot)))
+        return found
+
+
 class Fleet:
     """All printers in step: each item goes through every one before the next item.
 
-    Where one has a finding, its pages are counted up to that.
+    Where one has a finding, its pages are counted up to that, and its place is kept.
     """
 
     def __init__(self, profiles: List[Profile]):
@@ -56,15 +95,24 @@ class Fleet:
                          for profile in profiles]
         self.pages = 0
         self.marks = 0
+        self.spot: Optional[Tuple[int, int]] = None
+        self.fonts: Tuple[str, ...] = ()
+        self.character = ""
 
     def step(self, item: Optional[Item]) -> Optional[Tuple[int, Finding]]:
         """One item, None for the end; the finding with its profile, if there is one."""
         for number, machine in enumerate(self.machines, start=1):
             machine.events = []
+            spot, font = machine.known_spot(), machine.known_font()
             try:
                 machine.finish() if item is None else machine.step(item)
             except Finding as finding:
                 self.pages += ended(machine.events)
+                if finding.number == 14:
+                    self.character = shown(bytes([finding.code])).decode()
+                if item is not None and item.name not in MANY_STEPS:
+                    self.spot = spot
+                    self.fonts = fonts(machine.profile, font) if finding.number == 13 else ()
                 return number, finding
         events = self.machines[0].events
         for number, machine in enumerate(self.machines, start=1):
@@ -73,6 +121,14 @@ class Fleet:
         self.pages += ended(events)
         self.marks += len(events) - ended(events)
         return None
+
+
+def fonts(profile: Profile, asked: Optional[FontRequest]) -> Tuple[str, ...]:
+    """The commands that ask for a font and for the nearest face."""
+    if asked is None:
+        return ()
+    nearest = profile.nearest_face(asked)
+    return (asked.commands(),) + ((nearest.request.commands(),) if nearest else ())
 
 
 def checked(fleet: Fleet, job: bytes) -> Optional[bytes]:
@@ -99,11 +155,11 @@ def check(texts: List[bytes], job: bytes) -> Answer:
     return Answer(PASS, f"PASS pages={fleet.pages} marks={fleet.marks}\n".encode())
 
 
-def failing_page(texts: List[bytes], job: bytes) -> int:
-    """The page that is open where a job fails for printers of these texts."""
+def failing_place(texts: List[bytes], job: bytes) -> Place:
+    """Where a job fails for printers of these texts."""
     fleet = Fleet([read_profile(text) for text in texts])
     checked(fleet, job)
-    return fleet.pages + 1
+    return Place(fleet.pages + 1, fleet.spot, fleet.fonts, fleet.character)
 
 
 def shown(data: bytes) -> bytes:

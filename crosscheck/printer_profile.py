@@ -1,7 +1,7 @@
 """A printer's profile text: its rows, or its first fault with line and cause."""
 
 import re
-from dataclasses import dataclass, field
+from dataclasses import dataclass, field, fields
 from typing import Dict, List, Optional, Tuple
 
 from commands import FIELDS, ONE
@@ -51,6 +51,13 @@ class FontRequest:
     weight: int
     typeface: int
 
+    def commands(self) -> str:
+        """The commands that ask for it."""
+        number, letter = self.symbol_set
+        return (f"ESC ({spell_size(number)}{letter} ESC (s{spell_size(self.spacing)}p"
+                f"{spell_size(self.pitch)}h{spell_size(self.height)}v{spell_size(self.style)}s"
+                f"{spell_signed(self.weight)}b{spell_size(self.typeface)}T")
+
 
 @dataclass(frozen=True)
 class Face:
@@ -89,6 +96,12 @@ class Profile:
             if face.request == request:
                 return face
         return None
+
+    def nearest_face(self, request: FontRequest) -> Optional[Face]:
+        """The face that meets most parts of a request, of several such the first."""
+        parts = [part.name for part in fields(FontRequest)]
+        return max(self.faces.values(), default=None, key=lambda face: sum(
+            getattr(face.request, part) == getattr(request, part) for part in parts))
 
     def first_panel(self) -> Dict[str, int]:
         return {name: self.allowed[name][0] for name in FIELDS}

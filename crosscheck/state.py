@@ -33,10 +33,11 @@ CHECK_ORDER = tuple(map(int, ORDER[1].split(", ")))
 
 
 class Finding(Exception):
-    def __init__(self, number: int, unset: str = ""):
+    def __init__(self, number: int, unset: str = "", code: Optional[int] = None):
         super().__init__(number)
         self.number = number
         self.unset = unset
+        self.code = code                       # of the character that is printed
 
     def __str__(self) -> str:
         name = FINDINGS[self.number]

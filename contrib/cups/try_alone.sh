@@ -63,7 +63,7 @@ say 'backend: nothing is sent' sends_nothing
 
 say 'backend: a job that passes once' gate 0 /front/stand-in:x 1 "$cups/once.pcl"
 say 'backend: is held where it has two copies' gate 3 /front/stand-in:x 2 "$cups/once.pcl"
-say 'backend: for the second one' tells 'front-desk refuses this job at byte 44 on page 1, '
+say 'backend: for the second one' tells 'front-desk refuses this job at byte 44 on page 1, 6.35 mm from the left and 269.87 mm from the top, '
 cat "$job" "$job" "$job" >"$alone/three"
 say 'backend: three copies' gate 0 /shop/stand-in:x 3 "$job"
 say 'backend: are sent' sends "$alone/three"
@@ -118,10 +118,10 @@ printf '\033(s1P' >"$alone/spaced.pcl"
 printf '\033&f1S' >"$alone/wrong.pcl"
 say 'backend: a job that is wrong is held' gate 3 /front/stand-in:x 1 "$alone/wrong.pcl"
 say 'backend: and why is told' \
-    tells 'ERROR: preflight: this job is wrong at byte 0 on page 1, ESC &f1S: no cursor is pushed'
+    tells 'ERROR: preflight: this job is wrong at byte 0 on page 1, 6.35 mm from the left and 15.87 mm from the top, ESC &f1S: '
 say 'backend: a job that pclcheck cannot judge is held' \
     gate 3 /front/stand-in:x 1 "$alone/spaced.pcl"
-say 'backend: and why is told' tells 'ERROR: preflight: pclcheck cannot judge this job at byte 0 on page 1, '
+say 'backend: and why is told' tells 'ERROR: preflight: pclcheck cannot judge this job at byte 0 on page 1, 6.35 mm from the left and 15.87 mm from the top, '
 say 'backend: logged: it is printed' gate 0 /front/log/stand-in:x 1 "$alone/spaced.pcl"
 say 'backend: logged: and copied' cmp "$alone/log/front/7.pcl" "$alone/spaced.pcl"
 rm "$alone/log/front/7.pcl"
@@ -130,7 +130,7 @@ export PCLCHECK_UNCHECKED
 say 'backend: or printed, where that is set' gate 0 /front/stand-in:x 1 "$alone/spaced.pcl"
 say 'backend: as it is' sends "$alone/spaced.pcl"
 say 'backend: which is told' tells \
-    'NOTICE: preflight: printed all the same: pclcheck cannot judge this job at byte 0 on page 1, ESC (s1P: '
+    'NOTICE: preflight: printed all the same: pclcheck cannot judge this job at byte 0 on page 1, 6.35 mm from the left and 15.87 mm from the top, ESC (s1P: '
 say 'backend: a job that is wrong is held then, too' gate 3 /front/stand-in:x 1 "$alone/wrong.pcl"
 say 'backend: and one that a printer refuses' gate 3 /all/stand-in:x 1 "$job"
 say 'backend: logged: it is printed' gate 0 /front/log/stand-in:x 1 "$alone/spaced.pcl"

@@ -128,7 +128,7 @@ say 'queue: moved to another queue, it is printed' prints "$job"
 print_job -d front "$cups/once.pcl"
 say 'queue: a job that passes once is printed' prints "$cups/once.pcl"
 print_job -d front -n 2 "$cups/once.pcl"
-say 'queue: two copies of it are held' holds 'front-desk refuses this job at byte 44 on page 1, ESC *c0P'
+say 'queue: two copies of it are held' holds 'front-desk refuses this job at byte 44 on page 1, 6.35 mm from the left and 269.87 mm from the top, ESC *c0P'
 print_job -d front -n 3 "$job"
 say 'queue: three copies of another are printed as one stream' prints "$alone/three"
 print_job -d front "$job" "$examples/letter.pcl"
@@ -136,7 +136,7 @@ cat "$job" "$examples/letter.pcl" >"$cups/two"
 say 'queue: two files in a job, by standard input, are printed' prints "$cups/two"
 cat "$cups/once.pcl" "$cups/once.pcl" >"$cups/twice.pcl"
 print_job -d front "$cups/once.pcl" "$cups/once.pcl"
-say 'queue: two files that fail together are held' holds 'front-desk refuses this job at byte 44 on page 1, '
+say 'queue: two files that fail together are held' holds 'front-desk refuses this job at byte 44 on page 1, 6.35 mm from the left and 269.87 mm from the top, '
 lp -d front -s <"$job" || :
 name=front-$((number + 1))
 say 'queue: a job that lp reads from standard input is printed' prints "$job"

@@ -9,6 +9,7 @@ pub mod Samples
 pub mod Words
 pub mod Values
 pub mod Faces
+pub mod Nearest
 pub mod LineFault
 pub mod GeometryLine
 pub mod Laws

@@ -122,7 +122,7 @@ limit_left paper spot _ = []
 
 -- the mark that would be made, where that is what is wrong
 abbrev pub unmade_mark : Finding → Option Outline → Option Outline
-unmade_mark NoGlyph mark = mark
+unmade_mark (NoGlyph code) mark = mark
 unmade_mark OffPage mark = mark
 unmade_mark PastRightMargin mark = mark
 unmade_mark NotPrintable mark = mark

@@ -293,7 +293,7 @@ fn unmade_mark(finding: Finding, mark: Option<Outline>) -> Option<Outline>
     ensures { result ≡ unmade_mark finding mark }
 {
     match finding {
-        Finding::NoGlyph => mark,
+        Finding::NoGlyph(_) => mark,
         Finding::OffPage => mark,
         Finding::PastRightMargin => mark,
         Finding::NotPrintable => mark,

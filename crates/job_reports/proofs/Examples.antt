@@ -1,5 +1,5 @@
 -- Lines and sentences, computed from the definitions alone.
-use Rattle.std.proofs.Common.{◌≡◌, ℕ, Bool, true, false, List, [], ◌∷◌, ◌++◌, Option, Some, None, Result, Ok, Err, refl, lit≤}
+use Rattle.std.proofs.Common.{◌≡◌, ℕ, Bool, true, false, List, [], ◌∷◌, ◌++◌, Option, Some, None, Result, Ok, Err, pos, refl, lit≤}
 use Rattle.std.specs.Prelude.{codes}
 use Rattle.std.specs.Char.{encode_utf8}
 use Rattle.std.specs.Fmt.{digits}
@@ -16,6 +16,7 @@ use Rattle.verdict.specs.declared.verdict.Verdict.TheVariants.{Fail, Pass}
 use Rattle.preflight.specs.declared.culprit.Culprit.{Culprit}
 use Rattle.preflight.specs.declared.culprit.Culprit.TheVariants.{Simple}
 use Rattle.preflight.specs.declared.culprit.Judgement.{Judgement}
+use Rattle.shown_bytes.specs.Lengths.{signed_hundredths}
 use Rattle.shown_bytes.specs.Shown.{shown_text}
 use Rattle.streams.specs.declared.error.Error.{Error}
 use Rattle.streams.specs.declared.error.Error.TheVariants.{Read}
@@ -37,7 +38,7 @@ report_of is_each answer cause = record {
 }
 
 abbrev passed : Result Judgement Error
-passed = Ok (record { verdict = Pass 1 22; culprit = None; page = None })
+passed = Ok (record { verdict = Pass 1 22; culprit = None; page = None; cursor = None; font = None })
 
 -- the second printer has no page of this size
 abbrev refused : Result Judgement Error
@@ -45,11 +46,13 @@ refused = Ok (record {
   verdict = Fail 134 2 (Finding NotOnDevice);
   culprit = Some (Simple (Parameterized PageSize (record { sign = Absent; ten_thousandths = 20000; within = lit≤ tt })));
   page = Some 2;
+  cursor = None;
+  font = None;
 })
 
 -- the bytes are wrong, whatever the printer
 abbrev faulty : Result Judgement Error
-faulty = Ok (record { verdict = Fail 9 0 (Fault Syntax); culprit = None; page = Some 1 })
+faulty = Ok (record { verdict = Fail 9 0 (Fault Syntax); culprit = None; page = Some 1; cursor = None; font = None })
 
 abbrev gone : Option (List ℕ)
 gone = Some (codes "No such file or directory")
@@ -80,6 +83,22 @@ sentence_of_finding : job_sentence (report_of false refused None)
 unfolding shown_text is_utf8 chars encode_utf8 digits
 sentence_of_finding = refl
 
+-- the cursor stands 31.75 mm from the left and 38.1 mm from the top
+abbrev placed : Result Judgement Error
+placed = Ok (record {
+  verdict = Fail 9 1 (Finding NotOnDevice);
+  culprit = None;
+  page = Some 1;
+  cursor = Some (record { x = pos 45_720_000_000; y = pos 54_864_000_000 });
+  font = None;
+})
+
+sentence_of_place : job_sentence (report_of false placed None)
+    ≡ codes
+    "in/note 4712.pcl: counter refuses this job at byte 9 on page 1, 31.75 mm from the left and 38.10 mm from the top: the printer does not have this size, orientation, tray or sides (11 NotOnDevice)\n"
+unfolding shown_text is_utf8 chars encode_utf8 digits signed_hundredths
+sentence_of_place = refl
+
 sentence_of_fault : job_sentence (report_of false faulty None)
     ≡ codes "in/note 4712.pcl: this job is wrong at byte 9 on page 1: the bytes here are no command (1 Syntax)\n"
 unfolding shown_text is_utf8 chars encode_utf8 digits
@@ -90,7 +109,13 @@ abbrev spaced : Sign → Option Culprit
 spaced sign = Some (Simple (Parameterized FontSpacing (record { sign = sign; ten_thousandths = 10000; within = lit≤ tt })))
 
 abbrev failing_at : Option Culprit → Result Judgement Error
-failing_at culprit = Ok (record { verdict = Fail 7 1 (Finding BadValue); culprit = culprit; page = Some 1 })
+failing_at culprit = Ok (record {
+  verdict = Fail 7 1 (Finding BadValue);
+  culprit = culprit;
+  page = Some 1;
+  cursor = None;
+  font = None;
+})
 
 sentence_of_unchecked : job_sentence (report_of true (failing_at (spaced Absent)) None)
     ≡ codes

@@ -1,6 +1,6 @@
 -- A sentence is short, and has no control code before its end.
 use Rattle.std.proofs.Common.{ℕ, ◌-◌, ◌^◌, ◌==◌, ◌<◌, ◌≤◌, List, [], ◌∷◌, ◌++◌, length, codes, refl, arith, get_or, Option, None, Some}
-use Rattle.std.proofs.Common.{Bool, Result, Ok, Err}
+use Rattle.std.proofs.Common.{ℤ, pos, negsuc, suc, ◌/◌, ◌%◌, unsigned_abs, Bool, Result, Ok, Err}
 use Rattle.std.specs.Prelude.{IfOk, decimal, flat_map}
 use Rattle.std.specs.Fmt.{signed_decimal}
 use Rattle.std.specs.List.{AllByRecursion}
@@ -25,7 +25,7 @@ use Rattle.pcl_spelling.proofs.Frames.Canonical.{coordinate_spelled}
 use Rattle.device_profile.specs.declared.field.Field.{Field}
 use Rattle.device_profile.specs.declared.field.Field.TheVariants.{Size}
 use Rattle.page_env.specs.declared.finding.Finding.{Finding}
-use Rattle.page_env.specs.declared.finding.Finding.TheVariants.{BadValue, Unset}
+use Rattle.page_env.specs.declared.finding.Finding.TheVariants.{BadValue, NoGlyph, Unset}
 use Rattle.page_env.specs.Order.{number_of}
 use Rattle.verdict.specs.declared.reason.Reason.{Reason}
 use Rattle.verdict.specs.declared.reason.Reason.TheVariants.{Fault, Finding as Found, Differs, Unpinnable}
@@ -36,29 +36,31 @@ use Rattle.line_words.specs.Figures.{escaped_byte, named}
 use Rattle.device_profile.specs.Field.{field_name}
 use Rattle.line_words.specs.Reason.{bare_cause_name, bare_finding_name, bare_name, brackets, name_words, reason_words, short_cause}
 use Rattle.line_words.specs.Reason.{short_finding, short_reason, named_byte}
-use Rattle.shown_bytes.specs.Decimals.{magnitude_text}
+use Rattle.shown_bytes.specs.Decimals.{digit, magnitude_text, with_hundredths}
+use Rattle.shown_bytes.specs.Lengths.{millimetres, signed_hundredths}
 use Rattle.shown_bytes.specs.Shown.{shown, shown_byte, shown_text}
 use Rattle.preflight.specs.declared.culprit.Culprit.{Culprit}
 use Rattle.preflight.specs.declared.culprit.Culprit.TheVariants.{Text, Simple, WithData, Line}
 use Rattle.preflight.specs.declared.culprit.Judgement.{Judgement}
+use Rattle.preflight.specs.declared.culprit.SheetSpot.{SheetSpot}
 use Rattle.streams.specs.declared.error.Error.{Error}
 use Rattle.streams.specs.declared.error.Error.TheVariants.{Memory, Read, Write, Turns, NoProfile, Items}
 use Rattle.job_reports.specs.CommandWords.{code_words, command_words}
 use Rattle.job_reports.specs.JobSentences.{AreNumbers, IsCulpritOfNumbers, IsOfParts, IsPageOfNumber, IsSentence, IsVerdictOfNumbers}
-use Rattle.job_reports.specs.JobSentences.{IsWithin, on_page, place_phrase}
-use Rattle.job_reports.specs.JobSentences.{answer_phrase, at_command, cause_phrase, claim_by, error_phrase, fails_at, few_words}
+use Rattle.job_reports.specs.JobSentences.{IsSpotOfNumbers, IsWithin, on_page, on_sheet, place_phrase}
+use Rattle.job_reports.specs.JobSentences.{answer_phrase, at_command, cause_phrase, claim_by, error_phrase, fails_where, few_words}
 use Rattle.job_reports.specs.JobSentences.{first_of, for_each, for_printer, is_bad_value, job_claim, job_sentence, last_of, named_first}
-use Rattle.job_reports.specs.JobSentences.{reason_phrase, refusal, subject, verdict_phrase}
+use Rattle.job_reports.specs.JobSentences.{lacked, reason_phrase, refusal, subject, verdict_phrase}
 use Rattle.job_reports.specs.Kinds.{kind_by}
 use Rattle.job_reports.specs.LeftOut.{left_out_of, value_words}
 use Rattle.job_reports.specs.declared.kind.Kind.{Kind}
 use Rattle.job_reports.specs.declared.kind.Kind.TheVariants as kinds
 use Rattle.job_reports.specs.declared.left_out.LeftOut.{LeftOut}
 use Rattle.job_reports.specs.declared.left_out.LeftOut.TheVariants as left_outs
-use Rattle.job_reports.specs.Reports.{Reported, culprit_of, number_told, page_of, verdict_told}
+use Rattle.job_reports.specs.Reports.{Reported, culprit_of, cursor_of, number_told, page_of, verdict_told}
 use Rattle.requests.specs.Status.{error_words}
 use Rattle.job_reports.proofs.Within.{code_part, decimal_part, escaped_part, first_part, flat_part, joined, last_part, literal, name_at}
-use Rattle.job_reports.proofs.Within.{name_shown, named_part, nothing, one_of, shown_byte_part, shown_part, wider}
+use Rattle.job_reports.proofs.Within.{name_shown, named_part, nothing, one_of, short_decimal_part, shown_byte_part, shown_part, wider}
 
 -- ---- the item that a job fails at
 
@@ -137,9 +139,45 @@ on_page_part : (page : Option ℕ) → IsPageOfNumber page → IsWithin 29 (on_p
 on_page_part None h = nothing 29
 on_page_part (Some page) h = named_part 9 (codes " on page ") page refl refl h
 
-place_part : (place : ℕ) (page : Option ℕ) → place < 2 ^ 64 → IsPageOfNumber page → IsWithin 58 (place_phrase place page)
-place_part place page h k =
-    joined (named (codes " at byte ") place) (on_page page) (named_part 9 (codes " at byte ") place refl refl h) (on_page_part page k)
+-- a number of so many hundredths
+hundredths_part : (n : ℕ) → n ≤ 10 ^ 12 → IsWithin 16 (with_hundredths n)
+hundredths_part n h =
+    joined (decimal (n / 100)) _ (short_decimal_part 13 (n / 100) (omega arith) (omega (arith, h)) (omega (arith, h)))
+    (one_of 3 (n % 100 == 0) [] (46 ∷ digit (n / 10) ∷ digit n ∷ []) (λ e. nothing 3) (
+    record {
+      short = omega arith;
+      shown = (omega arith, (omega arith, (omega arith, tt)));
+    }
+    ))
+
+signed_part : (n : ℤ) → unsigned_abs n ≤ 10 ^ 12 → IsWithin 17 (signed_hundredths n)
+unfolding signed_hundredths
+signed_part (pos n) h = wider 17 _ (omega arith) (hundredths_part n h)
+signed_part (negsuc n) h = joined (45 ∷ []) _ (literal 1 _ refl refl) (hundredths_part (suc n) h)
+
+-- a length of 64 bits
+millimetres_part : (ticks : ℤ) → unsigned_abs ticks ≤ 2 ^ 63 → IsWithin 17 (millimetres ticks)
+unfolding millimetres
+millimetres_part (pos n) h = signed_part (pos (n / 14_400_000)) (omega (arith, h))
+millimetres_part (negsuc n) h = signed_part (negsuc (n / 14_400_000)) (omega (arith, h))
+
+on_sheet_part : (cursor : Option SheetSpot) → IsSpotOfNumbers cursor → IsWithin 74 (on_sheet cursor)
+on_sheet_part None h = nothing 74
+on_sheet_part (Some spot) h =
+    let left : List ℕ = codes ", " ++ millimetres spot.x in
+    joined ((left ++ codes " mm from the left and ") ++ millimetres spot.y) (codes " mm from the top")
+    (joined (left ++ codes " mm from the left and ") (millimetres spot.y)
+    (joined left (codes " mm from the left and ")
+    (joined (codes ", ") (millimetres spot.x) (literal 2 _ refl refl) (millimetres_part spot.x h.0)) (literal 22 _ refl refl))
+    (millimetres_part spot.y h.1))
+    (literal 16 _ refl refl)
+
+place_part : (place : ℕ) (page : Option ℕ) (cursor : Option SheetSpot) → place < 2 ^ 64 → IsPageOfNumber page → IsSpotOfNumbers cursor →
+    IsWithin 132 (place_phrase place page cursor)
+place_part place page cursor h k s =
+    let front : List ℕ = named (codes " at byte ") place in
+    joined (front ++ on_page page) (on_sheet cursor)
+    (joined front (on_page page) (named_part 9 (codes " at byte ") place refl refl h) (on_page_part page k)) (on_sheet_part cursor s)
 
 -- ---- what is wrong
 
@@ -239,32 +277,40 @@ few_words_part : (left_out : Option LeftOut) (reason : Reason) → IsWithin 80 (
 few_words_part left_out reason =
     one_of 80 (is_bad_value reason) (value_words left_out) (short_reason reason) (λ e. value_part left_out) (short_part reason)
 
-reason_phrase_part : (left_out : Option LeftOut) (reason : Reason) → IsWithin 139 (reason_phrase left_out reason)
+lacked_part : (reason : Reason) → IsWithin 5 (lacked reason)
+lacked_part (Found (NoGlyph code)) = joined (codes " ") (escaped_byte code) (literal 1 _ refl refl) (escaped_part code)
+lacked_part _ = nothing 5
+
+reason_phrase_part : (left_out : Option LeftOut) (reason : Reason) → IsWithin 144 (reason_phrase left_out reason)
 reason_phrase_part left_out reason =
-    let front : List ℕ = codes ": " ++ few_words left_out reason in
+    let words : List ℕ = codes ": " ++ few_words left_out reason in
+    let front : List ℕ = words ++ lacked reason in
     joined ((front ++ codes " (") ++ reason_words reason) (codes ")")
     (joined (front ++ codes " (") (reason_words reason)
     (joined front (codes " (")
-    (joined (codes ": ") (few_words left_out reason) (literal 2 _ refl refl) (few_words_part left_out reason)) (literal 2 _ refl refl))
+    (joined words (lacked reason)
+    (joined (codes ": ") (few_words left_out reason) (literal 2 _ refl refl) (few_words_part left_out reason)) (lacked_part reason))
+    (literal 2 _ refl refl))
     (reason_part reason))
     (literal 1 _ refl refl)
 
 -- ---- the answer
 
-verdict_part : (page : Option ℕ) (culprit : Option Culprit) (verdict : Verdict) → IsPageOfNumber page → IsCulpritOfNumbers culprit →
-    IsVerdictOfNumbers verdict → IsWithin 343 (verdict_phrase (fails_at page culprit) verdict)
-verdict_part page culprit (Pass pages marks) p h k =
+verdict_part : (page : Option ℕ) (cursor : Option SheetSpot) (culprit : Option Culprit) (verdict : Verdict) → IsPageOfNumber page →
+    IsSpotOfNumbers cursor → IsCulpritOfNumbers culprit → IsVerdictOfNumbers verdict →
+    IsWithin 422 (verdict_phrase (fails_where page cursor culprit) verdict)
+verdict_part page cursor culprit (Pass pages marks) p s h k =
     let front : List ℕ = named (codes " (pages=") pages in
     let back : List ℕ = named (codes " marks=") marks in
-    wider 343 _ (omega arith)
+    wider 422 _ (omega arith)
     (joined (front ++ back) (codes ")")
     (joined front back (named_part 8 (codes " (pages=") pages refl refl k.0)
     (named_part 7 (codes " marks=") marks refl refl k.1))
     (literal 1 _ refl refl))
-verdict_part page culprit (Fail place profile reason) p h k =
-    let front : List ℕ = place_phrase place page in
+verdict_part page cursor culprit (Fail place profile reason) p s h k =
+    let front : List ℕ = place_phrase place page cursor in
     joined (front ++ at_command culprit) (reason_phrase (left_out_of culprit) reason)
-    (joined front (at_command culprit) (place_part place page k p) (at_part culprit h))
+    (joined front (at_command culprit) (place_part place page cursor k p s) (at_part culprit h))
     (reason_phrase_part (left_out_of culprit) reason)
 
 subject_part : (names : List (List ℕ)) (number : ℕ) → AllByRecursion (IsWithin 32) names → IsWithin 32 (subject names number)
@@ -322,17 +368,18 @@ cause_part (Some words) =
     (first_part 200 (shown words) (flat_part shown_byte shown_byte_part words).shown)
 
 answer_part : (report : Reported) (answer : Result Verdict Error) → AllByRecursion (IsWithin 32) report.names →
-    IsPageOfNumber (page_of report.answer) → IsCulpritOfNumbers (culprit_of report.answer) → IfOk answer IsVerdictOfNumbers →
-    IsWithin 410 (answer_phrase report answer)
-answer_part report (Ok verdict) h p k l =
-    joined (job_claim report) (verdict_phrase (fails_at (page_of report.answer) (culprit_of report.answer)) verdict)
+    IsPageOfNumber (page_of report.answer) → IsSpotOfNumbers (cursor_of report.answer) →
+    IsCulpritOfNumbers (culprit_of report.answer) → IfOk answer IsVerdictOfNumbers → IsWithin 489 (answer_phrase report answer)
+answer_part report (Ok verdict) h p s k l =
+    joined (job_claim report)
+    (verdict_phrase (fails_where (page_of report.answer) (cursor_of report.answer) (culprit_of report.answer)) verdict)
     (claim_part (subject report.names (number_told report.is_each (verdict_told report.answer))) (for_each report.is_each report.names)
     (subject_part report.names _ h) (for_each_part report.is_each report.names h) (left_out_of (culprit_of report.answer))
     (verdict_told report.answer))
-    (verdict_part (page_of report.answer) (culprit_of report.answer) verdict p k l)
-answer_part report (Err error) h p k l =
+    (verdict_part (page_of report.answer) (cursor_of report.answer) (culprit_of report.answer) verdict p s k l)
+answer_part report (Err error) h p s k l =
     let front : List ℕ = error_phrase error ++ for_printer report.names (number_told report.is_each (Err error)) in
-    wider 410 _ (omega arith)
+    wider 489 _ (omega arith)
     (joined (((front ++ cause_phrase report.cause) ++ codes " (") ++ error_words error) (codes ")")
     (joined ((front ++ cause_phrase report.cause) ++ codes " (") (error_words error)
     (joined (front ++ cause_phrase report.cause) (codes " (")
@@ -350,6 +397,10 @@ page_number : (answer : Result Judgement Error) → IfOk answer AreNumbers → I
 page_number (Ok judgement) h = h.2
 page_number (Err error) h = tt
 
+spot_numbers : (answer : Result Judgement Error) → IfOk answer AreNumbers → IsSpotOfNumbers (cursor_of answer)
+spot_numbers (Ok judgement) h = h.3
+spot_numbers (Err error) h = tt
+
 verdict_numbers : (answer : Result Judgement Error) → IfOk answer AreNumbers → IfOk (verdict_told answer) IsVerdictOfNumbers
 verdict_numbers (Ok judgement) h = h.0
 verdict_numbers (Err error) h = tt
@@ -366,5 +417,5 @@ sentence_is_short report h =
       wider 999 _ (omega arith)
           (joined (named_first report.job) answer (named_first_part report.job)
           (answer_part report (verdict_told report.answer) h.names (page_number report.answer h.numbers)
-          (culprit_numbers report.answer h.numbers) (verdict_numbers report.answer h.numbers))),
+          (spot_numbers report.answer h.numbers) (culprit_numbers report.answer h.numbers) (verdict_numbers report.answer h.numbers))),
     )

@@ -189,6 +189,10 @@ decimal_part n h = record {
   shown = decimal_by_steps (λ n ds. IsShown ds) (λ n h. (omega arith, tt)) (λ n ds h k. shown-append ds _ k (omega arith, tt)) n h;
 }
 
+-- one of so many digits
+pub short_decimal_part : (k n : ℕ) → 0 < k → n < 10 ^ k → n < 2 ^ 64 → IsWithin k (decimal n)
+short_decimal_part k n some low h = record { short = length-decimal-le k n some low h; shown = (decimal_part n h).shown }
+
 pub name_at : (names : List (List ℕ)) (i : ℕ) → AllByRecursion (IsWithin 32) names → IsWithin 32 (get_or names i [])
 name_at [] i h = nothing 32
 name_at (name ∷ names) zero h = h.0

@@ -1,9 +1,12 @@
 -- The item that a job fails at, in words.
-use Rattle.std.specs.Prelude.{ℕ, ◌==◌, List, [], ◌∷◌, ◌++◌, codes, decimal, flat_map, if◌then◌else◌}
+use Rattle.std.specs.Prelude.{ℕ, ◌==◌, unsigned_abs, List, [], ◌∷◌, ◌++◌, codes, decimal, flat_map, if◌then◌else◌}
+use Rattle.shown_bytes.specs.Decimals.{amount, minus}
+use Rattle.shown_bytes.specs.Lettered.{lettered}
 use Rattle.pcl_items.specs.Spellings.Canon.{canon}
 use Rattle.pcl_items.specs.Escapes.Commands.{introducer_of, character_of, data_group_of, data_letter_of}
 use Rattle.pcl_items.specs.Items.{simple_view}
 use Rattle.line_words.specs.Figures.{escaped_byte}
+use Rattle.device_profile.specs.declared.font.FontRequest.{FontRequest}
 use Rattle.preflight.specs.declared.culprit.Culprit.{Culprit}
 use Rattle.preflight.specs.declared.culprit.Culprit.TheVariants.{Text, Simple, WithData, Line}
 
@@ -23,3 +26,21 @@ command_words (WithData command count) =
     codes "ESC " ++ introducer_of (data_group_of command) ∷ character_of (data_group_of command)
     ∷ (decimal count ++ data_letter_of command ∷ [])
 command_words Line = codes "@PJL"
+
+-- ---- the commands that ask for a font
+
+-- of how it is set
+unfoldable pub setting_words : FontRequest → List ℕ
+setting_words font =
+    amount font.spacing ++ codes "p" ++ amount font.pitch ++ codes "h" ++ amount font.height ++ codes "v"
+
+-- of how it looks
+unfoldable pub look_words : FontRequest → List ℕ
+look_words font =
+    amount font.style ++ codes "s" ++ minus font.weight ++ amount (unsigned_abs font.weight) ++ codes "b"
+    ++ amount font.typeface ++ codes "T"
+
+abbrev pub font_commands : FontRequest → List ℕ
+font_commands font =
+    codes "ESC (" ++ lettered font.symbol_set.number font.symbol_set.letter ++ codes " ESC (s" ++ setting_words font
+    ++ look_words font

@@ -1,14 +1,16 @@
 -- The sentence of a job, in a check of many jobs.
 use Rattle.std.specs.Prelude.{◌≡◌, ℕ, ◌==◌, ◌-◌, ◌^◌, ◌<◌, ◌≤◌, nat_le, nat_lt, ◌||◌, List, [], ◌∷◌, ◌++◌, codes, drop}
 use Rattle.std.specs.Prelude.{take, length, get_or, if◌then◌else◌, Bool, true, false, Option, None, Some, Result}
-use Rattle.std.specs.Prelude.{Ok, Err, IfOk, ⊤}
+use Rattle.std.specs.Prelude.{Ok, Err, IfOk, unsigned_abs, ⊤}
 use Rattle.std.specs.List.{AllByRecursion}
-use Rattle.line_words.specs.Figures.{named}
+use Rattle.line_words.specs.Figures.{escaped_byte, named}
 use Rattle.line_words.specs.Reason.{reason_words, short_reason}
-use Rattle.page_env.specs.declared.finding.Finding.TheVariants.{BadValue}
+use Rattle.page_env.specs.declared.finding.Finding.TheVariants.{BadValue, NoGlyph}
 use Rattle.preflight.specs.declared.culprit.Culprit.{Culprit}
 use Rattle.preflight.specs.declared.culprit.Culprit.TheVariants.{Text, Simple, WithData, Line}
 use Rattle.preflight.specs.declared.culprit.Judgement.{Judgement}
+use Rattle.preflight.specs.declared.culprit.SheetSpot.{SheetSpot}
+use Rattle.shown_bytes.specs.Lengths.{millimetres}
 use Rattle.shown_bytes.specs.Shown.{shown, shown_text}
 use Rattle.streams.specs.declared.error.Error.{Error}
 use Rattle.streams.specs.declared.error.Error.TheVariants.{Memory, Read, Write, Turns, NoProfile, Items}
@@ -22,7 +24,7 @@ use Rattle.job_reports.specs.LeftOut.{left_out_of, value_words}
 use Rattle.job_reports.specs.declared.kind.Kind.{Kind}
 use Rattle.job_reports.specs.declared.kind.Kind.TheVariants as kinds
 use Rattle.job_reports.specs.declared.left_out.LeftOut.{LeftOut}
-use Rattle.job_reports.specs.Reports.{Reported, culprit_of, number_told, page_of, verdict_told}
+use Rattle.job_reports.specs.Reports.{Reported, culprit_of, cursor_of, number_told, page_of, verdict_told}
 use Rattle.requests.specs.Status.{error_words}
 
 -- ---- what is long, in part
@@ -79,22 +81,35 @@ abbrev pub at_command : Option Culprit → List ℕ
 at_command None = []
 at_command (Some culprit) = codes ", " ++ command_words culprit
 
--- where a job fails: the page, the words behind that, and what is left out of the value there
+-- where a job fails: the page, where the cursor stood, the words behind that, and what is left out of the value there
 pub record FailsAt : Type 0 where
   pub page : Option ℕ
+  pub cursor : Option SheetSpot
   pub words : List ℕ
   pub left_out : Option LeftOut
 
 abbrev pub fails_at : Option ℕ → Option Culprit → FailsAt
-fails_at page culprit = record { page = page; words = at_command culprit; left_out = left_out_of culprit }
+fails_at page culprit =
+    record { page = page; cursor = None; words = at_command culprit; left_out = left_out_of culprit }
+
+-- the same where it may be known where the cursor stood
+abbrev pub fails_where : Option ℕ → Option SheetSpot → Option Culprit → FailsAt
+fails_where page cursor culprit = record (fails_at page culprit) { cursor = cursor }
 
 abbrev pub on_page : Option ℕ → List ℕ
 on_page None = []
 on_page (Some page) = named (codes " on page ") page
 
--- the byte, and the page that is open there
-abbrev pub place_phrase : ℕ → Option ℕ → List ℕ
-place_phrase place page = named (codes " at byte ") place ++ on_page page
+-- where the cursor stood on the sheet
+abbrev pub on_sheet : Option SheetSpot → List ℕ
+on_sheet None = []
+on_sheet (Some spot) =
+    codes ", " ++ millimetres spot.x ++ codes " mm from the left and " ++ millimetres spot.y
+    ++ codes " mm from the top"
+
+-- the byte, the page that is open there, and where the cursor stood
+abbrev pub place_phrase : ℕ → Option ℕ → Option SheetSpot → List ℕ
+place_phrase place page cursor = named (codes " at byte ") place ++ on_page page ++ on_sheet cursor
 
 abbrev pub is_bad_value : Reason → Bool
 is_bad_value (Finding BadValue) = true
@@ -104,16 +119,21 @@ is_bad_value _ = false
 abbrev pub few_words : Option LeftOut → Reason → List ℕ
 few_words left_out reason = if is_bad_value reason then value_words left_out else short_reason reason
 
+-- the character that a face lacks, behind these words
+abbrev pub lacked : Reason → List ℕ
+lacked (Finding (NoGlyph code)) = codes " " ++ escaped_byte code
+lacked _ = []
+
 -- what is wrong, in words and as a line has it
 abbrev pub reason_phrase : Option LeftOut → Reason → List ℕ
 reason_phrase left_out reason =
-    codes ": " ++ few_words left_out reason ++ codes " (" ++ reason_words reason ++ codes ")"
+    codes ": " ++ few_words left_out reason ++ lacked reason ++ codes " (" ++ reason_words reason ++ codes ")"
 
 -- what stands behind the claim
 abbrev pub verdict_phrase : FailsAt → Verdict → List ℕ
 verdict_phrase at (Pass pages marks) = named (codes " (pages=") pages ++ named (codes " marks=") marks ++ codes ")"
 verdict_phrase at (Fail place profile reason) =
-    place_phrase place at.page ++ at.words ++ reason_phrase at.left_out reason
+    place_phrase place at.page at.cursor ++ at.words ++ reason_phrase at.left_out reason
 
 -- ---- why there is none
 
@@ -137,7 +157,8 @@ cause_phrase (Some words) = codes ": " ++ first_of 200 (shown words)
 
 abbrev pub answer_phrase : Reported → Result Verdict Error → List ℕ
 answer_phrase report (Ok verdict) =
-    job_claim report ++ verdict_phrase (fails_at (page_of report.answer) (culprit_of report.answer)) verdict
+    job_claim report
+    ++ verdict_phrase (fails_where (page_of report.answer) (cursor_of report.answer) (culprit_of report.answer)) verdict
 answer_phrase report (Err error) =
     error_phrase error ++ for_printer report.names (number_told report.is_each (Err error)) ++ cause_phrase report.cause
     ++ codes " (" ++ error_words error ++ codes ")"
@@ -172,10 +193,15 @@ abbrev pub IsPageOfNumber : Option ℕ → Type 0
 IsPageOfNumber (Some page) = page < 2 ^ 64
 IsPageOfNumber None = ⊤
 
+abbrev pub IsSpotOfNumbers : Option SheetSpot → Type 0
+IsSpotOfNumbers (Some spot) = (unsigned_abs spot.x ≤ 2 ^ 63) × (unsigned_abs spot.y ≤ 2 ^ 63)
+IsSpotOfNumbers None = ⊤
+
 -- numbers of 64 bits
 abbrev pub AreNumbers : Judgement → Type 0
 AreNumbers judgement =
     IsVerdictOfNumbers judgement.verdict × IsCulpritOfNumbers judgement.culprit × IsPageOfNumber judgement.page
+    × IsSpotOfNumbers judgement.cursor
 
 -- names of printers as their texts give them, and numbers as the program has them
 pub record IsOfParts (report : Reported) : Type 0 where

@@ -2,6 +2,8 @@
 use Rattle.std.specs.Prelude.{ℕ, Bool, true, false, List, Option, None, Result, Ok, Err}
 use Rattle.preflight.specs.declared.culprit.Culprit.{Culprit}
 use Rattle.preflight.specs.declared.culprit.Judgement.{Judgement}
+use Rattle.preflight.specs.declared.culprit.MissingFont.{MissingFont}
+use Rattle.preflight.specs.declared.culprit.SheetSpot.{SheetSpot}
 use Rattle.streams.specs.declared.error.Error.{Error}
 use Rattle.verdict.specs.declared.verdict.Verdict.{Verdict}
 use Rattle.verdict.specs.declared.verdict.Verdict.TheVariants.{Pass, Fail}
@@ -29,6 +31,16 @@ culprit_of (Err error) = None
 abbrev pub page_of : Result Judgement Error → Option ℕ
 page_of (Ok judgement) = judgement.page
 page_of (Err error) = None
+
+-- where the cursor stood before the item that the job fails at
+abbrev pub cursor_of : Result Judgement Error → Option SheetSpot
+cursor_of (Ok judgement) = judgement.cursor
+cursor_of (Err error) = None
+
+-- the font that no face of a printer answers
+abbrev pub font_of : Result Judgement Error → Option MissingFont
+font_of (Ok judgement) = judgement.font
+font_of (Err error) = None
 
 -- The number of the printer that this is about: where each printer is told of by itself, the only one;
 -- else the one that the job fails for. 0 is none.

@@ -3,13 +3,20 @@ ghost use Rattle.std.specs.Prelude.{◌≡◌, ◌++◌, OnOk, flat_map};
 ghost use Rattle.pcl_items.specs.Spellings.Canon.{canon};
 ghost use Rattle.pcl_items.specs.Items.{simple_view};
 ghost use Rattle.preflight.specs.declared.culprit.Culprit.TheVariants.{WithData};
-ghost use Rattle.job_reports.specs.CommandWords.{code_words, command_words};
+ghost use Rattle.job_reports.specs.CommandWords.{
+  code_words,
+  command_words,
+  font_commands,
+  look_words,
+  setting_words,
+};
 
+use device_profile::FontRequest;
 use line_words::push_escaped;
 use pcl_items::{DataCommand, Item, SimpleItem};
 use pcl_spelling::spell;
 use preflight::Culprit;
-use shown_bytes::push_number;
+use shown_bytes::{push_amount, push_lettered, push_minus, push_number};
 use std::alloc::{AllocError, Allocator};
 
 /// Appends an item in its canonical spelling, but without data; of a line of the job language only
@@ -83,4 +90,47 @@ fn push_code<A: Allocator>(words: &mut Vec<u8, A>, byte: u8) -> Result<(), Alloc
         b'\x0c' => words.extend_from_slice(b"FF"),
         _ => push_escaped(words, &[byte]),
     }
+}
+
+// ---- the commands that ask for a font
+
+/// Appends the commands that ask for a font, in all seven parts.
+pub fn push_font_commands<A: Allocator>(
+    words: &mut Vec<u8, A>,
+    font: &FontRequest,
+) -> Result<(), AllocError>
+    ensures { OnOk result (words.new.items ≡ words.old.items ++ font_commands font.now) }
+{
+    words.extend_from_slice(b"ESC (")?;
+    push_lettered(words, font.symbol_set.number, font.symbol_set.letter)?;
+    words.extend_from_slice(b" ESC (s")?;
+    push_setting(words, font)?;
+    push_look(words, font)
+}
+
+/// Appends how a font is set: its spacing, pitch and height.
+#[tactic(auto, unfolding(crate::specs::CommandWords::setting_words))]
+fn push_setting<A: Allocator>(words: &mut Vec<u8, A>, font: &FontRequest) -> Result<(), AllocError>
+    ensures { OnOk result (words.new.items ≡ words.old.items ++ setting_words font.now) }
+{
+    push_amount(words, u64::from(font.spacing))?;
+    words.extend_from_slice(b"p")?;
+    push_amount(words, u64::from(font.pitch))?;
+    words.extend_from_slice(b"h")?;
+    push_amount(words, u64::from(font.height))?;
+    words.extend_from_slice(b"v")
+}
+
+/// Appends how a font looks: its style, stroke weight and typeface.
+#[tactic(auto, unfolding(crate::specs::CommandWords::look_words))]
+fn push_look<A: Allocator>(words: &mut Vec<u8, A>, font: &FontRequest) -> Result<(), AllocError>
+    ensures { OnOk result (words.new.items ≡ words.old.items ++ look_words font.now) }
+{
+    push_amount(words, u64::from(font.style))?;
+    words.extend_from_slice(b"s")?;
+    push_minus(words, font.weight)?;
+    push_amount(words, u64::from(font.weight.unsigned_abs()))?;
+    words.extend_from_slice(b"b")?;
+    push_amount(words, u64::from(font.typeface))?;
+    words.extend_from_slice(b"T")
 }

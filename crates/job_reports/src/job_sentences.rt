@@ -8,7 +8,7 @@ ghost use Rattle.job_reports.specs.JobSentences.{
   begins_character,
   cause_phrase,
   error_phrase,
-  fails_at,
+  fails_where,
   few_words,
   first_of,
   for_each,
@@ -17,8 +17,11 @@ ghost use Rattle.job_reports.specs.JobSentences.{
   is_bad_value,
   job_claim,
   job_sentence,
+  lacked,
   last_of,
   named_first,
+  on_page,
+  on_sheet,
   place_phrase,
   reason_phrase,
   refusal,
@@ -31,11 +34,11 @@ use crate::command_words::push_command_words;
 use crate::kind::{Kind, kind_of};
 use crate::left_out::{LeftOut, left_out_of, value_words};
 use crate::reports::Report;
-use line_words::{push_named, push_reason, short_reason};
+use line_words::{push_escaped, push_named, push_reason, short_reason};
 use page_env::Finding;
-use preflight::{Culprit, Verdict};
+use preflight::{Culprit, SheetSpot, Verdict};
 use requests::error_words;
-use shown_bytes::{push_shown, push_shown_text};
+use shown_bytes::{push_millimetres, push_shown, push_shown_text};
 use std::alloc::{AllocError, Allocator};
 use streams::Error;
 use verdict::Reason;
@@ -79,7 +82,12 @@ fn push_answer<A: Allocator + Copy>(
     match report.verdict() {
         Ok(verdict) => {
             push_claim(line, report)?;
-            push_verdict(alloc, line, report.page(), report.culprit(), verdict)
+            let at = Place {
+                page: report.page(),
+                cursor: report.cursor(),
+                culprit: report.culprit(),
+            };
+            push_verdict(alloc, line, at, verdict)
         }
         Err(error) => push_error(alloc, line, error, report),
     }
@@ -162,16 +170,23 @@ fn push_subject<A: Allocator>(
     line.extend_from_slice(report.printer_name())
 }
 
+/// Where a job fails.
+#[derive(Clone, Copy)]
+struct Place {
+    page: Option<u64>,
+    cursor: Option<SheetSpot>,
+    culprit: Option<Culprit>,
+}
+
 /// Appends what stands behind the claim.
 fn push_verdict<A: Allocator + Copy>(
     alloc: A,
     line: &mut Vec<u8, A>,
-    page: Option<u64>,
-    culprit: Option<Culprit>,
+    at: Place,
     verdict: Verdict,
 ) -> Result<(), AllocError>
     ensures { OnOk result (line.new.items ≡ line.old.items ++
-        verdict_phrase (fails_at page culprit) verdict) }
+        verdict_phrase (fails_where at.page at.cursor at.culprit) verdict) }
 {
     match verdict {
         Verdict::Pass { pages, marks } => {
@@ -180,24 +195,48 @@ fn push_verdict<A: Allocator + Copy>(
             line.extend_from_slice(b")")
         }
         Verdict::Fail { place, finding, .. } => {
-            push_place(line, place, page)?;
-            push_at_command(alloc, line, culprit)?;
-            push_reason_phrase(line, left_out_of(culprit), finding)
+            push_place(line, place, at)?;
+            push_at_command(alloc, line, at.culprit)?;
+            push_reason_phrase(line, left_out_of(at.culprit), finding)
         }
     }
 }
 
-/// Appends the byte at which a job fails, and the page that is open there.
-fn push_place<A: Allocator>(
-    line: &mut Vec<u8, A>,
-    place: u64,
-    page: Option<u64>,
-) -> Result<(), AllocError>
-    ensures { OnOk result (line.new.items ≡ line.old.items ++ place_phrase place page) }
+/// Appends the byte at which a job fails, and what is known of its place on paper.
+fn push_place<A: Allocator>(line: &mut Vec<u8, A>, place: u64, at: Place) -> Result<(), AllocError>
+    ensures { OnOk result (line.new.items ≡ line.old.items ++
+        place_phrase place at.page at.cursor) }
 {
     push_named(line, b" at byte ", place)?;
+    push_on_page(line, at.page)?;
+    push_on_sheet(line, at.cursor)
+}
+
+/// Appends the page that is open where a job fails, if that is known.
+fn push_on_page<A: Allocator>(line: &mut Vec<u8, A>, page: Option<u64>) -> Result<(), AllocError>
+    ensures { OnOk result (line.new.items ≡ line.old.items ++ on_page page) }
+{
     match page {
         Some(page) => push_named(line, b" on page ", page),
+        None => Ok(()),
+    }
+}
+
+/// Appends where the cursor stood on the sheet, if that is known.
+fn push_on_sheet<A: Allocator>(
+    line: &mut Vec<u8, A>,
+    cursor: Option<SheetSpot>,
+) -> Result<(), AllocError>
+    ensures { OnOk result (line.new.items ≡ line.old.items ++ on_sheet cursor) }
+{
+    match cursor {
+        Some(spot) => {
+            line.extend_from_slice(b", ")?;
+            push_millimetres(line, spot.x)?;
+            line.extend_from_slice(b" mm from the left and ")?;
+            push_millimetres(line, spot.y)?;
+            line.extend_from_slice(b" mm from the top")
+        }
         None => Ok(()),
     }
 }
@@ -229,6 +268,7 @@ fn push_reason_phrase<A: Allocator>(
 {
     line.extend_from_slice(b": ")?;
     line.extend_from_slice(few_words(left_out, reason))?;
+    push_lacked(line, reason)?;
     line.extend_from_slice(b" (")?;
     push_reason(line, reason)?;
     line.extend_from_slice(b")")
@@ -242,6 +282,19 @@ fn few_words(left_out: Option<LeftOut>, reason: Reason) -> &'static [u8]
         value_words(left_out)
     } else {
         short_reason(reason)
+    }
+}
+
+/// Appends the character that a face lacks, where that is what is wrong.
+fn push_lacked<A: Allocator>(line: &mut Vec<u8, A>, reason: Reason) -> Result<(), AllocError>
+    ensures { OnOk result (line.new.items ≡ line.old.items ++ lacked reason) }
+{
+    match reason {
+        Reason::Finding(Finding::NoGlyph(code)) => {
+            line.push(b' ')?;
+            push_escaped(line, &[code])
+        }
+        _ => Ok(()),
     }
 }
 

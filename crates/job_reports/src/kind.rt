@@ -82,7 +82,7 @@ fn finding_kind(left_out: Option<LeftOut>, finding: Finding) -> Kind
         Finding::NotOnDevice => Kind::Printer,
         Finding::Unset(_) => Kind::Panel,
         Finding::NoFont => Kind::Printer,
-        Finding::NoGlyph => Kind::Printer,
+        Finding::NoGlyph(_) => Kind::Printer,
         Finding::OffPage => Kind::Printer,
         Finding::PastRightMargin => Kind::Printer,
         Finding::NotPrintable => Kind::Printer,

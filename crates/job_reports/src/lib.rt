@@ -12,7 +12,7 @@ mod pipes;
 mod refusals;
 mod reports;
 
-pub use command_words::push_command_words;
+pub use command_words::{push_command_words, push_font_commands};
 pub use groups::PrinterGroup;
 pub use job_lines::push_job_line;
 pub use job_sentences::{

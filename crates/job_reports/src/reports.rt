@@ -1,9 +1,16 @@
 //! What is told of a job.
 ghost use Rattle.std.specs.Prelude.{◌≡◌, ◌≤◌, ◌-◌, [], get_or};
-ghost use Rattle.job_reports.specs.Reports.{culprit_of, number_told, page_of, verdict_told};
+ghost use Rattle.job_reports.specs.Reports.{
+  culprit_of,
+  cursor_of,
+  font_of,
+  number_told,
+  page_of,
+  verdict_told,
+};
 
 use crate::groups::PrinterGroup;
-use preflight::{Culprit, Judgement, Verdict};
+use preflight::{Culprit, Judgement, MissingFont, SheetSpot, Verdict};
 use std::alloc::Allocator;
 use std::marker::Model;
 use streams::Error;
@@ -61,6 +68,26 @@ impl<'t, 'c, A: Allocator> Report<'t, 'c, A> {
     {
         match self.answer {
             Ok(judgement) => judgement.page,
+            Err(_) => None,
+        }
+    }
+
+    /// Where the cursor stood before the item that the job fails at.
+    pub fn cursor(&self) -> Option<SheetSpot>
+        ensures { result ≡ cursor_of self.now.answer }
+    {
+        match self.answer {
+            Ok(judgement) => judgement.cursor,
+            Err(_) => None,
+        }
+    }
+
+    /// The font that no face of a printer answers.
+    pub fn font(&self) -> Option<MissingFont>
+        ensures { result ≡ font_of self.now.answer }
+    {
+        match self.answer {
+            Ok(judgement) => judgement.font,
             Err(_) => None,
         }
     }

@@ -1,5 +1,5 @@
 -- Objects of jobs, computed from the definitions alone.
-use Rattle.std.proofs.Common.{◌≡◌, ℕ, Bool, true, false, List, [], ◌∷◌, ◌++◌, Option, Some, None, Result, Ok, Err, refl, lit≤}
+use Rattle.std.proofs.Common.{◌≡◌, ℕ, Bool, true, false, List, [], ◌∷◌, ◌++◌, Option, Some, None, Result, Ok, Err, pos, negsuc, refl, lit≤}
 use Rattle.std.specs.Prelude.{codes}
 use Rattle.std.specs.Char.{encode_utf8}
 use Rattle.std.specs.Fmt.{digits}
@@ -9,7 +9,8 @@ use Rattle.pcl_items.specs.declared.pcl.command.Command.TheVariants.{PageSize}
 use Rattle.pcl_items.specs.declared.item.SimpleItem.TheVariants.{Parameterized}
 use Rattle.pcl_items.specs.declared.number.Sign.TheVariants.{Absent}
 use Rattle.device_profile.specs.declared.field.Field.TheVariants.{Size}
-use Rattle.page_env.specs.declared.finding.Finding.TheVariants.{Unset}
+use Rattle.device_profile.specs.declared.font.FontRequest.{FontRequest}
+use Rattle.page_env.specs.declared.finding.Finding.TheVariants.{NoFont, NotOnDevice, Unset}
 use Rattle.verdict.specs.declared.reason.Reason.TheVariants.{Finding}
 use Rattle.verdict.specs.declared.verdict.Verdict.TheVariants.{Fail, Pass}
 use Rattle.preflight.specs.declared.culprit.Culprit.TheVariants.{Simple}
@@ -17,6 +18,10 @@ use Rattle.preflight.specs.declared.culprit.Judgement.{Judgement}
 use Rattle.streams.specs.declared.error.Error.{Error}
 use Rattle.streams.specs.declared.error.Error.TheVariants.{Read}
 use Rattle.many_jobs.specs.JobObjects.{job_object}
+use Rattle.job_reports.specs.CommandWords.{look_words, setting_words}
+use Rattle.shown_bytes.specs.Decimals.{amount, minus}
+use Rattle.shown_bytes.specs.Lengths.{signed_hundredths}
+use Rattle.shown_bytes.specs.Lettered.{lettered}
 use Rattle.job_reports.specs.Reports.{Reported}
 
 -- of a job of this name for two printers, told of together or each by itself
@@ -30,7 +35,7 @@ report_of is_each job answer cause = record {
 }
 
 abbrev passed : Result Judgement Error
-passed = Ok (record { verdict = Pass 1 22; culprit = None; page = None })
+passed = Ok (record { verdict = Pass 1 22; culprit = None; page = None; cursor = None; font = None })
 
 -- the panel of the second printer leaves the size of the page open
 abbrev unset : Result Judgement Error
@@ -38,6 +43,44 @@ unset = Ok (record {
   verdict = Fail 134 2 (Finding (Unset Size));
   culprit = Some (Simple (Parameterized PageSize (record { sign = Absent; ten_thousandths = 20000; within = lit≤ tt })));
   page = Some 3;
+  cursor = None;
+  font = None;
+})
+
+-- no face has this weight; the nearest has all else
+abbrev bold : FontRequest
+bold = record {
+  symbol_set = record { number = 80_000; letter = 85 };
+  spacing = 0;
+  pitch = 100_000;
+  height = 120_000;
+  style = 0;
+  weight = pos 30_000;
+  typeface = 40_990_000;
+}
+
+abbrev missing : Result Judgement Error
+missing = Ok (record {
+  verdict = Fail 9 1 (Finding NoFont);
+  culprit = None;
+  page = Some 1;
+  cursor = None;
+  font = Some (record { asked = bold; nearest = Some (record bold { weight = negsuc 9_999 }) });
+})
+
+object_of_font : job_object [] (report_of false (codes "a.pcl") missing None)
+    ≡ codes
+    "{\"asked\":\"ESC (8U ESC (s0p10h12v0s3b4099T\",\"at\":9,\"code\":13,\"finding\":\"NoFont\",\"job\":\"a.pcl\",\"kind\":\"printer\",\"nearest\":\"ESC (8U ESC (s0p10h12v0s-1b4099T\",\"page\":1,\"printer\":\"counter\",\"profile\":1,\"verdict\":\"FAIL\"}\n"
+unfolding serde_json_on_literals is_utf8 chars encode_utf8 digits lettered amount minus setting_words look_words
+object_of_font = refl
+
+abbrev first_unset : Result Judgement Error
+first_unset = Ok (record {
+  verdict = Fail 134 1 (Finding (Unset Size));
+  culprit = None;
+  page = Some 1;
+  cursor = None;
+  font = None;
 })
 
 object_of_pass : job_object [] (report_of false (codes "in/note 4712.pcl") passed None)
@@ -51,8 +94,24 @@ object_of_fail : job_object [] (report_of false (codes "a.pcl") unset None)
 unfolding serde_json_on_literals is_utf8 chars encode_utf8 digits
 object_of_fail = refl
 
+-- a printer lacks what is asked for, where the cursor stands 31.75 mm from the left and 38.1 mm from the top
+abbrev placed : Result Judgement Error
+placed = Ok (record {
+  verdict = Fail 9 1 (Finding NotOnDevice);
+  culprit = None;
+  page = Some 1;
+  cursor = Some (record { x = pos 45_720_000_000; y = pos 54_864_000_000 });
+  font = None;
+})
+
+object_of_place : job_object [] (report_of false (codes "a.pcl") placed None)
+    ≡ codes
+    "{\"at\":9,\"code\":11,\"finding\":\"NotOnDevice\",\"job\":\"a.pcl\",\"kind\":\"printer\",\"page\":1,\"printer\":\"counter\",\"profile\":1,\"verdict\":\"FAIL\",\"x_mm\":\"31.75\",\"y_mm\":\"38.10\"}\n"
+unfolding serde_json_on_literals is_utf8 chars encode_utf8 digits signed_hundredths
+object_of_place = refl
+
 explained : job_object (codes "12 Unset\nset it\n")
-    (report_of true (codes "a.pcl") (Ok (record { verdict = Fail 134 1 (Finding (Unset Size)); culprit = None; page = Some 1 })) None)
+    (report_of true (codes "a.pcl") first_unset None)
     ≡ codes
     "{\"at\":134,\"code\":12,\"explanation\":\"12 Unset\\nset it\\n\",\"field\":\"Size\",\"finding\":\"Unset\",\"job\":\"a.pcl\",\"kind\":\"panel\",\"page\":1,\"printer\":\"counter\",\"profile\":1,\"verdict\":\"FAIL\"}\n"
 unfolding serde_json_on_literals is_utf8 chars encode_utf8 digits

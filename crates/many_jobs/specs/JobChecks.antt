@@ -8,6 +8,7 @@ use Rattle.streams.specs.declared.error.Error.TheVariants.{Memory, Read, Write, 
 use Rattle.preflight.specs.declared.culprit.Culprit.{Culprit}
 use Rattle.preflight.specs.declared.culprit.Judgement.{Judgement}
 use Rattle.preflight.specs.Culprit.{IsTold}
+use Rattle.preflight.specs.Stood.{IsCursorOf, IsFontOf}
 use Rattle.preflight.specs.Where.{IsOnPage}
 use Rattle.streams.specs.Errors.{is_err_of_read}
 use Rattle.preflight.specs.Verdict.{PassesItems}
@@ -41,13 +42,18 @@ IsErrorOfJob NoProfile = ⊥
 IsErrorOfJob Items = ⊤
 
 -- What came of a job of which the reads led from the one state to the other: a verdict that is right for this fleet,
--- with the item that stands at its place and the page that is open there; or an error, which is that of a read exactly
--- where one failed. Where the verdict is that macros carry out more items than the printers allow, it is an error.
+-- with the item that stands at its place, the page that is open there, and where it is told where the cursor stood and
+-- which font was asked for; or an error, which is that of a read exactly where one failed. Where the verdict is that
+-- macros carry out more items than the printers allow, it is an error.
 pub record IsRightAnswer (fleet : List Printer) (start after : SourceState)
     (answer : Result Judgement Error) : Type 0 where
   pub verdict : IfOk answer (λ judgement. IsRightVerdict start after fleet judgement.verdict)
   pub item : IfOk answer (λ judgement. ByReads start after (λ job. IsTold job judgement.verdict judgement.culprit))
   pub page : IfOk answer (λ judgement. ByReads start after (λ job. IsOnPage fleet job judgement.verdict judgement.page))
+  pub cursor : IfOk answer (λ judgement.
+      ByReads start after (λ job. IsCursorOf fleet job judgement.verdict judgement.cursor))
+  pub font : IfOk answer (λ judgement.
+      ByReads start after (λ job. IsFontOf fleet job judgement.verdict judgement.font))
   pub error : IfErr answer IsErrorOfJob
   pub within : IfOk answer (λ judgement. has_many_items judgement.verdict ≡ false)
   pub items : IsErrOf answer Items → PassesItems fleet start after

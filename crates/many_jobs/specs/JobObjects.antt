@@ -3,20 +3,27 @@ use Rattle.std.specs.Prelude.{ℕ, ◌==◌, ◌-◌, List, [], ◌∷◌, ◌++
 use Rattle.std.specs.Prelude.{Some, Result, Ok, Err}
 use Rattle.serde_json.specs.Data.{object, Members, no_members}
 use Rattle.serde_json.specs.Written.{compact_text}
+use Rattle.device_profile.specs.declared.font.FontRequest.{FontRequest}
+use Rattle.line_words.specs.Figures.{escaped_byte}
 use Rattle.line_words.specs.Reason.{bare_name, field_words}
+use Rattle.page_env.specs.declared.finding.Finding.TheVariants.{NoGlyph}
 use Rattle.preflight.specs.declared.culprit.Culprit.{Culprit}
+use Rattle.preflight.specs.declared.culprit.MissingFont.{MissingFont}
+use Rattle.preflight.specs.declared.culprit.SheetSpot.{SheetSpot}
+use Rattle.shown_bytes.specs.Lengths.{millimetres}
 use Rattle.streams.specs.declared.error.Error.{Error}
 use Rattle.streams.specs.declared.error.Error.TheVariants.{Memory, Read, Write, Turns, NoProfile, Items}
 use Rattle.verdict.specs.Numbers.{reason_number}
 use Rattle.verdict.specs.declared.reason.Reason.{Reason}
+use Rattle.verdict.specs.declared.reason.Reason.TheVariants.{Finding}
 use Rattle.verdict.specs.declared.verdict.Verdict.{Verdict}
 use Rattle.verdict.specs.declared.verdict.Verdict.TheVariants.{Pass, Fail}
 use Rattle.job_reports.specs.declared.kind.Kind.{Kind}
-use Rattle.job_reports.specs.CommandWords.{command_words}
+use Rattle.job_reports.specs.CommandWords.{command_words, font_commands}
 use Rattle.job_reports.specs.Kinds.{kind_name, kind_of}
 use Rattle.many_jobs.specs.JsonObject.{with_number, with_text}
 use Rattle.many_jobs.specs.JsonTexts.{name_text, words_text}
-use Rattle.job_reports.specs.Reports.{Reported, culprit_of, number_told, page_of, verdict_told}
+use Rattle.job_reports.specs.Reports.{Reported, culprit_of, cursor_of, font_of, number_told, page_of, verdict_told}
 
 -- ---- what came of a job
 
@@ -51,6 +58,29 @@ abbrev pub with_page : Option ℕ → Members → Members
 with_page None members = members
 with_page (Some page) members = with_number (codes "page") page members
 
+-- where the cursor stood, in millimetres from the left and the upper edge of the sheet
+abbrev pub with_cursor : Option SheetSpot → Members → Members
+with_cursor None members = members
+with_cursor (Some spot) members =
+    with_text (codes "y_mm") (words_text (millimetres spot.y))
+    (with_text (codes "x_mm") (words_text (millimetres spot.x)) members)
+
+-- a font, as the commands that ask for it
+abbrev pub with_font : List ℕ → Option FontRequest → Members → Members
+with_font key None members = members
+with_font key (Some font) members = with_text key (words_text (font_commands font)) members
+
+-- the font that no face answers, and what selects the nearest
+abbrev pub with_missing_font : Option MissingFont → Members → Members
+with_missing_font None members = members
+with_missing_font (Some font) members =
+    with_font (codes "nearest") font.nearest (with_font (codes "asked") (Some font.asked) members)
+
+-- the character that a face lacks
+abbrev pub with_character : Reason → Members → Members
+with_character (Finding (NoGlyph code)) members = with_text (codes "character") (words_text (escaped_byte code)) members
+with_character _ members = members
+
 abbrev pub with_command : Option Culprit → Members → Members
 with_command None members = members
 with_command (Some culprit) members = with_text (codes "command") (words_text (command_words culprit)) members
@@ -83,8 +113,11 @@ with_answer explanation report (Ok (Pass pages marks)) members = with_pass pages
 with_answer explanation report (Ok (Fail place profile reason)) members =
     with_explanation explanation
     (with_command (culprit_of report.answer)
+    (with_character reason
+    (with_missing_font (font_of report.answer)
+    (with_cursor (cursor_of report.answer)
     (with_page (page_of report.answer)
-    (with_kind (kind_of reason (culprit_of report.answer)) (with_fail place profile reason members))))
+    (with_kind (kind_of reason (culprit_of report.answer)) (with_fail place profile reason members)))))))
 with_answer explanation report (Err error) members = with_error error report.cause members
 
 -- ---- the whole object

@@ -5,12 +5,16 @@ ghost use Rattle.many_jobs.specs.JobObjects.{
   job_object,
   report_members,
   with_answer,
+  with_character,
   with_command,
+  with_cursor,
   with_error,
   with_explanation,
   with_fail,
   with_field,
+  with_font,
   with_kind,
+  with_missing_font,
   with_page,
   with_pass,
   with_printer,
@@ -19,9 +23,12 @@ ghost use Rattle.many_jobs.specs.JsonObject.{members_of};
 ghost use Rattle.job_reports.specs.Reports.{number_told, verdict_told};
 
 use crate::json_object::Object;
-use job_reports::{Kind, Report, kind_of, push_command_words};
-use line_words::{bare_name, push_field_words};
-use preflight::{Culprit, Verdict};
+use device_profile::FontRequest;
+use job_reports::{Kind, Report, kind_of, push_command_words, push_font_commands};
+use line_words::{bare_name, push_escaped, push_field_words};
+use page_env::Finding;
+use preflight::{Culprit, MissingFont, SheetSpot, Verdict};
+use shown_bytes::push_millimetres;
 use std::alloc::{AllocError, Allocator, Global};
 use streams::Error;
 use verdict::Reason;
@@ -98,6 +105,9 @@ fn put_answer<A: Allocator + Copy>(
             put_fail(alloc, object, place, profile, finding)?;
             put_kind(object, kind_of(finding, report.culprit()))?;
             put_page(object, report.page())?;
+            put_cursor(alloc, object, report.cursor())?;
+            put_missing_font(alloc, object, report.font())?;
+            put_character(alloc, object, finding)?;
             put_command(alloc, object, report.culprit())?;
             put_explanation(object, explanation)
         }
@@ -158,6 +168,85 @@ fn put_page(object: &mut Object, page: Option<u64>) -> Result<(), AllocError>
     match page {
         Some(page) => object.put_number("page", page),
         None => Ok(()),
+    }
+}
+
+/// Puts where the cursor stood, if that is known.
+fn put_cursor<A: Allocator>(
+    alloc: A,
+    object: &mut Object,
+    cursor: Option<SheetSpot>,
+) -> Result<(), AllocError>
+    ensures { OnOk result (members_of object.new ≡ with_cursor cursor (members_of object.old)) }
+{
+    match cursor {
+        Some(spot) => {
+            let mut words = Vec::new(alloc);
+            push_millimetres(&mut words, spot.x)?;
+            object.put_words("x_mm", words.as_slice())?;
+            words.clear();
+            push_millimetres(&mut words, spot.y)?;
+            object.put_words("y_mm", words.as_slice())
+        }
+        None => Ok(()),
+    }
+}
+
+/// Puts the font that no face answers, and what selects the nearest, where a font is missing.
+fn put_missing_font<A: Allocator>(
+    alloc: A,
+    object: &mut Object,
+    font: Option<MissingFont>,
+) -> Result<(), AllocError>
+    ensures { OnOk result (members_of object.new ≡
+        with_missing_font font (members_of object.old)) }
+{
+    match font {
+        Some(font) => {
+            let mut words = Vec::new(alloc);
+            put_font(object, "asked", Some(font.asked), &mut words)?;
+            put_font(object, "nearest", font.nearest, &mut words)
+        }
+        None => Ok(()),
+    }
+}
+
+/// Puts the commands that ask for a font, if there is one, which are written here.
+fn put_font<A: Allocator>(
+    object: &mut Object,
+    key: &str,
+    font: Option<FontRequest>,
+    words: &mut Vec<u8, A>,
+) -> Result<(), AllocError>
+    ensures { OnOk result (members_of object.new ≡
+        with_font key.now font (members_of object.old)) }
+{
+    match font {
+        Some(font) => {
+            words.clear();
+            push_font_commands(words, &font)?;
+            object.put_words(key, words.as_slice())
+        }
+        None => Ok(()),
+    }
+}
+
+/// Puts the character that a face lacks, where that is what is wrong.
+fn put_character<A: Allocator>(
+    alloc: A,
+    object: &mut Object,
+    finding: Reason,
+) -> Result<(), AllocError>
+    ensures { OnOk result (members_of object.new ≡
+        with_character finding (members_of object.old)) }
+{
+    match finding {
+        Reason::Finding(Finding::NoGlyph(code)) => {
+            let mut words = Vec::new(alloc);
+            push_escaped(&mut words, &[code])?;
+            object.put_words("character", words.as_slice())
+        }
+        _ => Ok(()),
     }
 }
 

@@ -44,7 +44,7 @@ each (Found findings.BadValue) = of refl refl refl
 each (Found findings.NotOnDevice) = of refl refl refl
 each (Found (findings.Unset field)) = of refl refl refl
 each (Found findings.NoFont) = of refl refl refl
-each (Found findings.NoGlyph) = of refl refl refl
+each (Found (findings.NoGlyph code)) = of refl refl refl
 each (Found findings.OffPage) = of refl refl refl
 each (Found findings.PastRightMargin) = of refl refl refl
 each (Found findings.NotPrintable) = of refl refl refl
@@ -72,7 +72,8 @@ abbrev reasons : List Reason
 reasons =
     Fault Syntax ∷ Fault Truncated ∷ Fault (NotInProfile (Byte 0)) ∷ Fault BadNumber
     ∷ Fault Pjl ∷ Fault EndInFrame ∷ Found findings.BadValue ∷ Found findings.NotOnDevice
-    ∷ Found (findings.Unset Size) ∷ Found findings.NoFont ∷ Found findings.NoGlyph ∷ Found findings.OffPage
+    ∷ Found (findings.Unset Size) ∷ Found findings.NoFont ∷ Found (findings.NoGlyph 0)
+    ∷ Found findings.OffPage
     ∷ Found findings.PastRightMargin ∷ Found findings.NotPrintable ∷ Found findings.StackFull ∷ Found findings.StackEmpty
     ∷ Found findings.NoMacro ∷ Found findings.MacroDepth ∷ Found findings.MacroMemory ∷ Found findings.InMacro
     ∷ Found findings.DefinitionOpen ∷ Found findings.RasterNotStarted ∷ Found findings.RasterLocked ∷ Found findings.RasterTooBig

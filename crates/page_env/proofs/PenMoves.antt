@@ -21,12 +21,15 @@ pub move_draws : (printer : Printer) (to : ℤ × ℤ) (place : PenPlace) (old n
     old.env.job.pen.is_down ≡ true → place ≡ pen_target old.env.job.pen to → Marks lines_of (λ s. draw printer s place) old new result →
     Marks lines_of (λ s. move_pen printer s to) old new result
 unfolding Marks
-move_draws printer to place old new result down same h = λ panel.
-    let s = state_at panel old in
-    let target = pen_target old.env.job.pen to in
-    ap (λ b. effect_of (settings_at panel old.env) (Step (cond b (draw printer s target) (carry_pen s target)))) down
-    ∙ ap (λ p. effect_of (settings_at panel old.env) (Step (draw printer s p))) (sym same)
-    ∙ h panel
+move_draws printer to place old new result down same h = (
+  λ panel.
+      let s = state_at panel old in
+      let target = pen_target old.env.job.pen to in
+      ap (λ b. effect_of (settings_at panel old.env) (Step (cond b (draw printer s target) (carry_pen s target)))) down
+      ∙ ap (λ p. effect_of (settings_at panel old.env) (Step (draw printer s p))) (sym same)
+      ∙ h.0 panel,
+  h.1,
+)
 
 passes : {X Y : Type 0} (b c : Bool) (x taken_x : X) (y taken_y : Y) → Some taken_x ≡ cond b (Some x) None →
     Some taken_y ≡ cond c (Some y) None →

@@ -62,7 +62,7 @@ module _ (printer : Printer) (s : State) where
           let off = int_lt g.logical_width (behind_of printer s) in
           let past = int_lt (right_of printer s) (behind_of printer s) in (
             last_of_four (not (has_code face.codes code)) (not left && off) (left && past)
-                (is_inside g (glyph_of printer s code face).bounds) NoGlyph OffPage PastRightMargin NotPrintable none,
+                (is_inside g (glyph_of printer s code face).bounds) (NoGlyph code) OffPage PastRightMargin NotPrintable none,
             tt,
           )
 

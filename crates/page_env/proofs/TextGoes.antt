@@ -148,18 +148,18 @@ module _ (printer : Printer) (s : State) (m : TextMeasure) (h : IsMeasured print
           let x = place.x in
           let none : first_finding (character printer here code).after ≡ None =
           (λ i. first_finding (option_map_or
-          (λ face. check (not (has_code face.codes code)) NoGlyph ∷ edge_checks (h.right i) (h.width i) x (behind_is i)
+          (λ face. check (not (has_code face.codes code)) (NoGlyph code) ∷ edge_checks (h.right i) (h.width i) x (behind_is i)
           ++ check
           (not (is_inside (geometry_of printer s) (character_box face ((origin_of printer s).x +ℤ x) ((origin_of printer s).y +ℤ place.y))))
           NotPrintable
           ∷ [])
           (h.face_is i) (check true NoFont ∷ [])))
           ∙ (λ i. first_finding
-          (check (not (has_code (h.looks.codes_are i) code)) NoGlyph ∷ edge_checks m.bounds.right m.bounds.width x on.x
+          (check (not (has_code (h.looks.codes_are i) code)) (NoGlyph code) ∷ edge_checks m.bounds.right m.bounds.width x on.x
           ++ check (not (inside_is i)) NotPrintable ∷ []))
           ∙ none_of_four (has_code m.codes code) (not (int_lt x m.bounds.right) && int_lt m.bounds.width on.x)
           (int_lt x m.bounds.right && int_lt m.bounds.right on.x)
-          (lies_in m.bounds.area (box_at m.look place)) NoGlyph OffPage PastRightMargin NotPrintable has k.ends k.inside in
+          (lies_in m.bounds.area (box_at m.look place)) (NoGlyph code) OffPage PastRightMargin NotPrintable has k.ends k.inside in
           goes_line s.settings (character printer here code)
           (Goes (character printer here code).state (character printer here code).marks) refl (h.read place.y) none
           ∙ (λ i. Goes (record s { cursor = record { x = behind_is i; y = Some place.y }; marked = true })

@@ -19,7 +19,7 @@ use Rattle.page_env.specs.declared.table.PageCommand.TheVariants.{Sides, Source,
 use Rattle.page_env.specs.declared.table.PageItem.{PageItem}
 use Rattle.page_env.specs.declared.table.PageItem.TheVariants.{CarriageReturn, LineFeed, HalfLineFeed, FormFeed, Reset}
 use Rattle.page_env.specs.declared.table.PageItem.TheVariants.{ExitLanguage, Command as PageCommandItem}
-use Rattle.page_env.specs.Answers.{CarriesOut}
+use Rattle.page_env.specs.Answers.{CarriesOut, StandsStill}
 use Rattle.page_env.specs.Table.{command_transition, transition_of, printed_bytes, coordinates_of}
 
 -- ---- items that may close the page
@@ -50,6 +50,7 @@ stepped (Ok done) = Ok command_actions.Stepped
 stepped (Err finding) = Err finding
 
 -- The command was carried out as the table has it, or it is this one, and nothing was done.
+-- A finding leaves the settings and the cursor.
 unfoldable pub ActsOnCommand : Printer → Command → Amount → Page → Page → Result CommandAction Finding → Type 0
 ActsOnCommand printer command n old new (Ok command_actions.Stepped) =
     CarriesOut (λ defaults s. command_transition printer defaults s command n) old new (Ok carried.Stepped)
@@ -57,6 +58,7 @@ ActsOnCommand printer command n old new (Ok command_actions.Fill) = (new ≡ old
 ActsOnCommand printer command n old new (Ok (command_actions.Page this)) = (new ≡ old) × (command ≡ page_command this)
 ActsOnCommand printer command n old new (Err finding) =
     CarriesOut (λ defaults s. command_transition printer defaults s command n) old new (Err finding)
+    × StandsStill old new
 
 -- ---- what is answered of an item
 
@@ -77,6 +79,7 @@ abbrev pub EndsWithStep : Entry → Type 0
 EndsWithStep item = (printed_bytes item ≡ []) × (coordinates_of item ≡ None)
 
 -- The item was carried out as the table has it, and ended with that, or it is this one, and nothing was done.
+-- A finding leaves the settings and the cursor.
 unfoldable pub Acts : Printer → Entry → Page → Page → Result Action Finding → Type 0
 Acts printer item old new (Ok actions.Stepped) =
     EndsWithStep item × CarriesOut (λ defaults s. transition_of printer defaults s item) old new (Ok carried.Stepped)
@@ -86,3 +89,4 @@ Acts printer item old new (Ok (actions.Move motion to)) = (new ≡ old) × (item
 Acts printer item old new (Ok (actions.Page this)) = (new ≡ old) × (item ≡ page_view this)
 Acts printer item old new (Err finding) =
     EndsWithStep item × CarriesOut (λ defaults s. transition_of printer defaults s item) old new (Err finding)
+    × StandsStill old new

@@ -66,7 +66,7 @@ character_box face x y =
 -- it has no such code, it leads too far, or its box does not lie in the printable area
 abbrev pub character_checks : Geometry → Face → ℕ → (right x behind : ℤ) → Bounds → List Check
 character_checks g face code right x behind box =
-    check (not (has_code face.codes code)) NoGlyph ∷ edge_checks right g.logical_width x behind
+    check (not (has_code face.codes code)) (NoGlyph code) ∷ edge_checks right g.logical_width x behind
     ++ check (not (is_inside g box)) NotPrintable ∷ []
 
 -- the mark of a character of a face, with its reference point at the cursor

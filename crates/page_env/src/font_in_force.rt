@@ -66,12 +66,9 @@ fn request_at<A: Allocator>(profile: &Profile<A>, id: u32) -> FontRequest
     }
 }
 
-/// The request in force.
+/// The request in force, if it is known whatever the panel.
 #[inline(always)]
-pub(crate) fn font_request<A: Allocator>(
-    profile: &Profile<A>,
-    page: &Page,
-) -> Result<FontRequest, Field>
+pub fn font_request<A: Allocator>(profile: &Profile<A>, page: &Page) -> Result<FontRequest, Field>
     ensures { ReadsFields page.now.env (font_reads page.now.env.job.font)
         (λ panel. request_of profile.now (state_at panel page.now)) result }
 {

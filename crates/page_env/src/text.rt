@@ -204,7 +204,7 @@ fn judged<A: Allocator>(
         (λ finding. first_finding checks ≡ Some finding) }
 {
     if !face.has_code(code) {
-        return Err(Finding::NoGlyph);
+        return Err(Finding::NoGlyph(code));
     }
     let right = right_margin(&page.env.job, geometry);
     let column = column_width(&page.env.job, face);

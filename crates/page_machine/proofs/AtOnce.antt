@@ -13,7 +13,7 @@ use Rattle.page_env.specs.declared.page.Page.{Page}
 use Rattle.page_env.specs.declared.table.PageItem.{PageItem}
 use Rattle.page_env.specs.declared.table.PageItem.TheVariants as pages
 use Rattle.page_env.specs.Action.{EndsWithStep, page_view}
-use Rattle.page_env.specs.Answers.{CarriesOut, carried_of, effect_at}
+use Rattle.page_env.specs.Answers.{CarriesOut, StandsStill, carried_of, effect_at}
 use Rattle.page_env.specs.Effect.{effect_of}
 use Rattle.page_env.specs.Rasters.{begun_by, is_of_raster}
 use Rattle.page_env.specs.Settings.{Settings, State, settings_at, state_at}
@@ -21,6 +21,7 @@ use Rattle.page_env.specs.Table.{transition_of, coordinates_of}
 use Rattle.page_machine.specs.declared.stop.Stop.{Stop}
 use Rattle.page_machine.specs.declared.stop.Stop.TheVariants as stops
 use Rattle.page_machine.specs.declared.steps.Halt.{Halt}
+use Rattle.page_machine.specs.declared.steps.Halt.TheVariants.{Found, Refused}
 use Rattle.page_machine.specs.Defining.{LeavesMacros, is_defining, macros_after}
 use Rattle.page_machine.specs.Event.{Event}
 use Rattle.page_machine.specs.Follows.{Follows}
@@ -29,11 +30,10 @@ use Rattle.page_machine.specs.MachineState.{MachineState}
 use Rattle.page_machine.specs.Machine.{CarriesOn, context_of, fields_of, item_of}
 use Rattle.page_machine.specs.Run.{Conditions, Run, just, after, no_peaks, Done, Halts, drawing, printing, effect_run, own_run, begun_run}
 use Rattle.page_machine.specs.Run.{item_run}
+use Rattle.page_machine.specs.Still.{StaysFound, StaysPut, StillFound, is_one_step}
 use Rattle.page_machine.proofs.Answering.{Alike, item-is_carried}
 use Rattle.page_machine.proofs.Composed.{Follows-is, TakesUpTo-is}
-
-any_panel : Panel
-any_panel = record { size = 0; orientation = 0; vmi = 0; font = 0; copies = 0; sides = 0; tray = 0; line_termination = 0 }
+use Rattle.page_machine.proofs.Still.{any_panel}
 
 -- an item that is one step leaves the macros
 leaves : (printer : Printer) (defaults : Settings) (s : State) (panel : Panel) (page : Page) (item : Entry) (step : Result Unit Finding) →
@@ -133,6 +133,27 @@ module _ (item : Entry) (old begun : Page) (begins : (panel : Panel) → begun_b
   kept true s = refl
   kept false s = refl
 
+  -- as it begins it ends no more than a raster
+  same_settings : (panel : Panel) → settings_at panel begun.env ≡ settings_at panel old.env
+  same_settings panel = sym (ap (λ s. s.settings) (begins panel)) ∙ kept (is_of_raster item) (state_at panel old)
+
+  there : (b : Bool) (s : State) → (cond b s (record s { raster = None })).cursor ≡ s.cursor
+  there true s = refl
+  there false s = refl
+
+  same_cursor : begun.cursor ≡ old.cursor
+  same_cursor = sym (ap (λ s. s.cursor) (begins any_panel)) ∙ there (is_of_raster item) (state_at any_panel old)
+
+  pub begun_stays : (new : Page) → StandsStill begun new → StaysPut old new
+  begun_stays new still = λ panel. (ap (settings_at panel) still.env ∙ same_settings panel, still.cursor ∙ same_cursor)
+
+  -- a step from where the item has begun leaves what it leaves
+  pub StaysFound-begun : {F : Type 0} (mid new : Page) → mid ≡ begun → (ran : Result Unit (Halt F)) → StillFound mid new ran →
+      StaysFound old new ran
+  StaysFound-begun mid new is (Ok done) still = tt
+  StaysFound-begun mid new is (Err (Found finding)) still = begun_stays new (subst (λ (p : Page). StandsStill p new) is still)
+  StaysFound-begun mid new is (Err (Refused fault)) still = tt
+
   same_id : begun.env.job.macro_id ≡ old.env.job.macro_id
   same_id =
       sym (ap (λ s. s.settings.job.macro_id) (begins any_panel))
@@ -154,9 +175,9 @@ module _ (item : Entry) (old begun : Page) (begins : (panel : Panel) → begun_b
 not_both : false ≡ true → ⊥
 not_both h = absurd cc
 
--- a call from where an item has begun is one from where the item begins
+-- a call from where an item of more than one step has begun is one from where the item begins
 module _ {S : Type 0} (takes refuses : S → Event → S → Type 0) (F : Type 0) (sink sink' : S) (item : Entry) (old machine' : MachineState)
-    (begun : Page) (running : old.stopped ≡ false) where
+    (begun : Page) (running : old.stopped ≡ false) (many : is_one_step item ≡ false) where
   abbrev pub from : MachineState
   from = record old { page = begun }
 
@@ -173,6 +194,7 @@ module _ {S : Type 0} (takes refuses : S → Event → S → Type 0) (F : Type 0
     running,
     h.1,
     TakesUpTo-is takes refuses sink sink' (item_of from item).run (item_of old item).run (λ panel. just [] (Halts finding)) e.0 h.2,
+    record { printer = h.3.printer; stays = λ one. absurd (not_both (sym many ∙ one)) },
   )
   CarriesOn-begun (Err (stops.Refused fault)) e h = (
     running,

@@ -18,6 +18,7 @@ ghost use Rattle.page_machine.specs.Run.{unmoved, effect_run, Conditions, byte_r
 ghost use Rattle.page_machine.specs.Run.{move_run, own_run, begun_run};
 ghost use Rattle.page_machine.specs.Macros.{ended};
 ghost use Rattle.page_machine.specs.Follows.{Follows};
+ghost use Rattle.page_machine.specs.Still.{FoundBy, NeverFinds, StillFound};
 ghost use Rattle.page_machine.specs.Machine.{RunsAtOnce};
 
 use crate::sink::MarkSink;
@@ -120,10 +121,11 @@ fn hand_over_mark<S: MarkSink>(
     page: &Page,
     sink: &mut S,
 ) -> Result<(), Halt<S::Fault>>
-    ensures { (conditions : Panel → Conditions) (effect : Panel → Effect) →
+    ensures run { (conditions : Panel → Conditions) (effect : Panel → Effect) →
         ((panel : Panel) → effect panel ≡ Goes (state_at panel page.now) (shapes_of mark.now)) →
         Follows S.takes S.refuses (λ panel. effect_run (conditions panel) (effect panel))
         sink.old sink.new page.now result }
+    ensures never { NeverFinds result }
 {
     match mark {
         None => Ok(()),
@@ -142,10 +144,11 @@ fn hand_over<S: MarkSink>(
     page: &Page,
     sink: &mut S,
 ) -> Result<(), Halt<S::Fault>>
-    ensures { (conditions : Panel → Conditions) (effect : Panel → Effect) →
+    ensures run { (conditions : Panel → Conditions) (effect : Panel → Effect) →
         ((panel : Panel) → effect panel ≡ marked_at shapes_of panel page.now marked.now) →
         Follows S.takes S.refuses (λ panel. effect_run (conditions panel) (effect panel))
         sink.old sink.new page.now result }
+    ensures found { FoundBy marked.now result }
 {
     match marked {
         Err(finding) => Err(Halt::Found(*finding)),
@@ -162,9 +165,10 @@ fn run_text<S: MarkSink, A: Allocator>(
     page: &mut Page,
     sink: &mut S,
 ) -> Result<(), Halt<S::Fault>>
-    ensures { (conditions : Panel → Conditions) → Follows S.takes S.refuses
+    ensures run { (conditions : Panel → Conditions) → Follows S.takes S.refuses
         (λ panel. begun_run profile.now (conditions panel) (Text code) (state_at panel page.old))
         sink.old sink.new page.new result }
+    ensures still { StillFound page.old page.new result }
 {
     let printed = marked(print_byte(profile, page, code));
     hand_over(&printed, page, sink)
@@ -214,10 +218,11 @@ fn run_row<S: MarkSink, A: Allocator>(
     sink: &mut S,
 ) -> Result<(), Halt<S::Fault>>
     requires { length bytes.now ≤ 32767 }
-    ensures { (conditions : Panel → Conditions) → Follows S.takes S.refuses
+    ensures run { (conditions : Panel → Conditions) → Follows S.takes S.refuses
         (λ panel. begun_run profile.now (conditions panel) (WithData RasterRowCommand bytes.now)
         (state_at panel page.old))
         sink.old sink.new page.new result }
+    ensures still { StillFound page.old page.new result }
 {
     let printed = print_row(profile, page, bytes);
     hand_over(&printed, page, sink)
@@ -233,10 +238,11 @@ fn run_data<S: MarkSink, A: Allocator>(
     page: &mut Page,
     sink: &mut S,
 ) -> Result<(), Halt<S::Fault>>
-    ensures { (conditions : Panel → Conditions) → Follows S.takes S.refuses
+    ensures run { (conditions : Panel → Conditions) → Follows S.takes S.refuses
         (λ panel. begun_run profile.now (conditions panel) (WithData command lent.entry.bytes.now)
         (state_at panel page.old))
         sink.old sink.new page.new result }
+    ensures still { command ≡ RasterRowCommand → StillFound page.old page.new result }
 {
     match command {
         DataCommand::TransparentText => {
@@ -333,10 +339,11 @@ fn run_fill<S: MarkSink, A: Allocator>(
     page: &mut Page,
     sink: &mut S,
 ) -> Result<(), Halt<S::Fault>>
-    ensures { (conditions : Panel → Conditions) → Follows S.takes S.refuses
+    ensures run { (conditions : Panel → Conditions) → Follows S.takes S.refuses
         (λ panel. begun_run profile.now (conditions panel) (Parameterized FillRectangle (amount n))
         (state_at panel page.old))
         sink.old sink.new page.new result }
+    ensures still { StillFound page.old page.new result }
 {
     let filled = marked(fill_rectangle(profile, page, n));
     hand_over(&filled, page, sink)

@@ -9,7 +9,7 @@ use Rattle.page_picture.specs.declared.failure_parts.FailurePart.TheVariants as 
 use Rattle.page_picture.specs.declared.failure_parts.Limit.{Limit}
 use Rattle.page_picture.specs.Attributes.{attribute, length_attribute, span}
 use Rattle.page_picture.specs.FailureParts.{failure_part, limit_name}
-use Rattle.page_picture.specs.Figures.{millimetres}
+use Rattle.shown_bytes.specs.Lengths.{millimetres}
 use Rattle.page_picture.specs.Sheet.{middle}
 
 -- over the marks before the failure, so that these look gray

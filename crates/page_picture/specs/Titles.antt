@@ -4,7 +4,7 @@ use Rattle.std.specs.Prelude.{ℕ, ℤ, List, ◌++◌, decimal}
 use Rattle.page_env.specs.declared.mark.Glyph.{Glyph}
 use Rattle.page_picture.specs.declared.mark_parts.MarkPart.{MarkPart}
 use Rattle.page_picture.specs.declared.mark_parts.MarkPart.TheVariants as parts
-use Rattle.page_picture.specs.Figures.{millimetres}
+use Rattle.shown_bytes.specs.Lengths.{millimetres}
 use Rattle.page_picture.specs.MarkParts.{mark_part}
 
 -- so many bytes stand before its item

@@ -19,9 +19,10 @@ ghost use Rattle.page_picture.specs.Failure.{
 
 use crate::attributes::{Attribute, push_attribute, push_length_attribute, push_ticks_attribute};
 use crate::failure_parts::{FailurePart, Limit};
-use crate::figures::{hundredths, push_millimetres};
+use crate::figures::hundredths;
 use crate::sheet::middle;
 use device_profile::Geometry;
+use shown_bytes::push_millimetres;
 use std::alloc::{AllocError, Allocator};
 
 /// A box in ticks from the upper left corner of the sheet, be it on the sheet or not.

@@ -4,21 +4,16 @@ ghost use Rattle.page_picture.specs.Figures.{
   hundredths,
   inches,
   length_units,
-  millimetre_hundredths,
-  millimetres,
   millionths,
   pair_units,
   units,
 };
 
-use shown_bytes::{push_with_hundredths, push_with_millionths};
+use shown_bytes::{push_with_millionths, push_with_signed_hundredths};
 use std::alloc::{AllocError, Allocator};
 
 /// How many ticks a hundredth of a unit has.
 const TICKS_PER_HUNDREDTH: u64 = 50_800;
-
-/// How many ticks a hundredth of a millimetre has.
-const TICKS_PER_HUNDREDTH_MILLIMETRE: u64 = 14_400_000;
 
 /// How many ticks a millionth of an inch has.
 const TICKS_PER_MILLIONTH_INCH: u64 = 36_576;
@@ -38,14 +33,10 @@ pub(crate) fn hundredths(ticks: i64) -> i64
 }
 
 /// Appends so many hundredths of a unit.
-#[tactic(auto, unfolding(crate::specs::Figures::units))]
 pub(crate) fn push_units<A: Allocator>(text: &mut Vec<u8, A>, n: i64) -> Result<(), AllocError>
     ensures { OnOk result (text.new.items ≡ text.old.items ++ units n) }
 {
-    if n < 0 {
-        text.push(b'-')?;
-    }
-    push_with_hundredths(text, n.unsigned_abs())
+    push_with_signed_hundredths(text, n)
 }
 
 /// Appends so many ticks in units.
@@ -70,30 +61,6 @@ pub(crate) fn push_pair<A: Allocator>(
     push_length_units(text, x)?;
     text.extend_from_slice(b" ")?;
     push_length_units(text, y)
-}
-
-// ---- millimetres
-
-/// How many hundredths of a millimetre so many ticks are, rounded down.
-fn millimetre_hundredths(ticks: i64) -> i64
-    ensures { result ≡ millimetre_hundredths ticks }
-{
-    if ticks < 0 {
-        -1 - ((ticks.unsigned_abs() - 1) / TICKS_PER_HUNDREDTH_MILLIMETRE) as i64
-    } else {
-        (ticks.unsigned_abs() / TICKS_PER_HUNDREDTH_MILLIMETRE) as i64
-    }
-}
-
-/// Appends so many ticks in millimetres.
-#[tactic(auto, unfolding(crate::specs::Figures::millimetres))]
-pub(crate) fn push_millimetres<A: Allocator>(
-    text: &mut Vec<u8, A>,
-    ticks: i64,
-) -> Result<(), AllocError>
-    ensures { OnOk result (text.new.items ≡ text.old.items ++ millimetres ticks) }
-{
-    push_units(text, millimetre_hundredths(ticks))
 }
 
 // ---- inches

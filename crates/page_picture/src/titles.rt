@@ -3,10 +3,9 @@ ghost use Rattle.std.specs.Prelude.{◌≡◌, ◌++◌, OnOk};
 ghost use Rattle.page_picture.specs.Titles.{character_title, title, title_distance, title_end};
 ghost use Rattle.page_picture.specs.Titles.{title_place, title_spot};
 
-use crate::figures::push_millimetres;
 use crate::mark_parts::MarkPart;
 use page_env::{Coordinate, Glyph};
-use shown_bytes::push_number;
+use shown_bytes::{push_millimetres, push_number};
 use std::alloc::{AllocError, Allocator};
 use tick_length::Length;
 

@@ -1,18 +1,21 @@
 -- What a call of the renderer keeps, and leaves due.
-use Rattle.std.proofs.Common.{◌≡◌, ℕ, true, false, List, [], ◌++◌, Option, None, Some, Result, Ok, Err, ap, sym, ◌∙◌, subst}
+use Rattle.std.proofs.Common.{◌≡◌, ℕ, Bool, true, false, List, [], ◌++◌, Option, None, Some, Result, Ok, Err, ap, sym, ◌∙◌, subst}
 use Rattle.pcl_items.specs.declared.fault.LexCause.{LexCause}
 use Rattle.pcl_items.specs.Items.{Placed}
 use Rattle.pcl_lexer.specs.Reading.{Reading, Whole, Stopped}
+use Rattle.device_profile.specs.Printer.{Printer}
 use Rattle.page_env.specs.declared.finding.Finding.{Finding}
-use Rattle.page_env.specs.Settings.{state_at}
+use Rattle.page_env.specs.Settings.{State, state_at}
 use Rattle.page_machine.specs.Run.{Ending, Done, Halts}
 use Rattle.page_machine.specs.MachineState.{MachineState}
 use Rattle.page_machine.specs.Machine.{item_of, end_of}
+use Rattle.page_machine.specs.Still.{is_one_step}
 use Rattle.sinks.specs.declared.counts.Counts.{Counts}
 use Rattle.streams.specs.Outlet.{OutletState}
 use Rattle.verdict.specs.declared.failure.Failure.{Failure}
 use Rattle.verdict.specs.Failing.{fault_at, found_at}
 use Rattle.preflight.specs.declared.culprit.Culprit.{Culprit}
+use Rattle.preflight.specs.declared.culprit.SheetSpot.{SheetSpot}
 use Rattle.streams.specs.declared.error.Error.{Error}
 use Rattle.renderings.specs.declared.outcome.Outcome.{Outcome}
 use Rattle.renderings.specs.declared.outcome.Outcome.TheVariants.{Done as AllDone}
@@ -25,10 +28,11 @@ use Rattle.renderings.proofs.Renderings.{Puts-kept, Puts-none, end_none}
 use Rattle.requests.specs.declared.selection.Selection.{Selection}
 use Rattle.requests.specs.Selection.{is_behind}
 use Rattle.job_reports.specs.Groups.{Groups}
-use Rattle.job_reports.specs.JobSentences.{fails_at}
+use Rattle.job_reports.specs.JobSentences.{FailsAt, fails_at, fails_where}
 use Rattle.picture_command.specs.Carriers.{Finishes, HasRun, Keeps, Steps, search_from}
-use Rattle.picture_command.specs.PageSearch.{Searched, at_item, found_at_failure, open_page, text_at_end}
+use Rattle.picture_command.specs.PageSearch.{Searched, at_item, found_at_failure, open_page, spot_where, text_at_end}
 use Rattle.picture_command.proofs.Searches.{item_goes, item_over, item_found, end_over, end_goes, end_found}
+use Rattle.picture_command.proofs.Spots.{spot_still}
 use Rattle.picture_command.proofs.Words.{culprit_at_item}
 
 -- what was told and kept is due
@@ -56,7 +60,7 @@ module _ (selection : Selection) (job : List ℕ) (group : Groups) (machine : Ma
     item_some : (found : Option Finding) → Steps machine machine' x.item counts counts' (Ok found) →
         (ending : Ending) × HasRun ((item_of machine x.item).run any_panel) ending counts counts'
     item_some None steps = (Done (state_at any_panel machine'.page), steps.1)
-    item_some (Some finding) steps = (Halts finding, steps)
+    item_some (Some finding) steps = (Halts finding, steps.0)
 
     pub item_goes_on : (found : Option Finding) → found ≡ None → Steps machine machine' x.item counts counts' (Ok found) →
         false ≡ is_behind selection (open_page counts') → kept' ≡ kept
@@ -75,18 +79,26 @@ module _ (selection : Selection) (job : List ℕ) (group : Groups) (machine : Ma
     pub item_fails : (found : Option Finding) (finding : Finding) → found ≡ Some finding →
         Steps machine machine' x.item counts counts' (Ok found) → false ≡ is_behind selection (open_page counts')
         → (failure : Failure) → failure ≡ found_at x.place 1 finding → (culprit : Culprit) → IsCulprit culprit x.item
+        → (one_step : Bool) → is_one_step x.item ≡ one_step
+        → (cursor : Option SheetSpot) → cursor ≡ spot_where one_step machine'.printer (state_at any_panel machine'.page)
         → (r : Result Outcome Error)
-        → Keeps kept kept' (found_at_failure selection job group counts' (fails_at None (Some culprit)) failure) r
+        → Keeps kept kept' (found_at_failure selection job group counts' (fails_where None cursor (Some culprit)) failure) r
         → Ended rendering (StartsWith x) old old kept kept' r
-    item_fails found finding is steps goes failure failure_is culprit named r told =
-        let halts : HasRun ((item_of machine x.item).run any_panel) (Halts finding) counts counts' =
+    item_fails found finding is steps goes failure failure_is culprit named one_step one cursor stood r told =
+        let printer : Printer = machine.printer in
+        let s : State = state_at any_panel machine.page in
+        let at : FailsAt = at_item printer s x.item in
+        let halts : Steps machine machine' x.item counts counts' (Ok (Some finding)) =
         subst (λ f. Steps machine machine' x.item counts counts' (Ok f)) is steps in
+        let before : cursor ≡ spot_where (is_one_step x.item) printer s =
+        stood ∙ (ap (λ b. spot_where b machine'.printer (state_at any_panel machine'.page)) (sym one)
+        ∙ spot_still machine machine' (is_one_step x.item) halts.1) in
         kept_ended rendering (StartsWith x) old kept kept'
-        (found_at_failure selection job group counts' (at_item x.item) (found_at x.place 1 finding)) r
-        (item_found selection job group machine counts counts' x finding halts (sym goes))
-        (subst (λ (f : Failure). Keeps kept kept' (found_at_failure selection job group counts' (at_item x.item) f) r) failure_is
+        (found_at_failure selection job group counts' at (found_at x.place 1 finding)) r
+        (item_found selection job group machine counts counts' x finding halts.0 (sym goes))
+        (subst (λ (f : Failure). Keeps kept kept' (found_at_failure selection job group counts' at f) r) failure_is
         (subst (λ at. Keeps kept kept' (found_at_failure selection job group counts' at failure) r)
-        (culprit_at_item culprit x.item named) told))
+        (culprit_at_item culprit x.item named printer s cursor before) told))
 
   -- ---- the end of the bytes
 

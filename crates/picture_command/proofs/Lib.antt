@@ -1,3 +1,4 @@
+mod Spots
 mod Words
 mod Searches
 mod Endings

@@ -85,18 +85,21 @@ module _ (selection : Selection) (job : List ℕ) (group : Groups) where
       abbrev item_run : Run
       item_run = (item_of machine x.item).run any_panel
 
+      abbrev here : FailsAt
+      here = at_item machine.printer (state_at any_panel machine.page) x.item
+
       item_first : (rest : Reading) →
           rest_search selection job group machine counts (with_item x rest)
-          ≡ run_search selection job group counts (at_item x.item) x.place item_run (behind_item rest)
+          ≡ run_search selection job group counts here x.place item_run (behind_item rest)
       item_first (Whole items place) = refl
       item_first (Stopped items place cause) = refl
 
       item_known : (rest : Reading) (ending : Ending) (is_over : Bool) → HasRun item_run ending counts counts' →
           is_behind selection (open_page counts') ≡ is_over
           → rest_search selection job group machine counts (with_item x rest)
-          ≡ by_ending counts (at_item x.item) x.place (behind_item rest) counts' ending is_over
+          ≡ by_ending counts here x.place (behind_item rest) counts' ending is_over
       item_known rest ending is_over has over =
-          item_first rest ∙ run_known counts (at_item x.item) x.place (behind_item rest) item_run ending counts' is_over has over
+          item_first rest ∙ run_known counts here x.place (behind_item rest) item_run ending counts' is_over has over
 
       -- the item was carried out to its end
       pub item_goes : (machine' : MachineState) →
@@ -126,7 +129,7 @@ module _ (selection : Selection) (job : List ℕ) (group : Groups) where
       -- all that is searched for has come, or it had a finding
       item_ended : (ending : Ending) (is_over : Bool) (found : Searched) → HasRun item_run ending counts counts' →
           is_behind selection (open_page counts') ≡ is_over
-          → ((rest : Reading) → by_ending counts (at_item x.item) x.place (behind_item rest) counts' ending is_over ≡ found)
+          → ((rest : Reading) → by_ending counts here x.place (behind_item rest) counts' ending is_over ≡ found)
           → EndsWith rendering (StartsWith x) found.text found.outcome
       item_ended ending is_over found has over comes = record {
         due =
@@ -142,7 +145,7 @@ module _ (selection : Selection) (job : List ℕ) (group : Groups) where
       item_over ending has over = item_ended ending true nothing_told has over (λ rest. refl)
 
       abbrev item_failed : Finding → Searched
-      item_failed finding = found_at_failure selection job group counts' (at_item x.item) (found_at x.place 1 finding)
+      item_failed finding = found_at_failure selection job group counts' here (found_at x.place 1 finding)
 
       pub item_found : (finding : Finding) → HasRun item_run (Halts finding) counts counts' →
           is_behind selection (open_page counts') ≡ false →

@@ -1,5 +1,5 @@
 -- What sentences say of a failure.
-use Rattle.std.proofs.Common.{◌≡◌, ℕ, List, [], ◌∷◌, ◌++◌, None, Some, refl, ap, sym, ◌∙◌}
+use Rattle.std.proofs.Common.{◌≡◌, ℕ, List, [], ◌∷◌, ◌++◌, Option, None, Some, refl, ap, sym, ◌∙◌}
 use Rattle.std.specs.Prelude.{codes, decimal, flat_map}
 use Rattle.pcl_items.specs.declared.pcl.command.DataCommand.{DataCommand}
 use Rattle.pcl_items.specs.declared.item.SimpleItem.{SimpleItem}
@@ -7,13 +7,17 @@ use Rattle.pcl_items.specs.declared.item.SimpleItem.TheVariants as simple
 use Rattle.pcl_items.specs.Spellings.Canon.{canon}
 use Rattle.pcl_items.specs.Escapes.Commands.{introducer_of, character_of, data_group_of, data_letter_of}
 use Rattle.pcl_items.specs.Items.{Entry, simple_view}
+use Rattle.device_profile.specs.Printer.{Printer}
+use Rattle.page_env.specs.Settings.{State}
+use Rattle.page_machine.specs.Still.{is_one_step}
 use Rattle.preflight.specs.declared.culprit.Culprit.{Culprit}
 use Rattle.preflight.specs.declared.culprit.Culprit.TheVariants as culprits
+use Rattle.preflight.specs.declared.culprit.SheetSpot.{SheetSpot}
 use Rattle.preflight.specs.Culprit.{IsCulprit}
 use Rattle.job_reports.specs.CommandWords.{code_words, command_words}
-use Rattle.job_reports.specs.JobSentences.{fails_at}
+use Rattle.job_reports.specs.JobSentences.{fails_where}
 use Rattle.job_reports.specs.LeftOut.{left_out_in, left_out_of}
-use Rattle.picture_command.specs.PageSearch.{at_item, item_words}
+use Rattle.picture_command.specs.PageSearch.{at_item, item_words, spot_where}
 
 simple_words : (item : SimpleItem) → item_words (simple_view item) ≡ flat_map code_words (canon (simple_view item))
 simple_words simple.CarriageReturn = refl
@@ -52,9 +56,12 @@ culprit_leaves (culprits.Simple plain) item is = sym (ap left_out_in is)
 culprit_leaves (culprits.WithData command count) item is = sym (ap left_out_in is.1)
 culprit_leaves culprits.Line item is = sym (ap left_out_in is.1)
 
-pub culprit_at_item : (culprit : Culprit) (item : Entry) → IsCulprit culprit item → fails_at None (Some culprit) ≡ at_item item
-culprit_at_item culprit item is = λ i. record {
+pub culprit_at_item : (culprit : Culprit) (item : Entry) → IsCulprit culprit item → (printer : Printer) (s : State)
+    (cursor : Option SheetSpot) → cursor ≡ spot_where (is_one_step item) printer s →
+    fails_where None cursor (Some culprit) ≡ at_item printer s item
+culprit_at_item culprit item is printer s cursor stood = λ i. record {
   page = None;
+  cursor = stood i;
   words = codes ", " ++ culprit_words culprit item is i;
   left_out = culprit_leaves culprit item is i;
 }

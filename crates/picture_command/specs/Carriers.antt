@@ -7,6 +7,7 @@ use Rattle.page_env.specs.Settings.{State, settings_at, state_at}
 use Rattle.page_machine.specs.Machine.{item_of, end_of}
 use Rattle.page_machine.specs.MachineState.{MachineState}
 use Rattle.page_machine.specs.Run.{Run, Ending, Done, Halts}
+use Rattle.page_machine.specs.Still.{StopsStill, is_one_step}
 use Rattle.sinks.specs.declared.counts.Counts.{Counts}
 use Rattle.sinks.specs.Counts.{counts_after}
 use Rattle.streams.specs.declared.error.Error.{Error}
@@ -52,6 +53,7 @@ Steps machine machine' item counts counts' (Ok None) =
     × HasRun ((item_of machine item).run any_panel) (Done (state_at any_panel machine'.page)) counts counts'
 Steps machine machine' item counts counts' (Ok (Some finding)) =
     HasRun ((item_of machine item).run any_panel) (Halts finding) counts counts'
+    × StopsStill (is_one_step item) machine machine'
 Steps machine machine' item counts counts' (Err e) = ⊤
 
 -- so was the end of the bytes

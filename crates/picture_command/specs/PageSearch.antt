@@ -1,6 +1,6 @@
 -- What is told of the pages of a job before they are drawn: whether the job fails on them, and whether it has them.
 use Rattle.std.specs.Prelude.{ℕ, ◌+◌, false, List, [], ◌∷◌, ◌++◌, codes, decimal, flat_map, length, get_or, None, Some}
-use Rattle.std.specs.Prelude.{Ok, if◌then◌else◌}
+use Rattle.std.specs.Prelude.{Ok, if◌then◌else◌, Bool, Option, is_none}
 use Rattle.pcl_items.specs.declared.fault.LexCause.{LexCause}
 use Rattle.pcl_items.specs.Spellings.Canon.{canon}
 use Rattle.pcl_items.specs.Escapes.Commands.{introducer_of, character_of, data_group_of, data_letter_of}
@@ -10,10 +10,14 @@ use Rattle.device_profile.specs.declared.panel.Panel.{Panel}
 use Rattle.device_profile.specs.Printer.{Printer}
 use Rattle.macro_store.specs.Store.{Store, no_macros}
 use Rattle.page_env.specs.declared.finding.Finding.{Finding}
+use Rattle.page_env.specs.Effect.{first_unset}
+use Rattle.page_env.specs.Places.{cursor_reads, x_on_sheet, y_on_sheet}
 use Rattle.page_env.specs.Settings.{Settings, State, start_state, user_defaults, unwatched}
 use Rattle.page_machine.specs.Run.{Run, Ending, Done, Halts}
 use Rattle.page_machine.specs.Defining.{job_item_run, job_end_run, macros_after}
 use Rattle.page_machine.specs.Job.{with_macros}
+use Rattle.page_machine.specs.Still.{is_one_step}
+use Rattle.preflight.specs.declared.culprit.SheetSpot.{SheetSpot}
 use Rattle.sinks.specs.declared.counts.Counts.{Counts}
 use Rattle.sinks.specs.Counts.{capped, counts_after, no_counts}
 use Rattle.verdict.specs.declared.failure.Failure.{Failure}
@@ -45,9 +49,25 @@ item_words (WithData command bytes) =
 item_words (PjlLine line) = codes "@PJL"
 item_words item = flat_map code_words (canon item)
 
+-- where the cursor stands on the sheet, if no panel decides that
+abbrev pub spot_of : Printer → State → Option SheetSpot
+spot_of printer s =
+    if is_none (first_unset s.settings (cursor_reads s.cursor.y))
+    then (Some (record { x = x_on_sheet printer s; y = y_on_sheet printer s }))
+    else None
+
+-- it is told before an item that is one step
+abbrev pub spot_where : Bool → Printer → State → Option SheetSpot
+spot_where one_step printer s = if one_step then spot_of printer s else None
+
 -- where a failure at an item stands, whatever its page
-abbrev pub at_item : Entry → FailsAt
-at_item item = record { page = None; words = codes ", " ++ item_words item; left_out = left_out_in item }
+abbrev pub at_item : Printer → State → Entry → FailsAt
+at_item printer s item = record {
+  page = None;
+  cursor = spot_where (is_one_step item) printer s;
+  words = codes ", " ++ item_words item;
+  left_out = left_out_in item;
+}
 
 -- the sentence on a verdict on the job of this name for these printers, where the failure stands so
 abbrev pub sentence : (job : List ℕ) → Groups → (at : FailsAt) → Verdict → List ℕ
@@ -139,7 +159,7 @@ abbrev pub items_search : Selection → (job : List ℕ) → Groups → Printer 
     (Counts → Store → State → Searched) → Counts → List Placed → Store → State → Searched
 items_search selection job group printer defaults finally counts [] macros s = finally counts macros s
 items_search selection job group printer defaults finally counts (x ∷ items) macros s =
-    run_search selection job group counts (at_item x.item) x.place
+    run_search selection job group counts (at_item printer s x.item) x.place
     (job_item_run (with_macros printer defaults macros) x.item s)
     (λ counts' t. items_search selection job group printer defaults finally counts' items
     (macros_after s.settings.job.macro_id x.item macros) t)

@@ -5,21 +5,23 @@ ghost use Rattle.pcl_items.specs.declared.item.Mode.TheVariants.{Pcl};
 ghost use Rattle.pcl_items.specs.Modes.{follows};
 ghost use Rattle.pcl_items.specs.Items.{view};
 ghost use Rattle.device_profile.specs.Printer.{IsAllowed};
-ghost use Rattle.job_reports.specs.JobSentences.{fails_at};
+ghost use Rattle.page_env.specs.Settings.{state_at};
+ghost use Rattle.renderings.specs.Carriers.PageRendering.{any_panel};
+ghost use Rattle.job_reports.specs.JobSentences.{fails_where};
 ghost use Rattle.requests.specs.Selection.{is_behind};
 ghost use Rattle.picture_command.specs.Carriers.{Finishes, Keeps, Steps, search_from};
 ghost use Rattle.picture_command.specs.SearchedRests.{search_matters};
 ghost use Rattle.picture_command.specs.PageSearch.{drawn_line, found_at_failure, missing_line};
 ghost use Rattle.picture_command.specs.PageSearch.{missing_part, open_page, search_rendering};
-ghost use Rattle.picture_command.specs.PageSearch.{sentence, text_at_end};
+ghost use Rattle.picture_command.specs.PageSearch.{sentence, spot_of, spot_where, text_at_end};
 
 use device_profile::{Panel, Profile};
 use job_reports::{PrinterGroup, Report, push_job_sentence, push_named_first};
 use line_words::push_named;
-use page_env::Finding;
+use page_env::{Finding, known_cursor};
 use page_machine::{Machine, Start, Stop};
 use pcl_items::{Item, LexFault, Place};
-use preflight::{Culprit, Judgement, Verdict};
+use preflight::{Culprit, Judgement, SheetSpot, Verdict};
 use renderings::{Outcome, Renderer};
 use requests::{DrawnPages, Selection};
 use sinks::Counts;
@@ -80,6 +82,30 @@ fn finish_on<P: Allocator, B: Allocator + Copy>(
     }
 }
 
+/// Where the cursor of a machine stands, if no panel decides that.
+fn spot_of<P: Allocator, B: Allocator + Copy>(machine: &Machine<'_, P, B>) -> Option<SheetSpot>
+    ensures { result ≡ spot_of machine.now.printer (state_at any_panel machine.now.page) }
+{
+    match known_cursor(machine.profile(), machine.page()) {
+        Err(_) => None,
+        Ok(place) => Some(SheetSpot {
+            x: place.x,
+            y: place.y,
+        }),
+    }
+}
+
+/// The same where an item was one step, so that it is where the cursor stood before that.
+fn spot_where<P: Allocator, B: Allocator + Copy>(
+    machine: &Machine<'_, P, B>,
+    one_step: bool,
+) -> Option<SheetSpot>
+    ensures { result ≡ spot_where one_step machine.now.printer
+        (state_at any_panel machine.now.page) }
+{
+    if one_step { spot_of(machine) } else { None }
+}
+
 // ---- the search
 
 /// Executes the items on a machine that knows the panel, up to the end of the page that is searched
@@ -137,11 +163,12 @@ impl<'p, 'n, B: Allocator + Copy> PageSearch<'p, 'n, B> {
         &self,
         text: &mut Vec<u8, A>,
         verdict: Verdict,
+        cursor: Option<SheetSpot>,
         culprit: Option<Culprit>,
     ) -> Result<(), AllocError>
         ensures { OnOk result (text.new.items ≡ text.old.items
             ++ sentence self.now.names.now.job.now self.now.names.now.printers.now
-            (fails_at (Some (open_page self.now.counts)) culprit) verdict) }
+            (fails_where (Some (open_page self.now.counts)) cursor culprit) verdict) }
     {
         let mut line = Vec::new(self.alloc);
         let report = Report {
@@ -151,6 +178,8 @@ impl<'p, 'n, B: Allocator + Copy> PageSearch<'p, 'n, B> {
                 verdict,
                 culprit,
                 page: Some(self.open_page()),
+                cursor,
+                font: None,
             }),
             cause: None,
         };
@@ -207,20 +236,21 @@ impl<'p, 'n, B: Allocator + Copy> PageSearch<'p, 'n, B> {
         &self,
         text: &mut Vec<u8, A>,
         failure: Failure,
+        cursor: Option<SheetSpot>,
         culprit: Option<Culprit>,
     ) -> Result<Outcome, Error>
         ensures told { Keeps text.old.items text.new.items
             (found_at_failure self.now.selection self.now.names.now.job.now
-            self.now.names.now.printers.now self.now.counts (fails_at None culprit) failure)
-            result }
+            self.now.names.now.printers.now self.now.counts
+            (fails_where None cursor culprit) failure) result }
         ensures err { IfErr result (λ error. error ≡ Error.Memory) }
     {
         if self.selection.is_drawn(self.open_page()) {
-            self.push_sentence(text, failure.verdict(), culprit)?;
+            self.push_sentence(text, failure.verdict(), cursor, culprit)?;
             return Ok(Outcome::of(failure));
         }
         self.push_missing_part(text)?;
-        self.push_sentence(text, failure.verdict(), culprit)?;
+        self.push_sentence(text, failure.verdict(), cursor, culprit)?;
         Ok(Outcome::Done)
     }
 
@@ -260,7 +290,9 @@ impl<B: Allocator + Copy> Renderer for PageSearch<'_, '_, B> {
             None => Ok(None),
             Some(finding) => {
                 let failure = Failure::of_finding(place, 1, finding);
-                let outcome = self.tell_failure(kept, failure, Some(Culprit::of(item)))?;
+                let culprit = Culprit::of(item);
+                let cursor = spot_where(&self.machine, culprit.is_one_step());
+                let outcome = self.tell_failure(kept, failure, cursor, Some(culprit))?;
                 Ok(Some(outcome))
             }
         }
@@ -281,7 +313,9 @@ impl<B: Allocator + Copy> Renderer for PageSearch<'_, '_, B> {
                 self.push_end(kept)?;
                 Ok(Outcome::Done)
             }
-            Some(finding) => self.tell_failure(kept, Failure::of_finding(place, 1, finding), None),
+            Some(finding) => {
+                self.tell_failure(kept, Failure::of_finding(place, 1, finding), None, None)
+            }
         }
     }
 
@@ -291,7 +325,7 @@ impl<B: Allocator + Copy> Renderer for PageSearch<'_, '_, B> {
         kept: &mut Vec<u8, A>,
         fault: LexFault,
     ) -> Result<Outcome, Error> {
-        self.tell_failure(kept, Failure::of_fault(fault), None)
+        self.tell_failure(kept, Failure::of_fault(fault), None, None)
     }
 
     ghost adds_at_fault = { λ _ place cause. refl };

@@ -13,7 +13,9 @@ use Rattle.verdict.specs.declared.reason.Reason.TheVariants.{Fault, Finding, Dif
 use Rattle.verdict.specs.declared.verdict.Verdict.{Verdict}
 use Rattle.verdict.specs.declared.verdict.Verdict.TheVariants.{Fail}
 use Rattle.preflight.specs.declared.culprit.Culprit.{Culprit}
-use Rattle.preflight.specs.Culprit.{Names, StandsAt, IsTold, IsJudgementOn}
+use Rattle.preflight.specs.Culprit.{Names, StandsAt, IsTold}
+use Rattle.preflight.specs.Judgement.{IsJudgementOn}
+use Rattle.preflight.specs.Stood.{MachineStood}
 use Rattle.preflight.specs.Where.{IsOnPage, page_with}
 use Rattle.sinks.specs.declared.counts.Counts.{Counts}
 use Rattle.preflight.specs.Carriers.Checking.{FailsBy}
@@ -43,12 +45,13 @@ told_there job place number Unpinnable culprit action machines wrong stands = ab
 
 -- a verdict that is made of a failure is right, with what is told of it
 pub right_failing : FailsSay → (fleet : List Printer) (job : List ℕ) (failure : Failure) (verdict : Verdict) (culprit : Option Culprit)
-    (counts : Counts) → verdict ≡ failing failure → FailsBy fleet job failure culprit counts →
-    IsJudgementOn fleet job verdict culprit (page_with verdict counts)
-right_failing says fleet job failure verdict culprit counts is fails =
+    (counts : Counts) (machines : List MachineState) → verdict ≡ failing failure → FailsBy fleet job failure culprit counts machines →
+    IsJudgementOn fleet job verdict culprit (page_with verdict counts) machines
+right_failing says fleet job failure verdict culprit counts machines is fails =
     let keeps = keeps_failing says fleet job failure verdict is fails.0 in (
       keeps.0,
       keeps.1,
       subst (λ v. IsTold job v culprit) (sym is) fails.1,
       subst (λ v. IsOnPage fleet job v (page_with v counts)) (sym is) fails.2,
+      subst (λ v. MachineStood fleet job v culprit machines) (sym is) fails.3,
     )

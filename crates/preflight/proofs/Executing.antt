@@ -17,6 +17,7 @@ use Rattle.page_env.specs.Settings.{state_at}
 use Rattle.page_machine.specs.MachineState.{MachineState}
 use Rattle.page_machine.specs.Likeness.{RunsOnLike}
 use Rattle.page_machine.specs.Machine.{CarriesOn}
+use Rattle.page_machine.specs.Still.{StopsStill}
 use Rattle.sinks.specs.declared.counts.Counts.{Counts}
 use Rattle.verdict.specs.declared.failure.Failure.{Failure}
 use Rattle.verdict.specs.declared.reason.Reason.{Reason}
@@ -31,7 +32,8 @@ use Rattle.preflight.specs.Carriers.Each.{Each}
 use Rattle.preflight.specs.declared.lockstep.Formation.{Formation}
 use Rattle.preflight.specs.Carriers.Formation.{others_in, fleet_of, IsFormed, GoesAsOne}
 use Rattle.preflight.specs.Carriers.Lockstep.{Action, Execute, Fleet, carrying_of, is_last, Does, IsDone, Finds, FoundFrom, DiffersFrom}
-use Rattle.preflight.specs.Carriers.Lockstep.{WrongFrom, IsWrong, Compared, CountsPages, FindsAt, GoesInStep, PagesAt}
+use Rattle.preflight.specs.Carriers.Lockstep.{WrongFrom, IsWrong, Compared, CountsPages, FindsAt, GoesInStep, PagesAt, StopsAt, StopsFor}
+use Rattle.preflight.specs.Carriers.Lockstep.{StopsThere}
 use Rattle.preflight.proofs.Counting.{counter_takes, counter_refuses, TakesAll-counts, pages_counted, pages_taken}
 use Rattle.preflight.proofs.Formations.{all_do, still_formed}
 use Rattle.preflight.proofs.Standings.{failed_by, open_by, refused_by}
@@ -79,12 +81,13 @@ module _ {S F : Type 0} (takes refuses : S → Event → S → Type 0) (action :
   pub fails_by : (P : Option Failure → Type 0) (place number : ℕ) (answer : Result Unit (Stop F)) (standing : Standing) →
       StandsAfter place number answer standing → is_open standing ≡ false → Answers answer
       → ((finding : Finding) (finds : Finds action finding machine) → TakesAll takes sink finds.events sink' →
+      StopsStill (carrying_of machine action).one_step machine machine' →
       P (Some (found_at place number finding)))
       → StandsBy standing P
   fails_by P place number (Ok done) standing stands is h wrong = let both : true ≡ false = sym (ap is_open stands) ∙ is in absurd cc
   fails_by P place number (Err (stops.Found finding)) standing stands is h wrong =
       failed_by P standing (found_at place number finding) stands
-      (wrong finding (record { events = h.2.events; peaks = h.2.peaks; run = h.2.is }) h.2.leads)
+      (wrong finding (record { events = h.2.events; peaks = h.2.peaks; run = h.2.is }) h.2.leads h.3)
   fails_by P place number (Err (stops.Refused fault)) standing stands is h wrong = refused_by P standing stands
   fails_by P place number (Err (stops.Memory error)) standing stands is h wrong = refused_by P standing stands
   fails_by P place number (Err stops.Stopped) standing stands is h wrong = absurd stands
@@ -114,7 +117,7 @@ module _ (action : Action) (place : ℕ) (formation : Formation) (counts counts'
     as_one_in_step (Err (stops.Found finding)) standing stands h =
         let finds : Finds action finding first = record { events = h.2.events; peaks = h.2.peaks; run = h.2.is } in
         failed_by came standing (found_at place 1 finding) stands
-        (refl, inl (refl, finds), inl (refl, (finds, pages_taken counts counts' h.2.events h.2.leads)))
+        (refl, inl (refl, finds), inl (refl, (finds, pages_taken counts counts' h.2.events h.2.leads)), inl (refl, h.3))
     as_one_in_step (Err (stops.Refused fault)) standing stands h = refused_by came standing stands
     as_one_in_step (Err (stops.Memory error)) standing stands h = refused_by came standing stands
     as_one_in_step (Err stops.Stopped) standing stands h = absurd stands
@@ -177,17 +180,27 @@ pages_in_step action pages pages' first others number reasons.Differs h = h
 pages_in_step action pages pages' first others number (reasons.Fault cause) h = h
 pages_in_step action pages pages' first others number reasons.Unpinnable h = h
 
+-- and it stopped where it stood
+stops_in_step : (action : Action) (first first' : MachineState) (others others' : List MachineState) (number : ℕ) (reason : Reason) →
+    StopsAt action 2 others others' number reason → StopsAt action 1 (first ∷ others) (first' ∷ others') number reason
+stops_in_step action first first' others others' number (reasons.Finding finding) h = inr h
+stops_in_step action first first' others others' number reasons.Differs h = tt
+stops_in_step action first first' others others' number (reasons.Fault cause) h = tt
+stops_in_step action first first' others others' number reasons.Unpinnable h = tt
+
 -- where all executed it, the events of the first were counted, and else the pages up to what is wrong
 in_step : (action : Action) (place : ℕ) (events : List Event) (first first' : MachineState) (others others' : List MachineState)
     (counts counts' : Counts) (failed : Option Failure) → Does action events first first' →
     Compared action place events 2 others others' failed → CountsPages action counts.pages counts'.pages 2 others failed →
-    (failed ≡ None → counts' ≡ counts_after events counts) →
+    StopsFor action 2 others others' failed → (failed ≡ None → counts' ≡ counts_after events counts) →
     GoesInStep action place (first ∷ others) (first' ∷ others') counts counts' failed
-in_step action place events first first' others others' counts counts' None does h paged counted = (events, (does, h), counted refl)
-in_step action place events first first' others others' counts counts' (Some failure) does h paged counted = (
+in_step action place events first first' others others' counts counts' None does h paged stopped counted =
+    (events, (does, h), counted refl)
+in_step action place events first first' others others' counts counts' (Some failure) does h paged stopped counted = (
   h.0,
   wrong_in_step action events first first' others failure.profile failure.reason does h.1,
   pages_in_step action counts.pages counts'.pages first others failure.profile failure.reason paged,
+  stops_in_step action first first' others others' failure.profile failure.reason stopped,
 )
 
 -- the first machine's events are recorded, and the others' compared with the record
@@ -195,14 +208,15 @@ pub step_recorded : (action : Action) (place : ℕ) (first first' : MachineState
     (before cleared after : Recorded) (given events : List Event) (counts' : Counts) (failed : Option Failure) →
     cleared ≡ record before { events = [] } → Does action given first first' → TakesAll recorder_takes cleared given after →
     events ≡ after.events → Compared action place events 2 others others' failed →
-    CountsPages action before.counts.pages counts'.pages 2 others failed → (failed ≡ None → counts' ≡ after.counts) →
+    CountsPages action before.counts.pages counts'.pages 2 others failed → StopsFor action 2 others others' failed →
+    (failed ≡ None → counts' ≡ after.counts) →
     GoesInStep action place (first ∷ others) (first' ∷ others') before.counts counts' failed
 step_recorded action place first first' others others' before cleared after given events counts' failed clear does leads recorded h paged
-    counted =
+    stopped counted =
     let all : after ≡ record { events = given; counts = counts_after given before.counts } =
     TakesAll-recorded cleared after given leads ∙ ap (recorded_all given) clear in
     in_step action place given first first' others others' before.counts counts' failed does
-    (subst (λ es. Compared action place es 2 others others' failed) (recorded ∙ ap (λ (r : Recorded). r.events) all) h) paged
+    (subst (λ es. Compared action place es 2 others others' failed) (recorded ∙ ap (λ (r : Recorded). r.events) all) h) paged stopped
     (λ none. counted none ∙ ap (λ (r : Recorded). r.counts) all)
 
 -- the pages of what was recorded behind these counts
@@ -378,6 +392,24 @@ finds_there action finding pages pages' n (suc i) (m ∷ ms) machine rest e find
     inr
     (subst (λ number. FindsAt action finding pages pages' number (n + 1) ms) (omega arith)
     (finds_there action finding pages pages' (n + 1) i ms machine rest e finds paged))
+
+-- the machine that stands there stopped where it stood
+pub stops_there : (action : Action) (n i : ℕ) (old new : List MachineState) (machine machine' : MachineState)
+    (rest rest' : List MachineState) → drop i old ≡ machine ∷ rest → drop i new ≡ machine' ∷ rest' →
+    StopsStill (carrying_of machine action).one_step machine machine' → StopsThere action (i + n) n old new
+stops_there action n zero [] new machine machine' rest rest' e e' stops = absurd cc
+stops_there action n zero (m ∷ ms) [] machine machine' rest rest' e e' stops = absurd cc
+stops_there action n zero (m ∷ ms) (k ∷ ks) machine machine' rest rest' e e' stops =
+    let same : m ≡ machine = cc in
+    let same' : k ≡ machine' = cc in
+    subst (λ x. StopsThere action (zero + n) n (x ∷ ms) (k ∷ ks)) (sym same)
+    (subst (λ x. StopsThere action (zero + n) n (machine ∷ ms) (x ∷ ks)) (sym same') (inl (omega arith, stops)))
+stops_there action n (suc i) [] new machine machine' rest rest' e e' stops = absurd cc
+stops_there action n (suc i) (m ∷ ms) [] machine machine' rest rest' e e' stops = absurd cc
+stops_there action n (suc i) (m ∷ ms) (k ∷ ks) machine machine' rest rest' e e' stops =
+    inr
+    (subst (λ number. StopsThere action number (n + 1) ms ks) (omega arith)
+    (stops_there action (n + 1) i ms ks machine machine' rest rest' e e' stops))
 
 -- all machines executed the action
 pub all_so_far : (action : Action) (place : ℕ) (events : List Event) (i : ℕ) (old new : List MachineState) →

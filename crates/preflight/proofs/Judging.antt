@@ -1,5 +1,5 @@
 -- What the reads of a job came to for a session to which nothing was fed.
-use Rattle.std.proofs.Common.{◌≡◌, ◌≢◌, ℕ, List, [], ◌∷◌, ◌++◌, ◌∙◌, ap, refl, subst, sym, Result, Ok, Err, IfOk, IfErr, IfSome}
+use Rattle.std.proofs.Common.{◌≡◌, ◌≢◌, ℕ, List, [], ◌∷◌, ◌++◌, ◌∙◌, ap, refl, subst, sym, Option, Result, Ok, Err, IfOk, IfErr, IfSome}
 use Rattle.std.specs.Prelude.{IsErrOf, ⊤}
 use Rattle.std.proofs.lemmas.Result.{IfOk-weaker}
 use Rattle.device_profile.specs.Printer.{Printer}
@@ -10,11 +10,15 @@ use Rattle.streams.specs.Source.{SourceState}
 use Rattle.preflight.specs.Session.{SessionState, ChecksOn, HasChecked, IsJudged, IsOutOfMemory, page_told}
 use Rattle.preflight.specs.Verdict.{IsExact, VerdictHolds, NeedsEachRead, StaysOpen, WasOpen}
 use Rattle.preflight.specs.Culprit.{IsTold}
+use Rattle.preflight.specs.Stood.{IsCursorOf, IsFontOf, IsOfSession, IsSpotOf, LacksFont}
 use Rattle.preflight.specs.Where.{IsOnPage}
+use Rattle.preflight.specs.declared.culprit.MissingFont.{MissingFont}
+use Rattle.preflight.specs.declared.culprit.SheetSpot.{SheetSpot}
 use Rattle.streams.specs.Driving.{IsAnswered, IsStopped, StopsBy}
 use Rattle.streams.proofs.Pieces.{known_by}
 use Rattle.streams.proofs.Driving.{never_items as none_of_limits, of_error, of_read, stop_gives}
 use Rattle.preflight.proofs.Sessions.{opened}
+use Rattle.preflight.proofs.Stood.{cursor_right, font_right, judged_told}
 use Rattle.preflight.proofs.StillOpen.{leaves_open}
 use Rattle.verdict.specs.declared.verdict.Verdict.{Verdict}
 
@@ -89,6 +93,36 @@ module _ (fleet : List Printer) (session now : Beside) (fresh : HasChecked fleet
         each =
             λ job may. subst (λ s. IsOnPage fleet job verdict (page_told s now.0.counts)) (sym is.answered.standing_is)
             (is.answered.right fleet [] fresh job may).3;
+        known = is.known;
+      }
+
+  pub placed : (told : Option SheetSpot) → IsOfSession IsSpotOf now.0.standing now.0.culprit now.0.machines told →
+      IfOk r (λ verdict. ByReads old new (λ job. IsCursorOf fleet job verdict told))
+  placed told is_told = IfOk-weaker r Answer (λ verdict. ByReads old new (λ job. IsCursorOf fleet job verdict told)) by h
+    where
+      by : (verdict : Verdict) → Answer verdict → ByReads old new (λ job. IsCursorOf fleet job verdict told)
+      by verdict is = record {
+        pieces = is.before ++ is.last ∷ [];
+        given = is.given_is;
+        each =
+            λ job may. cursor_right fleet job verdict now.0.culprit now.0.machines told
+            (judged_told IsSpotOf now.0.culprit now.0.machines told now.0.standing verdict is.answered.standing_is is_told)
+            (is.answered.right fleet [] fresh job may).4;
+        known = is.known;
+      }
+
+  pub asked : (told : Option MissingFont) → IsOfSession LacksFont now.0.standing now.0.culprit now.0.machines told →
+      IfOk r (λ verdict. ByReads old new (λ job. IsFontOf fleet job verdict told))
+  asked told is_told = IfOk-weaker r Answer (λ verdict. ByReads old new (λ job. IsFontOf fleet job verdict told)) by h
+    where
+      by : (verdict : Verdict) → Answer verdict → ByReads old new (λ job. IsFontOf fleet job verdict told)
+      by verdict is = record {
+        pieces = is.before ++ is.last ∷ [];
+        given = is.given_is;
+        each =
+            λ job may. font_right fleet job verdict now.0.culprit now.0.machines told
+            (judged_told LacksFont now.0.culprit now.0.machines told now.0.standing verdict is.answered.standing_is is_told)
+            (is.answered.right fleet [] fresh job may).4;
         known = is.known;
       }
 

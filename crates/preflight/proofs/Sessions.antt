@@ -13,7 +13,7 @@ use Rattle.streams.specs.declared.error.Error.{Error}
 use Rattle.streams.specs.declared.error.Error.TheVariants.{Memory, Turns}
 use Rattle.streams.specs.Driving.{ComesByEnd, ComesByPiece, IsErrorOfPiece}
 use Rattle.preflight.specs.Session.{SessionState, ChecksTo, HasChecked, ChecksOn, IsJudged, IsOutOfMemory}
-use Rattle.preflight.specs.Culprit.{IsJudgementOn}
+use Rattle.preflight.specs.Judgement.{IsJudgementOn}
 use Rattle.preflight.specs.Where.{page_with}
 use Rattle.preflight.specs.Carriers.Checking.{FailsBy, HasExecuted}
 use Rattle.streams.proofs.Pieces.{spell_more, spell_none}
@@ -65,7 +65,7 @@ module _ (first old new : SessionState) (bytes : List ℕ) (goes : ChecksOn firs
   pub judged_by_piece : FailsSay → (piece : List ℕ) (failure : Failure) (verdict : Verdict) → verdict ≡ failing failure →
       new.standing ≡ Judged verdict
       → ((fleet : List Printer) (base : List ℕ) → HasExecuted fleet base old.lexer old.machines old.counts → (job : List ℕ) →
-      MayBe false (base ++ piece) job → FailsBy fleet job failure new.culprit new.counts)
+      MayBe false (base ++ piece) job → FailsBy fleet job failure new.culprit new.counts new.machines)
       → (pieces : List (List ℕ)) → Spell pieces (bytes ++ piece) → IsJudged first verdict pieces new
   judged_by_piece says piece failure verdict is standing_is fails pieces spelled = record {
     standing_is = standing_is;
@@ -76,14 +76,14 @@ module _ (first old new : SessionState) (bytes : List ℕ) (goes : ChecksOn firs
         ap (λ l. base ++ l) split.1
         ∙ (sym (append_assoc base (bytes ++ piece) split.0)
         ∙ ap (λ l. l ++ split.0) (sym (append_assoc base bytes piece))) in
-        right_failing says fleet (base ++ rest) failure verdict new.culprit new.counts is
+        right_failing says fleet (base ++ rest) failure verdict new.culprit new.counts new.machines is
         (fails fleet (base ++ bytes) before.0 (base ++ rest) (split.0, job_is, λ e. let both : false ≡ true = e in absurd cc));
   }
 
   -- the end came
   pub judged_at_end : (verdict : Verdict) → new.standing ≡ Judged verdict
       → ((fleet : List Printer) (base : List ℕ) → HasExecuted fleet base old.lexer old.machines old.counts → old.total ≡ length base →
-      IsJudgementOn fleet base verdict new.culprit (page_with verdict new.counts))
+      IsJudgementOn fleet base verdict new.culprit (page_with verdict new.counts) new.machines)
       → (pieces : List (List ℕ)) → Spell pieces bytes → IsJudged first verdict (pieces ++ [] ∷ []) new
   judged_at_end verdict standing_is finishes pieces spelled = record {
     standing_is = standing_is;
@@ -91,7 +91,7 @@ module _ (first old new : SessionState) (bytes : List ℕ) (goes : ChecksOn firs
         let before = opened old fleet (base ++ bytes) goes.is_open (goes.checked fleet base h) in
         let split = spelled.leads ([] ∷ []) rest may in
         let job_is : base ++ rest ≡ base ++ bytes = ap (λ l. base ++ l) (split.1 ∙ ap (λ more. bytes ++ more) split.2 ∙ append-nil bytes) in
-        subst (λ l. IsJudgementOn fleet l verdict new.culprit (page_with verdict new.counts)) (sym job_is)
+        subst (λ l. IsJudgementOn fleet l verdict new.culprit (page_with verdict new.counts) new.machines) (sym job_is)
         (finishes fleet (base ++ bytes) before.0 before.1);
   }
 
@@ -143,19 +143,19 @@ module _ (first now : SessionState) (fleet : List Printer) (base : List ℕ) (h 
       ∙ (ap (λ l. l ++ may.0) (sym (append_assoc base front (part ++ later)))
       ∙ (append_assoc (base ++ front) (part ++ later) may.0
       ∙ ap (λ l. (base ++ front) ++ l) (append_assoc part later may.0))) in
-      subst (λ l. IsJudgementOn fleet l verdict now.culprit (page_with verdict now.counts)) (sym (may.1 ∙ rest_is))
+      subst (λ l. IsJudgementOn fleet l verdict now.culprit (page_with verdict now.counts) now.machines) (sym (may.1 ∙ rest_is))
       (is.right fleet (base ++ front) (goes.checked fleet base h) (part ++ more) (spelled.led [] more tt)))
 
   -- the end came behind no further piece
   pub judged_now : (verdict : Verdict) → ((pieces : List (List ℕ)) → Spell pieces [] → IsJudged first verdict (pieces ++ [] ∷ []) now) →
-      IsJudgementOn fleet base verdict now.culprit (page_with verdict now.counts)
+      IsJudgementOn fleet base verdict now.culprit (page_with verdict now.counts) now.machines
   judged_now verdict judged =
-      subst (λ l. IsJudgementOn fleet l verdict now.culprit (page_with verdict now.counts)) (append-nil base)
+      subst (λ l. IsJudgementOn fleet l verdict now.culprit (page_with verdict now.counts) now.machines) (append-nil base)
       ((judged [] spell_none).right fleet base h [] refl)
 
   -- the verdict was known before
   pub judged_before : (verdict : Verdict) → first.standing ≡ Judged verdict →
-      IsJudgementOn fleet base verdict first.culprit (page_with verdict first.counts)
+      IsJudgementOn fleet base verdict first.culprit (page_with verdict first.counts) first.machines
   judged_before verdict is = subst (λ s. ChecksTo s fleet base first) is h base ([], sym (append-nil base), λ e. refl)
 
 -- a part that came to the verdict
@@ -177,7 +177,7 @@ stopped_not_open standing error is open_is = absurd cc
 pub end_right : (first now : SessionState) (result : Result Verdict Error) → ComesByEnd IsJudged IsOutOfMemory first [] now result →
     IfOk result
     (λ verdict. (fleet : List Printer) (bytes : List ℕ) → HasChecked fleet bytes first →
-    IsJudgementOn fleet bytes verdict now.culprit (page_with verdict now.counts))
+    IsJudgementOn fleet bytes verdict now.culprit (page_with verdict now.counts) now.machines)
 end_right first now (Ok verdict) h = λ fleet bytes checked. judged_now first now fleet bytes checked verdict h
 end_right first now (Err error) h = tt
 

@@ -5,14 +5,11 @@ use Rattle.pcl_items.specs.Items.{Entry, simple_view, at}
 use Rattle.pcl_items.specs.Items as entries
 use Rattle.pcl_items.specs.PjlLines.Text.{PjlCommand}
 use Rattle.pcl_lexer.specs.Reading.{Reading, IsReading, items_of}
-use Rattle.device_profile.specs.Printer.{Printer}
 use Rattle.verdict.specs.declared.reason.Reason.TheVariants.{Fault, Finding, Differs, Unpinnable}
 use Rattle.verdict.specs.declared.verdict.Verdict.{Verdict}
 use Rattle.verdict.specs.declared.verdict.Verdict.TheVariants.{Pass, Fail}
 use Rattle.preflight.specs.declared.culprit.Culprit.{Culprit}
 use Rattle.preflight.specs.declared.culprit.Culprit.TheVariants as culprits
-use Rattle.preflight.specs.Verdict.{IsExact, VerdictHolds}
-use Rattle.preflight.specs.Where.{IsOnPage}
 
 -- the item is this one, but for its data
 abbrev pub IsCulprit : Culprit → Entry → Type 0
@@ -42,9 +39,3 @@ IsTold job (Fail place number (Fault cause)) culprit = culprit ≡ None
 IsTold job (Fail place number (Finding finding)) culprit = StandsAt job place culprit
 IsTold job (Fail place number Differs) culprit = StandsAt job place culprit
 IsTold job (Fail place number Unpinnable) culprit = ⊥
-
--- all that a check says of its verdict, and what is told with it: the item and the page
-abbrev pub IsJudgementOn : List Printer → List ℕ → Verdict → Option Culprit → Option ℕ → Type 0
-IsJudgementOn fleet job verdict culprit page =
-    IsExact fleet job verdict × VerdictHolds fleet job verdict × IsTold job verdict culprit
-    × IsOnPage fleet job verdict page

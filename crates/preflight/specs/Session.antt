@@ -12,7 +12,7 @@ use Rattle.streams.specs.declared.error.Error.TheVariants.{Memory}
 use Rattle.verdict.specs.declared.verdict.Verdict.{Verdict}
 use Rattle.streams.specs.Pieces.{MayBeBy}
 use Rattle.preflight.specs.declared.culprit.Culprit.{Culprit}
-use Rattle.preflight.specs.Culprit.{IsJudgementOn}
+use Rattle.preflight.specs.Judgement.{IsJudgementOn}
 use Rattle.preflight.specs.Where.{page_with}
 use Rattle.preflight.specs.Carriers.Checking.{HasExecuted}
 
@@ -39,7 +39,7 @@ ChecksTo Open fleet bytes session =
     HasExecuted fleet bytes session.lexer session.machines session.counts × (session.total ≡ length bytes)
 ChecksTo (Judged verdict) fleet bytes session =
     (job : List ℕ) → MayBe false bytes job →
-    IsJudgementOn fleet job verdict session.culprit (page_with verdict session.counts)
+    IsJudgementOn fleet job verdict session.culprit (page_with verdict session.counts) session.machines
 ChecksTo (Stopped error) fleet bytes session = Unit {0}
 
 -- the session was fed these bytes, for a check by this fleet
@@ -62,13 +62,13 @@ pub record ChecksOn (first : SessionState) (bytes : List ℕ) (now : SessionStat
       HasChecked fleet (base ++ bytes) now
 
 -- From the one to the other, with the verdict on every job that may be by these pieces, and the item and the page that
--- it fails at.
+-- it fails at, where the machine of a finding stands.
 pub record IsJudged (first : SessionState) (verdict : Verdict) (pieces : List (List ℕ))
     (now : SessionState) : Type 0 where
   pub standing_is : now.standing ≡ Judged verdict
   pub right : (fleet : List Printer) (base : List ℕ) → HasChecked fleet base first → (rest : List ℕ) →
       MayBeBy pieces rest →
-      IsJudgementOn fleet (base ++ rest) verdict now.culprit (page_with verdict now.counts)
+      IsJudgementOn fleet (base ++ rest) verdict now.culprit (page_with verdict now.counts) now.machines
 
 -- memory was refused, which the session answers from then on
 abbrev pub IsOutOfMemory : SessionState → Error → List ℕ → SessionState → Type 0

@@ -3,7 +3,7 @@
 ghost use Rattle.std.specs.Prelude.{◌≡◌, ℕ, List, length, None};
 ghost use Rattle.device_profile.specs.Printer.{Printer};
 ghost use Rattle.preflight.specs.Carriers.Lockstep.{machines_of, counts_of};
-ghost use Rattle.preflight.specs.Culprit.{IsJudgementOn};
+ghost use Rattle.preflight.specs.Judgement.{IsJudgementOn};
 ghost use Rattle.preflight.specs.Standing.{Ends};
 ghost use Rattle.preflight.specs.Where.{page_with};
 
@@ -88,7 +88,7 @@ impl<A: Allocator + Copy, P: Allocator> Checking<'_, A, P> {
             HasExecuted fleet bytes self.old.lexer (machines_of self.old.machines)
             (counts_of self.old.machines) → total ≡ length bytes →
             IsJudgementOn fleet bytes verdict self.new.culprit
-            (page_with verdict (counts_of self.new.machines))) }
+            (page_with verdict (counts_of self.new.machines)) (machines_of self.new.machines)) }
     {
         watched_runs_are_alike();
         watched_is_plain();

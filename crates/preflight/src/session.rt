@@ -10,14 +10,16 @@ ghost use Rattle.preflight.specs.Session.{ChecksOn, HasChecked, HasRoom, IsJudge
 ghost use Rattle.preflight.specs.Session.{page_told};
 ghost use Rattle.preflight.specs.Where.{page_with};
 ghost use Rattle.preflight.specs.Verdict.{IsExact, VerdictHolds};
-ghost use Rattle.preflight.specs.Culprit.{IsJudgementOn};
+ghost use Rattle.preflight.specs.Judgement.{IsJudgementOn};
+ghost use Rattle.preflight.specs.Stood.{LacksFont, IsOfSession, IsSpotOf};
 ghost use Rattle.preflight.specs.Carriers.Lockstep.{AreIn, AreRunning, counts_of, machines_of};
 
 use crate::checking::Checking;
-use crate::culprit::{Culprit, page_with};
+use crate::culprit::{Culprit, MissingFont, SheetSpot, page_with};
 use crate::laws::fails_say;
 use crate::lockstep::Lockstep;
 use crate::standing::Standing;
+use crate::stood::{cursor_with, font_with};
 use device_profile::Profile;
 use pcl_lexer::Lexer;
 use std::alloc::Allocator;
@@ -168,6 +170,40 @@ impl<'p, A: Allocator + Copy, P: Allocator> Session<'p, A, P> {
         }
     }
 
+    /// Where the cursor stood before the item that the job fails at, whatever follows, on the
+    /// printer of the failure.
+    ///
+    /// It is None where the panel decides that, for what is more than one step on the page, for
+    /// what is no finding, while nothing is wrong, and after an error.
+    pub fn cursor(&self) -> Option<SheetSpot>
+        ensures { IsOfSession IsSpotOf self.now.standing self.now.culprit self.now.machines result }
+    {
+        match self.checking.standing {
+            Standing::Open => None,
+            Standing::Judged(verdict) => {
+                cursor_with(verdict, self.checking.culprit, &self.checking.machines)
+            }
+            Standing::Stopped(_) => None,
+        }
+    }
+
+    /// The font that the item asked for that the job fails at, whatever follows, where no face of
+    /// the printer answers that.
+    ///
+    /// It is None where `cursor` is, for a panel that decides it and what is more than one step.
+    pub fn font(&self) -> Option<MissingFont>
+        ensures { IsOfSession LacksFont self.now.standing self.now.culprit self.now.machines
+            result }
+    {
+        match self.checking.standing {
+            Standing::Open => None,
+            Standing::Judged(verdict) => {
+                font_with(verdict, self.checking.culprit, &self.checking.machines)
+            }
+            Standing::Stopped(_) => None,
+        }
+    }
+
     /// The verdict on the job that was fed, whole.
     ///
     /// It is the verdict that `check_job` gives on the same bytes. The error is the one that
@@ -193,7 +229,7 @@ impl<'p, A: Allocator + Copy, P: Allocator> Session<'p, A, P> {
     fn verdict(&mut self) -> Result<Verdict, Error>
         ensures ended { IfOk result (λ verdict. (fleet : List Printer) (bytes : List ℕ) →
             HasChecked fleet bytes self.old → IsJudgementOn fleet bytes verdict self.new.culprit
-            (page_with verdict self.new.counts)) }
+            (page_with verdict self.new.counts) self.new.machines) }
         ensures judged { (verdict : Verdict) → self.old.standing ≡ standings.Judged verdict →
             result ≡ Ok verdict }
         ensures kept { (verdict : Verdict) → self.old.standing ≡ standings.Judged verdict →

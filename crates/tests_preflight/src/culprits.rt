@@ -1,4 +1,4 @@
-//! The items and the pages that jobs fail at, told of jobs that come in pieces.
+//! Where jobs fail, told of jobs that come in pieces.
 
 ghost use Rattle.std.specs.Prelude.{◌<◌};
 
@@ -31,6 +31,8 @@ const ROWS: &[Row] = &[
     (&[B, D], b"\x1bE\x0cA"),
     (&[B, D], b"\x1b&f0X\x0c\x1b*p9999X\x1b&f1X\x1b&f2X"),
     (&[B], b"\x1bE\x1b*p300x300Y\x1b*c100a50b0P"),
+    (&[B], b"\x1b&l2A\x1b*p300x300Y\x1b&f1S"),
+    (&[B], b"\x1b&l2A\x1b(0N\x1b(s1p10v0s0b4101TA"),
 ];
 
 /// Feeds a session pieces of so many bytes. What it tells before the end is what is told of the
@@ -57,6 +59,16 @@ fn check_pieces(
     let page = session.page();
     assert!(rt;
         page == None || page == whole.page,
+        "{job:?} in pieces of {size}"
+    );
+    let cursor = session.cursor();
+    assert!(rt;
+        cursor == None || cursor == whole.cursor,
+        "{job:?} in pieces of {size}"
+    );
+    let font = session.font();
+    assert!(rt;
+        font == None || font == whole.font,
         "{job:?} in pieces of {size}"
     );
     let verdict = session.end()?;

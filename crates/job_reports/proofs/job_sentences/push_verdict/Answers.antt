@@ -1,6 +1,6 @@
 use Rattle.std.proofs.Common.{ap, codes}
 use Rattle.line_words.specs.Figures.{named}
-use Rattle.job_reports.specs.JobSentences.{fails_at, verdict_phrase}
+use Rattle.job_reports.specs.JobSentences.{fails_where, verdict_phrase}
 use Rattle.job_reports.proofs.Appending.{three_appended}
 use Rattle.job_reports.proofs.job_sentences.push_verdict.Goals as goal
 
@@ -9,4 +9,4 @@ returns-in_ok-push_named-in-Pass-2 g c =
     three_appended c.extend_from_slice.result c.args.line.now.items _ _ _ (named (codes " (pages=") c.in-Pass.pages)
     (named (codes " marks=") c.in-Pass.marks) (codes ")") _
     c.in_ok-push_named-in-Pass.ensures c.in_ok-push_named-in-Pass-2.ensures c.extend_from_slice.ensures.items
-    (ap (verdict_phrase (fails_at c.args.page c.args.culprit)) c.in-Pass.is)
+    (ap (verdict_phrase (fails_where c.args.at.page c.args.at.cursor c.args.at.culprit)) c.in-Pass.is)

@@ -19,4 +19,4 @@ returns-in-Err g c =
     ≡ Some c.in-Err.finding =
     search rules in
     found_at_edge (has_code c.args.face.now.codes c.args.code) (not left && int_lt c.args.geometry.now.logical_width behind)
-    (left && int_lt right behind) NoGlyph OffPage PastRightMargin c.in-Err.finding _ has edge
+    (left && int_lt right behind) (NoGlyph c.args.code) OffPage PastRightMargin c.in-Err.finding _ has edge

@@ -221,7 +221,7 @@ run_macro_item-returns-in-Err g t c = λ level.
     (λ panel. ap
     (λ e. followed_by (effect_run (conditions_with c.args.around.now level panel) e)
     (item_run c.args.around.now.profile.now (conditions_with c.args.around.now level panel) (view c.args.item.now)))
-    (c.in-Err.ensures panel))
+    (c.in-Err.ensures.0 panel))
 
 pub run_macro_item-returns-in-Ok : goal.run_macro_item-returns-in-Ok
 unfolding Marks
@@ -230,7 +230,7 @@ run_macro_item-returns-in-Ok g t c = λ level.
     (λ panel. ap
     (λ e. followed_by (effect_run (conditions_with c.args.around.now level panel) e)
     (item_run c.args.around.now.profile.now (conditions_with c.args.around.now level panel) (view c.args.item.now)))
-    (c.in-Ok.ensures panel))
+    (c.in-Ok.ensures.0 panel))
     (Follows-onward _ _ _ _ _ _ c.spend_item.new.page _ _
     (λ panel. item_run c.args.around.now.profile.now (conditions_with c.args.around.now level panel) (view c.args.item.now)) _ _
     (Follows-stepped _ _ _ _ c.spend_item.new.page _) (c.run_next.ensures level))
@@ -298,7 +298,7 @@ run_control-returns-in-Err g t c = λ level.
     (close_in (context_with c.args.around.now panel) c.args.around.now.nesting) c.args.around.now.left level)
     c.args.around.now.nesting (amount c.args.n) (state_at panel c.args.page.now) c.is_some-known.result c.is_macro.result
     c.control_of-control.result (c.is_some-known.ensures ∙ ap (λ o. is_some o) c.body.ensures) c.is_macro.ensures
-    c.control_of-control.ensures c.in-Err.finding (c.in-Err.ensures panel))
+    c.control_of-control.ensures c.in-Err.finding (c.in-Err.ensures.0 panel))
 
 pub run_control-returns-in-Ok : goal.run_control-returns-in-Ok
 unfolding Marks
@@ -314,7 +314,7 @@ run_control-returns-in-Ok g t c = λ level.
     (close_in (context_with c.args.around.now panel) c.args.around.now.nesting) c.args.around.now.left level)
     c.args.around.now.nesting (amount c.args.n) (state_at panel c.args.page.now) c.is_some-known.result c.is_macro.result
     c.control_of-control.result (c.is_some-known.ensures ∙ ap (λ o. is_some o) c.body.ensures) c.is_macro.ensures
-    c.control_of-control.ensures (state_at panel c.carry_out_control.new.page) (c.in-Ok.ensures panel))
+    c.control_of-control.ensures (state_at panel c.carry_out_control.new.page) (c.in-Ok.ensures.0 panel))
     (Follows-onward _ _ _ _ _ _ c.carry_out_control.new.page _ (λ panel. goes (state_at panel c.carry_out_control.new.page) []) next _ _
     (Follows-stepped _ _ _ _ c.carry_out_control.new.page _)
     (c.run_controlled.ensures level))

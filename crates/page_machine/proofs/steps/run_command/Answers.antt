@@ -6,7 +6,7 @@ use Rattle.page_env.proofs.Steps.{as_valued}
 use Rattle.page_env.specs.Settings.{state_at}
 use Rattle.page_machine.specs.Defining.{LeavesMacros}
 use Rattle.page_machine.specs.Run.{begun_run}
-use Rattle.page_machine.proofs.AtOnce.{Follows-begun, step_leaves, step_runs}
+use Rattle.page_machine.proofs.AtOnce.{Follows-begun, StaysFound-begun, begun_stays, step_leaves, step_runs}
 use Rattle.page_machine.proofs.Composed.{Follows-found, Follows-is, Follows-stepped}
 use Rattle.page_machine.proofs.steps.run_command.Goals as goal
 
@@ -24,6 +24,9 @@ returns-in-Err g c =
           (λ panel. ap (begun_run c.args.profile.now (conditions panel) item) (c.begin_command.ensures (amount c.args.n) panel)
           ∙ step_runs c.args.profile.now item c.begin_command.new.page c.carry_out_usual_command.new.page
           (Err c.in-Err.finding) acts.0 acts.1 (conditions panel) panel),
+      λ one.
+          begun_stays item c.args.page.now c.begin_command.new.page (c.begin_command.ensures (amount c.args.n))
+          c.carry_out_usual_command.new.page acts.2,
     )
 
 pub returns-in-Ok-Stepped : goal.returns-in-Ok-Stepped
@@ -40,6 +43,7 @@ returns-in-Ok-Stepped g c =
           ∙ step_runs c.args.profile.now item c.begin_command.new.page c.carry_out_usual_command.new.page (Ok tt) acts.0 acts.1
           (conditions panel) panel)
           (Follows-stepped _ _ _ _ c.carry_out_usual_command.new.page _),
+      λ one. tt,
     )
 
 pub returns-in-Ok-Fill : goal.returns-in-Ok-Fill
@@ -51,7 +55,10 @@ returns-in-Ok-Fill g c =
     (rw c.in-Ok-Fill.field-0-is at c.in-Ok-Fill.ensures) in (
       subst LeavesMacros (sym acts.1) (refl, refl),
       Follows-begun item c.args.page.now c.begin_command.new.page (c.begin_command.ensures (amount c.args.n)) _ _ _ _ _ _ c.args.profile.now
-          _ (Parameterized FillRectangle (amount c.args.n)) c.carry_out_usual_command.new.page acts.1 acts.0 c.run_fill.ensures,
+          _ (Parameterized FillRectangle (amount c.args.n)) c.carry_out_usual_command.new.page acts.1 acts.0 c.run_fill.ensures.run,
+      λ one.
+          StaysFound-begun item c.args.page.now c.begin_command.new.page (c.begin_command.ensures (amount c.args.n))
+          c.carry_out_usual_command.new.page c.run_fill.new.page acts.0 c.run_fill.result c.run_fill.ensures.still,
     )
 
 pub returns-in-Ok-Page : goal.returns-in-Ok-Page

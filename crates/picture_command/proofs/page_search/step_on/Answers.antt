@@ -21,6 +21,8 @@ returns-in-Err-Found-clause-steps g c =
     subst
     (CarriesOn (λ before event behind. behind ≡ counted event before) (λ before event behind. ⊥)
     (item_of c.args.machine.now (view c.args.item.now)) false c.args.counts.now c.step.new.sink c.args.machine.now c.step.new.self)
-    is c.step.ensures in
-    has_run c.args.counts.now c.step.new.sink (item_of c.args.machine.now (view c.args.item.now)).run
-    (λ panel. Halts c.in-Err-Found.finding) carried.2
+    is c.step.ensures in (
+      has_run c.args.counts.now c.step.new.sink (item_of c.args.machine.now (view c.args.item.now)).run
+          (λ panel. Halts c.in-Err-Found.finding) carried.2,
+      carried.3,
+    )

@@ -7,7 +7,8 @@ use Rattle.streams.specs.declared.error.Error.TheVariants.{Memory, Read, Turns}
 use Rattle.preflight.specs.Culprit.{IsTold}
 use Rattle.preflight.specs.Where.{IsOnPage}
 use Rattle.preflight.specs.Verdict.{IsExact, VerdictHolds}
-use Rattle.preflight.proofs.Judging.{exact, headline, known_ok, needed, never_items, never_write, paged, still_open, told, was_open}
+use Rattle.preflight.proofs.Judging.{asked, exact, headline, known_ok, needed, never_items, never_write, paged, placed, still_open, told}
+use Rattle.preflight.proofs.Judging.{was_open}
 use Rattle.preflight.proofs.check.check_job_telling.Goals as goal
 
 same_error : (a b : Error) (x y : Result Judgement Error) → x ≡ Err a → y ≡ Err b → x ≡ y → a ≡ b
@@ -71,6 +72,16 @@ pub returns-clause-known_paged : goal.returns-clause-known_paged
 returns-clause-known_paged g c =
     known_ok _ _ (λ job verdict. IsOnPage c.args.fleet.now job verdict c.page.result) (Ok c.in_ok-verdict.verdict)
     (returns-clause-paged g c)
+
+pub returns-clause-placed : goal.returns-clause-placed
+returns-clause-placed g c =
+    placed c.args.fleet.now (c.in_ok-session.session, tt) (c.read_job.new.consumer, tt) c.in_ok-session.ensures.none _ _
+    (Ok c.in_ok-verdict.verdict) c.in_ok-verdict.ensures.answered c.cursor.result c.cursor.ensures
+
+pub returns-clause-asked : goal.returns-clause-asked
+returns-clause-asked g c =
+    asked c.args.fleet.now (c.in_ok-session.session, tt) (c.read_job.new.consumer, tt) c.in_ok-session.ensures.none _ _
+    (Ok c.in_ok-verdict.verdict) c.in_ok-verdict.ensures.answered c.font.result c.font.ensures
 
 pub returns-clause-needed : goal.returns-clause-needed
 returns-clause-needed g c =

@@ -1,16 +1,17 @@
 use Rattle.std.proofs.Common.{◌≡◌, false, ◌+◌, ℕ, List, [], drop, get_or, set, map, Option, None, Some, refl, sym, ap, subst, ◌∙◌, arith}
 use Rattle.std.specs.Option.{option_or}
 use Rattle.std.specs.Bool.{then_some}
+use Rattle.std.proofs.lemmas.List.{drop-set}
 use Rattle.page_machine.specs.Event.{Event, TakesAll}
 use Rattle.sinks.specs.Owned.{event_of}
 use Rattle.sinks.specs.Comparer.{Comparison, Compares}
 use Rattle.sinks.specs.Counts.{pages_after}
 use Rattle.sinks.specs.declared.counts.Counts.{Counts}
 use Rattle.verdict.specs.declared.failure.Failure.{Failure}
-use Rattle.preflight.specs.Carriers.Lockstep.{action_of, ModeAdmits, PagesAt, WrongFrom}
+use Rattle.preflight.specs.Carriers.Lockstep.{action_of, ModeAdmits, PagesAt, StopsAt, WrongFrom}
 use Rattle.sinks.proofs.Recording.{differs_exactly, TakesAll-paged}
 use Rattle.preflight.proofs.Executing.{SoFar, none_so_far, next_is, all_there, so_far_more, stops_so_far, all_so_far, other_so_far}
-use Rattle.preflight.proofs.Executing.{was_running, does_by, fails_by, differ_of, finds_there}
+use Rattle.preflight.proofs.Executing.{was_running, does_by, fails_by, differ_of, finds_there, stops_there}
 use Rattle.preflight.specs.Standing.{is_open}
 use Rattle.preflight.proofs.Standings.{failed_by, open_by, open_is}
 use Rattle.preflight.proofs.lockstep.execute_by_others.Goals.{then-differs, else-differs}
@@ -93,7 +94,7 @@ returns-then-not-judge-clause-came g c =
     fails_by Compares never (action_of c.args.task.now) _ c.execute_by-answer.new.sink machine c.execute_by-answer.new.machine _
     c.args.place (c.loop-index.index + 2) c.execute_by-answer.result c.judge.new.self c.judge.ensures.standing
     (sym c.judge.ensures.open ∙ c.if-not-judge.true) c.execute_by-answer.ensures
-    (λ finding finds leads. (
+    (λ finding finds leads stopped. (
       (
         refl,
         stops_so_far (action_of c.args.task.now) c.args.place events [] c.loop-index.index c.loop-index.first_other c.args.others.now
@@ -109,6 +110,15 @@ returns-then-not-judge-clause-came g c =
           (c.pages-counts.ensures
           ∙ TakesAll-paged c.new-comparer.result c.execute_by-answer.new.sink finds.events leads
           ∙ ap (λ (k : Comparison). pages_after finds.events k.pages) c.new-comparer.ensures),
+      stops_there (action_of c.args.task.now) 2 c.loop-index.index c.args.others.now
+          (set c.loop-index.others c.loop-index.index c.execute_by-answer.new.machine) machine c.execute_by-answer.new.machine
+          (drop (c.loop-index.index + 1) c.args.others.now) (drop (c.loop-index.index + 1) c.loop-index.others)
+          (next_is (action_of c.args.task.now) c.args.place events [] c.loop-index.index c.loop-index.first_other c.args.others.now
+          c.loop-index.others c.index-others-index.result machine c.loop-index.invariant.so_far
+          (omega (arith, c.loop-index-test.true, c.loop-index.auto.others)))
+          (drop-set c.loop-index.others c.loop-index.index c.execute_by-answer.new.machine
+          (omega (arith, c.loop-index-test.true, c.loop-index.auto.others)))
+          stopped,
     ))
 
 pub returns-in-Some-clause-came : goal.returns-in-Some-clause-came
@@ -124,9 +134,10 @@ returns-in-Some-clause-came g c =
     (λ (failure : Failure).
     ((failure.place ≡ c.args.place) × WrongFrom (action_of c.args.task.now) events 2 c.args.others.now failure.profile failure.reason)
     × PagesAt (action_of c.args.task.now) c.args.counts.now.pages c.loop-index.counts.pages 2 c.args.others.now failure.profile
-    failure.reason)
+    failure.reason
+    × StopsAt (action_of c.args.task.now) 2 c.args.others.now c.loop-index.others failure.profile failure.reason)
     (sym c.of_difference.ensures)
-    ((refl, differs), ap (λ (k : Counts). k.pages) c.loop-index.invariant.uncounted))
+    ((refl, differs), ap (λ (k : Counts). k.pages) c.loop-index.invariant.uncounted, tt))
 
 pub returns-in-None-clause-came : goal.returns-in-None-clause-came
 returns-in-None-clause-came g c =
@@ -138,6 +149,7 @@ returns-in-None-clause-came g c =
           (map event_of c.args.events.now) c.loop-index.index o c.args.others.now c.loop-index.others)
           c.in-None.is c.loop-index.invariant.so_far)
           (omega (arith, c.loop-index-test.false, c.loop-index.auto.others)),
+      tt,
       tt,
     )
 

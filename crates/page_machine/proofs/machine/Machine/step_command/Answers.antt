@@ -10,9 +10,11 @@ use Rattle.page_machine.specs.MachineState.{MachineState}
 use Rattle.page_machine.specs.Macros.{in_job}
 use Rattle.page_machine.specs.Machine.{CarriesOn, context_of, item_of}
 use Rattle.page_machine.specs.Defining.{is_defining}
+use Rattle.page_machine.specs.Still.{is_one_step}
 use Rattle.page_machine.proofs.Answering.{alone, item-is_alone, Carries-is, Carries-done, Carries-halted, CarriesOn-done, CarriesOn-stopped}
 use Rattle.page_machine.proofs.AtOnce.{begins_again, item-has_begun, CarriesOn-begun}
 use Rattle.page_machine.proofs.Modes.{command_leaves}
+use Rattle.page_machine.proofs.Still.{halt_stays, page_steps}
 use Rattle.page_machine.proofs.machine.Machine.step_command.Goals as goal
 
 pub store_command-requires-clause-admitted : goal.store_command-requires-clause-admitted
@@ -66,6 +68,8 @@ returns-in-Ended-Err g c =
     rw c.stop_of.ensures
     (CarriesOn-stopped g.S.MarkSink.takes g.S.MarkSink.refuses _ (λ machine. item_of machine item) false _ _ fields c.args.self.now
     c.self.view_is c.if-self.false c.run_command.new.page fields.macros _ refl after _ refl
+    (halt_stays (item_of fields item) fields after refl c.in-Ended-Err.halt
+    (rw c.in-Ended-Err.field-0-is at c.in-Ended-Err.ensures.2))
     (Carries-is _ _ _ _ _ _ (alone item fields) _ _ _ (item-is_alone item fields open_is c.in-Ended-Err.ensures.0)
     (Carries-halted _ _ _ _ _ _ (alone item fields) _ _
     (rw c.in-Ended-Err.field-0-is at c.in-Ended-Err.ensures.1 (λ panel. in_job (context_of fields panel))))))
@@ -100,7 +104,8 @@ returns-in-Left g c =
     (item_of machine item) false c.args.sink.now c.step_page_item.new.sink machine c.step_page_item.new.self c.step_page_item.result)
     c.self.view_is
     (CarriesOn-begun g.S.MarkSink.takes g.S.MarkSink.refuses g.row.S-Fault.Denot c.args.sink.now c.step_page_item.new.sink item fields
-    c.step_page_item.new.self c.run_command.new.page c.if-self.false c.step_page_item.result
+    c.step_page_item.new.self c.run_command.new.page c.if-self.false
+    (ap is_one_step c.in-Left.ensures.0 ∙ page_steps c.in-Left.item) c.step_page_item.result
     (item-has_begun item fields.page c.run_command.new.page c.in-Left.ensures.2 fields.printer fields.defaults fields.macros open_is)
     (subst
     (λ entry. CarriesOn {F = g.row.S-Fault.Denot} g.S.MarkSink.takes g.S.MarkSink.refuses

@@ -8,6 +8,7 @@ use Rattle.pcl_items.specs.Items.{Entry}
 use Rattle.page_machine.specs.MachineState.{MachineState}
 use Rattle.page_machine.specs.Machine.{fields_of, item_of}
 use Rattle.page_machine.proofs.Answering.{Carries-is, CarriesOn-done, CarriesOn-stopped}
+use Rattle.page_machine.proofs.Still.{many_steps, page_steps}
 use Rattle.page_machine.proofs.machine.Machine.step_page_item.Goals as goal
 
 pub run_page_item-requires-clause-begun : goal.run_page_item-requires-clause-begun
@@ -56,5 +57,6 @@ returns-in-Err g c =
     CarriesOn-stopped g.S.MarkSink.takes g.S.MarkSink.refuses _ (λ machine. item_of machine item) false _ _ fields c.args.self.now
     c.self.view_is (ap (λ machine. machine.stopped) c.self.view_is ∙ c.requires.running) c.run_page_item.new.page
     c.run_page_item.new.macros _ refl after _ refl
+    (many_steps (item_of fields item) fields after refl c.in-Err.stop (page_steps c.args.item))
     (Carries-is _ _ _ _ _ _ (item_of (fields_of fields.printer fields.defaults fields.page fields.macros) item) _ (item_of fields item) _
     ((λ panel. refl), refl, refl) c.in-Err.ensures.carries)

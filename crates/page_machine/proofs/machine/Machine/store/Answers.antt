@@ -6,6 +6,7 @@ use Rattle.page_machine.specs.MachineState.{MachineState}
 use Rattle.page_machine.specs.Machine.{item_of}
 use Rattle.page_machine.proofs.Answering.{item-is_stored, Carries-is, Carries-defines, CarriesOn-done, CarriesOn-stopped}
 use Rattle.page_machine.proofs.Modes.{admits_next}
+use Rattle.page_machine.proofs.Still.{page_stays}
 use Rattle.page_machine.proofs.machine.Machine.store.Goals as goal
 
 pub define-requires : goal.define-requires
@@ -59,6 +60,7 @@ returns-in-Err g c = λ sink.
     let after : MachineState = record fields { macros = c.define.new.macros; stopped = true } in
     CarriesOn-stopped g.S.MarkSink.takes g.S.MarkSink.refuses _ (λ machine. item_of machine item) false sink sink fields c.args.self.now
     c.self.view_is (ap (λ machine. machine.stopped) c.self.view_is ∙ c.requires.running) fields.page c.define.new.macros _ refl after _ refl
+    (page_stays (item_of fields item) fields after refl c.in-Err.stop refl)
     (Carries-is _ _ g.row.S-Fault.Denot _ _ _ _ _ _ _ (item-is_stored item fields open_is)
     (Carries-defines g.S.MarkSink.takes g.S.MarkSink.refuses _ sink fields.page item fields.macros c.define.new.macros _
     c.in-Err.ensures.defines))

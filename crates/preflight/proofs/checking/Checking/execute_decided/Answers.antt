@@ -3,7 +3,7 @@ use Rattle.pcl_lexer.specs.Lexing.Meaning.{given}
 use Rattle.pcl_lexer.specs.Reading.{left}
 use Rattle.preflight.specs.Standing.{is_open}
 use Rattle.preflight.specs.Carriers.Checking.{FailsBy}
-use Rattle.preflight.specs.Carriers.Lockstep.{counts_of}
+use Rattle.preflight.specs.Carriers.Lockstep.{counts_of, machines_of}
 use Rattle.preflight.proofs.Answered.{all_admit_next, bytes_fail, bytes_whole, ends, fault_paged, item_takes, nothing_read, same_mode}
 use Rattle.preflight.proofs.Answered.{wants_more}
 use Rattle.preflight.proofs.Loops.{answered, decided_closed, goes_behind, goes_here, goes_none, goes_open, item_behind, may_again}
@@ -251,13 +251,16 @@ returns-in-Err g c =
     let untold = behind.untold ∙ c.requires.untold in
     record {
       came = failed_by _ _ _ c.fail.ensures.standing (λ fleet bytes executed job may_be.
-          subst (λ failure. FailsBy fleet job failure c.execute_pcl.new.self.culprit (counts_of c.execute_pcl.new.self.machines))
+          subst
+          (λ failure. FailsBy fleet job failure c.execute_pcl.new.self.culprit (counts_of c.execute_pcl.new.self.machines)
+          (machines_of c.execute_pcl.new.self.machines))
           (sym c.of_fault.ensures) (
             bytes_fail _ _ _ next c.in-Err.fault c.in-Err.is c.watched_runs_are_alike.ensures fleet bytes _ _ _ behind.further.ended
                 (behind.through.executed fleet bytes executed) job may_be,
             untold,
             fault_paged _ _ _ next c.in-Err.fault c.in-Err.is fleet bytes _ _ _ behind.further.ended
                 (behind.through.executed fleet bytes executed) job may_be,
+            tt,
           ));
       tells = c.fail.ensures.closed ∙ sym (ap is_open c.fail.ensures.standing);
       untold = λ is. absurd (both is c.fail.ensures.closed);

@@ -8,6 +8,7 @@ use Rattle.preflight.specs.Standing.{StandsBy}
 use Rattle.preflight.specs.Carriers.Formation.{others_in, IsFormed}
 use Rattle.verdict.specs.declared.failure.Failure.{Failure}
 use Rattle.preflight.specs.Carriers.Lockstep.{action_of, AllAdmit, AreRunning, Compared, CountsPages, FindsAt, Fleet, FoundFrom, GoesInStep}
+use Rattle.preflight.specs.Carriers.Lockstep.{StopsFor, StopsThere}
 use Rattle.preflight.proofs.Executing.{does_by, fails_by, pages_recorded, parted, step_recorded, was_running, written_back}
 use Rattle.preflight.proofs.Standings.{closed_on, open_is, open_on}
 use Rattle.preflight.proofs.lockstep.Lockstep.execute_on_each.Goals as goal
@@ -36,10 +37,12 @@ returns-then-not-judge-clause-came g c =
     let action = action_of c.args.task.now in
     let begun : Recorded = record { events = []; counts = c.self.inside.counts } in
     let counts = c.counts-self-inside.result in
+    let others = c.self.inside.others in
+    let parts : List MachineState = take others.len (c.part.new.others ++ drop (length c.part.new.others) others.items) in
     fails_by recorder_takes recorder_refuses action _ _ c.self.inside.first c.execute_by-answer.new.machine _
     c.args.place 1 c.execute_by-answer.result c.judge.new.self c.judge.ensures.standing
     (sym c.judge.ensures.open ∙ c.if-not-judge.true) c.execute_by-answer.ensures
-    (λ finding finds leads. (
+    (λ finding finds leads stopped. (
       refl,
       subst (λ (f : Fleet). FoundFrom action finding 1 1 f.machines) c.self.view_is (inl (refl, finds)),
       subst (λ (f : Fleet). FindsAt action finding f.counts.pages counts.pages 1 1 f.machines) c.self.view_is (inl (
@@ -50,6 +53,8 @@ returns-then-not-judge-clause-came g c =
               c.counts-self-inside.ensures,
         ),
       )),
+      subst (λ (f : Fleet). StopsThere action 1 1 f.machines (c.execute_by-answer.new.machine ∷ parts)) c.self.view_is
+          (inl (refl, stopped)),
     ))
 
 pub execute_by_others-requires-clause-running : goal.execute_by_others-requires-clause-running
@@ -108,7 +113,7 @@ returns-then-not-execute_by_others-clause-came g c =
     c.self.view_is
     (closed_on
     (λ failed. Compared action c.args.place events 2 lent others failed
-    × CountsPages action before.counts.pages counts.pages 2 lent failed)
+    × CountsPages action before.counts.pages counts.pages 2 lent failed × StopsFor action 2 lent others failed)
     (GoesInStep action c.args.place (before.first ∷ stood) (first ∷ take n (others ++ drop (length others) items)) before.counts counts)
     c.execute_by_others.new.standing (sym c.execute_by_others.ensures.open ∙ c.if-not-execute_by_others.true)
     (λ failure compared.
@@ -118,6 +123,7 @@ returns-then-not-execute_by_others-clause-came g c =
     c.restart.ensures did.1 did.2 c.events-events.ensures
     (subst (λ xs. Compared action c.args.place events 2 xs others fails) stand compared.0)
     (subst (λ xs. CountsPages action before.counts.pages counts.pages 2 xs fails) stand compared.1)
+    (subst (λ xs. StopsFor action 2 xs others fails) stand compared.2)
     (λ none. absurd cc)))
     c.execute_by_others.ensures.came)
 
@@ -154,12 +160,12 @@ returns-clause-came g c =
     c.self.view_is
     (open_on
     (λ failed. Compared action c.args.place events 2 lent others failed
-    × CountsPages action before.counts.pages c.execute_by_others.new.counts.pages 2 lent failed)
+    × CountsPages action before.counts.pages c.execute_by_others.new.counts.pages 2 lent failed × StopsFor action 2 lent others failed)
     (GoesInStep action c.args.place (before.first ∷ stood) (first ∷ take n (others ++ drop (length others) items)) before.counts counts)
     c.execute_by_others.new.standing (sym c.execute_by_others.ensures.open ∙ c.if-not-execute_by_others.false)
     (λ compared.
     subst (λ xs. GoesInStep action c.args.place (before.first ∷ stood) (first ∷ xs) before.counts counts none) (sym whole)
     (step_recorded action c.args.place before.first first stood others begun c.restart.new.self after did.0 _ counts none
     c.restart.ensures did.1 did.2 c.events-events.ensures
-    (subst (λ xs. Compared action c.args.place events 2 xs others none) stand compared.0) tt (λ same. c.counts-self-inside-2.ensures)))
+    (subst (λ xs. Compared action c.args.place events 2 xs others none) stand compared.0) tt tt (λ same. c.counts-self-inside-2.ensures)))
     c.execute_by_others.ensures.came)

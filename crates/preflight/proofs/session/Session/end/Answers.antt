@@ -2,7 +2,7 @@ use Rattle.std.proofs.Common.{ℕ, List}
 use Rattle.std.proofs.lemmas.Result.{IfOk-weaker}
 use Rattle.device_profile.specs.Printer.{Printer}
 use Rattle.preflight.specs.Session.{HasChecked}
-use Rattle.preflight.specs.Culprit.{IsJudgementOn}
+use Rattle.preflight.specs.Judgement.{IsJudgementOn}
 use Rattle.preflight.specs.Where.{page_with}
 use Rattle.preflight.specs.Verdict.{IsExact, VerdictHolds}
 use Rattle.preflight.proofs.session.Session.end.Goals as goal
@@ -11,7 +11,7 @@ pub returns-clause-exact : goal.returns-clause-exact
 returns-clause-exact g c =
     IfOk-weaker c.verdict.result (λ verdict.
     (fleet : List Printer) (bytes : List ℕ) → HasChecked fleet bytes c.args.self →
-    IsJudgementOn fleet bytes verdict c.verdict.new.self.culprit (page_with verdict c.verdict.new.self.counts))
+    IsJudgementOn fleet bytes verdict c.verdict.new.self.culprit (page_with verdict c.verdict.new.self.counts) c.verdict.new.self.machines)
     (λ verdict. (fleet : List Printer) (bytes : List ℕ) → HasChecked fleet bytes c.args.self → IsExact fleet bytes verdict)
     (λ verdict ended fleet bytes checked. (ended fleet bytes checked).0) c.verdict.ensures.ended
 
@@ -19,7 +19,7 @@ pub returns-clause-headline : goal.returns-clause-headline
 returns-clause-headline g c =
     IfOk-weaker c.verdict.result (λ verdict.
     (fleet : List Printer) (bytes : List ℕ) → HasChecked fleet bytes c.args.self →
-    IsJudgementOn fleet bytes verdict c.verdict.new.self.culprit (page_with verdict c.verdict.new.self.counts))
+    IsJudgementOn fleet bytes verdict c.verdict.new.self.culprit (page_with verdict c.verdict.new.self.counts) c.verdict.new.self.machines)
     (λ verdict. (fleet : List Printer) (bytes : List ℕ) → HasChecked fleet bytes c.args.self → VerdictHolds fleet bytes verdict)
     (λ verdict ended fleet bytes checked. (ended fleet bytes checked).1) c.verdict.ensures.ended
 

@@ -75,7 +75,7 @@ returns g c = λ first bytes goes.
           (λ fleet base executed.
           subst
           (λ ended. (job : List ℕ) → MayBe ended (base ++ piece) job →
-          FailsBy fleet job judged.0 new.culprit (counts_of new.machines))
+          FailsBy fleet job judged.0 new.culprit (counts_of new.machines) (machines_of new.machines))
           not_ended
           (judged.2 fleet (base ++ piece)
           (executed_fed fleet base piece here.lexer c.feed.new.self (machines_of here.machines)
