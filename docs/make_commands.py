@@ -273,13 +273,13 @@ def commands(tree: Tree) -> str:
         cells = (spelled, values_of(tree, text), words, reads,
                  findings_of(tree, kind, text, reads))
         file = known[own[0]].file if own else "Effect"
-        by_file[file].append(f"| {' | '.join(cells)} |")
+        by_file[file].append(" | ".join(cells).rstrip(" |"))
     if bytes_of:
         raise Unreadable(f"{TABLE} has no line of `{min(bytes_of)}`")
-    rows = ["| Bytes | Values | What it does | Reads | Findings |", "|---|---|---|---|---|"]
+    rows = ["Bytes | Values | What it does | Reads | Findings", "---|---|---|---|---"]
     for file, lines in by_file.items():
         linked = f"[{file}](../{SPECS}/{file}.antt)"
-        rows += [f"| {linked} | | *{CHAPTERS[file]}* | | |", *lines]
+        rows += [f"{linked} | | *{CHAPTERS[file]}*", *lines]
     return "\n".join(rows)
 
 
@@ -289,11 +289,12 @@ def controls(tree: Tree) -> str:
     says = {name: told for told, name in
             re.findall(r"/// [\d and]+: (.*)\n    (\w+),", tree.block(MACROS, "pub enum Control"))}
     specs = tree.text(f"{SPECS}/Macros.antt")
-    rows = ["| Value | Control | What it does | Findings |", "|---|---|---|---|"]
+    rows = ["Value | Control | What it does | Findings", "---|---|---|---"]
     for value, control in values:
         checks = re.search(rf"^control_checks .*\(Some {control}\) =(.*)", specs, re.MULTILINE)[1]
         found = findings_of(tree, "", checks, "")
-        rows.append(f"| {value.replace(' |', ',')} | {control} | {says[control]} | {found} |")
+        cells = (value.replace(" |", ","), control, says[control], found)
+        rows.append(" | ".join(cells).rstrip(" |"))
     return "\n".join(rows)
 
 

@@ -41,8 +41,8 @@ def options_of_check(tree: Tree) -> Optional[str]:
     if tree.program is None:
         return None
     options = commands(tree.program)["check"].options
-    rows = [f"| `{words}` | {about} |" for words, about in options.items() if words != HELP]
-    return "\n".join(["| Option | What it does |", "|---|---|", *rows])
+    rows = [f"`{words}` | {about}" for words, about in options.items() if words != HELP]
+    return "\n".join(["Option | What it does", "---|---", *rows])
 
 
 def synopsis(tree: Tree) -> Optional[str]:

@@ -260,11 +260,11 @@ def edits(tree: Tree) -> str:
     if not (tree.root / CAME).is_file():
         return f"{head} What comes of them without their clause is to be tried."
     came = {edit: said for edit, said in lines_by_edit(tree.text(CAME)) if edit in known}
-    rows = [f"`{crate}` | {' | '.join(map(str, edits_of(crate, known, came)))}"
-            for crate in sorted(crates)]
-    told = "[edit_outcomes.txt](edit_outcomes.txt) has what came of each without its clause:"
-    table = "\n".join(["Crate | Edits | Prove | Refused still", "---|---|---|---", *rows])
-    return f"{head} {told}\n\n{table}"
+    counts = [f"`{crate}` {'/'.join(map(str, edits_of(crate, known, came)))}"
+              for crate in sorted(crates)]
+    told = ("[edit_outcomes.txt](edit_outcomes.txt) has what came of each without its clause. "
+            "By crate, all / those that prove then / those refused still:")
+    return f"{head} {told} {', '.join(counts)}."
 
 
 MAKERS = {
