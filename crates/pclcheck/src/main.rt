@@ -151,7 +151,7 @@ fn fulfil_words<R: Files + Input + Print + AllocGlobal, O: Outlet, E: Outlet>(
     let mut used = FilesUsed::new();
     let status = fulfil(rt, &asked.request, &mut used, stdout, stderr);
     match asked.form {
-        Form::Words => tell_in_words(rt, &asked.request, status, stderr),
+        Form::Words => tell_in_words(rt, &asked.request, status, stdout.has_failed(), stderr),
         Form::Line | Form::Json => tell(status, stderr),
     }
     status
