@@ -245,11 +245,19 @@ fn refused_sentence(
 
 // ---- what was probably meant
 
-/// The jobs of a request that are profiles, by their names and their first bytes.
+/// What stands behind the name of a profile that is a job or a fleet of a check of many jobs.
+const FOR_PRINTERS: &[u8] = b"this is a profile, and -p takes it\n";
+
+/// The jobs and the fleets of a request that are profiles, and the printers that are fleets, by
+/// their names and their first bytes.
 fn hint<R: Files + AllocGlobal>(rt: &R, request: &Request<'_>) -> Option<Vec<u8>> {
     let mut text = Vec::new(rt.alloc());
     match request {
-        Request::CheckMany(many) => push_profiles(rt, &mut text, many.jobs.as_slice())?,
+        Request::CheckMany(many) => {
+            push_profiles(rt, &mut text, many.jobs.as_slice())?;
+            push_profiles_of(rt, &mut text, many.fleets.as_slice())?;
+            push_fleets(rt, &mut text, many.printers.as_slice())?;
+        }
         _ => {
             let why = b"this is a profile, and JOB stands before PROFILE\n";
             push_profile(rt, &mut text, job_of(request)?.as_bytes(), why)?;
@@ -261,7 +269,35 @@ fn hint<R: Files + AllocGlobal>(rt: &R, request: &Request<'_>) -> Option<Vec<u8>
 /// Appends which of these jobs are profiles.
 fn push_profiles<R: Files + AllocGlobal>(rt: &R, text: &mut Vec<u8>, jobs: &[&[u8]]) -> Option<()> {
     for job in jobs {
-        push_profile(rt, text, job, b"this is a profile, and -p takes it\n")?;
+        push_profile(rt, text, job, FOR_PRINTERS)?;
+    }
+    Some(())
+}
+
+/// Appends which of these fleets are profiles.
+fn push_profiles_of<R: Files + AllocGlobal>(
+    rt: &R,
+    text: &mut Vec<u8>,
+    fleets: &[&str],
+) -> Option<()> {
+    for fleet in fleets {
+        push_profile(rt, text, fleet.as_bytes(), FOR_PRINTERS)?;
+    }
+    Some(())
+}
+
+/// Appends which of these printers are fleets.
+fn push_fleets<R: Files + AllocGlobal>(
+    rt: &R,
+    text: &mut Vec<u8>,
+    printers: &[&str],
+) -> Option<()> {
+    for printer in printers {
+        if is_fleet(rt, printer.as_bytes()) {
+            push_named_first(rt.alloc(), text, printer.as_bytes()).ok()?;
+            text.extend_from_slice(b"this is a fleet, and -f takes it\n")
+                .ok()?;
+        }
     }
     Some(())
 }
@@ -280,17 +316,28 @@ fn push_profile<R: Files + AllocGlobal>(
     text.extend_from_slice(why).ok()
 }
 
-/// Whether a job is named as profiles are, and begins as one.
-fn is_profile<R: Files + AllocGlobal>(rt: &R, job: &[u8]) -> bool {
-    let Ok(path) = str::from_utf8(job) else {
-        return false;
+/// Whether a word is named as profiles are, and its file begins as one.
+fn is_profile<R: Files + AllocGlobal>(rt: &R, word: &[u8]) -> bool {
+    matches!(begins_as_profile(rt, word, ".profile"), Some(true))
+}
+
+/// Whether a word is named as fleets are, and its file begins as no profile.
+fn is_fleet<R: Files + AllocGlobal>(rt: &R, word: &[u8]) -> bool {
+    matches!(begins_as_profile(rt, word, ".fleet"), Some(false))
+}
+
+/// Whether the file of a word that ends so begins as a profile; nothing where it does not end so,
+/// or cannot be read.
+fn begins_as_profile<R: Files + AllocGlobal>(rt: &R, word: &[u8], ending: &str) -> Option<bool> {
+    let Ok(path) = str::from_utf8(word) else {
+        return None;
     };
-    if !path.ends_with(".profile") || is_input(job) || is_pipe(rt, job) {
-        return false;
+    if !path.ends_with(ending) || is_input(word) || is_pipe(rt, word) {
+        return None;
     }
     let mut file = FileSource::new(rt, path);
     match read_front(rt.alloc(), &mut file, FRONT_OF_PROFILE.len()) {
-        Ok(front) => front.as_slice() == FRONT_OF_PROFILE,
-        Err(_) => false,
+        Ok(front) => Some(front.as_slice() == FRONT_OF_PROFILE),
+        Err(_) => None,
     }
 }
