@@ -198,13 +198,37 @@ fn request_of<'a>(
         return picture_request(alloc, found);
     }
     if let Some(found) = matches.subcommand_matches("explain") {
-        let code = found.get_str("CODE");
+        let code = code_asked(found);
         return Ok(Some(Request::Explain { code }));
     }
     if let Some(found) = matches.subcommand_matches("profile") {
         return Ok(profile_request(alloc, found)?);
     }
     Ok(text_request(matches))
+}
+
+/// The code that is to be explained, where there is one.
+fn code_asked<'a>(found: &ArgMatches<'a>) -> Option<&'a str> {
+    let word = found.get_str("CODE")?;
+    Some(without_brackets(word))
+}
+
+/// The name of a finding without what a line of a check has behind it in brackets; other words as
+/// they are.
+fn without_brackets(word: &str) -> &str {
+    match word.split_once('(') {
+        Some((name, rest)) if has_letters_alone(name) && rest.ends_with(')') => name,
+        _ => word,
+    }
+}
+
+/// Whether a text has letters, and nothing else.
+fn has_letters_alone(text: &str) -> bool {
+    !text.is_empty()
+        && text
+            .as_bytes()
+            .iter()
+            .all(|byte| byte.is_ascii_alphabetic())
 }
 
 /// Writes help in short where `-h` asked for it, or else what `clap` answers.
