@@ -24,7 +24,8 @@ the cursor was before the item that failed. Below the sheet stands the sentence 
 'check --format words'.
 
 The panel is at the first value that the profile lists of each field, or at the value that --panel
-names, as in --panel size=26,vmi=6,lineterm=2.
+names, as in --panel size=26,vmi=6,lineterm=2; size and orientation take names, too, as a4 and
+landscape.
 
 JOB is read twice, so it has to be a file. Of a page that it does not have standard error is told.
 

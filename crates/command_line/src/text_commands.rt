@@ -78,7 +78,8 @@ values itself, so its macros may be longer than those of JOB and need more of th
 memory: check what was written.
 
 The fields are size, orientation, vmi, font, copies, sides, tray and lineterm, each with a value that
-the profile lists, as in --panel size=26,vmi=6,lineterm=2.
+the profile lists, as in --panel size=26,vmi=6,lineterm=2. Size and orientation take names, too, as in
+--panel size=a4,orientation=landscape.
 
 Once JOB is open the text is written beside OUT, and takes the place of OUT when it is whole: after an
 error OUT is as it was. A device or a pipe is written itself. An OUT that is JOB or PROFILE, under
