@@ -19,6 +19,13 @@ use std::alloc::Global;
 use std::convert::AsStr;
 use streams::{Error, Outlet, write_text};
 
+/// What `clap` tells where a command does not take the option for the form.
+const FORM_REFUSED: &str = "unexpected argument '--format' found";
+
+/// Where that option stands.
+const FORM_BEFORE: &str =
+    "\n--format stands before the command, as in 'pclcheck --format words list JOB'.\n";
+
 /// What the words ask for.
 #[derive(Drop)]
 pub struct Asked<'a> {
@@ -294,7 +301,7 @@ fn refuse<O: Outlet, E: Outlet>(
     if error.kind() == ErrorKind::OutOfMemory {
         return Status::Stopped(Error::Memory);
     }
-    let Ok(text) = format!(in alloc; "{error}") else {
+    let Some(text) = text_of(alloc, error) else {
         return Status::Stopped(Error::Memory);
     };
     if error.use_stderr() {
@@ -304,4 +311,14 @@ fn refuse<O: Outlet, E: Outlet>(
         Ok(()) => Status::Help,
         Err(_) => Status::Stopped(Error::Write),
     }
+}
+
+/// What `clap` tells, and behind it where the option for the form stands, if a command refuses it;
+/// nothing where there is no memory for it.
+fn text_of(alloc: Global, error: &clap::Error) -> Option<String> {
+    let mut text = format!(in alloc; "{error}").ok()?;
+    if text.as_str().contains(FORM_REFUSED) {
+        text.push_str(FORM_BEFORE).ok()?;
+    }
+    Some(text)
 }
