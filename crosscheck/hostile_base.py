@@ -18,7 +18,7 @@ SECONDS = 60
 READ, WRITE, MEMORY = b"ERROR read\n", b"ERROR write\n", b"ERROR memory\n"
 STOPPED = 3
 # A file that is written beside OUT, and the first of these in a folder.
-BESIDE = re.compile(r"\.pclcheck-\d+\.out")
+BESIDE = re.compile(r"\.pclcheck-(\d+|tried)\.out")
 FIRST_BESIDE = ".pclcheck-0.out"
 # The commands that are tried; those that write their text on standard output, those that take a
 # PROFILE, and those that write to OUT.

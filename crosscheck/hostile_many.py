@@ -127,6 +127,9 @@ def streams(tries: Tries) -> None:
     tries.try_("both closed", ASKED, Due((STOPPED,)), setup=closing((1, 2)))
     with open("/dev/full", "wb") as full:
         tries.try_("output full", ASKED, failed, stdout=full)
+        line = b"standard output cannot be written (ERROR write)\n"
+        tries.try_("output full, in words", [*ASKED, "--format=words"],
+                   replace(failed, errors=exactly(line)), stdout=full)
         refused = ["check", "-p", "good", "good"]
         tries.try_("errors full, a bad profile", refused, Due((2,)), stderr=full)
     for job in ("good", "bad"):

@@ -241,7 +241,10 @@ def writes_that_fail_late(tries: Tries, shim: Shim) -> None:
                 target, due = FIRST_BESIDE, stopped_by(WRITE)
             shim.try_(f"{command}, {count} bytes go", asked(command, "long"), due,
                       write=target, at=count, errno=errno.ENOSPC)
+    told = stopped_by(b"out: this file cannot be written (ERROR write)\n")
     for command in WITH_OUT:
+        shim.try_(f"{command}, in words", ["--format=words", *asked(command, "long")], told,
+                  write=FIRST_BESIDE, at=0, errno=errno.ENOSPC)
         answer = whole(command, BAD)
         due = stopped_by(WRITE, front_of_length(answer.output, 9, 9))
         shim.try_(f"{command}, the line of a fault", asked(command, "bad"), due,

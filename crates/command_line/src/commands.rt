@@ -15,7 +15,7 @@ use std::convert::AsStr;
 const VERSION: &str = "0.1.0";
 
 const EXPLAIN_EXPLANATION: &str =
-    "CODE is a number, or a name without what stands behind it in brackets, in any letter case.
+    "CODE is a number, or a name in any letter case; what stands behind it in brackets may come, too.
 
 Exit status:
   0  an explanation was written, or help was asked for

@@ -2,6 +2,7 @@
 
 use clap::ArgMatches;
 use device_profile::Field;
+use printer_models::Paper;
 use requests::Choice;
 use std::alloc::{AllocError, Global};
 use thiserror::Error;
@@ -13,7 +14,7 @@ pub enum ChoiceFault<'a> {
     Form(&'a str),
     #[error("--panel: there is no field '{0}'; the fields are size, orientation, vmi, font, copies, sides, tray and lineterm")]
     Field(&'a str),
-    #[error("--panel: '{0}' has no whole number, or for vmi none with up to four decimals")]
+    #[error("--panel: '{0}' has no whole number, or for vmi none with up to four decimals; size and orientation take names as well, as a4 and landscape, and 'pclcheck profile show' has the numbers")]
     Value(&'a str),
     #[error("--panel: '{0}' chooses for a field that was chosen for")]
     Repeated(&'a str),
@@ -66,12 +67,32 @@ fn field_of(name: &str) -> Option<Field> {
         .find(|field| field.key() == name.as_bytes())
 }
 
-/// The value of a field, as a profile's text has it.
+/// The value of a field by its name, or as a profile's text has it.
 fn value_of(field: Field, word: &str) -> Option<u32> {
-    if field.has_decimals() {
-        ten_thousandths_of(word)
-    } else {
-        digits_of(word)
+    match field {
+        Field::Size => size_of(word),
+        Field::Orientation => orientation_of(word),
+        _ if field.has_decimals() => ten_thousandths_of(word),
+        _ => digits_of(word),
+    }
+}
+
+/// The size of a paper, by the name that `profile list` has or by its number.
+fn size_of(word: &str) -> Option<u32> {
+    match Paper::named(word) {
+        Some(paper) => Some(paper.code()),
+        None => digits_of(word),
+    }
+}
+
+/// The orientation of a name, as `profile show` has it with a hyphen for the blank, or of a number.
+fn orientation_of(word: &str) -> Option<u32> {
+    match word {
+        "portrait" => Some(0),
+        "landscape" => Some(1),
+        "reverse-portrait" => Some(2),
+        "reverse-landscape" => Some(3),
+        _ => digits_of(word),
     }
 }
 

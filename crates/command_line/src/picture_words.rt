@@ -21,10 +21,12 @@ Where the job fails a page stands as far as it came, in gray, and upon it in red
 the rectangle that fails, and the printable area, the logical page, the right margin or the picture
 frame that is left, with their measures; for other marks, and where there is none, a cross is where
 the cursor was before the item that failed. Below the sheet stands the sentence of
-'check --format words'.
+'check --format words'. A job that fails by another panel setting or a second printer alone, as 12 and
+33 do, is drawn whole: check tells it.
 
 The panel is at the first value that the profile lists of each field, or at the value that --panel
-names, as in --panel size=26,vmi=6,lineterm=2.
+names, as in --panel size=26,vmi=6,lineterm=2; size and orientation take names, too, as a4 and
+landscape.
 
 JOB is read twice, so it has to be a file. Of a page that it does not have standard error is told.
 

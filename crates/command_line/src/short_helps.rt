@@ -43,12 +43,14 @@ const CHECK: &str = "Usage:
   pclcheck check -p PROFILE --format words JOB..
       on each of many jobs, as a sentence; -p comes once for each printer
 
+What stands behind a FAIL is not judged.
 @A to @D are profiles to try with. 'pclcheck check --help' tells all.";
 
 const LIST: &str = "Usage:
   pclcheck list JOB
       a line for each command: its byte, and how it is spelled
 
+What stands behind a FAULT is not read.
 'pclcheck list --help' tells all.";
 
 const PAGES: &str = "Usage:
@@ -77,6 +79,7 @@ const PLAIN: &str = "Usage:
   pclcheck plain JOB OUT
       OUT is the job in its one spelling
 
+What stands behind a FAIL is not written.
 'pclcheck plain --help' tells all.";
 
 const PIN: &str = "Usage:
@@ -85,6 +88,7 @@ const PIN: &str = "Usage:
   pclcheck pin JOB PROFILE OUT --panel size=26,tray=1
       OUT sets these values
 
+What stands behind a FAIL is not written.
 'pclcheck pin --help' tells all.";
 
 const EXPLAIN: &str = "Usage:

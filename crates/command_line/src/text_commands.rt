@@ -12,11 +12,12 @@ use std::alloc::Global;
 const LIST_EXPLANATION: &str = "Output, a line for each item:
   PLACE SPELLING           the number of bytes before the item, and its canonical spelling, in which
                            each byte that shows nothing, and the backslash, is \\x and two digits
-  PLACE FAULT NUMBER NAME  the last line, where the bytes are wrong from there on
+  PLACE FAULT NUMBER NAME  the last line, where the bytes are wrong, or are what pclcheck does not
+                           check; what stands behind it is not read
 
 Exit status:
   0  the bytes are items to their end, or help was asked for
-  1  the bytes are wrong, as the last line tells
+  1  the bytes are wrong, or are not checked, as the last line tells
   2  usage error
   3  a read or a write failed, memory ran out, or no end after 2^40 reads";
 
@@ -62,12 +63,13 @@ const PLAIN_EXPLANATION: &str =
 an error OUT is as it was. A device or a pipe is written itself. An OUT that is JOB, under whichever
 path, is refused. Jobs that differ in spelling alone give the same bytes.
 
-Output, where the bytes are wrong; OUT then has the items before that place:
+Output, where the bytes are wrong, or are what pclcheck does not check; OUT then has the items before
+that place:
   FAIL at=N profile=0 FINDING
 
 Exit status:
   0  all of the job was written, or help was asked for
-  1  the bytes are wrong
+  1  the bytes are wrong, or are not checked
   2  usage error
   3  a read or a write failed, memory ran out, or no end after 2^40 reads";
 
@@ -78,20 +80,21 @@ values itself, so its macros may be longer than those of JOB and need more of th
 memory: check what was written.
 
 The fields are size, orientation, vmi, font, copies, sides, tray and lineterm, each with a value that
-the profile lists, as in --panel size=26,vmi=6,lineterm=2.
+the profile lists, as in --panel size=26,vmi=6,lineterm=2. Size and orientation take names, too, as in
+--panel size=a4,orientation=landscape.
 
 Once JOB is open the text is written beside OUT, and takes the place of OUT when it is whole: after an
 error OUT is as it was. A device or a pipe is written itself. An OUT that is JOB or PROFILE, under
 whichever path, is refused.
 
-Output, where the bytes are wrong or an item cannot be pinned; OUT then has what is due before that
-place:
+Output, where the bytes are wrong, or are what pclcheck does not check, or where an item cannot be
+pinned; OUT then has what is due before that place:
   FAIL at=N profile=0 FINDING
   FAIL at=N profile=1 35 Unpinnable
 
 Exit status:
   0  all of the job was written, or help was asked for
-  1  the bytes are wrong, or an item cannot be pinned
+  1  the bytes are wrong, or are not checked, or an item cannot be pinned
   2  usage error, a value that the profile does not list, or the profile is refused
   3  a read or a write failed, memory ran out, or no end after 2^40 reads";
 

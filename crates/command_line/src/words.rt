@@ -19,6 +19,13 @@ use std::alloc::Global;
 use std::convert::AsStr;
 use streams::{Error, Outlet, write_text};
 
+/// What `clap` tells where a command does not take the option for the form.
+const FORM_REFUSED: &str = "unexpected argument '--format' found";
+
+/// Where that option stands.
+const FORM_BEFORE: &str =
+    "\n--format stands before the command, as in 'pclcheck --format words list JOB'.\n";
+
 /// What the words ask for.
 #[derive(Drop)]
 pub struct Asked<'a> {
@@ -198,13 +205,37 @@ fn request_of<'a>(
         return picture_request(alloc, found);
     }
     if let Some(found) = matches.subcommand_matches("explain") {
-        let code = found.get_str("CODE");
+        let code = code_asked(found);
         return Ok(Some(Request::Explain { code }));
     }
     if let Some(found) = matches.subcommand_matches("profile") {
         return Ok(profile_request(alloc, found)?);
     }
     Ok(text_request(matches))
+}
+
+/// The code that is to be explained, where there is one.
+fn code_asked<'a>(found: &ArgMatches<'a>) -> Option<&'a str> {
+    let word = found.get_str("CODE")?;
+    Some(without_brackets(word))
+}
+
+/// The name of a finding without what a line of a check has behind it in brackets; other words as
+/// they are.
+fn without_brackets(word: &str) -> &str {
+    match word.split_once('(') {
+        Some((name, rest)) if has_letters_alone(name) && rest.ends_with(')') => name,
+        _ => word,
+    }
+}
+
+/// Whether a text has letters, and nothing else.
+fn has_letters_alone(text: &str) -> bool {
+    !text.is_empty()
+        && text
+            .as_bytes()
+            .iter()
+            .all(|byte| byte.is_ascii_alphabetic())
 }
 
 /// Writes help in short where `-h` asked for it, or else what `clap` answers.
@@ -270,7 +301,7 @@ fn refuse<O: Outlet, E: Outlet>(
     if error.kind() == ErrorKind::OutOfMemory {
         return Status::Stopped(Error::Memory);
     }
-    let Ok(text) = format!(in alloc; "{error}") else {
+    let Some(text) = text_of(alloc, error) else {
         return Status::Stopped(Error::Memory);
     };
     if error.use_stderr() {
@@ -280,4 +311,14 @@ fn refuse<O: Outlet, E: Outlet>(
         Ok(()) => Status::Help,
         Err(_) => Status::Stopped(Error::Write),
     }
+}
+
+/// What `clap` tells, and behind it where the option for the form stands, if a command refuses it;
+/// nothing where there is no memory for it.
+fn text_of(alloc: Global, error: &clap::Error) -> Option<String> {
+    let mut text = format!(in alloc; "{error}").ok()?;
+    if text.as_str().contains(FORM_REFUSED) {
+        text.push_str(FORM_BEFORE).ok()?;
+    }
+    Some(text)
 }

@@ -11,22 +11,29 @@ use named_inputs::system_words::system_words;
 use named_inputs::{is_input, read_front};
 use requests::{Request, Status, tell};
 use std::alloc::Global;
-use std::io;
+use std::fs::OpenOptions;
+use std::path::Path;
 use std::rt::Files;
+use std::{fs, io};
 use streams::{Error, FileSource, Outlet, Source, write_text};
 
 /// The text of a profile begins so, before the number of its version.
 const FRONT_OF_PROFILE: &[u8] = b"pclprofile ";
 
+/// The name of a file that is made and removed, to learn why none can be made in a folder.
+const TRIED: &str = ".pclcheck-tried.out";
+
 /// Tells how a request ended, as far as it can be written. A file that could not be read is looked
-/// for among those of the request, by opening them again.
+/// for among those of the request, by opening them again; why one could not be written is learnt by
+/// trying once more, unless it was standard output.
 pub fn tell_in_words<R: Files + AllocGlobal, E: Outlet>(
     rt: &R,
     request: &Request<'_>,
     status: Status,
+    is_output_lost: bool,
     stderr: &mut E,
 ) {
-    match sentence(rt, request, status) {
+    match sentence(rt, request, status, is_output_lost) {
         Some(text) => write(text.as_slice(), stderr),
         None => tell(status, stderr),
     }
@@ -52,10 +59,11 @@ fn sentence<R: Files + AllocGlobal>(
     rt: &R,
     request: &Request<'_>,
     status: Status,
+    is_output_lost: bool,
 ) -> Option<Vec<u8>> {
     match status {
         Status::Stopped(Error::Read) => unread_sentence(rt, request),
-        Status::Stopped(Error::Write) => unwritten_sentence(rt.alloc(), request),
+        Status::Stopped(Error::Write) => unwritten_sentence(rt, request, is_output_lost),
         Status::Profile {
             number,
             line,
@@ -116,7 +124,8 @@ fn unread_sentence<R: Files + AllocGlobal>(rt: &R, request: &Request<'_>) -> Opt
         }
     }
     let job = job_of(request)?;
-    unread_job(rt.alloc(), job, error_at(rt, job))
+    let told = b"this job cannot be read";
+    caused_sentence(rt.alloc(), job, told, error_at(rt, job), b" (ERROR read)\n")
 }
 
 /// Why a file cannot be opened, or not read at its beginning. What can be read only once is left as
@@ -140,25 +149,78 @@ fn unread_profile(alloc: Global, word: &str, error: io::Error) -> Option<Vec<u8>
     Some(text)
 }
 
-fn unread_job(alloc: Global, job: &str, error: Option<io::Error>) -> Option<Vec<u8>> {
+/// What cannot be done with a file, and what the system says of it.
+fn caused_sentence(
+    alloc: Global,
+    name: &str,
+    what: &[u8],
+    error: Option<io::Error>,
+    end: &[u8],
+) -> Option<Vec<u8>> {
     let told = system_words(alloc, error);
     let cause = told.as_ref().map(|told| told.as_bytes());
     let mut text = Vec::new(alloc);
-    push_named_first(alloc, &mut text, job.as_bytes()).ok()?;
-    text.extend_from_slice(b"this job cannot be read").ok()?;
+    push_named_first(alloc, &mut text, name.as_bytes()).ok()?;
+    text.extend_from_slice(what).ok()?;
     push_cause_phrase(alloc, &mut text, cause).ok()?;
-    text.extend_from_slice(b" (ERROR read)\n").ok()?;
+    text.extend_from_slice(end).ok()?;
     Some(text)
 }
 
-/// Where no more can be written.
-fn unwritten_sentence(alloc: Global, request: &Request<'_>) -> Option<Vec<u8>> {
-    let out = out_of(request)?;
-    let mut text = Vec::new(alloc);
-    push_named_first(alloc, &mut text, out.as_bytes()).ok()?;
-    text.extend_from_slice(b"this file or standard output cannot be written (ERROR write)\n")
-        .ok()?;
-    Some(text)
+/// Where no more can be written: on standard output, or else in the file of the request.
+fn unwritten_sentence<R: Files + AllocGlobal>(
+    rt: &R,
+    request: &Request<'_>,
+    is_output_lost: bool,
+) -> Option<Vec<u8>> {
+    match out_of(request) {
+        Some(out) if out != "-" && !is_output_lost => {
+            let told = b"this file cannot be written";
+            let error = write_error_at(rt, out);
+            caused_sentence(rt.alloc(), out, told, error, b" (ERROR write)\n")
+        }
+        _ => {
+            let mut text = Vec::new(rt.alloc());
+            text.extend_from_slice(b"standard output cannot be written (ERROR write)\n")
+                .ok()?;
+            Some(text)
+        }
+    }
+}
+
+/// Why a file cannot be opened to write it, or none be made beside it. A link, a device and a pipe
+/// are left as they are.
+fn write_error_at<R: Files + AllocGlobal>(rt: &R, out: &str) -> Option<io::Error> {
+    let found = match fs::symlink_metadata(rt, out) {
+        Ok(found) => found,
+        Err(error) if error.kind() == io::ErrorKind::NotFound => return error_beside(rt, out),
+        Err(error) => return Some(error),
+    };
+    if !found.is_file() && !found.is_dir() {
+        return None;
+    }
+    let opened = OpenOptions::new().write(true).open(rt, out);
+    match opened {
+        Ok(_file) => error_beside(rt, out),
+        Err(error) => Some(error),
+    }
+}
+
+/// Why no file can be made beside this path. One that is made is removed.
+fn error_beside<R: Files + AllocGlobal>(rt: &R, out: &str) -> Option<io::Error> {
+    let Ok(path) = Path::new(out).with_file_name(rt.alloc(), TRIED) else {
+        return None;
+    };
+    let mut options = OpenOptions::new();
+    options.write(true).create_new(true);
+    match options.open(rt, path.as_str()) {
+        Ok(_file) => {
+            let _ = fs::remove_file(rt, path.as_str());
+            None
+        }
+        Err(error) if error.kind() == io::ErrorKind::AlreadyExists => None,
+        Err(error) => Some(error),
+    }
 }
 
 /// Why the profile of this word is refused.
@@ -183,11 +245,19 @@ fn refused_sentence(
 
 // ---- what was probably meant
 
-/// The jobs of a request that are profiles, by their names and their first bytes.
+/// What stands behind the name of a profile that is a job or a fleet of a check of many jobs.
+const FOR_PRINTERS: &[u8] = b"this is a profile, and -p takes it\n";
+
+/// The jobs and the fleets of a request that are profiles, and the printers that are fleets, by
+/// their names and their first bytes.
 fn hint<R: Files + AllocGlobal>(rt: &R, request: &Request<'_>) -> Option<Vec<u8>> {
     let mut text = Vec::new(rt.alloc());
     match request {
-        Request::CheckMany(many) => push_profiles(rt, &mut text, many.jobs.as_slice())?,
+        Request::CheckMany(many) => {
+            push_profiles(rt, &mut text, many.jobs.as_slice())?;
+            push_profiles_of(rt, &mut text, many.fleets.as_slice())?;
+            push_fleets(rt, &mut text, many.printers.as_slice())?;
+        }
         _ => {
             let why = b"this is a profile, and JOB stands before PROFILE\n";
             push_profile(rt, &mut text, job_of(request)?.as_bytes(), why)?;
@@ -199,7 +269,35 @@ fn hint<R: Files + AllocGlobal>(rt: &R, request: &Request<'_>) -> Option<Vec<u8>
 /// Appends which of these jobs are profiles.
 fn push_profiles<R: Files + AllocGlobal>(rt: &R, text: &mut Vec<u8>, jobs: &[&[u8]]) -> Option<()> {
     for job in jobs {
-        push_profile(rt, text, job, b"this is a profile, and -p takes it\n")?;
+        push_profile(rt, text, job, FOR_PRINTERS)?;
+    }
+    Some(())
+}
+
+/// Appends which of these fleets are profiles.
+fn push_profiles_of<R: Files + AllocGlobal>(
+    rt: &R,
+    text: &mut Vec<u8>,
+    fleets: &[&str],
+) -> Option<()> {
+    for fleet in fleets {
+        push_profile(rt, text, fleet.as_bytes(), FOR_PRINTERS)?;
+    }
+    Some(())
+}
+
+/// Appends which of these printers are fleets.
+fn push_fleets<R: Files + AllocGlobal>(
+    rt: &R,
+    text: &mut Vec<u8>,
+    printers: &[&str],
+) -> Option<()> {
+    for printer in printers {
+        if is_fleet(rt, printer.as_bytes()) {
+            push_named_first(rt.alloc(), text, printer.as_bytes()).ok()?;
+            text.extend_from_slice(b"this is a fleet, and -f takes it\n")
+                .ok()?;
+        }
     }
     Some(())
 }
@@ -218,17 +316,28 @@ fn push_profile<R: Files + AllocGlobal>(
     text.extend_from_slice(why).ok()
 }
 
-/// Whether a job is named as profiles are, and begins as one.
-fn is_profile<R: Files + AllocGlobal>(rt: &R, job: &[u8]) -> bool {
-    let Ok(path) = str::from_utf8(job) else {
-        return false;
+/// Whether a word is named as profiles are, and its file begins as one.
+fn is_profile<R: Files + AllocGlobal>(rt: &R, word: &[u8]) -> bool {
+    matches!(begins_as_profile(rt, word, ".profile"), Some(true))
+}
+
+/// Whether a word is named as fleets are, and its file begins as no profile.
+fn is_fleet<R: Files + AllocGlobal>(rt: &R, word: &[u8]) -> bool {
+    matches!(begins_as_profile(rt, word, ".fleet"), Some(false))
+}
+
+/// Whether the file of a word that ends so begins as a profile; nothing where it does not end so,
+/// or cannot be read.
+fn begins_as_profile<R: Files + AllocGlobal>(rt: &R, word: &[u8], ending: &str) -> Option<bool> {
+    let Ok(path) = str::from_utf8(word) else {
+        return None;
     };
-    if !path.ends_with(".profile") || is_input(job) || is_pipe(rt, job) {
-        return false;
+    if !path.ends_with(ending) || is_input(word) || is_pipe(rt, word) {
+        return None;
     }
     let mut file = FileSource::new(rt, path);
     match read_front(rt.alloc(), &mut file, FRONT_OF_PROFILE.len()) {
-        Ok(front) => front.as_slice() == FRONT_OF_PROFILE,
-        Err(_) => false,
+        Ok(front) => Some(front.as_slice() == FRONT_OF_PROFILE),
+        Err(_) => None,
     }
 }

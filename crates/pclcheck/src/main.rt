@@ -10,7 +10,7 @@ use crate::by_request::fulfil;
 use crate::in_words::tell_in_words;
 use command_line::{Word, form_of, read_words};
 use requests::{Form, Status, tell};
-use std::alloc::AllocError;
+use std::alloc::{AllocError, Global};
 use std::env::{FillError, VarError};
 use std::io::{Input, Print};
 use std::os::fd::{AsRawFd, IntoRawFd, RawFd};
@@ -67,7 +67,7 @@ fn run<R: Env + Files + Input + Print + AllocGlobal, O: Outlet, E: Outlet>(
     };
     match usual {
         Some(usual) => fulfil_words(rt, words.as_slice(), usual, stdout, stderr),
-        None => refuse_form(stderr),
+        None => refuse_work(rt.alloc(), words.as_slice(), stdout, stderr),
     }
 }
 
@@ -122,6 +122,22 @@ fn form_or_line(word: &str) -> Option<Form> {
     form_of(word)
 }
 
+/// Refuses the form of the environment, unless the words ask for help, or are wrong themselves.
+fn refuse_work<O: Outlet, E: Outlet>(
+    alloc: Global,
+    words: &[Word],
+    stdout: &mut O,
+    stderr: &mut E,
+) -> Status
+    requires stdout { IsFalse (O.state stdout.old).failed }
+    requires stderr { IsFalse (E.state stderr.old).failed }
+{
+    match read_words(alloc, words, Form::Line, stdout, stderr) {
+        Ok(_asked) => refuse_form(stderr),
+        Err(status) => told(status, stderr),
+    }
+}
+
 /// Tells that the environment asks for no form that there is.
 fn refuse_form<E: Outlet>(stderr: &mut E) -> Status
     requires { IsFalse (E.state stderr.old).failed }
@@ -151,7 +167,7 @@ fn fulfil_words<R: Files + Input + Print + AllocGlobal, O: Outlet, E: Outlet>(
     let mut used = FilesUsed::new();
     let status = fulfil(rt, &asked.request, &mut used, stdout, stderr);
     match asked.form {
-        Form::Words => tell_in_words(rt, &asked.request, status, stderr),
+        Form::Words => tell_in_words(rt, &asked.request, status, stdout.has_failed(), stderr),
         Form::Line | Form::Json => tell(status, stderr),
     }
     status
