@@ -14,6 +14,7 @@ use Rattle.std.proofs.lemmas.List.FromFn.{map-range_with_len_more}
 use Rattle.streams.specs.declared.error.Error.{Error}
 use Rattle.streams.specs.declared.error.Error.TheVariants.{Memory, Read, Write, Turns, NoProfile, Items}
 use Rattle.preflight.specs.declared.culprit.Judgement.{Judgement}
+use Rattle.streams.specs.Ended.{job_read}
 use Rattle.streams.specs.Outlet.{OutletState, Adds, AddsFront}
 use Rattle.streams.specs.Source.{SourceState}
 use Rattle.streams.proofs.OutletFacts.{Adds-none, Adds-trans}
@@ -160,7 +161,7 @@ module _ (groups : Groups) (telling : HowTold) (start : List ℕ → SourceState
     abbrev write_note : ToldNote → List ℕ
     write_note = told_note telling (subject_of group job)
 
-    module _ (old new : Work) (ended : new.ended ≡ old.ended ++ after ∷ []) where
+    module _ (old new : Work) (ended : new.ended ≡ old.ended ++ job_read job after ∷ []) where
       -- no notes are told
       pub tells_alone : (ending : Ending) → printer_of_notes ≡ None → AddsTold told old.out new.out →
           ending ≡ ending_of telling answer → TellsAll groups telling ((job, number) ∷ []) start ending old new
@@ -181,7 +182,7 @@ module _ (groups : Groups) (telling : HowTold) (start : List ℕ → SourceState
       cuts_line Memory same = record {
         lines = [];
         later = (job, number) ∷ [];
-        untold = after ∷ [];
+        untold = job_read job after ∷ [];
         in_order = refl;
         right = tt;
         written = ([], [], refl, subst (λ o. Adds old.out o []) (sym same) (Adds-none old.out));
@@ -203,8 +204,8 @@ module _ (groups : Groups) (telling : HowTold) (start : List ℕ → SourceState
       cuts_line NoProfile cut = absurd cut
       cuts_line Items cut = absurd cut
 
-    module _ (printer : Printer) (has : printer_of_notes ≡ Some printer) (old mid new : Work) (ended : mid.ended ≡ old.ended ++ after ∷ [])
-        (adds : AddsTold told old.out mid.out) where
+    module _ (printer : Printer) (has : printer_of_notes ≡ Some printer) (old mid new : Work)
+        (ended : mid.ended ≡ old.ended ++ job_read job after ∷ []) (adds : AddsTold told old.out mid.out) where
       -- notes are told
       pub tells_noted : (noted : Noted) (ending ending' : Ending) →
           TellsNotes group telling printer (start job) job mid new (Adds mid.out new.out) noted →
@@ -220,7 +221,8 @@ module _ (groups : Groups) (telling : HowTold) (start : List ℕ → SourceState
               written =
                   subst (Adds old.out new.out) (sym (append-nil (text ++ notes)))
                   (Adds-trans old.out mid.out new.out text notes adds.1 tells.written);
-              ended = tells.ended ∙ ap (λ es. es ++ noted.after ∷ []) ended ∙ append_assoc old.ended (after ∷ []) (noted.after ∷ []);
+              ended = tells.ended ∙ ap (λ es. es ++ job_read job noted.after ∷ []) ended
+                  ∙ append_assoc old.ended (job_read job after ∷ []) (job_read job noted.after ∷ []);
             },
             ap (λ e. worse e ending') is ∙ ap (worse (ending_of telling answer)) is',
           )
@@ -233,7 +235,7 @@ module _ (groups : Groups) (telling : HowTold) (start : List ℕ → SourceState
           record {
             lines = line_with adds.0 None ∷ [];
             later = [];
-            untold = cut.0 ∷ [];
+            untold = job_read job cut.0 ∷ [];
             in_order = refl;
             right = (inr (right, refl, refl), tt);
             written = (
@@ -242,7 +244,8 @@ module _ (groups : Groups) (telling : HowTold) (start : List ℕ → SourceState
               refl,
               subst (λ o. Adds old.out o (text ++ [])) (sym cut.1) (subst (Adds old.out mid.out) (sym (append-nil text)) adds.1),
             );
-            ended = cut.2 ∙ ap (λ es. es ++ cut.0 ∷ []) ended ∙ append_assoc old.ended (after ∷ []) (cut.0 ∷ []);
+            ended = cut.2 ∙ ap (λ es. es ++ job_read job cut.0 ∷ []) ended
+                ∙ append_assoc old.ended (job_read job after ∷ []) (job_read job cut.0 ∷ []);
           }
       cuts_notes Write cut =
           let text = told adds.0 in
@@ -262,7 +265,8 @@ module _ (groups : Groups) (telling : HowTold) (start : List ℕ → SourceState
               append-nil (text ++ notes) ∙ ap (λ t. text ++ t) front.2 ∙ sym (append_assoc text front.0 front.1),
               Adds-trans old.out mid.out new.out text front.0 adds.1 front.3,
             );
-            ended = tells.ended ∙ ap (λ es. es ++ noted.after ∷ []) ended ∙ append_assoc old.ended (after ∷ []) (noted.after ∷ []);
+            ended = tells.ended ∙ ap (λ es. es ++ job_read job noted.after ∷ []) ended
+                ∙ append_assoc old.ended (job_read job after ∷ []) (job_read job noted.after ∷ []);
           }
       cuts_notes Read cut = absurd cut
       cuts_notes Turns cut = absurd cut
@@ -411,12 +415,14 @@ same_printers true given fleet printers by are =
 same_printers false given fleet printers by are = are
 
 pub of_texts : (known : List (Option (List ℕ))) (most : Option ℕ) (tells_notes : Bool) (groups : Groups) (fleet printers : List Printer)
-    (names given : List (List ℕ)) → groups.fleet ≡ map (limited most) fleet → groups.note_printers ≡ printers → groups.names ≡ names →
-    DescribeFleet known fleet → DescribeBy [] given fleet → AreNotePrinters tells_notes given printers → names ≡ map printer_name given →
-    AreOfTexts known most tells_notes groups
-of_texts known most tells_notes groups fleet printers names given fleet_is printers_are names_are described by are named = record {
+    (names given before after : List (List ℕ)) → groups.fleet ≡ map (limited most) fleet → groups.note_printers ≡ printers
+    → groups.names ≡ names → DescribeFleet known fleet → DescribeBy before after fleet → DescribeBy [] given fleet
+    → AreNotePrinters tells_notes given printers → names ≡ map printer_name given → AreOfTexts known before after most tells_notes groups
+of_texts known most tells_notes groups fleet printers names given before after fleet_is printers_are names_are described read by are
+    named = record {
   fleet = fleet;
   described = described;
+  are_given = read;
   texts = given;
   read = subst (λ texts. DescribeFleet (map (λ text. Some text) texts) fleet) (sym by.1) by.2;
   fleet_is = fleet_is;
