@@ -1,7 +1,7 @@
 -- What is left of a check of many jobs. Nothing is known of files beforehand, so this is said for what the history of
 -- files tells: the texts of the fleets under their paths, the file of names, the texts of the printers under their
--- words, and each job under its name, as often as it was read. Standard input is the job `-`; where it has the names, it
--- is not in the history.
+-- words, and each job under its name, as often as it was read. Standard input is the job `-`; where it has the names,
+-- it is not in the history.
 use Rattle.std.specs.Prelude.{◌≡◌, ◌⊎◌, ◌∷◌, ◌++◌, ℕ, Bool, List, [], flat_map, map, option_map, Contains, IsFalse}
 use Rattle.std.specs.Prelude.{IsTrue, Option, Some, false, if◌then◌else◌}
 use Rattle.std.specs.declared.alloc.Global.{Global}
