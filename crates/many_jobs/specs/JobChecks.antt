@@ -1,6 +1,6 @@
 -- What a check of many jobs leaves.
 use Rattle.std.specs.Prelude.{◌≡◌, ◌⊎◌, ℕ, ◌&&◌, false, List, [], ◌∷◌, ◌++◌, flat_map, map, fold, IsErrOf, Option, None}
-use Rattle.std.specs.Prelude.{Some, Result, Ok, Err, IfOk, IfErr, ⊤, if◌then◌else◌}
+use Rattle.std.specs.Prelude.{Contains, Some, Result, Ok, Err, IfOk, IfErr, ⊤, if◌then◌else◌}
 use Rattle.std.specs.List.{AllByRecursion, range_with_len}
 use Rattle.device_profile.specs.Printer.{Printer}
 use Rattle.streams.specs.declared.error.Error.{Error}
@@ -172,6 +172,13 @@ AreRightToCut groups telling start (line ∷ lines) =
     (IsRightLine groups telling start line ⊎ (IsAnswered groups start line × (line.noted ≡ None) × (lines ≡ [])))
     × AreRightToCut groups telling start lines
 
+-- these are readings of jobs of which lines are due
+abbrev pub job_due : List ℕ × ℕ → List ℕ
+job_due due = due.0
+
+abbrev pub AreOfDue : List (List ℕ × ℕ) → List JobRead → Type 0
+AreOfDue due reads = AllByRecursion (λ (read : JobRead). Contains (map job_due due) read.name) reads
+
 -- Some first lines of those that are due are right, and a front of their text stands there;
 -- of the next job, or of the notes of the last one, perhaps there was no memory for the line.
 pub record TellsFront (groups : Groups) (telling : HowTold) (start : List ℕ → SourceState) (due : List (List ℕ × ℕ))
@@ -179,6 +186,7 @@ pub record TellsFront (groups : Groups) (telling : HowTold) (start : List ℕ �
   pub lines : List CheckLine
   pub later : List (List ℕ × ℕ)
   pub untold : List JobRead
+  pub of_due : AreOfDue due untold
   pub in_order : map (λ line. (line.job, line.group)) lines ++ later ≡ due
   pub right : AreRightToCut groups telling start lines
   pub written : AddsFront old.out new.out (flat_map (line_text groups telling) lines)
