@@ -172,10 +172,11 @@ AreRightToCut groups telling start (line ∷ lines) =
     (IsRightLine groups telling start line ⊎ (IsAnswered groups start line × (line.noted ≡ None) × (lines ≡ [])))
     × AreRightToCut groups telling start lines
 
--- these are readings of jobs of which lines are due
+-- the job of a line that is due
 abbrev pub job_due : List ℕ × ℕ → List ℕ
 job_due due = due.0
 
+-- these are readings of jobs of lines that are due
 abbrev pub AreOfDue : List (List ℕ × ℕ) → List JobRead → Type 0
 AreOfDue due reads = AllByRecursion (λ (read : JobRead). Contains (map job_due due) read.name) reads
 
