@@ -1,5 +1,5 @@
 -- The sentence of a job, in a check of many jobs.
-use Rattle.std.specs.Prelude.{◌≡◌, ℕ, ◌==◌, ◌-◌, ◌^◌, ◌<◌, ◌≤◌, nat_le, nat_lt, ◌||◌, List, [], ◌∷◌, ◌++◌, codes, drop}
+use Rattle.std.specs.Prelude.{◌≡◌, ℕ, ℤ, ◌==◌, ◌-◌, ◌^◌, ◌<◌, ◌≤◌, nat_le, nat_lt, ◌||◌, List, [], ◌∷◌, ◌++◌, codes, drop}
 use Rattle.std.specs.Prelude.{take, length, get_or, if◌then◌else◌, Bool, true, false, Option, None, Some, Result}
 use Rattle.std.specs.Prelude.{Ok, Err, IfOk, unsigned_abs, ⊤}
 use Rattle.std.specs.List.{AllByRecursion}
@@ -100,12 +100,18 @@ abbrev pub on_page : Option ℕ → List ℕ
 on_page None = []
 on_page (Some page) = named (codes " on page ") page
 
+-- a length in millimetres behind some words
+unfoldable pub offset_phrase : List ℕ → ℤ → List ℕ
+offset_phrase words ticks = words ++ millimetres ticks
+
+-- a place on the sheet
+unfoldable pub spot_phrase : ℤ → ℤ → List ℕ
+spot_phrase x y = offset_phrase (codes ", ") x ++ offset_phrase (codes " mm from the left and ") y
+
 -- where the cursor stood on the sheet
 abbrev pub on_sheet : Option SheetSpot → List ℕ
 on_sheet None = []
-on_sheet (Some spot) =
-    codes ", " ++ millimetres spot.x ++ codes " mm from the left and " ++ millimetres spot.y
-    ++ codes " mm from the top"
+on_sheet (Some spot) = spot_phrase spot.x spot.y ++ codes " mm from the top"
 
 -- the byte, the page that is open there, and where the cursor stood
 abbrev pub place_phrase : ℕ → Option ℕ → Option SheetSpot → List ℕ

@@ -1,6 +1,9 @@
 //! The sentence of a job, in a check of many.
 ghost use Rattle.std.specs.Prelude.{◌≡◌, ◌++◌, OnOk, option_map};
 ghost use Rattle.job_reports.specs.JobSentences.{
+  spot_phrase,
+};
+ghost use Rattle.job_reports.specs.JobSentences.{
   IsOfParts,
   IsSentence,
   answer_phrase,
@@ -20,6 +23,7 @@ ghost use Rattle.job_reports.specs.JobSentences.{
   lacked,
   last_of,
   named_first,
+  offset_phrase,
   on_page,
   on_sheet,
   place_phrase,
@@ -222,6 +226,28 @@ fn push_on_page<A: Allocator>(line: &mut Vec<u8, A>, page: Option<u64>) -> Resul
     }
 }
 
+/// Appends a length in millimetres behind some words.
+#[tactic(auto, unfolding(crate::specs::JobSentences::offset_phrase))]
+fn push_offset<A: Allocator>(
+    line: &mut Vec<u8, A>,
+    words: &[u8],
+    ticks: i64,
+) -> Result<(), AllocError>
+    ensures { OnOk result (line.new.items ≡ line.old.items ++ offset_phrase words.now ticks) }
+{
+    line.extend_from_slice(words)?;
+    push_millimetres(line, ticks)
+}
+
+/// Appends a place in ticks from the left and the upper edge of the sheet.
+#[tactic(auto, unfolding(crate::specs::JobSentences::spot_phrase))]
+fn push_spot<A: Allocator>(line: &mut Vec<u8, A>, x: i64, y: i64) -> Result<(), AllocError>
+    ensures { OnOk result (line.new.items ≡ line.old.items ++ spot_phrase x y) }
+{
+    push_offset(line, b", ", x)?;
+    push_offset(line, b" mm from the left and ", y)
+}
+
 /// Appends where the cursor stood on the sheet, if that is known.
 fn push_on_sheet<A: Allocator>(
     line: &mut Vec<u8, A>,
@@ -231,10 +257,7 @@ fn push_on_sheet<A: Allocator>(
 {
     match cursor {
         Some(spot) => {
-            line.extend_from_slice(b", ")?;
-            push_millimetres(line, spot.x)?;
-            line.extend_from_slice(b" mm from the left and ")?;
-            push_millimetres(line, spot.y)?;
+            push_spot(line, spot.x, spot.y)?;
             line.extend_from_slice(b" mm from the top")
         }
         None => Ok(()),
