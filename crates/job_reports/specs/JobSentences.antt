@@ -100,18 +100,17 @@ abbrev pub on_page : Option ℕ → List ℕ
 on_page None = []
 on_page (Some page) = named (codes " on page ") page
 
--- a length in millimetres behind some words
-unfoldable pub offset_phrase : List ℕ → ℤ → List ℕ
-offset_phrase words ticks = words ++ millimetres ticks
+-- how far a place is from the left and the upper edge of the sheet
+unfoldable pub left_phrase : ℤ → List ℕ
+left_phrase x = codes ", " ++ millimetres x ++ codes " mm from the left"
 
--- a place on the sheet
-unfoldable pub spot_phrase : ℤ → ℤ → List ℕ
-spot_phrase x y = offset_phrase (codes ", ") x ++ offset_phrase (codes " mm from the left and ") y
+unfoldable pub top_phrase : ℤ → List ℕ
+top_phrase y = codes " and " ++ millimetres y ++ codes " mm from the top"
 
 -- where the cursor stood on the sheet
 abbrev pub on_sheet : Option SheetSpot → List ℕ
 on_sheet None = []
-on_sheet (Some spot) = spot_phrase spot.x spot.y ++ codes " mm from the top"
+on_sheet (Some spot) = left_phrase spot.x ++ top_phrase spot.y
 
 -- the byte, the page that is open there, and where the cursor stood
 abbrev pub place_phrase : ℕ → Option ℕ → Option SheetSpot → List ℕ

@@ -1,7 +1,10 @@
 //! The sentence of a job, in a check of many.
 ghost use Rattle.std.specs.Prelude.{◌≡◌, ◌++◌, OnOk, option_map};
 ghost use Rattle.job_reports.specs.JobSentences.{
-  spot_phrase,
+  left_phrase,
+  top_phrase,
+};
+ghost use Rattle.job_reports.specs.JobSentences.{
 };
 ghost use Rattle.job_reports.specs.JobSentences.{
   IsOfParts,
@@ -23,7 +26,6 @@ ghost use Rattle.job_reports.specs.JobSentences.{
   lacked,
   last_of,
   named_first,
-  offset_phrase,
   on_page,
   on_sheet,
   place_phrase,
@@ -226,26 +228,24 @@ fn push_on_page<A: Allocator>(line: &mut Vec<u8, A>, page: Option<u64>) -> Resul
     }
 }
 
-/// Appends a length in millimetres behind some words.
-#[tactic(auto, unfolding(crate::specs::JobSentences::offset_phrase))]
-fn push_offset<A: Allocator>(
-    line: &mut Vec<u8, A>,
-    words: &[u8],
-    ticks: i64,
-) -> Result<(), AllocError>
-    ensures { OnOk result (line.new.items ≡ line.old.items ++ offset_phrase words.now ticks) }
+/// Appends how far a place is from the left edge of the sheet, in ticks.
+#[tactic(auto, unfolding(crate::specs::JobSentences::left_phrase))]
+fn push_left<A: Allocator>(line: &mut Vec<u8, A>, x: i64) -> Result<(), AllocError>
+    ensures { OnOk result (line.new.items ≡ line.old.items ++ left_phrase x) }
 {
-    line.extend_from_slice(words)?;
-    push_millimetres(line, ticks)
+    line.extend_from_slice(b", ")?;
+    push_millimetres(line, x)?;
+    line.extend_from_slice(b" mm from the left")
 }
 
-/// Appends a place in ticks from the left and the upper edge of the sheet.
-#[tactic(auto, unfolding(crate::specs::JobSentences::spot_phrase))]
-fn push_spot<A: Allocator>(line: &mut Vec<u8, A>, x: i64, y: i64) -> Result<(), AllocError>
-    ensures { OnOk result (line.new.items ≡ line.old.items ++ spot_phrase x y) }
+/// Appends how far a place is from the upper edge of the sheet, in ticks.
+#[tactic(auto, unfolding(crate::specs::JobSentences::top_phrase))]
+fn push_top<A: Allocator>(line: &mut Vec<u8, A>, y: i64) -> Result<(), AllocError>
+    ensures { OnOk result (line.new.items ≡ line.old.items ++ top_phrase y) }
 {
-    push_offset(line, b", ", x)?;
-    push_offset(line, b" mm from the left and ", y)
+    line.extend_from_slice(b" and ")?;
+    push_millimetres(line, y)?;
+    line.extend_from_slice(b" mm from the top")
 }
 
 /// Appends where the cursor stood on the sheet, if that is known.
@@ -257,8 +257,8 @@ fn push_on_sheet<A: Allocator>(
 {
     match cursor {
         Some(spot) => {
-            push_spot(line, spot.x, spot.y)?;
-            line.extend_from_slice(b" mm from the top")
+            push_left(line, spot.x)?;
+            push_top(line, spot.y)
         }
         None => Ok(()),
     }
