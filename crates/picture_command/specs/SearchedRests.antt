@@ -17,7 +17,8 @@ use Rattle.renderings.specs.Outcomes.{fails_with}
 use Rattle.requests.specs.declared.selection.Selection.{Selection}
 use Rattle.requests.specs.Selection.{is_drawn}
 use Rattle.job_reports.specs.Groups.{Groups}
-use Rattle.job_reports.specs.JobSentences.{FailsAt, claim_by, fails_at, for_each, named_first, on_page, on_sheet, place_phrase}
+use Rattle.job_reports.specs.JobSentences.{FailsAt, claim_by, fails_at, for_each, named_first, on_page, on_sheet}
+use Rattle.job_reports.specs.JobSentences.{place_phrase}
 use Rattle.job_reports.specs.JobSentences.{reason_phrase, subject, verdict_phrase}
 use Rattle.job_reports.specs.Reports.{number_told}
 use Rattle.picture_command.specs.Carriers.{search_from}
