@@ -2,13 +2,16 @@
 #![tactic(auto)]
 
 mod check_jobs;
+mod document;
 mod ending;
 mod fleet_file;
 mod job_checks;
 mod job_noting;
 mod job_objects;
+mod job_row;
 mod json_object;
 mod json_texts;
+mod kept_readings;
 mod kept_texts;
 mod limited;
 mod note_reports;
