@@ -1,5 +1,5 @@
 -- The picture of a page, in a job's row.
-use Rattle.std.specs.Prelude.{ℕ, ◌==◌, nat_le, List, [], ◌++◌, codes, length, if◌then◌else◌, Result, Ok, Err}
+use Rattle.std.specs.Prelude.{ℕ, ◌==◌, List, [], ◌++◌, codes, length, if◌then◌else◌, Result, Ok, Err}
 use Rattle.streams.specs.declared.error.Error.{Error}
 use Rattle.verdict.specs.declared.verdict.Verdict.{Verdict}
 use Rattle.verdict.specs.declared.verdict.Verdict.TheVariants.{Pass, Fail}
@@ -19,16 +19,11 @@ figure answer picture =
     ++ codes ", from the first settings of the panel</figcaption>\n<img loading=\"lazy\" alt=\"\" src=\"data:image/svg+xml,"
     ++ address_text picture ++ codes "\">\n</figure>\n"
 
--- a larger picture is left to the command that draws it
-abbrev pub picture_limit : ℕ
-picture_limit = 1_000_000
-
+-- a large picture is left to the command that draws it
 abbrev pub too_large : List ℕ
 too_large =
     codes "<p>The picture of the page is too large for this document; the command picture of pclcheck draws it.</p>\n"
 
 -- where the job has no such page, nothing
 abbrev pub picture_part : Result Verdict Error → List ℕ → List ℕ
-picture_part answer picture =
-    if length picture == 0 then []
-    else (if nat_le (length picture) picture_limit then figure answer picture else too_large)
+picture_part answer picture = if length picture == 0 then [] else figure answer picture

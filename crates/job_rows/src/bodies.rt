@@ -1,11 +1,11 @@
 //! What further readings of a job told, in its row.
 ghost use Rattle.std.specs.Prelude.{◌≡◌, ◌++◌, OnOk, option_map};
-ghost use Rattle.job_rows.specs.Bodies.{listed, lost_part, near_part, notes_part, once_part};
-ghost use Rattle.job_rows.specs.Bodies.{page_part};
+ghost use Rattle.job_rows.specs.Bodies.{listed, lost_page, lost_part, near_part, notes_part};
+ghost use Rattle.job_rows.specs.Bodies.{once_part, page_part};
 ghost use Rattle.job_rows.specs.Kept.{kept_text};
 
 use crate::escapes::push_html;
-use crate::pictures::push_picture;
+use crate::pictures::{push_picture, push_too_large};
 use preflight::Verdict;
 use requests::error_words;
 use std::alloc::{AllocError, Allocator};
@@ -71,7 +71,19 @@ pub(crate) fn push_page<A: Allocator>(
     match page {
         None => Ok(()),
         Some(Ok(picture)) => push_picture(text, answer, picture.as_slice()),
-        Some(Err(error)) => push_lost(text, b"The page", error),
+        Some(Err(error)) => push_lost_page(text, error),
+    }
+}
+
+/// Appends why there is no picture of a page.
+fn push_lost_page<A: Allocator>(text: &mut Vec<u8, A>, error: Error) -> Result<(), AllocError>
+    ensures { OnOk result (text.new.items ≡ text.old.items ++ lost_page error) }
+{
+    match error {
+        Error::Write => push_too_large(text),
+        Error::Memory | Error::Read | Error::Turns | Error::NoProfile | Error::Items => {
+            push_lost(text, b"The page", error)
+        }
     }
 }
 

@@ -1,16 +1,13 @@
 //! The picture of a page, in a job's row.
 ghost use Rattle.std.specs.Prelude.{◌≡◌, ◌++◌, OnOk};
-ghost use Rattle.job_rows.specs.Pictures.{caption, figure, picture_part};
+ghost use Rattle.job_rows.specs.Pictures.{caption, figure, picture_part, too_large};
 
 use crate::escapes::push_address;
 use preflight::Verdict;
 use std::alloc::{AllocError, Allocator};
 use streams::Error;
 
-/// A larger picture is left to the command that draws it.
-const PICTURE_LIMIT: usize = 1_000_000;
-
-/// Appends a picture, unless it is too large or empty, since the job has no such page.
+/// Appends a picture, unless it is empty, since the job has no such page.
 pub(crate) fn push_picture<A: Allocator>(
     text: &mut Vec<u8, A>,
     answer: Result<Verdict, Error>,
@@ -21,9 +18,13 @@ pub(crate) fn push_picture<A: Allocator>(
     if picture.is_empty() {
         return Ok(());
     }
-    if picture.len() <= PICTURE_LIMIT {
-        return push_figure(text, answer, picture);
-    }
+    push_figure(text, answer, picture)
+}
+
+/// Appends that a picture is left to the command that draws it.
+pub(crate) fn push_too_large<A: Allocator>(text: &mut Vec<u8, A>) -> Result<(), AllocError>
+    ensures { OnOk result (text.new.items ≡ text.old.items ++ too_large) }
+{
     text.extend_from_slice(
         b"<p>The picture of the page is too large for this document; \
         the command picture of pclcheck draws it.</p>\n",

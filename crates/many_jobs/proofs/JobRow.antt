@@ -47,6 +47,16 @@ module _ (rendering : Rendering) (job job' : SourceState) (kept kept' : OutletSt
   text_stopped NoProfile rendered = absurd (rendered.never_no_profile refl)
   text_stopped Items rendered = absurd (rendered.never_items refl)
 
+  -- a text that is limited stops at a write for want of memory or at its limit
+  pub limited_stopped : (error : Error) → Renders rendering job job' kept kept' (Err error) →
+      IsRightText rendering job job' (Err error)
+  limited_stopped Memory rendered = record { due = tt; needed = tt; error = tt; read = rendered.read }
+  limited_stopped Read rendered = record { due = tt; needed = tt; error = tt; read = rendered.read }
+  limited_stopped Write rendered = record { due = tt; needed = tt; error = tt; read = rendered.read }
+  limited_stopped Turns rendered = record { due = tt; needed = tt; error = tt; read = rendered.read }
+  limited_stopped NoProfile rendered = absurd (rendered.never_no_profile refl)
+  limited_stopped Items rendered = absurd (rendered.never_items refl)
+
 -- ---- a further reading, as it stands in a line
 
 module _ (write : Told → List ℕ) (start : SourceState) (ended ended' : List SourceState) where

@@ -6,6 +6,7 @@ use Rattle.std.specs.Str.{bytes_eq}
 use Rattle.pcl_items.specs.Items.{Placed}
 use Rattle.device_profile.specs.Printer.{Printer, first_panel}
 use Rattle.streams.specs.declared.error.Error.{Error}
+use Rattle.streams.specs.declared.error.Error.TheVariants.{Memory, Read, Write, Turns, NoProfile, Items}
 use Rattle.streams.specs.Errors.{is_err_of_read}
 use Rattle.streams.specs.Pieces.{ByReads}
 use Rattle.streams.specs.Source.{SourceState}
@@ -21,7 +22,7 @@ use Rattle.job_reports.specs.Groups.{Groups, reported}
 use Rattle.job_reports.specs.Reports.{number_told, verdict_told}
 use Rattle.job_rows.specs.Rows.{PartsTold, row_text}
 use Rattle.named_inputs.specs.FileJobs.{is_input}
-use Rattle.many_jobs.specs.JobNoting.{AreRightNotes, IsErrorOfNotes, Noted, ending_of_notes, noted_after}
+use Rattle.many_jobs.specs.JobNoting.{Noted, ending_of_notes, noted_after}
 use Rattle.many_jobs.specs.Telling.{HowTold, explained}
 use Rattle.many_jobs.specs.declared.ending.Ending.{Ending}
 use Rattle.many_jobs.specs.declared.ending.Ending.TheVariants.{Passes}
@@ -33,12 +34,21 @@ pub record Reread : Type 0 where
   pub after : SourceState
   pub text : Result (List ℕ) Error
 
+-- why there is no text; a write fails where the text would be too long for a row
+abbrev pub IsErrorOfReread : Error → Type 0
+IsErrorOfReread Memory = ⊤
+IsErrorOfReread Read = ⊤
+IsErrorOfReread Write = ⊤
+IsErrorOfReread Turns = ⊤
+IsErrorOfReread NoProfile = ⊥
+IsErrorOfReread Items = ⊥
+
 -- Of every job that may be by what the reading gave, the text is what is due, and each read was needed.
 -- An error is that of a read exactly where one failed.
 pub record IsRightText (rendering : Rendering) (start after : SourceState) (text : Result (List ℕ) Error) : Type 0 where
   pub due : IfOk text (λ bytes. (outcome : Outcome) × ByReads start after (λ job. IsDue rendering job bytes outcome))
   pub needed : IfOk text (λ bytes. TextNeedsReads rendering start after)
-  pub error : IfErr text IsErrorOfNotes
+  pub error : IfErr text IsErrorOfReread
   pub read : after.failed ≡ is_err_of_read text
 
 -- a job is read again just where something is due of it

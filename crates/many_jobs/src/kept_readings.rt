@@ -6,6 +6,7 @@ ghost use Rattle.renderings.specs.Carriers.Rests.{faults_matter};
 ghost use Rattle.many_jobs.specs.JobRow.{IsRightText, is_near, near_line, near_rendering};
 ghost use Rattle.many_jobs.specs.JobRow.{page_rendering};
 
+use crate::limited_text::LimitedText;
 use device_profile::Profile;
 use job_picture::{Wanted, picture_of};
 use line_words::push_item;
@@ -23,7 +24,8 @@ const BEFORE: u64 = 40;
 const BEHIND: u64 = 16;
 
 /// The picture of a page of a job on a printer, from its first panel; nothing where the job does
-/// not have the page. An error is `Read`, `Memory` or `Turns`.
+/// not have the page. An error is `Read`, `Memory` or `Turns`, or `Write` where the picture is too
+/// large for a row.
 pub(crate) fn read_page<S: Source, A: Allocator + Copy>(
     alloc: A,
     job: &mut S,
@@ -42,10 +44,10 @@ pub(crate) fn read_page<S: Source, A: Allocator + Copy>(
         sentence: &[],
     };
     let panel = printer.first_panel();
-    let mut text = KeptText::new(alloc);
+    let mut text = LimitedText::new(alloc);
     match picture_of(alloc, job, printer, &panel, &wanted, &mut text) {
         Ok(_) => Ok(text.into_bytes()),
-        Err(error) => Err(kept_error(error)),
+        Err(error) => Err(error),
     }
 }
 

@@ -14,6 +14,7 @@ mod json_texts;
 mod kept_readings;
 mod kept_texts;
 mod limited;
+mod limited_text;
 mod note_reports;
 mod telling;
 mod told_lines;

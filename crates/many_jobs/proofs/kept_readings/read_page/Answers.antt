@@ -3,7 +3,7 @@ use Rattle.device_profile.specs.declared.panel.Panel.{Panel}
 use Rattle.requests.specs.declared.selection.DrawnPages.TheVariants.{One}
 use Rattle.job_picture.specs.JobPicture.{picture_rendering}
 use Rattle.many_jobs.specs.JobRow.{IsRightText}
-use Rattle.many_jobs.proofs.JobRow.{text_had, text_stopped}
+use Rattle.many_jobs.proofs.JobRow.{limited_stopped, text_had}
 use Rattle.many_jobs.proofs.kept_readings.read_page.Goals as goal
 
 pub returns-in-Ok : goal.returns-in-Ok
@@ -24,8 +24,7 @@ returns-in-Err g c =
     let start = g.S.Source.state c.args.job.now in
     let after = g.S.Source.state c.picture_of.new.reader in
     subst
-    (λ (panel : Panel). IsRightText (picture_rendering c.args.printer.now panel page []) start after (Err c.kept_error.result))
+    (λ (panel : Panel). IsRightText (picture_rendering c.args.printer.now panel page []) start after (Err c.in-Err.error))
     c.first_panel-panel.ensures.value
-    (rw c.kept_error.ensures
-    (text_stopped (picture_rendering c.args.printer.now c.first_panel-panel.result page []) start after _ _
-    c.in-Err.error c.in-Err.ensures))
+    (limited_stopped (picture_rendering c.args.printer.now c.first_panel-panel.result page []) start after _ _
+    c.in-Err.error c.in-Err.ensures)
