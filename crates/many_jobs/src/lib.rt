@@ -1,4 +1,4 @@
-//! Checks of many jobs, each told of as a line, a sentence or an object.
+//! Checks of many jobs, each told of as a line, a sentence, an object or a row of a document.
 #![tactic(auto)]
 
 mod check_jobs;

@@ -1,6 +1,7 @@
 use Rattle.std.proofs.Common.{[], Err, Ok, false, subst}
 use Rattle.device_profile.specs.declared.panel.Panel.{Panel}
 use Rattle.requests.specs.declared.selection.DrawnPages.TheVariants.{One}
+use Rattle.requests.specs.declared.selection.Selection.{Selection}
 use Rattle.job_picture.specs.JobPicture.{picture_rendering}
 use Rattle.many_jobs.specs.JobRow.{IsRightText}
 use Rattle.many_jobs.proofs.JobRow.{limited_stopped, text_had}
@@ -8,7 +9,7 @@ use Rattle.many_jobs.proofs.kept_readings.read_page.Goals as goal
 
 pub returns-in-Ok : goal.returns-in-Ok
 returns-in-Ok g c =
-    let page = record { pages = One c.args.page; has_boxes = false } in
+    let page : Selection = record { pages = One c.args.page; has_boxes = false } in
     let start = g.S.Source.state c.args.job.now in
     let after = g.S.Source.state c.picture_of.new.reader in
     subst
@@ -20,7 +21,7 @@ returns-in-Ok g c =
 
 pub returns-in-Err : goal.returns-in-Err
 returns-in-Err g c =
-    let page = record { pages = One c.args.page; has_boxes = false } in
+    let page : Selection = record { pages = One c.args.page; has_boxes = false } in
     let start = g.S.Source.state c.args.job.now in
     let after = g.S.Source.state c.picture_of.new.reader in
     subst
