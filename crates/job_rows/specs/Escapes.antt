@@ -1,5 +1,6 @@
 -- Bytes as they stand in a text of HTML, and in the address of a picture.
-use Rattle.std.specs.Prelude.{ℕ, ◌==◌, ◌&&◌, ◌||◌, nat_le, if◌then◌else◌, Bool, List, [], ◌∷◌, flat_map, codes}
+use Rattle.std.specs.Prelude.{ℕ, ◌==◌, ◌&&◌, ◌||◌, not, nat_le, if◌then◌else◌, Bool, true, List, [], ◌∷◌, flat_map}
+use Rattle.std.specs.Prelude.{codes}
 use Rattle.shown_bytes.specs.Shown.{hex_byte}
 
 abbrev pub is_between : (first last b : ℕ) → Bool
@@ -22,6 +23,14 @@ html_byte b =
 -- a text of UTF-8, whatever it holds
 abbrev pub html_text : List ℕ → List ℕ
 html_text text = flat_map html_byte text
+
+-- neither a quote nor `<` nor `>`
+abbrev pub is_inert : ℕ → Bool
+is_inert b = not (((b == 34 || b == 39) || b == 60) || b == 62)
+
+abbrev pub are_inert : List ℕ → Bool
+are_inert [] = true
+are_inert (b ∷ text) = is_inert b && are_inert text
 
 -- ---- an address
 

@@ -1,8 +1,9 @@
 //! Bytes as they stand in a text of HTML, and in the address of a picture.
 //!
 //! An error means that the allocator refused a request; so in each file of this crate.
-ghost use Rattle.std.specs.Prelude.{◌≡◌, ◌++◌, OnOk};
-ghost use Rattle.job_rows.specs.Escapes.{address_byte, address_text, html_byte, html_text};
+ghost use Rattle.std.specs.Prelude.{◌≡◌, ◌++◌, ℕ, List, OnOk, true};
+ghost use Rattle.job_rows.specs.Escapes.{address_byte, address_text, are_inert, html_byte};
+ghost use Rattle.job_rows.specs.Escapes.{html_text};
 ghost use Rattle.job_rows.specs.Escapes.{is_between, is_kept, is_plain};
 
 use shown_bytes::hex_byte;
@@ -43,6 +44,11 @@ fn is_kept(byte: u8) -> bool
 {
     byte == 10 || is_between(32, 126, byte) || 128 <= byte
 }
+
+/// Whatever a text holds, in a document it has neither a quote nor `<` nor `>`.
+pub fn texts_are_inert()
+    ensures { (text : List ℕ) → are_inert (html_text text) ≡ true }
+{}
 
 /// Appends bytes as the address of a picture has them: each that is none of some letters, digits
 /// and signs by a percent sign and two hexadecimal digits.

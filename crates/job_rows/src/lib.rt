@@ -10,5 +10,6 @@ mod pictures;
 mod rows;
 
 pub use document::{push_document_end, push_document_start};
+pub use escapes::texts_are_inert;
 pub use heads::push_note;
 pub use rows::{RowParts, push_row};

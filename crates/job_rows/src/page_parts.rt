@@ -27,6 +27,7 @@ form { order: 3; }
 main { order: 4; border-top: 1px solid var(--line); }
 h1 { margin: 0; font-size: 1.3em; }
 header ul { display: flex; flex-wrap: wrap; gap: 0 .5em; margin: 0; padding: 0; list-style: none; }
+header ul::before { content: 'Printers:'; color: var(--dim); }
 header li { font-family: monospace; }
 footer { margin: .7em 0; font-size: 1.15em; }
 footer span { margin-right: 1em; white-space: nowrap; }
@@ -40,10 +41,10 @@ details.error { counter-increment: error; }
 details { border-bottom: 1px solid var(--line); }
 summary { padding: .35em 0; overflow-wrap: anywhere; cursor: pointer; }
 details[open] > summary { background: var(--shade); }
-summary b { display: inline-block; min-width: 3.6em; }
+summary b { display: inline-block; min-width: 4.3em; }
 summary i { margin-left: .3em; padding: 0 .4em; border: 1px solid var(--line); border-radius: .6em;
   color: var(--dim); font-style: normal; font-size: .85em; white-space: nowrap; }
-.pass > b, .pass > summary b, footer .pass { color: var(--pass); }
+.pass > summary b, footer .pass { color: var(--pass); }
 .fail > summary b, footer .fail { color: var(--fail); }
 .error > summary b, footer .error { color: var(--error); }
 details > :not(summary) { margin: .5em 0 .8em 1.1em; }
