@@ -126,7 +126,7 @@ fn form_or_line(word: &str) -> Option<Form> {
 fn refuse_form<E: Outlet>(stderr: &mut E) -> Status
     requires { IsFalse (E.state stderr.old).failed }
 {
-    let text = b"error: PCLCHECK_FORMAT is none of line, words and json\n";
+    let text = b"error: PCLCHECK_FORMAT is none of line, words, json and html\n";
     match write_text(stderr, text) {
         Ok(()) => Status::Usage,
         Err(error) => Status::Stopped(error),
@@ -152,7 +152,7 @@ fn fulfil_words<R: Files + Input + Print + AllocGlobal, O: Outlet, E: Outlet>(
     let status = fulfil(rt, &asked.request, &mut used, stdout, stderr);
     match asked.form {
         Form::Words => tell_in_words(rt, &asked.request, status, stderr),
-        Form::Line | Form::Json => tell(status, stderr),
+        Form::Line | Form::Json | Form::Html => tell(status, stderr),
     }
     status
 }

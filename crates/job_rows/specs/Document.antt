@@ -1,0 +1,19 @@
+-- How the document begins and ends.
+use Rattle.std.specs.Prelude.{ℕ, List, ◌++◌, codes, flat_map}
+use Rattle.job_rows.specs.declared.page_parts.TheConstants.{FOOT, HEAD, ROWS_START}
+use Rattle.job_rows.specs.Escapes.{html_text}
+
+-- a printer by its name
+abbrev pub fleet_item : List ℕ → List ℕ
+fleet_item name = codes "<li>" ++ html_text name ++ codes "</li>\n"
+
+abbrev pub fleet_part : List (List ℕ) → List ℕ
+fleet_part names = flat_map fleet_item names
+
+-- the style and the printers stand before all rows
+abbrev pub document_start : List (List ℕ) → List ℕ
+document_start names = HEAD.now ++ fleet_part names ++ ROWS_START.now
+
+-- the counts and the filter behind them
+abbrev pub document_end : List ℕ
+document_end = FOOT.now
