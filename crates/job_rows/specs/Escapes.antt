@@ -12,13 +12,15 @@ is_between first last b = nat_le first b && nat_le b last
 abbrev pub is_kept : ℕ → Bool
 is_kept b = (b == 10 || is_between 32 126 b) || nat_le 128 b
 
+-- for a byte that shows nothing the replacement character stands, since HTML takes no control codes
+abbrev pub kept_byte : ℕ → List ℕ
+kept_byte b = if is_kept b then b ∷ [] else codes "&#65533;"
+
 -- Quotes, `&`, `<` and `>` by their names, so that nothing of a text begins or ends a tag, an attribute or a reference.
--- For a byte that shows nothing the replacement character stands, since HTML takes no control codes.
 unfoldable pub html_byte : ℕ → List ℕ
 html_byte b =
     if b == 34 then codes "&quot;" else (if b == 38 then codes "&amp;" else (if b == 39 then codes "&#39;" else
-    (if b == 60 then codes "&lt;" else (if b == 62 then codes "&gt;" else
-    (if is_kept b then b ∷ [] else codes "&#65533;")))))
+    (if b == 60 then codes "&lt;" else (if b == 62 then codes "&gt;" else kept_byte b))))
 
 -- a text of UTF-8, whatever it holds
 abbrev pub html_text : List ℕ → List ℕ
@@ -34,10 +36,15 @@ are_inert (b ∷ text) = is_inert b && are_inert text
 
 -- ---- an address
 
--- `(`, `)`, what stands from `,` to `:`, `=`, and letters
+-- `(`, `)`, what stands from `,` to `:`, and `=`
+abbrev pub is_sign : ℕ → Bool
+is_sign b = (is_between 40 41 b || is_between 44 58 b) || b == 61
+
+abbrev pub is_latin : ℕ → Bool
+is_latin b = is_between 65 90 b || is_between 97 122 b
+
 abbrev pub is_plain : ℕ → Bool
-is_plain b =
-    (((is_between 40 41 b || is_between 44 58 b) || b == 61) || is_between 65 90 b) || is_between 97 122 b
+is_plain b = is_sign b || is_latin b
 
 -- any other byte is a percent sign and two hexadecimal digits
 abbrev pub address_byte : ℕ → List ℕ

@@ -26,25 +26,31 @@ verdict_name (Err error) = codes "ERROR"
 abbrev pub printer_part : List (List ℕ) → ℕ → List ℕ
 printer_part names number = if number == 0 then [] else html_text (get_or names (number - 1) [])
 
--- a row can be opened, and shows its verdict first
-abbrev pub row_start : Reported → List ℕ
-row_start report =
+-- a row can be opened
+unfoldable pub details_start : Reported → List ℕ
+details_start report =
     let answer = verdict_told report.answer in
     codes "<details class=\"" ++ verdict_class answer ++ codes "\" data-printer=\""
-    ++ printer_part report.names (number_told report.is_each answer) ++ codes "\">\n<summary><b>"
-    ++ verdict_name answer ++ codes "</b> "
+    ++ printer_part report.names (number_told report.is_each answer) ++ codes "\">\n"
 
-abbrev pub sentence_part : Reported → List ℕ
+-- and shows its verdict first
+unfoldable pub summary_start : Result Verdict Error → List ℕ
+summary_start answer = codes "<summary><b>" ++ verdict_name answer ++ codes "</b> "
+
+abbrev pub row_start : Reported → List ℕ
+row_start report = details_start report ++ summary_start (verdict_told report.answer)
+
+unfoldable pub sentence_part : Reported → List ℕ
 sentence_part report = codes "<span>" ++ html_text (job_sentence report) ++ codes "</span>"
 
 -- ---- badges
 
-abbrev pub page_badge : Option ℕ → List ℕ
+unfoldable pub page_badge : Option ℕ → List ℕ
 page_badge None = []
 page_badge (Some page) = named (codes " <i>page ") page ++ codes "</i>"
 
 -- who says no, the page that is open there, and the byte
-abbrev pub fail_badges : Kind → Option ℕ → ℕ → List ℕ
+unfoldable pub fail_badges : Kind → Option ℕ → ℕ → List ℕ
 fail_badges kind page place =
     codes " <i>" ++ kind_name kind ++ codes "</i>" ++ page_badge page ++ named (codes " <i>byte ") place ++ codes "</i>"
 
@@ -57,12 +63,12 @@ badges report (Err error) = []
 -- ---- what stands open
 
 -- an explanation, where there is one
-abbrev pub explanation_part : List ℕ → List ℕ
+unfoldable pub explanation_part : List ℕ → List ℕ
 explanation_part explanation =
     if length explanation == 0 then [] else codes "<pre>" ++ html_text explanation ++ codes "</pre>\n"
 
 -- the sentence of a note, and its explanation
-abbrev pub note_part : List ℕ → List ℕ → List ℕ
+unfoldable pub note_part : List ℕ → List ℕ → List ℕ
 note_part explanation sentence =
     codes "<p>" ++ html_text sentence ++ codes "</p>\n" ++ explanation_part explanation
 

@@ -13,14 +13,14 @@ caption (Err error) = []
 
 -- A picture of its own, so that nothing in it reaches the document: an address that has all of it.
 -- It is taken apart only once it is looked at.
-abbrev pub figure : Result Verdict Error → List ℕ → List ℕ
+unfoldable pub figure : Result Verdict Error → List ℕ → List ℕ
 figure answer picture =
     codes "<figure>\n<figcaption>" ++ caption answer
     ++ codes ", from the first settings of the panel</figcaption>\n<img loading=\"lazy\" alt=\"\" src=\"data:image/svg+xml,"
     ++ address_text picture ++ codes "\">\n</figure>\n"
 
 -- a large picture is left to the command that draws it
-abbrev pub too_large : List ℕ
+unfoldable pub too_large : List ℕ
 too_large =
     codes "<p>The picture of the page is too large for this document; the command picture of pclcheck draws it.</p>\n"
 

@@ -14,11 +14,11 @@ pub record PartsTold : Type 0 where
   pub page : Option (Result (List ℕ) Error)
   pub is_once : Bool
 
-abbrev pub row_body : Result Verdict Error → PartsTold → List ℕ
+unfoldable pub row_body : Result Verdict Error → PartsTold → List ℕ
 row_body answer parts =
     notes_part parts.notes ++ near_part parts.near ++ page_part answer parts.page ++ once_part parts.is_once
 
 -- its head, with an explanation where there is one, and what it opens to
-abbrev pub row_text : (explanation : List ℕ) → Reported → PartsTold → List ℕ
+unfoldable pub row_text : (explanation : List ℕ) → Reported → PartsTold → List ℕ
 row_text explanation report parts =
     row_head explanation report ++ row_body (verdict_told report.answer) parts ++ codes "</details>\n"

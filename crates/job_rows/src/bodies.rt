@@ -1,8 +1,9 @@
 //! What further readings of a job told, in its row.
-ghost use Rattle.std.specs.Prelude.{◌≡◌, ◌++◌, OnOk, option_map};
+ghost use Rattle.std.specs.Prelude.{◌≡◌, ◌++◌, OnOk};
+ghost use Rattle.streams.specs.Errors.{is_write};
 ghost use Rattle.job_rows.specs.Bodies.{listed, lost_page, lost_part, near_part, notes_part};
 ghost use Rattle.job_rows.specs.Bodies.{once_part, page_part};
-ghost use Rattle.job_rows.specs.Kept.{kept_text};
+ghost use Rattle.job_rows.specs.Kept.{kept_part};
 
 use crate::escapes::push_html;
 use crate::pictures::{push_picture, push_too_large};
@@ -11,51 +12,53 @@ use requests::error_words;
 use std::alloc::{AllocError, Allocator};
 use streams::Error;
 
-/// Of a longer list of items the beginning stands in a row.
-const LIST_LIMIT: usize = 4_000;
-
 /// Appends notes, as they are told.
 pub(crate) fn push_notes<A: Allocator>(
     text: &mut Vec<u8, A>,
-    notes: Option<Result<Vec<u8, A>, Error>>,
+    notes: &Option<Result<Vec<u8, A>, Error>>,
 ) -> Result<(), AllocError>
     ensures { OnOk result (text.new.items ≡ text.old.items ++
-        notes_part (option_map (kept_text (λ text. text.items)) notes)) }
+        notes_part (kept_part (λ text. text.items) notes.now)) }
 {
     match notes {
         None => Ok(()),
         Some(Ok(notes)) => text.extend_from_slice(notes.as_slice()),
-        Some(Err(error)) => push_lost(text, b"The notes", error),
+        Some(Err(error)) => push_lost(text, b"The notes", *error),
     }
 }
 
 /// Appends the items near the place at which a job fails, as a list has them.
 pub(crate) fn push_near<A: Allocator>(
     text: &mut Vec<u8, A>,
-    near: Option<Result<Vec<u8, A>, Error>>,
+    near: &Option<Result<Vec<u8, A>, Error>>,
 ) -> Result<(), AllocError>
     ensures { OnOk result (text.new.items ≡ text.old.items ++
-        near_part (option_map (kept_text (λ text. text.items)) near)) }
+        near_part (kept_part (λ text. text.items) near.now)) }
 {
     match near {
         None => Ok(()),
         Some(Ok(near)) => {
             text.extend_from_slice(b"<pre>")?;
-            push_listed(text, near.as_slice())?;
+            push_listed(text, 4_000, near.as_slice())?;
             text.extend_from_slice(b"</pre>\n")
         }
-        Some(Err(error)) => push_lost(text, b"The items near the place", error),
+        Some(Err(error)) => push_lost(text, b"The items near the place", *error),
     }
 }
 
 /// Appends lines of a list; of many the beginning.
-fn push_listed<A: Allocator>(text: &mut Vec<u8, A>, lines: &[u8]) -> Result<(), AllocError>
-    ensures { OnOk result (text.new.items ≡ text.old.items ++ listed lines.now) }
+#[tactic(auto, unfolding(crate::specs::Bodies::listed))]
+fn push_listed<A: Allocator>(
+    text: &mut Vec<u8, A>,
+    most: usize,
+    lines: &[u8],
+) -> Result<(), AllocError>
+    ensures { OnOk result (text.new.items ≡ text.old.items ++ listed most lines.now) }
 {
-    if lines.len() <= LIST_LIMIT {
+    if lines.len() <= most {
         return push_html(text, lines);
     }
-    push_html(text, &lines[..LIST_LIMIT])?;
+    push_html(text, &lines[..most])?;
     text.extend_from_slice(b"...")
 }
 
@@ -63,15 +66,15 @@ fn push_listed<A: Allocator>(text: &mut Vec<u8, A>, lines: &[u8]) -> Result<(), 
 pub(crate) fn push_page<A: Allocator>(
     text: &mut Vec<u8, A>,
     answer: Result<Verdict, Error>,
-    page: Option<Result<Vec<u8, A>, Error>>,
+    page: &Option<Result<Vec<u8, A>, Error>>,
 ) -> Result<(), AllocError>
     ensures { OnOk result (text.new.items ≡ text.old.items ++
-        page_part answer (option_map (kept_text (λ text. text.items)) page)) }
+        page_part answer (kept_part (λ text. text.items) page.now)) }
 {
     match page {
         None => Ok(()),
         Some(Ok(picture)) => push_picture(text, answer, picture.as_slice()),
-        Some(Err(error)) => push_lost_page(text, error),
+        Some(Err(error)) => push_lost_page(text, *error),
     }
 }
 
@@ -79,15 +82,22 @@ pub(crate) fn push_page<A: Allocator>(
 fn push_lost_page<A: Allocator>(text: &mut Vec<u8, A>, error: Error) -> Result<(), AllocError>
     ensures { OnOk result (text.new.items ≡ text.old.items ++ lost_page error) }
 {
-    match error {
-        Error::Write => push_too_large(text),
-        Error::Memory | Error::Read | Error::Turns | Error::NoProfile | Error::Items => {
-            push_lost(text, b"The page", error)
-        }
+    if is_write(error) {
+        push_too_large(text)
+    } else {
+        push_lost(text, b"The page", error)
     }
 }
 
+/// Whether a write failed, as it does where a picture is too large.
+fn is_write(error: Error) -> bool
+    ensures { result ≡ is_write error }
+{
+    matches!(error, Error::Write)
+}
+
 /// Appends that no page is drawn of a job that can be read only once.
+#[tactic(auto, unfolding(crate::specs::Bodies::once_part))]
 pub(crate) fn push_once<A: Allocator>(
     text: &mut Vec<u8, A>,
     is_once: bool,
@@ -101,6 +111,7 @@ pub(crate) fn push_once<A: Allocator>(
 }
 
 /// Appends why something could not be had.
+#[tactic(auto, unfolding(crate::specs::Bodies::lost_part))]
 fn push_lost<A: Allocator>(
     text: &mut Vec<u8, A>,
     what: &[u8],

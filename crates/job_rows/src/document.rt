@@ -1,6 +1,7 @@
 //! How the document begins and ends.
 ghost use Rattle.std.specs.Prelude.{◌≡◌, ◌++◌, OnOk, map};
 ghost use Rattle.job_rows.specs.Document.{document_end, document_start, fleet_item, fleet_part};
+ghost use Rattle.job_rows.specs.Document.{before_rows, document_head};
 
 use crate::escapes::push_html;
 use crate::page_parts::{FOOT, HEAD, ROWS_START};
@@ -14,8 +15,24 @@ pub fn push_document_start<A: Allocator>(
     ensures { OnOk result (text.new.items ≡ text.old.items ++
         document_start (map (λ name. name.items) names.now)) }
 {
-    text.extend_from_slice(HEAD.as_bytes())?;
+    push_head(text)?;
     push_fleet(text, names)?;
+    push_before_rows(text)
+}
+
+/// Appends what stands before the names of the printers.
+#[tactic(auto, unfolding(crate::specs::Document::document_head))]
+fn push_head<A: Allocator>(text: &mut Vec<u8, A>) -> Result<(), AllocError>
+    ensures { OnOk result (text.new.items ≡ text.old.items ++ document_head) }
+{
+    text.extend_from_slice(HEAD.as_bytes())
+}
+
+/// Appends what stands between those and the rows.
+#[tactic(auto, unfolding(crate::specs::Document::before_rows))]
+fn push_before_rows<A: Allocator>(text: &mut Vec<u8, A>) -> Result<(), AllocError>
+    ensures { OnOk result (text.new.items ≡ text.old.items ++ before_rows) }
+{
     text.extend_from_slice(ROWS_START.as_bytes())
 }
 
@@ -31,6 +48,7 @@ fn push_fleet<A: Allocator>(text: &mut Vec<u8, A>, names: &[Vec<u8, A>]) -> Resu
 }
 
 /// Appends a printer.
+#[tactic(auto, unfolding(crate::specs::Document::fleet_item))]
 fn push_printer<A: Allocator>(text: &mut Vec<u8, A>, name: &[u8]) -> Result<(), AllocError>
     ensures { OnOk result (text.new.items ≡ text.old.items ++ fleet_item name.now) }
 {
@@ -40,6 +58,7 @@ fn push_printer<A: Allocator>(text: &mut Vec<u8, A>, name: &[u8]) -> Result<(), 
 }
 
 /// Appends what stands behind all rows.
+#[tactic(auto, unfolding(crate::specs::Document::document_end))]
 pub fn push_document_end<A: Allocator>(text: &mut Vec<u8, A>) -> Result<(), AllocError>
     ensures { OnOk result (text.new.items ≡ text.old.items ++ document_end) }
 {

@@ -3,8 +3,8 @@
 //! An error means that the allocator refused a request; so in each file of this crate.
 ghost use Rattle.std.specs.Prelude.{◌≡◌, ◌++◌, ℕ, List, OnOk, true};
 ghost use Rattle.job_rows.specs.Escapes.{address_byte, address_text, are_inert, html_byte};
-ghost use Rattle.job_rows.specs.Escapes.{html_text};
-ghost use Rattle.job_rows.specs.Escapes.{is_between, is_kept, is_plain};
+ghost use Rattle.job_rows.specs.Escapes.{html_text, is_between, is_kept, is_latin, is_plain};
+ghost use Rattle.job_rows.specs.Escapes.{is_sign, kept_byte};
 
 use shown_bytes::hex_byte;
 use std::alloc::{AllocError, Allocator};
@@ -32,8 +32,18 @@ fn push_html_byte<A: Allocator>(out: &mut Vec<u8, A>, byte: u8) -> Result<(), Al
         39 => out.extend_from_slice(b"&#39;"),
         60 => out.extend_from_slice(b"&lt;"),
         62 => out.extend_from_slice(b"&gt;"),
-        _ if is_kept(byte) => out.extend_from_slice(&[byte]),
-        _ => out.extend_from_slice(b"&#65533;"),
+        _ => push_kept(out, byte),
+    }
+}
+
+/// Appends a byte that is none of the signs of HTML, or the replacement character.
+fn push_kept<A: Allocator>(out: &mut Vec<u8, A>, byte: u8) -> Result<(), AllocError>
+    ensures { OnOk result (out.new.items ≡ out.old.items ++ kept_byte byte) }
+{
+    if is_kept(byte) {
+        out.extend_from_slice(&[byte])
+    } else {
+        out.extend_from_slice(b"&#65533;")
     }
 }
 
@@ -80,11 +90,19 @@ fn push_address_byte<A: Allocator>(out: &mut Vec<u8, A>, byte: u8) -> Result<(),
 fn is_plain(byte: u8) -> bool
     ensures { result ≡ is_plain byte }
 {
-    is_between(40, 41, byte)
-        || is_between(44, 58, byte)
-        || byte == 61
-        || is_between(65, 90, byte)
-        || is_between(97, 122, byte)
+    is_sign(byte) || is_latin(byte)
+}
+
+fn is_sign(byte: u8) -> bool
+    ensures { result ≡ is_sign byte }
+{
+    is_between(40, 41, byte) || is_between(44, 58, byte) || byte == 61
+}
+
+fn is_latin(byte: u8) -> bool
+    ensures { result ≡ is_latin byte }
+{
+    is_between(65, 90, byte) || is_between(97, 122, byte)
 }
 
 fn is_between(first: u8, last: u8, byte: u8) -> bool

@@ -1,8 +1,8 @@
 //! The head of a job's row: its verdict, its sentence, and where it fails.
 ghost use Rattle.std.specs.Prelude.{◌≡◌, ◌++◌, OnOk};
-ghost use Rattle.job_rows.specs.Heads.{badges, explanation_part, fail_badges, note_part};
-ghost use Rattle.job_rows.specs.Heads.{page_badge, printer_part, row_head, row_start};
-ghost use Rattle.job_rows.specs.Heads.{sentence_part, verdict_class, verdict_name};
+ghost use Rattle.job_rows.specs.Heads.{badges, details_start, explanation_part, fail_badges};
+ghost use Rattle.job_rows.specs.Heads.{note_part, page_badge, printer_part, row_head, row_start};
+ghost use Rattle.job_rows.specs.Heads.{sentence_part, summary_start, verdict_class, verdict_name};
 ghost use Rattle.job_reports.specs.Reports.{number_told, verdict_told};
 
 use crate::escapes::push_html;
@@ -57,12 +57,34 @@ fn push_row_start<A: Allocator>(
 ) -> Result<(), AllocError>
     ensures { OnOk result (text.new.items ≡ text.old.items ++ row_start report.now) }
 {
-    let answer = report.verdict();
+    push_details_start(text, report)?;
+    push_summary_start(text, report.verdict())
+}
+
+/// Appends how what can be opened begins.
+#[tactic(auto, unfolding(crate::specs::Heads::details_start))]
+fn push_details_start<A: Allocator>(
+    text: &mut Vec<u8, A>,
+    report: &Report<'_, '_, A>,
+) -> Result<(), AllocError>
+    ensures { OnOk result (text.new.items ≡ text.old.items ++ details_start report.now) }
+{
     text.extend_from_slice(b"<details class=\"")?;
-    text.extend_from_slice(verdict_class(answer))?;
+    text.extend_from_slice(verdict_class(report.verdict()))?;
     text.extend_from_slice(b"\" data-printer=\"")?;
     push_printer(text, report)?;
-    text.extend_from_slice(b"\">\n<summary><b>")?;
+    text.extend_from_slice(b"\">\n")
+}
+
+/// Appends the verdict.
+#[tactic(auto, unfolding(crate::specs::Heads::summary_start))]
+fn push_summary_start<A: Allocator>(
+    text: &mut Vec<u8, A>,
+    answer: Result<Verdict, Error>,
+) -> Result<(), AllocError>
+    ensures { OnOk result (text.new.items ≡ text.old.items ++ summary_start answer) }
+{
+    text.extend_from_slice(b"<summary><b>")?;
     text.extend_from_slice(verdict_name(answer))?;
     text.extend_from_slice(b"</b> ")
 }
@@ -82,6 +104,7 @@ fn push_printer<A: Allocator>(
 }
 
 /// Appends the sentence of a job.
+#[tactic(auto, unfolding(crate::specs::Heads::sentence_part))]
 fn push_sentence<A: Allocator + Copy>(
     alloc: A,
     text: &mut Vec<u8, A>,
@@ -120,6 +143,7 @@ fn push_badges<A: Allocator>(
 }
 
 /// Appends who says no, the page that is open there, and the byte.
+#[tactic(auto, unfolding(crate::specs::Heads::fail_badges))]
 fn push_fail_badges<A: Allocator>(
     text: &mut Vec<u8, A>,
     kind: Kind,
@@ -137,6 +161,7 @@ fn push_fail_badges<A: Allocator>(
 }
 
 /// Appends the page, where it is known.
+#[tactic(auto, unfolding(crate::specs::Heads::page_badge))]
 fn push_page_badge<A: Allocator>(text: &mut Vec<u8, A>, page: Option<u64>) -> Result<(), AllocError>
     ensures { OnOk result (text.new.items ≡ text.old.items ++ page_badge page) }
 {
@@ -152,6 +177,7 @@ fn push_page_badge<A: Allocator>(text: &mut Vec<u8, A>, page: Option<u64>) -> Re
 // ---- what stands open
 
 /// Appends an explanation, where there is one.
+#[tactic(auto, unfolding(crate::specs::Heads::explanation_part))]
 fn push_explanation<A: Allocator>(
     text: &mut Vec<u8, A>,
     explanation: &[u8],
@@ -167,6 +193,7 @@ fn push_explanation<A: Allocator>(
 }
 
 /// Appends the sentence of a note, with this explanation, where there is one.
+#[tactic(auto, unfolding(crate::specs::Heads::note_part))]
 pub fn push_note<A: Allocator>(
     text: &mut Vec<u8, A>,
     sentence: &[u8],

@@ -22,6 +22,7 @@ pub(crate) fn push_picture<A: Allocator>(
 }
 
 /// Appends that a picture is left to the command that draws it.
+#[tactic(auto, unfolding(crate::specs::Pictures::too_large))]
 pub(crate) fn push_too_large<A: Allocator>(text: &mut Vec<u8, A>) -> Result<(), AllocError>
     ensures { OnOk result (text.new.items ≡ text.old.items ++ too_large) }
 {
@@ -33,6 +34,7 @@ pub(crate) fn push_too_large<A: Allocator>(text: &mut Vec<u8, A>) -> Result<(), 
 
 /// Appends a picture with its caption. It is a picture of its own, so that nothing in it reaches
 /// the document, and that a browser takes it apart only once it is looked at.
+#[tactic(auto, unfolding(crate::specs::Pictures::figure))]
 fn push_figure<A: Allocator>(
     text: &mut Vec<u8, A>,
     answer: Result<Verdict, Error>,

@@ -24,31 +24,31 @@ pub struct RowParts<A: Allocator> {
 }
 
 impl<A: Allocator> Model for RowParts<A> {
-    ghost use Rattle.std.specs.Prelude.{option_map};
-    ghost use Rattle.job_rows.specs.Kept.{kept_text};
+    ghost use Rattle.job_rows.specs.Kept.{kept_part};
     ghost use Rattle.job_rows.specs.Rows.{PartsTold};
 
     ghost Value = { PartsTold };
 
     ghost view = { λ parts. record {
-      notes = option_map (kept_text (λ text. text.items)) parts.notes;
-      near = option_map (kept_text (λ text. text.items)) parts.near;
-      page = option_map (kept_text (λ text. text.items)) parts.page;
+      notes = kept_part (λ text. text.items) parts.notes;
+      near = kept_part (λ text. text.items) parts.near;
+      page = kept_part (λ text. text.items) parts.page;
       is_once = parts.is_once;
     } };
 }
 
 /// Appends the row of a job: its verdict, its sentence, of what kind it is and where; and what it
 /// opens to, with this explanation, where there is one.
+#[tactic(auto, unfolding(crate::specs::Rows::row_text))]
 pub fn push_row<A: Allocator + Copy>(
     alloc: A,
     text: &mut Vec<u8, A>,
     report: &Report<'_, '_, A>,
     explanation: &str,
-    parts: RowParts<A>,
+    parts: &RowParts<A>,
 ) -> Result<(), AllocError>
     ensures { OnOk result (text.new.items ≡ text.old.items ++
-        row_text explanation.now report.now parts) }
+        row_text explanation.now report.now parts.now) }
 {
     push_row_head(alloc, text, report, explanation)?;
     push_row_body(text, report.verdict(), parts)?;
@@ -56,15 +56,16 @@ pub fn push_row<A: Allocator + Copy>(
 }
 
 /// Appends what a row opens to.
+#[tactic(auto, unfolding(crate::specs::Rows::row_body))]
 fn push_row_body<A: Allocator>(
     text: &mut Vec<u8, A>,
     answer: Result<Verdict, Error>,
-    parts: RowParts<A>,
+    parts: &RowParts<A>,
 ) -> Result<(), AllocError>
-    ensures { OnOk result (text.new.items ≡ text.old.items ++ row_body answer parts) }
+    ensures { OnOk result (text.new.items ≡ text.old.items ++ row_body answer parts.now) }
 {
-    push_notes(text, parts.notes)?;
-    push_near(text, parts.near)?;
-    push_page(text, answer, parts.page)?;
+    push_notes(text, &parts.notes)?;
+    push_near(text, &parts.near)?;
+    push_page(text, answer, &parts.page)?;
     push_once(text, parts.is_once)
 }

@@ -539,6 +539,21 @@ module _ (groups : Groups) (telling : HowTold) (start : List ℕ → SourceState
         (front_behind groups telling start (map (keyed job) (range_with_len 0 number)) ((job, number) ∷ []) old mid new later ending before
         (subst (λ s. TellsFront groups telling s (keyed job number ∷ []) mid new) same cut))
 
+-- a row that was cut is so for an error of a line
+module _ (group : Groups) (telling : HowTold) (start : SourceState) (job : List ℕ) (answer : Result Judgement Error) (old new : Work) where
+  error_of_row : (error : Error) → CutsRow error group telling start job answer old new → IsErrorOfLine error
+  error_of_row Memory cut = tt
+  error_of_row Write cut = tt
+  error_of_row Read cut = cut
+  error_of_row Turns cut = cut
+  error_of_row NoProfile cut = cut
+  error_of_row Items cut = cut
+
+  pub row_errors : (r : Result Ending Error) → IfErr r (λ error. CutsRow error group telling start job answer old new) →
+      IfErr r IsErrorOfLine
+  row_errors (Ok ending) cut = tt
+  row_errors (Err error) cut = error_of_row error cut
+
 -- where it is an error, this holds
 pub where_err : (r : Result Ending Error) (P : Type 0) → P → IfErr r (λ error. P)
 where_err (Ok ending) P p = tt

@@ -88,16 +88,16 @@ ending_of_kept (Some notes) = ending_of_notes notes
 
 -- ---- jobs that can be read only once
 
-abbrev pub is_named : (job name : List ℕ) → Bool
-is_named job name = bytes_eq name job
+abbrev pub has_name : (job name : List ℕ) → Bool
+has_name job name = bytes_eq name job
 
 -- the job is one of these
 abbrev pub is_among : (names : List (List ℕ)) → (job : List ℕ) → Bool
-is_among names job = list_any (is_named job) names
+is_among names job = list_any (has_name job) names
 
 -- it is standard input, or one of those that can be read only once
-abbrev pub is_once : HowTold → (job : List ℕ) → Bool
-is_once telling job = is_input job || is_among telling.read_once job
+abbrev pub is_read_once : HowTold → (job : List ℕ) → Bool
+is_read_once telling job = is_input job || is_among telling.read_once job
 
 -- ---- the picture of a page
 
@@ -127,7 +127,7 @@ drawn_by None printer = None
 -- what is drawn of a job
 abbrev pub page_of_job : HowTold → Groups → (job : List ℕ) → Result Judgement Error → Option Rendering
 page_of_job telling group job answer =
-    if is_once telling job then None
+    if is_read_once telling job then None
     else drawn_by (page_shown answer) (printer_shown (verdict_told answer) group.fleet)
 
 -- ---- the items near the place at which a job fails
@@ -149,7 +149,7 @@ place_shown (Err error) = None
 
 abbrev pub near_of_job : HowTold → (job : List ℕ) → Result Judgement Error → Option Rendering
 near_of_job telling job answer =
-    if is_once telling job then None else option_map near_rendering (place_shown (verdict_told answer))
+    if is_read_once telling job then None else option_map near_rendering (place_shown (verdict_told answer))
 
 -- ---- the row
 
@@ -165,7 +165,7 @@ row_afters noted near page = noted_after noted ++ reread_after near ++ reread_af
 -- these parts, of a job that can be read only once just where it is one of those
 abbrev pub parts_with : HowTold → (job : List ℕ) → (notes near page : Option (Result (List ℕ) Error)) → PartsTold
 parts_with telling job notes near page =
-    record { notes = notes; near = near; page = page; is_once = is_once telling job }
+    record { notes = notes; near = near; page = page; is_once = is_read_once telling job }
 
 abbrev pub parts_of : HowTold → (job : List ℕ) → Option Noted → Option Reread → Option Reread → PartsTold
 parts_of telling job noted near page =

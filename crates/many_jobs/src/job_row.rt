@@ -1,15 +1,15 @@
 //! The row of a job, in a document of many jobs: for it the job is read again.
 ghost use Rattle.std.specs.Prelude.{◌≡◌, IfErr, IfOk, IsFalse, List, OnOk, Option, ℕ};
-ghost use Rattle.std.specs.Prelude.{map, option_map};
+ghost use Rattle.std.specs.Prelude.{Some, map};
 ghost use Rattle.std.specs.Option.{option_copied};
 ghost use Rattle.streams.specs.Errors.{is_err_of_write};
-ghost use Rattle.job_rows.specs.Kept.{kept_text};
+ghost use Rattle.job_rows.specs.Kept.{kept_part};
 ghost use Rattle.job_reports.specs.Reports.{verdict_told};
 ghost use Rattle.many_jobs.specs.Asked.{told_by};
 ghost use Rattle.many_jobs.specs.JobChecks.{AddsRow, AddsTold, CutsRow, CutsTold, work};
 ghost use Rattle.many_jobs.specs.JobNoting.{AreRightNotes, note_printer};
-ghost use Rattle.many_jobs.specs.JobRow.{Rereads, RereadsNotes, drawn_by, is_among, is_named};
-ghost use Rattle.many_jobs.specs.JobRow.{is_once};
+ghost use Rattle.many_jobs.specs.JobRow.{Rereads, RereadsNotes, drawn_by, has_name, is_among};
+ghost use Rattle.many_jobs.specs.JobRow.{is_read_once};
 ghost use Rattle.many_jobs.specs.JobRow.{near_of_job, page_of_job, page_shown, place_shown};
 ghost use Rattle.many_jobs.specs.JobRow.{printer_shown, row_with};
 ghost use Rattle.many_jobs.specs.NoteReports.{subject_of, told_note};
@@ -58,15 +58,17 @@ pub(crate) fn tell_row<'n, J: Jobs<'n>, O: Outlet, A: Allocator + Copy>(
     let notes = reread_notes(alloc, jobs, name, group, answer, telling);
     let near = reread_near(alloc, jobs, name, answer, telling);
     let page = reread_page(alloc, jobs, name, group, answer, telling);
-    let ending = Ending::of(telling, answer).worse(Ending::of_notes(&notes));
+    let once = is_read_once(telling, name);
+    let judged = Ending::of(telling, answer);
+    let noted = Ending::of_notes(&notes);
     let parts = RowParts {
         notes,
         near,
         page,
-        is_once: is_once(telling, name),
+        is_once: once,
     };
-    write_row(alloc, group, name, answer, error, telling, parts, stdout)?;
-    Ok(ending)
+    write_row(alloc, group, name, answer, error, telling, &parts, stdout)?;
+    Ok(judged.worse(noted))
 }
 
 /// Writes the row of a job, with what the system says of an error, where it can be had.
@@ -77,15 +79,15 @@ fn write_row<'t, O: Outlet, A: Allocator + Copy>(
     answer: Result<Judgement, Error>,
     error: Option<io::Error>,
     telling: &Telling<'_>,
-    parts: RowParts<A>,
+    parts: &RowParts<A>,
     stdout: &mut O,
 ) -> Result<(), Error>
     requires { IsFalse (O.state stdout.old).failed }
     ensures told { OnOk result (AddsTold
-        (λ cause. row_with (told_by telling.now) group.now name.now answer cause parts)
+        (λ cause. row_with (told_by telling.now) group.now name.now answer cause parts.now)
         (O.state stdout.old) (O.state stdout.new)) }
     ensures cut { IfErr result (λ error. CutsTold error
-        (λ cause. row_with (told_by telling.now) group.now name.now answer cause parts)
+        (λ cause. row_with (told_by telling.now) group.now name.now answer cause parts.now)
         (O.state stdout.old) (O.state stdout.new)) }
     ensures write { (O.state stdout.new).failed ≡ is_err_of_write result }
 {
@@ -101,10 +103,10 @@ fn row_of_job<'t, A: Allocator + Copy>(
     answer: Result<Judgement, Error>,
     error: Option<io::Error>,
     telling: &Telling<'_>,
-    parts: RowParts<A>,
+    parts: &RowParts<A>,
 ) -> Result<Vec<u8, A>, AllocError>
     ensures { IfOk result (λ row. (cause : Option (List ℕ)) × (row.items ≡
-        row_with (told_by telling.now) group.now name.now answer cause parts)) }
+        row_with (told_by telling.now) group.now name.now answer cause parts.now)) }
 {
     let words = system_words(alloc, error);
     let cause = words.as_ref().map(|words| words.as_bytes());
@@ -134,7 +136,7 @@ fn reread_notes<'n, J: Jobs<'n>, A: Allocator + Copy>(
         (told_note (told_by telling.now) (subject_of group.now name.now))
         printer (J.start jobs.old name.now) after notes)
         (note_printer (verdict_told answer) group.now.note_printers)
-        (option_map (kept_text (λ text. text.items)) result)
+        (kept_part (λ text. text.items) result)
         (J.ended jobs.old) (J.ended jobs.new) }
     ensures start { J.start jobs.new ≡ J.start jobs.old }
 {
@@ -158,11 +160,11 @@ fn reread_near<'n, J: Jobs<'n>, A: Allocator + Copy>(
     telling: &Telling<'_>,
 ) -> Option<Result<Vec<u8, A>, Error>>
     ensures read { Rereads (near_of_job (told_by telling.now) name.now answer)
-        (J.start jobs.old name.now) (option_map (kept_text (λ text. text.items)) result)
+        (J.start jobs.old name.now) (kept_part (λ text. text.items) result)
         (J.ended jobs.old) (J.ended jobs.new) }
     ensures start { J.start jobs.new ≡ J.start jobs.old }
 {
-    if is_once(telling, name) {
+    if is_read_once(telling, name) {
         return None;
     }
     match place_shown(answer) {
@@ -186,36 +188,36 @@ fn reread_page<'n, J: Jobs<'n>, A: Allocator + Copy>(
     telling: &Telling<'_>,
 ) -> Option<Result<Vec<u8, A>, Error>>
     ensures read { Rereads (page_of_job (told_by telling.now) group.now name.now answer)
-        (J.start jobs.old name.now) (option_map (kept_text (λ text. text.items)) result)
+        (J.start jobs.old name.now) (kept_part (λ text. text.items) result)
         (J.ended jobs.old) (J.ended jobs.new) }
     ensures start { J.start jobs.new ≡ J.start jobs.old }
 {
-    if is_once(telling, name) {
+    if is_read_once(telling, name) {
         return None;
     }
     match page_shown(answer) {
         None => None,
-        Some(page) => {
-            let printer = printer_shown(answer, group.profiles());
-            reread_page_on(alloc, jobs, name, printer, page)
-        }
+        Some(page) => reread_page_of(alloc, jobs, name, group, answer, page),
     }
 }
 
-/// Reads a job once more for the picture of this page on a printer, where there is one.
-fn reread_page_on<'n, J: Jobs<'n>, A: Allocator + Copy>(
+/// Reads a job once more for the picture of this page, where there is a printer that it is drawn
+/// for.
+fn reread_page_of<'n, J: Jobs<'n>, A: Allocator + Copy>(
     alloc: A,
     jobs: &mut J,
     name: &'n [u8],
-    printer: Option<&Profile<A>>,
+    group: &PrinterGroup<'_, A>,
+    answer: Result<Judgement, Error>,
     page: u64,
 ) -> Option<Result<Vec<u8, A>, Error>>
-    ensures read { Rereads (drawn_by (Some page) (option_copied printer.entry))
-        (J.start jobs.old name.now) (option_map (kept_text (λ text. text.items)) result)
+    ensures read { Rereads
+        (drawn_by (Some page) (printer_shown (verdict_told answer) group.now.fleet))
+        (J.start jobs.old name.now) (kept_part (λ text. text.items) result)
         (J.ended jobs.old) (J.ended jobs.new) }
     ensures start { J.start jobs.new ≡ J.start jobs.old }
 {
-    match printer {
+    match printer_shown(answer, group.profiles()) {
         None => None,
         Some(printer) => {
             let mut job = jobs.job(name);
@@ -271,8 +273,8 @@ fn printer_shown<A: Allocator>(
 // ---- jobs that can be read only once
 
 /// Whether a job is standard input, or one of those that can be read only once.
-fn is_once(telling: &Telling<'_>, job: &[u8]) -> bool
-    ensures { result ≡ is_once (told_by telling.now) job.now }
+fn is_read_once(telling: &Telling<'_>, job: &[u8]) -> bool
+    ensures { result ≡ is_read_once (told_by telling.now) job.now }
 {
     is_input(job) || is_among(telling.read_once, job)
 }
@@ -282,7 +284,7 @@ fn is_among(names: &[&[u8]], job: &[u8]) -> bool
     ensures { result ≡ is_among (map (λ name. name.now) names.now) job.now }
 {
     for name in names {
-        if is_named(job, name) {
+        if has_name(job, name) {
             return true;
         }
     }
@@ -290,8 +292,8 @@ fn is_among(names: &[&[u8]], job: &[u8]) -> bool
 }
 
 /// Whether a job has this name.
-fn is_named(job: &[u8], name: &[u8]) -> bool
-    ensures { result ≡ is_named job.now name.now }
+fn has_name(job: &[u8], name: &[u8]) -> bool
+    ensures { result ≡ has_name job.now name.now }
 {
     name == job
 }

@@ -62,7 +62,10 @@ pub(crate) fn read_near<S: Source, A: Allocator + Copy>(
     ensures { IsRightText (near_rendering place)
         (S.state job.old) (S.state job.new) (kept_text (λ text. text.items) result) }
 {
-    let mut nearby = Nearby::new(alloc, place);
+    let mut nearby = Nearby {
+        place,
+        spelling: Vec::new(alloc),
+    };
     let mut text = KeptText::new(alloc);
     match render_job(alloc, job, &mut nearby, &mut text) {
         Ok(_) => Ok(text.into_bytes()),
@@ -78,40 +81,30 @@ struct Nearby<B: Allocator> {
     spelling: Vec<u8, B>,
 }
 
-impl<B: Allocator> Nearby<B> {
-    /// Of which nothing is written yet.
-    fn new(alloc: B, place: u64) -> Nearby<B>
-        ensures { result.place ≡ place }
-    {
-        Nearby {
-            place,
-            spelling: Vec::new(alloc),
-        }
+/// Appends the line of an item, where it is near this place. What it is spelled in is given.
+fn push_near<A: Allocator, B: Allocator>(
+    text: &mut Vec<u8, A>,
+    spelling: &mut Vec<u8, B>,
+    near: u64,
+    place: Place,
+    item: &Item<'_>,
+) -> Result<(), AllocError>
+    ensures { OnOk result (text.new.items ≡ text.old.items
+        ++ near_line near (at place (view item.now))) }
+{
+    if !is_near(near, place) {
+        return Ok(());
     }
-
-    /// Appends the line of an item, where it is near.
-    fn push_near<A: Allocator>(
-        &mut self,
-        text: &mut Vec<u8, A>,
-        place: Place,
-        item: &Item<'_>,
-    ) -> Result<(), AllocError>
-        ensures text { OnOk result (text.new.items ≡ text.old.items
-            ++ near_line self.old.place (at place (view item.now))) }
-        ensures same { self.new.place ≡ self.old.place }
-    {
-        if !is_near(self.place, place) {
-            return Ok(());
-        }
-        push_item(text, &mut self.spelling, place, item)
-    }
+    push_item(text, spelling, place, item)
 }
 
 /// Whether an item at `x` is near a place.
 fn is_near(place: u64, x: u64) -> bool
     ensures { result ≡ is_near place x }
 {
-    place.saturating_sub(BEFORE) <= x && x.saturating_sub(BEHIND) <= place
+    let first = place.saturating_sub(BEFORE);
+    let before = x.saturating_sub(BEHIND);
+    first <= x && before <= place
 }
 
 impl<B: Allocator> Renderer for Nearby<B> {
@@ -126,7 +119,8 @@ impl<B: Allocator> Renderer for Nearby<B> {
         place: Place,
         item: &Item<'_>,
     ) -> Result<Option<Outcome>, Error> {
-        self.push_near(kept, place, item)?;
+        let near = self.place;
+        push_near(kept, &mut self.spelling, near, place, item)?;
         write_enough(outlet, kept)?;
         Ok(None)
     }

@@ -68,7 +68,10 @@ pub fn push_report<A: Allocator + Copy>(
         Format::Line => push_job_line(line, report)?,
         Format::Words => push_job_sentence(alloc, line, report)?,
         Format::Json(memory) => return push_job_object(alloc, memory, line, report, below),
-        Format::Html => return push_row(alloc, line, report, below, no_parts()),
+        Format::Html => {
+            let none = no_parts();
+            return push_row(alloc, line, report, below, &none);
+        }
     }
     line.extend_from_slice(below.as_bytes())
 }
@@ -80,11 +83,11 @@ pub(crate) fn push_told_row<A: Allocator + Copy>(
     line: &mut Vec<u8, A>,
     report: &Report<'_, '_, A>,
     telling: &Telling<'_>,
-    parts: RowParts<A>,
+    parts: &RowParts<A>,
 ) -> Result<(), AllocError>
     ensures { OnOk result (line.new.items ≡ line.old.items ++ row_text
         (explained (told_by telling.now).explanations (verdict_told report.now.answer))
-        report.now parts) }
+        report.now parts.now) }
 {
     let below = explained(telling.explanations, report.verdict());
     push_row(alloc, line, report, below, parts)

@@ -8,7 +8,7 @@ use Rattle.many_jobs.specs.JobChecks.{AddsRow, AddsTold, CutsNotes, CutsRow, Cut
 use Rattle.many_jobs.specs.JobNoting.{note_printer}
 use Rattle.job_reports.specs.Reports.{verdict_told}
 use Rattle.many_jobs.specs.Telling.{is_html, report_text}
-use Rattle.many_jobs.proofs.JobChecks.{cuts_line, cuts_notes, row_cut_all, row_told_all, tells_alone, tells_noted, where_err}
+use Rattle.many_jobs.proofs.JobChecks.{cuts_line, cuts_notes, row_cut_all, row_errors, row_told_all, tells_alone, tells_noted, where_err}
 use Rattle.many_jobs.proofs.job_checks.tell_group.Goals as goal
 
 pub returns-in_err-tell_line-clause-front : goal.returns-in_err-tell_line-clause-front
@@ -187,3 +187,10 @@ returns-then-is_html-clause-front g c =
     (λ error. CutsRow error (group_at printers number) telling (start_of name) name answer (work old.out ended) new))
     c.end.ensures.start cut in
     row_cut_all printers telling start name number after answer right html old new ended c.end.ensures.ended c.tell_row.result cut'
+
+pub returns-then-is_html-clause-errors : goal.returns-then-is_html-clause-errors
+returns-then-is_html-clause-errors g c =
+    let name = c.args.name.now in
+    row_errors c.part-group.result (told_by c.args.telling.now) (g.J.Jobs.start c.end.new.self name) name c.check_group-answer.result
+    (work (g.O.Outlet.state c.args.stdout.now) (g.J.Jobs.ended c.end.new.self))
+    (work (g.O.Outlet.state c.tell_row.new.stdout) (g.J.Jobs.ended c.tell_row.new.jobs)) c.tell_row.result c.tell_row.ensures.cut
