@@ -104,7 +104,7 @@ class Comparison:
         if told.verdict == "ERROR" or job.data is None:
             return Further()
         printer = group[max(told.profile, 1) - 1]
-        page = told.page if told.verdict == "FAIL" else 1
+        page = told.place.page if told.verdict == "FAIL" else 1
         return Further(self.run.listed(job.data), self.run.picture(job.data, printer, page))
 
     def compare_form(self, form: str, explains: bool) -> Optional[List[Optional[str]]]:

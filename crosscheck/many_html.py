@@ -109,7 +109,7 @@ def badges(told: Told, command: Optional[str]) -> List[Tuple[str, str]]:
     if told.verdict == "PASS":
         return [("i", f"pages {told.pages}")]
     if told.verdict == "FAIL":
-        return [("i", kind_of(told.code, command)), ("i", f"page {told.page}"),
+        return [("i", kind_of(told.code, command)), ("i", f"page {told.place.page}"),
                 ("i", f"byte {told.at}")]
     return []
 

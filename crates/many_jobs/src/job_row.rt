@@ -1,6 +1,5 @@
 //! The row of a job, in a document of many jobs: for it the job is read again.
-ghost use Rattle.std.specs.Prelude.{◌≡◌, IfErr, IfOk, IsFalse, List, OnOk, Option, ℕ};
-ghost use Rattle.std.specs.Prelude.{Some, map};
+ghost use Rattle.std.specs.Prelude.{◌≡◌, IfErr, IfOk, IsFalse, List, OnOk, Option, map, ℕ};
 ghost use Rattle.std.specs.Option.{option_copied};
 ghost use Rattle.streams.specs.Errors.{is_err_of_write};
 ghost use Rattle.job_rows.specs.Kept.{kept_part};
@@ -9,9 +8,8 @@ ghost use Rattle.many_jobs.specs.Asked.{told_by};
 ghost use Rattle.many_jobs.specs.JobChecks.{AddsRow, AddsTold, CutsRow, CutsTold, work};
 ghost use Rattle.many_jobs.specs.JobNoting.{AreRightNotes, note_printer};
 ghost use Rattle.many_jobs.specs.JobRow.{Rereads, RereadsNotes, drawn_by, has_name, is_among};
-ghost use Rattle.many_jobs.specs.JobRow.{is_read_once};
-ghost use Rattle.many_jobs.specs.JobRow.{near_of_job, page_of_job, page_shown, place_shown};
-ghost use Rattle.many_jobs.specs.JobRow.{printer_shown, row_with};
+ghost use Rattle.many_jobs.specs.JobRow.{is_read_once, near_of_job, page_of_job, page_shown};
+ghost use Rattle.many_jobs.specs.JobRow.{place_shown, printer_shown, row_with};
 ghost use Rattle.many_jobs.specs.NoteReports.{subject_of, told_note};
 
 use crate::ending::Ending;
