@@ -1,5 +1,5 @@
 -- In a document a text has neither a quote nor `<` nor `>`.
-use Rattle.std.proofs.Common.{◌≡◌, ℕ, ◌==◌, Bool, true, false, List, [], ◌∷◌, ◌++◌, codes, flat_map, refl, if◌then◌else◌}
+use Rattle.std.proofs.Common.{◌≡◌, ℕ, ◌==◌, ◌||◌, not, Bool, true, false, List, [], ◌∷◌, ◌++◌, codes, refl, if◌then◌else◌}
 use Rattle.std.specs.Prelude.{◌&&◌}
 use Rattle.job_rows.specs.Escapes.{are_inert, html_byte, html_text, is_inert, is_kept, kept_byte}
 
@@ -22,9 +22,12 @@ one_of : (test : Bool) (a b : List ℕ) → are_inert a ≡ true → (test ≡ f
 one_of true a b h k = h
 one_of false a b h k = k refl
 
+none_of : (p q r s : Bool) → p ≡ false → q ≡ false → r ≡ false → s ≡ false → not (((p || q) || r) || s) ≡ true
+none_of p q r s first second third fourth = rw (first, second, third, fourth) refl
+
 -- a byte that is none of the signs
 other : (b : ℕ) → (b == 34) ≡ false → (b == 39) ≡ false → (b == 60) ≡ false → (b == 62) ≡ false → is_inert b ≡ true
-other b quote apostrophe less more = rw (quote, apostrophe, less, more) refl
+other b quote apostrophe less more = none_of (b == 34) (b == 39) (b == 60) (b == 62) quote apostrophe less more
 
 inert_kept : (test : Bool) (b : ℕ) → is_inert b ≡ true → are_inert (if test then b ∷ [] else codes "&#65533;") ≡ true
 inert_kept true b h = and_nothing (is_inert b) h

@@ -32,7 +32,9 @@ impl Format {
         ensures { result ≡ is_html self }
     {
         match self {
-            Format::Line | Format::Words | Format::Json(_) => false,
+            Format::Line => false,
+            Format::Words => false,
+            Format::Json(_) => false,
             Format::Html => true,
         }
     }
