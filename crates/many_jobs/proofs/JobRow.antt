@@ -1,6 +1,8 @@
 -- Lemmas on the row of a job, for which the job is read again.
 use Rattle.std.proofs.Common.{◌≡◌, ℕ, List, [], ◌∷◌, ◌++◌, Option, None, Some, Result, Ok, Err, refl, sym, ◌∙◌, ap, append_assoc}
-use Rattle.std.proofs.Common.{append-nil, option_map, subst}
+use Rattle.std.proofs.Common.{append-nil, option_map, subst, Bor, length, option_copied, slice_get}
+use Rattle.std.proofs.lemmas.Option.{slice_get_past, slice_get_read}
+use Rattle.std.specs.Slice.{IsItemAt}
 use Rattle.device_profile.specs.Printer.{Printer}
 use Rattle.preflight.specs.declared.culprit.Judgement.{Judgement}
 use Rattle.streams.specs.declared.error.Error.{Error}
@@ -56,6 +58,13 @@ module _ (rendering : Rendering) (job job' : SourceState) (kept kept' : OutletSt
   limited_stopped Turns rendered = record { due = tt; needed = tt; error = tt; read = rendered.read }
   limited_stopped NoProfile rendered = absurd (rendered.never_no_profile refl)
   limited_stopped Items rendered = absurd (rendered.never_items refl)
+
+-- ---- the printer that a page is drawn for
+
+-- what a slice has at a place
+pub copied_at : {X : Type 0} (xs : List X) (i : ℕ) (found : Option (Bor X)) → IsItemAt xs i found → option_copied found ≡ slice_get xs i
+copied_at xs i None item = sym (slice_get_past xs i item.3)
+copied_at xs i (Some x) item = sym (slice_get_read xs (length xs) i x.now refl item.3.0 item.1)
 
 -- ---- a further reading, as it stands in a line
 

@@ -1,5 +1,6 @@
 //! The row of a job, in a document of many jobs: for it the job is read again.
-ghost use Rattle.std.specs.Prelude.{◌≡◌, IfErr, IfOk, IsFalse, List, OnOk, Option, map, ℕ};
+ghost use Rattle.std.specs.Prelude.{◌≡◌, ◌-◌, IfErr, IfOk, IsFalse, List, OnOk, Option, map};
+ghost use Rattle.std.specs.Prelude.{slice_get, ℕ};
 ghost use Rattle.std.specs.Option.{option_copied};
 ghost use Rattle.streams.specs.Errors.{is_err_of_write};
 ghost use Rattle.job_rows.specs.Kept.{kept_part};
@@ -262,10 +263,17 @@ fn printer_shown<A: Allocator>(
     match answer {
         Ok(judgement) => match judgement.verdict {
             Verdict::Pass { .. } => printers.first(),
-            Verdict::Fail { profile, .. } => printers.get(profile.saturating_sub(1) as usize),
+            Verdict::Fail { profile, .. } => printer_of(profile, printers),
         },
         Err(_) => printers.first(),
     }
+}
+
+/// The printer of this number, from 1.
+fn printer_of<A: Allocator>(number: u64, printers: &[Profile<A>]) -> Option<&Profile<A>>
+    ensures { option_copied result ≡ slice_get printers.now (number - 1) }
+{
+    printers.get(number.saturating_sub(1) as usize)
 }
 
 // ---- jobs that can be read only once
