@@ -1,5 +1,5 @@
 -- How it is told what came of a job.
-use Rattle.std.specs.Prelude.{ℕ, Bool, true, false, List, [], ◌++◌, decimal, Option, None, Result, Ok, Err}
+use Rattle.std.specs.Prelude.{ℕ, Bool, true, false, List, [], ◌++◌, decimal, None, Result, Ok, Err}
 use Rattle.streams.specs.declared.error.Error.{Error}
 use Rattle.verdict.specs.Numbers.{reason_number}
 use Rattle.verdict.specs.declared.verdict.Verdict.{Verdict}
