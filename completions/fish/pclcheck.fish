@@ -77,7 +77,7 @@ function __pclcheck_findings
 end
 
 complete -c pclcheck -n '__pclcheck_at ""' -f
-complete -c pclcheck -n '__pclcheck_at ""' -l format -x -a 'line words json' \
+complete -c pclcheck -n '__pclcheck_at ""' -l format -x -a 'line words json html' \
     -d 'As --format of check, and for what stands in the way of each command'
 complete -c pclcheck -n '__pclcheck_at ""' -s V -l version -d 'Print version'
 complete -c pclcheck -n 'not string match -q "*help*" (__pclcheck_command)' -s h -l help \
@@ -138,8 +138,8 @@ complete -c pclcheck -n '__pclcheck_at check' -l each \
     -d 'A line for each printer, with its own verdict'
 complete -c pclcheck -n '__pclcheck_at check' -l notes \
     -d 'Tells below each PASS what the job leaves to the printer; reads it twice'
-complete -c pclcheck -n '__pclcheck_at check' -l format -x -a 'line words json' \
-    -d 'What is told of a job: a line, a sentence or an object of JSON'
+complete -c pclcheck -n '__pclcheck_at check' -l format -x -a 'line words json html' \
+    -d 'What is told of a job: a line, a sentence, an object of JSON, or a row of a page of HTML'
 complete -c pclcheck -n '__pclcheck_at check' -l explain \
     -d "Tells of each FAIL and note what 'pclcheck explain' tells of its number"
 complete -c pclcheck -n '__pclcheck_at check' -l exit-zero -d 'Ends with 0 where a job fails, too'

@@ -26,6 +26,8 @@ pub const EXPLANATION: &str = "Examples:
       b.pcl: this job is wrong at byte 9 on page 2: the bytes here are no command (1 Syntax)
   pclcheck check -f shop.fleet --format json a.pcl
       {\"job\":\"a.pcl\",\"marks\":16,\"pages\":1,\"verdict\":\"PASS\"}
+  pclcheck check -f shop.fleet --format html --explain --notes in/*.pcl > report.html
+      a page to look at: the counts, a row for each job, and its picture where it fails
   pclcheck check -f shop.fleet --explain c.pcl
       FAIL at=5 printer=desk 24 DefinitionOpen c.pcl
       24 DefinitionOpen
@@ -81,6 +83,11 @@ With -p, -f, --allow-empty, --most-items, --each, --notes, --format, --explain, 
   cause. Below a PASS an object for each note with job, printer, at, code, note and explanation. In
   job each backslash is doubled; a JOB that is no UTF-8 text stands there as in a line. The page is
   the one that is open at the byte, from 1.
+  --format html: one document that loads nothing from elsewhere, with a row for the line: the
+  verdict, the sentence of --format words, kind, page and byte. A row opens to the explanation and
+  the notes, where they are asked for; of a FAIL to the items near the byte, as list has them, and
+  to the page that is open there, on the printer named; of a PASS to the first page, on the first
+  printer. For these a job is read again. One that can be read only once has none of it.
 
   kind tells who says no:
   unchecked  pclcheck, which does not check this; printers may take it
@@ -100,7 +107,7 @@ On standard error, where there is no verdict:
   words a profile has a sentence, which ends with (ERROR profile N CAUSE) or (ERROR read).
 
   'pclcheck --format words list gone.pcl' tells of each command what stands in its way by a sentence.
-  The variable PCLCHECK_FORMAT is line, words or json: the form where no --format comes.
+  The variable PCLCHECK_FORMAT is line, words, json or html: the form where no --format comes.
 
 A profile is a text whose first line is 'pclprofile 1', or 'pclprofile 2' where it also lists what
 the panel may have for line termination (lineterm).

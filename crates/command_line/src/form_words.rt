@@ -5,7 +5,7 @@ use clap::ArgMatches;
 use requests::Form;
 
 /// The words of the forms.
-pub(crate) const FORMS: &[&str] = &["line", "words", "json"];
+pub(crate) const FORMS: &[&str] = &["line", "words", "json", "html"];
 
 /// The option of the program itself for the form of what each command tells.
 pub(crate) const FORMAT: OptionRow = OptionRow {
@@ -26,6 +26,7 @@ pub fn form_of(word: &str) -> Option<Form> {
         "line" => Some(Form::Line),
         "words" => Some(Form::Words),
         "json" => Some(Form::Json),
+        "html" => Some(Form::Html),
         _ => None,
     }
 }

@@ -1,2 +1,2 @@
-mod ExplainFacts
+pub mod ExplainFacts
 mod ExplainedReasons

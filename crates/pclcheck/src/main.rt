@@ -142,7 +142,7 @@ fn refuse_work<O: Outlet, E: Outlet>(
 fn refuse_form<E: Outlet>(stderr: &mut E) -> Status
     requires { IsFalse (E.state stderr.old).failed }
 {
-    let text = b"error: PCLCHECK_FORMAT is none of line, words and json\n";
+    let text = b"error: PCLCHECK_FORMAT is none of line, words, json and html\n";
     match write_text(stderr, text) {
         Ok(()) => Status::Usage,
         Err(error) => Status::Stopped(error),
@@ -168,7 +168,7 @@ fn fulfil_words<R: Files + Input + Print + AllocGlobal, O: Outlet, E: Outlet>(
     let status = fulfil(rt, &asked.request, &mut used, stdout, stderr);
     match asked.form {
         Form::Words => tell_in_words(rt, &asked.request, status, stdout.has_failed(), stderr),
-        Form::Line | Form::Json => tell(status, stderr),
+        Form::Line | Form::Json | Form::Html => tell(status, stderr),
     }
     status
 }
