@@ -1,0 +1,4 @@
+pub mod Turning
+pub mod Stepping
+pub mod Surveying
+pub mod Tallies

@@ -1,0 +1,11 @@
+pub mod DataCommands
+pub mod Refusals
+pub mod Passing
+pub mod Turns
+pub mod Survey
+pub mod Tally
+pub mod Surveys
+pub mod Carriers
+pub mod Lines
+pub mod Objects
+pub mod Command
