@@ -6,6 +6,7 @@ use crate::picture_words::PICTURE;
 use crate::profile_tool_words::{PROFILE_FROM_PJL, PROFILE_LINT, PROFILE_SHEET, PROFILE_SHOW};
 use crate::profile_words::{PROFILE_COMMANDS, PROFILE_LIST, PROFILE_NEW};
 use crate::rows::{CommandRow, Count, Need, WordRow};
+use crate::survey_words::SURVEY;
 use crate::text_commands::{LIST, NOTES, PAGES, PIN, PLAIN};
 use crate::word::Word;
 use clap::Command;
@@ -51,6 +52,7 @@ const EXPLAIN: &CommandRow = &CommandRow {
 pub(crate) enum CommandName {
     Program,
     Check,
+    Survey,
     List,
     Pages,
     Picture,
@@ -70,6 +72,7 @@ pub(crate) enum CommandName {
 /// The commands that none stands below, in the order in which help lists them.
 const BELOW_PROGRAM: &[CommandName] = &[
     CommandName::Check,
+    CommandName::Survey,
     CommandName::List,
     CommandName::Pages,
     CommandName::Picture,
@@ -96,6 +99,7 @@ impl CommandName {
         match self {
             CommandName::Program => PROGRAM,
             CommandName::Check => CHECK,
+            CommandName::Survey => SURVEY,
             CommandName::List => LIST,
             CommandName::Pages => PAGES,
             CommandName::Picture => PICTURE,

@@ -14,7 +14,7 @@ use Rattle.named_inputs.specs.Texts.{text_named}
 use Rattle.requests.specs.declared.status.Status.{Status}
 use Rattle.many_requests.specs.Checks.{LeavesChecks, asking}
 use Rattle.file_requests.specs.JobRequests.{LeavesCheck, LeavesNotesFor, LeavesPagesFor, LeavesPictureFor, LeavesPin}
-use Rattle.file_requests.specs.JobRequests.{LeavesPlain, LeavesRendered}
+use Rattle.file_requests.specs.JobRequests.{LeavesPlain, LeavesRendered, LeavesSurveyOf}
 use Rattle.file_requests.specs.ProfileRequests.{LeavesAnsweredFor, LeavesLintFor, LeavesSheetFor, LeavesShownFor}
 
 -- what these texts say of a code, or all of it; of a code that is unknown standard error tells
@@ -34,6 +34,8 @@ Fulfils texts (requests.Check job profiles) status used used' out out' err err' 
     LeavesCheck job.now (map (λ word. text_named word.now) profiles.items) status used used' out out' × (err' ≡ err)
 Fulfils texts (requests.CheckMany words) status used used' out out' err err' =
     LeavesChecks (asking texts words) status used used' out out' err err'
+Fulfils texts (requests.Survey jobs form) status used used' out out' err err' =
+    LeavesSurveyOf (map (λ job. job.now) jobs.items) form status out out' err err' × (used' ≡ used)
 Fulfils texts (requests.List job) status used used' out out' err err' =
     LeavesRendered job.now list_rendering status used used' out out' × (err' ≡ err)
 Fulfils texts (requests.Pages job profile) status used used' out out' err err' =

@@ -17,7 +17,7 @@ use streams::{Error, Outlet, Source, write_text};
 
 /// The command `survey`: on standard output what the language refuses of jobs. All are read before
 /// anything is written; of one that cannot be read standard error tells.
-pub fn survey<'n, J: Jobs<'n>, O: Outlet, E: Outlet>(
+pub fn survey_jobs<'n, J: Jobs<'n>, O: Outlet, E: Outlet>(
     alloc: Global,
     jobs: &mut J,
     names: &[&'n str],

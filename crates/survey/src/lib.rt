@@ -17,7 +17,7 @@ mod surveyor;
 mod table;
 mod turn;
 
-pub use command::survey;
+pub use command::survey_jobs;
 pub use data_commands::has_data;
 pub use part::{Count, Home, Onto, Part, Passing, Turn};
 pub use pass::pass;
