@@ -1,7 +1,7 @@
 //! What of refused bytes is passed over, and where reading begins again.
 
 ghost use Rattle.std.specs.Prelude.{◌≡◌};
-ghost use Rattle.survey.specs.Passing.{taken};
+ghost use Rattle.survey.specs.Passing.{no_count, taken};
 
 use crate::refusal::Refusal;
 use pcl_items::{Group, LexCause, Place};
@@ -98,8 +98,12 @@ impl Turn {
 
 impl Count {
     /// Of no digits.
-    pub const NONE: Count = Count {
-        bytes: 0,
-        is_over: false,
-    };
+    pub fn none() -> Count
+        ensures { result ≡ no_count }
+    {
+        Count {
+            bytes: 0,
+            is_over: false,
+        }
+    }
 }

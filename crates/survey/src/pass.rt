@@ -168,7 +168,7 @@ fn introduced(passing: Passing, introducer: u8, byte: u8) -> Turn
     ensures { result ≡ introduced passing introducer byte }
 {
     match byte {
-        96..=126 => goes_on(Part::Grouped(passing, introducer, byte, Count::NONE)),
+        96..=126 => goes_on(Part::Grouped(passing, introducer, byte, Count::none())),
         _ => in_ungrouped(passing, introducer, byte),
     }
 }
@@ -244,7 +244,7 @@ fn behind_parameter(passing: Passing, introducer: u8, group: u8, place: Place) -
         begun: place + 1,
         ..passing
     };
-    let part = Part::Grouped(next, introducer, group, Count::NONE);
+    let part = Part::Grouped(next, introducer, group, Count::none());
     match (passing.home, Group::of(introducer, group)) {
         (Home::Page, Some(group)) => Onto::Group(group),
         _ => Onto::Part(part),

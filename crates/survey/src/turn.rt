@@ -77,7 +77,7 @@ fn in_sequence(group: Group, cause: LexCause, place: Place) -> Turn
 {
     let passing = passing_at(cause, Home::Page, place);
     let (introducer, character) = (group.introducer(), group.character());
-    let part = Part::Grouped(passing, introducer, character, Count::NONE);
+    let part = Part::Grouped(passing, introducer, character, Count::none());
     Turn {
         is_taken: false,
         told: None,
