@@ -149,6 +149,9 @@ complete -c pclcheck -n '__pclcheck_at check' -l unchecked -x -a 'fail pass' \
     -d 'How a job counts that pclcheck cannot judge'
 complete -c pclcheck -n __pclcheck_at_profile -a '(__pclcheck_samples)' -d sample
 
+complete -c pclcheck -n '__pclcheck_at survey' -l format -x -a 'line words json' \
+    -d 'Lines for people, or with json objects; line and words are the same'
+
 complete -c pclcheck -n '__pclcheck_at pages' -a '(__pclcheck_samples)' -d sample
 
 complete -c pclcheck -n '__pclcheck_at picture' -l page -x \
