@@ -2,3 +2,4 @@ pub mod Turning
 pub mod Stepping
 pub mod Surveying
 pub mod Tallies
+pub mod OneSurvey

@@ -1,7 +1,6 @@
 -- Steps of a survey one behind another, and the pieces of a job.
 use Rattle.std.proofs.Common.{◌≡◌, ℕ, ◌+◌, ◌<◌, ◌≤◌, List, [], ◌∷◌, ◌++◌, length, Bool, true, false, refl, sym, ap, subst, ◌∙◌, arith}
 use Rattle.std.proofs.Common.{append-nil, append_assoc, length-append, option_to_list, Result, Ok, Err, IfOk, IfErr}
-use Rattle.std.specs.Prelude.{⊤}
 use Rattle.pcl_lexer.proofs.Lexing.Bounds.{open_is_short}
 use Rattle.streams.specs.declared.error.Error.{Error}
 use Rattle.streams.specs.declared.error.Error.TheVariants.{Memory, Read, Write, Turns, NoProfile, Items}
@@ -13,8 +12,8 @@ use Rattle.survey.specs.declared.refusal.Refusal.{Refusal}
 use Rattle.survey.specs.Survey.{Standing, Reads, Passes, Tells, Waits, at_end, ends}
 use Rattle.survey.specs.Tally.{Tally, tallied, told_in}
 use Rattle.survey.specs.Carriers.Steps.{Leads}
-use Rattle.survey.specs.Surveys.{IsTallied}
-use Rattle.survey.specs.Carriers.Surveying.{SurveyState, Surveyed, SurveysOn, EndsSurvey, IsSurveyed, IsErrorOfSurvey, at_start, most_left}
+use Rattle.survey.specs.Surveys.{IsErrorOfSurvey, IsTallied}
+use Rattle.survey.specs.Carriers.Surveying.{SurveyState, Surveyed, SurveysOn, EndsSurvey, IsSurveyed, at_start, most_left}
 
 -- ---- refusals one behind another
 

@@ -5,6 +5,7 @@ pub mod Turns
 pub mod Survey
 pub mod Tally
 pub mod Surveys
+pub mod Laws
 pub mod Carriers
 pub mod Lines
 pub mod Objects

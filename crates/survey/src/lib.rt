@@ -7,6 +7,7 @@
 
 mod command;
 mod data_commands;
+mod laws;
 mod lines;
 mod objects;
 mod part;
@@ -19,10 +20,7 @@ mod turn;
 
 pub use command::survey_jobs;
 pub use data_commands::has_data;
-pub use part::{Count, Home, Onto, Part, Passing, Turn};
-pub use pass::pass;
+pub use laws::one_survey;
 pub use refusal::{Refusal, Spelled};
-pub use step::{Standing, Step, step_at};
 pub use surveyor::{Surveyor, survey_job};
 pub use table::{MOST_ROWS, Row, Table};
-pub use turn::fault_turn;

@@ -4,11 +4,11 @@ ghost use Rattle.std.specs.Prelude.{◌≡◌, ◌+◌, ◌-◌, ◌<◌, ◌≤
 ghost use Rattle.std.specs.Prelude.{vec_capacity, true, false, Ok, IfErr, IsFalse, OnOk};
 ghost use Rattle.streams.specs.Errors.{is_err_of_read};
 ghost use Rattle.survey.specs.Carriers.Steps.{due};
-ghost use Rattle.survey.specs.Carriers.Surveying.{EndsSurvey, HasRoom, IsErrorOfSurvey};
+ghost use Rattle.survey.specs.Carriers.Surveying.{EndsSurvey, HasRoom};
 ghost use Rattle.survey.specs.Carriers.Surveying.{IsSurveyed, Surveyed, SurveysOn, at_start};
 ghost use Rattle.survey.specs.Carriers.Surveying.{most_left};
 ghost use Rattle.survey.specs.Survey.{Waits};
-ghost use Rattle.survey.specs.Surveys.{IsTallied};
+ghost use Rattle.survey.specs.Surveys.{IsErrorOfSurvey, IsTallied};
 ghost use Rattle.survey.specs.Tally.{no_refusals};
 
 use crate::step::{Standing, step_at};
@@ -162,8 +162,6 @@ impl<A: Allocator> Surveyor<A> {
 }
 
 impl<A: Allocator> Consumer<()> for Surveyor<A> {
-    ghost use Rattle.std.specs.Prelude.{◌≡◌};
-    ghost use Rattle.streams.specs.declared.error.Error.TheVariants.{Memory};
     ghost use Rattle.survey.specs.Carriers.Rooms.{survey_leaves};
 
     type Answer = ();
@@ -174,7 +172,7 @@ impl<A: Allocator> Consumer<()> for Surveyor<A> {
 
     ghost answers = { λ first answer pieces now. IsSurveyed first.0 pieces now.0 };
 
-    ghost stops = { λ first error bytes now. error ≡ Memory };
+    ghost stops = { λ first error bytes now. error ≡ Error.Memory };
 
     fn piece(&mut self, _outlet: &mut (), piece: &[u8]) -> Result<Option<()>, Error> {
         self.feed(piece)?;

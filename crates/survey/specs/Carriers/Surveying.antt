@@ -1,7 +1,5 @@
 -- How far a survey has come.
-use Rattle.std.specs.Prelude.{◌≡◌, ℕ, ◌+◌, ◌≤◌, ◌^◌, List, [], ◌++◌, length, Bool, true, false, ⊤}
-use Rattle.streams.specs.declared.error.Error.{Error}
-use Rattle.streams.specs.declared.error.Error.TheVariants.{Memory, Read, Write, Turns, NoProfile, Items}
+use Rattle.std.specs.Prelude.{◌≡◌, ℕ, ◌+◌, ◌≤◌, ◌^◌, List, [], ◌++◌, length, Bool, false}
 use Rattle.streams.specs.Pieces.{MayBeBy}
 use Rattle.pcl_lexer.specs.Lexing.Contexts.{Pcl}
 use Rattle.survey.specs.declared.refusal.Refusal.{Refusal}
@@ -62,12 +60,3 @@ pub record IsSurveyed (first : SurveyState) (pieces : List (List ℕ)) (now : Su
   pub told : List Refusal
   pub tells : (job : List ℕ) → MayBeBy pieces job → Tells first.standing first.place (first.rest ++ job) told
   pub tally : now.tally ≡ tallied first.job told first.tally
-
--- why a job was not read to its end
-abbrev pub IsErrorOfSurvey : Error → Type 0
-IsErrorOfSurvey Memory = ⊤
-IsErrorOfSurvey Read = ⊤
-IsErrorOfSurvey Turns = ⊤
-IsErrorOfSurvey Write = ⊥
-IsErrorOfSurvey NoProfile = ⊥
-IsErrorOfSurvey Items = ⊥
