@@ -87,6 +87,22 @@ def compare_explanations(comparison: Comparison, program: Program) -> None:
             comparison.same(f"explain {word}", program.output("explain", word), part)
 
 
+def compare_commands(comparison: Comparison, program: Program) -> None:
+    """What `explain` tells of a command by its key, its spelling and its name is the same, and
+    begins with its line of the list, which stands in the order of keys."""
+    lines = program.output("explain", "commands").splitlines()
+    keys = [line.split(" ", 1)[0] for line in lines]
+    comparison.same("the order of commands", keys, sorted(set(keys)))
+    for key, line in zip(keys, lines):
+        name, _, state = line.split(" ", 1)[1].rpartition(": ")
+        comparison.holds(f"{line!r} has no state", state in ("taken", "refused"))
+        text = program.output("explain", key)
+        comparison.holds(f"explain {key} does not begin with its line", f"{line}\n" in text)
+        for word in (name, name[name.index("(") + 1:-1]):
+            told = program.output("explain", word)
+            comparison.holds(f"explain {word} does not tell of {key}", text in told)
+
+
 def compare_mentions(comparison: Comparison, text: str, commands: List[Command]) -> None:
     """Each long option that the page names somewhere is one of the program's."""
     known = {way for command in commands for way in command.short_and_long()}
@@ -151,6 +167,7 @@ def main(words: List[str]) -> int:
     compare_page(comparison, program, commands)
     compare_short_helps(comparison, program, commands)
     compare_explanations(comparison, program)
+    compare_commands(comparison, program)
     compare_profile_page(comparison, program, PROFILE_PAGE)
     compare_completions(comparison, program, commands)
     compare_papers(comparison, program)
