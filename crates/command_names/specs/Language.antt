@@ -54,9 +54,9 @@ language =
 -- the first text of bytes stands before the second in a dictionary
 abbrev pub comes_before : List ℕ → List ℕ → Bool
 comes_before [] [] = false
-comes_before [] (b ∷ bs) = true
-comes_before (a ∷ as) [] = false
-comes_before (a ∷ as) (b ∷ bs) = nat_lt a b || ((a == b) && comes_before as bs)
+comes_before [] (b ∷ second) = true
+comes_before (a ∷ first) [] = false
+comes_before (a ∷ first) (b ∷ second) = nat_lt a b || ((a == b) && comes_before first second)
 
 -- behind this one each key stands behind the one before it
 abbrev pub rises : List ℕ → List (List ℕ) → Bool

@@ -103,10 +103,10 @@ sentence_of_unchecked = refl
 
 -- what pclcheck does not check is called as HP's manual calls it
 sentence_of_refused : job_sentence (report_of false (Ok (record {
-      verdict = Fail 7 0 (Fault (NotInProfile (Command Layout 80)));
-      culprit = None;
-      page = Some 1;
-    })) None)
+  verdict = Fail 7 0 (Fault (NotInProfile (Command Layout 80)));
+  culprit = None;
+  page = Some 1;
+})) None)
     ≡ codes
     "in/note 4712.pcl: pclcheck cannot judge this job at byte 7 on page 1, page length (&l#P): pclcheck does not check this byte or command (3 NotInProfile(&lP))\n"
 unfolding shown_text is_utf8 chars encode_utf8 digits table
