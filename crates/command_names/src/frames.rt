@@ -36,6 +36,13 @@ AT absolute arc three point (AT): refused
   Manual:  \"The Vector Group\", Absolute Arc Three Point
 ";
 
+pub(crate) const BEGIN_PLOT: &str = "\
+BP begin plot (BP): refused
+  Why:     it is of plotters, and printers pass over it
+  Instead: take it out, or choose a plotter without it in the program
+  Manual:  \"The Configuration and Status Group\"
+";
+
 pub(crate) const BEZIER_RELATIVE: &str = "\
 BR bezier relative (BR): refused
   Why:     the printer draws the curve by steps of its own

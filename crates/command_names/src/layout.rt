@@ -376,7 +376,8 @@ pub(crate) const END_OF_LINE_WRAP: &str = "\
 &s end-of-line wrap (&s#C): refused
   Why:     it lets lines that are too long go on below, which pclcheck does not
            follow
-  Instead: break lines at the host; 16 finds those that are too long
+  Instead: take it out and break lines at the host; 16 finds those that are too
+           long
   Manual:  \"Programming Hints\", End-of-Line Wrap
 ";
 

@@ -9,7 +9,7 @@ use crate::{controls, drawing, fonts, frames, job_lines, layout};
 /// refused and what helps; and where the manual treats of it.
 ///
 /// `docs/make_names.py` compares what is said of values, fields and findings with the definitions.
-pub const COMMANDS: [&str; 260] = [
+pub const COMMANDS: [&str; 261] = [
     layout::UNIVERSAL_EXIT_LANGUAGE,
     layout::ENTER_PCL_MODE,
     layout::ENTER_HP_GL_2_MODE,
@@ -161,6 +161,7 @@ pub const COMMANDS: [&str; 260] = [
     frames::ALTERNATE_FONT_DEFINITION,
     frames::ARC_RELATIVE,
     frames::ABSOLUTE_ARC_THREE_POINT,
+    frames::BEGIN_PLOT,
     frames::BEZIER_RELATIVE,
     frames::BEZIER_ABSOLUTE,
     frames::CHARACTER_FILL_MODE,
