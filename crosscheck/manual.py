@@ -5,11 +5,11 @@
 man/pclcheck.1 has each command, option of all, exit status of `check` and line of each help in the
 same words, and names no other option; what docs/make.py writes into it is not compared again. With
 `-h` each command tells in fifteen lines at most what it does and how it is used; `explain` tells of
-each number and each name what it tells of it among all; man/pclcheck-profile.5 has what
-manual_profile.py says; each file in completions/ offers each command and option, the fixed values
-of options, and no other; debian/changelog and CHANGELOG.md begin with the program's version. Needs
-bash. Prints a line for each that differs, and at last `N compared, M differ`. The exit status is 0
-where M is 0, else 1.
+each number and each name what it tells of it among all, and of each command behind its line of the
+list; man/pclcheck-profile.5 has what manual_profile.py says; each file in completions/ offers each
+command and option, the fixed values of options, and no other; debian/changelog and CHANGELOG.md
+begin with the program's version. Needs bash. Prints a line for each that differs, and at last `N
+compared, M differ`. The exit status is 0 where M is 0, else 1.
 """
 
 import re
@@ -88,19 +88,19 @@ def compare_explanations(comparison: Comparison, program: Program) -> None:
 
 
 def compare_commands(comparison: Comparison, program: Program) -> None:
-    """What `explain` tells of a command by its key, its spelling and its name is the same, and
-    begins with its line of the list, which stands in the order of keys."""
+    """What `explain` tells of a command by its key, its spelling and its name is the same, behind
+    its line of the list, which stands in the order of keys."""
     lines = program.output("explain", "commands").splitlines()
     keys = [line.split(" ", 1)[0] for line in lines]
     comparison.same("the order of commands", keys, sorted(set(keys)))
     for key, line in zip(keys, lines):
         name, _, state = line.split(" ", 1)[1].rpartition(": ")
         comparison.holds(f"{line!r} has no state", state in ("taken", "refused"))
-        text = program.output("explain", key)
-        comparison.holds(f"explain {key} does not begin with its line", f"{line}\n" in text)
+        text = re.search(rf"{re.escape(line)}\n(?:  .*\n)+", program.output("explain", key))
+        comparison.holds(f"explain {key} does not tell its line", text is not None)
         for word in (name, name[name.index("(") + 1:-1]):
-            told = program.output("explain", word)
-            comparison.holds(f"explain {word} does not tell of {key}", text in told)
+            comparison.holds(f"explain {word} does not tell of {key}",
+                             text is not None and text[0] in program.output("explain", word))
 
 
 def compare_mentions(comparison: Comparison, text: str, commands: List[Command]) -> None:

@@ -1,6 +1,6 @@
 //! The parts of a text on a command, and the name of a command by its key.
-ghost use Rattle.std.specs.Prelude.{◌≡◌, ◌==◌, ◌<◌, map, nat_eq};
-ghost use Rattle.std.specs.List.{after_first, before_first, starts_with};
+ghost use Rattle.std.specs.Prelude.{◌≡◌, ◌==◌, ◌<◌, map};
+ghost use Rattle.std.specs.List.{after_first, before_first};
 ghost use Rattle.std.specs.Str.{bytes_eq};
 ghost use Rattle.command_names.specs.CommandNames.{
   begins_before_bracket,
@@ -10,7 +10,6 @@ ghost use Rattle.command_names.specs.CommandNames.{
   key_of,
   name_of,
   named_by,
-  spelling_of,
 };
 
 use crate::table::COMMANDS;

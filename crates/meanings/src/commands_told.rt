@@ -1,5 +1,5 @@
 //! What the command `explain` writes of commands of printers.
-ghost use Rattle.std.specs.Prelude.{◌≡◌, IfErr, IsFalse, filter, is_err, map, option_map};
+ghost use Rattle.std.specs.Prelude.{◌≡◌, IfErr, IsFalse, false, filter, is_err, map, option_map};
 ghost use Rattle.std.specs.List.{concat, list_any};
 ghost use Rattle.streams.specs.Writing.{Writes};
 ghost use Rattle.meanings.specs.CommandsTold.{asks_for_list, asks_of, asks_of_commands, list_line};
