@@ -154,9 +154,9 @@ called_part : (name : List ℕ) → IsWithin 60 name → IsWithin 62 (called nam
 called_part name h =
     one_of 62 (length name == 0) [] (codes ", " ++ name) (λ e. nothing 62) (joined (codes ", ") name (literal 2 _ refl refl) h)
 
-what_fails_part : (page : Option ℕ) (culprit : Option Culprit) (reason : Reason) → IsCulpritOfNumbers culprit →
-    IsWithin 208 (what_fails (fails_at page culprit) reason)
-what_fails_part page culprit reason h =
+what_fails_part : (culprit : Option Culprit) (reason : Reason) → IsCulpritOfNumbers culprit →
+    IsWithin 208 (what_fails (at_command culprit) (value_key culprit) reason)
+what_fails_part culprit reason h =
     let name : List ℕ = refused_name (value_key culprit) reason in
     joined (at_command culprit) (called name) (at_part culprit h) (called_part name (refused_name_part (value_key culprit) reason))
 
@@ -290,9 +290,9 @@ verdict_part page culprit (Pass pages marks) p h k =
     (literal 1 _ refl refl))
 verdict_part page culprit (Fail place profile reason) p h k =
     let front : List ℕ = place_phrase place page in
-    let what : List ℕ = what_fails (fails_at page culprit) reason in
+    let what : List ℕ = what_fails (at_command culprit) (value_key culprit) reason in
     joined (front ++ what) (reason_phrase (left_out_of culprit) reason)
-    (joined front what (place_part place page k p) (what_fails_part page culprit reason h))
+    (joined front what (place_part place page k p) (what_fails_part culprit reason h))
     (reason_phrase_part (left_out_of culprit) reason)
 
 subject_part : (names : List (List ℕ)) (number : ℕ) → AllByRecursion (IsWithin 32) names → IsWithin 32 (subject names number)

@@ -96,9 +96,9 @@ fails_at page culprit = record {
   left_out = left_out_of culprit;
 }
 
--- the item, and what HP's manual calls what is not checked
-abbrev pub what_fails : FailsAt → Reason → List ℕ
-what_fails at reason = at.words ++ called (refused_name at.value reason)
+-- the words on the item, and what HP's manual calls what is not checked
+abbrev pub what_fails : List ℕ → Option (List ℕ) → Reason → List ℕ
+what_fails words value reason = words ++ called (refused_name value reason)
 
 abbrev pub on_page : Option ℕ → List ℕ
 on_page None = []
@@ -125,7 +125,7 @@ reason_phrase left_out reason =
 abbrev pub verdict_phrase : FailsAt → Verdict → List ℕ
 verdict_phrase at (Pass pages marks) = named (codes " (pages=") pages ++ named (codes " marks=") marks ++ codes ")"
 verdict_phrase at (Fail place profile reason) =
-    place_phrase place at.page ++ what_fails at reason ++ reason_phrase at.left_out reason
+    place_phrase place at.page ++ what_fails at.words at.value reason ++ reason_phrase at.left_out reason
 
 -- ---- why there is none
 

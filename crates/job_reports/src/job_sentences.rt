@@ -26,6 +26,7 @@ ghost use Rattle.job_reports.specs.JobSentences.{
   verdict_phrase,
   what_fails,
 };
+ghost use Rattle.job_reports.specs.RefusedNames.{value_key};
 ghost use Rattle.job_reports.specs.Reports.{Reported, number_told, verdict_told};
 
 use crate::command_words::push_command_words;
@@ -183,7 +184,7 @@ fn push_verdict<A: Allocator + Copy>(
         }
         Verdict::Fail { place, finding, .. } => {
             push_place(line, place, page)?;
-            push_what_fails(alloc, line, page, culprit, finding)?;
+            push_what_fails(alloc, line, culprit, finding)?;
             push_reason_phrase(line, left_out_of(culprit), finding)
         }
     }
@@ -208,12 +209,11 @@ fn push_place<A: Allocator>(
 fn push_what_fails<A: Allocator + Copy>(
     alloc: A,
     line: &mut Vec<u8, A>,
-    page: Option<u64>,
     culprit: Option<Culprit>,
     reason: Reason,
 ) -> Result<(), AllocError>
     ensures { OnOk result (line.new.items ≡ line.old.items ++
-        what_fails (fails_at page culprit) reason) }
+        what_fails (at_command culprit) (value_key culprit) reason) }
 {
     push_at_command(alloc, line, culprit)?;
     push_called(alloc, line, culprit, reason)

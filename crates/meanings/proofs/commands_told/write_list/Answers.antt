@@ -1,15 +1,13 @@
-use Rattle.std.proofs.Common.{rules, subst}
+use Rattle.std.proofs.Common.{rules}
 use Rattle.streams.proofs.OutletFacts.{Adds-none}
-use Rattle.streams.specs.Outlet.{Adds, AddsFront}
-use Rattle.requests.proofs.Writing.{pieces_more}
 use Rattle.meanings.specs.CommandsTold.{list_line}
-use Rattle.meanings.proofs.CommandFacts.{lines_cut, lines_whole}
+use Rattle.meanings.proofs.CommandFacts.{lines_cut, lines_more, lines_whole}
 use Rattle.meanings.proofs.commands_told.write_list.Goals as goal
 
 pub returns-in_err-write_text-clause-text : goal.returns-in_err-write_text-clause-text
 returns-in_err-write_text-clause-text g c =
     lines_cut list_line (λ text. text.now) c.args.commands.now c.loop-text.text-index _ _ _ _ (search rules) (search rules)
-    c.loop-text.invariant.1 (subst (AddsFront _ _) c.list_line.ensures c.write_text.ensures.text.front)
+    c.loop-text.invariant.1 _ c.list_line.ensures c.write_text.ensures.text.front
 
 pub loop-text-init : goal.loop-text-init
 loop-text-init g c = (search rules, Adds-none _)
@@ -17,8 +15,8 @@ loop-text-init g c = (search rules, Adds-none _)
 pub loop-text-preserved : goal.loop-text-preserved
 loop-text-preserved g c = (
   search rules,
-  pieces_more (λ text. list_line text.now) c.args.commands.now c.loop-text.text-index _ _ _ _ (search rules) c.loop-text.invariant.1
-      (subst (Adds _ _) c.list_line.ensures (c.write_text.ensures.text.whole (search rules))),
+  lines_more list_line (λ text. text.now) c.args.commands.now c.loop-text.text-index _ _ _ _ (search rules) c.loop-text.invariant.1
+      _ c.list_line.ensures (c.write_text.ensures.text.whole (search rules)),
 )
 
 pub returns-clause-text : goal.returns-clause-text
