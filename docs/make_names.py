@@ -10,7 +10,7 @@ from dataclasses import dataclass
 from make_commands import commands as rows_of_commands
 from tree import Tree, Unreadable
 
-TABLE = "crates/command_names/src/table.rt"
+TABLE = "crates/command_names/src/commands.rt"
 TEXTS = "crates/command_names/src/{}.rt"
 HEAD = re.compile(r"(\S+) (.+) \((.+)\): (taken|refused)")
 # The parts of REFUSED, by the files that have their texts.

@@ -3,7 +3,7 @@ use Rattle.std.specs.Prelude.{ℕ, ◌==◌, ◌+◌, ◌≤◌, ◌&&◌, ◌||
 use Rattle.std.specs.Prelude.{if◌then◌else◌}
 use Rattle.std.specs.List.{AllByRecursion, after_first, before_first, starts_with}
 use Rattle.std.specs.Str.{bytes_eq, str_eq_ignore_ascii_case}
-use Rattle.command_names.specs.declared.table.TheConstants.{COMMANDS}
+use Rattle.command_names.specs.declared.commands.TheConstants.{COMMANDS}
 
 -- the table, a text a command
 unfoldable pub table : List (List ℕ)

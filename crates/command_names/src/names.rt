@@ -12,7 +12,7 @@ ghost use Rattle.command_names.specs.CommandNames.{
   named_by,
 };
 
-use crate::table::COMMANDS;
+use crate::commands::COMMANDS;
 
 /// The name of a command by its key, as a fault names it in brackets; nothing where the manual has
 /// none: `page length (&l#P)` of `&lP`.
