@@ -18,9 +18,12 @@ const VERSION: &str = "0.1.0";
 const EXPLAIN_EXPLANATION: &str =
     "CODE is a number, or a name without what stands behind it in brackets, in any letter case.
 
+It may also be a command of printers: as a FAIL names it ('&lP', x09, AA), as it is spelled
+('&l#P', HT) or as HP's manual calls it. The code commands lists them, taken or refused.
+
 Exit status:
   0  an explanation was written, or help was asked for
-  2  usage error, or no fault, finding or note has this code
+  2  usage error, or no fault, finding, note or command has this code
   3  a write failed, or memory ran out";
 
 /// The program itself.
@@ -42,7 +45,7 @@ const EXPLAIN: &CommandRow = &CommandRow {
         id: "CODE",
         need: Need::Never,
         count: Count::One,
-        help: "The fault, finding or note, by its number or its name; without it, all",
+        help: "The fault, finding, note or command; without it, all but commands",
     }],
     options: &[],
 };

@@ -98,8 +98,10 @@ const PIN: &str = "Usage:
 const EXPLAIN: &str = "Usage:
   pclcheck explain 12
       what the finding of this number, or of a name, means
+  pclcheck explain '&lP'
+      what is known of a command of printers; 'explain commands' lists them
   pclcheck explain
-      what all mean
+      what all findings and notes mean
 
 'pclcheck explain --help' tells all.";
 

@@ -48,9 +48,12 @@ use Rattle.job_reports.specs.JobSentences.{AreNumbers, IsCulpritOfNumbers, IsOfP
 use Rattle.job_reports.specs.JobSentences.{IsWithin, on_page, place_phrase}
 use Rattle.job_reports.specs.JobSentences.{answer_phrase, at_command, cause_phrase, claim_by, error_phrase, fails_at, few_words}
 use Rattle.job_reports.specs.JobSentences.{first_of, for_each, for_printer, is_bad_value, job_claim, job_sentence, last_of, named_first}
-use Rattle.job_reports.specs.JobSentences.{reason_phrase, refusal, subject, verdict_phrase}
+use Rattle.job_reports.specs.JobSentences.{reason_phrase, refusal, subject, verdict_phrase, what_fails}
 use Rattle.job_reports.specs.Kinds.{kind_by}
 use Rattle.job_reports.specs.LeftOut.{left_out_of, value_words}
+use Rattle.job_reports.specs.RefusedNames.{called, refused_name, value_key, value_name}
+use Rattle.command_names.specs.CommandNames.{command_name}
+use Rattle.command_names.proofs.Laws.{name_is_short}
 use Rattle.job_reports.specs.declared.kind.Kind.{Kind}
 use Rattle.job_reports.specs.declared.kind.Kind.TheVariants as kinds
 use Rattle.job_reports.specs.declared.left_out.LeftOut.{LeftOut}
@@ -132,6 +135,30 @@ command_part Line h = literal 144 _ refl refl
 at_part : (culprit : Option Culprit) → IsCulpritOfNumbers culprit → IsWithin 146 (at_command culprit)
 at_part None h = nothing 146
 at_part (Some culprit) h = joined (codes ", ") (command_words culprit) (literal 2 _ refl refl) (command_part culprit h)
+
+-- ---- the name of what is not checked
+
+by_key : (key : List ℕ) → IsWithin 60 (command_name key)
+by_key key = record { short = (name_is_short key).short; shown = (name_is_short key).shown }
+
+value_name_part : (value : Option (List ℕ)) → IsWithin 60 (value_name value)
+value_name_part None = nothing 60
+value_name_part (Some key) = by_key key
+
+refused_name_part : (value : Option (List ℕ)) (reason : Reason) → IsWithin 60 (refused_name value reason)
+refused_name_part value (Fault (NotInProfile name)) = by_key (name_words name)
+refused_name_part value (Found BadValue) = value_name_part value
+refused_name_part value _ = nothing 60
+
+called_part : (name : List ℕ) → IsWithin 60 name → IsWithin 62 (called name)
+called_part name h =
+    one_of 62 (length name == 0) [] (codes ", " ++ name) (λ e. nothing 62) (joined (codes ", ") name (literal 2 _ refl refl) h)
+
+what_fails_part : (culprit : Option Culprit) (reason : Reason) → IsCulpritOfNumbers culprit →
+    IsWithin 208 (what_fails (at_command culprit) (value_key culprit) reason)
+what_fails_part culprit reason h =
+    let name : List ℕ = refused_name (value_key culprit) reason in
+    joined (at_command culprit) (called name) (at_part culprit h) (called_part name (refused_name_part (value_key culprit) reason))
 
 on_page_part : (page : Option ℕ) → IsPageOfNumber page → IsWithin 29 (on_page page)
 on_page_part None h = nothing 29
@@ -252,19 +279,20 @@ reason_phrase_part left_out reason =
 -- ---- the answer
 
 verdict_part : (page : Option ℕ) (culprit : Option Culprit) (verdict : Verdict) → IsPageOfNumber page → IsCulpritOfNumbers culprit →
-    IsVerdictOfNumbers verdict → IsWithin 343 (verdict_phrase (fails_at page culprit) verdict)
+    IsVerdictOfNumbers verdict → IsWithin 405 (verdict_phrase (fails_at page culprit) verdict)
 verdict_part page culprit (Pass pages marks) p h k =
     let front : List ℕ = named (codes " (pages=") pages in
     let back : List ℕ = named (codes " marks=") marks in
-    wider 343 _ (omega arith)
+    wider 405 _ (omega arith)
     (joined (front ++ back) (codes ")")
     (joined front back (named_part 8 (codes " (pages=") pages refl refl k.0)
     (named_part 7 (codes " marks=") marks refl refl k.1))
     (literal 1 _ refl refl))
 verdict_part page culprit (Fail place profile reason) p h k =
     let front : List ℕ = place_phrase place page in
-    joined (front ++ at_command culprit) (reason_phrase (left_out_of culprit) reason)
-    (joined front (at_command culprit) (place_part place page k p) (at_part culprit h))
+    let what : List ℕ = what_fails (at_command culprit) (value_key culprit) reason in
+    joined (front ++ what) (reason_phrase (left_out_of culprit) reason)
+    (joined front what (place_part place page k p) (what_fails_part culprit reason h))
     (reason_phrase_part (left_out_of culprit) reason)
 
 subject_part : (names : List (List ℕ)) (number : ℕ) → AllByRecursion (IsWithin 32) names → IsWithin 32 (subject names number)
@@ -323,7 +351,7 @@ cause_part (Some words) =
 
 answer_part : (report : Reported) (answer : Result Verdict Error) → AllByRecursion (IsWithin 32) report.names →
     IsPageOfNumber (page_of report.answer) → IsCulpritOfNumbers (culprit_of report.answer) → IfOk answer IsVerdictOfNumbers →
-    IsWithin 410 (answer_phrase report answer)
+    IsWithin 472 (answer_phrase report answer)
 answer_part report (Ok verdict) h p k l =
     joined (job_claim report) (verdict_phrase (fails_at (page_of report.answer) (culprit_of report.answer)) verdict)
     (claim_part (subject report.names (number_told report.is_each (verdict_told report.answer))) (for_each report.is_each report.names)
@@ -332,7 +360,7 @@ answer_part report (Ok verdict) h p k l =
     (verdict_part (page_of report.answer) (culprit_of report.answer) verdict p k l)
 answer_part report (Err error) h p k l =
     let front : List ℕ = error_phrase error ++ for_printer report.names (number_told report.is_each (Err error)) in
-    wider 410 _ (omega arith)
+    wider 472 _ (omega arith)
     (joined (((front ++ cause_phrase report.cause) ++ codes " (") ++ error_words error) (codes ")")
     (joined ((front ++ cause_phrase report.cause) ++ codes " (") (error_words error)
     (joined (front ++ cause_phrase report.cause) (codes " (")

@@ -1,6 +1,6 @@
 -- What is told of the pages of a job before they are drawn: whether the job fails on them, and whether it has them.
-use Rattle.std.specs.Prelude.{ℕ, ◌+◌, false, List, [], ◌∷◌, ◌++◌, codes, decimal, flat_map, length, get_or, None, Some}
-use Rattle.std.specs.Prelude.{Ok, if◌then◌else◌}
+use Rattle.std.specs.Prelude.{ℕ, ◌+◌, false, List, [], ◌∷◌, ◌++◌, codes, decimal, drop, flat_map, length, get_or}
+use Rattle.std.specs.Prelude.{None, Ok, Option, Some, if◌then◌else◌}
 use Rattle.pcl_items.specs.declared.fault.LexCause.{LexCause}
 use Rattle.pcl_items.specs.Spellings.Canon.{canon}
 use Rattle.pcl_items.specs.Escapes.Commands.{introducer_of, character_of, data_group_of, data_letter_of}
@@ -45,9 +45,21 @@ item_words (WithData command bytes) =
 item_words (PjlLine line) = codes "@PJL"
 item_words item = flat_map code_words (canon item)
 
+-- the key of a command with its value: the item's spelling without ESC, where it has no data
+abbrev pub item_value : Entry → Option (List ℕ)
+item_value (Text code) = None
+item_value (WithData command bytes) = None
+item_value (PjlLine line) = None
+item_value item = Some (drop 1 (canon item))
+
 -- where a failure at an item stands, whatever its page
 abbrev pub at_item : Entry → FailsAt
-at_item item = record { page = None; words = codes ", " ++ item_words item; left_out = left_out_in item }
+at_item item = record {
+  page = None;
+  words = codes ", " ++ item_words item;
+  value = item_value item;
+  left_out = left_out_in item;
+}
 
 -- the sentence on a verdict on the job of this name for these printers, where the failure stands so
 abbrev pub sentence : (job : List ℕ) → Groups → (at : FailsAt) → Verdict → List ℕ
