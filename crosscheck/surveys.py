@@ -7,8 +7,9 @@
 The jobs are random ones, broken here and there, or those that are named. Each is surveyed by
 itself, and then all together, as `survey --format json` and as `survey` tell it. The second reading
 is that of lexer.py, which stops at a fault; what is passed over behind that is found here by
-regular expressions over the whole job. Prints each difference and at last `N compared, M differ`.
-The exit status is 0 where M is 0, else 1.
+regular expressions over the whole job. It is not told the names of commands: those of the lines
+have to be those of the objects. Prints each difference and at last `N compared, M differ`. The exit
+status is 0 where M is 0, else 1.
 """
 
 import json
@@ -18,7 +19,7 @@ import subprocess
 import sys
 import tempfile
 from pathlib import Path
-from typing import Iterator, List, NamedTuple, Optional, Tuple
+from typing import Dict, Iterator, List, NamedTuple, Optional, Tuple
 
 sys.dont_write_bytecode = True
 
@@ -265,11 +266,12 @@ def finding(number: int) -> str:
     return NAMES.get(number, "NotInProfile")
 
 
-def lines_of(names: List[str], surveys: List[List[Told]]) -> str:
-    """What `survey` writes of jobs."""
+def lines_of(names: List[str], surveys: List[List[Told]], called: Dict[str, str]) -> str:
+    """What `survey` writes of jobs, with these names of what is refused."""
     rows, others = rows_of(surveys)
-    lines = [f"{row.times}x in {row.jobs} of {len(names)} jobs: {row.first.spelled}, first at byte "
-             f"{row.first.place} of {names[row.job]} ({row.first.number} "
+    lines = [f"{row.times}x in {row.jobs} of {len(names)} jobs: {row.first.spelled}"
+             f"{', ' * (row.first.spelled in called)}{called.get(row.first.spelled, '')}, first at "
+             f"byte {row.first.place} of {names[row.job]} ({row.first.number} "
              f"{finding(row.first.number)})" for row in rows]
     lines.append(f"surveyed: jobs={len(names)} refused={len(rows)} others={others}; this is no "
                  "verdict, check gives one")
@@ -335,13 +337,15 @@ def differs(what: str, wanted, told) -> int:
 def compare(program: str, folder: str, names: List[str], surveys: List[List[Told]]) -> int:
     """How many of the two forms differ of these jobs."""
     what = " ".join(names[:3])
-    differ = differs(what, lines_of(names, surveys), told_by(program, folder, *names))
     text = told_by(program, folder, "--format", "json", *names)
     try:
         objects = [json.loads(line) for line in text.splitlines()]
     except ValueError:
-        objects = [text]
-    return differ + differs(what, objects_of(names, surveys), objects)
+        return 2 * differs(what, objects_of(names, surveys), text)
+    called = {one["refused"]: one.pop("command_name") for one in objects if "command_name" in one}
+    differ = differs(what, objects_of(names, surveys), objects)
+    due = lines_of(names, surveys, called)
+    return differ + differs(what, due, told_by(program, folder, *names))
 
 
 def main(program: str, words: List[str]) -> int:

@@ -15,12 +15,13 @@ refused it goes on, and passes data over by the lengths that HP's manuals give. 
 to know whether a host can be made to send jobs that can be checked, and what to turn off.
 
 Output, a line for each kind of command that is refused, in the order of their first places:
-  Nx in N of N jobs: COMMAND, first at byte N of JOB (NUMBER NAME)
+  Nx in N of N jobs: COMMAND, CALLED, first at byte N of JOB (NUMBER NAME)
   surveyed: jobs=N refused=N others=N; this is no verdict, check gives one
 
   COMMAND   as the manual spells it, with # for its number: ESC &l#P; xNN for a control code, and
             AA for an instruction of HP-GL/2
-  NUMBER    the fault and its NAME, of which explain tells more
+  CALLED    what the manual calls it, where it has a name for it; explain tells more
+  NUMBER    the fault and its NAME, of which explain tells more, too
   others    how often something was refused behind 256 kinds, for which there is no line
 
 With --format json these are objects, of which the last one has the verdict NONE. All jobs are read

@@ -7,6 +7,7 @@ pub mod Tally
 pub mod Surveys
 pub mod Laws
 pub mod Carriers
+pub mod Names
 pub mod Lines
 pub mod Objects
 pub mod Command

@@ -10,6 +10,7 @@ use Rattle.survey.specs.declared.refusal.Spelled.{Spelled}
 use Rattle.survey.specs.declared.refusal.Spelled.TheVariants.{Control, Sequence, Grouped, Ungrouped, Unended}
 use Rattle.survey.specs.declared.refusal.Spelled.TheVariants.{Instruction, FrameBytes, Line, End}
 use Rattle.survey.specs.declared.table.Row.{Row}
+use Rattle.survey.specs.Names.{called, spelled_name}
 use Rattle.survey.specs.Tally.{Tally}
 
 -- commands as the manual has them, with # for the value field
@@ -43,7 +44,7 @@ name_at names number = get_or names number []
 
 abbrev pub row_line : List (List ℕ) → Row → List ℕ
 row_line names row =
-    counts_words row (length names) ++ spelled_words row.first.spelled
+    counts_words row (length names) ++ spelled_words row.first.spelled ++ called (spelled_name row.first.spelled)
     ++ first_words row.first.place (name_at names row.first_job) ++ cause_words row.first
 
 abbrev pub last_line : (jobs rows others : ℕ) → List ℕ

@@ -3,6 +3,7 @@ use Rattle.std.specs.Prelude.{ℕ, List, [], ◌∷◌, ◌++◌, codes, flat_ma
 use Rattle.serde_json.specs.DataCommands.{object, Members, no_members}
 use Rattle.serde_json.specs.Written.{compact_text}
 use Rattle.line_words.specs.Reason.{bare_name}
+use Rattle.many_jobs.specs.JobObjects.{with_command_name}
 use Rattle.many_jobs.specs.JsonObject.{with_number, with_text}
 use Rattle.many_jobs.specs.JsonTexts.{name_text, words_text}
 use Rattle.verdict.specs.declared.reason.Reason.TheVariants.{Fault}
@@ -10,6 +11,7 @@ use Rattle.verdict.specs.Numbers.{reason_number}
 use Rattle.survey.specs.declared.refusal.Refusal.{Refusal}
 use Rattle.survey.specs.declared.table.Row.{Row}
 use Rattle.survey.specs.Lines.{name_at, spelled_words}
+use Rattle.survey.specs.Names.{spelled_name}
 use Rattle.survey.specs.Tally.{Tally}
 
 -- what is refused, and why
@@ -17,7 +19,8 @@ abbrev pub with_refusal : Refusal → Members → Members
 with_refusal refusal members =
     with_text (codes "finding") (words_text (bare_name (Fault refusal.cause)))
     (with_number (codes "code") (reason_number (Fault refusal.cause))
-    (with_text (codes "refused") (words_text (spelled_words refusal.spelled)) members))
+    (with_command_name (spelled_name refusal.spelled)
+    (with_text (codes "refused") (words_text (spelled_words refusal.spelled)) members)))
 
 -- where it stands first
 abbrev pub with_first : ℕ → List ℕ → Members → Members

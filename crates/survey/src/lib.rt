@@ -9,6 +9,7 @@ mod command;
 mod data_commands;
 mod laws;
 mod lines;
+mod names;
 mod objects;
 mod part;
 mod pass;

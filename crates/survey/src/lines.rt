@@ -12,6 +12,7 @@ ghost use Rattle.survey.specs.Lines.{
   spelled_words,
 };
 
+use crate::names::push_called;
 use crate::refusal::{Refusal, Spelled};
 use crate::table::{Row, Table};
 use line_words::{bare_name, push_named};
@@ -64,6 +65,7 @@ fn push_row<A: Allocator>(
 {
     push_counts(text, row, names.len() as u64)?;
     push_spelled(text, row.first.spelled)?;
+    push_called(text, row.first.spelled)?;
     push_first(text, row.first.place, name_at(names, row.first_job))?;
     push_cause(text, row.first)
 }

@@ -1,7 +1,9 @@
 //! The survey as lines of JSON.
 
 ghost use Rattle.std.specs.Prelude.{◌≡◌, ◌++◌, IfOk, OnOk, flat_map, map};
+ghost use Rattle.many_jobs.specs.JobObjects.{with_command_name};
 ghost use Rattle.many_jobs.specs.JsonObject.{members_of};
+ghost use Rattle.survey.specs.Names.{spelled_name};
 ghost use Rattle.survey.specs.Objects.{
   last_members,
   last_object,
@@ -14,7 +16,8 @@ ghost use Rattle.survey.specs.Objects.{
 };
 
 use crate::lines::{name_at, push_spelled};
-use crate::refusal::Refusal;
+use crate::names::spelled_name;
+use crate::refusal::{Refusal, Spelled};
 use crate::table::{Row, Table};
 use line_words::bare_name;
 use many_jobs::Object;
@@ -86,9 +89,22 @@ fn put_refusal(memory: Global, object: &mut Object, refusal: Refusal) -> Result<
     let mut words = Vec::new(memory);
     push_spelled(&mut words, refusal.spelled)?;
     object.put_words("refused", words.as_slice())?;
+    put_command_name(object, refusal.spelled)?;
     let reason = Reason::Fault(refusal.cause);
     object.put_number("code", u64::from(reason.number()))?;
     object.put_words("finding", bare_name(reason))
+}
+
+/// Puts what HP's manual calls it, where it has a name for it.
+fn put_command_name(object: &mut Object, spelled: Spelled) -> Result<(), AllocError>
+    ensures { OnOk result (members_of object.new
+        ≡ with_command_name (spelled_name spelled) (members_of object.old)) }
+{
+    let name = spelled_name(spelled);
+    if name.is_empty() {
+        return Ok(());
+    }
+    object.put_words("command_name", name.as_bytes())
 }
 
 /// Puts where it stands first.
