@@ -20,15 +20,17 @@ use Rattle.named_inputs.specs.Fleet.{IsNamed, RefusesBy, RefusesOne, RefusesRead
 use Rattle.named_inputs.specs.Texts.{AsksInOrder, text_named}
 use Rattle.requests.specs.Status.{is_stop_of_read, is_stop_of_write}
 use Rattle.requests.specs.declared.choices.Choice.{Choice}
+use Rattle.requests.specs.declared.many_words.Form.{Form}
 use Rattle.requests.specs.declared.selection.Selection.{Selection}
 use Rattle.requests.specs.declared.status.Status.{Status}
 use Rattle.requests.specs.declared.status.Status.TheVariants.{Stopped}
 use Rattle.subcommands.specs.Check.{IsRightFor, Leaves, texts_by}
 use Rattle.subcommands.specs.JobNotes.{LeavesNotes}
 use Rattle.subcommands.specs.JobTexts.{EndsBy, LeavesOut, LeavesPages, LeavesPinned, LeavesText}
+use Rattle.survey.specs.Command.{LeavesSurvey}
 use Rattle.file_requests.specs.Outs.{EndsOut, PutsOut}
 use Rattle.file_requests.specs.JobRequests.{LeavesCheck, LeavesNotesFor, LeavesPagesFor, LeavesPictureOfFile, LeavesPin}
-use Rattle.file_requests.specs.JobRequests.{LeavesPlain, LeavesRendered}
+use Rattle.file_requests.specs.JobRequests.{LeavesPlain, LeavesRendered, LeavesSurveyOf}
 use Rattle.file_requests.specs.ProfileRequests.{LeavesAnsweredFor, LeavesLintFor, LeavesSheetFor, LeavesShownFor}
 
 -- ---- profiles
@@ -120,6 +122,14 @@ answered_by_file answer at base given texts failed status source source' out out
     (file_read used used' answer at source' is place read)
 
 -- ---- jobs
+
+pub survey_left : (paths : List (List ℕ)) (form : Form) (jobs jobs' : List SourceState) (status : Status)
+    (out out' err err' : OutletState) → jobs ≡ []
+    → LeavesSurvey form paths (λ path. no_source) status jobs jobs' out out' err err' → LeavesSurveyOf paths form status out out' err err'
+survey_left paths form jobs jobs' status out out' err err' none left = record {
+  jobs = jobs';
+  left = subst (λ j. LeavesSurvey form paths (λ path. no_source) status j jobs' out out' err err') none left;
+}
 
 -- of files of which nothing was read
 pub check_left : (path at : List ℕ) (words : List (List ℕ)) (known known' : List (Option (List ℕ))) (given given' : List (List ℕ))

@@ -1,2 +1,3 @@
+mod CommandFacts
 mod ExplainFacts
 mod ExplainedReasons

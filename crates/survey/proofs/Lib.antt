@@ -1,0 +1,6 @@
+pub mod Turning
+pub mod Stepping
+pub mod Steps
+pub mod Surveying
+pub mod Tallies
+pub mod OneSurvey
