@@ -19,7 +19,7 @@ use Rattle.command_names.specs.CommandNames.{table}
 use Rattle.preflight.specs.declared.culprit.Culprit.{Culprit}
 use Rattle.preflight.specs.declared.culprit.Culprit.TheVariants.{Simple}
 use Rattle.preflight.specs.declared.culprit.Judgement.{Judgement}
-use Rattle.shown_bytes.specs.Lengths.{signed_hundredths}
+use Rattle.shown_bytes.specs.Lengths.{millimetres, signed_hundredths}
 use Rattle.shown_bytes.specs.Shown.{shown_text}
 use Rattle.streams.specs.declared.error.Error.{Error}
 use Rattle.streams.specs.declared.error.Error.TheVariants.{Read}
@@ -99,7 +99,7 @@ placed = Ok (record {
 sentence_of_place : job_sentence (report_of false placed None)
     ≡ codes
     "in/note 4712.pcl: counter refuses this job at byte 9 on page 1, 31.75 mm from the left and 38.10 mm from the top: the printer does not have this size, orientation, tray or sides (11 NotOnDevice)\n"
-unfolding shown_text is_utf8 chars encode_utf8 digits signed_hundredths
+unfolding shown_text is_utf8 chars encode_utf8 digits millimetres signed_hundredths
 sentence_of_place = refl
 
 sentence_of_fault : job_sentence (report_of false faulty None)
@@ -127,11 +127,16 @@ unfolding shown_text is_utf8 chars encode_utf8 digits table
 sentence_of_unchecked = refl
 
 -- what pclcheck does not check is called as HP's manual calls it
-sentence_of_refused : job_sentence (report_of false (Ok (record {
+abbrev unchecked : Result Judgement Error
+unchecked = Ok (record {
   verdict = Fail 7 0 (Fault (NotInProfile (Command Layout 80)));
   culprit = None;
   page = Some 1;
-})) None)
+  cursor = None;
+  font = None;
+})
+
+sentence_of_refused : job_sentence (report_of false unchecked None)
     ≡ codes
     "in/note 4712.pcl: pclcheck cannot judge this job at byte 7 on page 1, page length (&l#P): pclcheck does not check this byte or command (3 NotInProfile(&lP))\n"
 unfolding shown_text is_utf8 chars encode_utf8 digits table

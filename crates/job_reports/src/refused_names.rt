@@ -81,8 +81,8 @@ fn behind_first(bytes: &[u8]) -> &[u8]
     ensures { result.now ≡ drop 1 bytes.now }
 {
     match bytes {
+        [] => &[],
         [_, rest @ ..] => rest,
-        _ => &[],
     }
 }
 

@@ -20,7 +20,7 @@ use Rattle.streams.specs.declared.error.Error.TheVariants.{Read}
 use Rattle.many_jobs.specs.JobObjects.{job_object}
 use Rattle.job_reports.specs.CommandWords.{look_words, setting_words}
 use Rattle.shown_bytes.specs.Decimals.{amount, minus}
-use Rattle.shown_bytes.specs.Lengths.{signed_hundredths}
+use Rattle.shown_bytes.specs.Lengths.{millimetres, signed_hundredths}
 use Rattle.shown_bytes.specs.Lettered.{lettered}
 use Rattle.job_reports.specs.Reports.{Reported}
 
@@ -107,7 +107,7 @@ placed = Ok (record {
 object_of_place : job_object [] (report_of false (codes "a.pcl") placed None)
     ≡ codes
     "{\"at\":9,\"code\":11,\"finding\":\"NotOnDevice\",\"job\":\"a.pcl\",\"kind\":\"printer\",\"page\":1,\"printer\":\"counter\",\"profile\":1,\"verdict\":\"FAIL\",\"x_mm\":\"31.75\",\"y_mm\":\"38.10\"}\n"
-unfolding serde_json_on_literals is_utf8 chars encode_utf8 digits signed_hundredths
+unfolding serde_json_on_literals is_utf8 chars encode_utf8 digits millimetres signed_hundredths
 object_of_place = refl
 
 explained : job_object (codes "12 Unset\nset it\n")

@@ -7,8 +7,9 @@ use Rattle.std.specs.List.{concat}
 use Rattle.streams.specs.Outlet.{OutletState, Adds, AddsFront}
 use Rattle.streams.specs.Writing.{Writes}
 use Rattle.requests.proofs.Writing.{Writes-cut, pieces_more}
+use Rattle.requests.specs.declared.status.Status.{Status}
 use Rattle.meanings.specs.CommandsTold.{asks_for_list, asks_of, asks_of_commands, is_unheard, list_line, told, told_of_commands}
-use Rattle.meanings.specs.Explanations.{complaint, explanation, is_unknown}
+use Rattle.meanings.specs.Explanations.{complaint, end_of_explain, explanation, is_unknown}
 
 -- ---- the list
 
@@ -55,6 +56,22 @@ module _ (a b : OutletState) (commands : List (List ℕ)) (code : Option (List �
       (sym fails ∙ is) written
 
 -- ---- what is told of a code, by whether it asks of commands
+
+module _ (texts commands : List (List ℕ)) (code : Option (List ℕ)) (asks : Bool) (is : asks ≡ asks_of_commands commands code) where
+  pub is_heard : asks ≡ true → is_unheard texts commands code ≡ false
+  is_heard holds = ap (λ asked. if asked then false else is_unknown texts code) (sym is ∙ holds)
+
+  pub is_unheard_where_unknown : asks ≡ false → is_unheard texts commands code ≡ is_unknown texts code
+  is_unheard_where_unknown fails = ap (λ asked. if asked then false else is_unknown texts code) (sym is ∙ fails)
+
+  -- how the command ends
+  pub commands_end : asks ≡ true → (failed : Bool) (status : Status) → status ≡ end_of_explain false failed →
+      status ≡ end_of_explain (is_unheard texts commands code) failed
+  commands_end holds failed status e = e ∙ ap (λ unheard. end_of_explain unheard failed) (sym (is_heard holds))
+
+  pub others_end : asks ≡ false → (failed : Bool) (status : Status) → status ≡ end_of_explain (is_unknown texts code) failed →
+      status ≡ end_of_explain (is_unheard texts commands code) failed
+  others_end fails failed status e = e ∙ ap (λ unheard. end_of_explain unheard failed) (sym (is_unheard_where_unknown fails))
 
 module _ (a b : OutletState) (texts commands : List (List ℕ)) (code : Option (List ℕ)) (asks : Bool)
     (is : asks ≡ asks_of_commands commands code) where

@@ -2,5 +2,6 @@ pub mod Turning
 pub mod Stepping
 pub mod Steps
 pub mod Surveying
+pub mod Surveyors
 pub mod Tallies
 pub mod OneSurvey

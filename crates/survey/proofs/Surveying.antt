@@ -1,6 +1,6 @@
 -- Steps of a survey one behind another, and the pieces of a job.
-use Rattle.std.proofs.Common.{◌≡◌, ℕ, ◌+◌, ◌<◌, ◌≤◌, List, [], ◌∷◌, ◌++◌, length, Bool, true, false, refl, sym, ap, subst, ◌∙◌, arith}
-use Rattle.std.proofs.Common.{append-nil, append_assoc, length-append, option_to_list, Result, Ok, Err, IfOk, IfErr}
+use Rattle.std.proofs.Common.{◌≡◌, ℕ, ◌+◌, ◌*◌, ◌<◌, ◌≤◌, List, [], ◌∷◌, ◌++◌, length, Bool, true, false, refl, sym, ap, subst, ◌∙◌, arith}
+use Rattle.std.proofs.Common.{append-nil, append_assoc, if◌then◌else◌, length-append, option_to_list, Result, Ok, Err, IfOk, IfErr}
 use Rattle.pcl_lexer.proofs.Lexing.Bounds.{open_is_short}
 use Rattle.streams.specs.declared.error.Error.{Error}
 use Rattle.streams.specs.declared.error.Error.TheVariants.{Memory, Read, Write, Turns, NoProfile, Items}
@@ -42,6 +42,13 @@ surveyed_on whole a b c h k = record {
       ∙ (ap (λ tally. tallied a.job k.told tally) h.tally ∙ sym (tallied_append a.job h.told k.told a.tally)));
   job = k.job ∙ h.job;
 }
+
+-- the measure of going on: the last step takes nothing, but goes on no more
+pub goes_less : (went goes : Bool) (new old : ℕ) → goes ≡ true → (went ≡ true → new < old) → new ≤ old →
+    2 * new + (if went then 1 else 0) < 2 * old + (if goes then 1 else 0)
+goes_less true true new old e less most = omega (arith, less refl)
+goes_less false true new old e less most = omega arith
+goes_less went false new old e less most = absurd cc
 
 -- few bytes decide nothing
 pub waits_short : (standing : Standing) (bytes : List ℕ) → Waits false standing bytes → length bytes ≤ most_left

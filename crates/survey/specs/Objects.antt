@@ -1,6 +1,6 @@
 -- The survey as lines of JSON.
 use Rattle.std.specs.Prelude.{ℕ, List, [], ◌∷◌, ◌++◌, codes, flat_map, length}
-use Rattle.serde_json.specs.DataCommands.{object, Members, no_members}
+use Rattle.serde_json.specs.Data.{object, Members, no_members}
 use Rattle.serde_json.specs.Written.{compact_text}
 use Rattle.line_words.specs.Reason.{bare_name}
 use Rattle.many_jobs.specs.JobObjects.{with_command_name}

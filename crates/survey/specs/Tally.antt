@@ -1,5 +1,5 @@
 -- How refusals are counted: a row for those that are alike, in the order of the first of each.
-use Rattle.std.specs.Prelude.{ℕ, ◌+◌, ◌-◌, ◌^◌, ◌==◌, nat_lt, min, List, [], ◌∷◌, ◌++◌, length, slice_set}
+use Rattle.std.specs.Prelude.{◌≡◌, ℕ, ◌+◌, ◌-◌, ◌^◌, ◌==◌, nat_lt, min, List, [], ◌∷◌, ◌++◌, length, slice_set}
 use Rattle.std.specs.Prelude.{slice_index_or, if◌then◌else◌, Option, None, Some}
 use Rattle.std.specs.List.{position}
 use Rattle.survey.specs.declared.refusal.Refusal.{Refusal}
@@ -32,6 +32,10 @@ counted job row = record row {
   jobs = if row.last_job == job then row.jobs else capped (row.jobs + 1);
   last_job = job;
 }
+
+-- the row at a place has one more; a row that stands nowhere is not asked for
+abbrev pub IsCountedAt : (job place : ℕ) → (old new : List Row) → Type 0
+IsCountedAt job place old new = (none : Row) → new ≡ slice_set old place (counted job (slice_index_or old place none))
 
 -- one more refusal, where a row of what is like it stands there, or none
 abbrev pub told_at : Option ℕ → ℕ → Refusal → Tally → Tally

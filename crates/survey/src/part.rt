@@ -1,6 +1,6 @@
 //! What of refused bytes is passed over, and where reading begins again.
 
-ghost use Rattle.std.specs.Prelude.{◌≡◌};
+ghost use Rattle.std.specs.Prelude.{◌≡◌, ◌≤◌};
 ghost use Rattle.survey.specs.Passing.{no_count, taken};
 
 use crate::refusal::Refusal;
@@ -89,10 +89,11 @@ pub struct Turn {
 
 impl Turn {
     /// How many bytes are passed over.
-    pub fn len(self) -> usize
-        ensures { result ≡ taken self }
+    pub fn taken(self) -> usize
+        ensures bytes { result ≡ taken self }
+        ensures most { result ≤ 1 }
     {
-        usize::from(self.is_taken)
+        if self.is_taken { 1 } else { 0 }
     }
 }
 

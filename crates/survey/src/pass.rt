@@ -432,7 +432,8 @@ fn in_foreign(matched: u8, byte: u8) -> Turn
             goes_on(Part::Foreign(matched + 1))
         };
     }
-    goes_on(Part::Foreign(u8::from(byte == b'\x1b')))
+    let begun = if byte == b'\x1b' { 1 } else { 0 };
+    goes_on(Part::Foreign(begun))
 }
 
 /// The byte of a text behind so many others, or 0.

@@ -2,6 +2,13 @@
 
 ghost use Rattle.std.specs.Prelude.{◌≡◌};
 ghost use Rattle.verdict.specs.Numbers.{cause_number};
+ghost use Rattle.survey.specs.declared.refusal.Spelled.TheVariants.{
+  Control,
+  Grouped,
+  Instruction,
+  Sequence,
+  Ungrouped,
+};
 ghost use Rattle.survey.specs.Refusals.{is_same, is_same_spelling};
 
 use pcl_items::{LexCause, Place};
@@ -59,16 +66,62 @@ fn number_of(cause: LexCause) -> u8
 fn is_same_spelling(one: Spelled, other: Spelled) -> bool
     ensures { result ≡ is_same_spelling one other }
 {
-    match (one, other) {
-        (Spelled::Control(a), Spelled::Control(b)) => a == b,
-        (Spelled::Sequence(a), Spelled::Sequence(b)) => a == b,
-        (Spelled::Grouped(a, b, c), Spelled::Grouped(d, e, f)) => a == d && b == e && c == f,
-        (Spelled::Ungrouped(a, b), Spelled::Ungrouped(c, d)) => a == c && b == d,
-        (Spelled::Unended, Spelled::Unended) => true,
-        (Spelled::Instruction(a, b), Spelled::Instruction(c, d)) => a == c && b == d,
-        (Spelled::FrameBytes, Spelled::FrameBytes) => true,
-        (Spelled::Line, Spelled::Line) => true,
-        (Spelled::End, Spelled::End) => true,
+    match one {
+        Spelled::Control(code) => is_control(code, other),
+        Spelled::Sequence(character) => is_sequence(character, other),
+        Spelled::Grouped(introducer, group, letter) => {
+            is_grouped(introducer, group, letter, other)
+        }
+        Spelled::Ungrouped(introducer, letter) => is_ungrouped(introducer, letter, other),
+        Spelled::Unended => matches!(other, Spelled::Unended),
+        Spelled::Instruction(first, second) => is_instruction(first, second, other),
+        Spelled::FrameBytes => matches!(other, Spelled::FrameBytes),
+        Spelled::Line => matches!(other, Spelled::Line),
+        Spelled::End => matches!(other, Spelled::End),
+    }
+}
+
+fn is_control(code: u8, other: Spelled) -> bool
+    ensures { result ≡ is_same_spelling (Control code) other }
+{
+    match other {
+        Spelled::Control(own) => code == own,
+        _ => false,
+    }
+}
+
+fn is_sequence(character: u8, other: Spelled) -> bool
+    ensures { result ≡ is_same_spelling (Sequence character) other }
+{
+    match other {
+        Spelled::Sequence(own) => character == own,
+        _ => false,
+    }
+}
+
+fn is_grouped(introducer: u8, group: u8, letter: u8, other: Spelled) -> bool
+    ensures { result ≡ is_same_spelling (Grouped introducer group letter) other }
+{
+    match other {
+        Spelled::Grouped(a, b, c) => introducer == a && group == b && letter == c,
+        _ => false,
+    }
+}
+
+fn is_ungrouped(introducer: u8, letter: u8, other: Spelled) -> bool
+    ensures { result ≡ is_same_spelling (Ungrouped introducer letter) other }
+{
+    match other {
+        Spelled::Ungrouped(a, b) => introducer == a && letter == b,
+        _ => false,
+    }
+}
+
+fn is_instruction(first: u8, second: u8, other: Spelled) -> bool
+    ensures { result ≡ is_same_spelling (Instruction first second) other }
+{
+    match other {
+        Spelled::Instruction(a, b) => first == a && second == b,
         _ => false,
     }
 }

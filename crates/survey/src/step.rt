@@ -4,7 +4,7 @@ ghost use Rattle.std.specs.Prelude.{◌≡◌, ◌+◌, ◌≤◌, ◌^◌, Bool
 ghost use Rattle.pcl_lexer.specs.Lexing.Contexts.{counted};
 ghost use Rattle.pcl_lexer.specs.Lexing.FirstView.{context_view};
 ghost use Rattle.survey.specs.Survey.{Passes, Reads, at_end, cut_cause, ends_so, standing_of};
-ghost use Rattle.survey.specs.Carriers.Steps.{IsStep, counted_in, standing_view};
+ghost use Rattle.survey.specs.Carriers.Steps.{IsStep, counted_in, standing_view, waiting_at};
 
 use crate::part::{Onto, Part};
 use crate::pass::pass;
@@ -31,6 +31,20 @@ pub struct Step {
     pub told: Option<Refusal>,
     /// The bytes of the window decide nothing more.
     pub waits: bool,
+}
+
+impl Step {
+    /// Nothing more, behind so many bytes.
+    fn waiting(at: usize, standing: Standing) -> Step
+        ensures { result ≡ waiting_at at standing }
+    {
+        Step {
+            at,
+            standing,
+            told: None,
+            waits: true,
+        }
+    }
 }
 
 impl Standing {
@@ -136,18 +150,15 @@ fn read_at(whole: bool, context: Context, dropped: u64, start: usize, window: &[
             let byte = first_byte(&window[start..]);
             let next = fault_turn(context, cause, dropped + start as u64, byte);
             Step {
-                at: start + next.len(),
+                at: start + next.taken(),
                 standing: Standing::of(next.onto),
                 told: next.told,
                 waits: false,
             }
         }
-        First::Open | First::Passes(_, _) => Step {
-            at: start,
-            standing: Standing::Reads(context),
-            told: None,
-            waits: true,
-        },
+        First::Open => Step::waiting(start, Standing::Reads(context)),
+        // It passes over nothing.
+        First::Passes(_, _) => Step::waiting(start, Standing::Reads(context)),
     }
 }
 
@@ -157,17 +168,12 @@ fn pass_at(part: Part, dropped: u64, start: usize, window: &[u8]) -> Step
     requires small { dropped + length window.now ≤ 2 ^ 62 }
     ensures { (whole : Bool) → IsStep whole (Passes part) dropped start window.now result }
 {
-    let [byte, ..] = &window[start..] else {
-        return Step {
-            at: start,
-            standing: Standing::Passes(part),
-            told: None,
-            waits: true,
-        };
-    };
-    let next = pass(part, dropped + start as u64, *byte);
+    if start == window.len() {
+        return Step::waiting(start, Standing::Passes(part));
+    }
+    let next = pass(part, dropped + start as u64, window[start]);
     Step {
-        at: start + next.len(),
+        at: start + next.taken(),
         standing: Standing::of(next.onto),
         told: next.told,
         waits: false,

@@ -6,11 +6,12 @@ ghost use Rattle.streams.specs.Errors.{is_err_of_read};
 ghost use Rattle.survey.specs.Carriers.Steps.{due};
 ghost use Rattle.survey.specs.Carriers.Surveying.{EndsSurvey, HasRoom};
 ghost use Rattle.survey.specs.Carriers.Surveying.{IsSurveyed, Surveyed, SurveysOn, at_start};
-ghost use Rattle.survey.specs.Carriers.Surveying.{most_left};
-ghost use Rattle.survey.specs.Survey.{Waits};
+ghost use Rattle.survey.specs.Carriers.Surveying.{most_left, with_told};
+ghost use Rattle.survey.specs.Survey.{Waits, at_end};
 ghost use Rattle.survey.specs.Surveys.{IsErrorOfSurvey, IsTallied};
 ghost use Rattle.survey.specs.Tally.{no_refusals};
 
+use crate::refusal::Refusal;
 use crate::step::{Standing, step_at};
 use crate::table::Table;
 use pcl_items::Place;
@@ -111,7 +112,8 @@ impl<A: Allocator> Surveyor<A> {
         remove_front(&mut self.window, self.at);
         self.dropped += self.at as u64;
         self.at = 0;
-        self.window.extend_from_slice(piece)
+        self.window.extend_from_slice(piece)?;
+        Ok(())
     }
 
     /// Makes a step. False: the bytes that were fed decide nothing more.
@@ -119,33 +121,42 @@ impl<A: Allocator> Surveyor<A> {
         ensures surveyed { OnOk result (Surveyed whole self.old self.new) }
         ensures less { result ≡ Ok true → due self.new.standing self.new.rest
             < due self.old.standing self.old.rest }
+        ensures no_more { OnOk result (due self.new.standing self.new.rest
+            ≤ due self.old.standing self.old.rest) }
         ensures waits { result ≡ Ok false → Waits whole self.new.standing self.new.rest }
-        ensures total { self.new.place + length self.new.rest ≡
-            self.old.place + length self.old.rest }
+        ensures total { OnOk result (self.new.place + length self.new.rest ≡
+            self.old.place + length self.old.rest) }
     {
         let window = self.window.as_slice();
         let step = step_at(whole, self.standing, self.dropped, self.at, window);
         self.at = step.at;
         self.standing = step.standing;
-        if let Some(refusal) = step.told {
-            self.table.tell(self.job, refusal)?;
-        }
+        self.count(step.told)?;
         Ok(!step.waits)
+    }
+
+    /// Counts what is told, if anything is.
+    fn count(&mut self, told: Option<Refusal>) -> Result<(), AllocError>
+        ensures { OnOk result (self.new ≡ with_told told self.old) }
+    {
+        match told {
+            None => Ok(()),
+            Some(refusal) => self.table.tell(self.job, refusal),
+        }
     }
 
     /// Goes on as far as the bytes decide that were fed.
     fn go_on(&mut self, whole: bool) -> Result<(), AllocError>
         ensures surveyed { OnOk result (Surveyed whole self.old self.new) }
         ensures waits { OnOk result (Waits whole self.new.standing self.new.rest) }
-        ensures total { self.new.place + length self.new.rest ≡
-            self.old.place + length self.old.rest }
+        ensures total { OnOk result (self.new.place + length self.new.rest ≡
+            self.old.place + length self.old.rest) }
     {
-        loop {
-            let goes = self.step(whole)?;
-            if !goes {
-                return Ok(());
-            }
+        let mut goes = true;
+        while goes {
+            goes = self.step(whole)?;
         }
+        Ok(())
     }
 
     /// Surveys what is left, where nothing more comes.
@@ -153,11 +164,15 @@ impl<A: Allocator> Surveyor<A> {
         ensures { OnOk result (EndsSurvey self.old self.new) }
     {
         self.go_on(true)?;
-        let last = self.standing.at_end(self.place(), self.rest());
-        match last {
-            None => Ok(()),
-            Some(refusal) => self.table.tell(self.job, refusal),
-        }
+        let last = self.told_at_end();
+        self.count(last)
+    }
+
+    /// What is told at the end of the job, where nothing more comes.
+    fn told_at_end(&self) -> Option<Refusal>
+        ensures { result ≡ at_end self.now.standing self.now.place self.now.rest }
+    {
+        self.standing.at_end(self.place(), self.rest())
     }
 }
 

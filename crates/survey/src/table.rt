@@ -3,7 +3,7 @@
 ghost use Rattle.std.specs.Prelude.{◌≡◌, ◌<◌, IfSome, OnOk, length};
 ghost use Rattle.std.specs.List.{position};
 ghost use Rattle.survey.specs.Refusals.{is_same};
-ghost use Rattle.survey.specs.Tally.{counted, first_row, no_refusals, told_in};
+ghost use Rattle.survey.specs.Tally.{IsCountedAt, counted, first_row, no_refusals, told_in};
 
 use crate::refusal::Refusal;
 use std::alloc::{AllocError, Allocator, Global};
@@ -108,7 +108,7 @@ impl<A: Allocator> Table<A> {
     {
         match row_of(self.rows.as_slice(), refusal) {
             Some(place) => {
-                self.rows[place] = self.rows[place].counted(job);
+                count_at(self.rows.as_mut_slice(), place, job);
                 Ok(())
             }
             None if self.rows.len() < MOST_ROWS => {
@@ -121,6 +121,14 @@ impl<A: Allocator> Table<A> {
             }
         }
     }
+}
+
+/// Counts one more in the row at a place.
+fn count_at(rows: &mut [Row], place: usize, job: u64)
+    requires { place < length rows.old }
+    ensures { IsCountedAt job place rows.old rows.new }
+{
+    rows[place] = rows[place].counted(job);
 }
 
 /// The place of the row of what is like this refusal.

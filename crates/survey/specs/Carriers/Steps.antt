@@ -1,6 +1,6 @@
 -- One step of a survey, over a window of the job.
 use Rattle.std.specs.Prelude.{◌≡◌, ℕ, ◌+◌, ◌*◌, ◌<◌, ◌≤◌, List, [], ◌++◌, length, drop, Bool, true, false}
-use Rattle.std.specs.Prelude.{option_to_list}
+use Rattle.std.specs.Prelude.{None, option_to_list}
 use Rattle.pcl_lexer.specs.Lexing.Contexts.{Context, Pcl, Sequence, Frame, Letters, Numbered, Pjl, counted}
 use Rattle.pcl_lexer.specs.Lexing.FirstView.{context_view}
 use Rattle.pcl_lexer.specs.Reading.{left}
@@ -41,6 +41,10 @@ Leads whole old place bytes told new place' rest =
     (more : List ℕ) (others : List Refusal) → (whole ≡ true → more ≡ []) →
     Tells new place' (rest ++ more) others → Tells old place (bytes ++ more) (told ++ others)
 
+-- nothing more, behind so many bytes
+abbrev pub waiting_at : ℕ → code_standing.Standing → Step
+waiting_at at standing = record { at = at; standing = standing; told = None; waits = true }
+
 pub record IsStep (whole : Bool) (standing : Standing) (dropped start : ℕ) (window : List ℕ) (step : Step)
     : Type 0 where
   pub inside : step.at ≤ length window
@@ -49,5 +53,6 @@ pub record IsStep (whole : Bool) (standing : Standing) (dropped start : ℕ) (wi
       (standing_view step.standing) (dropped + step.at) (drop step.at window)
   pub less : step.waits ≡ false →
       due (standing_view step.standing) (drop step.at window) < due standing (drop start window)
+  pub no_more : due (standing_view step.standing) (drop step.at window) ≤ due standing (drop start window)
   pub waits : step.waits ≡ true → Waits whole (standing_view step.standing) (drop step.at window)
   pub untold : step.waits ≡ true → option_to_list step.told ≡ []

@@ -1,5 +1,5 @@
 -- How far a survey has come.
-use Rattle.std.specs.Prelude.{◌≡◌, ℕ, ◌+◌, ◌≤◌, ◌^◌, List, [], ◌++◌, length, Bool, false}
+use Rattle.std.specs.Prelude.{◌≡◌, ℕ, ◌+◌, ◌≤◌, ◌^◌, List, [], ◌++◌, length, Bool, false, Option, option_to_list}
 use Rattle.streams.specs.Pieces.{MayBeBy}
 use Rattle.pcl_lexer.specs.Lexing.Contexts.{Pcl}
 use Rattle.survey.specs.declared.refusal.Refusal.{Refusal}
@@ -25,6 +25,10 @@ most_left = 32831
 
 abbrev pub most_held : ℕ
 most_held = 36927
+
+-- what is told is counted, if anything is
+abbrev pub with_told : Option Refusal → SurveyState → SurveyState
+with_told told now = record now { tally = tallied now.job (option_to_list told) now.tally }
 
 -- it went on over what is told and counted
 pub record Surveyed (whole : Bool) (old new : SurveyState) : Type 0 where
