@@ -3,6 +3,7 @@
 ghost use Rattle.std.specs.Prelude.{◌≡◌, ◌++◌, Contains, IfErr, IfOk, IsFalse, List, OnOk, map, ℕ};
 ghost use Rattle.survey.specs.Command.{AreTallied, IsNextTallied, LeavesSurvey, StopsAt};
 ghost use Rattle.survey.specs.Command.{WritesSurvey, survey_text};
+ghost use Rattle.survey.specs.Surveys.{IsErrorOfSurvey};
 ghost use Rattle.survey.specs.Tally.{no_refusals};
 
 use crate::lines::push_lines;
@@ -13,6 +14,7 @@ use job_reports::tell_unread;
 use named_inputs::Jobs;
 use requests::{Form, Status};
 use std::alloc::{AllocError, Global};
+use std::io;
 use streams::{Error, Outlet, Source, write_text};
 
 /// The command `survey`: on standard output what the language refuses of jobs. All are read before
@@ -83,8 +85,25 @@ fn survey_next<'n, J: Jobs<'n>, E: Outlet>(
     jobs.end(job);
     match answer {
         Ok(()) => Ok(()),
-        Err(Error::Read) => Err(tell_unread(alloc, b"ERROR read job ", name, error, stderr)),
-        Err(error) => Err(Status::Stopped(error)),
+        Err(stop) => Err(tell_stop(alloc, name, stop, error, stderr)),
+    }
+}
+
+/// Tells why the job of this name was not read to its end, where a read failed.
+fn tell_stop<E: Outlet>(
+    alloc: Global,
+    name: &str,
+    stop: Error,
+    error: Option<io::Error>,
+    stderr: &mut E,
+) -> Status
+    requires stop { IsErrorOfSurvey stop }
+    requires stderr { IsFalse (E.state stderr.old).failed }
+    ensures { StopsAt name.now result (E.state stderr.old) (E.state stderr.new) }
+{
+    match stop {
+        Error::Read => tell_unread(alloc, b"ERROR read job ", name, error, stderr),
+        _ => Status::Stopped(stop),
     }
 }
 
@@ -103,13 +122,21 @@ fn write_survey<O: Outlet>(
     let Ok(text) = survey_text(alloc, names, form, table) else {
         return Status::Stopped(Error::Memory);
     };
-    match write_text(stdout, text.as_slice()) {
+    write_whole(text.as_slice(), stdout)
+}
+
+/// Writes the text of a survey.
+fn write_whole<O: Outlet>(text: &[u8], stdout: &mut O) -> Status
+    requires { IsFalse (O.state stdout.old).failed }
+    ensures { WritesSurvey text.now result (O.state stdout.old) (O.state stdout.new) }
+{
+    match write_text(stdout, text) {
         Ok(()) => Status::Help,
         Err(_) => Status::Stopped(Error::Write),
     }
 }
 
-/// The text of what was counted: lines of JSON, or lines for people.
+/// The text of what was counted.
 fn survey_text(
     alloc: Global,
     names: &[&str],
@@ -120,9 +147,24 @@ fn survey_text(
         ≡ survey_text form (map (λ name. name.now) names.now) table.now) }
 {
     let mut text = Vec::new(alloc);
-    match form {
-        Form::Line | Form::Words => push_lines(&mut text, names, table)?,
-        Form::Json => push_objects(alloc, &mut text, names, table)?,
-    }
+    push_survey(alloc, &mut text, names, form, table)?;
     Ok(text)
+}
+
+/// Appends lines of JSON, or lines for people.
+fn push_survey(
+    alloc: Global,
+    text: &mut Vec<u8>,
+    names: &[&str],
+    form: Form,
+    table: &Table,
+) -> Result<(), AllocError>
+    ensures { OnOk result (text.new.items ≡ text.old.items
+        ++ survey_text form (map (λ name. name.now) names.now) table.now) }
+{
+    match form {
+        Form::Line => push_lines(text, names, table),
+        Form::Words => push_lines(text, names, table),
+        Form::Json => push_objects(alloc, text, names, table),
+    }
 }

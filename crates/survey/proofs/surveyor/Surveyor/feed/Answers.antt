@@ -16,7 +16,12 @@ invariant_of-self-2 g c =
     c.in_ok-extend_from_slice.ensures.items ∙ ap (λ (bytes : List ℕ). bytes ++ piece) c.remove_front.ensures.items in
     let size : length c.extend_from_slice.new.self.items ≡ length rest + length piece =
     ap length fed ∙ length-append rest piece in
-    (omega arith, omega (arith, size, short, c.requires.piece), omega (arith, size, total), omega (arith, c.self.invariant.3))
+    let held = c.extend_from_slice.new.self.ok.0 in (
+      omega arith,
+      omega (arith, held, size, short, c.requires.piece),
+      omega (arith, held, size, total),
+      omega (arith, c.self.invariant.3),
+    )
 
 pub returns : goal.returns
 returns g c =

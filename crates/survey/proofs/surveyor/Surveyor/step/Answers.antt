@@ -11,7 +11,7 @@ invariant_of-self g c =
     let h : IsStep c.args.whole (standing_view l.standing) l.dropped l.at l.window.items c.step_at-step.result =
     subst (λ (window : List ℕ). IsStep c.args.whole (standing_view l.standing) l.dropped l.at window c.step_at-step.result)
     c.as_slice-window.ensures.value c.step_at-step.ensures in
-    (omega (arith, h.inside, before.0), before.1, before.2, h.counts)
+    (omega (arith, h.inside, l.window.ok.0), before.1, before.2, h.counts)
 
 pub returns-clause-surveyed : goal.returns-clause-surveyed
 returns-clause-surveyed g c =
@@ -55,6 +55,6 @@ returns-clause-total g c =
     let h : IsStep c.args.whole (standing_view l.standing) l.dropped l.at l.window.items c.step_at-step.result =
     subst (λ (window : List ℕ). IsStep c.args.whole (standing_view l.standing) l.dropped l.at window c.step_at-step.result)
     c.as_slice-window.ensures.value c.step_at-step.ensures in
-    let inside : l.at ≤ length l.window.items = omega (arith, c.self.invariant.0) in
+    let inside : l.at ≤ length l.window.items = omega (arith, l.window.ok.0, c.self.invariant.0) in
     step_total c.args.whole c.args.self.now c.count.new.self l.job l.table l.standing l.dropped l.at l.window.items
     c.step_at-step.result c.self.view_is h c.in_ok-count.ensures inside
