@@ -25,32 +25,55 @@ spelled_words FrameBytes = codes "bytes in a frame"
 spelled_words Line = codes "a line of PJL"
 spelled_words End = codes "the end of the job"
 
--- how often, and in how many of so many jobs
-abbrev pub counts_words : Row → ℕ → List ℕ
-counts_words row jobs =
-    decimal row.times ++ named (codes "x in ") row.jobs ++ named (codes " of ") jobs ++ codes " jobs: "
+-- how often, and in how many jobs
+unfoldable pub times_words : Row → List ℕ
+times_words row = decimal row.times ++ named (codes "x in ") row.jobs
+
+-- of so many
+unfoldable pub jobs_words : ℕ → List ℕ
+jobs_words jobs = named (codes " of ") jobs ++ codes " jobs: "
+
+unfoldable pub counts_words : Row → ℕ → List ℕ
+counts_words row jobs = times_words row ++ jobs_words jobs
+
+-- how it is spelled, and what the manual calls it
+unfoldable pub what_words : Spelled → List ℕ
+what_words spelled = spelled_words spelled ++ called (spelled_name spelled)
 
 -- where it stands first
-abbrev pub first_words : ℕ → List ℕ → List ℕ
+unfoldable pub first_words : ℕ → List ℕ → List ℕ
 first_words place name = named (codes ", first at byte ") place ++ codes " of " ++ shown_text name
 
--- why it is refused
-abbrev pub cause_words : Refusal → List ℕ
-cause_words refusal =
-    named (codes " (") (reason_number (Fault refusal.cause)) ++ 32 ∷ bare_name (Fault refusal.cause) ++ codes ")\n"
+-- why it is refused: the number of the fault, and its name
+unfoldable pub number_words : Refusal → List ℕ
+number_words refusal = named (codes " (") (reason_number (Fault refusal.cause)) ++ codes " "
+
+unfoldable pub fault_words : Refusal → List ℕ
+fault_words refusal = bare_name (Fault refusal.cause) ++ codes ")\n"
+
+unfoldable pub cause_words : Refusal → List ℕ
+cause_words refusal = number_words refusal ++ fault_words refusal
 
 abbrev pub name_at : List (List ℕ) → ℕ → List ℕ
 name_at names number = get_or names number []
 
-abbrev pub row_line : List (List ℕ) → Row → List ℕ
-row_line names row =
-    counts_words row (length names) ++ spelled_words row.first.spelled ++ called (spelled_name row.first.spelled)
-    ++ first_words row.first.place (name_at names row.first_job) ++ cause_words row.first
+unfoldable pub row_front : Row → ℕ → List ℕ
+row_front row jobs = counts_words row jobs ++ what_words row.first.spelled
 
-abbrev pub last_line : (jobs rows others : ℕ) → List ℕ
-last_line jobs rows others =
-    named (codes "surveyed: jobs=") jobs ++ named (codes " refused=") rows ++ named (codes " others=") others
-    ++ codes "; this is no verdict, check gives one\n"
+unfoldable pub row_back : List (List ℕ) → Row → List ℕ
+row_back names row = first_words row.first.place (name_at names row.first_job) ++ cause_words row.first
+
+unfoldable pub row_line : List (List ℕ) → Row → List ℕ
+row_line names row = row_front row (length names) ++ row_back names row
+
+unfoldable pub surveyed_words : (jobs rows : ℕ) → List ℕ
+surveyed_words jobs rows = named (codes "surveyed: jobs=") jobs ++ named (codes " refused=") rows
+
+unfoldable pub others_words : ℕ → List ℕ
+others_words others = named (codes " others=") others ++ codes "; this is no verdict, check gives one\n"
+
+unfoldable pub last_line : (jobs rows others : ℕ) → List ℕ
+last_line jobs rows others = surveyed_words jobs rows ++ others_words others
 
 -- what is counted of the jobs of these names: a line for each row, and the last one
 abbrev pub rows_text : List (List ℕ) → Tally → List ℕ

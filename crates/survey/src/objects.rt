@@ -144,7 +144,7 @@ fn last_object_of(memory: Global, jobs: u64, rows: u64, others: u64) -> Result<O
 /// Appends an object on a line of its own.
 fn push_object<A: Allocator>(text: &mut Vec<u8, A>, object: Object) -> Result<(), AllocError>
     ensures { OnOk result (text.new.items ≡ text.old.items
-        ++ object_line (members_of object.entry)) }
+        ++ object_line (members_of object)) }
 {
     let line = object.into_text()?;
     text.extend_from_slice(line.as_bytes())?;

@@ -5,10 +5,12 @@ use Rattle.survey.proofs.step.step_at.Goals as goal
 
 pub returns-in-Reads : goal.returns-in-Reads
 returns-in-Reads c =
-    subst (λ (s : code_standing.Standing). IsStep c.args.whole (standing_view s) c.args.dropped c.args.start c.args.window.now c.read_at.result)
+    let window = c.args.window.now in
+    subst (λ (s : code_standing.Standing). IsStep c.args.whole (standing_view s) c.args.dropped c.args.start window c.read_at.result)
     (sym c.in-Reads.is) c.read_at.ensures
 
 pub returns-in-Passes : goal.returns-in-Passes
 returns-in-Passes c =
-    subst (λ (s : code_standing.Standing). IsStep c.args.whole (standing_view s) c.args.dropped c.args.start c.args.window.now c.pass_at.result)
+    let window = c.args.window.now in
+    subst (λ (s : code_standing.Standing). IsStep c.args.whole (standing_view s) c.args.dropped c.args.start window c.pass_at.result)
     (sym c.in-Passes.is) (c.pass_at.ensures c.args.whole)
