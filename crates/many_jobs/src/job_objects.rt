@@ -26,7 +26,9 @@ ghost use Rattle.job_reports.specs.Reports.{number_told, verdict_told};
 
 use crate::json_object::Object;
 use device_profile::FontRequest;
-use job_reports::{Kind, Report, kind_of, push_command_words, push_font_commands, push_refused_name};
+use job_reports::{
+    Kind, Report, kind_of, push_command_words, push_font_commands, push_refused_name,
+};
 use line_words::{bare_name, push_escaped, push_field_words};
 use page_env::Finding;
 use preflight::{Culprit, MissingFont, SheetSpot, Verdict};

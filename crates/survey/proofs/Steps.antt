@@ -1,6 +1,6 @@
 -- The steps of a survey over a window, by what stands ahead in it.
-use Rattle.std.proofs.Common.{◌≡◌, ℕ, ◌+◌, ◌*◌, ◌<◌, ◌≤◌, ◌==◌, List, [], ◌∷◌, ◌++◌, length, drop, get_or, Bool, true, false, Option, None, refl, sym}
-use Rattle.std.proofs.Common.{suc, ap, subst, ◌∙◌, arith, drop-cons, option_to_list}
+use Rattle.std.proofs.Common.{◌≡◌, ℕ, ◌+◌, ◌*◌, ◌<◌, ◌≤◌, ◌==◌, List, [], ◌∷◌, ◌++◌, length, drop, get_or, Bool, true, false, refl, sym}
+use Rattle.std.proofs.Common.{suc, Option, None, ap, subst, ◌∙◌, arith, drop-cons, option_to_list}
 use Rattle.std.proofs.lemmas.Bool.Decides.{nat_tests}
 use Rattle.std.proofs.lemmas.List.{drop-drop, length-drop}
 use Rattle.pcl_items.specs.declared.fault.LexCause.{LexCause}

@@ -1,6 +1,6 @@
 -- What the parts of a surveyor leave, by its fields.
-use Rattle.std.proofs.Common.{◌≡◌, ℕ, ◌+◌, ◌<◌, ◌≤◌, ◌^◌, List, ◌++◌, length, drop, Bool, true, false, Option, refl, ap, subst, sym, ◌∙◌, arith}
-use Rattle.std.proofs.Common.{length-drop, option_to_list}
+use Rattle.std.proofs.Common.{◌≡◌, ℕ, ◌+◌, ◌<◌, ◌≤◌, ◌^◌, List, ◌++◌, length, drop, Bool, true, false, Option, refl, ap, subst, sym, ◌∙◌}
+use Rattle.std.proofs.Common.{arith, length-drop, option_to_list}
 use Rattle.survey.specs.declared.refusal.Refusal.{Refusal}
 use Rattle.survey.specs.declared.step.Standing as code_standing
 use Rattle.survey.specs.declared.step.Step.{Step}

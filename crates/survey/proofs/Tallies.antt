@@ -80,8 +80,7 @@ pub stops_among : {X : Type 0} (f : X → List ℕ) (xs : List X) (i : ℕ) (d :
     (name : List ℕ) × Contains (map f xs) name × StopsAt name status err err'
 stops_among f xs i d status err between err' within quiet h =
     let name : List ℕ = f (get_or xs i d) in
-    let inside : i < length (map f xs) = omega (arith, length-map xs f, within) in
-    (
+    let inside : i < length (map f xs) = omega (arith, length-map xs f, within) in (
       name,
       (i, inside, get_or-map f xs i d name within),
       subst (λ (start : OutletState). StopsAt name status start err') quiet h,

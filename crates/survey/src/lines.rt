@@ -192,15 +192,16 @@ fn push_fault_number<A: Allocator>(
 ) -> Result<(), AllocError>
     ensures { OnOk result (text.new.items ≡ text.old.items ++ number_words refusal) }
 {
-    push_named(text, b" (", u64::from(Reason::Fault(refusal.cause).number()))?;
+    push_named(
+        text,
+        b" (",
+        u64::from(Reason::Fault(refusal.cause).number()),
+    )?;
     text.extend_from_slice(b" ")
 }
 
 #[tactic(auto, unfolding(crate::specs::Lines::fault_words))]
-fn push_fault_name<A: Allocator>(
-    text: &mut Vec<u8, A>,
-    refusal: Refusal,
-) -> Result<(), AllocError>
+fn push_fault_name<A: Allocator>(text: &mut Vec<u8, A>, refusal: Refusal) -> Result<(), AllocError>
     ensures { OnOk result (text.new.items ≡ text.old.items ++ fault_words refusal) }
 {
     text.extend_from_slice(bare_name(Reason::Fault(refusal.cause)))?;
