@@ -1,6 +1,7 @@
 -- Jobs that are tallied one behind another, and what is told of that.
 use Rattle.std.proofs.Common.{◌≡◌, ◌⊎◌, ℕ, ◌+◌, ◌<◌, ◌≤◌, List, [], ◌∷◌, ◌++◌, length, map, take, get_or, true, false, refl, ap, sym, subst}
-use Rattle.std.proofs.Common.{◌∙◌, Contains, inl, inr, arith, length-take-le}
+use Rattle.std.proofs.Common.{◌∙◌, Contains, OnOk, Result, inl, inr, arith, length-take-le}
+use Rattle.std.proofs.lemmas.Result.{on_ok_weaker}
 use Rattle.std.proofs.lemmas.List.{get_or-map, length-map, map_more, take_all}
 use Rattle.streams.specs.declared.error.Error.{Error}
 use Rattle.streams.specs.declared.error.Error.TheVariants.{Memory, Read, Write, Turns, NoProfile, Items}
@@ -12,7 +13,6 @@ use Rattle.requests.specs.declared.status.Status.{Status}
 use Rattle.requests.specs.declared.status.Status.TheVariants.{Help, Stopped}
 use Rattle.survey.specs.Surveys.{IsErrorOfSurvey, IsTallied}
 use Rattle.survey.specs.Tally.{Tally, no_refusals}
-use Rattle.survey.specs.Carriers.Surveying.{SurveyState, at_start}
 use Rattle.survey.specs.Command.{AreTallied, IsNextTallied, IsStop, LeavesSurvey, StopsAt, WritesSurvey, survey_text}
 
 -- ---- one job
@@ -22,6 +22,13 @@ pub job_is_next : (start : List ℕ → SourceState) (name word : List ℕ) (bef
     IsTallied before state number old new → IsNextTallied start name ended ended' number old new
 job_is_next start name word before state ended ended' number old new word_is begun ends h =
     (state, ends, subst (λ (s : SourceState). IsTallied s state number old new) (begun ∙ ap start word_is) h)
+
+pub jobs_next : {E : Type 0} (r : Result (Unit {0}) E) (start : List ℕ → SourceState) (name word : List ℕ)
+    (before state : SourceState) (ended ended' : List SourceState) (number : ℕ) (old new : Tally) → word ≡ name → before ≡ start word →
+    ended' ≡ ended ++ state ∷ [] → OnOk r (IsTallied before state number old new) →
+    OnOk r (IsNextTallied start name ended ended' number old new)
+jobs_next r start name word before state ended ended' number old new word_is begun ends h =
+    on_ok_weaker r (job_is_next start name word before state ended ended' number old new word_is begun ends) h
 
 -- an error that is no failed read stops the work
 pub error_stops : (error : Error) → IsErrorOfSurvey error → (error ≡ Read → ⊥) → IsStop (Stopped error)
@@ -97,12 +104,11 @@ written_in_part text out out' written failed = (failed, written.front)
 
 -- all jobs were surveyed
 pub survey_left : (form : Form) (names : List (List ℕ)) (start : List ℕ → SourceState) (status : Status)
-    (ended ended' : List SourceState) (out out' err err' : OutletState) (begun : SurveyState) (old new table : Tally) →
-    begun ≡ at_start 0 no_refusals → old ≡ begun.tally → table ≡ new → AreTallied start names ended ended' 0 old new →
+    (ended ended' : List SourceState) (out out' err err' : OutletState) (old new table : Tally) → old ≡ no_refusals → table ≡ new →
+    AreTallied start names ended ended' 0 old new →
     WritesSurvey (survey_text form names table) status out out' → err' ≡ err →
     LeavesSurvey form names start status ended ended' out out' err err'
-survey_left form names start status ended ended' out out' err err' begun old new table begins old_is table_is tallied written quiet =
-    let none : old ≡ no_refusals = old_is ∙ ap (λ (s : SurveyState). s.tally) begins in
+survey_left form names start status ended ended' out out' err err' old new table none table_is tallied written quiet =
     inl (
       new,
       subst (λ (t : Tally). AreTallied start names ended ended' 0 t new) none tallied,

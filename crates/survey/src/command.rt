@@ -3,7 +3,7 @@
 ghost use Rattle.std.specs.Prelude.{◌≡◌, ◌++◌, Contains, IfErr, IfOk, IsFalse, List, OnOk, map, ℕ};
 ghost use Rattle.survey.specs.Command.{AreTallied, IsNextTallied, LeavesSurvey, StopsAt};
 ghost use Rattle.survey.specs.Command.{WritesSurvey, survey_text};
-ghost use Rattle.survey.specs.Surveys.{IsErrorOfSurvey};
+ghost use Rattle.survey.specs.Surveys.{IsErrorOfSurvey, IsTallied};
 ghost use Rattle.survey.specs.Tally.{no_refusals};
 
 use crate::lines::push_lines;
@@ -14,7 +14,6 @@ use job_reports::tell_unread;
 use named_inputs::Jobs;
 use requests::{Form, Status};
 use std::alloc::{AllocError, Global};
-use std::io;
 use streams::{Error, Outlet, Source, write_text};
 
 /// The command `survey`: on standard output what the language refuses of jobs. All are read before
@@ -34,7 +33,27 @@ pub fn survey_jobs<'n, J: Jobs<'n>, O: Outlet, E: Outlet>(
         (O.state stdout.old) (O.state stdout.new) (E.state stderr.old) (E.state stderr.new) }
 {
     let mut surveyor = Surveyor::new(alloc);
-    match survey_all(alloc, jobs, names, &mut surveyor, stderr) {
+    survey_with(alloc, jobs, names, form, &mut surveyor, stdout, stderr)
+}
+
+/// Surveys jobs by a surveyor that has counted nothing yet.
+fn survey_with<'n, J: Jobs<'n>, O: Outlet, E: Outlet>(
+    alloc: Global,
+    jobs: &mut J,
+    names: &[&'n str],
+    form: Form,
+    surveyor: &mut Surveyor,
+    stdout: &mut O,
+    stderr: &mut E,
+) -> Status
+    requires begun { surveyor.old.tally ≡ no_refusals }
+    requires stdout { IsFalse (O.state stdout.old).failed }
+    requires stderr { IsFalse (E.state stderr.old).failed }
+    ensures { LeavesSurvey form (map (λ name. name.now) names.now) (J.start jobs.old) result
+        (J.ended jobs.old) (J.ended jobs.new)
+        (O.state stdout.old) (O.state stdout.new) (E.state stderr.old) (E.state stderr.new) }
+{
+    match survey_all(alloc, jobs, names, surveyor, stderr) {
         Ok(()) => write_survey(alloc, names, form, surveyor.table(), stdout),
         Err(status) => status,
     }
@@ -80,30 +99,49 @@ fn survey_next<'n, J: Jobs<'n>, E: Outlet>(
         (E.state stderr.old) (E.state stderr.new)) }
 {
     let mut job = jobs.job(name.as_bytes());
-    let answer = survey_job(&mut job, number, surveyor);
-    let error = job.error();
+    let answer = survey_one(alloc, &mut job, number, name, surveyor, stderr);
     jobs.end(job);
-    match answer {
+    answer
+}
+
+/// Surveys this job.
+fn survey_one<S: Source, E: Outlet>(
+    alloc: Global,
+    job: &mut S,
+    number: u64,
+    name: &str,
+    surveyor: &mut Surveyor,
+    stderr: &mut E,
+) -> Result<(), Status>
+    requires job { IsFalse (S.state job.old).failed }
+    requires stderr { IsFalse (E.state stderr.old).failed }
+    ensures tallied { OnOk result (IsTallied (S.state job.old) (S.state job.new) number
+        surveyor.old.tally surveyor.new.tally) }
+    ensures quiet { OnOk result (stderr.new ≡ stderr.old) }
+    ensures stopped { IfErr result (λ status. StopsAt name.now status
+        (E.state stderr.old) (E.state stderr.new)) }
+{
+    match survey_job(job, number, surveyor) {
         Ok(()) => Ok(()),
-        Err(stop) => Err(tell_stop(alloc, name, stop, error, stderr)),
+        Err(error) => Err(tell_stop(alloc, job, name, error, stderr)),
     }
 }
 
-/// Tells why the job of this name was not read to its end, where a read failed.
-fn tell_stop<E: Outlet>(
+/// Tells why a job was not read to its end, where a read failed.
+fn tell_stop<S: Source, E: Outlet>(
     alloc: Global,
+    job: &S,
     name: &str,
-    stop: Error,
-    error: Option<io::Error>,
+    error: Error,
     stderr: &mut E,
 ) -> Status
-    requires stop { IsErrorOfSurvey stop }
+    requires error { IsErrorOfSurvey error }
     requires stderr { IsFalse (E.state stderr.old).failed }
     ensures { StopsAt name.now result (E.state stderr.old) (E.state stderr.new) }
 {
-    match stop {
-        Error::Read => tell_unread(alloc, b"ERROR read job ", name, error, stderr),
-        _ => Status::Stopped(stop),
+    match error {
+        Error::Read => tell_unread(alloc, b"ERROR read job ", name, job.error(), stderr),
+        _ => Status::Stopped(error),
     }
 }
 

@@ -6,4 +6,4 @@ pub returns-in-Read : goal.returns-in-Read
 returns-in-Read g c = inl c.tell_unread.ensures
 
 pub returns-in_default : goal.returns-in_default
-returns-in_default g c = inr (error_stops c.args.stop c.requires.stop c.in_default.not-Read, refl)
+returns-in_default g c = inr (error_stops c.args.error c.requires.error c.in_default.not-Read, refl)
