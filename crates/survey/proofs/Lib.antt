@@ -4,4 +4,5 @@ pub mod Steps
 pub mod Surveying
 pub mod Surveyors
 pub mod Tallies
+pub mod Telling
 pub mod OneSurvey

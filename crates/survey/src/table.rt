@@ -1,9 +1,9 @@
 //! Refusals that are counted: a row for those that are alike, up to so many rows.
 
-ghost use Rattle.std.specs.Prelude.{◌≡◌, ◌<◌, IfSome, OnOk, length};
+ghost use Rattle.std.specs.Prelude.{◌≡◌, ◌<◌, IfSome, None, OnOk, length, vec_len};
 ghost use Rattle.std.specs.List.{position};
 ghost use Rattle.survey.specs.Refusals.{is_same};
-ghost use Rattle.survey.specs.Tally.{IsCountedAt, counted, first_row, no_refusals, told_in};
+ghost use Rattle.survey.specs.Tally.{IsCountedAt, counted, first_row, no_refusals, told_at, told_in};
 
 use crate::refusal::Refusal;
 use std::alloc::{AllocError, Allocator, Global};
@@ -108,23 +108,35 @@ impl<A: Allocator> Table<A> {
     {
         match row_of(self.rows.as_slice(), refusal) {
             Some(place) => {
-                count_at(self.rows.as_mut_slice(), place, job);
+                count_at(&mut self.rows, place, job);
                 Ok(())
             }
-            None if self.rows.len() < MOST_ROWS => {
-                self.rows.push(Row::of(job, refusal))?;
-                Ok(())
-            }
-            None => {
-                self.others = self.others.saturating_add(1);
-                Ok(())
-            }
+            None => self.tell_new(job, refusal),
         }
+    }
+
+    /// Counts a refusal that is like none before.
+    fn tell_new(&mut self, job: u64, refusal: Refusal) -> Result<(), AllocError>
+        ensures { OnOk result (self.new ≡ told_at None job refusal self.old) }
+    {
+        if self.rows.len() >= MOST_ROWS {
+            self.others = self.others.saturating_add(1);
+            return Ok(());
+        }
+        self.rows.push(Row::of(job, refusal))?;
+        Ok(())
     }
 }
 
 /// Counts one more in the row at a place.
-fn count_at(rows: &mut [Row], place: usize, job: u64)
+fn count_at<A: Allocator>(rows: &mut Vec<Row, A>, place: usize, job: u64)
+    requires { place < vec_len rows.old }
+    ensures { IsCountedAt job place rows.old.items rows.new.items }
+{
+    count_in(rows.as_mut_slice(), place, job);
+}
+
+fn count_in(rows: &mut [Row], place: usize, job: u64)
     requires { place < length rows.old }
     ensures { IsCountedAt job place rows.old rows.new }
 {

@@ -2,7 +2,7 @@ use Rattle.std.proofs.Common.{ap, arith, slice_set, ◌∙◌}
 use Rattle.std.proofs.lemmas.List.{get_or_read}
 use Rattle.survey.specs.declared.table.Row.{Row}
 use Rattle.survey.specs.Tally.{counted}
-use Rattle.survey.proofs.table.count_at.Goals as goal
+use Rattle.survey.proofs.table.count_in.Goals as goal
 
 pub returns : goal.returns
 returns c = λ none.
