@@ -3,7 +3,8 @@
 ghost use Rattle.std.specs.Prelude.{◌≡◌, ◌<◌, IfSome, None, OnOk, length, vec_len};
 ghost use Rattle.std.specs.List.{position};
 ghost use Rattle.survey.specs.Refusals.{is_same};
-ghost use Rattle.survey.specs.Tally.{IsCountedAt, counted, first_row, no_refusals, told_at, told_in};
+ghost use Rattle.survey.specs.Tally.{IsCountedAt, counted, first_row, no_refusals};
+ghost use Rattle.survey.specs.Tally.{told_at, told_in};
 
 use crate::refusal::Refusal;
 use std::alloc::{AllocError, Allocator, Global};
